@@ -1,0 +1,4 @@
+pub mod formers
+pub mod Path
+pub mod Environ
+pub mod Host

@@ -1,0 +1,66 @@
+ghost use Rattle.std.specs.Prelude.{◌≡◌, IfOk, IsTrue, ◌↔◌, slice_get, Some};
+ghost use Rattle.just_path.specs.Path.{text_of, pushed, is_absolute, ends_open};
+
+use super::{NoMemory, Utf8PathBuf};
+use std::alloc::Global;
+
+/// A borrowed path: a text that is read as Unix paths are.
+#[derive(Clone, Copy, Debug, Drop)]
+pub struct Utf8Path<'a> {
+    text: &'a str,
+}
+
+impl<'a> Utf8Path<'a> {
+    pub fn new(text: &'a str) -> Utf8Path<'a>
+        ensures { text_of result ≡ text.now }
+    {
+        Utf8Path { text }
+    }
+
+    pub fn as_str(&self) -> &'a str
+        ensures { result.now ≡ text_of self.now }
+    {
+        self.text
+    }
+
+    /// Whether the text begins with `/`.
+    pub fn is_absolute(&self) -> bool
+        ensures { result ≡ is_absolute (text_of self.now) }
+    {
+        self.text.as_bytes().first() == Some(&b'/')
+    }
+
+    /// A copy that owns its text.
+    pub fn to_path_buf(&self, alloc: Global) -> Result<Utf8PathBuf, NoMemory>
+        ensures { IfOk result (λ p. p ≡ text_of self.now) }
+    {
+        let text = String::from_str(alloc, self.text)?;
+        Ok(Utf8PathBuf::from(text))
+    }
+
+    /// A copy with `path` pushed: an absolute path replaces it; else one `/` stands between, where the text
+    /// isn't empty and doesn't end in one.
+    pub fn join(&self, alloc: Global, path: Utf8Path<'_>) -> Result<Utf8PathBuf, NoMemory>
+        ensures { IfOk result (λ p. p ≡ pushed (text_of self.now) (text_of path.entry)) }
+    {
+        if path.is_absolute() {
+            return path.to_path_buf(alloc);
+        }
+        let mut text = String::from_str(alloc, self.text)?;
+        if needs_slash(self.text) {
+            text.push_str("/")?;
+        }
+        text.push_str(path.text)?;
+        Ok(Utf8PathBuf::from(text))
+    }
+}
+
+/// Whether a `/` goes between this text and what is pushed on it.
+fn needs_slash(text: &str) -> bool
+    ensures { result ≡ ends_open text.now }
+{
+    match text.as_bytes().last() {
+        None => false,
+        Some(byte) => *byte != b'/',
+    }
+}

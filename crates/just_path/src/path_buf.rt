@@ -1,0 +1,58 @@
+ghost use Rattle.std.specs.Prelude.{◌≡◌, IfOk, string_bytes};
+ghost use Rattle.just_path.specs.Path.{text_of};
+
+use super::{NoMemory, Utf8Path};
+use std::marker::Model;
+
+/// An owned path, which contracts see as the list of its text's bytes.
+#[derive(Debug, Drop)]
+pub struct Utf8PathBuf {
+    text: String,
+}
+
+impl Model for Utf8PathBuf {
+    ghost use Rattle.std.specs.Prelude.{ℕ, List, string_bytes};
+
+    ghost Value = { List ℕ };
+
+    ghost view = { λ p. string_bytes p.text };
+}
+
+impl From<String> for Utf8PathBuf {
+    ghost from_gives = { λ s p. p ≡ string_bytes s };
+
+    fn from(text: String) -> Utf8PathBuf
+        ensures { result ≡ string_bytes text }
+    {
+        Utf8PathBuf { text }
+    }
+}
+
+impl Utf8PathBuf {
+    pub fn as_path(&self) -> Utf8Path<'_>
+        ensures { text_of result ≡ self.now }
+    {
+        Utf8Path::new(self.text.as_str())
+    }
+
+    pub fn as_str(&self) -> &str
+        ensures { result.now ≡ self.now }
+    {
+        self.text.as_str()
+    }
+
+    pub fn into_string(self) -> String
+        ensures { string_bytes result ≡ self }
+    {
+        let Utf8PathBuf { text } = self;
+        text
+    }
+
+    /// A copy on the same allocator.
+    pub fn try_clone(&self) -> Result<Utf8PathBuf, NoMemory>
+        ensures { IfOk result (λ p. p ≡ self.now) }
+    {
+        let text = self.text.clone()?;
+        Ok(Utf8PathBuf { text })
+    }
+}
