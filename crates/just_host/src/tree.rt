@@ -1,0 +1,10 @@
+use just_path::{Seq, Text};
+
+/// What stands at a path of a tree of files.
+#[derive(Debug, Drop)]
+pub enum Thing {
+    File { bytes: Seq<u8>, executable: bool },
+    Folder,
+    /// A link, with the path that it points at.
+    Link(Text),
+}
