@@ -1,0 +1,15 @@
+use super::Modulepath;
+use just_path::{Seq, Text};
+
+/// The value of a parameter.
+#[derive(Debug, Drop)]
+pub struct Value {
+    pub elements: Seq<Text>,
+}
+
+/// What is asked of a recipe: its path, and a value for each of its parameters.
+#[derive(Debug, Drop)]
+pub struct Key {
+    pub recipe: Modulepath,
+    pub arguments: Seq<Value>,
+}
