@@ -1,0 +1,10 @@
+pub mod Works
+pub mod Nodes
+pub mod State
+pub mod Legal
+pub mod Match
+pub mod Verdict
+pub mod Start
+pub mod Nowhere
+pub mod Room
+pub mod Idle

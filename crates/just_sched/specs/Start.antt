@@ -1,0 +1,30 @@
+-- What a run is of, as it was when its book was opened, and what the book keeps of it.
+use Rattle.std.specs.Prelude.{ℕ, ◌≡◌, false, List, ◌++◌, Option}
+use Rattle.std.specs.List.{list_any}
+use Rattle.just_host.specs.declared.entry.Entry.{Entry}
+use Rattle.just_host.specs.Record.{children, is_failed}
+use Rattle.just_host.specs.World.{World}
+use Rattle.just_sched.specs.declared.event.Event.{Event}
+use Rattle.just_sched.specs.declared.plan.Plan.{Plan}
+use Rattle.just_sched.specs.Legal.{Run, IsLegal, all_starts}
+use Rattle.just_sched.specs.Match.{Matches}
+
+-- the plan, the job limit if there is one, and the host's record and told world
+pub record Start : Type 0 where
+  pub plan : Plan
+  pub jobs : Option ℕ
+  pub entries : List Entry
+  pub world : Option World
+
+-- the run that begins there
+abbrev pub run_of : Start → Run
+run_of s = record { nodes = s.plan.nodes; invocations = s.plan.invocations; jobs = s.jobs; base = children s.entries }
+
+-- A history that was made since then, over a host whose record and told world are these now: the history is legal, it
+-- matches what the record gained, and the world is as it was where no child was started and no call failed.
+pub record Kept (s : Start) (h : List Event) (now : List Entry) (world : Option World) : Type 0 where
+  pub legal : IsLegal (run_of s) h
+  pub gained : List Entry
+  pub grew : now ≡ s.entries ++ gained
+  pub matches : Matches (run_of s) h gained
+  pub untouched : all_starts h ≡ 0 → list_any is_failed gained ≡ false → world ≡ s.world

@@ -1,0 +1,14 @@
+//! Running a plan: the states of its nodes, legal histories, the book that keeps one, and the drive to its end.
+#![tactic(auto)]
+
+mod event;
+mod naming;
+mod plan;
+mod plan_node;
+mod work;
+
+pub use event::{Event, Idle, Outcome, Reason, Verdict};
+pub use naming::Naming;
+pub use plan::Plan;
+pub use plan_node::PlanNode;
+pub use work::{Command, Step, Work};
