@@ -2,12 +2,14 @@
 #![tactic(auto)]
 
 mod event;
+mod look;
 mod naming;
 mod plan;
 mod plan_node;
 mod work;
 
 pub use event::{Event, Idle, Outcome, Reason, Verdict};
+pub use look::after;
 pub use naming::Naming;
 pub use plan::Plan;
 pub use plan_node::PlanNode;
