@@ -1,1 +1,4 @@
 pub mod AfterLaws
+pub mod PlanLaws
+pub mod TableLaws
+pub mod WantedLaws

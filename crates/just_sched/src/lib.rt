@@ -6,6 +6,8 @@ mod look;
 mod naming;
 mod plan;
 mod plan_node;
+mod tables;
+mod wanted;
 mod work;
 
 pub use event::{Event, Idle, Outcome, Reason, Verdict};
