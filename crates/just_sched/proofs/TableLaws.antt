@@ -1,7 +1,7 @@
 -- Laws of the flags of nodes.
 use Rattle.std.proofs.Common.{◌≡◌, ℕ, Bool, true, false, ◌||◌, List, [], ◌∷◌, refl}
 use Rattle.std.proofs.Common.{◌+◌, ◌-◌, ◌<◌, ◌≤◌, ◌≢◌, ◌⊎◌, inl, inr, ⊎_elim, get_or, set, length, arith, sym, ◌∙◌, ap, subst, get_or-set_other, get_or-set_same}
-use Rattle.std.specs.Prelude.{Contains, slice_get, Some, All}
+use Rattle.std.specs.Prelude.{Contains, slice_get, Some, None, All}
 use Rattle.std.proofs.Math.Decide.{dec_lt}
 use Rattle.std.proofs.Math.Logic.{∥∥₁_elim}
 use Rattle.std.proofs.Math.Bridge.{le_prop}
@@ -13,7 +13,8 @@ use Rattle.just_lang.specs.WellFormed.{IsWellFormed, round_at}
 use Rattle.just_sched.specs.declared.event.Event.{Event}
 use Rattle.just_sched.specs.declared.plan_node.PlanNode.{PlanNode}
 use Rattle.just_sched.specs.Nodes.{subsequents_at, priors_at}
-use Rattle.just_sched.specs.State.{over_well, Finished, finished}
+use Rattle.just_sched.specs.declared.event.Event.TheVariants as event
+use Rattle.just_sched.specs.State.{over_well, Finished, finished, caught, caught_signal}
 use Rattle.just_sched.specs.Tables.{flag}
 
 or_exchange : (a b c d : Bool) → ((a || b) || (c || d)) ≡ ((a || c) || (b || d))
@@ -95,3 +96,9 @@ swept_on nodes invocations h flags back at b subsequents well sized lt is_at are
         (λ (s : (j : ℕ) × (j < length subsequents) × (flag flags (slice_index subsequents j) ≡ false)).
           inr (slice_index subsequents s.0, rw (sym are) (contains_at subsequents s.0 s.1), s.2))
         (no_is e)))
+
+-- no signal was caught where there is no first one
+pub not_caught : (h : List Event) → caught_signal h ≡ None → caught h ≡ false
+not_caught [] e = refl
+not_caught (event.Caught s ∷ es) e = absurd (let never : Some s ≡ None = e in cc)
+not_caught (_ ∷ es) e = not_caught es e

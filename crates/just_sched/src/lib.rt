@@ -1,6 +1,7 @@
 //! Running a plan: the states of its nodes, legal histories, the book that keeps one, and the drive to its end.
 #![tactic(auto)]
 
+mod choice;
 mod event;
 mod look;
 mod naming;

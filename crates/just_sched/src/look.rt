@@ -3,11 +3,11 @@
 ghost use Rattle.std.specs.Prelude.{◌≡◌, ◌-◌, ◌<◌, ◌≤◌, ◌^◌, ℕ, Option, Some, None, length, slice_get};
 ghost use Rattle.std.specs.Option.{option_copied};
 ghost use Rattle.just_sched.specs.Works.{commands_of, judged, start_or_well, is_code as code_is, after as step_after, WentOn};
-ghost use Rattle.just_sched.specs.State.{took, done, last_start as start_of, next_step as step_of, reason_of as failure_of};
+ghost use Rattle.just_sched.specs.State.{took, gave, done, last_start as start_of, next_step as step_of, reason_of as failure_of, is_open as open_of, caught_signal as signal_of};
 ghost use Rattle.just_sched.specs.Nodes.{work_at};
 
 use super::{Command, Event, Outcome, Plan, Reason, Step, Work};
-use just_host::Status;
+use just_host::{Signal, Status};
 
 /// The command of a body at a place.
 pub(crate) fn command(work: &Work, at: usize) -> Option<&Command>
@@ -129,6 +129,32 @@ pub(crate) fn reason_of(history: &[Event], node: u32) -> Option<Reason>
             if *n == node {
                 return Some(*reason);
             }
+        }
+    }
+    None
+}
+
+/// Whether the node's body gave its job back.
+pub(crate) fn is_given_back(history: &[Event], node: u32) -> bool
+    ensures { result ≡ gave history.now node }
+{
+    history.iter().any(|e| matches!(e, Event::Gave(n) if *n == node))
+}
+
+/// Whether the node's body took a job and hasn't given it back.
+pub(crate) fn is_open(history: &[Event], node: u32) -> bool
+    ensures { result ≡ open_of history.now node }
+{
+    is_taken(history, node) && !is_given_back(history, node)
+}
+
+/// The signal that was caught first.
+pub(crate) fn caught_signal(history: &[Event]) -> Option<Signal>
+    ensures { result ≡ signal_of history.now }
+{
+    for event in history {
+        if let Event::Caught(signal) = event {
+            return Some(*signal);
         }
     }
     None
