@@ -9,3 +9,4 @@ pub mod Nowhere
 pub mod Room
 pub mod Idle
 pub mod Tables
+pub mod Commands

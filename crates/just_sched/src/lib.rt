@@ -2,6 +2,7 @@
 #![tactic(auto)]
 
 mod choice;
+mod commands;
 mod event;
 mod look;
 mod naming;
@@ -11,6 +12,7 @@ mod tables;
 mod wanted;
 mod work;
 
+pub use commands::work_for;
 pub use event::{Event, Idle, Outcome, Reason, Verdict};
 pub use look::after;
 pub use naming::Naming;
