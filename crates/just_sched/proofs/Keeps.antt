@@ -261,61 +261,61 @@ pub record IsSame (h k : List Event) (n : ℕ) : Type 0 where
   pub last_start : last_start k n ≡ last_start h n
   pub reason_of : reason_of k n ≡ reason_of h n
 
-answer_of : (w : Bool) (n : ℕ) (e : Event) → is_of n e ≡ false → is_answer w n e ≡ false
+pub answer_of : (w : Bool) (n : ℕ) (e : Event) → is_of n e ≡ false → is_answer w n e ≡ false
 answer_of w n (event.Asked m y) o = ap (λ b. b && (if w then y else not y)) o
 answer_of w n _ o = refl
 
-asked_of : (n : ℕ) (e : Event) → is_of n e ≡ false → is_asked n e ≡ false
+pub asked_of : (n : ℕ) (e : Event) → is_of n e ≡ false → is_asked n e ≡ false
 asked_of n (event.Asked m y) o = o
 asked_of n _ o = refl
 
-took_of : (n : ℕ) (e : Event) → is_of n e ≡ false → is_took n e ≡ false
+pub took_of : (n : ℕ) (e : Event) → is_of n e ≡ false → is_took n e ≡ false
 took_of n (event.Took m) o = o
 took_of n _ o = refl
 
-skipped_of : (n : ℕ) (e : Event) → is_of n e ≡ false → is_skipped n e ≡ false
+pub skipped_of : (n : ℕ) (e : Event) → is_of n e ≡ false → is_skipped n e ≡ false
 skipped_of n (event.Skipped m) o = o
 skipped_of n _ o = refl
 
-begun_of : (n : ℕ) (e : Event) → is_of n e ≡ false → is_begun n e ≡ false
+pub begun_of : (n : ℕ) (e : Event) → is_of n e ≡ false → is_begun n e ≡ false
 begun_of n (event.Begun m) o = o
 begun_of n _ o = refl
 
-started_of : (n : ℕ) (e : Event) → is_of n e ≡ false → is_started n e ≡ false
+pub started_of : (n : ℕ) (e : Event) → is_of n e ≡ false → is_started n e ≡ false
 started_of n (event.Started m i c) o = o
 started_of n _ o = refl
 
-ended_of : (n : ℕ) (e : Event) → is_of n e ≡ false → is_ended n e ≡ false
+pub ended_of : (n : ℕ) (e : Event) → is_of n e ≡ false → is_ended n e ≡ false
 ended_of n (event.Ended m i c t) o = o
 ended_of n _ o = refl
 
-done_of : (n : ℕ) (e : Event) → is_of n e ≡ false → is_done n e ≡ false
+pub done_of : (n : ℕ) (e : Event) → is_of n e ≡ false → is_done n e ≡ false
 done_of n (event.Done m r) o = o
 done_of n _ o = refl
 
-well_of : (n : ℕ) (e : Event) → is_of n e ≡ false → is_well n e ≡ false
+pub well_of : (n : ℕ) (e : Event) → is_of n e ≡ false → is_well n e ≡ false
 well_of n (event.Done m outcome.Well) o = o
 well_of n (event.Done m (outcome.Failed r)) o = refl
 well_of n _ o = refl
 
-failure_of : (n : ℕ) (e : Event) → is_of n e ≡ false → is_failure n e ≡ false
+pub failure_of : (n : ℕ) (e : Event) → is_of n e ≡ false → is_failure n e ≡ false
 failure_of n (event.Done m outcome.Well) o = refl
 failure_of n (event.Done m (outcome.Failed r)) o = o
 failure_of n _ o = refl
 
-gave_of : (n : ℕ) (e : Event) → is_of n e ≡ false → is_gave n e ≡ false
+pub gave_of : (n : ℕ) (e : Event) → is_of n e ≡ false → is_gave n e ≡ false
 gave_of n (event.Gave m) o = o
 gave_of n _ o = refl
 
-statuses_of : (n : ℕ) (e : Event) → is_of n e ≡ false → status_of n e ≡ None
+pub statuses_of : (n : ℕ) (e : Event) → is_of n e ≡ false → status_of n e ≡ None
 statuses_of n (event.Ended m i c t) o = ap (λ b. if b then Some t else None) o
 statuses_of n _ o = refl
 
-starts_of : (n : ℕ) (e : Event) → is_of n e ≡ false → start_of n e ≡ None
+pub starts_of : (n : ℕ) (e : Event) → is_of n e ≡ false → start_of n e ≡ None
 starts_of n (event.Started m i c) o = ap (λ b. if b then Some (i, c) else None) o
 starts_of n _ o = refl
 
-reasons_of : (n : ℕ) (e : Event) → is_of n e ≡ false → reason_in n e ≡ None
+pub reasons_of : (n : ℕ) (e : Event) → is_of n e ≡ false → reason_in n e ≡ None
 reasons_of n (event.Done m outcome.Well) o = refl
 reasons_of n (event.Done m (outcome.Failed r)) o = ap (λ b. if b then Some r else None) o
 reasons_of n _ o = refl
