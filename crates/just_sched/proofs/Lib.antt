@@ -1,3 +1,4 @@
 pub mod Keeps
 pub mod Sane
 pub mod Totals
+pub mod Complete
