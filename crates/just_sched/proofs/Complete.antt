@@ -1,23 +1,26 @@
 -- When a closed history is complete.
-use Rattle.std.proofs.Common.{◌≡◌, ℕ, zero, suc, ◌+◌, ◌<◌, ◌≤◌, ◌==◌, ◌⊎◌, inl, inr, ◌&&◌, ◌||◌, not, Bool, true, false, if◌then◌else◌, List, [], ◌∷◌, ◌++◌, length, map, slice_get, slice_index, Contains, Option, Some, None, is_some, is_none, option_map, filter_map, refl, ap, sym, ◌∙◌, subst, arith}
+use Rattle.std.proofs.Common.{◌≡◌, ℕ, zero, suc, ◌+◌, ◌<◌, ◌≤◌, ◌==◌, ◌⊎◌, inl, inr, ◌&&◌, ◌||◌, not, Bool, true, false, if◌then◌else◌, List, [], ◌∷◌, ◌++◌, length, map, slice_get, slice_index, Contains, Option, Some, None, is_some, is_none, option_map, filter_map, All, true≢false, eqb-true, refl, ap, sym, ◌∙◌, subst, arith}
+use Rattle.std.proofs.Math.Bool.{Bool-set}
 use Rattle.std.specs.List.{list_any, cons_option}
 use Rattle.std.proofs.lemmas.Grind.{get_or_default_zero}
-use Rattle.std.proofs.lemmas.Option.{slice_get_within, slice_get-map}
+use Rattle.std.proofs.lemmas.Option.{get_or_from_slice_get, slice_get_within, slice_get-map}
 use Rattle.just_lang.specs.declared.node.Node.{Node}
 use Rattle.just_lang.specs.WellFormed.{Used, invoked as used_invoked, prior as used_prior, subsequent as used_subsequent}
 use Rattle.just_sched.specs.declared.event.Event.{Event}
 use Rattle.just_sched.specs.declared.event.Event.TheVariants as event
 use Rattle.just_sched.specs.declared.event.Outcome.TheVariants as outcome
 use Rattle.just_sched.specs.declared.event.Reason.{Reason}
+use Rattle.just_sched.specs.declared.event.Reason.TheVariants as reason
 use Rattle.just_sched.specs.declared.event.Idle.TheVariants as idle
 use Rattle.just_sched.specs.declared.plan_node.PlanNode.{PlanNode}
-use Rattle.just_sched.specs.Nodes.{prompt_at, priors_in, priors_at, subsequents_in, subsequents_at}
-use Rattle.just_sched.specs.State.{is_answer, is_took, is_skipped, is_done, is_well, reason_in, took, gave, done, asked, over_well, confirmed, first, reason_of, caught, Finished, finished, Wanted, invoked, prior, subsequent}
-use Rattle.just_sched.specs.Legal.{Run, IsLegal, IsClosed, IsComplete, open_bodies}
-use Rattle.just_sched.specs.Idle.{HasWork, IsIdle}
-use Rattle.just_sched.proofs.Keeps.{or_true, any_kept}
-use Rattle.just_sched.proofs.Sane.{item_there, since, took_ready, begun_took, gave_done, well_begun, took_confirmed}
-use Rattle.just_sched.proofs.Totals.{Formed, round_in, round_of, node_at, IsPrior, IsSubsequent, prior_is, subsequent_is, invocation_is, closed_zero}
+use Rattle.just_sched.specs.Nodes.{prompt_in, prompt_at, priors_in, priors_at, subsequents_in, subsequents_at}
+use Rattle.just_sched.specs.State.{is_answer, is_asked, is_caught, is_took, is_skipped, is_done, is_well, reason_in, took, gave, done, asked, over_well, confirmed, first, reason_of, caught, Finished, finished, Wanted, invoked, prior, subsequent}
+use Rattle.just_sched.specs.Legal.{Run, May, MayFailBy, IsLegal, IsClosed, IsComplete, open_bodies}
+use Rattle.just_sched.specs.Idle.{HasWork, NoneToAsk, IsIdle}
+use Rattle.just_sched.specs.Verdict.{decides, NoneDecides}
+use Rattle.just_sched.proofs.Keeps.{or_true, any_kept, legal_holds, reason_new, reason_kept}
+use Rattle.just_sched.proofs.Sane.{item_there, since, never, asked_due, took_ready, begun_took, gave_done, well_begun, took_confirmed}
+use Rattle.just_sched.proofs.Totals.{Formed, round_in, round_of, node_at, IsPrior, IsSubsequent, prior_is, subsequent_is, invocation_is, answered_asked, closed_zero}
 
 -- ---- states that stay
 
@@ -216,3 +219,89 @@ complete s h f l c r a _ w = settled_complete s h (record { formed = f; legal = 
 -- with nothing open, a limit of one job or more is not reached
 pub jobs_absurd : (s : Run) (h : List Event) (j : ℕ) → IsClosed s h → s.jobs ≡ Some j → 0 < j → IsIdle s h idle.Jobs → ⊥
 jobs_absurd s h j c q some i = let same : j ≡ open_bodies s h = cc (sym q ∙ i.3) in omega (arith, same, closed_zero s h c, some)
+
+-- there is one way to be finished
+pub finished_prop : (nodes : List PlanNode) (h : List Event) (n : ℕ) → IsProp (Finished nodes h n)
+finished_prop nodes h n (finished k p f) (finished _ q g) = λ i. finished k (Bool-set _ _ p q i) (λ m c. finished_prop nodes h m (f m c) (g m c) i)
+
+-- so a complete history can be had from a plan whose being well formed is truncated
+pub complete_prop : (s : Run) (h : List Event) → IsProp (IsComplete s h)
+complete_prop s h = λ x y i. record { closed = λ n lt. Bool-set _ _ (x.closed n lt) (y.closed n lt) i; all_finished = λ n lt. finished_prop s.nodes h n (x.all_finished n lt) (y.all_finished n lt) i }
+
+-- ---- reasons and the verdict
+
+reason_due_at : (s : Run) (h : List Event) (n m : ℕ) (r t : Reason) (b : Bool) → (m == n) ≡ b → MayFailBy s h m t → (if b then Some t else None) ≡ Some r → MayFailBy s h n r
+reason_due_at s h n m r t true q may e = let same : t ≡ r = cc in subst (λ x. MayFailBy s h n x) same (subst (λ x. MayFailBy s h x t) (eqb-true m n q) may)
+reason_due_at s h n m r t false q may e = absurd (cc)
+
+-- an event with a reason of the node is one by which it may fail so
+pub reason_due : (s : Run) (h : List Event) (n : ℕ) (r : Reason) (e : Event) → May s h e → reason_in n e ≡ Some r → MayFailBy s h n r
+reason_due s h n r (event.Done m outcome.Well) may q = absurd (cc)
+reason_due s h n r (event.Done m (outcome.Failed t)) may q = reason_due_at s h n m r t (m == n) refl may q
+reason_due s h n r _ may q = absurd (cc)
+
+reason_since_at : (Q : List Event → Type 0) (h : List Event) (e : Event) (n : ℕ) (r : Reason) (o : Option Reason) → reason_of h n ≡ o → (reason_of h n ≡ Some r → Q (h ++ e ∷ [])) → (reason_in n e ≡ Some r → Q (h ++ e ∷ [])) → reason_of (h ++ e ∷ []) n ≡ Some r → Q (h ++ e ∷ [])
+reason_since_at Q h e n r None q old now a = now (sym (reason_new h e n q) ∙ a)
+reason_since_at Q h e n r (Some t) q old now a = old (q ∙ sym (reason_kept h e n t q) ∙ a)
+
+-- what holds where a node may fail by a reason, and stays, holds of a history in which it did
+pub reason_since : (s : Run) (n : ℕ) (r : Reason) (Q : List Event → Type 0) → ((h : List Event) (e : Event) → Q h → Q (h ++ e ∷ [])) → ((h : List Event) → IsLegal s h → MayFailBy s h n r → Q h) → (h : List Event) → IsLegal s h → reason_of h n ≡ Some r → Q h
+reason_since s n r Q grows now h l =
+    legal_holds s (λ k. reason_of k n ≡ Some r → Q k) (λ q. absurd (cc))
+        (λ k e legal old m a. reason_since_at Q k e n r (reason_of k n) refl (λ q. grows k e (old q)) (λ q. grows k e (now k legal (reason_due s k n r e m q))) a)
+        h l
+
+-- a body is interrupted where a signal was caught
+pub interrupted_caught : (s : Run) (h : List Event) (n : ℕ) → IsLegal s h → reason_of h n ≡ Some reason.Interrupted → caught h ≡ true
+interrupted_caught s h n l =
+    reason_since s n reason.Interrupted (λ k. caught k ≡ true) (λ k e c. any_kept is_caught k e c) (λ k legal m. m.1) h l
+
+undecided : (b : Bool) (o : Option Reason) → b ≡ false → decides o ≡ false → (o ≡ Some reason.Interrupted → b ≡ true) → o ≡ None
+undecided b None q d i = refl
+undecided b (Some reason.Interrupted) q d i = absurd (true≢false (sym (i refl) ∙ q))
+undecided b (Some r) q d i = absurd (cc)
+
+-- where no failure decides and no signal was caught, no node failed
+pub no_reason : (s : Run) (h : List Event) → IsLegal s h → NoneDecides s h → caught h ≡ false → (n : ℕ) → n < length s.nodes → reason_of h n ≡ None
+no_reason s h l none c n lt = undecided (caught h) (reason_of h n) c (none n lt) (interrupted_caught s h n l)
+
+reason_done_at : (h : List Event) (n : ℕ) (r t : Reason) (b : Bool) → first (cons_option (if b then Some t else None) (filter_map (reason_in n) h)) ≡ Some r → (reason_of h n ≡ Some r → done h n ≡ true) → (b || done h n) ≡ true
+reason_done_at h n r t true e rest = refl
+reason_done_at h n r t false e rest = rest e
+
+-- a node that failed is done
+pub reason_done : (h : List Event) (n : ℕ) (r : Reason) → reason_of h n ≡ Some r → done h n ≡ true
+reason_done [] n r e = absurd (cc)
+reason_done (event.Done m outcome.Well ∷ h) n r e = ap (λ b. (m == n) || b) (reason_done h n r e) ∙ or_true (m == n)
+reason_done (event.Done m (outcome.Failed t) ∷ h) n r e = reason_done_at h n r t (m == n) e (reason_done h n r)
+reason_done (x ∷ h) n r e = reason_done h n r e
+
+-- ---- plans without prompts
+
+abbrev pub Unprompted : Run → Type 0
+Unprompted s = All (λ x. is_none x.prompt ≡ true) s.nodes
+
+none_is : {A : Type 0} (o : Option A) → is_none o ≡ true → o ≡ None
+none_is None q = refl
+none_is (Some x) q = absurd (cc)
+
+no_prompt_at : (s : Run) (n : ℕ) (o : Option PlanNode) → Unprompted s → slice_get s.nodes n ≡ o → prompt_in o ≡ None
+no_prompt_at s n None u q = refl
+no_prompt_at s n (Some x) u q =
+    none_is x.prompt (subst (λ y. is_none y.prompt ≡ true) (get_or_from_slice_get s.nodes n x x q) (u n x (slice_get_within s.nodes n x q)))
+
+pub no_prompt : (s : Run) (n : ℕ) → Unprompted s → prompt_at s.nodes n ≡ None
+no_prompt s n u = no_prompt_at s n (slice_get s.nodes n) u refl
+
+pub none_to_ask : (s : Run) (h : List Event) → Unprompted s → NoneToAsk s h
+none_to_ask s h u n a = true≢false (sym a.prompted ∙ ap is_some (no_prompt s n u))
+
+pub unprompted_confirmed : (s : Run) (h : List Event) (n : ℕ) → Unprompted s → confirmed s.nodes h n ≡ true
+unprompted_confirmed s h n u = ap (λ p. is_none p || list_any (is_answer true n) h) (no_prompt s n u)
+
+pub unasked : (s : Run) (h : List Event) (n : ℕ) → Unprompted s → IsLegal s h → asked h n ≡ false
+unasked s h n u l = never s (is_asked n) (λ k e legal m q. none_to_ask s k u n (asked_due s k n e m q)) h l
+
+-- so each no has its end
+pub unprompted_answered : (s : Run) (h : List Event) → Unprompted s → IsLegal s h → (n : ℕ) → list_any (is_answer false n) h ≡ true → done h n ≡ true
+unprompted_answered s h u l n a = absurd (true≢false (sym (answered_asked false h n a) ∙ unasked s h n u l))
