@@ -39,8 +39,8 @@ finished_behind nodes h n q (finished k over behind) c = behind q c
 pub took_priors : (s : Run) (h : List Event) (n : ℕ) → IsLegal s h → took h n ≡ true → (q : ℕ) → Contains (priors_at s.nodes n) q → Finished s.nodes h q
 took_priors s h n l =
     since s (is_took n) (λ k. (q : ℕ) → Contains (priors_at s.nodes n) q → Finished s.nodes k q)
-        (λ k e old q c. finished_kept s.nodes k e q (old q c))
-        (λ k e legal m t q c. finished_kept s.nodes k e q ((took_ready s k n e m t).priors q c)) h l
+    (λ k e old q c. finished_kept s.nodes k e q (old q c))
+    (λ k e legal m t q c. finished_kept s.nodes k e q ((took_ready s k n e m t).priors q c)) h l
 
 -- ---- a body that is done without a reason ended well
 
@@ -165,12 +165,12 @@ module _ (s : Run) (h : List Event) (e : IsSettled s h) where
   finish_in a outer zero n less lt deep w = absurd (omega (arith, less))
   finish_in a outer (suc b) n less lt deep w =
       let priors = in_turn (Finished s.nodes h) (priors_at s.nodes n) (λ k at before.
-          let p = prior_is s e.formed n k at in
-          finish_in a outer b (slice_index (priors_at s.nodes n) k) (omega (arith, p.below, less)) p.there (subst (λ r. length s.nodes < rank r + suc a) (sym p.round) deep) (prior n (slice_index (priors_at s.nodes n) k) w (wanted_confirmed n lt w) (k, at, refl, inr before))) in
+      let p = prior_is s e.formed n k at in
+      finish_in a outer b (slice_index (priors_at s.nodes n) k) (omega (arith, p.below, less)) p.there (subst (λ r. length s.nodes < rank r + suc a) (sym p.round) deep) (prior n (slice_index (priors_at s.nodes n) k) w (wanted_confirmed n lt w) (k, at, refl, inr before))) in
       let over = wanted_over n lt w (of_contained (Finished s.nodes h) (priors_at s.nodes n) priors) in
       finished n over (of_contained (Finished s.nodes h) (subsequents_at s.nodes n) (in_turn (Finished s.nodes h) (subsequents_at s.nodes n) (λ k at before.
-          let p = subsequent_is s e.formed n k at in
-          outer (slice_index (subsequents_at s.nodes n) k) p.there (omega (arith, ap rank p.round, rank_below s e.formed n, deep)) (subsequent n (slice_index (subsequents_at s.nodes n) k) over (k, at, refl, inr before)))))
+      let p = subsequent_is s e.formed n k at in
+      outer (slice_index (subsequents_at s.nodes n) k) p.there (omega (arith, ap rank p.round, rank_below s e.formed n, deep)) (subsequent n (slice_index (subsequents_at s.nodes n) k) over (k, at, refl, inr before)))))
 
   finish : (a n : ℕ) → n < length s.nodes → length s.nodes < rank (round_of s n) + a → Wanted s.nodes s.invocations h n → Finished s.nodes h n
   finish zero n lt deep w = absurd (omega (arith, lt, deep, rank_below s e.formed n))
@@ -248,8 +248,8 @@ reason_since_at Q h e n r (Some t) q old now a = old (q ∙ sym (reason_kept h e
 pub reason_since : (s : Run) (n : ℕ) (r : Reason) (Q : List Event → Type 0) → ((h : List Event) (e : Event) → Q h → Q (h ++ e ∷ [])) → ((h : List Event) → IsLegal s h → MayFailBy s h n r → Q h) → (h : List Event) → IsLegal s h → reason_of h n ≡ Some r → Q h
 reason_since s n r Q grows now h l =
     legal_holds s (λ k. reason_of k n ≡ Some r → Q k) (λ q. absurd (cc))
-        (λ k e legal old m a. reason_since_at Q k e n r (reason_of k n) refl (λ q. grows k e (old q)) (λ q. grows k e (now k legal (reason_due s k n r e m q))) a)
-        h l
+    (λ k e legal old m a. reason_since_at Q k e n r (reason_of k n) refl (λ q. grows k e (old q)) (λ q. grows k e (now k legal (reason_due s k n r e m q))) a)
+    h l
 
 -- a body is interrupted where a signal was caught
 pub interrupted_caught : (s : Run) (h : List Event) (n : ℕ) → IsLegal s h → reason_of h n ≡ Some reason.Interrupted → caught h ≡ true
