@@ -1,3 +1,7 @@
+pub mod Keeps
+pub mod Sane
+pub mod Totals
+pub mod Complete
 pub mod AfterLaws
 pub mod PlanLaws
 pub mod TableLaws
