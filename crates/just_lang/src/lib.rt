@@ -6,6 +6,7 @@ mod error;
 mod justfile;
 mod key;
 mod node;
+mod same;
 
 pub use ast::{Ast, AstItem, Dependency, Fragment, Line, Modulepath, Recipe, Source};
 pub use error::{CompileError, CompileKind, LangError};
