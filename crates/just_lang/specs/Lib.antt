@@ -1,4 +1,6 @@
+pub mod Asked
 pub mod Keys
 pub mod Names
 pub mod Sound
+pub mod Walk
 pub mod WellFormed
