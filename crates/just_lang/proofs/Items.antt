@@ -1,5 +1,5 @@
 -- Items of a list, by cases.
-use Rattle.std.proofs.Common.{◌≡◌, ℕ, zero, suc, ◌<◌, ◌⊎◌, inl, inr, Bool, true, false, List, [], ◌∷◌, map, length, get_or, Some, refl, subst, arith, cond, find}
+use Rattle.std.proofs.Common.{◌∙◌, ap, ◌≡◌, ℕ, zero, suc, ◌<◌, ◌⊎◌, inl, inr, Bool, true, false, List, [], ◌∷◌, map, length, get_or, Some, refl, subst, arith, cond, find}
 use Rattle.std.specs.List.{All, Contains}
 
 abbrev pub In : {A : Type 0} → A → List A → Type 0
@@ -32,6 +32,11 @@ pub in_map : {A B : Type 0} (f : A → B) (xs : List A) (y : B) → In y (map f 
 in_map f [] y h = absurd h
 in_map f (x ∷ xs) y (inl e) = (x, inl refl, e)
 in_map f (x ∷ xs) y (inr h) = let m = in_map f xs y h in (m.0, inr m.1, m.2)
+
+pub map_in : {A B : Type 0} (f : A → B) (xs : List A) (x : A) (y : B) → In x xs → f x ≡ y → In y (map f xs)
+map_in f [] x y i e = absurd i
+map_in f (z ∷ xs) x y (inl same) e = inl (ap f same ∙ e)
+map_in f (z ∷ xs) x y (inr i) e = inr (map_in f xs x y i e)
 
 -- what `find` finds
 pub found : {A : Type 0} (p : A → Bool) (xs : List A) (x : A) → find p xs ≡ Some x → (p x ≡ true) × In x xs

@@ -1,3 +1,6 @@
 pub mod Around
 pub mod Equal
 pub mod Items
+pub mod Visited
+pub mod Grown
+pub mod Closed

@@ -42,9 +42,13 @@ visited p s (suc n) list r k =
     else (let before : List Place = fold (λ l q. visited p s n l r q) list (p k) in
     fold (λ l q. visited p s n l (Some (length before)) q) (before ++ record { round = r; key = k } ∷ []) (s k))
 
--- the visits of the keys on the command line, one behind the other
+-- the list behind the visits of some keys, one after the other
+abbrev pub visited_each : (Key → List Key) → (Key → List Key) → ℕ → List Place → Option ℕ → List Key → List Place
+visited_each p s n list r keys = fold (λ l q. visited p s n l r q) list keys
+
+-- the visits of the keys that are asked for
 unfoldable pub walk : List Recipe → List Key → List Place
-walk recipes keys = fold (λ l k. visited (priors_of recipes) (subsequents_of recipes) (length recipes) l None k) [] keys
+walk recipes keys = visited_each (priors_of recipes) (subsequents_of recipes) (length recipes) [] None keys
 
 -- the node at a place of the list
 abbrev pub node_of : (Key → List Key) → (Key → List Key) → List Place → ℕ → Place → Node

@@ -9,6 +9,7 @@ mod key;
 mod node;
 mod place;
 mod same;
+mod walk;
 
 pub use asked::{dependencies, invocations};
 pub use ast::{Ast, AstItem, Dependency, Fragment, Line, Modulepath, Recipe, Source};
@@ -17,6 +18,7 @@ pub use justfile::Justfile;
 pub use key::{Key, Value};
 pub use node::{BodyLine, Closure, Node};
 pub use place::Place;
+pub use walk::closure;
 
 /// A request may need so many nodes.
 pub const CLOSURE_LIMIT: usize = 1_000_000;
