@@ -4,3 +4,4 @@ pub mod Items
 pub mod Visited
 pub mod Grown
 pub mod Closed
+pub mod Forward

@@ -9,6 +9,7 @@ mod key;
 mod node;
 mod place;
 mod same;
+mod sound;
 mod walk;
 
 pub use asked::{dependencies, invocations};

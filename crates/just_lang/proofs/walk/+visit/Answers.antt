@@ -1,5 +1,5 @@
 -- The code follows the definition of a visit step by step.
-use Rattle.std.proofs.Common.{◌≡◌, ◌+◌, ◌-◌, length, true, false, IfErr, sym, ap, subst, ◌∙◌, arith}
+use Rattle.std.proofs.Common.{◌≡◌, ◌+◌, ◌-◌, length, true, false, IfErr, sym, subst, ◌∙◌, arith}
 use Rattle.std.specs.List.{All}
 use Rattle.std.proofs.lemmas.Result.{on_ok_weaker}
 use Rattle.just_lang.specs.Keys.{priors_of, subsequents_of}
@@ -40,8 +40,8 @@ visit-returns-in_err-node-clause-refused t c =
     let before = visited_each (priors_of rs) (subsequents_of rs) (c.args.left - 1) list c.args.round in
     let all = length (visited (priors_of rs) (subsequents_of rs) c.args.left list c.args.round c.args.key.now) in
     let short = pushed_short rs c.args.left list c.args.round c.args.key.now c.requires.fit unlisted in
-    let is_before = c.in_ok-visit_each.ensures.list ∙ ap (λ l. before l) (c.as_slice-2.ensures ∙ c.in_ok-priors.ensures.priors) in
-    let given = subst (λ l. RefusesNodes (length l + 1) error) is_before c.in_err-node.ensures.refused in
+    let after_priors = subst (λ l. RefusesNodes (length l + 1) error) c.in_ok-visit_each.ensures.list c.in_err-node.ensures.refused in
+    let given = subst (λ ps. RefusesNodes (length (before ps) + 1) error) (c.as_slice-2.ensures ∙ c.in_ok-priors.ensures.priors) after_priors in
     refused_from c.from_residual-in_err-node.result _ (λ e. RefusesNodes all e) (λ e is. let same : error ≡ e = cc in subst (λ x. RefusesNodes all x) same (refuses_more (length (before (priors_of rs c.args.key.now)) + 1) all error short given)) c.from_residual-in_err-node.ensures.1
 
 pub visit-visit_each-requires-2 : goal.visit-visit_each-requires-2
