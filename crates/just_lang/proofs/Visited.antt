@@ -108,3 +108,15 @@ item_short p s n list r keys i x lt e =
 pub refused_from : {T E : Type 0} (r : Result T E) (P Q : E → Type 0) → ((e : E) → P e → Q e) → IsErrAnd r P → IfErr r Q
 refused_from (Ok x) P Q h no_error = absurd no_error
 refused_from (Err e) P Q h given = h e given
+
+-- what refuses the visits of the priors, or the key behind them, refuses the visit
+pub before_refused : (rs : List Recipe) (n : ℕ) (list : List Place) (r : Option ℕ) (k : Key) → fits rs n k ≡ true → listed list r k ≡ false → (ps : List Key) (e : LangError) → ps ≡ priors_of rs k → RefusesNodes (length (visited_each (priors_of rs) (subsequents_of rs) (n - 1) list r ps)) e → RefusesNodes (length (visited (priors_of rs) (subsequents_of rs) n list r k)) e
+before_refused rs n list r k fit unlisted ps e ps_is refuses =
+    let go = visited_each (priors_of rs) (subsequents_of rs) (n - 1) list r in
+    let short = pushed_short rs n list r k fit unlisted in
+    refuses_more _ _ e (omega (arith, short)) (subst (λ l. RefusesNodes (length (go l)) e) ps_is refuses)
+
+pub pushed_refused : (rs : List Recipe) (n : ℕ) (list : List Place) (r : Option ℕ) (k : Key) → fits rs n k ≡ true → listed list r k ≡ false → (ps : List Key) (before : List Place) (e : LangError) → ps ≡ priors_of rs k → before ≡ visited_each (priors_of rs) (subsequents_of rs) (n - 1) list r ps → RefusesNodes (length before + 1) e → RefusesNodes (length (visited (priors_of rs) (subsequents_of rs) n list r k)) e
+pushed_refused rs n list r k fit unlisted ps before e ps_is before_is refuses =
+    let go = visited_each (priors_of rs) (subsequents_of rs) (n - 1) list r in
+    refuses_more _ _ e (pushed_short rs n list r k fit unlisted) (subst (λ l. RefusesNodes (length l + 1) e) (before_is ∙ ap (λ l. go l) ps_is) refuses)

@@ -44,10 +44,7 @@ fn visit_each(
     ensures refused { IfErr result (RefusesNodes (length (visited_each (priors_of recipes.now) (subsequents_of recipes.now) left list.old.items round keys.now))) }
 {
     for key in keys {
-        match visit(alloc, recipes, list, round, key, left) {
-            Ok(()) => {}
-            Err(error) => return Err(error),
-        }
+        visit(alloc, recipes, list, round, key, left)?;
     }
     Ok(())
 }
@@ -114,11 +111,7 @@ fn nodes_of(alloc: Global, recipes: &[Recipe], list: &[Place]) -> Result<Seq<Nod
 {
     let mut nodes = Vec::new(alloc);
     for (at, place) in list.iter().enumerate() {
-        let node = match make_node(alloc, recipes, list, at as u32, place) {
-            Ok(node) => node,
-            Err(error) => return Err(error),
-        };
-        nodes.push(node)?;
+        nodes.push(make_node(alloc, recipes, list, at as u32, place)?)?;
     }
     Ok(Seq::from(nodes))
 }
@@ -194,7 +187,7 @@ fn is_round(some: Option<u32>, other: Option<u32>) -> bool
 {
     match (some, other) {
         (None, None) => true,
-        (Some(node), Some(other)) => node == other,
+        (Some(one), Some(two)) => one == two,
         _ => false,
     }
 }
