@@ -3,12 +3,14 @@
 
 mod ast;
 mod error;
+mod grammar;
 mod justfile;
 mod key;
 mod node;
 
 pub use ast::{Ast, AstItem, Dependency, Fragment, Line, Modulepath, Recipe, Source};
 pub use error::{CompileError, CompileKind, LangError};
+pub use grammar::parse;
 pub use justfile::Justfile;
 pub use key::{Key, Value};
 pub use node::{BodyLine, Closure, Node};
