@@ -5,3 +5,6 @@ pub mod Root
 pub mod Sound
 pub mod Walk
 pub mod WellFormed
+pub mod Form
+pub mod Kinds
+pub mod Runs
