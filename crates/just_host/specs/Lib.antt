@@ -1,2 +1,5 @@
 pub mod Record
 pub mod World
+pub mod Counts
+pub mod Playing
+pub mod Mem

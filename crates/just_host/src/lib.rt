@@ -1,12 +1,20 @@
 //! What a run touches of the outside: the trait `Host`, its record of entries, and the hosts.
 #![tactic(auto)]
 
+mod copies;
 mod entry;
+mod files;
+mod log;
+mod memory;
 mod outside;
+mod plot;
 mod signal;
 mod tree;
 
 pub use entry::{Call, Entry, HostFault, Look, Script, Spec, Status, Stream};
+pub use files::Tree;
+pub use memory::{MemChild, MemDone, MemHost};
 pub use outside::{Host, MAX_BYTES};
+pub use plot::{Ending, Plot};
 pub use signal::Signal;
 pub use tree::Thing;
