@@ -3,3 +3,5 @@ pub mod World
 pub mod Counts
 pub mod Playing
 pub mod Mem
+pub mod Commands
+pub mod Went
