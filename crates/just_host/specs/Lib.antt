@@ -5,3 +5,4 @@ pub mod Playing
 pub mod Mem
 pub mod Commands
 pub mod Went
+pub mod Signals

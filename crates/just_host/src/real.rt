@@ -1,7 +1,9 @@
-ghost use Rattle.std.specs.Prelude.{◌≡◌, ◌++◌, ◌≤◌, [], None, IfOk, length, refl, string_bytes};
+ghost use Rattle.std.specs.Prelude.{◌≡◌, ◌++◌, ◌≤◌, [], Some, None, IfOk, IfSome, option_map, length, refl, string_bytes};
+ghost use Rattle.std.specs.Process.{child_status, exit_code, exit_signal};
 ghost use Rattle.just_path.specs.Path.{text_of};
 ghost use Rattle.just_host.specs.declared.outside.TheConstants.{MAX_BYTES};
 ghost use Rattle.just_host.specs.Record.{refused, IsOwnFault, faults_of, misses_of};
+ghost use Rattle.just_host.specs.Commands.{status_told};
 ghost use Rattle.just_host.specs.Went.{LogWent};
 ghost use Rattle.just_host.specs.Counts.{counts_noted};
 
@@ -105,6 +107,16 @@ fn miss_of(error: &io::Error) -> Option<Miss> {
         ErrorKind::IsADirectory => Some(Miss::IsFolder),
         ErrorKind::DirectoryNotEmpty => Some(Miss::NotEmpty),
         _ => None,
+    }
+}
+
+/// Waits for a child, and tells how it ended, where waiting didn't fail.
+fn ending(process: &mut Child<SystemProcess>) -> Option<Status>
+    ensures { IfSome result (λ s. option_map (λ e. status_told (exit_code e) (exit_signal e)) (child_status process.new) ≡ Some s) }
+{
+    match process.wait() {
+        Ok(status) => Some(status_of(&status)),
+        Err(_) => None,
     }
 }
 
@@ -241,10 +253,7 @@ impl<R: Runtime + Processes<Started = SystemProcess>> Host for RealHost<R> {
             number,
             mut process,
         } = child;
-        let status = match process.wait() {
-            Ok(status) => Some(status_of(&status)),
-            Err(_) => None,
-        };
+        let status = ending(&mut process);
         RealDone { number, status }
     }
 
