@@ -6,3 +6,5 @@ pub mod Lists
 pub mod Builds
 pub mod ItemsRead
 pub mod NamesRead
+pub mod OneKind
+pub mod ItemsOnly
