@@ -8,3 +8,11 @@ pub mod ItemsRead
 pub mod NamesRead
 pub mod OneKind
 pub mod ItemsOnly
+pub mod Around
+pub mod Equal
+pub mod Items
+pub mod Visited
+pub mod Grown
+pub mod Closed
+pub mod Forward
+pub mod Faults

@@ -1,6 +1,12 @@
+pub mod Asked
 pub mod Keys
 pub mod Names
+pub mod Root
 pub mod Sound
 pub mod Form
 pub mod Kinds
 pub mod Runs
+pub mod Walk
+pub mod WellFormed
+pub mod Outside
+pub mod BodyLines
