@@ -1,10 +1,12 @@
 pub mod Asked
+pub mod BodyLines
+pub mod Form
 pub mod Keys
+pub mod Kinds
 pub mod Names
+pub mod Outside
 pub mod Root
+pub mod Runs
 pub mod Sound
 pub mod Walk
 pub mod WellFormed
-pub mod Form
-pub mod Kinds
-pub mod Runs

@@ -10,3 +10,4 @@ pub mod Room
 pub mod Idle
 pub mod Tables
 pub mod Commands
+pub mod Planning
