@@ -1,7 +1,11 @@
 pub mod Asked
+pub mod Assembled
+pub mod Form
 pub mod Keys
+pub mod Kinds
 pub mod Names
 pub mod Root
+pub mod Runs
 pub mod Sound
 pub mod Walk
 pub mod WellFormed

@@ -4,6 +4,7 @@
 mod asked;
 mod ast;
 mod error;
+mod grammar;
 mod justfile;
 mod key;
 mod node;
@@ -15,10 +16,12 @@ mod walk;
 pub use asked::{dependencies, invocations};
 pub use ast::{Ast, AstItem, Dependency, Fragment, Line, Modulepath, Recipe, Source};
 pub use error::{CompileError, CompileKind, LangError};
+pub use grammar::parse;
 pub use justfile::Justfile;
 pub use key::{Key, Value};
 pub use node::{BodyLine, Closure, Node};
 pub use place::Place;
+pub use sound::assemble;
 pub use walk::closure;
 
 /// A request may need so many nodes.
