@@ -15,4 +15,5 @@ pub mod Marks
 pub mod NamesRead
 pub mod OneKind
 pub mod Priors
+pub mod Recipes
 pub mod Visited

@@ -1,4 +1,5 @@
 pub mod Asked
+pub mod Assembled
 pub mod BodyLines
 pub mod Form
 pub mod Keys

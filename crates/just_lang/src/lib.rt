@@ -23,6 +23,7 @@ pub use justfile::Justfile;
 pub use key::{Key, Value};
 pub use node::{BodyLine, Closure, Node};
 pub use place::Place;
+pub use sound::assemble;
 pub use walk::closure;
 
 /// A request may need so many nodes.
