@@ -12,6 +12,7 @@ mod node;
 mod place;
 mod same;
 mod sound;
+mod usage;
 mod walk;
 
 pub use asked::{dependencies, invocations};
@@ -24,6 +25,7 @@ pub use key::{Key, Value};
 pub use node::{BodyLine, Closure, Node};
 pub use place::Place;
 pub use sound::assemble;
+pub use usage::{Usage, UsageKind};
 pub use walk::closure;
 
 /// A request may need so many nodes.

@@ -1,0 +1,54 @@
+-- What a run leaves in its host's record.
+use Rattle.std.specs.Prelude.{ℕ, ◌≡◌, ◌++◌, ◌||◌, ◌⊎◌, Bool, true, false, List, [], ◌∷◌, Option, None}
+use Rattle.std.specs.List.{list_any}
+use Rattle.just_host.specs.declared.entry.Call.TheVariants as call
+use Rattle.just_host.specs.declared.entry.Entry.{Entry}
+use Rattle.just_host.specs.declared.entry.Entry.TheVariants as entry
+use Rattle.just_host.specs.declared.entry.Stream.TheVariants as stream
+use Rattle.just_host.specs.Record.{children, refused}
+use Rattle.just_sched.specs.declared.event.Event.{Event}
+use Rattle.just_sched.specs.declared.plan.Plan.{Plan}
+use Rattle.just_sched.specs.Legal.{Run, IsLegal, IsClosed, IsComplete}
+use Rattle.just_sched.specs.Match.{Matches}
+use Rattle.just_cli.specs.declared.error.Error.{Error}
+use Rattle.just_cli.specs.declared.error.Error.TheVariants as error
+use Rattle.just_cli.specs.Texts.{error_text}
+
+-- the run of a plan with no job limit, over a host with that record
+abbrev pub run_over : Plan → List Entry → Run
+run_over plan entries = record { nodes = plan.nodes; invocations = plan.invocations; jobs = None; base = children entries }
+
+-- what a refusal before the run leaves: the entry of the call that was refused
+abbrev pub entries_of : Error → List Entry
+entries_of (error.FilesystemIo path io) = refused path io
+entries_of _ = []
+
+-- a fault is printed to standard error as its text and a newline; the print may fail, and wanting memory leaves nothing
+abbrev pub IsTold : Error → List Entry → Type 0
+IsTold e es = (es ≡ entry.Printed stream.Err (error_text e ++ 10 ∷ []) ∷ []) ⊎ ((es ≡ entry.Failed call.Print ∷ []) ⊎ (es ≡ []))
+
+-- The stretch of the record while the book was open is matched by a legal and closed history of the plan's run.
+pub record Kept (plan : Plan) (h : List Event) (old mid : List Entry) : Type 0 where
+  pub legal : IsLegal (run_over plan old) h
+  pub closed : IsClosed (run_over plan old) h
+  pub matches : Matches (run_over plan old) h mid
+
+-- A run that went well: the record gained just the entries of its history, which is legal and closed.
+pub record Ran (plan : Plan) (h : List Event) (old new : List Entry) : Type 0 where
+  pub mid : List Entry
+  pub grew : new ≡ old ++ mid
+  pub kept : Kept plan h old mid
+
+-- A run that failed: behind the entries of its history the error was told.
+pub record Fell (plan : Plan) (h : List Event) (e : Error) (old new : List Entry) : Type 0 where
+  pub mid : List Entry
+  pub post : List Entry
+  pub grew : new ≡ old ++ (mid ++ post)
+  pub kept : Kept plan h old mid
+  pub told : IsTold e post
+
+-- A refusal before the run: the entry of the refused call, and the error was told.
+pub record Refused (e : Error) (old new : List Entry) : Type 0 where
+  pub post : List Entry
+  pub grew : new ≡ old ++ (entries_of e ++ post)
+  pub told : IsTold e post

@@ -1,0 +1,74 @@
+-- The texts of errors, and the exit codes that they stand for.
+use Rattle.std.specs.Prelude.{ℕ, ◌++◌, ◌+ℤ◌, ◌≤ℤ◌, ℤ, pos, Bool, true, false, List, [], ◌∷◌, Option, Some, None, codes, decimal, if◌then◌else◌, int_le}
+use Rattle.std.specs.Fmt.{signed_decimal}
+use Rattle.just_path.specs.declared.host.Miss.{Miss}
+use Rattle.just_path.specs.declared.host.Miss.TheVariants as miss
+use Rattle.just_host.specs.declared.entry.HostFault.{HostFault}
+use Rattle.just_host.specs.declared.entry.HostFault.TheVariants as fault
+use Rattle.just_lang.specs.declared.error.CompileKind.{CompileKind}
+use Rattle.just_lang.specs.declared.error.CompileKind.TheVariants as kind
+use Rattle.just_lang.specs.declared.usage.UsageKind.{UsageKind}
+use Rattle.just_lang.specs.declared.usage.UsageKind.TheVariants as usage
+use Rattle.just_cli.specs.declared.error.Error.{Error}
+use Rattle.just_cli.specs.declared.error.Error.TheVariants as error
+
+-- a text in backquotes
+abbrev pub ticked : List ℕ → List ℕ
+ticked t = codes "`" ++ (t ++ codes "`")
+
+abbrev pub miss_text : Miss → List ℕ
+miss_text miss.NotFound = codes "not found"
+miss_text miss.NotFolder = codes "not a folder"
+miss_text miss.IsFolder = codes "is a folder"
+miss_text miss.NotUtf8 = codes "not UTF-8"
+miss_text miss.NotEmpty = codes "folder not empty"
+miss_text miss.TooLarge = codes "too large"
+
+abbrev pub fault_text : HostFault → List ℕ
+fault_text (fault.Missed m) = miss_text m
+fault_text (fault.Failed c) = codes "failed"
+fault_text fault.NoMemory = codes "out of memory"
+
+abbrev pub kind_text : CompileKind → List ℕ
+kind_text kind.Unsupported = codes "Unsupported"
+
+abbrev pub usage_text : UsageKind → List ℕ
+usage_text usage.NotBuilt = codes "NotBuilt"
+
+-- ` on line N`, where the line is known
+abbrev pub line_text : Option ℕ → List ℕ
+line_text (Some n) = codes " on line " ++ decimal n
+line_text None = []
+
+-- what an error is printed as
+abbrev pub error_text : Error → List ℕ
+error_text (error.Usage u) = codes "error: usage: " ++ (usage_text u.kind ++ (codes " " ++ ticked u.word))
+error_text (error.FilesystemIo path io) = codes "error: I/O error at " ++ (ticked path ++ (codes ": " ++ fault_text io))
+error_text (error.Compile e) = codes "error: " ++ (kind_text e.kind ++ (codes " at " ++ (e.path ++ (codes ":" ++ (decimal e.line ++ (codes ":" ++ decimal e.column))))))
+error_text (error.UnknownRecipe recipe) = codes "error: justfile does not contain recipe " ++ ticked recipe
+error_text error.ClosureLimit = codes "error: request needs more than 1000000 recipes"
+error_text (error.Code recipe line code message) = codes "error: recipe " ++ (ticked recipe ++ (codes " failed" ++ (line_text line ++ (codes " with exit code " ++ signed_decimal code))))
+error_text (error.Signal recipe line signal) = codes "error: recipe " ++ (ticked recipe ++ (codes " was terminated" ++ (line_text line ++ (codes " by signal " ++ signed_decimal signal))))
+error_text (error.Unknown recipe line) = codes "error: recipe " ++ (ticked recipe ++ (codes " failed" ++ (line_text line ++ codes " for an unknown reason")))
+error_text error.NoMemory = codes "error: out of memory"
+
+-- the exit code that an error stands for: a recipe's own, and 128 and the number of a signal, where that is a code
+abbrev pub code_of : Error → Option ℤ
+code_of (error.Code recipe line code message) = Some code
+code_of (error.Signal recipe line signal) = if int_le (signal +ℤ pos 128) (pos 2147483647) then Some (signal +ℤ pos 128) else None
+code_of _ = None
+
+-- whether an error is printed
+abbrev pub prints : Error → Bool
+prints (error.Code recipe line code message) = message
+prints _ = true
+
+abbrev pub or_one : Option ℤ → ℤ
+or_one (Some z) = z
+or_one None = pos 1
+
+-- the exit code of a run that ends with an error: 2 for faulty words, 125 for want of memory, else the error's own or 1
+abbrev pub exit_code : Error → ℤ
+exit_code (error.Usage u) = pos 2
+exit_code error.NoMemory = pos 125
+exit_code e = or_one (code_of e)

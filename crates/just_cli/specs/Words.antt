@@ -1,0 +1,13 @@
+-- What words ask for, as far as they are read yet.
+use Rattle.std.specs.Prelude.{ℕ, ◌≡◌, List, [], ◌∷◌}
+use Rattle.just_lang.specs.Form.{IsName}
+
+-- the words are one word, a recipe's name
+abbrev pub AsksFor : List (List ℕ) → List ℕ → Type 0
+AsksFor words name = (words ≡ name ∷ []) × IsName name
+
+-- the first word that breaks this form: there is none, it is no name, or it stands behind a name
+pub data BreaksForm (words : List (List ℕ)) (word : List ℕ) : Type 0 where
+  no_word : words ≡ [] → word ≡ [] → BreaksForm words word
+  no_name : (others : List (List ℕ)) → words ≡ word ∷ others → (IsName word → ⊥) → BreaksForm words word
+  one_more : (name : List ℕ) (others : List (List ℕ)) → words ≡ name ∷ word ∷ others → IsName name → BreaksForm words word

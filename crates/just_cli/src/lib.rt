@@ -1,0 +1,13 @@
+//! A run, from the words of the command line to the children: the top calls and what they answer.
+#![tactic(auto)]
+
+mod ended;
+mod error;
+mod failure;
+mod prepare;
+mod run;
+mod words;
+
+pub use ended::{Ended, Failure, Report};
+pub use error::Error;
+pub use run::{run, run_with};
