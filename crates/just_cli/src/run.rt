@@ -1,0 +1,2 @@
+//! The top calls.
+
