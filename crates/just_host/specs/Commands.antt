@@ -1,5 +1,5 @@
 -- What a child's command is to say, and what its end is to mean.
-use Rattle.std.specs.Prelude.{ℕ, ◌≡◌, if◌then◌else◌, Bool, false, List, [], ◌∷◌, Option, Some, None, ℤ}
+use Rattle.std.specs.Prelude.{ℕ, ◌≡◌, if◌then◌else◌, false, List, [], ◌∷◌, Option, Some, None, ℤ}
 use Rattle.std.specs.Str.{bytes_eq}
 use Rattle.std.specs.Process.{command_program, command_args, command_dir, command_var, clears_env}
 use Rattle.std.specs.declared.alloc.Global.{Global}

@@ -1,5 +1,5 @@
 -- What a host in memory tells, and which of its calls fail.
-use Rattle.std.specs.Prelude.{◌≡◌, ◌==◌, ◌++◌, Bool, true, false, Some, Result, Ok, Err}
+use Rattle.std.specs.Prelude.{◌≡◌, ◌==◌, ◌++◌, Bool, true, false, Option, Some, None, Result, Ok, Err}
 use Rattle.std.specs.List.{list_any}
 use Rattle.just_path.specs.declared.host.PathFault.{PathFault}
 use Rattle.just_path.specs.declared.host.PathFault.TheVariants as path_fault
@@ -8,7 +8,9 @@ use Rattle.just_host.specs.declared.entry.HostFault.{HostFault}
 use Rattle.just_host.specs.declared.entry.HostFault.TheVariants as fault
 use Rattle.just_host.specs.declared.memory.MemHost.{MemHost}
 use Rattle.just_host.specs.declared.plot.Faults.{Faults}
+use Rattle.just_host.specs.declared.entry.Status.{Status}
 use Rattle.just_host.specs.Record.{noted}
+use Rattle.just_host.specs.Playing.{next_call}
 use Rattle.just_host.specs.World.{World}
 
 -- the world of a host in memory is what it holds
@@ -24,6 +26,19 @@ pub record Went (a b : MemHost) (n : PathNote) : Type 0 where
 -- whether the next call that can fail does
 abbrev pub is_struck : Faults → Bool
 is_struck faults = list_any (λ n. n == faults.calls) faults.numbers
+
+-- whether the wait for a child that is started now fails: it has the next number
+abbrev pub is_wait_struck : Faults → Bool
+is_wait_struck faults = list_any (λ n. n == next_call faults.calls) faults.numbers
+
+-- what waiting for a child gives that ends so
+abbrev pub waited_for : Bool → Status → Option Status
+waited_for true status = None
+waited_for false status = Some status
+
+-- one call is counted
+abbrev pub IsCounted : Faults → Faults → Type 0
+IsCounted old new = (new.calls ≡ next_call old.calls) × (new.numbers ≡ old.numbers)
 
 abbrev pub IsStruckFault : Bool → HostFault → Type 0
 IsStruckFault struck (fault.Missed m) = struck ≡ false

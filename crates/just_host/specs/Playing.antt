@@ -1,5 +1,5 @@
 -- How a child over a host in memory is played: its word, its ending, and what its effects make of the files.
-use Rattle.std.specs.Prelude.{ℕ, ◌≡◌, ◌++◌, List, [], ◌∷◌, Option, Some, None, Result, Ok, Err, pos, string_bytes}
+use Rattle.std.specs.Prelude.{ℕ, ◌+◌, ◌≡◌, ◌++◌, nat_lt, if◌then◌else◌, List, [], ◌∷◌, Option, Some, None, Result, Ok, Err, pos, string_bytes}
 use Rattle.std.specs.List.{find, flat_map, remove, position_or_len}
 use Rattle.std.specs.FinMap as map
 use Rattle.std.specs.Str.{bytes_eq}
@@ -56,3 +56,7 @@ after_effects tree (e ∷ es) = after_effects (changed tree e.0 e.1) es
 abbrev pub tree_after : Tree → Option Ending → Tree
 tree_after tree (Some e) = after_effects tree e.effects.items
 tree_after tree None = tree
+
+-- the number of the call behind that one; counting ends at the greatest number
+abbrev pub next_call : ℕ → ℕ
+next_call k = if nat_lt k 4294967295 then k + 1 else k

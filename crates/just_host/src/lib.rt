@@ -21,3 +21,6 @@ pub use plot::{Ending, Plot};
 pub use real::{RealChild, RealDone, RealHost};
 pub use signal::Signal;
 pub use tree::Thing;
+
+#[cfg(test)]
+mod tests;

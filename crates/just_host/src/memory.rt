@@ -1,4 +1,4 @@
-ghost use Rattle.std.specs.Prelude.{◌≡◌, ◌+◌, ◌<◌, ◌≤◌, ℕ, List, [], ◌∷◌, ◌++◌, Option, Some, refl, IfOk, IfSome, OnOk, OnErr, MatchOption, length, string_bytes};
+ghost use Rattle.std.specs.Prelude.{◌≡◌, ◌+◌, ◌<◌, ◌≤◌, ℕ, List, [], ◌∷◌, ◌++◌, Option, Some, refl, IfOk, OnOk, OnErr, MatchOption, length, string_bytes};
 ghost use Rattle.std.specs.FinMap as map;
 ghost use Rattle.just_path.specs.Path.{text_of};
 ghost use Rattle.just_path.specs.Host.{note_of};
@@ -8,8 +8,8 @@ ghost use Rattle.just_host.specs.declared.entry.Status.{Status};
 ghost use Rattle.just_host.specs.declared.outside.TheConstants.{MAX_BYTES};
 ghost use Rattle.just_host.specs.Record.{gained, IsOwn, NeverMissed, children, faults_of, misses_of, settled_entry, settled_answer, script_folder, IsStartFault};
 ghost use Rattle.just_host.specs.World.{World, ReadTells, Touched, Leaves};
-ghost use Rattle.just_host.specs.Mem.{world_of, Went, is_struck, FailsIf, PathFailsIf};
-ghost use Rattle.just_host.specs.Playing.{word_of, ending_of, status_of, tree_after, others};
+ghost use Rattle.just_host.specs.Mem.{world_of, Went, is_struck, is_wait_struck, waited_for, IsCounted, FailsIf, PathFailsIf};
+ghost use Rattle.just_host.specs.Playing.{next_call, word_of, ending_of, status_of, tree_after, others};
 ghost use Rattle.just_host.specs.Counts.{counts_noted};
 
 use super::log::Log;
@@ -112,6 +112,7 @@ impl PathHost for MemHost {
         ensures went { Went self.old self.new (note_of PathCall.Current [] result) }
         ensures told { IfOk result (λ p. p ≡ self.old.folder) }
         ensures fails { PathFailsIf (is_struck self.old.faults) result }
+        ensures counted { IsCounted self.old.faults self.new.faults }
     {
         if self.faults.strike() {
             return match self.log.failure(Call::Current) {
@@ -153,6 +154,7 @@ impl Host for MemHost {
         ensures world { world_of self.new ≡ world_of self.old }
         ensures spare { self.new.log.spare ≡ self.old.log.spare }
         ensures fails { FailsIf (is_struck self.old.faults) result }
+        ensures counted { IsCounted self.old.faults self.new.faults }
     {
         if self.faults.strike() {
             self.log.failure(Call::Read)?;
@@ -174,6 +176,7 @@ impl Host for MemHost {
         ensures world { world_of self.new ≡ world_of self.old }
         ensures spare { self.new.log.spare ≡ self.old.log.spare }
         ensures fails { FailsIf (is_struck self.old.faults) result }
+        ensures counted { IsCounted self.old.faults self.new.faults }
     {
         if self.faults.strike() {
             self.log.failure(Call::Print)?;
@@ -191,7 +194,9 @@ impl Host for MemHost {
         ensures leaves { Leaves (Some (world_of self.old)) (Some (world_of self.new)) result }
         ensures spare { self.new.log.spare ≡ self.old.log.spare }
         ensures fails { FailsIf (is_struck self.old.faults) result }
-        ensures status { IfOk result (λ c. IfSome c.status (λ s. s ≡ status_of (ending_of (word_of spec.now) self.old.endings.items))) }
+        ensures counted { IfOk result (λ _. self.new.faults.calls ≡ next_call (next_call self.old.faults.calls)) }
+        ensures planned { self.new.faults.numbers ≡ self.old.faults.numbers }
+        ensures status { IfOk result (λ c. c.status ≡ waited_for (is_wait_struck self.old.faults) (status_of (ending_of (word_of spec.now) self.old.endings.items))) }
         ensures effects { IfOk result (λ _. self.new.tree ≡ tree_after self.old.tree (ending_of (word_of spec.now) self.old.endings.items)) }
         ensures used { IfOk result (λ _. self.new.endings.items ≡ others (word_of spec.now) self.old.endings.items) }
     {

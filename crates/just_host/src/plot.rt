@@ -1,6 +1,6 @@
-ghost use Rattle.std.specs.Prelude.{◌≡◌, ◌+◌, ◌==◌, nat_lt, [], if◌then◌else◌, IfOk, string_bytes};
+ghost use Rattle.std.specs.Prelude.{◌≡◌, ◌==◌, [], IfOk, string_bytes};
 ghost use Rattle.std.specs.List.{list_any};
-ghost use Rattle.just_host.specs.Playing.{joined, word_of};
+ghost use Rattle.just_host.specs.Playing.{joined, next_call, word_of};
 
 use super::{Signal, Spec, Status, Thing};
 use just_path::{NoMemory, Seq, Text};
@@ -69,7 +69,7 @@ impl Faults {
     pub fn strike(&mut self) -> bool
         ensures value { result ≡ list_any (λ n. n == self.old.calls) self.old.numbers }
         ensures numbers { self.new.numbers ≡ self.old.numbers }
-        ensures calls { self.new.calls ≡ (if nat_lt self.old.calls u32.MAX then self.old.calls + 1 else self.old.calls) }
+        ensures calls { self.new.calls ≡ next_call self.old.calls }
     {
         let number = self.calls;
         if number < u32::MAX {
