@@ -2,3 +2,4 @@ pub mod Words
 pub mod Texts
 pub mod Request
 pub mod Ran
+pub mod Outcome

@@ -4,6 +4,7 @@
 mod ended;
 mod error;
 mod failure;
+mod outcome;
 mod prepare;
 mod run;
 mod words;

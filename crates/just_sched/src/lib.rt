@@ -15,7 +15,7 @@ mod work;
 
 pub use commands::work_for;
 pub use event::{Event, Idle, Outcome, Reason, Verdict};
-pub use look::after;
+pub use look::{after, command, last_status, reason_of, status_count};
 pub use naming::Naming;
 pub use plan::Plan;
 pub use plan_node::PlanNode;

@@ -2,15 +2,16 @@
 
 ghost use Rattle.std.specs.Prelude.{◌≡◌, ◌-◌, ◌<◌, ◌≤◌, ◌^◌, ℕ, Option, Some, None, length, slice_get};
 ghost use Rattle.std.specs.Option.{option_copied};
+ghost use Rattle.std.specs.List.{last_or};
 ghost use Rattle.just_sched.specs.Works.{commands_of, judged, start_or_well, is_code as code_is, after as step_after, WentOn};
-ghost use Rattle.just_sched.specs.State.{took, gave, done, last_start as start_of, next_step as step_of, reason_of as failure_of, is_open as open_of, caught_signal as signal_of};
+ghost use Rattle.just_sched.specs.State.{took, gave, done, last_start as start_of, next_step as step_of, reason_of as failure_of, is_open as open_of, caught_signal as signal_of, statuses};
 ghost use Rattle.just_sched.specs.Nodes.{work_at};
 
 use super::{Command, Event, Outcome, Plan, Reason, Step, Work};
 use just_host::{Signal, Status};
 
 /// The command of a body at a place.
-pub(crate) fn command(work: &Work, at: usize) -> Option<&Command>
+pub fn command(work: &Work, at: usize) -> Option<&Command>
     ensures { option_copied result ≡ slice_get (commands_of work.now) at }
 {
     match work {
@@ -121,7 +122,7 @@ pub(crate) fn last_start(history: &[Event], node: u32) -> Option<(u32, u32)>
 }
 
 /// Why the node failed, if it did.
-pub(crate) fn reason_of(history: &[Event], node: u32) -> Option<Reason>
+pub fn reason_of(history: &[Event], node: u32) -> Option<Reason>
     ensures { result ≡ failure_of history.now node }
 {
     for event in history {
@@ -158,4 +159,34 @@ pub(crate) fn caught_signal(history: &[Event]) -> Option<Signal>
         }
     }
     None
+}
+
+/// How many commands of the node have ended.
+pub fn status_count(history: &[Event], node: u32) -> usize
+    ensures { result ≡ length (statuses history.now node) }
+{
+    let mut count: usize = 0;
+    for event in history {
+        if let Event::Ended(n, _, _, _) = event {
+            if *n == node {
+                count += 1;
+            }
+        }
+    }
+    count
+}
+
+/// How the command of the node that ended last has ended.
+pub fn last_status(history: &[Event], node: u32) -> Option<Status>
+    ensures { result ≡ last_or None (statuses history.now node) }
+{
+    let mut last: Option<Status> = None;
+    for event in history {
+        if let Event::Ended(n, _, _, status) = event {
+            if *n == node {
+                last = Some(*status);
+            }
+        }
+    }
+    last
 }

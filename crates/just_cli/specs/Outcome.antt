@@ -1,0 +1,53 @@
+-- The error of a node that failed.
+use Rattle.std.specs.Prelude.{ℕ, ◌≡◌, ◌-◌, true, List, [], ◌∷◌, length, slice_get, Option, Some, None}
+use Rattle.std.specs.List.{last_or}
+use Rattle.just_host.specs.declared.entry.Call.TheVariants as call
+use Rattle.just_host.specs.declared.entry.HostFault.TheVariants as fault
+use Rattle.just_host.specs.declared.entry.Status.{Status}
+use Rattle.just_host.specs.declared.entry.Status.TheVariants as status
+use Rattle.just_host.specs.Record.{text_or_empty}
+use Rattle.just_sched.specs.declared.event.Event.{Event}
+use Rattle.just_sched.specs.declared.event.Reason.{Reason}
+use Rattle.just_sched.specs.declared.event.Reason.TheVariants as reason
+use Rattle.just_sched.specs.declared.plan_node.PlanNode.{PlanNode}
+use Rattle.just_sched.specs.declared.work.Command.{Command}
+use Rattle.just_sched.specs.State.{reason_of, statuses}
+use Rattle.just_sched.specs.Works.{commands_of}
+use Rattle.just_cli.specs.declared.error.Error.{Error}
+use Rattle.just_cli.specs.declared.error.Error.TheVariants as error
+
+-- the name of a node's recipe: the last part of its path
+abbrev pub name_of : PlanNode → List ℕ
+name_of x = text_or_empty (last_or None x.node.key.recipe.components)
+
+-- the error of a command that ended so
+abbrev pub status_error : List ℕ → Option ℕ → Status → Error
+status_error name line (status.Code z) = error.Code name line z true
+status_error name line (status.Signal s) = error.Signal name line s
+status_error name line status.Unknown = error.Unknown name line
+
+-- the line of a command, if it is one of a line
+abbrev pub line_of : Option Command → Option ℕ
+line_of (Some c) = c.line
+line_of None = None
+
+-- the error of the command that ended last; there is one where a status failed the body
+abbrev pub last_error : PlanNode → List Status → Option Status → Error
+last_error x ss (Some s) = status_error (name_of x) (line_of (slice_get (commands_of x.work) (length ss - 1))) s
+last_error x ss None = error.NoMemory
+
+-- the error of a node that failed for that reason (other reasons don't come yet, but want of memory): by the status of the command that ended last; or the failed call of
+-- the host, which names no path
+abbrev pub failure_error : PlanNode → List Status → Option Reason → Error
+failure_error x ss (Some reason.Status) = last_error x ss (last_or None ss)
+failure_error x ss (Some (reason.Place c m)) = error.FilesystemIo [] (fault.Missed m)
+failure_error x ss (Some (reason.Fault c)) = error.FilesystemIo [] (fault.Failed c)
+failure_error x ss _ = error.NoMemory
+
+abbrev pub error_in : Option PlanNode → List Event → ℕ → Error
+error_in (Some x) h n = failure_error x (statuses h n) (reason_of h n)
+error_in None h n = error.NoMemory
+
+-- the error of the node of that number
+abbrev pub node_error : List PlanNode → List Event → ℕ → Error
+node_error nodes h n = error_in (slice_get nodes n) h n
