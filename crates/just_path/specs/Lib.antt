@@ -2,3 +2,9 @@ pub mod formers
 pub mod Path
 pub mod Environ
 pub mod Host
+pub mod Comps
+pub mod Parts
+pub mod Prefix
+pub mod Component
+pub mod Scan
+pub mod Walk

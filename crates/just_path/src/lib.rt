@@ -1,18 +1,28 @@
 //! Paths, and the small types that all crates here share.
 #![tactic(auto)]
 
+mod component;
+mod components;
 mod environ;
 mod host;
+mod iter;
 mod memory;
 mod path;
 mod path_buf;
+mod prefix;
+mod scan;
 mod seq;
 mod text;
+mod walk;
 
+pub use component::Utf8Component;
+pub use components::Utf8Components;
 pub use environ::Environ;
 pub use host::{Miss, PathCall, PathFault, PathHost, PathNote};
+pub use iter::Iter;
 pub use memory::NoMemory;
 pub use path::Utf8Path;
 pub use path_buf::Utf8PathBuf;
+pub use prefix::{Utf8Prefix, Utf8PrefixComponent};
 pub use seq::Seq;
 pub use text::Text;

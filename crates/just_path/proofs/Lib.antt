@@ -1,0 +1,5 @@
+pub mod Pieces
+pub mod Leading
+pub mod Scans
+pub mod Walks
+pub mod Ends
