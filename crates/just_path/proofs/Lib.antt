@@ -3,3 +3,7 @@ pub mod Leading
 pub mod Scans
 pub mod Walks
 pub mod Ends
+pub mod Dots
+pub mod Files
+pub mod Prefixes
+pub mod Pushes

@@ -8,3 +8,6 @@ pub mod Prefix
 pub mod Component
 pub mod Scan
 pub mod Walk
+pub mod Names
+pub mod Order
+pub mod Ancestors

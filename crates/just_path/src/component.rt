@@ -1,5 +1,7 @@
 ghost use Rattle.std.specs.Prelude.{◌≡◌};
 ghost use Rattle.just_path.specs.Comps.{comp_text, named};
+ghost use Rattle.std.specs.Option.{option_copied};
+ghost use Rattle.just_path.specs.Names.{name_of};
 ghost use Rattle.just_path.specs.Component.{comp_of, one_of};
 
 use super::Utf8PrefixComponent;
@@ -30,6 +32,19 @@ impl<'a> Utf8Component<'a> {
             Utf8Component::CurDir => ".",
             Utf8Component::ParentDir => "..",
             Utf8Component::Normal(name) => name,
+        }
+    }
+
+    /// The text of a name.
+    pub(crate) fn name(&self) -> Option<&'a str>
+        ensures { option_copied result ≡ name_of (comp_of self.now) }
+    {
+        match *self {
+            Utf8Component::Prefix(_) => None,
+            Utf8Component::RootDir => None,
+            Utf8Component::CurDir => None,
+            Utf8Component::ParentDir => None,
+            Utf8Component::Normal(name) => Some(name),
         }
     }
 

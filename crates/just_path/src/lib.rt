@@ -1,20 +1,26 @@
 //! Paths, and the small types that all crates here share.
 #![tactic(auto)]
 
+mod ancestors;
 mod component;
 mod components;
 mod environ;
 mod host;
 mod iter;
 mod memory;
+mod name;
+mod order;
 mod path;
 mod path_buf;
+mod path_parts;
 mod prefix;
 mod scan;
 mod seq;
+mod strip;
 mod text;
 mod walk;
 
+pub use ancestors::Utf8Ancestors;
 pub use component::Utf8Component;
 pub use components::Utf8Components;
 pub use environ::Environ;
@@ -25,4 +31,5 @@ pub use path::Utf8Path;
 pub use path_buf::Utf8PathBuf;
 pub use prefix::{Utf8Prefix, Utf8PrefixComponent};
 pub use seq::Seq;
+pub use strip::StripPrefix;
 pub use text::Text;

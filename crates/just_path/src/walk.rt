@@ -1,4 +1,4 @@
-ghost use Rattle.std.specs.Prelude.{◌≡◌, [], MatchOption};
+ghost use Rattle.std.specs.Prelude.{◌≡◌, ◌≤◌, [], length, MatchOption};
 ghost use Rattle.just_path.specs.Comps.{names, comps};
 ghost use Rattle.just_path.specs.Component.{comp_of};
 ghost use Rattle.just_path.specs.Parts.{cut, rest};
@@ -59,6 +59,7 @@ pub(crate) fn trim_front(text: &str) -> &str
 pub(crate) fn trim_back(text: &str) -> &str
     ensures slice { result.now ≡ cut 0 text.now }
     ensures comps { comps result.now ≡ comps text.now }
+    ensures no_longer { length result.now ≤ length text.now }
 {
     let low = leading_len(text);
     let mut left = text;

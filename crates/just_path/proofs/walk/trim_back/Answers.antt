@@ -11,7 +11,7 @@ loop-left-init c = record { utf8 = c.utf8.text; keeps = keeps_last c.args.text.n
 pub returns-in-Some : goal.returns-in-Some
 returns-in-Some c =
     let f = last_found c.leading_len-low.result c.args.text.now c.loop-left.left.now c.last_piece.result.0.now c.last_piece.result.1.now (comp_of c.in-Some.field-0) c.loop-left.invariant.keeps c.last_piece.ensures.piece (sym c.in-Some.ensures) in
-    record { slice = f.0; comps = f.1 }
+    record { slice = f.0; comps = f.1; no_longer = c.loop-left.invariant.keeps.no_longer }
 
 pub loop-left-preserved : goal.loop-left-preserved
 loop-left-preserved c = record {
@@ -22,4 +22,4 @@ loop-left-preserved c = record {
 pub returns : goal.returns
 returns c =
     let f = last_over c.leading_len-low.result c.args.text.now c.loop-left.left.now c.loop-left.invariant.keeps c.leading_len-low.ensures (omega arith) in
-    record { slice = f.0; comps = f.1 }
+    record { slice = f.0; comps = f.1; no_longer = c.loop-left.invariant.keeps.no_longer }
