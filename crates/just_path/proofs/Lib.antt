@@ -7,3 +7,4 @@ pub mod Dots
 pub mod Files
 pub mod Prefixes
 pub mod Pushes
+pub mod Fronts

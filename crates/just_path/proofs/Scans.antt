@@ -108,6 +108,7 @@ last_at t i low d l m e h =
       begins = lead_same (take i t) (drop (i + 1) t) (front_filled t i low d l m e) ∙ ap leading (sym whole);
       front = take-take low i t l;
       kept = omega (arith, length-take i t);
+      stands = (take i t ++ 47 ∷ [], whole ∙ sym (append_assoc (take i t) (47 ∷ []) (drop (i + 1) t)));
       shorter = omega (arith, length-take i t);
     }
 
@@ -120,6 +121,7 @@ whole_piece t e l one = record {
   begins = Leading.leading_nil ∙ sym e;
   front = refl;
   kept = omega arith;
+  stands = ([], refl);
   shorter = l;
 }
 
@@ -132,6 +134,7 @@ rooted_piece bs l one = record {
   begins = Leading.leading_root [] ∙ sym (Leading.leading_root bs);
   front = refl;
   kept = omega arith;
+  stands = (47 ∷ [], refl);
   shorter = omega arith;
 }
 

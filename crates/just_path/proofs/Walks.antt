@@ -1,11 +1,12 @@
 -- A walk over the pieces of a text from either end: what is left of it gives the same.
-use Rattle.std.proofs.Common.{◌≡◌, ◌≢◌, ℕ, zero, suc, ◌+◌, ◌-◌, ◌<◌, ◌≤◌, Bool, true, false, eqb, List, [], ◌∷◌, ◌++◌, length, get_or, take, drop, refl, sym, ap, ◌∙◌, subst, arith, cond, nat_lt, inl, inr, length-append, length-take, length-drop, append_assoc, ⊎_elim, zero-add}
+use Rattle.std.proofs.Common.{◌≡◌, ◌≢◌, ℕ, zero, suc, ◌+◌, ◌-◌, ◌<◌, ◌≤◌, Bool, true, false, eqb, List, [], ◌∷◌, ◌++◌, length, get_or, take, drop, refl, sym, ap, ◌∙◌, subst, arith, cond, ◌||◌, nat_lt, inl, inr, length-append, length-take, length-drop, append_assoc, ⊎_elim, zero-add}
 use Rattle.std.proofs.lemmas.Bool.{ne_eqb, cases_eq}
 use Rattle.std.proofs.lemmas.Bool.Decides.{nat_tests}
 use Rattle.std.proofs.lemmas.List.{append-nil, take_all}
 use Rattle.std.specs.List.{flat_map}
 use Rattle.std.specs.Str.{bytes_eq}
-use Rattle.just_path.specs.Comps.{Comp, root, current, parent, normal, dot, dots, glued, pieces, is_empty, named, names, is_dot_first, leading, comps}
+use Rattle.std.proofs.lemmas.Slice.Eq.{bytes_eq-Decides}
+use Rattle.just_path.specs.Comps.{Comp, comp_text, root, current, parent, normal, dot, dots, glued, pieces, is_empty, named, names, is_dot_first, leading, comps}
 use Rattle.just_path.specs.Path.{is_absolute}
 use Rattle.just_path.specs.Parts.{upto, from, joined, cut, rest}
 use Rattle.just_path.specs.Scan.{IsFirstPiece, IsLastPiece, HasFirst, HasLast}
@@ -121,17 +122,6 @@ last_skips low t left before p k f d h =
       no_longer = omega (arith, k.no_longer, f.shorter);
     }
 
-pub last_takes : (low : ℕ) (t left before p : List ℕ) (c : Comp) → KeepsLast t left → IsLastPiece low left before p → low ≡ length (leading t) → named p ≡ c ∷ [] → HasLast t before c
-last_takes low t left before p c k f d h =
-    let d' : low ≡ length (leading left) = d ∙ ap length (sym k.begins) in
-    let g : names left ≡ names before ++ c ∷ [] = f.gives ∙ ap (λ ns. names before ++ ns) h in
-    record {
-      gives = k.gives ∙ g;
-      cuts = λ n. k.cuts (suc n) ∙ cut_less n left before c g (ends_take low n left before p c f h) (front_kept low left before p f d');
-      begins = f.begins ∙ k.begins;
-      shorter = omega (arith, k.no_longer, f.shorter);
-    }
-
 dot_front : (bs : List ℕ) → flat_map named (pieces (take (length (leading (46 ∷ bs))) (46 ∷ bs))) ≡ []
 dot_front [] = ap (λ ls. flat_map named (pieces (take (length ls) (46 ∷ [])))) Leading.leading_dot
 dot_front (c ∷ cs) =
@@ -237,6 +227,30 @@ last_found low t left before p c k f h =
     let some : nat_lt 0 (length (names left)) ≡ true = ap (λ ns. nat_lt 0 (length ns)) (f.gives ∙ ap (λ ns. names before ++ ns) h) ∙ pushed_more (names before) c in
     let here : left ≡ cut 0 left = rw (some, whole) (sym (joined_pieces left)) in
     (here ∙ sym (k.cuts 0), ap (λ ls. ls ++ names left) k.begins ∙ ap (λ ns. leading t ++ ns) (sym k.gives))
+
+parent_text : (p : List ℕ) (c : Comp) (v : Bool) → bytes_eq p dots ≡ v → cond v (parent ∷ []) (normal p ∷ []) ≡ c ∷ [] → comp_text c ≡ p
+parent_text p c true e h = let q : parent ≡ c = cc in ap comp_text (sym q) ∙ sym ((bytes_eq-Decides p dots).0 e)
+parent_text p c false e h = let q : normal p ≡ c = cc in ap comp_text (sym q)
+
+-- the text of a piece's component is the piece
+pub named_text : (p : List ℕ) (c : Comp) → named p ≡ c ∷ [] → comp_text c ≡ p
+named_text p c =
+    elim (is_empty p || bytes_eq p dot) as (λ v. cond v [] (cond (bytes_eq p dots) (parent ∷ []) (normal p ∷ [])) ≡ c ∷ [] → comp_text c ≡ p) [
+      | true ↦ λ h. cc
+      | false ↦ parent_text p c (bytes_eq p dots) refl
+    ]
+
+pub last_takes : (low : ℕ) (t left before p : List ℕ) (c : Comp) → KeepsLast t left → IsLastPiece low left before p → low ≡ length (leading t) → named p ≡ c ∷ [] → HasLast t before c
+last_takes low t left before p c k f d h =
+    let d' : low ≡ length (leading left) = d ∙ ap length (sym k.begins) in
+    let g : names left ≡ names before ++ c ∷ [] = f.gives ∙ ap (λ ns. names before ++ ns) h in
+    record {
+      gives = k.gives ∙ g;
+      cuts = λ n. k.cuts (suc n) ∙ cut_less n left before c g (ends_take low n left before p c f h) (front_kept low left before p f d');
+      begins = f.begins ∙ k.begins;
+      stands = (f.stands.0, sym (last_found low t left before p c k f h).0 ∙ f.stands.1 ∙ ap (λ q. f.stands.0 ++ q) (sym (named_text p c h)));
+      shorter = omega (arith, k.no_longer, f.shorter);
+    }
 
 pub last_over : (low : ℕ) (t left : List ℕ) → KeepsLast t left → low ≡ length (leading t) → length left ≤ low → (left ≡ cut 0 t) × (comps left ≡ comps t)
 unfolding comps

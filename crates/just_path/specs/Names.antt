@@ -1,5 +1,5 @@
 -- A path's file name, and the parts of a file name.
-use Rattle.std.specs.Prelude.{ℕ, ◌-◌, ◌==◌, Bool, Option, Some, None, List, [], ◌∷◌, ◌++◌, length, take, if◌then◌else◌, option_map, option_and_then, is_some, unwrap_or}
+use Rattle.std.specs.Prelude.{ℕ, ◌-◌, ◌==◌, Bool, true, not, ◌&&◌, Option, Some, None, List, [], ◌∷◌, ◌++◌, length, take, if◌then◌else◌, option_map, option_and_then, is_some, unwrap_or}
 use Rattle.just_path.specs.Path.{pushed}
 use Rattle.just_path.specs.Comps.{Comp, normal, comps, is_empty}
 use Rattle.just_path.specs.Parts.{cut, parent_of}
@@ -56,24 +56,29 @@ prefix_of (b ∷ bs) = b ∷ before_dot bs
 
 -- a path with another file name: pushed on the parent where the path has a file name, else on the path
 abbrev pub with_name : List ℕ → List ℕ → List ℕ
-with_name t name = pushed (if is_some (file_name_of t) then unwrap_or (parent_of t) [] else t) name
+with_name t name = pushed (if is_some (file_name_of t) then unwrap_or (parent_of t) t else t) name
 
 -- a dot and an extension, nothing for the empty one
 abbrev pub dotted : List ℕ → List ℕ
 dotted [] = []
 dotted (b ∷ bs) = 46 ∷ (b ∷ bs)
 
--- a path up to the end of its file name's stem
-abbrev pub up_to_stem : List ℕ → List ℕ → List ℕ
-up_to_stem t name = take (length (cut 0 t) - (length name - length (stem_of name))) t
+-- where the stem of that file name ends in the path's text
+abbrev pub stem_end : List ℕ → List ℕ → ℕ
+stem_end t name = length (cut 0 t) - (length name - length (stem_of name))
 
--- a path with another extension: cut behind the stem, then the dot and the extension
+-- a path with another extension: cut where the stem ends, then the dot and the extension
 abbrev pub with_extension_at : List ℕ → List ℕ → Option (List ℕ) → List ℕ
 with_extension_at t ext None = t
-with_extension_at t ext (Some name) = up_to_stem t name ++ dotted ext
+with_extension_at t ext (Some name) = take (stem_end t name) t ++ dotted ext
 
 abbrev pub with_extension : List ℕ → List ℕ → List ℕ
 with_extension t ext = with_extension_at t ext (file_name_of t)
+
+-- whether a text has no `/`
+abbrev pub has_no_slash : List ℕ → Bool
+has_no_slash [] = true
+has_no_slash (b ∷ bs) = not (b == 47) && has_no_slash bs
 
 -- a path with a further extension behind its whole file name; the empty one changes nothing
 abbrev pub with_added : List ℕ → List ℕ → List ℕ

@@ -1,6 +1,6 @@
 -- What the first and the last piece of a text are to it.
 use Rattle.std.specs.Prelude.{◌≡◌, ◌<◌, ◌≤◌, ◌+◌, ℕ, suc, false, List, [], ◌∷◌, ◌++◌, length, take, ◌⊎◌}
-use Rattle.just_path.specs.Comps.{Comp, named, pieces, names, leading, comps, is_empty}
+use Rattle.just_path.specs.Comps.{Comp, comp_text, named, pieces, names, leading, comps, is_empty}
 use Rattle.just_path.specs.Parts.{upto, rest, cut}
 
 -- the piece is the first of a text, and `after` what follows its slash
@@ -16,6 +16,7 @@ pub record IsLastPiece (low : ℕ) (text before piece : List ℕ) : Type 0 where
   pub begins : leading before ≡ leading text
   pub front : take low before ≡ take low text
   pub kept : low ≤ length before
+  pub stands : (a : List ℕ) × (text ≡ a ++ piece)
   pub shorter : length before < length text
 
 -- a text gives the component first, and `after` the others
@@ -30,3 +31,4 @@ pub record HasLast (text before : List ℕ) (last : Comp) : Type 0 where
   pub cuts : (k : ℕ) → cut (suc k) text ≡ cut k before
   pub begins : leading before ≡ leading text
   pub shorter : length before < length text
+  pub stands : (a : List ℕ) × (cut 0 text ≡ a ++ comp_text last)

@@ -4,6 +4,7 @@
 mod ancestors;
 mod component;
 mod components;
+mod edit;
 mod environ;
 mod host;
 mod iter;

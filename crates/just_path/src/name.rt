@@ -1,4 +1,4 @@
-ghost use Rattle.std.specs.Prelude.{◌≡◌, ◌≢◌, ◌<◌, ℕ, length, slice_index, MatchOption, option_map};
+ghost use Rattle.std.specs.Prelude.{◌≡◌, ◌≢◌, ◌<◌, ℕ, length, slice_index, MatchOption, option_map, IsUtf8};
 ghost use Rattle.std.specs.Option.{option_copied};
 ghost use Rattle.just_path.specs.Names.{parted, stem_of, extension_of, prefix_of};
 
@@ -44,7 +44,8 @@ fn parted(name: &str) -> Option<(&str, &str)>
 
 /// A name up to its last dot.
 pub(crate) fn stem_of(name: &str) -> &str
-    ensures { result.now ≡ stem_of name.now }
+    ensures stem { result.now ≡ stem_of name.now }
+    ensures utf8 { IsUtf8 name.now }
 {
     match parted(name) {
         Some((stem, _)) => stem,

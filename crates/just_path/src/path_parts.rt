@@ -1,4 +1,4 @@
-ghost use Rattle.std.specs.Prelude.{◌≡◌, ◌++◌, ℕ, List, ◌<◌, IfOk, IfSome, MatchResult, length, true, false, option_map, option_and_then, Some};
+ghost use Rattle.std.specs.Prelude.{◌≡◌, ◌++◌, ℕ, List, ◌<◌, IfOk, IfSome, MatchResult, length, take, true, false, option_map, option_and_then, Some};
 ghost use Rattle.std.specs.Option.{option_copied};
 ghost use Rattle.just_path.specs.Path.{text_of, pushed};
 ghost use Rattle.just_path.specs.Comps.{Comp, comps};
@@ -32,10 +32,12 @@ impl<'a> Utf8Path<'a> {
     }
 
     /// The path without its last component: none where there is no component, or the root alone.
-    #[tactic(auto, using(crate::proofs::Files::parent_behind, crate::proofs::Files::parent_alone, crate::proofs::Leading::no_longer))]
+    #[tactic(auto, using(crate::proofs::Files::parent_behind, crate::proofs::Files::parent_alone, crate::proofs::Leading::no_longer, crate::proofs::Fronts::parent_front))]
     pub fn parent(&self) -> Option<Utf8Path<'a>>
         ensures parent { option_map text_of result ≡ parent_of (text_of self.now) }
         ensures shorter { IfSome result (λ p. length (text_of p) < length (text_of self.now)) }
+        // It is a front of the text.
+        ensures front { IfSome result (λ p. take (length (text_of p)) (text_of self.now) ≡ text_of p) }
     {
         let text = self.as_str();
         match last_name(text) {
