@@ -11,3 +11,4 @@ pub mod Walk
 pub mod Names
 pub mod Order
 pub mod Ancestors
+pub mod Clean
