@@ -8,3 +8,5 @@ pub mod Files
 pub mod Prefixes
 pub mod Pushes
 pub mod Fronts
+pub mod Cleans
+pub mod Made

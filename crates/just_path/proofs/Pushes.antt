@@ -23,7 +23,7 @@ all_append [] ys = refl
 all_append (c ∷ cs) ys =
     elim (nat_lt 2 (rank c)) as (λ v. (v && all_named (cs ++ ys)) ≡ ((v && all_named cs) && all_named ys)) [ true ↦ all_append cs ys | false ↦ refl ]
 
-all_of_piece : (p : List ℕ) → all_named (named p) ≡ true
+pub all_of_piece : (p : List ℕ) → all_named (named p) ≡ true
 all_of_piece p =
     elim (is_empty p || bytes_eq p dot) as (λ v. all_named (cond v [] (cond (bytes_eq p dots) (parent ∷ []) (normal p ∷ []))) ≡ true) [
       | true ↦ refl

@@ -171,7 +171,7 @@ lead_dot_named (d ∷ ds) b q p ps c e h =
     (λ (n : d ≢ 47). ap (λ v. leading (v ∷ d ∷ ds)) q ∙ Leading.leading_dot_other d ds n)
     (cases_eq d 47)
 
-lead_named : (t p : List ℕ) (ps : List (List ℕ)) (c : Comp) → pieces t ≡ p ∷ ps → named p ≡ c ∷ [] → leading t ≡ []
+pub lead_named : (t p : List ℕ) (ps : List (List ℕ)) (c : Comp) → pieces t ≡ p ∷ ps → named p ≡ c ∷ [] → leading t ≡ []
 lead_named [] p ps c e h = Leading.leading_nil
 lead_named (b ∷ bs) p ps c e h =
     ⊎_elim

@@ -63,6 +63,10 @@ path_from cs = fold pushed [] (map comp_text cs)
 unfoldable pub cleaned : List ℕ → List ℕ
 cleaned t = path_from (or_current (reduced (comps t)))
 
+-- a path is made of a normal form of the text's components
+abbrev pub IsCleanOf : List ℕ → List ℕ → Type 0
+IsCleanOf t p = (n : List Comp) × IsNormalForm (comps t) n × (p ≡ path_from (or_current n))
+
 -- whether no component is `..`
 abbrev pub no_parent : List Comp → Bool
 no_parent [] = true

@@ -12,3 +12,6 @@ pub mod Names
 pub mod Order
 pub mod Ancestors
 pub mod Clean
+pub mod Settled
+pub mod OrderLaws
+pub mod Utf8

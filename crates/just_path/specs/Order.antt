@@ -4,6 +4,9 @@ use Rattle.std.specs.Str.{bytes_eq}
 use Rattle.std.specs.declared.cmp.Ordering.{Ordering}
 use Rattle.std.specs.Ordering.{nat_cmp, on, then_cmp}
 use Rattle.std.specs.Cmp.Lexicographic.{slice_cmp}
+use Rattle.std.specs.Hash.{HashWrites}
+use Rattle.std.specs.Hash as fed
+use Rattle.std.specs.List.{flat_map}
 use Rattle.just_path.specs.Comps.{Comp, prefix, root, current, parent, normal, comp_text, comps}
 
 -- the rank of a component's kind
@@ -35,3 +38,10 @@ begins_with (c ∷ cs) (d ∷ ds) = comp_eq c d && begins_with cs ds
 -- whether it ends with them
 abbrev pub ends_with : List Comp → List Comp → Bool
 ends_with cs ds = begins_with (reverse cs) (reverse ds)
+
+-- what a component writes to a hasher, and what a path does
+abbrev pub comp_hash : Comp → HashWrites
+comp_hash c = fed.u8 (rank c) ++ fed.str (comp_text c)
+
+abbrev pub path_hash : List ℕ → HashWrites
+path_hash t = flat_map comp_hash (comps t)

@@ -29,6 +29,16 @@ impl<'a> Utf8Components<'a> {
         }
     }
 
+    /// Another of the same components.
+    pub(crate) fn copied(&self) -> Utf8Components<'a>
+        ensures { left result ≡ left self.now }
+    {
+        Utf8Components {
+            text: self.text,
+            started: self.started,
+        }
+    }
+
     /// The slice from the first to the last of the components that are left.
     pub fn as_path(&self) -> Utf8Path<'a>
         ensures slice { text_of result ≡ slice_left self.now 0 }

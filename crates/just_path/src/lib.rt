@@ -2,10 +2,16 @@
 #![tactic(auto)]
 
 mod ancestors;
+mod broken;
+mod bytes;
+mod clean;
+mod compare;
 mod component;
 mod components;
 mod edit;
 mod environ;
+mod from_bytes_error;
+mod from_owned_error;
 mod host;
 mod iter;
 mod memory;
@@ -19,6 +25,7 @@ mod prefix;
 mod room;
 mod scan;
 mod seq;
+mod show;
 mod strip;
 mod text;
 mod walk;
@@ -27,6 +34,8 @@ pub use ancestors::Utf8Ancestors;
 pub use component::Utf8Component;
 pub use components::Utf8Components;
 pub use environ::Environ;
+pub use from_bytes_error::{FromOsStrError, FromPathError};
+pub use from_owned_error::{FromBoxedPathError, FromOsStringError, FromPathBufError};
 pub use host::{Miss, PathCall, PathFault, PathHost, PathNote};
 pub use iter::Iter;
 pub use memory::NoMemory;

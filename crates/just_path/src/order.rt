@@ -1,10 +1,14 @@
-ghost use Rattle.std.specs.Prelude.{◌≡◌};
+ghost use Rattle.std.specs.Prelude.{◌≡◌, fold};
 ghost use Rattle.just_path.specs.Comps.{comps};
 ghost use Rattle.just_path.specs.Component.{comp_of};
 ghost use Rattle.just_path.specs.Order.{rank, comp_cmp, comp_eq, path_cmp, begins_with, ends_with};
+ghost use Rattle.just_path.specs.Order.{path_hash};
+ghost use Rattle.just_path.specs.Walk.{left};
+ghost use Rattle.std.specs.Cmp.Lexicographic.{slice_cmp};
 
 use super::{Utf8Component, Utf8Components};
 use std::cmp::Ordering;
+use std::hash::{Hash, Hasher};
 
 /// The rank of a component's kind.
 fn rank(component: &Utf8Component<'_>) -> u8
@@ -37,8 +41,15 @@ fn order(a: &Utf8Component<'_>, b: &Utf8Component<'_>) -> Ordering
 pub(crate) fn compare(a: &str, b: &str) -> Ordering
     ensures { result ≡ path_cmp a.now b.now }
 {
-    let mut left = Utf8Components::new(a);
-    let mut right = Utf8Components::new(b);
+    compare_left(Utf8Components::new(a), Utf8Components::new(b))
+}
+
+/// The order of what is left of two paths.
+pub(crate) fn compare_left(a: Utf8Components<'_>, b: Utf8Components<'_>) -> Ordering
+    ensures { result ≡ slice_cmp comp_cmp (left a.entry) (left b.entry) }
+{
+    let mut left = a;
+    let mut right = b;
     'components: while let Some(c) = left.take_first() {
         match right.take_first() {
             None => return Ordering::Greater,
@@ -91,4 +102,15 @@ pub(crate) fn ends_with(a: &str, b: &str) -> bool
         }
     }
     true
+}
+
+/// Writes each component to a hasher: its kind's rank, and its text.
+pub(crate) fn hash_components<H: Hasher>(text: &str, state: &mut H)
+    ensures { state.new ≡ fold H.write state.old (path_hash text.now) }
+{
+    let mut left = Utf8Components::new(text);
+    'components: while let Some(component) = left.take_first() {
+        state.write_u8(rank(&component));
+        component.as_str().hash(state);
+    }
 }

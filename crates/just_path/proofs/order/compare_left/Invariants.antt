@@ -2,11 +2,11 @@
 use Rattle.std.proofs.Common.{◌≡◌}
 use Rattle.std.specs.Cmp.Lexicographic.{slice_cmp}
 use Rattle.just_path.specs.Walk.{left, left_bound}
-use Rattle.just_path.specs.Order.{comp_cmp, path_cmp}
-use Rattle.just_path.proofs.order.compare.Given as goal
+use Rattle.just_path.specs.Order.{comp_cmp}
+use Rattle.just_path.proofs.order.compare_left.Given as goal
 
 abbrev pub invariant-components : goal.invariant-components
-invariant-components l = slice_cmp comp_cmp (left l.left) (left l.right) ≡ path_cmp l.a l.b
+invariant-components l = slice_cmp comp_cmp (left l.left) (left l.right) ≡ slice_cmp comp_cmp (left l.fn.a) (left l.fn.b)
 
 abbrev pub decreases-components : goal.decreases-components
 decreases-components l = left_bound l.left
