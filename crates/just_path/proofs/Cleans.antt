@@ -1,5 +1,5 @@
 -- Each component list has one normal form under the three rewrites.
-use Rattle.std.proofs.Common.{◌≡◌, ℕ, Bool, true, false, not, ◌&&◌, List, [], ◌∷◌, ◌++◌, refl, sym, ap, ◌∙◌, append_assoc}
+use Rattle.std.proofs.Common.{◌≡◌, ℕ, Bool, true, false, not, ◌&&◌, List, [], ◌∷◌, ◌++◌, refl, sym, ap, ◌∙◌}
 use Rattle.just_path.specs.Comps.{Comp, prefix, root, current, parent, normal}
 use Rattle.just_path.specs.Clean.{Rewrites, current_goes, pair_goes, parent_goes, Leads, stays, goes, IsNormal, IsNormalForm, without_parents, after_name, put, reduced}
 use Rattle.just_path.specs.Settled.{begins_parent, follows, settled}

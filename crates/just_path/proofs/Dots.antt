@@ -1,7 +1,7 @@
 -- Where a name is parted, by the place of a dot.
-use Rattle.std.proofs.Common.{◌≡◌, ◌≢◌, ℕ, zero, suc, ◌+◌, ◌<◌, Bool, true, false, eqb, cond, Some, None, List, [], ◌∷◌, length, get_or, take, drop, refl, sym, ap, ◌∙◌, arith, add-one}
+use Rattle.std.proofs.Common.{◌≡◌, ◌≢◌, ℕ, zero, suc, ◌+◌, ◌<◌, true, false, eqb, cond, Some, None, List, [], ◌∷◌, length, get_or, take, drop, refl, sym, ap, ◌∙◌, arith, add-one}
 use Rattle.std.proofs.lemmas.Bool.{ne_eqb}
-use Rattle.just_path.specs.Names.{at_last_dot, put_before, unless_first, parted, before_dot, prefix_of}
+use Rattle.just_path.specs.Names.{at_last_dot, unless_first, parted, before_dot, prefix_of}
 
 no_dot : (n : List ℕ) → ((k : ℕ) → k < length n → get_or n k 0 ≢ 46) → at_last_dot n ≡ None
 no_dot [] h = refl

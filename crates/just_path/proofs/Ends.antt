@@ -1,8 +1,6 @@
 -- The component that a path begins or ends with.
-use Rattle.std.proofs.Common.{◌≡◌, ℕ, suc, Bool, true, false, List, [], ◌∷◌, ◌++◌, refl, sym, ap, ◌∙◌, cond, append_assoc}
-use Rattle.std.proofs.lemmas.List.{append-nil}
-use Rattle.std.specs.List.{flat_map}
-use Rattle.just_path.specs.Comps.{Comp, pieces, named, names, leading, comps}
+use Rattle.std.proofs.Common.{◌≡◌, ℕ, Bool, true, false, List, [], ◌∷◌, ◌++◌, refl, sym, ap, ◌∙◌, cond, append_assoc}
+use Rattle.just_path.specs.Comps.{Comp, names, leading, comps}
 use Rattle.just_path.specs.Scan.{HasLast}
 
 pub comps_led : (t : List ℕ) (c : Comp) → leading t ≡ c ∷ [] → comps t ≡ c ∷ names t

@@ -1,5 +1,5 @@
 -- The last component of a path, and what stands before it.
-use Rattle.std.proofs.Common.{◌≡◌, ℕ, suc, Bool, true, false, List, [], ◌∷◌, ◌++◌, Option, Some, None, length, refl, sym, ap, ◌∙◌, cond, arith, nat_lt}
+use Rattle.std.proofs.Common.{◌≡◌, ℕ, true, false, List, [], ◌∷◌, ◌++◌, Some, None, refl, sym, ap, ◌∙◌, cond}
 use Rattle.std.proofs.lemmas.List.{append-nil}
 use Rattle.just_path.specs.Path.{is_absolute}
 use Rattle.just_path.specs.Comps.{Comp, root, current, pieces, is_dot_first, is_empty, names, leading, comps}

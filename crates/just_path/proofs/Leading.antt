@@ -1,9 +1,9 @@
 -- What stands in front of a path, by its first two bytes.
-use Rattle.std.proofs.Common.{◌≡◌, ◌≢◌, ℕ, zero, suc, ◌+◌, ◌<◌, ◌≤◌, Bool, true, false, eqb, List, [], ◌∷◌, ◌++◌, length, get_or, take, drop, refl, sym, ap, ◌∙◌, subst, arith, cond, ⊎_elim}
+use Rattle.std.proofs.Common.{◌≡◌, ◌≢◌, ℕ, zero, suc, ◌<◌, ◌≤◌, true, false, eqb, List, [], ◌∷◌, length, get_or, refl, sym, ap, ◌∙◌, subst, arith, cond, ⊎_elim}
 use Rattle.std.proofs.lemmas.Bool.{ne_eqb, cases_eq, cases_lt}
 use Rattle.std.proofs.lemmas.Str.{IsCharBoundary-start, IsCharBoundary-after_ascii}
 use Rattle.std.specs.Str.{IsUtf8, IsCharBoundary}
-use Rattle.just_path.specs.Comps.{Comp, root, current, glued, pieces, is_empty, is_dot_first, leading}
+use Rattle.just_path.specs.Comps.{root, current, glued, pieces, is_dot_first, leading}
 use Rattle.just_path.specs.Path.{is_absolute}
 
 glued_dot : (b : ℕ) (ps : List (List ℕ)) → b ≢ 46 → is_dot_first (glued b ps) ≡ false

@@ -1,16 +1,14 @@
 -- A path that is made of components has these components.
-use Rattle.std.proofs.Common.{◌≡◌, ◌≢◌, ℕ, Bool, true, false, not, eqb, cond, nat_lt, ◌&&◌, ◌||◌, ◌⊎◌, inl, inr, ⊎_elim, List, [], ◌∷◌, ◌++◌, length, fold, map, refl, sym, ap, ◌∙◌, subst, arith, append_assoc}
+use Rattle.std.proofs.Common.{◌≡◌, ℕ, Bool, true, false, not, eqb, cond, ◌&&◌, ◌||◌, ◌⊎◌, inl, inr, ⊎_elim, List, [], ◌∷◌, ◌++◌, length, fold, map, refl, sym, ap, ◌∙◌, subst, append_assoc}
 use Rattle.std.specs.List.{flat_map}
 use Rattle.std.specs.Str.{bytes_eq}
 use Rattle.std.proofs.lemmas.List.{append-nil}
-use Rattle.std.proofs.lemmas.Bool.{ne_eqb, cases_eq}
 use Rattle.just_path.specs.Path.{is_absolute, ends_open, pushed}
 use Rattle.just_path.specs.Comps.{Comp, prefix, root, current, parent, normal, comp_text, dot, dots, slash, glued, pieces, is_dot_first, is_empty, named, names, leading, comps}
 use Rattle.just_path.specs.Component.{comp_of}
 use Rattle.just_path.specs.declared.component.Utf8Component.{Utf8Component}
-use Rattle.just_path.specs.Order.{rank}
-use Rattle.just_path.specs.Clean.{IsNormalForm, IsCleanOf, without_parents, after_name, put, reduced, or_current, path_from, cleaned, no_parent, parents_first}
-use Rattle.just_path.specs.Settled.{begins_parent, follows, settled, comps_of}
+use Rattle.just_path.specs.Clean.{IsCleanOf, without_parents, after_name, put, reduced, or_current, path_from, cleaned, no_parent, parents_first}
+use Rattle.just_path.specs.Settled.{begins_parent, settled, comps_of}
 use Rattle.just_path.proofs.Cleans.{normal_form, reduced_settled, reduced_normal, settled_first, settled_rest}
 use Rattle.just_path.proofs.Walks.{lead_named}
 use Rattle.just_path.proofs.Pushes.{all_named, all_append, all_of_piece, relative_unled, push_empty, comps_pushed}

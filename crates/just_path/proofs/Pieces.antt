@@ -1,8 +1,7 @@
 -- How a text falls into pieces.
-use Rattle.std.proofs.Common.{◌≡◌, ℕ, zero, suc, ◌+◌, ◌<◌, ◌≤◌, Bool, true, false, eqb, List, [], ◌∷◌, ◌++◌, length, get_or, take, drop, refl, sym, ap, ◌∙◌, subst, arith, cond, ⊎_elim, ◌≢◌}
+use Rattle.std.proofs.Common.{◌≡◌, ℕ, suc, ◌<◌, true, false, eqb, List, [], ◌∷◌, ◌++◌, length, get_or, refl, sym, ap, ◌∙◌, arith, cond, ⊎_elim, ◌≢◌}
 use Rattle.just_path.specs.Comps.{glued, pieces, is_empty}
 use Rattle.just_path.specs.Parts.{joined}
-use Rattle.std.specs.List.{flat_map}
 use Rattle.std.proofs.lemmas.Bool.{cases_eq, ne_eqb}
 
 pub glued_append : (b : ℕ) (ps qs : List (List ℕ)) → is_empty ps ≡ false → glued b (ps ++ qs) ≡ glued b ps ++ qs

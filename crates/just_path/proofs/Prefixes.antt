@@ -1,5 +1,5 @@
 -- Components that compare as the same are the same.
-use Rattle.std.proofs.Common.{◌≡◌, ℕ, Bool, true, List, refl, ap, rules}
+use Rattle.std.proofs.Common.{◌≡◌, ℕ, true, List, refl, ap}
 use Rattle.std.proofs.lemmas.Slice.Eq.{bytes_eq-Decides}
 use Rattle.std.specs.Str.{bytes_eq}
 use Rattle.just_path.specs.Comps.{Comp, prefix, root, current, parent, normal}

@@ -1,11 +1,11 @@
 -- The first and the last piece of a text, by the place of a slash.
-use Rattle.std.proofs.Common.{◌≡◌, ◌≢◌, ℕ, zero, suc, ◌+◌, ◌-◌, ◌<◌, ◌≤◌, Bool, true, false, eqb, List, [], ◌∷◌, ◌++◌, length, get_or, take, drop, refl, sym, ap, ◌∙◌, subst, arith, cond, nat_lt, inl, inr, length-append, length-take, length-drop, append_assoc, ⊎_elim}
+use Rattle.std.proofs.Common.{◌≡◌, ◌≢◌, ℕ, zero, suc, ◌+◌, ◌<◌, ◌≤◌, true, false, List, [], ◌∷◌, ◌++◌, length, get_or, take, drop, refl, sym, ap, ◌∙◌, subst, arith, nat_lt, inl, inr, length-append, length-take, length-drop, append_assoc, ⊎_elim}
 use Rattle.std.proofs.lemmas.Bool.{ne_eqb, cases_eq}
 use Rattle.std.proofs.lemmas.Bool.Decides.{nat_tests}
 use Rattle.std.proofs.lemmas.List.{take-append-drop, drop_more, get_or-take, get_or-drop, append-nil, take-take, nil_from_length}
 use Rattle.std.specs.List.{flat_map}
 use Rattle.std.proofs.lemmas.Grind.{flat_map-append}
-use Rattle.just_path.specs.Comps.{Comp, root, current, parent, normal, dot, dots, glued, pieces, is_empty, named, names, is_dot_first, leading}
+use Rattle.just_path.specs.Comps.{pieces, is_empty, named, names, leading}
 use Rattle.just_path.specs.Parts.{upto}
 use Rattle.just_path.specs.Scan.{IsFirstPiece, IsLastPiece}
 use Rattle.just_path.proofs.Pieces.{pieces_slash, pieces_plain}

@@ -1,18 +1,16 @@
 -- A walk over the pieces of a text from either end: what is left of it gives the same.
-use Rattle.std.proofs.Common.{◌≡◌, ◌≢◌, ℕ, zero, suc, ◌+◌, ◌-◌, ◌<◌, ◌≤◌, Bool, true, false, eqb, List, [], ◌∷◌, ◌++◌, length, get_or, take, drop, refl, sym, ap, ◌∙◌, subst, arith, cond, ◌||◌, nat_lt, inl, inr, length-append, length-take, length-drop, append_assoc, ⊎_elim, zero-add}
-use Rattle.std.proofs.lemmas.Bool.{ne_eqb, cases_eq}
+use Rattle.std.proofs.Common.{◌≡◌, ◌≢◌, ℕ, zero, suc, ◌+◌, ◌<◌, ◌≤◌, Bool, true, false, List, [], ◌∷◌, ◌++◌, length, take, refl, sym, ap, ◌∙◌, arith, cond, ◌||◌, nat_lt, length-append, ⊎_elim, zero-add}
+use Rattle.std.proofs.lemmas.Bool.{cases_eq}
 use Rattle.std.proofs.lemmas.Bool.Decides.{nat_tests}
 use Rattle.std.proofs.lemmas.List.{append-nil, take_all}
 use Rattle.std.specs.List.{flat_map}
 use Rattle.std.specs.Str.{bytes_eq}
 use Rattle.std.proofs.lemmas.Slice.Eq.{bytes_eq-Decides}
-use Rattle.just_path.specs.Comps.{Comp, comp_text, root, current, parent, normal, dot, dots, glued, pieces, is_empty, named, names, is_dot_first, leading, comps}
-use Rattle.just_path.specs.Path.{is_absolute}
+use Rattle.just_path.specs.Comps.{Comp, comp_text, parent, normal, dot, dots, pieces, is_empty, named, names, leading, comps}
 use Rattle.just_path.specs.Parts.{upto, from, joined, cut, rest}
 use Rattle.just_path.specs.Scan.{IsFirstPiece, IsLastPiece, HasFirst, HasLast}
-use Rattle.just_path.proofs.Pieces.{pieces_filled, joined_pieces}
+use Rattle.just_path.proofs.Pieces.{joined_pieces}
 use Rattle.just_path.proofs.Leading
-use Rattle.just_path.proofs.Scans.{upto_nameless, filled_longer}
 
 pub record KeepsFirst (text left : List ℕ) : Type 0 where
   pub gives : names text ≡ names left

@@ -1,5 +1,5 @@
 -- Clean paths: three rewrites of component lists, and the list that they lead to.
-use Rattle.std.specs.Prelude.{◌≡◌, ℕ, Bool, true, false, ◌&&◌, List, [], ◌∷◌, ◌++◌, map, fold}
+use Rattle.std.specs.Prelude.{◌≡◌, ℕ, Bool, true, false, List, [], ◌∷◌, ◌++◌, map, fold}
 use Rattle.just_path.specs.Path.{pushed}
 use Rattle.just_path.specs.Comps.{Comp, prefix, root, current, parent, normal, comp_text, comps}
 

@@ -1,7 +1,7 @@
 -- Parts of a path's text: from a component on, and up to a component.
-use Rattle.std.specs.Prelude.{ℕ, zero, suc, ◌<◌, nat_lt, Bool, true, false, Option, Some, None, List, [], ◌∷◌, ◌++◌, length, take, if◌then◌else◌}
+use Rattle.std.specs.Prelude.{ℕ, zero, suc, nat_lt, Option, Some, None, List, [], ◌∷◌, ◌++◌, length, take, if◌then◌else◌}
 use Rattle.std.specs.List.{flat_map}
-use Rattle.just_path.specs.Comps.{Comp, root, current, named, pieces, names, leading, comps, is_empty}
+use Rattle.just_path.specs.Comps.{Comp, current, named, pieces, names, leading, is_empty}
 
 -- the text of which these are the pieces
 abbrev pub joined : List (List ℕ) → List ℕ

@@ -1,6 +1,6 @@
 -- What the first and the last piece of a text are to it.
 use Rattle.std.specs.Prelude.{◌≡◌, ◌<◌, ◌≤◌, ◌+◌, ℕ, suc, false, List, [], ◌∷◌, ◌++◌, length, take, ◌⊎◌}
-use Rattle.just_path.specs.Comps.{Comp, comp_text, named, pieces, names, leading, comps, is_empty}
+use Rattle.just_path.specs.Comps.{Comp, comp_text, named, pieces, names, leading, is_empty}
 use Rattle.just_path.specs.Parts.{upto, rest, cut}
 
 -- the piece is the first of a text, and `after` what follows its slash

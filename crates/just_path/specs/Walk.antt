@@ -1,5 +1,5 @@
 -- What the components that an iterator still gives are.
-use Rattle.std.specs.Prelude.{ℕ, ◌+◌, ◌-◌, ◌==◌, List, [], ◌∷◌, ◌++◌, length, if◌then◌else◌, map}
+use Rattle.std.specs.Prelude.{ℕ, ◌+◌, ◌-◌, ◌==◌, List, length, if◌then◌else◌, map}
 use Rattle.just_path.specs.Comps.{Comp, comp_text, names, leading, comps}
 use Rattle.just_path.specs.Parts.{cut, rest}
 use Rattle.just_path.specs.declared.components.Utf8Components.{Utf8Components}

@@ -1,5 +1,5 @@
 -- The components that stay are the normal form.
-use Rattle.std.proofs.Common.{◌≡◌, ◌∙◌, sym, ap, List, [], arith, false, length, fold}
+use Rattle.std.proofs.Common.{◌≡◌, ◌∙◌, ap, [], arith, false, fold}
 use Rattle.std.proofs.lemmas.List.{nil_from_length}
 use Rattle.std.proofs.lemmas.Grind.{common_steps}
 use Rattle.just_path.specs.Comps.{comps, comp_text, is_empty}
@@ -7,7 +7,6 @@ use Rattle.just_path.specs.Component.{comp_of}
 use Rattle.just_path.specs.Path.{pushed}
 use Rattle.just_path.specs.Settled.{comps_of}
 use Rattle.just_path.specs.Clean.{reduced}
-use Rattle.just_path.specs.declared.component.Utf8Component.{Utf8Component}
 use Rattle.just_path.proofs.Made.{made_empty, made_path, filled_from_length}
 use Rattle.just_path.proofs.clean.made.Goals as goal
 

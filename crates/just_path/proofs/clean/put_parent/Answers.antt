@@ -1,7 +1,7 @@
 -- Two components more.
-use Rattle.std.proofs.Common.{◌≡◌, ◌∙◌, sym, ap, refl, List, [], ◌∷◌, ◌++◌, true, append_assoc}
+use Rattle.std.proofs.Common.{◌≡◌, ◌∙◌, ap, refl, List, [], ◌∷◌, ◌++◌, true, append_assoc}
 use Rattle.std.proofs.lemmas.List.{map_push}
-use Rattle.just_path.specs.Comps.{Comp, parent}
+use Rattle.just_path.specs.Comps.{parent}
 use Rattle.just_path.specs.Component.{comp_of}
 use Rattle.just_path.specs.declared.component.Utf8Component.{Utf8Component}
 use Rattle.just_path.specs.Clean.{reduced}

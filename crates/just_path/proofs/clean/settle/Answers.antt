@@ -1,7 +1,6 @@
 -- A name, a root or a prefix may stand behind anything; a `.` goes.
-use Rattle.std.proofs.Common.{◌≡◌, ◌∙◌, sym, ap, List, [], ◌∷◌, ◌++◌, true, false, subst}
+use Rattle.std.proofs.Common.{◌≡◌, ◌∙◌, sym, ap, List, [], ◌∷◌, ◌++◌, true, false}
 use Rattle.std.proofs.lemmas.List.{map_push}
-use Rattle.just_path.specs.Comps.{Comp}
 use Rattle.just_path.specs.Component.{comp_of}
 use Rattle.just_path.specs.declared.component.Utf8Component.{Utf8Component}
 use Rattle.just_path.specs.Clean.{reduced}

@@ -1,11 +1,11 @@
 -- By the last component that stays.
-use Rattle.std.proofs.Common.{◌≡◌, ◌∙◌, sym, ap, refl, List, [], ◌∷◌, ◌++◌, true, false, subst, append_assoc}
+use Rattle.std.proofs.Common.{◌≡◌, ◌∙◌, sym, ap, refl, List, [], ◌∷◌, ◌++◌, false, append_assoc}
 use Rattle.std.proofs.lemmas.List.{map_push}
 use Rattle.just_path.specs.Comps.{Comp, parent, root, current, normal}
 use Rattle.just_path.specs.Component.{comp_of}
 use Rattle.just_path.specs.declared.component.Utf8Component.{Utf8Component}
 use Rattle.just_path.specs.Clean.{reduced}
-use Rattle.just_path.specs.Settled.{follows, settled, comps_of}
+use Rattle.just_path.specs.Settled.{settled, comps_of}
 use Rattle.just_path.proofs.Cleans.{settled_init, settled_front, drops_pair, drops_parent}
 use Rattle.just_path.proofs.clean.settle_parent.Goals as goal
 

@@ -1,5 +1,5 @@
 -- No byte so far is a dot, but for the first.
-use Rattle.std.proofs.Common.{◌≢◌, ◌≡◌, ◌<◌, ◌≤◌, ℕ, length, slice_index}
+use Rattle.std.proofs.Common.{◌≢◌, ◌<◌, ℕ, slice_index}
 use Rattle.just_path.proofs.name.first_dot.Given as goal
 
 abbrev pub invariant-loop-i : goal.invariant-loop-i

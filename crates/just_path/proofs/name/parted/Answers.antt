@@ -1,5 +1,5 @@
 -- A dot is one byte, so a name may be cut before and behind it.
-use Rattle.std.proofs.Common.{◌≡◌, arith, sym, ap, ◌∙◌, length, take, drop, ◌+◌, ◌-◌, List, ℕ, Some}
+use Rattle.std.proofs.Common.{◌≡◌, arith, sym, take, drop, ◌+◌}
 use Rattle.std.proofs.lemmas.Str.{IsCharBoundary-after_ascii}
 use Rattle.std.proofs.lemmas.Slice.{between_to_end, between_from_start}
 use Rattle.std.proofs.lemmas.Grind.{common_steps}

@@ -1,5 +1,5 @@
 -- A slash is one byte, so a text may be cut before and behind it.
-use Rattle.std.proofs.Common.{◌≡◌, arith, sym, ap, ◌∙◌, subst, length, take, drop, ◌+◌, ◌-◌, List, ℕ}
+use Rattle.std.proofs.Common.{◌≡◌, arith, sym, subst, take, drop, ◌+◌, List, ℕ}
 use Rattle.std.proofs.lemmas.Str.{IsCharBoundary-after_ascii, IsUtf8-take}
 use Rattle.std.specs.Str.{IsUtf8}
 use Rattle.std.proofs.lemmas.Slice.{between_to_end, between_from_start}

@@ -1,5 +1,5 @@
 -- No byte from here on is a slash.
-use Rattle.std.proofs.Common.{◌≢◌, ◌≡◌, ◌<◌, ◌≤◌, ℕ, length, slice_index}
+use Rattle.std.proofs.Common.{◌≢◌, ◌<◌, ◌≤◌, ℕ, length, slice_index}
 use Rattle.just_path.proofs.scan.last_slash.Given as goal
 
 abbrev pub invariant-loop-i : goal.invariant-loop-i

@@ -1,9 +1,7 @@
 -- One component more was the same in both.
-use Rattle.std.proofs.Common.{◌≡◌, ◌∙◌, sym, ap, refl, List, [], ◌∷◌, ◌++◌, length, append_assoc, rules, true, arith}
-use Rattle.std.proofs.lemmas.List.{append-nil}
+use Rattle.std.proofs.Common.{◌≡◌, ◌∙◌, sym, ap, refl, [], ◌∷◌, ◌++◌, length, append_assoc, rules, true, arith}
 use Rattle.std.proofs.lemmas.Grind.{common_steps}
 use Rattle.just_path.specs.Path.{text_of}
-use Rattle.just_path.specs.Comps.{Comp, comps}
 use Rattle.just_path.specs.Component.{comp_of}
 use Rattle.just_path.specs.Walk.{left, slice_left}
 use Rattle.just_path.specs.Order.{comp_eq, begins_with}

@@ -1,5 +1,5 @@
 -- The two gave the same components so far, and the slice behind those that are still wanted is the answer.
-use Rattle.std.proofs.Common.{◌≡◌, ℕ, List, ◌++◌, length}
+use Rattle.std.proofs.Common.{◌≡◌, List, ◌++◌, length}
 use Rattle.just_path.specs.Path.{text_of}
 use Rattle.just_path.specs.Comps.{Comp, comps}
 use Rattle.just_path.specs.Walk.{left, left_bound, slice, slice_left}

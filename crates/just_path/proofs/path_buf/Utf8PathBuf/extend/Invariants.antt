@@ -1,5 +1,5 @@
 -- The parts so far are pushed.
-use Rattle.std.proofs.Common.{◌≡◌, take, drop, fold}
+use Rattle.std.proofs.Common.{◌≡◌, drop, fold}
 use Rattle.just_path.specs.Path.{pushed}
 use Rattle.just_path.proofs.path_buf.Utf8PathBuf.extend.Given as goal
 
