@@ -2,3 +2,16 @@ pub mod formers
 pub mod Path
 pub mod Environ
 pub mod Host
+pub mod Comps
+pub mod Parts
+pub mod Prefix
+pub mod Component
+pub mod Scan
+pub mod Walk
+pub mod Names
+pub mod Order
+pub mod Ancestors
+pub mod Clean
+pub mod Settled
+pub mod OrderLaws
+pub mod Utf8

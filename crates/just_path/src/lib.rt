@@ -1,18 +1,50 @@
 //! Paths, and the small types that all crates here share.
 #![tactic(auto)]
 
+mod ancestors;
+mod broken;
+mod bytes;
+mod clean;
+mod compare;
+mod component;
+mod components;
+mod edit;
 mod environ;
+mod from_bytes_error;
+mod from_owned_error;
 mod host;
+mod iter;
 mod memory;
+mod name;
+mod order;
 mod path;
 mod path_buf;
+mod path_made;
+mod path_parts;
+mod prefix;
+mod room;
+mod scan;
 mod seq;
+mod show;
+mod strip;
 mod text;
+mod walk;
 
+pub use ancestors::Utf8Ancestors;
+pub use component::Utf8Component;
+pub use components::Utf8Components;
 pub use environ::Environ;
+pub use from_bytes_error::{FromOsStrError, FromPathError};
+pub use from_owned_error::{FromBoxedPathError, FromOsStringError, FromPathBufError};
 pub use host::{Miss, PathCall, PathFault, PathHost, PathNote};
+pub use iter::Iter;
 pub use memory::NoMemory;
 pub use path::Utf8Path;
 pub use path_buf::Utf8PathBuf;
+pub use prefix::{Utf8Prefix, Utf8PrefixComponent};
 pub use seq::Seq;
+pub use strip::StripPrefix;
 pub use text::Text;
+
+#[cfg(test)]
+mod tests;

@@ -56,7 +56,7 @@ impl<'a> Utf8Path<'a> {
 }
 
 /// Whether a `/` goes between this text and what is pushed on it.
-fn needs_slash(text: &str) -> bool
+pub(crate) fn needs_slash(text: &str) -> bool
     ensures { result ≡ ends_open text.now }
 {
     match text.as_bytes().last() {

@@ -7,7 +7,7 @@ use std::marker::Model;
 /// An owned path, which contracts see as the list of its text's bytes.
 #[derive(Debug, Drop)]
 pub struct Utf8PathBuf {
-    text: String,
+    pub(crate) text: String,
 }
 
 impl Model for Utf8PathBuf {

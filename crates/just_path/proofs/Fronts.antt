@@ -1,0 +1,113 @@
+-- Cut texts are fronts of the text, and a stem is a front of its name.
+use Rattle.std.proofs.Common.{◌≡◌, ℕ, ◌+◌, ◌-◌, ◌≤◌, Bool, true, false, eqb, cond, nat_lt, Option, Some, None, List, [], ◌∷◌, ◌++◌, length, take, drop, refl, sym, ap, ◌∙◌, subst, arith, append_assoc, length-append}
+use Rattle.std.specs.List.{flat_map}
+use Rattle.std.specs.Prelude.{unwrap_or, option_map}
+use Rattle.std.proofs.lemmas.List.{take-append-drop, take_at, append-nil}
+use Rattle.std.proofs.lemmas.Grind.{flat_map-append}
+use Rattle.std.proofs.lemmas.Str.{IsUtf8-take, IsCharBoundary-at_seam}
+use Rattle.std.specs.Str.{IsUtf8}
+use Rattle.std.proofs.lemmas.Bool.Decides.{nat_tests}
+use Rattle.just_path.specs.Comps.{Comp, prefix, root, current, parent, normal, comp_text, pieces, named, names, leading, is_empty}
+use Rattle.just_path.specs.Parts.{joined, upto, cut, parent_of, parent_of_leading}
+use Rattle.just_path.specs.Names.{at_last_dot, put_before, unless_first, parted, stem_of, name_of}
+use Rattle.just_path.proofs.Pieces.{joined_pieces}
+
+upto_parts : (k : ℕ) (ps : List (List ℕ)) → (qs : List (List ℕ)) × (ps ≡ upto k ps ++ qs)
+upto_parts k [] = ([], refl)
+upto_parts k (p ∷ ps) =
+    let (qs, e) = upto_parts k ps in
+    elim (nat_lt k (length (flat_map named (p ∷ ps)))) as (λ v. (rs : List (List ℕ)) × (p ∷ ps ≡ cond v (p ∷ upto k ps) [] ++ rs)) [
+      | true ↦ (qs, ap (λ r. p ∷ r) e)
+      | false ↦ (p ∷ ps, refl)
+    ]
+
+joined_parts : (xs ys : List (List ℕ)) → (more : List ℕ) × (joined (xs ++ ys) ≡ joined xs ++ more)
+joined_parts [] ys = (joined ys, refl)
+joined_parts (p ∷ ps) ys =
+    (flat_map (λ q. 47 ∷ q) ys, ap (λ r. p ++ r) (flat_map-append (λ q. 47 ∷ q) ps ys) ∙ sym (append_assoc p (flat_map (λ q. 47 ∷ q) ps) (flat_map (λ q. 47 ∷ q) ys)))
+
+pub cut_parts : (k : ℕ) (t : List ℕ) → (more : List ℕ) × (t ≡ cut k t ++ more)
+unfolding cut
+cut_parts k t =
+    let (qs, e) = upto_parts k (pieces t) in
+    let (more, f) = joined_parts (upto k (pieces t)) qs in
+    elim (nat_lt k (length (names t))) as (λ v. (m : List ℕ) × (t ≡ cond v (joined (upto k (pieces t))) (take (length (leading t)) t) ++ m)) [
+      | true ↦ (more, sym (joined_pieces t) ∙ ap joined e ∙ f)
+      | false ↦ (drop (length (leading t)) t, sym (take-append-drop (length (leading t)) t))
+    ]
+
+pub cut_front : (k : ℕ) (t : List ℕ) → take (length (cut k t)) t ≡ cut k t
+cut_front k t =
+    let (more, e) = cut_parts k t in
+    ap (λ u. take (length (cut k t)) u) e ∙ take_at (cut k t) more (length (cut k t)) refl
+
+-- the parent is a front of the path
+front_of_leading : (t d : List ℕ) (ls : List Comp) → parent_of_leading ls ≡ Some d → take (length d) t ≡ d
+front_of_leading t d [] h = cc
+front_of_leading t d (prefix p ∷ ls) h = cc
+front_of_leading t d (root ∷ ls) h = cc
+front_of_leading t d (current ∷ ls) h = let e : [] ≡ d = cc in subst (λ (x : List ℕ). take (length x) t ≡ x) e refl
+front_of_leading t d (parent ∷ ls) h = cc
+front_of_leading t d (normal p ∷ ls) h = cc
+
+pub parent_front : (t d : List ℕ) → parent_of t ≡ Some d → take (length d) t ≡ d
+unfolding parent_of
+parent_front t d =
+    elim (is_empty (names t)) as (λ v. cond v (parent_of_leading (leading t)) (Some (cut 1 t)) ≡ Some d → take (length d) t ≡ d) [
+      | true ↦ λ h. front_of_leading t d (leading t) h
+      | false ↦ λ h. let e : cut 1 t ≡ d = cc in subst (λ (x : List ℕ). take (length x) t ≡ x) e (cut_front 1 t)
+    ]
+
+-- what stands before the last dot of a name, that dot, and what stands behind it are the name
+dot_here : (b : ℕ) (bs : List ℕ) (s : List ℕ × List ℕ) (v : Bool) → eqb b 46 ≡ v → cond v (Some ([], bs)) None ≡ Some s → b ∷ bs ≡ s.0 ++ 46 ∷ s.1
+dot_here b bs s true e h =
+    let p : ([], bs) ≡ s = cc in
+    let q : b ≡ 46 = grind (arith, nat_tests) in
+    subst (λ (r : List ℕ × List ℕ). b ∷ bs ≡ r.0 ++ 46 ∷ r.1) p (ap (λ x. x ∷ bs) q)
+dot_here b bs s false e h = cc
+
+dot_more : (b : ℕ) (bs : List ℕ) (o : Option (List ℕ × List ℕ)) → ((r : List ℕ × List ℕ) → o ≡ Some r → bs ≡ r.0 ++ 46 ∷ r.1) → (s : List ℕ × List ℕ) → put_before b bs o ≡ Some s → b ∷ bs ≡ s.0 ++ 46 ∷ s.1
+dot_more b bs None f s h = dot_here b bs s (eqb b 46) refl h
+dot_more b bs (Some r) f s h =
+    let p : (b ∷ r.0, r.1) ≡ s = cc in
+    subst (λ (q : List ℕ × List ℕ). b ∷ bs ≡ q.0 ++ 46 ∷ q.1) p (ap (λ x. b ∷ x) (f r refl))
+
+dot_parts : (n : List ℕ) (o : Option (List ℕ × List ℕ)) → at_last_dot n ≡ o → (s : List ℕ × List ℕ) → o ≡ Some s → n ≡ s.0 ++ 46 ∷ s.1
+dot_parts [] o h s e = cc
+dot_parts (b ∷ bs) o h s e = dot_more b bs (at_last_dot bs) (λ r q. dot_parts bs (at_last_dot bs) refl r q) s (h ∙ e)
+
+stem_case : (n : List ℕ) (o : Option (List ℕ × List ℕ)) → ((s : List ℕ × List ℕ) → o ≡ Some s → n ≡ s.0 ++ 46 ∷ s.1) → (m : List ℕ) × (n ≡ unwrap_or (option_map (λ s. s.0) (unless_first o)) n ++ m)
+stem_case n None f = ([], sym (append-nil n))
+stem_case n (Some s) f =
+    elim (is_empty s.0) as (λ v. (m : List ℕ) × (n ≡ unwrap_or (option_map (λ r. r.0) (cond v None (Some s))) n ++ m)) [
+      | true ↦ ([], sym (append-nil n))
+      | false ↦ (46 ∷ s.1, f s refl)
+    ]
+
+pub stem_parts : (n : List ℕ) → (m : List ℕ) × (n ≡ stem_of n ++ m)
+unfolding parted
+stem_parts n = stem_case n (at_last_dot n) (λ s e. dot_parts n (at_last_dot n) refl s e)
+
+pub name_text : (c : Comp) (n : List ℕ) → Some n ≡ name_of c → comp_text c ≡ n
+name_text (prefix t) n h = cc
+name_text root n h = cc
+name_text current n h = cc
+name_text parent n h = cc
+name_text (normal t) n h = cc
+
+-- a path, cut where the stem of its last name ends
+pub stem_cut : (t e a n s : List ℕ) → e ≡ cut 0 t → e ≡ a ++ n → s ≡ stem_of n → (length s ≤ length n) × (length n ≤ length e) × (take (length e - (length n - length s)) t ≡ a ++ s)
+stem_cut t e a n s h k r =
+    let (more, f) = cut_parts 0 t in
+    let (m, g) = stem_parts n in
+    let w : n ≡ s ++ m = g ∙ ap (λ x. x ++ m) (sym r) in
+    let l : length n ≡ length s + length m = ap length w ∙ length-append s m in
+    let l2 : length e ≡ length a + length n = ap length k ∙ length-append a n in
+    let whole : t ≡ (a ++ s) ++ (m ++ more) =
+    f ∙ ap (λ x. x ++ more) (sym h ∙ k ∙ ap (λ x. a ++ x) w ∙ sym (append_assoc a s m)) ∙ append_assoc (a ++ s) m more in
+    let at : length (a ++ s) ≡ length e - (length n - length s) = length-append a s ∙ omega arith in
+    (omega arith, omega arith, ap (λ u. take (length e - (length n - length s)) u) whole ∙ take_at (a ++ s) (m ++ more) (length e - (length n - length s)) at)
+
+pub text_before : (e a n : List ℕ) → e ≡ a ++ n → IsUtf8 e → IsUtf8 n → IsUtf8 a
+text_before e a n k u v =
+    subst (λ (x : List ℕ). IsUtf8 x) (ap (λ x. take (length a) x) k ∙ take_at a n (length a) refl) (IsUtf8-take e (length a) u (IsCharBoundary-at_seam e a n k v))

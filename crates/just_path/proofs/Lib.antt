@@ -1,0 +1,12 @@
+pub mod Pieces
+pub mod Leading
+pub mod Scans
+pub mod Walks
+pub mod Ends
+pub mod Dots
+pub mod Files
+pub mod Prefixes
+pub mod Pushes
+pub mod Fronts
+pub mod Cleans
+pub mod Made

@@ -1,0 +1,18 @@
+-- What stays has no rewrite, so it is the normal form.
+use Rattle.std.proofs.Common.{◌≡◌, ◌∙◌, sym, ap, List, [], ◌++◌, arith}
+use Rattle.std.proofs.lemmas.List.{append-nil}
+use Rattle.std.proofs.lemmas.Grind.{common_steps}
+use Rattle.just_path.specs.Comps.{Comp}
+use Rattle.just_path.specs.Walk.{left}
+use Rattle.just_path.specs.Clean.{reduced}
+use Rattle.just_path.specs.Settled.{comps_of}
+use Rattle.just_path.proofs.Cleans.{reduced_normal}
+use Rattle.just_path.proofs.clean.kept_of.Goals as goal
+
+pub returns : goal.returns
+returns c =
+    let ks : List Comp = comps_of c.components.kept.items in
+    let none : left c.components.left ≡ [] = grind (arith, common_steps) in
+    sym (reduced_normal ks c.components.invariant.settled)
+    ∙ ap reduced (sym (append-nil ks) ∙ ap (λ r. ks ++ r) (sym none))
+    ∙ c.components.invariant.same

@@ -1,0 +1,41 @@
+-- By the last component that stays.
+use Rattle.std.proofs.Common.{◌≡◌, ◌∙◌, sym, ap, refl, List, [], ◌∷◌, ◌++◌, false, append_assoc}
+use Rattle.std.proofs.lemmas.List.{map_push}
+use Rattle.just_path.specs.Comps.{Comp, parent, root, current, normal}
+use Rattle.just_path.specs.Component.{comp_of}
+use Rattle.just_path.specs.declared.component.Utf8Component.{Utf8Component}
+use Rattle.just_path.specs.Clean.{reduced}
+use Rattle.just_path.specs.Settled.{settled, comps_of}
+use Rattle.just_path.proofs.Cleans.{settled_init, settled_front, drops_pair, drops_parent}
+use Rattle.just_path.proofs.clean.settle_parent.Goals as goal
+
+one_more : (old new : List Utf8Component) (x : Utf8Component) → new ≡ old ++ x ∷ [] → comps_of new ≡ comps_of old ++ comp_of x ∷ []
+one_more old new x e = ap comps_of e ∙ map_push comp_of old x
+
+pub returns-in-Normal-clause-settled : goal.returns-in-Normal-clause-settled
+returns-in-Normal-clause-settled c =
+    let t = one_more c.pop.new.self.items c.args.kept.now.items c.in-Some.last c.in-Some.ensures.items in
+    settled_init (comps_of c.pop.new.self.items) (comp_of c.in-Some.last) (ap settled (sym t) ∙ c.requires)
+
+pub returns-in-Normal-clause-same : goal.returns-in-Normal-clause-same
+returns-in-Normal-clause-same c = λ rest.
+    let ks : List Comp = comps_of c.pop.new.self.items in
+    let t = one_more c.pop.new.self.items c.args.kept.now.items c.in-Some.last c.in-Some.ensures.items in
+    sym (ap (λ cs. reduced (cs ++ parent ∷ rest)) (t ∙ ap (λ x. ks ++ comp_of x ∷ []) c.in-Normal.is) ∙ ap reduced (append_assoc ks (normal c.in-Normal.field-0.now ∷ []) (parent ∷ rest))
+    ∙ drops_pair ks rest c.in-Normal.field-0.now)
+
+pub returns-in_ok-push-in-RootDir-clause-same : goal.returns-in_ok-push-in-RootDir-clause-same
+returns-in_ok-push-in-RootDir-clause-same c = λ rest.
+    let ks : List Comp = comps_of c.pop.new.self.items in
+    let t = one_more c.pop.new.self.items c.args.kept.now.items c.in-Some.last c.in-Some.ensures.items in
+    let u = one_more c.pop.new.self.items c.push-in-RootDir.new.self.items c.in-Some.last c.in_ok-push-in-RootDir.ensures.items in
+    let r : ks ++ comp_of c.in-Some.last ∷ [] ≡ ks ++ root ∷ [] = ap (λ x. ks ++ comp_of x ∷ []) c.in-RootDir.is in
+    ap (λ cs. reduced (cs ++ rest)) (u ∙ r) ∙ ap reduced (append_assoc ks (root ∷ []) rest) ∙ sym (drops_parent ks rest)
+    ∙ sym (ap (λ cs. reduced (cs ++ parent ∷ rest)) (t ∙ r) ∙ ap reduced (append_assoc ks (root ∷ []) (parent ∷ rest)))
+
+pub put_parent-requires-in-CurDir-clause-fits : goal.put_parent-requires-in-CurDir-clause-fits
+put_parent-requires-in-CurDir-clause-fits c =
+    let t = one_more c.pop.new.self.items c.args.kept.now.items c.in-Some.last c.in-Some.ensures.items in
+    let stuck : settled (comps_of c.args.kept.now.items) ≡ false =
+    ap settled (t ∙ ap (λ x. comps_of c.pop.new.self.items ++ comp_of x ∷ []) c.in-CurDir.is) ∙ settled_front (comps_of c.pop.new.self.items) (current ∷ []) refl in
+    cc (stuck, c.requires)

@@ -1,0 +1,17 @@
+-- The two gave the same components so far, and the slice behind those that are still wanted is the answer.
+use Rattle.std.proofs.Common.{◌≡◌, List, ◌++◌, length}
+use Rattle.just_path.specs.Path.{text_of}
+use Rattle.just_path.specs.Comps.{Comp, comps}
+use Rattle.just_path.specs.Walk.{left, left_bound, slice, slice_left}
+use Rattle.just_path.specs.Order.{begins_with}
+use Rattle.just_path.proofs.path.Utf8Path.strip_prefix.Given as goal
+
+abbrev pub invariant-components : goal.invariant-components
+invariant-components l = record {
+  same : begins_with (left l.left) (left l.wanted) ≡ begins_with (comps (text_of l.fn.self)) (comps (text_of l.fn.base));
+  slice : slice_left l.left (length (left l.wanted)) ≡ slice (length (comps (text_of l.fn.base))) (text_of l.fn.self);
+  taken : (cs : List Comp) × (comps (text_of l.fn.self) ≡ cs ++ left l.left) × (comps (text_of l.fn.base) ≡ cs ++ left l.wanted);
+}
+
+abbrev pub decreases-components : goal.decreases-components
+decreases-components l = left_bound l.wanted

@@ -1,0 +1,67 @@
+-- The components of a path's text. The text is split once, at its slashes; what stands between two of them is a piece.
+use Rattle.std.specs.Prelude.{ℕ, Bool, true, false, ◌||◌, List, [], ◌∷◌, ◌++◌, ◌==◌, if◌then◌else◌}
+use Rattle.std.specs.List.{flat_map}
+use Rattle.std.specs.Str.{bytes_eq}
+use Rattle.just_path.specs.Path.{is_absolute}
+
+-- a component; no text of Unix gives a `prefix`
+pub data Comp : Type 0 where
+  prefix : List ℕ → Comp
+  root : Comp
+  current : Comp
+  parent : Comp
+  normal : List ℕ → Comp
+
+-- the texts `.`, `..` and `/`
+abbrev pub dot : List ℕ
+dot = 46 ∷ []
+
+abbrev pub dots : List ℕ
+dots = 46 ∷ 46 ∷ []
+
+abbrev pub slash : List ℕ
+slash = 47 ∷ []
+
+-- the text of a component
+abbrev pub comp_text : Comp → List ℕ
+comp_text (prefix t) = t
+comp_text root = slash
+comp_text current = dot
+comp_text parent = dots
+comp_text (normal t) = t
+
+-- whether a list has no item
+abbrev pub is_empty : {A : Type 0} → List A → Bool
+is_empty [] = true
+is_empty (x ∷ xs) = false
+
+-- pieces, with a byte put in front of the first
+abbrev pub glued : ℕ → List (List ℕ) → List (List ℕ)
+glued b [] = (b ∷ []) ∷ []
+glued b (p ∷ ps) = (b ∷ p) ∷ ps
+
+-- the pieces of a text, split at each `/`: one more than it has slashes, some of them empty
+abbrev pub pieces : List ℕ → List (List ℕ)
+pieces [] = [] ∷ []
+pieces (b ∷ bs) = if b == 47 then [] ∷ pieces bs else glued b (pieces bs)
+
+-- the component that a piece gives, if it gives one: an empty piece and `.` give none
+abbrev pub named : List ℕ → List Comp
+named p = if (is_empty p || bytes_eq p dot) then [] else (if bytes_eq p dots then parent ∷ [] else normal p ∷ [])
+
+-- the components that the pieces of a text give
+unfoldable pub names : List ℕ → List Comp
+names t = flat_map named (pieces t)
+
+-- whether the first piece is `.`
+abbrev pub is_dot_first : List (List ℕ) → Bool
+is_dot_first [] = false
+is_dot_first (p ∷ ps) = bytes_eq p dot
+
+-- what stands in front of them: the root of an absolute text, or the `.` that a relative one begins with
+unfoldable pub leading : List ℕ → List Comp
+leading t = if is_absolute t then root ∷ [] else (if is_dot_first (pieces t) then current ∷ [] else [])
+
+-- the components of a path's text
+unfoldable pub comps : List ℕ → List Comp
+comps t = leading t ++ names t

@@ -1,0 +1,43 @@
+ghost use Rattle.std.specs.Prelude.{◌≡◌, MatchResult, IfErr, IfOk, IsUtf8};
+ghost use Rattle.just_path.specs.Utf8.{Breaks};
+
+use std::{fmt, str};
+
+/// Where bytes aren't UTF-8.
+#[derive(Clone, Copy, Debug, PartialEq, Eq)]
+pub struct Broken {
+    /// How many bytes in front are UTF-8.
+    pub up_to: usize,
+    /// How many bytes the broken sequence behind them has; none where the bytes end inside it.
+    pub len: Option<u8>,
+}
+
+/// The text of the bytes, or where they break.
+pub(crate) fn text_of_bytes(bytes: &[u8]) -> Result<&str, Broken>
+    ensures { MatchResult result (λ s. s.now ≡ bytes.now) (λ e. Breaks bytes.now e.up_to e.len) }
+{
+    match str::from_utf8(bytes) {
+        Ok(text) => Ok(text),
+        Err(error) => {
+            let len = match error.error_len() {
+                Some(len) => Some(len as u8),
+                None => None,
+            };
+            Err(Broken {
+                up_to: error.valid_up_to(),
+                len,
+            })
+        }
+    }
+}
+
+/// Writes bytes with U+FFFD for each broken sequence.
+pub(crate) fn write_lossy<W: fmt::Write>(bytes: &[u8], f: &mut fmt::Formatter<W>) -> fmt::Result {
+    for chunk in bytes.utf8_chunks() {
+        f.write_str(chunk.valid())?;
+        if !chunk.invalid().is_empty() {
+            f.write_str("\u{FFFD}")?;
+        }
+    }
+    Ok(())
+}

@@ -1,0 +1,119 @@
+ghost use Rattle.std.specs.Prelude.{◌≡◌, ◌++◌, ◌∷◌, [], List, true, fold, IfOk, OnOk};
+ghost use Rattle.just_path.specs.Path.{text_of, pushed};
+ghost use Rattle.just_path.specs.Comps.{Comp, parent, comp_text, comps};
+ghost use Rattle.just_path.specs.Component.{comp_of};
+ghost use Rattle.just_path.specs.Clean.{reduced, cleaned, IsCleanOf, parents_first};
+ghost use Rattle.just_path.specs.Settled.{follows, settled, comps_of};
+ghost use Rattle.just_path.specs.Walk.{left};
+
+use super::{NoMemory, Utf8Component, Utf8Components, Utf8Path, Utf8PathBuf};
+use std::alloc::Global;
+
+impl<'a> Utf8Path<'a> {
+    /// The path without each `.`, each name with the `..` directly behind it, and each `..` directly behind the
+    /// root. Where nothing is left it is `.`.
+    pub fn clean(&self, alloc: Global) -> Result<Utf8PathBuf, NoMemory>
+        ensures clean { IfOk result (λ p. p ≡ cleaned (text_of self.now)) }
+        // The components are the one normal form of the path's under the rewrites, or `.` where that is empty.
+        ensures normal { IfOk result (λ p. IsCleanOf (text_of self.now) p) }
+        // What is clean stays as it is.
+        ensures again { IfOk result (λ p. cleaned p ≡ p) }
+        // `..` stands only in front, and not at all behind the root.
+        ensures ups { IfOk result (λ p. parents_first (comps p) ≡ true) }
+    {
+        let path = made(alloc, self.as_str())?;
+        Ok(path)
+    }
+}
+
+/// The clean path of a text.
+fn made(alloc: Global, text: &str) -> Result<Utf8PathBuf, NoMemory>
+    ensures { IfOk result (λ p. p ≡ cleaned text.now) }
+{
+    let kept = kept_of(alloc, Utf8Components::new(text))?;
+    let components = kept.as_slice();
+    if components.is_empty() {
+        let path = Utf8PathBuf::from_str(alloc, ".")?;
+        return Ok(path);
+    }
+    let path = path_of(alloc, components)?;
+    Ok(path)
+}
+
+/// The components that stay.
+fn kept_of<'a>(
+    alloc: Global,
+    components: Utf8Components<'a>,
+) -> Result<Vec<Utf8Component<'a>>, NoMemory>
+    ensures { IfOk result (λ v. comps_of v.items ≡ reduced (left components.entry)) }
+{
+    let mut left = components;
+    let mut kept = Vec::new(alloc);
+    'components: while let Some(component) = left.take_first() {
+        settle(&mut kept, component)?;
+    }
+    Ok(kept)
+}
+
+/// Puts a component behind those that stay, as far as the rewrites leave it there.
+fn settle<'a>(
+    kept: &mut Vec<Utf8Component<'a>>,
+    component: Utf8Component<'a>,
+) -> Result<(), NoMemory>
+    requires { settled (comps_of kept.old.items) ≡ true }
+    ensures settled { OnOk result (settled (comps_of kept.new.items) ≡ true) }
+    ensures same { OnOk result ((rest : List Comp) → reduced (comps_of kept.new.items ++ rest) ≡ reduced (comps_of kept.old.items ++ comp_of component.entry ∷ rest)) }
+{
+    match component {
+        Utf8Component::CurDir => Ok(()),
+        Utf8Component::ParentDir => settle_parent(kept),
+        Utf8Component::Prefix(_) => Ok(kept.push(component)?),
+        Utf8Component::RootDir => Ok(kept.push(component)?),
+        Utf8Component::Normal(_) => Ok(kept.push(component)?),
+    }
+}
+
+/// Puts a `..` behind those that stay.
+fn settle_parent(kept: &mut Vec<Utf8Component<'_>>) -> Result<(), NoMemory>
+    requires { settled (comps_of kept.old.items) ≡ true }
+    ensures settled { OnOk result (settled (comps_of kept.new.items) ≡ true) }
+    ensures same { OnOk result ((rest : List Comp) → reduced (comps_of kept.new.items ++ rest) ≡ reduced (comps_of kept.old.items ++ parent ∷ rest)) }
+{
+    let last = match kept.pop() {
+        Some(last) => last,
+        None => return Ok(kept.push(Utf8Component::ParentDir)?),
+    };
+    match last {
+        Utf8Component::Normal(_) => Ok(()),
+        Utf8Component::RootDir => Ok(kept.push(last)?),
+        Utf8Component::Prefix(_) => put_parent(kept, last),
+        Utf8Component::CurDir => put_parent(kept, last),
+        Utf8Component::ParentDir => put_parent(kept, last),
+    }
+}
+
+/// Puts a component back, and a `..` behind it.
+fn put_parent<'a>(
+    kept: &mut Vec<Utf8Component<'a>>,
+    last: Utf8Component<'a>,
+) -> Result<(), NoMemory>
+    requires settled { settled (comps_of kept.old.items ++ comp_of last ∷ []) ≡ true }
+    requires fits { follows (comp_of last) (parent ∷ []) ≡ true }
+    ensures settled { OnOk result (settled (comps_of kept.new.items) ≡ true) }
+    ensures same { OnOk result ((rest : List Comp) → reduced (comps_of kept.new.items ++ rest) ≡ reduced ((comps_of kept.old.items ++ comp_of last.entry ∷ []) ++ parent ∷ rest)) }
+{
+    kept.push(last)?;
+    kept.push(Utf8Component::ParentDir)?;
+    Ok(())
+}
+
+/// The path of components.
+fn path_of(alloc: Global, components: &[Utf8Component<'_>]) -> Result<Utf8PathBuf, NoMemory>
+    ensures { IfOk result (λ p. p ≡ fold (λ path component. pushed path (comp_text (comp_of component))) [] components.now) }
+{
+    let mut path = Utf8PathBuf::new(alloc);
+    for component in components {
+        path.push(Utf8Path::new(component.as_str()))?;
+    }
+    Ok(path)
+}

@@ -1,0 +1,134 @@
+ghost use Rattle.std.specs.Prelude.{◌≡◌, ◌<◌, ℕ, suc, length, OnSome, IfSome};
+ghost use Rattle.std.specs.Iterator.{at_most};
+ghost use Rattle.just_path.specs.Path.{text_of};
+ghost use Rattle.just_path.specs.Comps.{names, comps};
+ghost use Rattle.just_path.specs.Parts.{rest};
+ghost use Rattle.just_path.specs.Component.{TakesFirst, TakesLast};
+ghost use Rattle.just_path.specs.Walk.{left, slice, slice_left, left_bound};
+
+use super::scan::leading;
+use super::walk::{first_name, last_name, trim_back, trim_front};
+use super::{Utf8Component, Utf8Path};
+use std::iter::FusedIterator;
+
+/// The components of a path, from either end.
+#[derive(Clone, Drop)]
+pub struct Utf8Components<'a> {
+    text: &'a str,
+    started: bool,
+}
+
+impl<'a> Utf8Components<'a> {
+    pub(crate) fn new(text: &'a str) -> Utf8Components<'a>
+        ensures left { left result ≡ comps text.now }
+        ensures slice { (n : ℕ) → slice_left result n ≡ slice n text.now }
+    {
+        Utf8Components {
+            text,
+            started: false,
+        }
+    }
+
+    /// Another of the same components.
+    pub(crate) fn copied(&self) -> Utf8Components<'a>
+        ensures { left result ≡ left self.now }
+    {
+        Utf8Components {
+            text: self.text,
+            started: self.started,
+        }
+    }
+
+    /// The slice from the first to the last of the components that are left.
+    pub fn as_path(&self) -> Utf8Path<'a>
+        ensures slice { text_of result ≡ slice_left self.now 0 }
+        ensures left { comps (text_of result) ≡ left self.now }
+    {
+        if self.started {
+            Utf8Path::new(trim_back(trim_front(self.text)))
+        } else {
+            Utf8Path::new(trim_back(self.text))
+        }
+    }
+
+    /// The first component that is left.
+    #[tactic(auto, using(crate::proofs::Ends::comps_led, crate::proofs::Ends::comps_unled))]
+    pub(crate) fn take_first(&mut self) -> Option<Utf8Component<'a>>
+        ensures step { TakesFirst (left self.old) result (left self.new) }
+        ensures slice { IfSome result (λ c. (n : ℕ) → slice_left self.old (suc n) ≡ slice_left self.new n) }
+        ensures progress { OnSome result (left_bound self.new < left_bound self.old) }
+    {
+        if self.started {
+            return self.take_name();
+        }
+        self.started = true;
+        match leading(self.text) {
+            Some(first) => Some(first),
+            None => self.take_name(),
+        }
+    }
+
+    /// The first name that is left.
+    #[tactic(auto, using(crate::proofs::Ends::no_names))]
+    fn take_name(&mut self) -> Option<Utf8Component<'a>>
+        ensures step { TakesFirst (names self.old.text.now) result (names self.new.text.now) }
+        ensures started { self.new.started ≡ self.old.started }
+        ensures slice { IfSome result (λ c. (n : ℕ) → rest (suc n) self.old.text.now ≡ rest n self.new.text.now) }
+        ensures progress { OnSome result (length self.new.text.now < length self.old.text.now) }
+    {
+        match first_name(self.text) {
+            Some((name, after)) => {
+                self.text = after;
+                Some(name)
+            }
+            None => {
+                self.text = "";
+                None
+            }
+        }
+    }
+
+    /// The last component that is left.
+    #[tactic(auto, using(crate::proofs::Ends::no_names, crate::proofs::Ends::last_left, crate::proofs::Ends::comps_led, crate::proofs::Ends::comps_unled))]
+    pub(crate) fn take_last(&mut self) -> Option<Utf8Component<'a>>
+        ensures step { TakesLast (left self.old) result (left self.new) }
+        ensures progress { OnSome result (left_bound self.new < left_bound self.old) }
+    {
+        let text = self.text;
+        if let Some((before, name)) = last_name(text) {
+            self.text = before;
+            return Some(name);
+        }
+        self.text = "";
+        if self.started {
+            return None;
+        }
+        self.started = true;
+        match leading(text) {
+            Some(first) => Some(first),
+            None => None,
+        }
+    }
+}
+
+impl<'a> Iterator for Utf8Components<'a> {
+    type Item = Utf8Component<'a>;
+
+    ghost next_gives = { λ s r t. TakesFirst (left s) r (left t) };
+
+    ghost remaining = { λ s. at_most (left_bound s) };
+
+    fn next(&mut self) -> Option<Utf8Component<'a>> {
+        self.take_first()
+    }
+}
+
+impl<'a> DoubleEndedIterator for Utf8Components<'a> {
+    ghost next_back_gives = { λ s r t. TakesLast (left s) r (left t) };
+
+    fn next_back(&mut self) -> Option<Utf8Component<'a>> {
+        self.take_last()
+    }
+}
+
+impl<'a> FusedIterator for Utf8Components<'a> {}

@@ -1,0 +1,85 @@
+ghost use Rattle.std.specs.Prelude.{◌≡◌, not, IfOk, IsTrue};
+ghost use Rattle.just_path.specs.Path.{text_of, pushed, is_absolute};
+ghost use Rattle.just_path.specs.Names.{with_name, with_extension, with_added, has_no_slash};
+
+use super::{NoMemory, Utf8Path, Utf8PathBuf};
+use std::alloc::Global;
+
+impl<'a> Utf8Path<'a> {
+    /// The text's bytes.
+    pub fn as_std_path(&self) -> &'a [u8]
+        ensures { result.now ≡ text_of self.now }
+    {
+        self.as_str().as_bytes()
+    }
+
+    /// The text's bytes.
+    pub fn as_os_str(&self) -> &'a [u8]
+        ensures { result.now ≡ text_of self.now }
+    {
+        self.as_str().as_bytes()
+    }
+
+    /// Whether the text begins with `/`.
+    pub fn has_root(&self) -> bool
+        ensures { result ≡ is_absolute (text_of self.now) }
+    {
+        self.is_absolute()
+    }
+
+    /// Whether the text doesn't begin with `/`.
+    pub fn is_relative(&self) -> bool
+        ensures { result ≡ not (is_absolute (text_of self.now)) }
+    {
+        !self.is_absolute()
+    }
+
+    /// A copy with another file name.
+    pub fn with_file_name(&self, alloc: Global, name: &str) -> Result<Utf8PathBuf, NoMemory>
+        ensures { IfOk result (λ p. p ≡ with_name (text_of self.now) name.now) }
+    {
+        let mut path = self.to_path_buf(alloc)?;
+        path.set_file_name(name)?;
+        Ok(path)
+    }
+
+    /// A copy with another extension of its file name, where it has one.
+    pub fn with_extension(&self, alloc: Global, extension: &str) -> Result<Utf8PathBuf, NoMemory>
+        requires { IsTrue (has_no_slash extension.now) }
+        ensures { IfOk result (λ p. p ≡ with_extension (text_of self.now) extension.now) }
+    {
+        let mut path = self.to_path_buf(alloc)?;
+        path.set_extension(extension)?;
+        Ok(path)
+    }
+
+    /// A copy with a further extension of its file name, where it has one.
+    pub fn with_added_extension(
+        &self,
+        alloc: Global,
+        extension: &str,
+    ) -> Result<Utf8PathBuf, NoMemory>
+        requires { IsTrue (has_no_slash extension.now) }
+        ensures { IfOk result (λ p. p ≡ with_added (text_of self.now) extension.now) }
+    {
+        let mut path = self.to_path_buf(alloc)?;
+        path.add_extension(extension)?;
+        Ok(path)
+    }
+
+    /// The push rule on bytes that needn't be text.
+    pub fn join_os(&self, alloc: Global, path: &[u8]) -> Result<Vec<u8>, NoMemory>
+        ensures { IfOk result (λ bytes. bytes.items ≡ pushed (text_of self.now) path.now) }
+    {
+        let absolute = path.first() == Some(&b'/');
+        if absolute {
+            return Ok(Vec::from_slice(alloc, path)?);
+        }
+        let mut bytes = Vec::from_slice(alloc, self.as_os_str())?;
+        if super::path::needs_slash(self.as_str()) {
+            bytes.push(b'/')?;
+        }
+        bytes.extend_from_slice(path)?;
+        Ok(bytes)
+    }
+}

@@ -1,0 +1,151 @@
+ghost use Rattle.std.specs.Prelude.{◌≡◌, ◌++◌, ℕ, List, ◌<◌, IfOk, IfSome, MatchResult, length, take, true, false, option_map, option_and_then, Some};
+ghost use Rattle.std.specs.Option.{option_copied};
+ghost use Rattle.just_path.specs.Path.{text_of, pushed};
+ghost use Rattle.just_path.specs.Comps.{Comp, comps};
+ghost use Rattle.just_path.specs.Parts.{parent_of, parent_of_leading};
+ghost use Rattle.just_path.specs.Component.{one_of};
+ghost use Rattle.just_path.specs.Names.{file_name_of, stem_of, prefix_of, extension_of};
+ghost use Rattle.just_path.specs.Order.{begins_with, ends_with};
+ghost use Rattle.just_path.specs.Walk.{left, slice, slice_left};
+ghost use Rattle.just_path.specs.Ancestors.{ancestor_next};
+
+use super::name::{extension_of, prefix_of, stem_of};
+use super::order::{begins_with, ends_with, same};
+use super::scan::leading;
+use super::walk::{last_name, trim_back};
+use super::{Iter, StripPrefix, Utf8Ancestors, Utf8Component, Utf8Components, Utf8Path};
+
+impl<'a> Utf8Path<'a> {
+    /// The components, from either end.
+    pub fn components(&self) -> Utf8Components<'a>
+        ensures left { left result ≡ comps (text_of self.now) }
+        ensures slice { (n : ℕ) → slice_left result n ≡ slice n (text_of self.now) }
+    {
+        Utf8Components::new(self.as_str())
+    }
+
+    /// The texts of the components, from either end.
+    pub fn iter(&self) -> Iter<'a>
+        ensures { left result.inner ≡ comps (text_of self.now) }
+    {
+        Iter::new(self.components())
+    }
+
+    /// The path without its last component: none where there is no component, or the root alone.
+    #[tactic(auto, using(crate::proofs::Files::parent_behind, crate::proofs::Files::parent_alone, crate::proofs::Leading::no_longer, crate::proofs::Fronts::parent_front))]
+    pub fn parent(&self) -> Option<Utf8Path<'a>>
+        ensures parent { option_map text_of result ≡ parent_of (text_of self.now) }
+        ensures shorter { IfSome result (λ p. length (text_of p) < length (text_of self.now)) }
+        // It is a front of the text.
+        ensures front { IfSome result (λ p. take (length (text_of p)) (text_of self.now) ≡ text_of p) }
+    {
+        let text = self.as_str();
+        match last_name(text) {
+            Some((before, _)) => Some(Utf8Path::new(trim_back(before))),
+            None => above(leading(text)),
+        }
+    }
+
+    /// The path itself, its parent, and so on.
+    pub fn ancestors(&self) -> Utf8Ancestors<'a>
+        ensures { ancestor_next result ≡ Some (text_of self.now) }
+    {
+        Utf8Ancestors::new(*self)
+    }
+
+    /// The last component, where it is a name.
+    #[tactic(auto, using(crate::proofs::Files::file_name_last, crate::proofs::Files::file_name_none))]
+    pub fn file_name(&self) -> Option<&'a str>
+        ensures { option_copied result ≡ file_name_of (text_of self.now) }
+    {
+        match last_name(self.as_str()) {
+            Some((_, last)) => last.name(),
+            None => None,
+        }
+    }
+
+    /// The file name up to its last dot, the whole where it has none but in front.
+    pub fn file_stem(&self) -> Option<&'a str>
+        ensures { option_copied result ≡ option_map stem_of (file_name_of (text_of self.now)) }
+    {
+        match self.file_name() {
+            Some(name) => Some(stem_of(name)),
+            None => None,
+        }
+    }
+
+    /// The file name up to its first dot that isn't in front.
+    pub fn file_prefix(&self) -> Option<&'a str>
+        ensures { option_copied result ≡ option_map prefix_of (file_name_of (text_of self.now)) }
+    {
+        match self.file_name() {
+            Some(name) => Some(prefix_of(name)),
+            None => None,
+        }
+    }
+
+    /// What stands behind the last dot of the file name, where it has one that isn't in front.
+    pub fn extension(&self) -> Option<&'a str>
+        ensures { option_copied result ≡ option_and_then extension_of (file_name_of (text_of self.now)) }
+    {
+        match self.file_name() {
+            Some(name) => extension_of(name),
+            None => None,
+        }
+    }
+
+    /// Whether the components begin with those of `base`.
+    pub fn starts_with(&self, base: Utf8Path<'_>) -> bool
+        ensures { result ≡ begins_with (comps (text_of self.now)) (comps (text_of base.entry)) }
+    {
+        begins_with(self.as_str(), base.as_str())
+    }
+
+    /// Whether the components end with those of `child`.
+    pub fn ends_with(&self, child: Utf8Path<'_>) -> bool
+        ensures { result ≡ ends_with (comps (text_of self.now)) (comps (text_of child.entry)) }
+    {
+        ends_with(self.as_str(), child.as_str())
+    }
+
+    /// The slice behind the components of `base`, from the first to the last component that remains. It is refused
+    /// exactly where the components don't begin with those of `base`.
+    pub fn strip_prefix(&self, base: Utf8Path<'_>) -> Result<Utf8Path<'a>, StripPrefix>
+        ensures slice { MatchResult result
+            (λ r. text_of r ≡ slice (length (comps (text_of base.entry))) (text_of self.now))
+            (λ e. begins_with (comps (text_of self.now)) (comps (text_of base.entry)) ≡ false) }
+        // What remains are the components behind those of `base`.
+        ensures remains { IfOk result (λ r. comps (text_of self.now) ≡ comps (text_of base.entry) ++ comps (text_of r)) }
+        // The law of the slice: joined to `base` again it is the path.
+        ensures joins { IfOk result (λ r. comps (pushed (text_of base.entry) (text_of r)) ≡ comps (text_of self.now)) }
+    {
+        let mut left = self.components();
+        let mut wanted = base.components();
+        'components: while let Some(want) = wanted.take_first() {
+            match left.take_first() {
+                None => return Err(StripPrefix),
+                Some(component) => {
+                    if !same(&component, &want) {
+                        return Err(StripPrefix);
+                    }
+                }
+            }
+        }
+        Ok(left.as_path())
+    }
+}
+
+/// The parent of a path that has no name: the empty one, where the path is `.`.
+fn above<'a>(leading: Option<Utf8Component<'_>>) -> Option<Utf8Path<'a>>
+    ensures parent { option_map text_of result ≡ parent_of_leading (one_of leading.entry) }
+    ensures shorter { IfSome result (λ p. length (text_of p) < length (one_of leading.entry)) }
+{
+    match leading {
+        Some(Utf8Component::CurDir) => Some(Utf8Path::new("")),
+        Some(Utf8Component::Prefix(_)) => None,
+        Some(Utf8Component::RootDir) => None,
+        Some(Utf8Component::ParentDir) => None,
+        Some(Utf8Component::Normal(_)) => None,
+        None => None,
+    }
+}

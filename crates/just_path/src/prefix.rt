@@ -1,0 +1,66 @@
+ghost use Rattle.std.specs.Prelude.{◌≡◌, Bool};
+ghost use Rattle.just_path.specs.Prefix.{is_verbatim};
+
+/// The prefixes that a path has on Windows. No Unix path gives one.
+#[derive(Clone, Copy, Debug, PartialEq, Eq, PartialOrd, Ord, Hash)]
+pub enum Utf8Prefix<'a> {
+    /// `\\?\NAME`
+    Verbatim(&'a str),
+    /// `\\?\UNC\SERVER\SHARE`
+    VerbatimUNC(&'a str, &'a str),
+    /// `\\?\C:`
+    VerbatimDisk(u8),
+    /// `\\.\NAME`
+    DeviceNS(&'a str),
+    /// `\\SERVER\SHARE`
+    UNC(&'a str, &'a str),
+    /// `C:`
+    Disk(u8),
+}
+
+impl<'a> Utf8Prefix<'a> {
+    /// Whether the prefix begins with `\\?\`.
+    pub fn is_verbatim(&self) -> bool
+        ensures { result ≡ is_verbatim self.now }
+    {
+        match self {
+            Utf8Prefix::Verbatim(_) => true,
+            Utf8Prefix::VerbatimUNC(_, _) => true,
+            Utf8Prefix::VerbatimDisk(_) => true,
+            Utf8Prefix::DeviceNS(_) => false,
+            Utf8Prefix::UNC(_, _) => false,
+            Utf8Prefix::Disk(_) => false,
+        }
+    }
+}
+
+/// A prefix with its text. Comparisons read the parsed prefix alone.
+#[derive(Clone, Copy, Debug)]
+#[derive_where(PartialEq, Eq, PartialOrd, Ord, Hash)]
+pub struct Utf8PrefixComponent<'a> {
+    #[derive_where(skip(EqHashOrd))]
+    raw: &'a str,
+    parsed: Utf8Prefix<'a>,
+}
+
+impl<'a> Utf8PrefixComponent<'a> {
+    /// The parsed prefix.
+    pub fn kind(&self) -> Utf8Prefix<'a>
+        ensures { result ≡ self.now.parsed }
+    {
+        self.parsed
+    }
+
+    pub fn as_str(&self) -> &'a str
+        ensures { result.now ≡ self.now.raw.now }
+    {
+        self.raw
+    }
+
+    /// The text's bytes.
+    pub fn as_os_str(&self) -> &'a [u8]
+        ensures { result.now ≡ self.now.raw.now }
+    {
+        self.raw.as_bytes()
+    }
+}
