@@ -1,0 +1,10 @@
+//! Reading a text character by character: cursors, places, and readers that are proved against a grammar.
+#![tactic(auto)]
+
+mod class;
+mod cursor;
+mod error;
+
+pub use class::Class;
+pub use cursor::Cursor;
+pub use error::ReadError;
