@@ -1,10 +1,8 @@
 -- The loop over readers: its bound doesn't matter, it goes on as its first turn says, and it reads what a chain is.
-use Rattle.std.proofs.Common.{◌≡◌, ℕ, zero, suc, ◌+◌, ◌<◌, ◌≤◌, Bool, true, false, if◌then◌else◌, ◌⊎◌, inl, inr, List, [], ◌∷◌, length, Ok, Err, refl, sym, ap, ◌∙◌, subst, ⊎_elim, arith}
-use Rattle.std.proofs.lemmas.Bool.{false≢true}
+use Rattle.std.proofs.Common.{◌≡◌, ℕ, zero, suc, ◌<◌, ◌≤◌, Bool, true, false, if◌then◌else◌, List, [], ◌∷◌, length, Ok, Err, refl, sym, ap, ◌∙◌, subst, ⊎_elim, arith}
 use Rattle.just_read.specs.Place.{Place, Rule, AreMany}
 use Rattle.just_read.specs.Reader.{Outcome, Reader, and_then, pure, refuse, ◌>>=◌, step, many_in, many}
 use Rattle.just_read.specs.declared.error.ReadError.{ReadError}
-use Rattle.just_read.specs.declared.error.ReadError.TheVariants.{Syntax}
 use Rattle.just_read.proofs.Tools.{bind_ok, choose, ok_value, ok_place}
 
 same_step : {A : Type 0} (R S : Reader (List A)) (p : Place) (b : Bool) (o : Outcome A)
@@ -58,17 +56,17 @@ module _ {A : Type 0} (more : Place → Bool) (one : Reader A) (Is : Rule A)
   turn others rest p q xs h =
       ⊎_elim
       (λ (s : _).
-          let (x, m, o, k) = bind_ok (one p) _ xs q s.1 in
-          let (ys, n, r, j) = bind_ok (others m) _ xs q k in
-          let e : x ∷ ys ≡ xs = ok_value (x ∷ ys) xs n q j in
-          let f : n ≡ q = ok_place (x ∷ ys) xs n q j in
-          let (are, done) = rest m n ys r in
-          subst (λ (l : List A). AreMany Is p q l × (more q ≡ false)) e
-          (subst (λ (l : Place). AreMany Is p l (x ∷ ys) × (more l ≡ false)) f ((m, reads p m x s.0 o, are), done)))
+      let (x, m, o, k) = bind_ok (one p) _ xs q s.1 in
+      let (ys, n, r, j) = bind_ok (others m) _ xs q k in
+      let e : x ∷ ys ≡ xs = ok_value (x ∷ ys) xs n q j in
+      let f : n ≡ q = ok_place (x ∷ ys) xs n q j in
+      let (are, done) = rest m n ys r in
+      subst (λ (l : List A). AreMany Is p q l × (more q ≡ false)) e
+      (subst (λ (l : Place). AreMany Is p l (x ∷ ys) × (more l ≡ false)) f ((m, reads p m x s.0 o, are), done)))
       (λ (s : _).
-          let e : [] ≡ xs = ok_value [] xs p q s.1 in
-          let f : p ≡ q = ok_place [] xs p q s.1 in
-          subst (λ (l : List A). AreMany Is p q l × (more q ≡ false)) e (sym f, ap more (sym f) ∙ s.0))
+      let e : [] ≡ xs = ok_value [] xs p q s.1 in
+      let f : p ≡ q = ok_place [] xs p q s.1 in
+      subst (λ (l : List A). AreMany Is p q l × (more q ≡ false)) e (sym f, ap more (sym f) ∙ s.0))
       (choose (more p) (and_then (one p) (λ x. others >>= (λ xs. pure (x ∷ xs)))) (Ok ([], p)) (Ok (xs, q)) h)
 
   many_in_ok : (n : ℕ) (p q : Place) (xs : List A) → many_in more one n p ≡ Ok (xs, q) → AreMany Is p q xs × (more q ≡ false)

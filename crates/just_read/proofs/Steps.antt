@@ -1,7 +1,7 @@
 -- How a place moves on: by one character, and along a run.
-use Rattle.std.proofs.Common.{◌≡◌, ℕ, ◌+◌, ◌<◌, ◌≤◌, ◌==◌, Bool, true, false, cond, eqb, if◌then◌else◌, List, [], ◌∷◌, ◌++◌, length, Option, Some, None, encode_utf8_all, encode_utf8, append-nil, append_assoc, refl, sym, ap, ◌∙◌, arith, rules}
+use Rattle.std.proofs.Common.{◌≡◌, ℕ, ◌+◌, ◌<◌, ◌≤◌, ◌==◌, Bool, true, false, if◌then◌else◌, List, [], ◌∷◌, ◌++◌, length, Some, None, encode_utf8_all, encode_utf8, append-nil, append_assoc, refl, sym, ap, ◌∙◌, arith}
 use Rattle.std.proofs.lemmas.Bool.{false≢true}
-use Rattle.just_read.specs.Place.{Place, at, next, next_in, past, past_in, run, first, first_in, passes, starts}
+use Rattle.just_read.specs.Place.{Place, at, next, next_in, past, past_in, run, first, first_in, passes, starts, sees, is_empty, is_end, Stands}
 
 -- behind a line feed
 pub next_line : (p : Place) (c : ℕ) (rest : List ℕ) → p.rest ≡ c ∷ rest → c ≡ 10 → next p ≡ at rest (p.line + 1) 1
@@ -137,3 +137,50 @@ past_in_ends t (x ∷ rest) l c =
 pub past_ends : (t : ℕ → Bool) (p : Place) → starts t (past t p) ≡ false
 unfolding past
 past_ends t p = past_in_ends t p.rest p.line p.column
+
+-- ---- a character that is seen
+
+seen : (c : ℕ) (list : List ℕ) → passes (λ d. d == c) (first_in list) ≡ true → first_in list ≡ Some c
+seen c [] h = absurd (false≢true h)
+seen c (d ∷ rest) h = let e : d ≡ c = grind (arith) in rw e refl
+
+pub sees_first : (c : ℕ) (p : Place) → sees c p ≡ true → first p ≡ Some c
+sees_first c p h = seen c p.rest h
+
+-- what a test says of it
+pub starts_seen : (t : ℕ → Bool) (c : ℕ) (p : Place) → sees c p ≡ true → starts t p ≡ t c
+starts_seen t c p h = starts_at t p c (sees_first c p h)
+
+starting : (t : ℕ → Bool) (list : List ℕ) → passes t (first_in list) ≡ true → is_empty list ≡ false
+starting t [] h = absurd (false≢true h)
+starting t (c ∷ rest) h = refl
+
+-- the text doesn't end where a character passes a test
+pub not_end : (t : ℕ → Bool) (p : Place) → starts t p ≡ true → is_end p ≡ false
+not_end t p h = starting t p.rest h
+
+ended : (list : List ℕ) → is_empty list ≡ true → length list ≡ 0
+ended [] h = refl
+ended (c ∷ rest) h = absurd (false≢true h)
+
+unended : (list : List ℕ) → is_empty list ≡ false → 0 < length list
+unended [] h = absurd (false≢true (sym h))
+unended (c ∷ rest) h = omega arith
+
+-- nothing is left at the end, and something before it
+pub end_length : (p : Place) → is_end p ≡ true → length p.rest ≡ 0
+end_length p h = ended p.rest h
+
+pub more_length : (p : Place) → is_end p ≡ false → 0 < length p.rest
+more_length p h = unended p.rest h
+
+left : (list : List ℕ) → 0 < length list → is_empty list ≡ false
+left [] h = absurd (omega arith)
+left (c ∷ rest) h = refl
+
+pub length_more : (p : Place) → 0 < length p.rest → is_end p ≡ false
+length_more p h = left p.rest h
+
+-- what stands takes a character
+pub stands_shorter : (c : ℕ) (p q : Place) → Stands c p q → length q.rest < length p.rest
+stands_shorter c p q s = rw (s.1) (next_shorter (λ d. d == c) p s.0)

@@ -1,5 +1,5 @@
 -- The place of a cursor, and the room that its line and column keep.
-use Rattle.std.specs.Prelude.{ℕ, ◌+◌, ◌<◌, ◌^◌, length}
+use Rattle.std.specs.Prelude.{◌+◌, ◌<◌, ◌^◌, length}
 use Rattle.just_read.specs.Place.{Place, at}
 use Rattle.just_read.specs.declared.cursor.Cursor.TheInside.{Inside}
 
