@@ -11,3 +11,6 @@ mod value;
 
 pub use error::DotenvError;
 pub use file::read;
+
+#[cfg(test)]
+mod tests;
