@@ -125,6 +125,8 @@ fn row_dotenv_texts(rt: HostRuntime) -> Result<(), Fail> {
             Err(DotenvError::Line(2))
         )
     );
+    let texts = format!(in alloc; "{}, {}", DotenvError::Line(2), DotenvError::NoMemory)?;
+    assert_eq!(rt; texts.as_str(), "line 2, out of memory");
     Ok(())
 }
 
