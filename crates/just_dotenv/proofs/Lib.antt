@@ -1,0 +1,5 @@
+pub mod Parts
+pub mod Values
+pub mod ValueLaws
+pub mod LineLaws
+pub mod FileLaws

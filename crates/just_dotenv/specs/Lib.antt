@@ -1,0 +1,5 @@
+pub mod Characters
+pub mod Grammar
+pub mod Meaning
+pub mod File
+pub mod Readers

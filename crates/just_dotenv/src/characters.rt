@@ -1,0 +1,109 @@
+ghost use Rattle.std.specs.Prelude.{◌≡◌};
+ghost use Rattle.just_dotenv.specs.Characters.{is_plain, in_value};
+
+use just_read::Class;
+
+/// A space or a tab.
+pub struct Blank;
+
+impl Class for Blank {
+    ghost use Rattle.just_dotenv.specs.Characters.{is_blank};
+
+    ghost members = { is_blank };
+
+    fn has(c: char) -> bool {
+        matches!(c, ' ' | '\t')
+    }
+}
+
+/// What a name begins with.
+pub struct NameStart;
+
+impl Class for NameStart {
+    ghost use Rattle.just_dotenv.specs.Characters.{begins_name};
+
+    ghost members = { begins_name };
+
+    fn has(c: char) -> bool {
+        matches!(c, 'A'..='Z' | 'a'..='z' | '_')
+    }
+}
+
+/// What a name that is looked up holds.
+pub struct InWord;
+
+impl Class for InWord {
+    ghost use Rattle.just_dotenv.specs.Characters.{in_word};
+
+    ghost members = { in_word };
+
+    fn has(c: char) -> bool {
+        NameStart::has(c) || matches!(c, '0'..='9')
+    }
+}
+
+/// What the name of a pair holds.
+pub struct InName;
+
+impl Class for InName {
+    ghost use Rattle.just_dotenv.specs.Characters.{in_name};
+
+    ghost members = { in_name };
+
+    fn has(c: char) -> bool {
+        InWord::has(c) || c == '.'
+    }
+}
+
+/// What a comment holds.
+pub struct InLine;
+
+impl Class for InLine {
+    ghost use Rattle.just_dotenv.specs.Characters.{in_line};
+
+    ghost members = { in_line };
+
+    fn has(c: char) -> bool {
+        c != '\n'
+    }
+}
+
+/// What stands between single quotes.
+pub struct InSingle;
+
+impl Class for InSingle {
+    ghost use Rattle.just_dotenv.specs.Characters.{in_single};
+
+    ghost members = { in_single };
+
+    fn has(c: char) -> bool {
+        c != '\''
+    }
+}
+
+/// What a bare value holds.
+pub struct Bare;
+
+impl Class for Bare {
+    ghost use Rattle.just_dotenv.specs.Characters.{is_bare};
+
+    ghost members = { is_bare };
+
+    fn has(c: char) -> bool {
+        !matches!(c, ' ' | '\t' | '\r' | '\n' | '"' | '\'' | '\\')
+    }
+}
+
+/// Whether a double quoted or a bare value may go on with this character.
+pub fn is_in_value(quoted: bool, c: char) -> bool
+    ensures { result ≡ in_value quoted c }
+{
+    if quoted { c != '"' } else { Bare::has(c) }
+}
+
+/// Whether it stands there for itself.
+pub fn is_plain(quoted: bool, c: char) -> bool
+    ensures { result ≡ is_plain quoted c }
+{
+    is_in_value(quoted, c) && c != '$' && c != '\\'
+}

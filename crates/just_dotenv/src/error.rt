@@ -1,0 +1,52 @@
+ghost use Rattle.std.specs.Prelude.{◌≡◌};
+
+use std::alloc::{AllocError, AllocFailed};
+use std::error::Error;
+use std::fmt;
+
+/// Why a dotenv text gives no pairs.
+#[derive(Clone, Copy, Debug, PartialEq, Eq, Hash)]
+pub enum DotenvError {
+    /// The line, from 1, on which the first entry begins that can't be read.
+    Line(usize),
+    NoMemory,
+}
+
+impl From<AllocError> for DotenvError {
+    ghost use Rattle.std.specs.Prelude.{◌≡◌};
+    ghost use Rattle.just_dotenv.specs.declared.error.DotenvError.{DotenvError};
+    ghost use Rattle.just_dotenv.specs.declared.error.DotenvError.TheVariants.{NoMemory};
+
+    ghost from_gives = { λ e r. r ≡ NoMemory };
+
+    fn from(_refused: AllocError) -> DotenvError
+        ensures { result ≡ DotenvError.NoMemory }
+    {
+        DotenvError::NoMemory
+    }
+}
+
+impl<T: Drop> From<AllocFailed<T>> for DotenvError {
+    ghost use Rattle.std.specs.Prelude.{◌≡◌};
+    ghost use Rattle.just_dotenv.specs.declared.error.DotenvError.{DotenvError};
+    ghost use Rattle.just_dotenv.specs.declared.error.DotenvError.TheVariants.{NoMemory};
+
+    ghost from_gives = { λ e r. r ≡ NoMemory };
+
+    fn from(_refused: AllocFailed<T>) -> DotenvError
+        ensures { result ≡ DotenvError.NoMemory }
+    {
+        DotenvError::NoMemory
+    }
+}
+
+impl fmt::Display for DotenvError {
+    fn fmt<W: fmt::Write>(&self, f: &mut fmt::Formatter<W>) -> fmt::Result {
+        match self {
+            DotenvError::Line(line) => write!(f, "line {line}"),
+            DotenvError::NoMemory => f.write_str("out of memory"),
+        }
+    }
+}
+
+impl Error for DotenvError {}

@@ -1,0 +1,71 @@
+ghost use Rattle.std.specs.Prelude.{◌≡◌, IfOk, IfErr, MatchResult, List, ℕ, chars};
+ghost use Rattle.just_dotenv.specs.File.{begin, Gives, Refused};
+ghost use Rattle.just_dotenv.specs.Readers.{as_line, line, Tells};
+
+use super::DotenvError;
+use super::line::read_line;
+use super::scope::Scope;
+use just_path::{Environ, Seq, Text};
+use just_read::{Cursor, ReadError};
+use std::alloc::{AllocError, Global};
+
+/// The pairs of a dotenv text, in its order. A `$NAME` or `${NAME}` in a bare or double quoted value means the
+/// environment's value of that name, else that of the last pair above it, else nothing.
+#[tactic(auto, using(crate::proofs::FileLaws::up_to_none, crate::proofs::FileLaws::up_to_more, crate::proofs::FileLaws::up_to_end, crate::proofs::FileLaws::turn_shorter, crate::proofs::FileLaws::up_to_stop, crate::proofs::FileLaws::one_gift, crate::proofs::FileLaws::none_given))]
+pub fn read(alloc: Global, text: &str, environ: &Environ) -> Result<Seq<(Text, Text)>, DotenvError>
+    // What is answered, the text gives in this environment.
+    ensures given { IfOk result (Gives (chars text.now) environ.now.pairs) }
+    // What the text gives is answered, unless memory is wanting: so it gives one list at most.
+    ensures all { (pairs : List (List ℕ × List ℕ)) → Gives (chars text.now) environ.now.pairs pairs → MatchResult result (λ found. found ≡ pairs) (λ e. e ≡ DotenvError.NoMemory) }
+    // A refused text has no pairs, and the line is that of the first entry that can't be read.
+    ensures refused { IfErr result (Refused (chars text.now)) }
+{
+    let characters = characters(alloc, text)?;
+    let mut cursor = begin(characters.as_slice());
+    let mut pairs: Vec<(Text, Text)> = Vec::new(alloc);
+    'lines: while !cursor.is_at_end() {
+        let scope = Scope {
+            environ,
+            earlier: pairs.as_slice(),
+        };
+        match next_pair(alloc, &mut cursor, &scope) {
+            Ok(Some(pair)) => pairs.push(pair)?,
+            Ok(None) => {}
+            Err(refusal) => return Err(refusal),
+        }
+    }
+    Ok(Seq::from(pairs))
+}
+
+fn characters(alloc: Global, text: &str) -> Result<Vec<char>, AllocError>
+    ensures { IfOk result (λ v. v.items ≡ chars text.now) }
+{
+    text.chars().collect(alloc)
+}
+
+/// The first line, behind the byte order mark, if there is one.
+fn begin(characters: &[char]) -> Cursor<'_>
+    ensures { result ≡ begin characters.now }
+{
+    let mut cursor = Cursor::new(characters);
+    if cursor.sees('\u{feff}') {
+        cursor.step();
+    }
+    cursor
+}
+
+/// The next line's pair, if it has one; or the line on which an entry begins that can't be read.
+fn next_pair(
+    alloc: Global,
+    cursor: &mut Cursor<'_>,
+    scope: &Scope<'_>,
+) -> Result<Option<(Text, Text)>, DotenvError>
+    ensures { Tells (as_line scope.now.environ.now.pairs scope.now.earlier.now line cursor.old) cursor.old.line result cursor.new }
+{
+    let line = cursor.line();
+    match read_line(alloc, cursor, scope) {
+        Ok(pair) => Ok(pair),
+        Err(ReadError::NoMemory) => Err(DotenvError::NoMemory),
+        Err(ReadError::Syntax | ReadError::Depth) => Err(DotenvError::Line(line)),
+    }
+}

@@ -1,0 +1,4 @@
+pub mod formers
+pub mod Place
+pub mod Cursor
+pub mod Reader

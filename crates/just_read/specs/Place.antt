@@ -1,0 +1,87 @@
+-- A place in a text, and the places behind it.
+use Rattle.std.specs.Prelude.{◌≡◌, ℕ, ◌+◌, Bool, false, true, List, [], ◌∷◌, if◌then◌else◌, ◌==◌, Option, Some, None, refl}
+use Rattle.std.specs.Coded.{Coded, code_by, coded×, coded_ℕ, coded_list}
+
+-- the characters from here to the end of the text, and the line and the column of the first of them, from 1
+pub record Place : Type 0 where
+  pub rest : List ℕ
+  pub line : ℕ
+  pub column : ℕ
+
+abbrev pub place_code : Coded Place
+place_code = code_by (List ℕ × (ℕ × ℕ)) (coded× (coded_list coded_ℕ) (coded× coded_ℕ coded_ℕ))
+    (λ p. (p.rest, (p.line, p.column))) (λ d. record { rest = d.0; line = d.1.0; column = d.1.1 }) (λ _. refl)
+
+abbrev pub at : List ℕ → ℕ → ℕ → Place
+at rest line column = record { rest = rest; line = line; column = column }
+
+-- where a text begins
+abbrev pub start : List ℕ → Place
+start text = at text 1 1
+
+-- behind a character that stood at that line and column
+abbrev pub behind : ℕ → List ℕ → ℕ → ℕ → Place
+behind c rest line column = if c == 10 then at rest (line + 1) 1 else at rest line (column + 1)
+
+abbrev pub next_in : List ℕ → ℕ → ℕ → Place
+next_in [] line column = at [] line column
+next_in (c ∷ rest) line column = behind c rest line column
+
+-- the place behind the first character, where there is one
+unfoldable pub next : Place → Place
+next p = next_in p.rest p.line p.column
+
+abbrev pub past_in : (ℕ → Bool) → List ℕ → ℕ → ℕ → Place
+past_in test [] line column = at [] line column
+past_in test (c ∷ rest) line column =
+    if test c then (if c == 10 then past_in test rest (line + 1) 1 else past_in test rest line (column + 1)) else at (c ∷ rest) line column
+
+-- the place behind the longest run of characters that pass the test
+unfoldable pub past : (ℕ → Bool) → Place → Place
+past test p = past_in test p.rest p.line p.column
+
+-- that run
+abbrev pub run : (ℕ → Bool) → List ℕ → List ℕ
+run test [] = []
+run test (c ∷ rest) = if test c then c ∷ run test rest else []
+
+abbrev pub is_empty : List ℕ → Bool
+is_empty [] = true
+is_empty (c ∷ rest) = false
+
+-- whether the text ends here
+abbrev pub is_end : Place → Bool
+is_end p = is_empty p.rest
+
+abbrev pub first_in : List ℕ → Option ℕ
+first_in [] = None
+first_in (c ∷ rest) = Some c
+
+-- the first character, where there is one
+abbrev pub first : Place → Option ℕ
+first p = first_in p.rest
+
+abbrev pub passes : (ℕ → Bool) → Option ℕ → Bool
+passes test None = false
+passes test (Some c) = test c
+
+-- whether a character is there that passes the test
+abbrev pub starts : (ℕ → Bool) → Place → Bool
+starts test p = passes test (first p)
+
+-- whether that character is the first
+abbrev pub sees : ℕ → Place → Bool
+sees c p = starts (λ d. d == c) p
+
+-- from p to q stands that character and nothing else
+abbrev pub Stands : ℕ → Place → Place → Type 0
+Stands c p q = (sees c p ≡ true) × (q ≡ next p)
+
+-- what it is for a value to stand from one place to another
+abbrev pub Rule : Type 0 → Type 1
+Rule A = Place → Place → A → Type 0
+
+-- from p to q stand these values, each directly behind the one before it
+abbrev pub AreMany : {A : Type 0} → Rule A → Place → Place → List A → Type 0
+AreMany Is p q [] = q ≡ p
+AreMany Is p q (x ∷ xs) = (m : Place) × Is p m x × AreMany Is m q xs
