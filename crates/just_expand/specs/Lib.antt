@@ -1,2 +1,3 @@
 pub mod Pieces
+pub mod Expansion
 pub mod Code

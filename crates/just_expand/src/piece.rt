@@ -1,6 +1,8 @@
 // The pieces of a text, cut off one by one.
-ghost use Rattle.std.specs.Prelude.{◌≡◌, ◌++◌, ◌∷◌, [], false, MatchOption, List, ℕ};
-ghost use Rattle.just_expand.specs.Pieces.{is_name_char, Lacks, Stands, Begins, written, IsNameRun, BeginsWithoutName};
+ghost use Rattle.std.specs.Prelude.{◌≡◌, ◌++◌, ◌∷◌, [], false, MatchOption, List, ℕ, IsTrue, ◌↔◌};
+ghost use Rattle.std.specs.Option.{option_copied};
+ghost use Rattle.just_expand.specs.Pieces.{is_name_char, Lacks, Stands, Begins, written, IsNameRun, BeginsWithoutName, unclosed};
+ghost use Rattle.just_expand.specs.Expansion.{question};
 ghost use Rattle.just_expand.specs.Code.{piece_of};
 
 use unicode::properties::{GeneralCategory, GeneralCategoryGroup, is_alphabetic};
@@ -22,6 +24,28 @@ pub(crate) enum Piece<'a> {
     Unclosed,
     /// Any other `$`.
     Lone,
+}
+
+impl<'a> Piece<'a> {
+    /// The name that the piece asks for.
+    pub(crate) fn question(&self) -> Option<&'a str>
+        ensures { option_copied result ≡ question (piece_of self.now) }
+    {
+        match self {
+            Piece::Bare(name) | Piece::Braced(name) | Piece::Defaulted(name, _) => Some(*name),
+            _ => None,
+        }
+    }
+
+    /// Whether it is a `${` that no `}` closes.
+    pub(crate) fn is_unclosed(&self) -> bool
+        ensures { IsTrue result ↔ (piece_of self.now ≡ unclosed) }
+    {
+        match self {
+            Piece::Unclosed => true,
+            _ => false,
+        }
+    }
 }
 
 /// Whether the character may stand in a name without braces.
