@@ -1,3 +1,6 @@
 pub mod Names
 pub mod Splits
 pub mod Steps
+pub mod Transfer
+pub mod Untouched
+pub mod Unique

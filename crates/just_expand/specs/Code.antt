@@ -54,3 +54,8 @@ answers {C} {E} g s n r s' = (x : Result (Option (String Global)) E) × CalledAt
 abbrev pub IsExpansion : {S E : Type 0} → (S → List ℕ → Reply E → S → Type 0) → S → List ℕ → Result (CowStr Global) (Expand E) → Type 0
 IsExpansion asks s t (Ok x) = ExpandsTo asks s t (cow_str_bytes x)
 IsExpansion asks s t (Err e) = IsCause asks s t e
+
+-- a closure that hands on the call of another, which answered what it hands on
+abbrev pub IsCallOf : {C R : Type 0} → (R → C → Type 0) → Result R NoMemory → C → Type 0
+IsCallOf called (Ok r) c = called r c
+IsCallOf called (Err e) c = ⊥
