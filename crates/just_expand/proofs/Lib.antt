@@ -4,3 +4,4 @@ pub mod Steps
 pub mod Transfer
 pub mod Untouched
 pub mod Unique
+pub mod Tildes

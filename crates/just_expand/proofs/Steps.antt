@@ -6,7 +6,8 @@ use Rattle.std.specs.declared.alloc.Global.{Global}
 use Rattle.std.specs.Fn.{CalledAt, Mut}
 use denote.Ref.{Bor}
 use Rattle.just_path.specs.declared.memory.NoMemory.{NoMemory}
-use Rattle.just_expand.specs.Code.{reply_of, tells}
+use Rattle.just_expand.specs.Code.{tells}
+use Rattle.just_expand.specs.Contexts.{reply_of}
 use Rattle.std.proofs.lemmas.Fn.{FoldsTo-push}
 use Rattle.just_expand.specs.Pieces.{Piece, Begins, Cuts, Lacks, Stands, unclosed, written}
 use Rattle.just_expand.specs.Expansion.{Reply, question, said, answered, Puts, PutsBy, Reaches}

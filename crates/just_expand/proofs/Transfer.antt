@@ -2,9 +2,12 @@
 use Rattle.std.proofs.Common.{◌≡◌, ℕ, List, [], ◌∷◌, Option, refl, sym, subst, ap}
 use Rattle.std.specs.Prelude.{Some, None, Result, Ok, Err}
 use Rattle.std.specs.List.{FoldsTo}
+use Rattle.std.specs.declared.alloc.Global.{Global}
+use Rattle.std.specs.declared.borrow.CowStr.{CowStr}
 use Rattle.just_expand.specs.Pieces.{Piece, Begins, Cuts, Lacks, plain}
 use Rattle.just_expand.specs.Expansion.{Reply, question, Puts, PutsBy, Reaches, ExpandsTo, FailsAt, MayAsk}
-use Rattle.just_expand.specs.Code.{IsCause}
+use Rattle.just_expand.specs.Contexts.{IsCause, IsExpansion}
+use Rattle.just_expand.specs.Code.{IsCallOf}
 use Rattle.just_expand.specs.declared.error.Expand.{Expand}
 use Rattle.just_expand.specs.declared.error.Expand.TheVariants as expand
 
@@ -44,5 +47,14 @@ module _ {S T E : Type 0} (a : S → List ℕ → Reply E → S → Type 0) (b :
   is_cause s t (expand.Lookup l) h = fails_at s t _ _ h
   is_cause s t expand.NoMemory h = tt
 
+  pub is_expansion : (s : S) (t : List ℕ) (r : Result (CowStr Global) (Expand E)) → IsExpansion a s t r → IsExpansion b (f s) t r
+  is_expansion s t (Ok x) h = expands_to s t _ h
+  is_expansion s t (Err e) h = is_cause s t e h
+
   pub may_ask : (may : T → List ℕ → Type 0) (may' : S → List ℕ → Type 0) → ((s : S) (n : List ℕ) → may (f s) n → may' s n) → (s : S) (t : List ℕ) → MayAsk b may (f s) t → MayAsk a may' s t
   may_ask may may' weaker s t h = λ rest out s' p behind n r g q. weaker s' n (h rest out (f s') p behind n (reaches s t rest out s' r) g q)
+
+-- what a closure hands on
+pub call_kept : {C R E : Type 0} (called : R → C → Type 0) (x : Result R E) (c : C) → IsCallOf called x c → (y : R) × called y c × (x ≡ Ok y)
+call_kept called (Ok y) c h = (y, h, refl)
+call_kept called (Err e) c h = absurd h

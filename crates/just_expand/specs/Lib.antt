@@ -1,3 +1,5 @@
 pub mod Pieces
 pub mod Expansion
+pub mod Tilde
+pub mod Contexts
 pub mod Code

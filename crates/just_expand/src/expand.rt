@@ -1,11 +1,14 @@
 // The expansion of a text's variables.
 ghost use Rattle.std.specs.Prelude.{◌≡◌, ◌++◌, ◌∷◌, [], List, ℕ, Ok, Err, MatchResult, IfOk, if◌then◌else◌, string_bytes};
-ghost use Rattle.just_expand.specs.Pieces.{written};
+ghost use Rattle.std.specs.Cow.{IsBorrowedStr};
+ghost use Rattle.just_expand.specs.Pieces.{written, Lacks};
 ghost use Rattle.just_expand.specs.Expansion.{said, unset, answered, MayAsk, ExpandsTo};
 ghost use Rattle.std.specs.Fn.{TakesAt, CalledAt};
-ghost use Rattle.just_expand.specs.Code.{piece_of, reply_of, tells, IsCause, PutOrFailed};
+ghost use Rattle.just_expand.specs.Code.{piece_of, tells, PutOrFailed};
+ghost use Rattle.just_expand.specs.Contexts.{reply_of, IsCause, IsExpansion};
 
 use std::alloc::{AllocError, Global};
+use std::borrow::CowStr;
 
 use crate::error::{Expand, LookupError};
 use crate::piece::{Piece, split_piece};
@@ -116,4 +119,27 @@ where
         rest = behind;
     }
     Ok(out)
+}
+
+/// Expands the text's variables; a text without `$` is answered as it stands.
+pub(crate) fn expand_text<'a, C, E>(
+    alloc: Global,
+    input: &'a str,
+    context: C,
+) -> Result<CowStr<'a, Global>, Expand<E>>
+where
+    C: FnMut(&str) -> Result<Result<Option<String>, E>, NoMemory> + Drop,
+    E: Drop,
+    requires { MayAsk (tells C.FnMut) (TakesAt C.FnMut) context input.now }
+    ensures expanded { IsExpansion (tells C.FnMut) context input.now result }
+    ensures borrowed { Lacks 36 input.now → result ≡ Ok (CowStr.Borrowed input.entry) }
+    ensures owned { IfOk result (λ text. IsBorrowedStr text → Lacks 36 input.now) }
+{
+    if !input.contains('$') {
+        return Ok(CowStr::Borrowed(input));
+    }
+    match expand(alloc, input, context) {
+        Ok(out) => Ok(CowStr::Owned(out)),
+        Err(error) => Err(error),
+    }
 }

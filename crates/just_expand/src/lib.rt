@@ -3,9 +3,11 @@
 
 mod error;
 mod expand;
+mod home;
 mod piece;
 
 pub use error::{Expand, LookupError, NotPresent, OString};
 mod text;
+mod tilde;
 
 pub use text::env_with_context;
