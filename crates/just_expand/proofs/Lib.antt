@@ -4,4 +4,4 @@ pub mod Steps
 pub mod Transfer
 pub mod Untouched
 pub mod Unique
-pub mod Tildes
+pub mod Behind

@@ -55,6 +55,10 @@ IsSureExpansion asks s t result = IfOk result (λ x. ExpandsTo asks s t (cow_str
 abbrev pub homes : {H : Type 0} → Once H (Unit {0}) (Option (String Global)) → H → Option (List ℕ) → Type 0
 homes {H} g f h = (x : Option (String Global)) × g.post f tt x × (h ≡ option_map string_bytes x)
 
+-- a home folder that is told: the home is that one
+abbrev pub home_is : Option (List ℕ) → Option (List ℕ) → Type 0
+home_is told h = h ≡ told
+
 -- the home may be asked for
 abbrev pub MayCall : {H : Type 0} → Once H (Unit {0}) (Option (String Global)) → H → Type 0
 MayCall g f = g.pre f tt

@@ -5,9 +5,11 @@ mod error;
 mod expand;
 mod home;
 mod piece;
+mod texts;
+mod tildes;
 
 pub use error::{Expand, LookupError, NotPresent, OString};
-mod text;
-mod tilde;
-
-pub use text::env_with_context;
+pub use home::{
+    full, full_with_context, full_with_context_no_errors, tilde, tilde_with_context,
+};
+pub use texts::{env, env_with_context, env_with_context_no_errors};

@@ -2,7 +2,8 @@
 ghost use Rattle.std.specs.Prelude.{◌≡◌, ◌∷◌, ◌++◌, ℕ, List, IfOk, string_bytes};
 ghost use Rattle.std.specs.Cow.{cow_str_bytes};
 ghost use Rattle.std.specs.Bool.{MatchBool};
-ghost use Rattle.std.specs.Option.{MatchOption, IsNone};
+ghost use Rattle.std.specs.Option.{MatchOption, IsNone, option_map};
+ghost use Rattle.just_expand.specs.Contexts.{MayCall, homes};
 ghost use Rattle.just_expand.specs.Pieces.{Lacks, BeginsWithout};
 ghost use Rattle.just_expand.specs.Tilde.{IsTilde, HasNoTilde, GainsTilde, IsBrought, StaysFull};
 
@@ -63,9 +64,20 @@ pub(crate) fn behind_own_tilde<'t>(
 }
 
 /// The home folder, and behind it the rest of the text.
-pub(crate) fn put_home(mut home: String, behind: &str) -> Result<String, AllocError>
-    ensures { IfOk result (λ out. string_bytes out ≡ string_bytes home ++ behind.now) }
+pub(crate) fn put_home(alloc: Global, home: &str, behind: &str) -> Result<String, AllocError>
+    ensures { IfOk result (λ out. string_bytes out ≡ home.now ++ behind.now) }
 {
-    home.push_str(behind)?;
-    Ok(home)
+    let mut out = String::from_str(alloc, home)?;
+    out.push_str(behind)?;
+    Ok(out)
+}
+
+/// Asks for the home folder.
+pub(crate) fn ask_home<H>(home_dir: H) -> Option<String>
+where
+    H: FnOnce() -> Option<String>,
+    requires { MayCall H.FnOnce home_dir }
+    ensures { homes H.FnOnce home_dir (option_map string_bytes result) }
+{
+    home_dir()
 }

@@ -3,7 +3,7 @@ use Rattle.std.specs.Fn.{CalledAt, TakesAt}
 use Rattle.just_expand.specs.Contexts.{answers}
 use Rattle.just_expand.proofs.Transfer.{is_expansion, may_ask}
 use Rattle.just_expand.proofs.Unique.{one_cut}
-use Rattle.just_expand.proofs.text.env_with_context.Goals as goal
+use Rattle.just_expand.proofs.texts.env_with_context.Goals as goal
 
 pub expand_text-requires : goal.expand_text-requires
 expand_text-requires g c =

@@ -1,4 +1,4 @@
-use Rattle.just_expand.proofs.tilde.begins_with_tilde.Goals as goal
+use Rattle.just_expand.proofs.tildes.begins_with_tilde.Goals as goal
 
 pub returns-in-None : goal.returns-in-None
 unfolding lib.Utf8.encode

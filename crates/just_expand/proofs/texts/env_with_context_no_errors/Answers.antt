@@ -2,7 +2,7 @@ use Rattle.std.proofs.Common.{subst, ◌∙◌, ap}
 use Rattle.std.specs.Fn.{CalledAt, TakesAt}
 use Rattle.just_expand.specs.Contexts.{always, reply_of}
 use Rattle.just_expand.proofs.Transfer.{expands_to, may_ask, call_kept}
-use Rattle.just_expand.proofs.text.env_with_context_no_errors.Goals as goal
+use Rattle.just_expand.proofs.texts.env_with_context_no_errors.Goals as goal
 
 pub env_with_context-expanded-requires : goal.env_with_context-expanded-requires
 env_with_context-expanded-requires g c =

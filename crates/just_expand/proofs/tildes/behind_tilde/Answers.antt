@@ -1,7 +1,7 @@
 use Rattle.std.proofs.Common.{lit<, sym}
 use Rattle.just_expand.proofs.Splits.{not_empty}
-use Rattle.just_expand.proofs.Tildes.{strip_some, other_tilde}
-use Rattle.just_expand.proofs.tilde.behind_tilde.Goals as goal
+use Rattle.just_expand.proofs.Behind.{strip_some, other_tilde}
+use Rattle.just_expand.proofs.tildes.behind_tilde.Goals as goal
 
 pub returns-in_default : goal.returns-in_default
 unfolding lib.Utf8.encode
