@@ -5,3 +5,4 @@ pub mod Transfer
 pub mod Untouched
 pub mod Unique
 pub mod Behind
+pub mod OverPaths

@@ -3,3 +3,4 @@ pub mod Expansion
 pub mod Tilde
 pub mod Contexts
 pub mod Code
+pub mod Paths

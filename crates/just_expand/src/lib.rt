@@ -4,6 +4,7 @@
 mod error;
 mod expand;
 mod home;
+pub mod path;
 mod piece;
 mod texts;
 mod tildes;
