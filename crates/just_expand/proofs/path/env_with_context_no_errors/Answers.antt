@@ -1,0 +1,19 @@
+use Rattle.std.proofs.Common.{sym, subst, ◌≡◌, ℕ, List}
+use Rattle.std.specs.Fn.{TakesAt}
+use Rattle.just_path.specs.Path.{text_of}
+use Rattle.just_expand.specs.Pieces.{Lacks, BeginsWithout}
+use Rattle.just_expand.specs.Expansion.{MayAsk, ExpandsTo}
+use Rattle.just_expand.specs.Tilde.{IsTilde, HasNoTilde, MayAskHome, TildeTo, FullTo}
+use Rattle.just_expand.specs.Contexts.{answers, always, environ_answers, homes, home_is, MayCall}
+use Rattle.just_path.specs.Environ.{home_of}
+use Rattle.just_expand.proofs.OverPaths.{sure, expansion, full_expansion, same_path}
+use Rattle.just_expand.proofs.path.env_with_context_no_errors.Goals as goal
+
+pub env_with_context_no_errors-requires : goal.env_with_context_no_errors-requires
+env_with_context_no_errors-requires g c = subst (λ t. MayAsk (always g.C.FnMut) (TakesAt g.C.FnMut) c.args.context t) (sym c.as_str.ensures) c.requires
+
+pub returns-clause-expanded : goal.returns-clause-expanded
+returns-clause-expanded g c = sure (ExpandsTo (always g.C.FnMut) c.args.context) c.as_str.result.now (text_of c.args.input) _ _ c.as_str.ensures c.as_path.ensures c.env_with_context_no_errors.ensures.expanded
+
+pub returns-clause-borrowed : goal.returns-clause-borrowed
+returns-clause-borrowed g c = λ h0. same_path c.as_str.result (text_of c.args.input) _ _ (c.env_with_context_no_errors.ensures.borrowed (subst (Lacks 36) (sym c.as_str.ensures) h0)) c.as_path.ensures c.as_str.ensures

@@ -1,0 +1,16 @@
+use Rattle.std.proofs.Common.{sym, subst, ◌≡◌, ℕ, List}
+use Rattle.std.specs.Fn.{TakesAt}
+use Rattle.just_path.specs.Path.{text_of}
+use Rattle.just_expand.specs.Pieces.{Lacks, BeginsWithout}
+use Rattle.just_expand.specs.Expansion.{MayAsk, ExpandsTo}
+use Rattle.just_expand.specs.Tilde.{IsTilde, HasNoTilde, MayAskHome, TildeTo, FullTo}
+use Rattle.just_expand.specs.Contexts.{answers, always, environ_answers, homes, home_is, MayCall}
+use Rattle.just_path.specs.Environ.{home_of}
+use Rattle.just_expand.proofs.OverPaths.{sure, expansion, full_expansion, same_path}
+use Rattle.just_expand.proofs.path.tilde.Goals as goal
+
+pub returns-clause-expanded : goal.returns-clause-expanded
+returns-clause-expanded c = sure (TildeTo (home_is (home_of c.args.environ.now.pairs))) c.as_str.result.now (text_of c.args.input) _ _ c.as_str.ensures c.as_path.ensures c.tilde.ensures.expanded
+
+pub returns-clause-borrowed : goal.returns-clause-borrowed
+returns-clause-borrowed c = λ h0. same_path c.as_str.result (text_of c.args.input) _ _ (c.tilde.ensures.borrowed (subst (HasNoTilde) (sym c.as_str.ensures) h0)) c.as_path.ensures c.as_str.ensures

@@ -1,0 +1,6 @@
+pub mod Pieces
+pub mod Expansion
+pub mod Tilde
+pub mod Contexts
+pub mod Code
+pub mod Paths

@@ -1,0 +1,84 @@
+// What an expansion may be refused for.
+ghost use Rattle.std.specs.Prelude.{Some, codes, string_bytes, ◌++◌, ◌≡◌};
+ghost use Rattle.std.specs.Fmt.{option_append};
+
+use std::alloc::AllocError;
+use std::error::Error;
+use std::fmt;
+
+use just_path::NoMemory;
+
+/// The type of owned texts.
+pub type OString = String;
+
+/// A name that the context answered with an error.
+#[derive(Debug, PartialEq, Eq, Drop)]
+pub struct LookupError<E> {
+    /// The name as it stands in the text.
+    pub var_name: OString,
+    /// The context's error.
+    pub cause: E,
+}
+
+impl<E: fmt::Display> fmt::Display for LookupError<E> {
+    ghost output = { λ l. option_append (Some (codes "error looking key '" ++ (string_bytes l.var_name ++ codes "' up: "))) (E.output l.cause) };
+
+    fn fmt<W: fmt::Write>(&self, f: &mut fmt::Formatter<W>) -> fmt::Result {
+        write!(f, "error looking key '{}' up: {}", self.var_name, self.cause)
+    }
+}
+
+impl<E: Error> Error for LookupError<E> {}
+
+/// Why a text has no expansion.
+#[derive(Debug, PartialEq, Eq, Drop)]
+pub enum Expand<E> {
+    /// The context's error at a name without a default: the first in the text.
+    Lookup(LookupError<E>),
+    NoMemory,
+}
+
+impl<E> From<AllocError> for Expand<E> {
+    ghost use Rattle.just_expand.specs.declared.error.Expand.TheVariants as expand;
+
+    ghost from_gives = { λ _ e. e ≡ expand.NoMemory };
+
+    fn from(_refused: AllocError) -> Expand<E> {
+        Expand::NoMemory
+    }
+}
+
+impl<E> From<NoMemory> for Expand<E> {
+    ghost use Rattle.just_expand.specs.declared.error.Expand.TheVariants as expand;
+
+    ghost from_gives = { λ _ e. e ≡ expand.NoMemory };
+
+    fn from(_refused: NoMemory) -> Expand<E> {
+        Expand::NoMemory
+    }
+}
+
+impl<E: fmt::Display> fmt::Display for Expand<E> {
+    fn fmt<W: fmt::Write>(&self, f: &mut fmt::Formatter<W>) -> fmt::Result {
+        match self {
+            Expand::Lookup(error) => write!(f, "{error}"),
+            Expand::NoMemory => f.write_str("out of memory"),
+        }
+    }
+}
+
+impl<E: Error> Error for Expand<E> {}
+
+/// The error of a name that the environment doesn't have.
+#[derive(Clone, Copy, Debug, PartialEq, Eq, Hash)]
+pub struct NotPresent;
+
+impl fmt::Display for NotPresent {
+    ghost output = { λ _. Some (codes "environment variable not found") };
+
+    fn fmt<W: fmt::Write>(&self, f: &mut fmt::Formatter<W>) -> fmt::Result {
+        f.write_str("environment variable not found")
+    }
+}
+
+impl Error for NotPresent {}

@@ -1,0 +1,145 @@
+// The expansion of a text's variables.
+ghost use Rattle.std.specs.Prelude.{◌≡◌, ◌++◌, ◌∷◌, [], List, ℕ, Ok, Err, MatchResult, IfOk, if◌then◌else◌, string_bytes};
+ghost use Rattle.std.specs.Cow.{IsBorrowedStr};
+ghost use Rattle.just_expand.specs.Pieces.{written, Lacks};
+ghost use Rattle.just_expand.specs.Expansion.{said, unset, answered, MayAsk, ExpandsTo};
+ghost use Rattle.std.specs.Fn.{TakesAt, CalledAt};
+ghost use Rattle.just_expand.specs.Code.{piece_of, tells, PutOrFailed};
+ghost use Rattle.just_expand.specs.Contexts.{reply_of, IsCause, IsExpansion};
+
+use std::alloc::{AllocError, Global};
+use std::borrow::CowStr;
+
+use crate::error::{Expand, LookupError};
+use crate::piece::{Piece, split_piece};
+use just_path::NoMemory;
+
+/// Puts the piece out as it is written.
+fn put_written(out: &mut String, piece: Piece<'_>) -> Result<(), AllocError>
+    ensures { IfOk result (λ _. string_bytes out.new ≡ string_bytes out.old ++ written (piece_of piece.entry)) }
+{
+    match piece {
+        Piece::Plain(text) => out.push_str(text),
+        Piece::Dollar => out.push_str("$$"),
+        Piece::Bare(name) => {
+            out.push_str("$")?;
+            out.push_str(name)
+        }
+        Piece::Braced(name) => {
+            out.push_str("${")?;
+            out.push_str(name)?;
+            out.push_str("}")
+        }
+        Piece::Defaulted(name, default) => {
+            out.push_str("${")?;
+            out.push_str(name)?;
+            out.push_str(":-")?;
+            out.push_str(default)?;
+            out.push_str("}")
+        }
+        Piece::Unclosed => out.push_str("${"),
+        Piece::Lone => out.push_str("$"),
+    }
+}
+
+/// Puts out a piece that asks for nothing.
+fn put_said(out: &mut String, piece: Piece<'_>) -> Result<(), AllocError>
+    ensures { IfOk result (λ _. string_bytes out.new ≡ string_bytes out.old ++ said (piece_of piece.entry)) }
+{
+    match piece {
+        Piece::Dollar => out.push_str("$"),
+        _ => put_written(out, piece),
+    }
+}
+
+/// Puts out a piece whose name has no value.
+fn put_unset(out: &mut String, piece: Piece<'_>) -> Result<(), AllocError>
+    ensures { IfOk result (λ _. string_bytes out.new ≡ string_bytes out.old ++ unset (piece_of piece.entry)) }
+{
+    match piece {
+        Piece::Defaulted(_, default) => out.push_str(default),
+        _ => put_written(out, piece),
+    }
+}
+
+/// Puts out what a piece that asks for `name` becomes by the answer.
+fn put_answered<E: Drop>(
+    alloc: Global,
+    out: &mut String,
+    piece: Piece<'_>,
+    name: &str,
+    reply: Result<Option<String>, E>,
+) -> Result<(), Expand<E>>
+    ensures { PutOrFailed (string_bytes out.old) (string_bytes out.new) name.now (answered (piece_of piece.entry) (reply_of reply)) result }
+{
+    match reply {
+        Ok(Some(value)) => out.push_str(value.as_str())?,
+        Ok(None) => put_unset(out, piece)?,
+        Err(cause) => match piece {
+            Piece::Defaulted(_, default) => out.push_str(default)?,
+            _ => {
+                let var_name = String::from_str(alloc, name)?;
+                return Err(Expand::Lookup(LookupError { var_name, cause }));
+            }
+        },
+    }
+    Ok(())
+}
+
+/// Asks the context for a name.
+fn ask<C, E>(context: &mut C, name: &str) -> Result<Result<Option<String>, E>, NoMemory>
+where
+    C: FnMut(&str) -> Result<Result<Option<String>, E>, NoMemory>,
+    requires { TakesAt C.FnMut context.old name.now }
+    ensures { CalledAt C.FnMut context.old name.now result context.new }
+{
+    context(name)
+}
+
+/// Expands the text's variables. `context` answers the names; it may itself be out of memory.
+pub(crate) fn expand<C, E>(alloc: Global, input: &str, mut context: C) -> Result<String, Expand<E>>
+where
+    C: FnMut(&str) -> Result<Result<Option<String>, E>, NoMemory> + Drop,
+    E: Drop,
+    requires { MayAsk (tells C.FnMut) (TakesAt C.FnMut) context input.now }
+    ensures { MatchResult result (λ out. ExpandsTo (tells C.FnMut) context input.now (string_bytes out)) (IsCause (tells C.FnMut) context input.now) }
+{
+    let mut out = String::new(alloc);
+    let mut rest = input;
+    let mut may_close = true;
+    while let Some((piece, behind)) = split_piece(rest, may_close) {
+        match piece.question() {
+            None => put_said(&mut out, piece)?,
+            Some(name) => {
+                let reply = ask(&mut context, name)?;
+                put_answered(alloc, &mut out, piece, name, reply)?;
+            }
+        }
+        may_close = may_close && !piece.is_unclosed();
+        rest = behind;
+    }
+    Ok(out)
+}
+
+/// Expands the text's variables; a text without `$` is answered as it stands.
+pub(crate) fn expand_text<'a, C, E>(
+    alloc: Global,
+    input: &'a str,
+    context: C,
+) -> Result<CowStr<'a, Global>, Expand<E>>
+where
+    C: FnMut(&str) -> Result<Result<Option<String>, E>, NoMemory> + Drop,
+    E: Drop,
+    requires { MayAsk (tells C.FnMut) (TakesAt C.FnMut) context input.now }
+    ensures expanded { IsExpansion (tells C.FnMut) context input.now result }
+    ensures borrowed { Lacks 36 input.now → result ≡ Ok (CowStr.Borrowed input.entry) }
+    ensures owned { IfOk result (λ text. IsBorrowedStr text → Lacks 36 input.now) }
+{
+    if !input.contains('$') {
+        return Ok(CowStr::Borrowed(input));
+    }
+    match expand(alloc, input, context) {
+        Ok(out) => Ok(CowStr::Owned(out)),
+        Err(error) => Err(error),
+    }
+}
