@@ -1,5 +1,5 @@
 -- The error of a node that failed.
-use Rattle.std.specs.Prelude.{ℕ, ◌≡◌, ◌-◌, true, List, [], ◌∷◌, length, slice_get, Option, Some, None}
+use Rattle.std.specs.Prelude.{ℕ, ◌≡◌, ◌-◌, ◌<◌, ◌⊎◌, true, List, [], ◌∷◌, length, slice_get, Option, Some, None}
 use Rattle.std.specs.List.{last_or}
 use Rattle.just_host.specs.declared.entry.Call.TheVariants as call
 use Rattle.just_host.specs.declared.entry.HostFault.TheVariants as fault
@@ -8,6 +8,8 @@ use Rattle.just_host.specs.declared.entry.Status.TheVariants as status
 use Rattle.just_host.specs.Record.{text_or_empty}
 use Rattle.just_sched.specs.declared.event.Event.{Event}
 use Rattle.just_sched.specs.declared.event.Reason.{Reason}
+use Rattle.just_sched.specs.declared.event.Verdict.{Verdict}
+use Rattle.just_sched.specs.declared.event.Verdict.TheVariants as verdict
 use Rattle.just_sched.specs.declared.event.Reason.TheVariants as reason
 use Rattle.just_sched.specs.declared.plan_node.PlanNode.{PlanNode}
 use Rattle.just_sched.specs.declared.work.Command.{Command}
@@ -51,3 +53,18 @@ error_in None h n = error.NoMemory
 -- the error of the node of that number
 abbrev pub node_error : List PlanNode → List Event → ℕ → Error
 node_error nodes h n = error_in (slice_get nodes n) h n
+
+-- the node that a verdict names is one of so many
+abbrev pub NamesNode : Verdict → ℕ → Type 0
+NamesNode verdict.Well count = Unit {0}
+NamesNode (verdict.Failed n) count = n < count
+NamesNode (verdict.Interrupted signal) count = Unit {0}
+NamesNode verdict.NoMemory count = Unit {0}
+
+-- the error of a run of that verdict: none where it went well, else that of the node that the verdict names; want of memory
+-- may come in its place. Signals aren't asked for yet
+abbrev pub IsErrorFor : List PlanNode → List Event → Verdict → Option Error → Type 0
+IsErrorFor nodes h verdict.Well e = e ≡ None
+IsErrorFor nodes h (verdict.Failed n) e = (e ≡ Some (node_error nodes h n)) ⊎ (e ≡ Some error.NoMemory)
+IsErrorFor nodes h (verdict.Interrupted signal) e = e ≡ Some error.NoMemory
+IsErrorFor nodes h verdict.NoMemory e = e ≡ Some error.NoMemory

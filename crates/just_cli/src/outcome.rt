@@ -4,13 +4,13 @@ ghost use Rattle.std.specs.Prelude.{◌≡◌, ◌⊎◌, ◌<◌, List, Option,
 ghost use Rattle.std.specs.Option.{option_copied};
 ghost use Rattle.std.specs.List.{last_or};
 ghost use Rattle.just_host.specs.Record.{text_or_empty};
-ghost use Rattle.just_cli.specs.Outcome.{name_of as recipe_name, status_error as error_of_status, last_error as error_of_last, node_error};
+ghost use Rattle.just_cli.specs.Outcome.{name_of as recipe_name, status_error as error_of_status, last_error as error_of_last, node_error, NamesNode, IsErrorFor};
 ghost use Rattle.just_sched.specs.State.{statuses, reason_of as failure_of};
 
 use super::Error;
 use just_host::{HostFault, Status};
 use just_path::{NoMemory, Text, Utf8PathBuf};
-use just_sched::{Event, Plan, PlanNode, Reason, command, last_status, reason_of, status_count};
+use just_sched::{Event, Plan, PlanNode, Reason, Verdict, command, last_status, reason_of, status_count};
 use std::alloc::Global;
 
 /// The name of a node's recipe.
@@ -78,5 +78,17 @@ pub(crate) fn error_of(alloc: Global, plan: &Plan, history: &[Event], number: u3
             io: HostFault::Failed(call),
         },
         _ => Error::NoMemory,
+    }
+}
+
+/// The error of a run of that verdict; none where it went well.
+pub(crate) fn error_for(alloc: Global, plan: &Plan, history: &[Event], verdict: Verdict) -> Option<Error>
+    requires { NamesNode verdict (length plan.now.nodes) }
+    ensures { IsErrorFor plan.now.nodes history.now verdict result }
+{
+    match verdict {
+        Verdict::Well => None,
+        Verdict::Failed(node) => Some(error_of(alloc, plan, history, node)),
+        Verdict::NoMemory | Verdict::Interrupted(_) => Some(Error::NoMemory),
     }
 }

@@ -1,17 +1,17 @@
 //! The top calls: words and a host become a run and its end.
 
-ghost use Rattle.std.specs.Prelude.{◌≡◌, ◌++◌, [], List, Option, Some, None, map, IfOk, IfErr, MatchOption, MatchResult};
-ghost use Rattle.just_cli.specs.Ran.{Ran, Fell, Refused};
+ghost use Rattle.std.specs.Prelude.{◌≡◌, [], Option, Some, None, map, IfOk, IfErr, MatchOption};
+ghost use Rattle.just_cli.specs.Ran.{Ran, Fell, Refused, run_over};
 ghost use Rattle.just_cli.specs.Request.{AsksRun};
 ghost use Rattle.just_cli.specs.Texts.{exit_code};
 
 use super::failure::fail;
-use super::outcome::error_of;
+use super::outcome::error_for;
 use super::prepare::prepare;
 use super::{Ended, Error, Report};
 use just_host::{Host, RealHost};
 use just_path::{NoMemory, Seq};
-use just_sched::{Driven, Verdict, drive};
+use just_sched::{Driven, drive};
 use std::alloc::Global;
 use std::fs::File;
 use std::process::{Processes, SystemProcess};
@@ -19,26 +19,14 @@ use std::rt::{Files, Runtime};
 use std::sync::Wait;
 use std::thread::Threads;
 
-/// The end of a run that was driven to its end.
-fn conclude<H: Host + Drop>(alloc: Global, driven: Driven<H>) -> Ended<H>
-{
-    let Driven {
-        host,
-        plan,
-        history,
-        verdict,
-    } = driven;
-    let error = match verdict {
-        Verdict::Well => return Ended { host, result: Ok(Report { plan, history }) },
-        Verdict::Failed(node) => error_of(alloc, &plan, history.as_slice(), node),
-        Verdict::NoMemory | Verdict::Interrupted(_) => Error::NoMemory,
-    };
-    fail(alloc, host, error, Some(plan), history)
-}
-
-/// Runs what the words ask for over a host: reads the justfile of its current folder, makes the plan, and drives it.
-/// An error is told on standard error. It takes words behind the program's name.
+/// Runs what the words ask for over a host: reads the justfile of its current folder, makes the plan, and drives it to its
+/// end. An error is told on standard error. The words are those behind the program's name. It waits for the children.
 pub fn run_with<R: Threads + Wait + Sync, H: Host + Send + Drop>(rt: &R, alloc: Global, words: &[&str], host: H) -> Ended<H>
+    ensures ran { IfOk result.result (λ r. ∥ Ran r.plan r.history (H.entries host) (H.entries result.host) ∥₁) }
+    ensures asked { MatchOption (H.world host) (Unit {0}) (λ w. IfOk result.result (λ r. ∥ AsksRun (map (λ x. x.now) words.now) w r.plan.nodes r.plan.invocations ∥₁)) }
+    ensures failed { IfErr result.result (λ f. MatchOption f.plan (∥ Refused f.error (H.entries host) (H.entries result.host) ∥₁) (λ p. ∥ Fell p f.history f.error (H.entries host) (H.entries result.host) ∥₁)) }
+    ensures unplanned { IfErr result.result (λ f. f.plan ≡ None → f.history ≡ []) }
+    ensures code { IfErr result.result (λ f. f.code ≡ exit_code f.error) }
 {
     let mut host = host;
     let plan = match prepare(alloc, words, &mut host) {
@@ -46,7 +34,35 @@ pub fn run_with<R: Threads + Wait + Sync, H: Host + Send + Drop>(rt: &R, alloc: 
         Err(error) => return fail(alloc, host, error, None, Seq::new(alloc)),
     };
     match drive(rt, alloc, plan, host, None) {
-        Ok(driven) => conclude(alloc, driven),
+        Ok(Driven {
+            host,
+            plan,
+            history,
+            verdict,
+        }) => match error_for(alloc, &plan, history.as_slice(), verdict) {
+            None => Ended {
+                host,
+                result: Ok(Report { plan, history }),
+            },
+            Some(error) => fail(alloc, host, error, Some(plan), history),
+        },
         Err((host, _plan)) => fail(alloc, host, Error::NoMemory, None, Seq::new(alloc)),
     }
+}
+
+/// Runs what the words ask for over the files, the environment and the processes of the system, as `run_with` does over a
+/// host. The only refusal is want of memory.
+pub fn run<R>(rt: &R, alloc: Global, words: &[&str]) -> Result<Ended<RealHost<R>>, NoMemory>
+where
+    R: Runtime + Files<File = File> + Processes<Started = SystemProcess> + Threads + Wait + Send + Sync,
+    R::Dir: Send,
+    R::Reader: Send,
+    R::A: Send,
+    ensures ran { IfOk result (λ d. IfOk d.result (λ r. ∥ Ran r.plan r.history [] d.host.log.entries.items ∥₁)) }
+    ensures failed { IfOk result (λ d. IfErr d.result (λ f. MatchOption f.plan (∥ Refused f.error [] d.host.log.entries.items ∥₁) (λ p. ∥ Fell p f.history f.error [] d.host.log.entries.items ∥₁))) }
+    ensures unplanned { IfOk result (λ d. IfErr d.result (λ f. f.plan ≡ None → f.history ≡ [])) }
+    ensures code { IfOk result (λ d. IfErr d.result (λ f. f.code ≡ exit_code f.error)) }
+{
+    let host = RealHost::new(rt, alloc)?;
+    Ok(run_with(rt, alloc, words, host))
 }

@@ -1,0 +1,9 @@
+//! Tests that cross crates: whole runs over a host in memory and over the real one.
+#![tactic(auto)]
+
+#[cfg(test)]
+mod answers;
+#[cfg(test)]
+mod hosts;
+#[cfg(test)]
+mod runs;
