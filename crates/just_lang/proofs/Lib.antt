@@ -16,3 +16,4 @@ pub mod Grown
 pub mod Closed
 pub mod Forward
 pub mod Faults
+pub mod Misnamed
