@@ -1,22 +1,9 @@
 -- The first line outside the form, by the kinds of the lines.
-use Rattle.std.proofs.Common.{◌≡◌, ◌≢◌, ℕ, zero, suc, ◌+◌, ◌<◌, ◌≤◌, ◌&&◌, ◌||◌, not, min, if◌then◌else◌, Bool, true, false, List, [], ◌∷◌, ◌++◌, length, map, get_or, bytes_eq, Option, Some, None, ◌⊎◌, inl, inr, refl, ap, sym, ◌∙◌, arith, subst, append_assoc}
-use Rattle.std.specs.List.{All, Contains, list_any, list_all}
-use Rattle.std.proofs.lemmas.Grind.{common_steps}
-use Rattle.just_lang.specs.declared.ast.AstItem.{AstItem}
-use Rattle.just_lang.specs.declared.ast.Dependency.{Dependency}
-use Rattle.just_lang.specs.declared.ast.Modulepath.{Modulepath}
+use Rattle.std.proofs.Common.{◌≡◌, ℕ, ◌+◌, ◌≤◌, if◌then◌else◌, Bool, true, false, List, [], ◌∷◌, ◌++◌, length, Option, Some, None, refl, ap, arith, subst, append_assoc}
 use Rattle.just_lang.specs.declared.grammar.line.Header.{Header}
 use Rattle.just_lang.specs.declared.grammar.kind.Kind.{Kind}
 use Rattle.just_lang.specs.declared.grammar.kind.Kind.TheVariants as k
-use Rattle.just_lang.specs.Keys.{same_path, same_lists}
-use Rattle.just_lang.specs.Names.{path_of}
-use Rattle.just_lang.specs.Form.{IsHeader, AreItems}
-use Rattle.just_lang.specs.Kinds.{Above, nothing, below, HasKind, IsKind, IsHeaderAt, AreKinds, Made, made, build, headers_of, is_borne, is_known, fits_between, first_misfit, first_outside, sooner}
-use Rattle.just_lang.specs.Outside.{IsMisnamed, twice, missing, AreFit, IsFirstOutside}
-use Rattle.just_lang.proofs.OneKind.{one_kind}
-use Rattle.just_lang.proofs.ItemsRead.{are_items}
-use Rattle.just_lang.proofs.ItemsOnly.{items_make, Wholly}
-use Rattle.just_lang.proofs.NamesRead.{bytes_same, bytes_self, same_single, both_true}
+use Rattle.just_lang.specs.Kinds.{Above, below, HasKind, AreKinds, headers_of, fits_between, first_misfit, first_outside, sooner}
 
 -- the number of the first line that is outside or misnamed, from line n on, below these recipe lines
 abbrev pub fault : List Header → ℕ → List Kind → Option ℕ
@@ -56,8 +43,8 @@ misfit_late hs n a (l ∷ ls) (k.Blank ∷ ks) h = later n (first_misfit hs (hea
 misfit_late hs n a (l ∷ ls) (k.Comment t ∷ ks) h = later n (first_misfit hs (headers_of ks)) (misfit_late hs (n + 1) (below a l (k.Comment t)) ls ks h.1)
 misfit_late hs n a (l ∷ ls) (k.Header x ∷ ks) h =
     late_choice n (fits_between hs x (headers_of ks)) (first_misfit (hs ++ x ∷ []) (headers_of ks)) (Some x.line)
-      (later n (first_misfit (hs ++ x ∷ []) (headers_of ks)) (misfit_late (hs ++ x ∷ []) (n + 1) (below a l (k.Header x)) ls ks h.1))
-      (let same : x.line ≡ n = h.0.1 in omega arith)
+    (later n (first_misfit (hs ++ x ∷ []) (headers_of ks)) (misfit_late (hs ++ x ∷ []) (n + 1) (below a l (k.Header x)) ls ks h.1))
+    (let same : x.line ≡ n = h.0.1 in omega arith)
 misfit_late hs n a (l ∷ ls) (k.Body t ∷ ks) h = later n (first_misfit hs (headers_of ks)) (misfit_late hs (n + 1) (below a l (k.Body t)) ls ks h.1)
 misfit_late hs n a (l ∷ ls) (k.Outside ∷ ks) h = later n (first_misfit hs (headers_of ks)) (misfit_late hs (n + 1) (below a l k.Outside) ls ks h.1)
 
@@ -81,7 +68,7 @@ fault_same hs n a (l ∷ ls) (k.Blank ∷ ks) h = fault_same hs (n + 1) (below a
 fault_same hs n a (l ∷ ls) (k.Comment t ∷ ks) h = fault_same hs (n + 1) (below a l (k.Comment t)) ls ks h.1
 fault_same hs n a (l ∷ ls) (k.Header x ∷ ks) h =
     soon_choice n x.line (fits_between hs x (headers_of ks)) (first_outside (n + 1) ks) (first_misfit (hs ++ x ∷ []) (headers_of ks)) (fault (hs ++ x ∷ []) (n + 1) ks)
-      h.0.1 (later n (first_outside (n + 1) ks) (outside_late (n + 1) ks)) (fault_same (hs ++ x ∷ []) (n + 1) (below a l (k.Header x)) ls ks h.1)
+    h.0.1 (later n (first_outside (n + 1) ks) (outside_late (n + 1) ks)) (fault_same (hs ++ x ∷ []) (n + 1) (below a l (k.Header x)) ls ks h.1)
 fault_same hs n a (l ∷ ls) (k.Body t ∷ ks) h = fault_same hs (n + 1) (below a l (k.Body t)) ls ks h.1
 fault_same hs n a (l ∷ ls) (k.Outside ∷ ks) h = soon_left n (first_misfit hs (headers_of ks)) (later n (first_misfit hs (headers_of ks)) (misfit_late hs (n + 1) (below a l k.Outside) ls ks h.1))
 
@@ -140,14 +127,18 @@ locate hs n (k.Body t ∷ ks) m e =
 locate hs n (k.Outside ∷ ks) m e = at_front hs n k.Outside ks m e tt
 locate hs n (k.Header h ∷ ks) m e =
     elim (fits_between hs h (headers_of ks)) as (λ b. fits_between hs h (headers_of ks) ≡ b → (if b then fault (hs ++ h ∷ []) (n + 1) ks else Some n) ≡ Some m → Located hs n (k.Header h ∷ ks) m) [
-      true ↦ λ f g.
-        (let r = locate (hs ++ h ∷ []) (n + 1) ks m g in
-        record {
-          front = k.Header h ∷ r.front; here = r.here; tail = r.tail; split = ap (λ (ys : List Kind). k.Header h ∷ ys) r.split;
-          number = longer n m (k.Header h) r.front r.number; inside = r.inside;
-          fine = (subst (λ (ys : List Kind). fits_between hs h (headers_of ys) ≡ true) r.split f, r.fine);
-          bad = subst (λ (ys : List Header). IsBad ys r.here r.tail) (append_assoc hs (h ∷ []) (headers_of r.front)) r.bad
-        })
+      | true ↦ λ f g.
+          (let r = locate (hs ++ h ∷ []) (n + 1) ks m g in
+          record {
+            front = k.Header h ∷ r.front;
+            here = r.here;
+            tail = r.tail;
+            split = ap (λ (ys : List Kind). k.Header h ∷ ys) r.split;
+            number = longer n m (k.Header h) r.front r.number;
+            inside = r.inside;
+            fine = (subst (λ (ys : List Kind). fits_between hs h (headers_of ys) ≡ true) r.split f, r.fine);
+            bad = subst (λ (ys : List Header). IsBad ys r.here r.tail) (append_assoc hs (h ∷ []) (headers_of r.front)) r.bad;
+          })
       | false ↦ λ f g. at_front hs n (k.Header h) ks m g f
     ] refl e
 
@@ -174,8 +165,18 @@ cut_lines n a (l ∷ ls) [] here tail h =
 cut_lines n a (l ∷ ls) (x ∷ front) here tail h =
     let r = cut_lines (n + 1) (below a l x) ls front here tail h.1 in
     record {
-      above = l ∷ r.above; line = r.line; below_line = r.below_line; split = ap (λ (ys : List (List ℕ)). l ∷ ys) r.split; len = omega (arith, r.len);
-      number = r.number; stands = r.stands; follows = r.follows; are_above = (h.0, r.are_above); has = r.has; are_below = r.are_below; with_line = (h.0, r.with_line)
+      above = l ∷ r.above;
+      line = r.line;
+      below_line = r.below_line;
+      split = ap (λ (ys : List (List ℕ)). l ∷ ys) r.split;
+      len = omega (arith, r.len);
+      number = r.number;
+      stands = r.stands;
+      follows = r.follows;
+      are_above = (h.0, r.are_above);
+      has = r.has;
+      are_below = r.are_below;
+      with_line = (h.0, r.with_line);
     }
 
 -- .. cut at a line

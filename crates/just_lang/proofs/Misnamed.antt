@@ -1,8 +1,7 @@
 -- Misnamed recipe lines, by the recipe lines around them.
-use Rattle.std.proofs.Common.{◌≡◌, ◌≢◌, ℕ, zero, suc, ◌+◌, ◌<◌, ◌≤◌, ◌&&◌, ◌||◌, not, if◌then◌else◌, Bool, true, false, List, [], ◌∷◌, ◌++◌, length, map, get_or, bytes_eq, Option, Some, None, ◌⊎◌, inl, inr, ⊎_elim, refl, ap, sym, ◌∙◌, arith, subst, append_assoc}
+use Rattle.std.proofs.Common.{◌≡◌, ◌≢◌, ℕ, zero, suc, ◌+◌, ◌&&◌, ◌||◌, not, if◌then◌else◌, Bool, true, false, List, [], ◌∷◌, ◌++◌, length, map, bytes_eq, Option, Some, None, ◌⊎◌, inl, inr, ⊎_elim, refl, ap, sym, ◌∙◌, arith, subst, append_assoc}
 use Rattle.std.specs.List.{All, Contains, list_any, list_all}
 use Rattle.std.proofs.lemmas.List.Folds.{list_any-append}
-use Rattle.std.proofs.lemmas.List.Elements.{All-contains}
 use Rattle.just_lang.specs.declared.ast.AstItem.{AstItem}
 use Rattle.just_lang.specs.declared.ast.Dependency.{Dependency}
 use Rattle.just_lang.specs.declared.ast.Modulepath.{Modulepath}
@@ -10,16 +9,16 @@ use Rattle.just_lang.specs.declared.ast.Recipe.{Recipe}
 use Rattle.just_lang.specs.declared.grammar.line.Header.{Header}
 use Rattle.just_lang.specs.declared.grammar.kind.Kind.{Kind}
 use Rattle.just_lang.specs.declared.grammar.kind.Kind.TheVariants as k
-use Rattle.just_lang.specs.Keys.{same_path, same_lists}
+use Rattle.just_lang.specs.Keys.{same_path}
 use Rattle.just_lang.specs.Names.{path_of, NamesFit}
 use Rattle.just_lang.specs.Form.{IsHeader, AreItems, recipes_of}
-use Rattle.just_lang.specs.Kinds.{Above, nothing, below, HasKind, IsKind, IsHeaderAt, AreKinds, Made, made, build, headers_of, is_borne, is_known, fits_between, first_misfit, first_outside, sooner}
+use Rattle.just_lang.specs.Kinds.{Above, nothing, below, HasKind, AreKinds, Made, made, build, headers_of, is_borne, is_known, fits_between, first_misfit, first_outside, sooner}
 use Rattle.just_lang.specs.Outside.{IsMisnamed, twice, missing, AreFit, IsFirstOutside}
 use Rattle.just_lang.proofs.OneKind.{one_kind}
 use Rattle.just_lang.proofs.ItemsRead.{are_items}
-use Rattle.just_lang.proofs.ItemsOnly.{items_make, Wholly}
-use Rattle.just_lang.proofs.NamesRead.{bytes_same, bytes_self, same_single, both_true, both_false, no_self, AreOf, are_of, by_test}
-use Rattle.just_lang.proofs.Faults.{fault, fault_same, locate, Located, IsBad, AreFine, LinesCut, cut_lines, KindsCut, cut_kinds, nothing_more}
+use Rattle.just_lang.proofs.ItemsOnly.{items_make}
+use Rattle.just_lang.proofs.NamesRead.{bytes_same, bytes_self, same_single, both_true, both_false, AreOf, are_of, by_test}
+use Rattle.just_lang.proofs.Faults.{fault_same, locate, IsBad, AreFine, cut_lines, nothing_more}
 
 -- a recipe line among some lines, as it stands
 abbrev pub header_at : List ℕ → List Dependency → ℕ → Header
@@ -84,7 +83,7 @@ header_from p n a (l ∷ ls) (k.Body t ∷ ks) h e = further p l ls (header_from
 header_from p n a (l ∷ ls) (k.Outside ∷ ks) h e = further p l ls (header_from p (n + 1) (below a l k.Outside) ls ks h.1 e)
 header_from p n a (l ∷ ls) (k.Header x ∷ ks) h e =
     elim (p x) as (λ b. p x ≡ b → (b || list_any p (headers_of ks)) ≡ true → Shown p (l ∷ ls)) [
-      true ↦ λ f g. record { line = l; head = x; among = (0, omega arith, refl); is = h.0.0; passes = f }
+      | true ↦ λ f g. record { line = l; head = x; among = (0, omega arith, refl); is = h.0.0; passes = f }
       | false ↦ λ f g. further p l ls (header_from p (n + 1) (below a l (k.Header x)) ls ks h.1 g)
     ] refl e
 
@@ -99,7 +98,7 @@ fails : (p : Dependency → Bool) (ds : List Dependency) → list_all p ds ≡ f
 fails p [] e = absurd (let no : ⊥ = cc in no)
 fails p (d ∷ ds) e =
     elim (p d) as (λ b. p d ≡ b → (b && list_all p ds) ≡ false → (x : Dependency) × Contains (d ∷ ds) x × (p x ≡ false)) [
-      true ↦ λ f g. (let r = fails p ds g in (r.0, (suc r.1.0, (let le = r.1.1 in omega arith), r.1.2), r.2))
+      | true ↦ λ f g. (let r = fails p ds g in (r.0, (suc r.1.0, (let le = r.1.1 in omega arith), r.1.2), r.2))
       | false ↦ λ f g. (d, (0, omega arith, refl), f)
     ] refl e
 
@@ -124,17 +123,17 @@ pub record Between (above : List (List ℕ)) (line : List ℕ) (rest : List (Lis
 pub misnamed : (above : List (List ℕ)) (line : List ℕ) (rest : List (List ℕ)) (front tail : List Kind) (h : Header) → Between above line rest front tail → IsHeader line h.name h.priors → fits_between (headers_of front) h (headers_of tail) ≡ false → IsMisnamed above line rest
 misnamed above line rest front tail h b is e =
     ⊎_elim
-      (λ (s : is_borne h.name (headers_of front) ≡ true).
-        (let r = header_from (λ (g : Header). bytes_eq g.name h.name) b.first b.stands above front b.are_above s in
-        twice h.name h.priors r.line r.head.priors is r.among (subst (λ (name : List ℕ). IsHeader r.line name r.head.priors) (bytes_same r.head.name h.name r.passes) r.is)))
-      (λ (s : list_all (λ d. is_known (headers_of tail) d) h.priors ≡ false).
-        (let r = fails (λ (d : Dependency). is_known (headers_of tail) d) h.priors s in
-        missing h.name h.priors r.0 is r.1
-          (λ other another qs c at f.
-            (let known : is_known (headers_of tail) r.0 ≡ true = header_here (λ (g : Header). same_path r.0.path (path_of g.name)) b.next b.follows rest tail other another qs b.are_below c at (λ j. path_self r.0 another f) in
-            let unknown = r.2 in
-            let no : ⊥ = cc in no))))
-      (fits_parts (is_borne h.name (headers_of front)) (list_all (λ d. is_known (headers_of tail) d) h.priors) e)
+    (λ (s : is_borne h.name (headers_of front) ≡ true).
+    (let r = header_from (λ (g : Header). bytes_eq g.name h.name) b.first b.stands above front b.are_above s in
+    twice h.name h.priors r.line r.head.priors is r.among (subst (λ (name : List ℕ). IsHeader r.line name r.head.priors) (bytes_same r.head.name h.name r.passes) r.is)))
+    (λ (s : list_all (λ d. is_known (headers_of tail) d) h.priors ≡ false).
+    (let r = fails (λ (d : Dependency). is_known (headers_of tail) d) h.priors s in
+    missing h.name h.priors r.0 is r.1
+    (λ other another qs c at f.
+    (let known : is_known (headers_of tail) r.0 ≡ true = header_here (λ (g : Header). same_path r.0.path (path_of g.name)) b.next b.follows rest tail other another qs b.are_below c at (λ j. path_self r.0 another f) in
+    let unknown = r.2 in
+    let no : ⊥ = cc in no))))
+    (fits_parts (is_borne h.name (headers_of front)) (list_all (λ d. is_known (headers_of tail) d) h.priors) e)
 
 -- .. and the other way round
 pub misfits : (above : List (List ℕ)) (line : List ℕ) (rest : List (List ℕ)) (front tail : List Kind) (n : ℕ) (a : Above) (x : Kind) → Between above line rest front tail → HasKind n a line x → IsMisnamed above line rest → (h : Header) × (x ≡ k.Header h) × (fits_between (headers_of front) h (headers_of tail) ≡ false)
@@ -147,11 +146,11 @@ misfits above line rest front tail n a x b has (missing name ps d is c none) =
     let h : Header = header_at name ps n in
     let same = one_kind n a line (k.Header h) x (is, refl) has in
     let unknown : list_all (λ d. is_known (headers_of tail) d) ps ≡ false =
-      by_test (list_all (λ d. is_known (headers_of tail) d) ps)
-        (λ all.
-          (let known = all_passes (λ (d : Dependency). is_known (headers_of tail) d) ps d all c in
-          let r = header_from (λ (g : Header). same_path d.path (path_of g.name)) b.next b.follows rest tail b.are_below known in
-          none r.line r.head.name r.head.priors r.among r.is (path_same d r.head.name r.passes))) in
+    by_test (list_all (λ d. is_known (headers_of tail) d) ps)
+    (λ all.
+    (let known = all_passes (λ (d : Dependency). is_known (headers_of tail) d) ps d all c in
+    let r = header_from (λ (g : Header). same_path d.path (path_of g.name)) b.next b.follows rest tail b.are_below known in
+    none r.line r.head.name r.head.priors r.among r.is (path_same d r.head.name r.passes))) in
     (h, same, and_false (not (is_borne name (headers_of front))) (list_all (λ d. is_known (headers_of tail) d) ps) unknown)
 
 -- where names are fine, each recipe line's names fit
@@ -221,11 +220,14 @@ first_fault_is ls ks m are e =
     let cut = cut_lines 1 nothing ls loc.front loc.here loc.tail all in
     let between : Between cut.above cut.line cut.below_line loc.front loc.tail = record { first = 1; stands = nothing; next = cut.number + 1; follows = cut.follows; are_above = cut.are_above; are_below = cut.are_below } in
     record {
-      above = cut.above; line = cut.line; below = cut.below_line; split = cut.split;
+      above = cut.above;
+      line = cut.line;
+      below = cut.below_line;
+      split = cut.split;
       number = (let at = loc.number in let len = cut.len in let here : m ≡ length cut.above + 1 = omega arith in here);
       fit_above = (_, are_items cut.above loc.front cut.are_above loc.inside);
       named_above = named cut.above cut.line cut.below_line loc.front loc.tail loc.here (subst (λ (ys : List (List ℕ)). AreKinds 1 nothing ys (loc.front ++ loc.here ∷ loc.tail)) cut.split all) cut.len loc.fine;
-      here = here_is cut.above cut.line cut.below_line loc.front loc.here loc.tail cut.number cut.stands between cut.has cut.with_line loc.bad
+      here = here_is cut.above cut.line cut.below_line loc.front loc.here loc.tail cut.number cut.stands between cut.has cut.with_line loc.bad;
     }
 
 -- where recipes' names fit, those of their lines do
@@ -235,8 +237,8 @@ not_borne name [] (r ∷ rs) o h = absurd o
 not_borne name (g ∷ hs) [] o h = absurd o
 not_borne name (g ∷ hs) (r ∷ rs) o h =
     or_false (bytes_eq g.name name) (is_borne name hs)
-      (by_test (bytes_eq g.name name) (λ e. h 0 r (omega arith) (o.0 ∙ bytes_same g.name name e)))
-      (not_borne name hs rs o.3 (λ j d l. h (suc j) d (omega arith)))
+    (by_test (bytes_eq g.name name) (λ e. h 0 r (omega arith) (o.0 ∙ bytes_same g.name name e)))
+    (not_borne name hs rs o.3 (λ j d l. h (suc j) d (omega arith)))
 
 known_from : (d : Dependency) (hs : List Header) (rs : List Recipe) → AreOf hs rs → Contains (map (λ s. s.path) rs) d.path → is_known hs d ≡ true
 known_from d [] [] o (j, l, e) = absurd (omega arith)
@@ -267,14 +269,14 @@ names_only above (g ∷ hs) (r ∷ rs) clear o h =
     let fits : fits_between above g hs ≡ true = and_true (not (is_borne g.name above)) (list_all (λ d. is_known hs d) g.priors) (ap not free) known in
     let mine = not_borne g.name hs rs o.3 (subst (λ (name : List ℕ). All (λ (s : Recipe). s.name ≢ name) rs) o.0 h.0) in
     let next : IsClear (above ++ g ∷ []) hs = λ name e.
-      ⊎_elim
-        (λ (f : is_borne name above ≡ true). (both_false (bytes_eq g.name name) (is_borne name hs) (clear name f)).1)
-        (λ (f : is_borne name (g ∷ []) ≡ true).
-          ⊎_elim
-            (λ (same : bytes_eq g.name name ≡ true). subst (λ (t : List ℕ). is_borne t hs ≡ false) (bytes_same g.name name same) mine)
-            (λ (wrong : false ≡ true). absurd (let no : ⊥ = cc in no))
-            (or_cases (bytes_eq g.name name) false f))
-        (or_cases (is_borne name above) (is_borne name (g ∷ [])) (sym (list_any-append (λ (x : Header). bytes_eq x.name name) above (g ∷ [])) ∙ e)) in
+    ⊎_elim
+    (λ (f : is_borne name above ≡ true). (both_false (bytes_eq g.name name) (is_borne name hs) (clear name f)).1)
+    (λ (f : is_borne name (g ∷ []) ≡ true).
+    ⊎_elim
+    (λ (same : bytes_eq g.name name ≡ true). subst (λ (t : List ℕ). is_borne t hs ≡ false) (bytes_same g.name name same) mine)
+    (λ (wrong : false ≡ true). absurd (let no : ⊥ = cc in no))
+    (or_cases (bytes_eq g.name name) false f))
+    (or_cases (is_borne name above) (is_borne name (g ∷ [])) (sym (list_any-append (λ (x : Header). bytes_eq x.name name) above (g ∷ [])) ∙ e)) in
     ap (λ (b : Bool). if b then first_misfit (above ++ g ∷ []) hs else Some g.line) fits ∙ names_only (above ++ g ∷ []) hs rs next o.3 h.2
 
 -- a justfile has no fault, and its lines make its items

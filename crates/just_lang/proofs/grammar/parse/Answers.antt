@@ -51,7 +51,7 @@ returns-in-Some-clause-only c xs h =
     let same : now c.as_slice.result.now ≡ lines text = ap now c.as_slice.ensures.value ∙ c.in_ok-lines.ensures ∙ ap lines c.as_str.ensures in
     let are_kinds : AreKinds 1 nothing (lines text) ks = subst (λ (ls : List (List ℕ)). AreKinds 1 nothing ls ks) same c.in_ok-kinds.ensures in
     let fault : sooner (first_outside 1 ks) (first_misfit [] (headers_of ks)) ≡ Some c.in-Some.line =
-      ap (λ (xs : List Kind). sooner (first_outside 1 xs) (first_misfit [] (headers_of xs))) (sym c.as_slice-2.ensures.value) ∙ sym c.in_ok-line.ensures ∙ c.in-Some.is in
+    ap (λ (xs : List Kind). sooner (first_outside 1 xs) (first_misfit [] (headers_of xs))) (sym c.as_slice-2.ensures.value) ∙ sym c.in_ok-line.ensures ∙ c.in-Some.is in
     let none = (no_fault (lines text) ks xs are_kinds h.0 h.1).0 in
     absurd (let no : ⊥ = cc in no)
 
@@ -63,5 +63,5 @@ returns-in-Some-clause-err c other =
     let same : now c.as_slice.result.now ≡ lines text = ap now c.as_slice.ensures.value ∙ c.in_ok-lines.ensures ∙ ap lines c.as_str.ensures in
     let are_kinds : AreKinds 1 nothing (lines text) ks = subst (λ (ls : List (List ℕ)). AreKinds 1 nothing ls ks) same c.in_ok-kinds.ensures in
     let fault : sooner (first_outside 1 ks) (first_misfit [] (headers_of ks)) ≡ Some c.in-Some.line =
-      ap (λ (xs : List Kind). sooner (first_outside 1 xs) (first_misfit [] (headers_of xs))) (sym c.as_slice-2.ensures.value) ∙ sym c.in_ok-line.ensures ∙ c.in-Some.is in
+    ap (λ (xs : List Kind). sooner (first_outside 1 xs) (first_misfit [] (headers_of xs))) (sym c.as_slice-2.ensures.value) ∙ sym c.in_ok-line.ensures ∙ c.in-Some.is in
     (refl, c.in_ok-try_clone.ensures, refl, first_fault_is (lines text) ks c.in-Some.line are_kinds fault)
