@@ -12,6 +12,7 @@ pub mod ItemsOnly
 pub mod ItemsRead
 pub mod Lists
 pub mod Marks
+pub mod Misnamed
 pub mod NamesRead
 pub mod OneKind
 pub mod Priors

@@ -1,17 +1,15 @@
 -- A line has one kind.
-use Rattle.std.proofs.Common.{◌≡◌, ◌≢◌, ℕ, ◌+◌, ◌&&◌, ◌||◌, Bool, true, false, List, [], ◌∷◌, ◌++◌, length, nat_eq, codes, refl, ap, sym, ◌∙◌, arith, subst}
-use Rattle.std.specs.List.{list_all}
+use Rattle.std.proofs.Common.{◌≡◌, ◌≢◌, ℕ, Bool, true, List, [], ◌∷◌, ◌++◌, refl, ap, sym, ◌∙◌, arith, subst}
 use Rattle.std.proofs.lemmas.Grind.{common_steps}
 use Rattle.just_lang.specs.declared.ast.Dependency.{Dependency}
 use Rattle.just_lang.specs.declared.grammar.line.Header.{Header}
 use Rattle.just_lang.specs.declared.grammar.kind.Kind.{Kind}
 use Rattle.just_lang.specs.declared.grammar.kind.Kind.TheVariants as k
-use Rattle.just_lang.specs.Form.{is_blank, IsBlank, begins, is_name_start, is_name_part, IsName, IsGap, dependency_on, ArePriors, IsHeader, IsFirstText}
+use Rattle.just_lang.specs.Form.{is_blank, IsBlank, begins, is_name_start, IsGap, dependency_on, ArePriors, IsHeader}
 use Rattle.just_lang.specs.Kinds.{Above, nothing, header, body, IsHeaderAt, IsBodyText, IsKind, HasKind}
-use Rattle.just_lang.specs.Runs.{stops}
 use Rattle.just_lang.proofs.Cuts.{tail_passes}
-use Rattle.just_lang.proofs.Priors.{start_full, name_parts, name_stops, priors_stop, first_passes, Cut, Taken, take_prior, HeaderCut, take_header}
-use Rattle.just_lang.proofs.Bodies.{FirstCut, first_stops, take_first, same_rest}
+use Rattle.just_lang.proofs.Priors.{start_full, name_parts, name_stops, priors_stop, first_passes, Cut, take_prior, take_header}
+use Rattle.just_lang.proofs.Bodies.{first_stops, take_first, same_rest}
 
 gap_shows : (gap rest : List ℕ) → IsGap gap → [] ≡ gap ++ rest → ⊥
 gap_shows [] rest g e = g.0 refl
@@ -30,8 +28,8 @@ one_priors text (d ∷ ds) es (gap, name, rest, e, full, n, s, h) g =
 pub header_same : (x y : Header) → x.name ≡ y.name → x.priors ≡ y.priors → x.line ≡ y.line → x ≡ y
 header_same x y a b c =
     ap (λ (name : List ℕ). let h : Header = record { name = name; priors = x.priors; line = x.line } in h) a
-      ∙ ap (λ (priors : List Dependency). let h : Header = record { name = y.name; priors = priors; line = x.line } in h) b
-      ∙ ap (λ (line : ℕ). let h : Header = record { name = y.name; priors = y.priors; line = line } in h) c
+    ∙ ap (λ (priors : List Dependency). let h : Header = record { name = y.name; priors = priors; line = x.line } in h) b
+    ∙ ap (λ (line : ℕ). let h : Header = record { name = y.name; priors = y.priors; line = line } in h) c
 
 pub one_header : (n : ℕ) (l : List ℕ) (x y : Header) → IsHeaderAt n l x → IsHeaderAt n l y → x ≡ y
 one_header n l x y ((rest, e, is, h), a) (g, b) =

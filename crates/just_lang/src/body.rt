@@ -8,11 +8,7 @@ use just_path::{NoMemory, Seq, Text};
 use std::alloc::Global;
 
 /// The lines of the body of the recipe that a key names, as they are run.
-pub fn body_lines(
-    alloc: Global,
-    justfile: &Justfile,
-    key: &Key,
-) -> Result<Seq<BodyLine>, LangError>
+pub fn body_lines(alloc: Global, justfile: &Justfile, key: &Key) -> Result<Seq<BodyLine>, LangError>
     requires { is_some (recipe_of justfile.now.recipes key.now) ≡ true }
     ensures lines { IfOk result (λ ls. ls ≡ body_lines_of justfile.now.recipes key.now) }
     ensures refused { IfErr result (λ e. e ≡ LangError.NoMemory) }
