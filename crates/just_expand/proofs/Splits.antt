@@ -39,7 +39,7 @@ first_mark bs x y i j h e n = λ front rest f.
     let whole : bs ≡ front ++ ((mark ++ rest) ++ (mark ++ y)) = e ∙ ap (λ t. t ++ (mark ++ y)) f ∙ append_assoc front (mark ++ rest) (mark ++ y) in
     let m = ap length f in
     h.0 (length front) (omega (arith, m, n, length-append front (mark ++ rest))) (rest ++ (mark ++ y))
-        (ap (drop (length front)) whole ∙ drop-append_seam front ((mark ++ rest) ++ (mark ++ y)))
+    (ap (drop (length front)) whole ∙ drop-append_seam front ((mark ++ rest) ++ (mark ++ y)))
 
 pub finish_braced : (n rest : List ℕ) → n ++ (125 ∷ rest) ≡ (n ++ (125 ∷ [])) ++ rest
 finish_braced n rest = sym (append_assoc n (125 ∷ []) rest)

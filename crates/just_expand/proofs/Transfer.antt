@@ -40,7 +40,7 @@ module _ {S T E : Type 0} (a : S → List ℕ → Reply E → S → Type 0) (b :
     reply = h.reply;
     last = f h.last;
     asked = same h.state n h.reply h.last h.asked;
-    error = h.error
+    error = h.error;
   }
 
   pub is_cause : (s : S) (t : List ℕ) (e : Expand E) → IsCause a s t e → IsCause b (f s) t e

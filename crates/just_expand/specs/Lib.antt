@@ -4,3 +4,4 @@ pub mod Tilde
 pub mod Contexts
 pub mod Code
 pub mod Paths
+pub mod Errors

@@ -1,12 +1,10 @@
 // What an expansion may be refused for.
-ghost use Rattle.std.specs.Prelude.{Some, codes, string_bytes, ◌++◌, ◌≡◌};
-ghost use Rattle.std.specs.Fmt.{option_append};
+ghost use Rattle.std.specs.Prelude.{◌≡◌, Some, codes};
 
+use just_path::NoMemory;
 use std::alloc::AllocError;
 use std::error::Error;
 use std::fmt;
-
-use just_path::NoMemory;
 
 /// The type of owned texts.
 pub type OString = String;
@@ -21,10 +19,16 @@ pub struct LookupError<E> {
 }
 
 impl<E: fmt::Display> fmt::Display for LookupError<E> {
-    ghost output = { λ l. option_append (Some (codes "error looking key '" ++ (string_bytes l.var_name ++ codes "' up: "))) (E.output l.cause) };
+    ghost use Rattle.just_expand.specs.Errors.{lookup_text};
+
+    ghost output = { lookup_text E.output };
 
     fn fmt<W: fmt::Write>(&self, f: &mut fmt::Formatter<W>) -> fmt::Result {
-        write!(f, "error looking key '{}' up: {}", self.var_name, self.cause)
+        write!(
+            f,
+            "error looking key '{}' up: {}",
+            self.var_name, self.cause
+        )
     }
 }
 
@@ -59,6 +63,10 @@ impl<E> From<NoMemory> for Expand<E> {
 }
 
 impl<E: fmt::Display> fmt::Display for Expand<E> {
+    ghost use Rattle.just_expand.specs.Errors.{expand_text};
+
+    ghost output = { expand_text E.output };
+
     fn fmt<W: fmt::Write>(&self, f: &mut fmt::Formatter<W>) -> fmt::Result {
         match self {
             Expand::Lookup(error) => write!(f, "{error}"),

@@ -7,12 +7,11 @@ ghost use Rattle.std.specs.Fn.{TakesAt, CalledAt};
 ghost use Rattle.just_expand.specs.Code.{piece_of, tells, PutOrFailed};
 ghost use Rattle.just_expand.specs.Contexts.{reply_of, IsCause, IsExpansion};
 
-use std::alloc::{AllocError, Global};
-use std::borrow::CowStr;
-
 use crate::error::{Expand, LookupError};
 use crate::piece::{Piece, split_piece};
 use just_path::NoMemory;
+use std::alloc::{AllocError, Global};
+use std::borrow::CowStr;
 
 /// Puts the piece out as it is written.
 fn put_written(out: &mut String, piece: Piece<'_>) -> Result<(), AllocError>

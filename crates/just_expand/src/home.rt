@@ -8,14 +8,12 @@ ghost use Rattle.just_expand.specs.Expansion.{MayAsk, ExpandsTo};
 ghost use Rattle.just_expand.specs.Tilde.{IsTilde, HasNoTilde, MayAskHome, TildeTo, FullTo};
 ghost use Rattle.just_expand.specs.Contexts.{answers, always, environ_answers, homes, home_is, MayCall, IsFullExpansion};
 
-use std::alloc::Global;
-use std::borrow::CowStr;
-
-use just_path::{Environ, NoMemory};
-
 use crate::error::{Expand, NotPresent};
 use crate::texts::{env, env_with_context, env_with_context_no_errors};
 use crate::tildes::{ask_home, behind_own_tilde, behind_tilde, put_home};
+use just_path::{Environ, NoMemory};
+use std::alloc::Global;
+use std::borrow::CowStr;
 
 /// Puts the home folder in place of a leading tilde that stands before `/` or alone.
 pub fn tilde_with_context<'a, H>(

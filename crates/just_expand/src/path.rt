@@ -9,13 +9,11 @@ ghost use Rattle.just_expand.specs.Tilde.{IsTilde, HasNoTilde, MayAskHome, Tilde
 ghost use Rattle.just_expand.specs.Contexts.{answers, always, environ_answers, homes, home_is, MayCall};
 ghost use Rattle.just_expand.specs.Paths.{expanded_bytes, IsSamePath, IsPathResultOf, IsPathExpansion, IsFullPathExpansion};
 
-use std::alloc::Global;
-use std::borrow::CowStr;
-
-use just_path::{Environ, NoMemory, Utf8Path, Utf8PathBuf};
-
 use crate::error::{Expand, NotPresent};
 use crate::{home, texts};
+use just_path::{Environ, NoMemory, Utf8Path, Utf8PathBuf};
+use std::alloc::Global;
+use std::borrow::CowStr;
 
 /// An expanded path: the one that was given, or a new one.
 #[derive(Debug, Drop)]
@@ -63,11 +61,7 @@ where
     ensures expanded { IfOk result (λ path. ExpandsTo (always C.FnMut) context (text_of input.entry) (expanded_bytes path)) }
     ensures borrowed { Lacks 36 (text_of input.entry) → IsSamePath (text_of input.entry) result }
 {
-    as_path(texts::env_with_context_no_errors(
-        alloc,
-        input.as_str(),
-        context,
-    ))
+    as_path(texts::env_with_context_no_errors(alloc, input.as_str(), context))
 }
 
 /// Expands the variables of the path by the environment.
@@ -125,12 +119,7 @@ where
     ensures expanded { IsFullPathExpansion (answers C.FnMut) (homes H.FnOnce home_dir) context (text_of input.entry) result }
     ensures borrowed { Lacks 36 (text_of input.entry) → BeginsWithout 126 (text_of input.entry) → IsSamePath (text_of input.entry) result }
 {
-    as_path(home::full_with_context(
-        alloc,
-        input.as_str(),
-        home_dir,
-        context,
-    ))
+    as_path(home::full_with_context(alloc, input.as_str(), home_dir, context))
 }
 
 /// Expands the variables of the path by a `context` that gives no errors, and then a leading tilde, unless a variable
@@ -149,12 +138,7 @@ where
     ensures expanded { IfOk result (λ path. FullTo (always C.FnMut) (homes H.FnOnce home_dir) context (text_of input.entry) (expanded_bytes path)) }
     ensures borrowed { Lacks 36 (text_of input.entry) → BeginsWithout 126 (text_of input.entry) → IsSamePath (text_of input.entry) result }
 {
-    as_path(home::full_with_context_no_errors(
-        alloc,
-        input.as_str(),
-        home_dir,
-        context,
-    ))
+    as_path(home::full_with_context_no_errors(alloc, input.as_str(), home_dir, context))
 }
 
 /// Expands the variables of the path by the environment, and then a leading tilde by its home folder, unless a variable

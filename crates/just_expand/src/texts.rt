@@ -8,14 +8,12 @@ ghost use Rattle.just_expand.specs.Expansion.{MayAsk};
 ghost use Rattle.just_expand.specs.Code.{IsCallOf, IsLookup};
 ghost use Rattle.just_expand.specs.Contexts.{answers, always, environ_answers, IsExpansion, IsSureExpansion};
 
+use crate::error::{Expand, NotPresent};
+use crate::expand::expand_text;
+use just_path::{Environ, NoMemory};
 use std::alloc::Global;
 use std::borrow::CowStr;
 use std::convert::Infallible;
-
-use just_path::{Environ, NoMemory};
-
-use crate::error::{Expand, NotPresent};
-use crate::expand::expand_text;
 
 /// Expands the variables of the text by `context`, which is asked for each name in turn.
 pub fn env_with_context<'a, C, E>(
@@ -38,9 +36,7 @@ where
         |name: &str| -> Result<Result<Option<String>, E>, NoMemory>
             requires { TakesAt C.FnMut context name.now }
             ensures { IsCallOf (CalledAt C.FnMut context.entry name.now) result context.exit }
-        {
-            Ok(context(name))
-        },
+        { Ok(context(name)) },
     )
 }
 
@@ -63,9 +59,7 @@ where
         |name: &str| -> Result<Option<String>, Infallible>
             requires { TakesAt C.FnMut context name.now }
             ensures { IsCallOf (CalledAt C.FnMut context.entry name.now) result context.exit }
-        {
-            Ok(context(name))
-        },
+        { Ok(context(name)) },
     );
     match expanded {
         Ok(text) => Ok(text),
@@ -106,8 +100,6 @@ pub fn env<'a>(
         input,
         |name: &str| -> Result<Result<Option<String>, NotPresent>, NoMemory>
             ensures { IsLookup (value_of name.now environ.entry.now.pairs) result × (environ.exit.now.pairs ≡ environ.entry.now.pairs) }
-        {
-            look_up(alloc, environ, name)
-        },
+        { look_up(alloc, environ, name) },
     )
 }

@@ -45,10 +45,7 @@ pub(crate) fn behind_tilde(text: &str) -> Option<&str>
 
 /// What stands behind a tilde of the expanded text that calls for the home folder: none where the expansion brought
 /// the tilde to the front.
-pub(crate) fn behind_own_tilde<'t>(
-    input: &str,
-    expanded: &'t CowStr<'_, Global>,
-) -> Option<&'t str>
+pub(crate) fn behind_own_tilde<'t>(input: &str, expanded: &'t CowStr<'_, Global>) -> Option<&'t str>
     requires { Lacks 36 input.now → cow_str_bytes expanded.now ≡ input.now }
     ensures calls { MatchOption result (StaysFull input.now (cow_str_bytes expanded.now)) (λ rest. (IsBrought input.now (cow_str_bytes expanded.now) → ⊥) × IsTilde (cow_str_bytes expanded.now) rest.now) }
     ensures brought { BeginsWithout 126 input.now → IsNone result }

@@ -11,23 +11,23 @@ ask-requires g c = c.requires _ _ _ _ _ _ c.loop-piece.invariant.reached c.in-So
 pub loop-piece-preserved-then-may_close : goal.loop-piece-preserved-then-may_close
 loop-piece-preserved-then-may_close g c = record {
   reached = reaches_more (tells g.C.FnMut) _ _ _ _ _ _ _ _ _ c.loop-piece.invariant.reached c.in-Some.ensures (elim c.match-question.branch [
-      in-None+in_ok-put_said-in-None w ↦ puts_said (tells g.C.FnMut) _ _ _ _ _ (sym c.question.ensures ∙ ap option_copied w.in-None.is) w.context-is (ap string_bytes w.out-is ∙ w.in_ok-put_said-in-None.ensures)
+    | in-None+in_ok-put_said-in-None w ↦ puts_said (tells g.C.FnMut) _ _ _ _ _ (sym c.question.ensures ∙ ap option_copied w.in-None.is) w.context-is (ap string_bytes w.out-is ∙ w.in_ok-put_said-in-None.ensures)
     | in-Some-question+in_ok-reply-in-Some-question+in_ok-put_answered-in-Some-question w ↦
         let put = w.in_ok-put_answered-in-Some-question.ensures in
         puts_told g.C.FnMut _ _ w.in_ok-reply-in-Some-question.reply put.0 _ _ _ _ _ _ (sym c.question.ensures ∙ ap option_copied w.in-Some-question.is) w.ask.ensures w.in_ok-reply-in-Some-question.was put.1 w.context-is (ap string_bytes w.out-is ∙ put.2)
-    ]);
+  ]);
   closing = λ e. lacks_closing _ _ _ _ c.in-Some.ensures c.is_unclosed.ensures e;
-  text = search rules
+  text = search rules;
 }
 
 pub loop-piece-preserved : goal.loop-piece-preserved
 loop-piece-preserved g c = record {
   reached = reaches_more (tells g.C.FnMut) _ _ _ _ _ _ _ _ _ c.loop-piece.invariant.reached c.in-Some.ensures (elim c.match-question.branch [
-      in-None+in_ok-put_said-in-None w ↦ puts_said (tells g.C.FnMut) _ _ _ _ _ (sym c.question.ensures ∙ ap option_copied w.in-None.is) w.context-is (ap string_bytes w.out-is ∙ w.in_ok-put_said-in-None.ensures)
+    | in-None+in_ok-put_said-in-None w ↦ puts_said (tells g.C.FnMut) _ _ _ _ _ (sym c.question.ensures ∙ ap option_copied w.in-None.is) w.context-is (ap string_bytes w.out-is ∙ w.in_ok-put_said-in-None.ensures)
     | in-Some-question+in_ok-reply-in-Some-question+in_ok-put_answered-in-Some-question w ↦
         let put = w.in_ok-put_answered-in-Some-question.ensures in
         puts_told g.C.FnMut _ _ w.in_ok-reply-in-Some-question.reply put.0 _ _ _ _ _ _ (sym c.question.ensures ∙ ap option_copied w.in-Some-question.is) w.ask.ensures w.in_ok-reply-in-Some-question.was put.1 w.context-is (ap string_bytes w.out-is ∙ put.2)
-    ]);
+  ]);
   closing = λ e. lacks_behind 125 _ _ _ c.in-Some.ensures (c.loop-piece.invariant.closing c.if-may_close.false);
-  text = search rules
+  text = search rules;
 }

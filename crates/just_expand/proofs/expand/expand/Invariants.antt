@@ -10,7 +10,7 @@ abbrev pub invariant-loop-piece : goal.invariant-loop-piece
 invariant-loop-piece g l = record {
   reached : Reaches (tells g.C.FnMut) l.fn.context l.fn.input l.rest (string_bytes l.out) l.context;
   closing : l.may_close ≡ false → Lacks 125 l.rest;
-  text : shadow (Utf8 l.rest)
+  text : shadow (Utf8 l.rest);
 }
 
 abbrev pub decreases-loop-piece : goal.decreases-loop-piece

@@ -8,13 +8,15 @@ pub ask_home-requires : goal.ask_home-requires
 ask_home-requires g c = c.requires.home (cow_str_bytes c.in-Ok.expanded) c.in-Some.behind.now c.in-Ok.ensures.expanded c.in-Some.ensures.calls.0 c.in-Some.ensures.calls.1
 
 pub returns-clause-expanded : goal.returns-clause-expanded
-returns-clause-expanded g c =
-    ( cow_str_bytes c.in-Ok.expanded
-    , c.in-Ok.ensures.expanded
-    , full_put (homes g.H.FnOnce c.args.home_dir) c.args.input.now (cow_str_bytes c.in-Ok.expanded) c.in-Some.behind.now (string_bytes c.in-Some-ask_home.home) (string_bytes c.in_ok-out.out) c.in-Some.ensures.calls c.in-Some-ask_home.ensures (c.in_ok-out.ensures ∙ ap (λ t. t ++ c.in-Some.behind.now) c.as_str.ensures.value) )
+returns-clause-expanded g c = (
+  cow_str_bytes c.in-Ok.expanded,
+  c.in-Ok.ensures.expanded,
+  full_put (homes g.H.FnOnce c.args.home_dir) c.args.input.now (cow_str_bytes c.in-Ok.expanded) c.in-Some.behind.now (string_bytes c.in-Some-ask_home.home) (string_bytes c.in_ok-out.out) c.in-Some.ensures.calls c.in-Some-ask_home.ensures (c.in_ok-out.ensures ∙ ap (λ t. t ++ c.in-Some.behind.now) c.as_str.ensures.value),
+)
 
 pub returns-in_default-ask_home-clause-expanded : goal.returns-in_default-ask_home-clause-expanded
-returns-in_default-ask_home-clause-expanded g c =
-    ( cow_str_bytes c.in-Ok.expanded
-    , c.in-Ok.ensures.expanded
-    , full_homeless (homes g.H.FnOnce c.args.home_dir) c.args.input.now (cow_str_bytes c.in-Ok.expanded) c.in-Some.behind.now c.in-Some.ensures.calls c.in_default-ask_home.ensures )
+returns-in_default-ask_home-clause-expanded g c = (
+  cow_str_bytes c.in-Ok.expanded,
+  c.in-Ok.ensures.expanded,
+  full_homeless (homes g.H.FnOnce c.args.home_dir) c.args.input.now (cow_str_bytes c.in-Ok.expanded) c.in-Some.behind.now c.in-Some.ensures.calls c.in_default-ask_home.ensures,
+)

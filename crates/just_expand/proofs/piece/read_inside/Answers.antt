@@ -13,9 +13,12 @@ returns-else-is_empty c = λ rest.
     let name = c.in-Some.name.now in
     let default = c.in-Some.default.now in
     let whole = cut_at_mark c.args.inside.now name default f.0 f.1 f.2 f.3 f.4 in
-    let lacks = subst (Lacks 125) whole c.requires in
-    ( ap (λ t. 36 ∷ 123 ∷ t) (finish_defaulted c.args.inside.now name default rest whole)
-    , ( not_empty name (sym c.if-is_empty.ensures)
-      , lacks_left 125 name _ lacks
-      , first_mark c.args.inside.now name default f.0 f.1 f.2 whole f.6
-      , (lacks_right 125 name _ lacks).1.1 ) )
+    let lacks = subst (Lacks 125) whole c.requires in (
+      ap (λ t. 36 ∷ 123 ∷ t) (finish_defaulted c.args.inside.now name default rest whole),
+      (
+        not_empty name (sym c.if-is_empty.ensures),
+        lacks_left 125 name _ lacks,
+        first_mark c.args.inside.now name default f.0 f.1 f.2 whole f.6,
+        (lacks_right 125 name _ lacks).1.1,
+      ),
+    )

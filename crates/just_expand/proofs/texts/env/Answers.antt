@@ -7,5 +7,5 @@ use Rattle.just_expand.proofs.texts.env.Goals as goal
 pub returns-clause-expanded : goal.returns-clause-expanded
 returns-clause-expanded c =
     is_expansion _ environ_answers (λ w. w.1.now.pairs) (λ s n r s' k.
-        let h = k.1.called.met in
-        (k.2 ∙ h.1.0 ∙ ap (λ m. found_or (value_of m s.1.now.pairs)) k.1.shows, h.1.1)) _ _ _ c.expand_text.ensures.expanded
+    let h = k.1.called.met in
+    (k.2 ∙ h.1.0 ∙ ap (λ m. found_or (value_of m s.1.now.pairs)) k.1.shows, h.1.1)) _ _ _ c.expand_text.ensures.expanded

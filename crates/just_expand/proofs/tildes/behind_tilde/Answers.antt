@@ -11,5 +11,5 @@ pub returns-in-None : goal.returns-in-None
 unfolding lib.Utf8.encode
 returns-in-None c =
     other_tilde c.args.text.now c.in-Some.behind.now
-        (strip_some 126 c.args.text.now c.strip_prefix.result c.in-Some.behind c.strip_prefix.ensures.cases (lit< tt) c.in-Some.is)
-        (not_empty c.in-Some.behind.now (sym c.if-is_empty.ensures)) c.in-None.ensures.cases
+    (strip_some 126 c.args.text.now c.strip_prefix.result c.in-Some.behind c.strip_prefix.ensures.cases (lit< tt) c.in-Some.is)
+    (not_empty c.in-Some.behind.now (sym c.if-is_empty.ensures)) c.in-None.ensures.cases
