@@ -1,10 +1,10 @@
-ghost use Rattle.std.specs.Prelude.{◌≡◌, Option, Some, None, IfSome};
-ghost use Rattle.just_cli.specs.Texts.{error_text, code_of};
-ghost use Rattle.just_cli.specs.declared.error.Error.TheVariants.{NoMemory as OutOfMemory};
+ghost use Rattle.std.specs.Prelude.{◌≡◌, Some, IfOk, string_bytes};
+ghost use Rattle.just_cli.specs.Texts.{error_text, code_of, prints, miss_text, fault_text, kind_text, usage_text, line_text};
 
 use just_host::HostFault;
 use just_lang::{CompileError, CompileKind, Usage, UsageKind};
 use just_path::{Miss, NoMemory, Text, Utf8PathBuf};
+use std::alloc::Global;
 use std::fmt;
 
 /// Why a request is refused, or a run failed.
@@ -27,7 +27,131 @@ pub enum Error {
     NoMemory,
 }
 
+fn miss_text(miss: Miss) -> &'static str
+    ensures { result.now ≡ miss_text miss }
+{
+    match miss {
+        Miss::NotFound => "not found",
+        Miss::NotFolder => "not a folder",
+        Miss::IsFolder => "is a folder",
+        Miss::NotUtf8 => "not UTF-8",
+        Miss::NotEmpty => "folder not empty",
+        Miss::TooLarge => "too large",
+    }
+}
+
+fn fault_text(fault: HostFault) -> &'static str
+    ensures { result.now ≡ fault_text fault }
+{
+    match fault {
+        HostFault::Missed(miss) => miss_text(miss),
+        HostFault::Failed(_) => "failed",
+        HostFault::NoMemory => "out of memory",
+    }
+}
+
+fn kind_text(kind: CompileKind) -> &'static str
+    ensures { result.now ≡ kind_text kind }
+{
+    match kind {
+        CompileKind::Unsupported => "Unsupported",
+    }
+}
+
+fn usage_text(kind: UsageKind) -> &'static str
+    ensures { result.now ≡ usage_text kind }
+{
+    match kind {
+        UsageKind::NotBuilt => "NotBuilt",
+    }
+}
+
+/// Where a command stands, as it is told.
+struct OnLine(Option<usize>);
+
+impl fmt::Display for OnLine {
+    ghost output = { λ at. Some (line_text at.0) };
+
+    fn fmt<W: fmt::Write>(&self, f: &mut fmt::Formatter<W>) -> fmt::Result {
+        match self.0 {
+            Some(line) => write!(f, " on line {line}"),
+            None => Ok(()),
+        }
+    }
+}
+
+impl fmt::Display for Error {
+    ghost output = { λ e. Some (error_text e) };
+
+    fn fmt<W: fmt::Write>(&self, f: &mut fmt::Formatter<W>) -> fmt::Result {
+        match self {
+            Error::Usage(usage) => write!(
+                f,
+                "error: usage: {} `{}`",
+                usage_text(usage.kind),
+                usage.word.as_str()
+            ),
+            Error::FilesystemIo { path, io } => write!(
+                f,
+                "error: I/O error at `{}`: {}",
+                path.as_str(),
+                fault_text(*io)
+            ),
+            Error::Compile(error) => write!(
+                f,
+                "error: {} at {}:{}:{}",
+                kind_text(error.kind),
+                error.path.as_str(),
+                error.line,
+                error.column
+            ),
+            Error::UnknownRecipe { recipe } => write!(
+                f,
+                "error: justfile does not contain recipe `{}`",
+                recipe.as_str()
+            ),
+            Error::ClosureLimit => f.write_str("error: request needs more than 1000000 recipes"),
+            Error::Code {
+                recipe, line, code, ..
+            } => write!(
+                f,
+                "error: recipe `{}` failed{} with exit code {}",
+                recipe.as_str(),
+                OnLine(*line),
+                code
+            ),
+            Error::Signal {
+                recipe,
+                line,
+                signal,
+            } => write!(
+                f,
+                "error: recipe `{}` was terminated{} by signal {}",
+                recipe.as_str(),
+                OnLine(*line),
+                signal
+            ),
+            Error::Unknown { recipe, line } => write!(
+                f,
+                "error: recipe `{}` failed{} for an unknown reason",
+                recipe.as_str(),
+                OnLine(*line)
+            ),
+            Error::NoMemory => f.write_str("error: out of memory"),
+        }
+    }
+}
+
+impl std::error::Error for Error {}
+
 impl Error {
+    /// The text of the error, as it is told.
+    pub(crate) fn text(&self, alloc: Global) -> Result<String, NoMemory>
+        ensures { IfOk result (λ s. string_bytes s ≡ error_text self.now) }
+    {
+        Ok(format!(in alloc; "{self}")?)
+    }
+
     /// The exit code that the error stands for, where it stands for one.
     pub fn code(&self) -> Option<i32>
         ensures { result ≡ code_of self.now }
@@ -51,6 +175,8 @@ impl Error {
 }
 
 impl From<NoMemory> for Error {
+    ghost use Rattle.just_cli.specs.declared.error.Error.TheVariants.{NoMemory as OutOfMemory};
+
     ghost from_gives = { λ _ e. e ≡ OutOfMemory };
 
     fn from(_refused: NoMemory) -> Error {

@@ -11,6 +11,8 @@ mod kind;
 mod line;
 mod name;
 
+pub use line::is_recipe_name;
+
 use crate::{Ast, CompileError, CompileKind, LangError, Source};
 use item::items;
 use just_path::NoMemory;

@@ -19,7 +19,7 @@ pub use asked::{dependencies, invocations};
 pub use ast::{Ast, AstItem, Dependency, Fragment, Line, Modulepath, Recipe, Source};
 pub use body::body_lines;
 pub use error::{CompileError, CompileKind, LangError};
-pub use grammar::parse;
+pub use grammar::{is_recipe_name, parse};
 pub use justfile::Justfile;
 pub use key::{Key, Value};
 pub use node::{BodyLine, Closure, Node};

@@ -90,6 +90,16 @@ fn is_name(run: &str) -> bool
     }
 }
 
+/// Whether a whole text is the name that a recipe can have.
+pub fn is_recipe_name(text: &str) -> bool
+    ensures { IsTrue result ↔ IsName text.now }
+{
+    match text.as_bytes() {
+        [first, rest @ ..] => is_name_start(*first) && rest.iter().all(|byte| is_name_part(*byte)),
+        [] => false,
+    }
+}
+
 /// The recipe of that name, in the root module.
 fn dependency_on(alloc: Global, name: &str) -> Result<Dependency, NoMemory>
     ensures { IfOk result (λ d. d ≡ dependency_on name.now) }
