@@ -70,7 +70,7 @@ no_misfit above h hs e = misfit_parts (fits_between above h hs) (first_misfit (a
 pub no_self : (a b : List ℕ) → bytes_eq a b ≡ false → a ≡ b → ⊥
 no_self a b e f = let yes : bytes_eq a b ≡ true = (bytes_eq-Decides a b).1 f in let no : ⊥ = cc in no
 
-by_test : (b : Bool) → (b ≡ true → ⊥) → b ≡ false
+pub by_test : (b : Bool) → (b ≡ true → ⊥) → b ≡ false
 by_test true h = absurd (h refl)
 by_test false h = refl
 

@@ -1,7 +1,9 @@
 //! The grammar of a justfile: the kind of each line, and the items that the lines make.
-ghost use Rattle.std.specs.Prelude.{◌≡◌, ◌^◌, ◌<◌, [], IfOk, All, length, map};
+ghost use Rattle.std.specs.Prelude.{◌≡◌, ◌^◌, ◌<◌, ◌≢◌, [], List, IfOk, IfErr, MatchResult, All, length, map};
 ghost use Rattle.std.specs.Str.Lines.{lines};
 ghost use Rattle.just_lang.specs.Form.{IsJustfile, recipes_of};
+ghost use Rattle.just_lang.specs.Outside.{IsUnsupported};
+ghost use Rattle.just_lang.specs.declared.ast.AstItem.{AstItem};
 ghost use Rattle.just_lang.specs.Kinds.{first_outside, first_misfit, headers_of, sooner};
 
 mod item;
@@ -34,6 +36,8 @@ fn first_fault(alloc: Global, kinds: &[Kind]) -> Result<Option<usize>, NoMemory>
 /// The items of a justfile.
 pub fn parse(alloc: Global, source: &Source) -> Result<Ast, LangError>
     ensures found { IfOk result (λ ast. IsJustfile source.now.text ast.items) }
+    ensures only { (xs : List AstItem) → IsJustfile source.now.text xs → MatchResult result (λ ast. ast.items ≡ xs) (λ e. e ≡ LangError.NoMemory) }
+    ensures err { IfErr result (λ e. e ≢ LangError.NoMemory → IsUnsupported source.now e) }
     ensures short { IfOk result (λ ast. All (λ r. length r.body < 2 ^ 32) (recipes_of ast.items)) }
 {
     let lines = lines_of(alloc, source.text.as_str())?;

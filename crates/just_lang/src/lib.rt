@@ -3,6 +3,7 @@
 
 mod asked;
 mod ast;
+mod body;
 mod error;
 mod grammar;
 mod justfile;
@@ -15,6 +16,7 @@ mod walk;
 
 pub use asked::{dependencies, invocations};
 pub use ast::{Ast, AstItem, Dependency, Fragment, Line, Modulepath, Recipe, Source};
+pub use body::body_lines;
 pub use error::{CompileError, CompileKind, LangError};
 pub use grammar::parse;
 pub use justfile::Justfile;
