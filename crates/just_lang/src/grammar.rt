@@ -57,3 +57,75 @@ pub fn parse(alloc: Global, source: &Source) -> Result<Ast, LangError>
         items: items(alloc, kinds)?,
     })
 }
+
+#[cfg(test)]
+mod tests {
+    use super::*;
+    use crate::AstItem;
+    use just_path::{Text, Utf8PathBuf};
+    use std::test::Fail;
+
+    fn parse_text(alloc: Global, text: &str) -> Result<Ast, LangError> {
+        let source = Source {
+            path: Utf8PathBuf::from(String::from_str(alloc, "/p/justfile")?),
+            root: Utf8PathBuf::from(String::from_str(alloc, "/p")?),
+            text: Text::from_str(alloc, text)?,
+        };
+        parse(alloc, &source)
+    }
+
+    /// The line at which a text is refused, or 0.
+    fn refused_at(alloc: Global, text: &str) -> Result<usize, LangError> {
+        match parse_text(alloc, text) {
+            Ok(_) => Ok(0),
+            Err(LangError::Compile(error)) => Ok(error.line),
+            Err(error) => Err(error),
+        }
+    }
+
+    #[test]
+    fn forms(rt: HostRuntime) -> Result<(), Fail> {
+        let rows = [
+            ("", 0),
+            ("# c\n \t\nb: a\n\techo b\n\n\t  echo c\n\na:", 0),
+            ("b:  a\ta\r\n  one\r\n\r\na:\r\n", 0),
+            ("a:\n  two words { } \\x @ -\n", 0),
+            ("b: a\n", 1),
+            ("a:\nb: a\n", 2),
+            ("a:\n\nb:\na:\n", 4),
+            ("a: \n", 1),
+            ("a :\n", 1),
+            ("1a:\n", 1),
+            ("a:\n\n  late\n", 3),
+            ("a:\n    one\n  two\n", 3),
+            ("a:\n  @quiet\n", 2),
+            ("a:\n  {{value}}\n", 2),
+            ("a:\n  goes on \\\n", 2),
+            ("a:\n  #!script\n", 2),
+            ("a:\n  one\n  #!two\nx := 1\nb: c\n", 4),
+        ];
+        for (text, line) in rows {
+            assert_eq!(rt; refused_at(rt.alloc(), text)?, line, "{text:?}");
+        }
+        Ok(())
+    }
+
+    #[test]
+    fn items_of_a_text(rt: HostRuntime) -> Result<(), Fail> {
+        let ast = parse_text(rt.alloc(), "b: a\n  one\n\n   two\n\n# c\r\na:")?;
+        match ast.items.as_slice() {
+            [
+                AstItem::Recipe(b),
+                AstItem::Blank,
+                AstItem::Comment(comment),
+                AstItem::Recipe(a),
+            ] => {
+                assert_eq!(rt; b.body.len(), 3);
+                assert_eq!(rt; comment.as_str(), "# c");
+                assert_eq!(rt; a.line, 7);
+            }
+            _ => assert!(rt; false, "other items"),
+        }
+        Ok(())
+    }
+}
