@@ -1,17 +1,18 @@
 -- The walk is the closure, and its nodes are well formed.
-use Rattle.std.proofs.Common.{◌≡◌, ℕ, zero, suc, ◌+◌, ◌<◌, ◌≤◌, true, false, not, cond, List, [], ◌∷◌, length, Option, Some, None, option_map, refl, ap, sym, ◌∙◌, subst, arith, slice_get}
+use Rattle.std.proofs.Common.{inl, inr, ◌≡◌, ℕ, zero, suc, ◌+◌, ◌<◌, ◌≤◌, true, false, not, cond, List, [], ◌∷◌, length, Option, Some, None, option_map, refl, ap, sym, ◌∙◌, subst, arith, slice_get}
 use Rattle.std.specs.List.{All, Contains}
 use Rattle.just_lang.specs.declared.ast.Recipe.{Recipe}
 use Rattle.just_lang.specs.declared.key.Key.{Key}
 use Rattle.just_lang.specs.declared.node.Node.{Node}
 use Rattle.just_lang.specs.declared.place.Place.{Place}
+use Rattle.just_lang.specs.Asked.{NamesRecipe}
 use Rattle.just_lang.specs.Keys.{priors_of, subsequents_of}
 use Rattle.just_lang.specs.Sound.{fits}
 use Rattle.just_lang.specs.Walk.{is_place, visited_each, walk, number_of, numbers_of, node_of, nodes_from, Member, IsClosure}
 use Rattle.just_lang.specs.WellFormed.{round_at, Used, IsWellFormed}
-use Rattle.just_lang.proofs.Around.{fits_priors, fits_subsequents}
+use Rattle.just_lang.proofs.Around.{fits_priors, fits_subsequents, priors_named, subsequents_named}
 use Rattle.just_lang.proofs.Grown.{At, Has, Fits, Made, Fresh, outer, inner, FromAny, from, grown_walk, reach_member, is_place_is, is_place_self, some_is, none_some, true_false}
-use Rattle.just_lang.proofs.Items.{In, in_all, in_map, map_in, in_contains, contains_in}
+use Rattle.just_lang.proofs.Items.{all_in, In, in_all, in_map, map_in, in_contains, contains_in}
 use Rattle.just_lang.proofs.Visited.{place}
 
 -- ## The walk
@@ -172,3 +173,27 @@ well_formed p s keys list closed =
           let same : b.0 ≡ a.0 = ap (λ r. place r b.0.key) same_r ∙ ap (λ k. place a.0.round k) same_k in
           closed.once m n a.0 (subst (λ y. At list m y) same b.1) a.1;
     }
+
+-- ## Each node's key names a recipe
+
+pub member_named : (rs : List Recipe) (n : ℕ) (keys : List Key) (list : List Place) → ((q : Key) → NamesRecipe rs q → fits rs n q ≡ true) → ((q : Key) → In q keys → NamesRecipe rs q) → (r : Option ℕ) (k : Key) → Member (priors_of rs) (subsequents_of rs) keys list r k → NamesRecipe rs k
+member_named rs n keys list fit named r k (Member.invoked a c) = named a (contains_in keys a c)
+member_named rs n keys list fit named r k (Member.prior t a q member c) =
+    all_in (NamesRecipe rs) (priors_of rs a) q (priors_named rs n a (fit a (member_named rs n keys list fit named t a member))) (contains_in (priors_of rs a) q c)
+member_named rs n keys list fit named r k (Member.subsequent m t a q member stands c) =
+    all_in (NamesRecipe rs) (subsequents_of rs a) q (subsequents_named rs n a (fit a (member_named rs n keys list fit named t a member))) (contains_in (subsequents_of rs a) q c)
+
+in_at : (list : List Place) (y : Place) → In y list → (n : ℕ) × At list n y
+in_at [] y i = absurd i
+in_at (x ∷ xs) y (inl e) = (0, ap (λ z. Some z) e)
+in_at (x ∷ xs) y (inr i) = let n = in_at xs y i in (suc n.0, n.1)
+
+keys_named : (P : Key → Type 0) (p s : Key → List Key) (list : List Place) (n : ℕ) (xs : List Place) → ((y : Place) → In y xs → P y.key) → (x : Node) → In x (nodes_from p s list n xs) → P x.key
+keys_named P p s list n [] named x i = absurd i
+keys_named P p s list n (y ∷ ys) named x (inl e) = subst (λ z. P z.key) e (named y (inl refl))
+keys_named P p s list n (y ∷ ys) named x (inr i) = keys_named P p s list (suc n) ys (λ z j. named z (inr j)) x i
+
+pub nodes_named : (rs : List Recipe) (n : ℕ) (keys : List Key) (list : List Place) → ((q : Key) → NamesRecipe rs q → fits rs n q ≡ true) → ((q : Key) → In q keys → NamesRecipe rs q) → IsClosure (priors_of rs) (subsequents_of rs) keys list → All (λ x. NamesRecipe rs x.key) (nodes_from (priors_of rs) (subsequents_of rs) list 0 list)
+nodes_named rs n keys list fit named closed =
+    in_all (λ x. NamesRecipe rs x.key) (nodes_from (priors_of rs) (subsequents_of rs) list 0 list) (keys_named (λ k. NamesRecipe rs k) (priors_of rs) (subsequents_of rs) list 0 list (λ y i.
+    let m = in_at list y i in member_named rs n keys list fit named y.round y.key (closed.only m.0 y m.1)))

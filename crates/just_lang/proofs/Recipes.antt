@@ -1,10 +1,10 @@
 -- The recipes among the items of a text.
-use Rattle.std.proofs.Common.{◌≡◌, ℕ, ◌+◌, ◌⊎◌, inl, inr, List, [], ◌∷◌, ◌++◌, length, append-nil, refl, ap, sym, ◌∙◌, subst}
+use Rattle.std.proofs.Common.{◌≡◌, ℕ, ◌+◌, ◌⊎◌, inl, inr, List, [], ◌∷◌, ◌++◌, length, append-nil, refl, ap, ◌∙◌, subst}
 use Rattle.std.specs.List.{All}
 use Rattle.just_lang.specs.declared.ast.AstItem.{AstItem}
 use Rattle.just_lang.specs.declared.ast.AstItem.TheVariants as i
 use Rattle.just_lang.specs.declared.ast.Recipe.{Recipe}
-use Rattle.just_lang.specs.Form.{AreItems, IsItem, recipe, recipes_of}
+use Rattle.just_lang.specs.Form.{AreItems, IsItem, recipes_of}
 use Rattle.just_lang.specs.Root.{IsRootRecipe}
 use Rattle.just_lang.proofs.Items.{In, in_all}
 

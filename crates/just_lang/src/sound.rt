@@ -1,5 +1,6 @@
-ghost use Rattle.std.specs.Prelude.{◌≡◌, ◌^◌, ◌<◌, length, All, IfOk};
-ghost use Rattle.just_lang.specs.Assembled.{IsAssembled};
+ghost use Rattle.std.specs.Prelude.{◌≡◌, ◌≢◌, ◌^◌, ◌<◌, List, length, All, IfOk, IfErr, MatchResult};
+ghost use Rattle.just_lang.specs.Assembled.{IsAssembled, AreRead, AreUnsupported};
+ghost use Rattle.just_lang.specs.declared.ast.AstItem.{AstItem as Item};
 ghost use Rattle.just_lang.specs.Form.{recipes_of};
 ghost use Rattle.just_lang.specs.Names.{NamesFit};
 ghost use Rattle.just_lang.specs.Root.{IsRootRecipe};
@@ -16,7 +17,9 @@ pub fn assemble(
     _environ: &Environ,
 ) -> Result<Justfile, LangError>
     requires { 0 < length sources.now }
-    ensures { IfOk result (IsAssembled sources.now) }
+    ensures found { IfOk result (IsAssembled sources.now) }
+    ensures only { (xs : List Item) → AreRead sources.now xs → MatchResult result (λ j. j.recipes ≡ recipes_of xs) (λ e. e ≡ LangError.NoMemory) }
+    ensures err { IfErr result (λ e. e ≢ LangError.NoMemory → AreUnsupported sources.now e) }
 {
     let root = &sources[0];
     let source = root.path.try_clone()?;

@@ -16,6 +16,7 @@ pub fn closure(alloc: Global, justfile: &Justfile, keys: &[Key]) -> Result<Closu
     ensures closure { IfOk result (λ c. c ≡ closure_of justfile.now.recipes keys.now) }
     ensures least { OnOk result (IsClosure (priors_of justfile.now.recipes) (subsequents_of justfile.now.recipes) keys.now (walk justfile.now.recipes keys.now)) }
     ensures ordered { IfOk result (λ c. IsWellFormed c.nodes c.invocations) }
+    ensures named { IfOk result (λ c. All (λ x. NamesRecipe justfile.now.recipes x.key) c.nodes) }
     ensures short { IfOk result (λ c. length c.nodes ≤ CLOSURE_LIMIT) }
     ensures refused { IfErr result (RefusesNodes (length (walk justfile.now.recipes keys.now))) }
 {

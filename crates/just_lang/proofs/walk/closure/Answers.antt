@@ -15,7 +15,7 @@ use Rattle.just_lang.specs.Sound.{fits}
 use Rattle.just_lang.specs.Walk.{visited_each, walk, numbers_of, nodes_from, closure_of, IsClosure, RefusesNodes}
 use Rattle.just_lang.specs.WellFormed.{IsWellFormed}
 use Rattle.just_lang.proofs.Around.{named_fits}
-use Rattle.just_lang.proofs.Closed.{walk_is, walk_closure, nodes_length, well_formed}
+use Rattle.just_lang.proofs.Closed.{nodes_named, walk_is, walk_closure, nodes_length, well_formed}
 use Rattle.just_lang.proofs.Items.{In, all_in, in_all}
 use Rattle.just_lang.proofs.Visited.{refused_from}
 use Rattle.just_lang.proofs.walk.closure.Goals as goal
@@ -70,6 +70,13 @@ returns-clause-ordered c =
     let keys = c.args.keys.now in
     let same = returns-clause-closure c in
     subst (λ made. IsWellFormed made.nodes made.invocations) (sym same) (well_formed (priors_of rs) (subsequents_of rs) keys (walk rs keys) (the_closure c.args.justfile.now keys c.requires))
+
+pub returns-clause-named : goal.returns-clause-named
+returns-clause-named c =
+    let j = c.args.justfile.now in
+    let keys = c.args.keys.now in
+    let fit : (q : Key) → NamesRecipe j.recipes q → fits j.recipes (length j.recipes) q ≡ true = λ q named. ∥∥₁_elim j.sound (Bool-set _ _) (λ sound. named_fits j.recipes (length j.recipes) q sound named) in
+    subst (λ made. All (λ x. NamesRecipe j.recipes x.key) made.nodes) (sym (returns-clause-closure c)) (nodes_named j.recipes (length j.recipes) keys (walk j.recipes keys) fit (λ q i. all_in (NamesRecipe j.recipes) keys q c.requires i) (the_closure j keys c.requires))
 
 pub returns-clause-short : goal.returns-clause-short
 returns-clause-short c =
