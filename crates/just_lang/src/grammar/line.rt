@@ -90,12 +90,24 @@ fn is_name(run: &str) -> bool
     }
 }
 
+/// Whether a text has only a name's characters.
+fn is_name_run(text: &[u8]) -> bool
+    ensures { result ≡ list_all is_name_part text.now }
+{
+    text.iter().all(|byte| is_name_part(*byte))
+}
+
 /// Whether a whole text is the name that a recipe can have.
 pub fn is_recipe_name(text: &str) -> bool
     ensures { IsTrue result ↔ IsName text.now }
 {
     match text.as_bytes() {
-        [first, rest @ ..] => is_name_start(*first) && rest.iter().all(|byte| is_name_part(*byte)),
+        [first, rest @ ..] => {
+            if !is_name_start(*first) {
+                return false;
+            }
+            is_name_run(rest)
+        }
         [] => false,
     }
 }

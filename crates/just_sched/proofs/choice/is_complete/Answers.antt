@@ -1,8 +1,6 @@
-use Rattle.std.proofs.Common.{◌≡◌, ℕ, ◌<◌, ◌&&◌, not, Bool, true, false, get_or, length, List, arith, subst, sym, ap, ◌∙◌, refl, below_more, ◌⊎◌, inl, inr, ⊎_elim}
+use Rattle.std.proofs.Common.{◌≡◌, ◌<◌, ◌&&◌, not, Bool, true, false, get_or, length, List, arith, subst, sym, ◌∙◌, refl, below_more, ◌⊎◌, inl, inr, ⊎_elim}
 use Rattle.just_sched.specs.State.{Finished, is_open}
-use Rattle.just_sched.specs.Legal.{Run, IsComplete}
 use Rattle.just_sched.specs.declared.plan_node.PlanNode.{PlanNode}
-use Rattle.just_sched.specs.declared.event.Event.{Event}
 use Rattle.just_sched.proofs.choice.is_complete.Goals as goal
 
 and_not : (a b : Bool) → true ≡ (a && not b) → (a ≡ true) × (b ≡ false)

@@ -1,10 +1,10 @@
-use Rattle.std.proofs.Common.{◌≡◌, ℕ, ◌<◌, ◌||◌, Bool, true, false, List, length, arith, subst, sym, ap, ◌∙◌, refl}
+use Rattle.std.proofs.Common.{◌≡◌, ℕ, ◌<◌, ◌||◌, Bool, true, false, List, arith, subst, sym, ap, ◌∙◌, refl}
 use Rattle.std.specs.Prelude.{slice_index, Contains}
 use Rattle.just_sched.specs.Nodes.{priors_at}
 use Rattle.just_sched.specs.State.{took, done}
 use Rattle.just_sched.specs.Tables.{InRange}
 use Rattle.just_sched.proofs.PlanLaws.{priors_read, contains_at, confirmed_all}
-use Rattle.just_sched.proofs.WantedLaws.{priors_within, priors_below, priors_inside}
+use Rattle.just_sched.proofs.WantedLaws.{priors_within, priors_below}
 use Rattle.just_sched.proofs.choice.is_ready.Goals as goal
 use Rattle.just_sched.proofs.choice.is_ready.Goals.{After-as_slice-2}
 

@@ -1,9 +1,8 @@
-use Rattle.std.proofs.Common.{◌≡◌, ◌-◌, ◌<◌, ℕ, length, arith, sym, ap, subst, ◌∙◌}
+use Rattle.std.proofs.Common.{◌-◌, ◌<◌, ℕ, length, arith, ap, subst}
 use Rattle.std.proofs.Math.Logic.{∥∥₁_elim}
 use Rattle.std.proofs.Math.Bridge.{le_prop}
 use Rattle.std.specs.Prelude.{slice_index, Contains, List}
 use Rattle.std.proofs.Math.ListN.{length-set}
-use Rattle.just_sched.specs.Nodes.{subsequents_at}
 use Rattle.just_sched.proofs.PlanLaws.{subsequent_behind, contains_at, subsequents_read}
 use Rattle.just_sched.proofs.TableLaws.{swept_on}
 use Rattle.just_sched.proofs.tables.mark_finished.Goals as goal

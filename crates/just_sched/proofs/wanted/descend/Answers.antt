@@ -1,4 +1,4 @@
-use Rattle.std.proofs.Common.{◌≡◌, ◌-◌, ℕ, length, arith, rules}
+use Rattle.std.proofs.Common.{◌-◌, arith}
 use Rattle.just_sched.proofs.WantedLaws.{descend_marks, descend_only}
 use Rattle.just_sched.proofs.wanted.descend.Goals as goal
 
