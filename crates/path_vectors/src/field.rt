@@ -72,7 +72,12 @@ pub fn text(alloc: Global, fields: &[&str], number: usize) -> Result<String, Wro
 }
 
 /// Whether a field says that answer.
-pub fn says(alloc: Global, fields: &[&str], number: usize, answer: Option<&[u8]>) -> Result<bool, Wrong> {
+pub fn says(
+    alloc: Global,
+    fields: &[&str],
+    number: usize,
+    answer: Option<&[u8]>,
+) -> Result<bool, Wrong> {
     match answer {
         None => Ok(at(fields, number)? == "-"),
         Some(answer) => {

@@ -9,10 +9,8 @@ mod paths;
 mod wrong;
 
 use std::alloc::Global;
-use std::env;
-use std::fs;
-use std::io;
 use std::process::ExitCode;
+use std::{env, fs, io};
 pub(crate) use wrong::Wrong;
 
 /// Whether a row agrees with the crate's answers.

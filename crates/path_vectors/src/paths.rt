@@ -1,5 +1,4 @@
-use super::Wrong;
-use super::field;
+use super::{Wrong, field};
 use just_path::{Utf8Component, Utf8Path};
 use std::alloc::Global;
 
@@ -7,9 +6,11 @@ use std::alloc::Global;
 pub fn agrees(alloc: Global, fields: &[&str]) -> Result<bool, Wrong> {
     let text = field::text(alloc, fields, 0)?;
     let path = Utf8Path::new(text.as_str());
-    Ok(components_agree(alloc, path, field::at(fields, 1)?)?
-        && field::flags(fields, 2, path.is_absolute())?
-        && parts_agree(alloc, path, fields)?)
+    Ok(
+        components_agree(alloc, path, field::at(fields, 1)?)?
+            && field::flags(fields, 2, path.is_absolute())?
+            && parts_agree(alloc, path, fields)?,
+    )
 }
 
 /// Whether its parent, its names and its clean form do.
@@ -19,12 +20,14 @@ fn parts_agree(alloc: Global, path: Utf8Path<'_>, fields: &[&str]) -> Result<boo
         None => None,
     };
     let clean = path.clean(alloc)?;
-    Ok(field::says(alloc, fields, 3, parent)?
-        && field::says(alloc, fields, 4, as_bytes(path.file_name()))?
-        && field::says(alloc, fields, 5, as_bytes(path.file_stem()))?
-        && field::says(alloc, fields, 6, as_bytes(path.file_prefix()))?
-        && field::says(alloc, fields, 7, as_bytes(path.extension()))?
-        && field::says(alloc, fields, 8, Some(clean.as_str().as_bytes()))?)
+    Ok(
+        field::says(alloc, fields, 3, parent)?
+            && field::says(alloc, fields, 4, as_bytes(path.file_name()))?
+            && field::says(alloc, fields, 5, as_bytes(path.file_stem()))?
+            && field::says(alloc, fields, 6, as_bytes(path.file_prefix()))?
+            && field::says(alloc, fields, 7, as_bytes(path.extension()))?
+            && field::says(alloc, fields, 8, Some(clean.as_str().as_bytes()))?,
+    )
 }
 
 fn as_bytes(text: Option<&str>) -> Option<&[u8]> {
