@@ -1,8 +1,9 @@
-pub mod Keeps
-pub mod Sane
-pub mod Totals
-pub mod Complete
 pub mod AfterLaws
+pub mod Complete
+pub mod Keeps
 pub mod PlanLaws
+pub mod Plans
+pub mod Sane
 pub mod TableLaws
+pub mod Totals
 pub mod WantedLaws
