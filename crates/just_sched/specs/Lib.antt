@@ -8,3 +8,4 @@ pub mod Start
 pub mod Nowhere
 pub mod Room
 pub mod Idle
+pub mod Codes
