@@ -103,6 +103,13 @@ impl HeldBody {
         HeldBody { node }
     }
 
+    pub(crate) fn into_node(self) -> u32
+        ensures { result ≡ self.node }
+    {
+        let HeldBody { node } = self;
+        node
+    }
+
     /// The number of its node.
     pub fn node(&self) -> u32
         ensures { result ≡ self.now.node }
