@@ -1,5 +1,5 @@
 -- When a book has nothing to do.
-use Rattle.std.specs.Prelude.{ℕ, ◌≡◌, ◌⊎◌, Bool, true, false, List, Option, Some, None}
+use Rattle.std.specs.Prelude.{ℕ, ◌≡◌, ◌⊎◌, true, false, List, Some}
 use Rattle.just_sched.specs.declared.event.Event.{Event}
 use Rattle.just_sched.specs.declared.event.Idle.{Idle}
 use Rattle.just_sched.specs.declared.event.Idle.TheVariants as idle
