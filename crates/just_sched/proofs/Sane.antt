@@ -71,27 +71,28 @@ due_not_done s h n (Started i) e = (inside h n e.0).not_done
 due_not_done s h n Ended e = (inside h n e.0).not_done
 due_not_done s h n Saved e = absurd e
 
-miss_not_done : (s : Run) (h : List Event) (n : ℕ) (c : Call) → MayMiss s h n c → done h n ≡ false
-miss_not_done s h n call.Ask m = due_not_done s h n Asked m
-miss_not_done s h n call.Temp m = due_not_done s h n (Started m.0) m.1
-miss_not_done s h n _ m = absurd m
+-- a call that may miss or fail is one of a due event
+pub miss_due : (s : Run) (h : List Event) (n : ℕ) (c : Call) → MayMiss s h n c → (d : Due) × IsDue s h n d
+miss_due s h n call.Ask m = (Asked, m)
+miss_due s h n call.Temp m = (Started m.0, m.1)
+miss_due s h n _ m = absurd m
 
-fail_not_done : (s : Run) (h : List Event) (n : ℕ) (c : Call) → MayFail s h n c → done h n ≡ false
-fail_not_done s h n call.Ask m = due_not_done s h n Asked m
-fail_not_done s h n call.Print (inl m) = due_not_done s h n Begun m
-fail_not_done s h n call.Print (inr m) = due_not_done s h n (Started m.0) m.1
-fail_not_done s h n call.Temp m = due_not_done s h n (Started m.0) m.1
-fail_not_done s h n call.Start m = due_not_done s h n (Started m.0) m.1
-fail_not_done s h n call.Wait m = due_not_done s h n Ended m
-fail_not_done s h n _ m = absurd m
+pub fail_due : (s : Run) (h : List Event) (n : ℕ) (c : Call) → MayFail s h n c → (d : Due) × IsDue s h n d
+fail_due s h n call.Ask m = (Asked, m)
+fail_due s h n call.Print (inl m) = (Begun, m)
+fail_due s h n call.Print (inr m) = (Started m.0, m.1)
+fail_due s h n call.Temp m = (Started m.0, m.1)
+fail_due s h n call.Start m = (Started m.0, m.1)
+fail_due s h n call.Wait m = (Ended, m)
+fail_due s h n _ m = absurd m
 
 by_not_done : (s : Run) (h : List Event) (n : ℕ) (r : Reason) → MayFailBy s h n r → done h n ≡ false
 by_not_done s h n reason.Status m = m.2
 by_not_done s h n reason.NotConfirmed m = m.1
 by_not_done s h n (reason.Input j x) m = absurd m
 by_not_done s h n (reason.Output j) m = absurd m
-by_not_done s h n (reason.Place c x) m = miss_not_done s h n c m
-by_not_done s h n (reason.Fault c) m = fail_not_done s h n c m
+by_not_done s h n (reason.Place c x) m = let d = miss_due s h n c m in due_not_done s h n d.0 d.1
+by_not_done s h n (reason.Fault c) m = let d = fail_due s h n c m in due_not_done s h n d.0 d.1
 by_not_done s h n reason.Interrupted m = due_not_done s h n (Started m.0.0) m.0.1
 by_not_done s h n reason.NoMemory m = due_not_done s h n m.0 m.1
 
