@@ -175,6 +175,18 @@ all_starts_more h e = count_more is_start h e
 pub settles_more : (h : List Event) (e : Event) → settles (h ++ e ∷ []) ≡ settles h + cond (is_settled e) 1 0
 settles_more h e = count_more is_settled h e
 
+pub confirmed_more : (nodes : List PlanNode) (h : List Event) (e : Event) (n : ℕ) → confirmed nodes (h ++ e ∷ []) n ≡ (is_none (prompt_at nodes n) || (list_any (is_answer true n) h || is_answer true n e))
+confirmed_more nodes h e n = ap (λ b. is_none (prompt_at nodes n) || b) (any_more (is_answer true n) h e)
+
+pub is_open_more : (h : List Event) (e : Event) (n : ℕ) → is_open (h ++ e ∷ []) n ≡ ((took h n || is_took n e) && not (gave h n || is_gave n e))
+is_open_more h e n = ap₂ (λ a b. a && not b) (took_more h e n) (gave_more h e n)
+
+pub running_more : (h : List Event) (e : Event) (n : ℕ) → running (h ++ e ∷ []) n ≡ (nat_lt (ends h n + cond (is_ended n e) 1 0) (starts h n + cond (is_started n e) 1 0) && not (done h n || is_done n e))
+running_more h e n = ap₂ (λ a b. a && not b) (ap₂ (λ a b. nat_lt a b) (ends_more h e n) (starts_more h e n)) (done_more h e n)
+
+pub statuses_more : (h : List Event) (e : Event) (n : ℕ) → statuses (h ++ e ∷ []) n ≡ statuses h n ++ filter_map (status_of n) (e ∷ [])
+statuses_more h e n = list_more (status_of n) h e
+
 pub is_open_stays : (h : List Event) (e : Event) (n : ℕ) → is_took n e ≡ false → is_gave n e ≡ false → is_open (h ++ e ∷ []) n ≡ is_open h n
 is_open_stays h e n p q = ap₂ (λ a b. a && not b) (any_none (is_took n) h e p) (any_none (is_gave n) h e q)
 

@@ -326,13 +326,13 @@ sane_started : (s : Run) (h : List Event) (n i c : ℕ) → IsDue s h n (Started
 sane_started s h n i c due sane =
     let e = event.Started n i c in
     sane_same (work_at s.nodes n) _ _ _ _ _ _ _ _ (count_now (is_started n) h e (eq-eqb n n refl)) (count_none (is_ended n) h e refl) (statuses_stay h e n refl) (last_started h n i c)
-        (sane_start (work_at s.nodes n) (starts h n) (ends h n) (statuses h n) (last_start h n) i c sane (rests h n due.2 (inside h n due.0).not_done) due.3)
+    (sane_start (work_at s.nodes n) (starts h n) (ends h n) (statuses h n) (last_start h n) i c sane (rests h n due.2 (inside h n due.0).not_done) due.3)
 
 sane_ended : (s : Run) (h : List Event) (n i c : ℕ) (t : Status) → IsDue s h n Ended → Sane s h n → Sane s (h ++ event.Ended n i c t ∷ []) n
 sane_ended s h n i c t due sane =
     let e = event.Ended n i c t in
     sane_same (work_at s.nodes n) _ _ _ _ _ _ _ _ (count_none (is_started n) h e refl) (count_now (is_ended n) h e (eq-eqb n n refl)) (statuses_ended h n i c t) (last_start_stays h e n refl)
-        (sane_end (work_at s.nodes n) (starts h n) (ends h n) (statuses h n) (last_start h n) t sane (runs h n due.1).0)
+    (sane_end (work_at s.nodes n) (starts h n) (ends h n) (statuses h n) (last_start h n) t sane (runs h n due.1).0)
 
 sane_start_by : (s : Run) (h : List Event) (n m i c : ℕ) (b : Bool) → (m == n) ≡ b → IsDue s h m (Started i) → Sane s h n → Sane s (h ++ event.Started m i c ∷ []) n
 sane_start_by s h n m i c true q due sane =

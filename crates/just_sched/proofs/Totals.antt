@@ -248,7 +248,7 @@ split_step : (f : Event → Bool) (count : ℕ) (h : List Event) (e : Event) (b 
 split_step f count h e true q plain there old =
     let free = plain q in
     let each : (k : ℕ) → 0 ≤ k → k < 0 + count → count_by (own f k) (h ++ e ∷ []) ≡ count_by (own f k) h + cond (node_of e == k) 1 0 =
-        λ k low high. count_more (own f k) h e ∙ ap₂ (λ x y. count_by (own f k) h + cond (x && y) 1 0) q (of_node k e free) in
+    λ k low high. count_more (own f k) h e ∙ ap₂ (λ x y. count_by (own f k) h + cond (x && y) 1 0) q (of_node k e free) in
     count_now f h e q
     ∙ ap₂ (λ x y. x + y) old (sym (one_hot (node_of e) 0 count (omega arith) (omega (arith, there free))))
     ∙ sym (sum_add (λ n. count_by (own f n) h) (λ k. cond (node_of e == k) 1 0) (range_with_len 0 count))
@@ -262,9 +262,9 @@ split_step f count h e false q plain there old =
 pub split : (s : Run) (f : Event → Bool) → ((e : Event) → f e ≡ true → is_caught e ≡ false) → (h : List Event) → Formed s → IsLegal s h → count_by f h ≡ sum_by (λ n. count_by (own f n) h) (range_with_len 0 (length s.nodes))
 split s f plain h formed l =
     legal_holds s (λ k. count_by f k ≡ sum_by (λ n. count_by (own f n) k) (range_with_len 0 (length s.nodes)))
-        (sym (sum_zero (length s.nodes) 0))
-        (λ k e legal old m. split_step f (length s.nodes) k e (f e) refl (plain e) (event_range s k e formed legal m) old)
-        h l
+    (sym (sum_zero (length s.nodes) 0))
+    (λ k e legal old m. split_step f (length s.nodes) k e (f e) refl (plain e) (event_range s k e formed legal m) old)
+    h l
 
 -- ---- room for each event
 
@@ -296,9 +296,9 @@ kind_one s h n (event.Caught g) may = omega arith
 kinds : (s : Run) (h : List Event) (n : ℕ) → IsLegal s h → count_by (own is_plain n) h ≤ count_by (is_asked n) h + count_by (is_took n) h + count_by (is_begun n) h + starts h n + ends h n + count_by (is_done n) h + count_by (is_gave n) h
 kinds s h n l =
     legal_holds s (λ k. count_by (own is_plain n) k ≤ count_by (is_asked n) k + count_by (is_took n) k + count_by (is_begun n) k + starts k n + ends k n + count_by (is_done n) k + count_by (is_gave n) k)
-        (omega arith)
-        (λ k e legal old m. omega (arith, kind_one s k n e m, old, count_more (own is_plain n) k e, count_more (is_asked n) k e, count_more (is_took n) k e, count_more (is_begun n) k e, count_more (is_started n) k e, count_more (is_ended n) k e, count_more (is_done n) k e, count_more (is_gave n) k e))
-        h l
+    (omega arith)
+    (λ k e legal old m. omega (arith, kind_one s k n e m, old, count_more (own is_plain n) k e, count_more (is_asked n) k e, count_more (is_took n) k e, count_more (is_begun n) k e, count_more (is_started n) k e, count_more (is_ended n) k e, count_more (is_done n) k e, count_more (is_gave n) k e))
+    h l
 
 -- how many events a node can have
 node_bound : (s : Run) (h : List Event) (n : ℕ) → IsLegal s h → count_by (own is_plain n) h ≤ 8 + 2 * length (commands_of (work_at s.nodes n))
@@ -336,7 +336,7 @@ not_later h n e q = unless (done h n) (done (h ++ e ∷ []) n) (any_kept (is_don
 settled_other : (s : Run) (h : List Event) (n : ℕ) (e : Event) → own is_settled n e ≡ false → is_ended n e ≡ false → Settled s h n → Settled s (h ++ e ∷ []) n
 settled_other s h n e p q old =
     settled_same (count_by (own is_settled n) h) (starts h n) (ends h n) (count_by (own is_settled n) (h ++ e ∷ [])) (starts (h ++ e ∷ []) n) (ends (h ++ e ∷ []) n) (done h n) (done (h ++ e ∷ []) n)
-        (count_none (own is_settled n) h e p) (omega (arith, count_more (is_started n) h e)) (count_none (is_ended n) h e q) (not_later h n e) old
+    (count_none (own is_settled n) h e p) (omega (arith, count_more (is_started n) h e)) (count_none (is_ended n) h e q) (not_later h n e) old
 
 settled_end : (s : Run) (h : List Event) (n m i c : ℕ) (t : Status) (b : Bool) → (m == n) ≡ b → IsDue s h m Ended → Settled s h n → Settled s (h ++ event.Ended m i c t ∷ []) n
 settled_end s h n m i c t true q due old =
@@ -415,16 +415,16 @@ open_took s h n f l may =
     let e = event.Took n in
     let none = untaken s h n l may.0.not_taken in
     one_passes (λ k. is_open h k) (λ k. is_open (h ++ e ∷ []) k) n (length s.nodes) (ready_there s h n f may.0) none.is_open
-        (is_opened (h ++ e ∷ []) n (any_now (is_took n) h e (eq-eqb n n refl)) (any_none (is_gave n) h e refl ∙ none.gave))
-        (λ k ne. (others_stay h e k (apart n k ne)).is_open)
+    (is_opened (h ++ e ∷ []) n (any_now (is_took n) h e (eq-eqb n n refl)) (any_none (is_gave n) h e refl ∙ none.gave))
+    (λ k ne. (others_stay h e k (apart n k ne)).is_open)
 
 pub open_gave : (s : Run) (h : List Event) (n : ℕ) → Formed s → IsLegal s h → May s h (event.Gave n) → open_bodies s (h ++ event.Gave n ∷ []) + 1 ≡ open_bodies s h
 open_gave s h n f l may =
     let e = event.Gave n in
     sym (one_passes (λ k. is_open (h ++ e ∷ []) k) (λ k. is_open h k) n (length s.nodes) (in_range s h n f l (opened h n may.0).0)
-        (ap₂ (λ a b. a && not b) refl (any_now (is_gave n) h e (eq-eqb n n refl)) ∙ and_false (took (h ++ e ∷ []) n))
-        may.0
-        (λ k ne. sym (others_stay h e k (apart n k ne)).is_open))
+    (ap₂ (λ a b. a && not b) refl (any_now (is_gave n) h e (eq-eqb n n refl)) ∙ and_false (took (h ++ e ∷ []) n))
+    may.0
+    (λ k ne. sym (others_stay h e k (apart n k ne)).is_open))
 
 -- an event that neither takes nor gives a job leaves the open bodies
 pub open_stays : (s : Run) (h : List Event) (e : Event) → ((n : ℕ) → is_took n e ≡ false) → ((n : ℕ) → is_gave n e ≡ false) → open_bodies s (h ++ e ∷ []) ≡ open_bodies s h
@@ -452,8 +452,8 @@ matches_from s P step before [] es fs p m =
     subst (λ k. P k (es ++ fs)) (sym (append-nil before)) (subst (λ k. P before k) (sym (append-nil es) ∙ ap (λ k. es ++ k) (sym m)) p)
 matches_from s P step before (x ∷ h) es fs p m =
     subst (λ k. P k (es ++ fs)) (append_assoc before (x ∷ []) h)
-        (subst (λ k. P ((before ++ x ∷ []) ++ h) k) (append_assoc es m.0 m.1 ∙ ap (λ k. es ++ k) (sym m.2))
-            (matches_from s P step (before ++ x ∷ []) h (es ++ m.0) m.1 (step before x es m.0 p m.3) m.4))
+    (subst (λ k. P ((before ++ x ∷ []) ++ h) k) (append_assoc es m.0 m.1 ∙ ap (λ k. es ++ k) (sym m.2))
+    (matches_from s P step (before ++ x ∷ []) h (es ++ m.0) m.1 (step before x es m.0 p m.3) m.4))
 
 -- what holds of no events and no entries, and goes on by each event and what it stands for, holds of each match
 pub matches_holds : (s : Run) (P : List Event → List Entry → Type 0) → P [] [] → ((h : List Event) (e : Event) (es fs : List Entry) → P h es → Stands s h e fs → P (h ++ e ∷ []) (es ++ fs)) → (h : List Event) (es : List Entry) → Matches s h es → P h es
@@ -601,8 +601,8 @@ stands_children s h (event.Caught g) fs b = ap children b
 pub matched_children : (s : Run) (h : List Event) (es : List Entry) → Matches s h es → children es ≡ all_starts h
 matched_children s h es m =
     matches_holds s (λ k fs. children fs ≡ all_starts k) refl
-        (λ k e fs gs old b. sum_by-append (λ x. cond (is_child x) 1 0) fs gs ∙ ap₂ (λ x y. x + y) old (stands_children s k e gs b) ∙ sym (count_more is_start k e))
-        h es m
+    (λ k e fs gs old b. sum_by-append (λ x. cond (is_child x) 1 0) fs gs ∙ ap₂ (λ x y. x + y) old (stands_children s k e gs b) ∙ sym (count_more is_start k e))
+    h es m
 
 -- the number of the next child, counted over the record so far
 pub fresh_start : (s : Run) (h : List Event) (es gained : List Entry) → Matches s h gained → children (es ++ gained) ≡ children es + all_starts h
@@ -641,8 +641,8 @@ cause_step s p r h n e es fs (Some t) shows q old b now = any_first p es fs (old
 cause : (s : Run) (p : Entry → Bool) (r : Reason) → ((h : List Event) (m : ℕ) (fs : List Entry) → FailureStands s h m r fs → list_any p fs ≡ true) → (h : List Event) (es : List Entry) (n : ℕ) → Matches s h es → reason_of h n ≡ Some r → list_any p es ≡ true
 cause s p r shows h es n m =
     matches_holds s (λ k fs. reason_of k n ≡ Some r → list_any p fs ≡ true) (λ q. absurd (cc))
-        (λ k e fs gs old b q. cause_step s p r k n e fs gs (reason_of k n) (λ j. shows k j gs) refl old b q)
-        h es m
+    (λ k e fs gs old b q. cause_step s p r k n e fs gs (reason_of k n) (λ j. shows k j gs) refl old b q)
+    h es m
 
 -- a node that failed by a failed call shows in the record, and so does one that failed by a miss
 pub fault_shows : (s : Run) (h : List Event) (es : List Entry) (n : ℕ) (c : Call) → Matches s h es → reason_of h n ≡ Some (reason.Fault c) → list_any is_failed es ≡ true

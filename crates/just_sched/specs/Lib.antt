@@ -9,3 +9,6 @@ pub mod Nowhere
 pub mod Room
 pub mod Idle
 pub mod Codes
+pub mod Tables
+pub mod Commands
+pub mod Moves

@@ -13,13 +13,13 @@ ghost use Rattle.just_sched.specs.Match.{Stands};
 ghost use Rattle.just_sched.specs.Idle.{IsIdle, CanMove};
 ghost use Rattle.just_sched.specs.Verdict.{IsVerdict};
 ghost use Rattle.just_sched.specs.Moves.{Grown, Settled, RunsWith, Rests, MatchNext};
-ghost use Rattle.just_sched.specs.Tables.{tables_size};
 ghost use base.Stored.{Coded-set};
 
 use super::calls::{banner, planned, start_child, tell};
+use super::choice::Tables;
 use super::look::{is_done, last_start, next_step};
 use super::room::{command_count, event_count};
-use super::{Driven, Event, HeldBody, Idle, Named, Naming, Next, OpenBody, Outcome, Plan, Reason, Step, Tables, WaitedBody};
+use super::{Driven, Event, HeldBody, Idle, Named, Naming, Next, OpenBody, Outcome, Plan, Reason, Step, WaitedBody};
 use just_host::{Call, Host};
 use just_path::{NoMemory, Seq};
 use std::alloc::Global;
@@ -46,7 +46,7 @@ pub struct Book<H: Host + Drop, P: Naming> {
     ghost spared: { total_commands P.start.plan.nodes ≤ H.spare host + settles history.items },
     ghost counted: { taken ≡ open_bodies (run_of P.start) history.items },
     ghost bound: { MatchOption P.start.jobs (Unit {0}) (λ j. taken ≤ j) } by { Prim.hlevel props },
-    ghost sized: { tables_size tables ≡ length P.start.plan.nodes },
+    ghost sized: { tables.size ≡ length P.start.plan.nodes },
 }
 
 /// What a book takes memory for.
@@ -62,7 +62,7 @@ fn make_room<H: Host>(alloc: Global, plan: &Plan, host: &mut H) -> Result<Room, 
     ensures empty { IfOk result (λ r. r.history.items ≡ []) }
     ensures room { IfOk result (λ r. slots plan.now.nodes ≤ vec_capacity r.history) }
     ensures spare { OnOk result (total_commands plan.now.nodes ≤ H.spare host.new) }
-    ensures size { IfOk result (λ r. tables_size r.tables ≡ length plan.now.nodes) }
+    ensures size { IfOk result (λ r. r.tables.size ≡ length plan.now.nodes) }
 {
     let Some(commands) = command_count(plan) else {
         return Err(NoMemory);

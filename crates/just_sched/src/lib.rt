@@ -1,15 +1,28 @@
 //! Running a plan: the states of its nodes, legal histories, the book that keeps one, and the drive to its end.
 #![tactic(auto)]
 
+mod book;
+mod calls;
+mod choice;
+mod commands;
+mod driven;
 mod event;
+mod look;
 mod named;
 mod naming;
 mod plan;
 mod plan_node;
+mod room;
+mod tables;
 mod token;
+mod wanted;
 mod work;
 
+pub use book::Book;
+pub use commands::work_for;
+pub use driven::Driven;
 pub use event::{Event, Idle, Outcome, Reason, Verdict};
+pub use look::after;
 pub use named::Named;
 pub use naming::Naming;
 pub use plan::Plan;

@@ -1,0 +1,61 @@
+use Rattle.std.proofs.Common.{◌≡◌, ℕ, zero, suc, ◌<◌, ◌≤◌, Bool, true, false, cond, ltb, List, [], ◌∷◌, length, get_or, Option, Some, None, refl, sym, ap, ◌∙◌, arith}
+use Rattle.std.specs.List.{position, position_or_len, slice_get}
+use Rattle.std.specs.Str.{bytes_eq}
+use Rattle.std.proofs.lemmas.Bool.Decides.{nat_tests}
+use Rattle.std.proofs.lemmas.Option.{slice_get_read}
+use Rattle.std.proofs.lemmas.List.Folds.{find_at}
+use Rattle.just_host.specs.declared.plot.Ending.{Ending}
+use Rattle.just_host.specs.Playing.{ending_of, status_of, tree_after, after_effects}
+use Rattle.std.specs.Ordering.{nat_cmp}
+use Rattle.std.specs.Cmp.Lexicographic.{slice_cmp}
+use Rattle.std.specs.FinMap.{from_entries}
+use Rattle.just_host.proofs.files.Tree.play.Goals as goal
+
+-- the place of the first ending, where there is one
+first_place : (b : Bool) (n i : ℕ) → ◌≡◌ {A = Option ℕ} (cond b (Some n) None) (Some i) → (b ≡ true) × (n ≡ i)
+first_place true n i e = (refl, cc)
+first_place false n i e = absurd cc
+
+no_place : (b : Bool) (n : ℕ) → ◌≡◌ {A = Option ℕ} (cond b (Some n) None) None → b ≡ false
+no_place true n e = absurd cc
+no_place false n e = refl
+
+past_end : {X : Type 0} (xs : List X) (n : ℕ) → length xs ≤ n → slice_get xs n ≡ None
+past_end [] n h = refl
+past_end (x ∷ xs) zero h = absurd (omega arith)
+past_end (x ∷ xs) (suc n) h = past_end xs n (omega arith)
+
+found : (word : List ℕ) (es : List Ending) (i : ℕ) (e : Ending) → position (λ x. bytes_eq x.word word) es ≡ Some i → e ≡ get_or es i e → ending_of word es ≡ Some e
+found word es i e at is =
+    let place = first_place (ltb (position_or_len (λ x. bytes_eq x.word word) es) (length es)) (position_or_len (λ x. bytes_eq x.word word) es) i at in
+    let inside : i < length es = grind (arith, nat_tests, place.0, place.1) in
+    find_at (λ x. bytes_eq x.word word) es ∙ ap (slice_get es) place.1 ∙ slice_get_read es (length es) i e refl inside is
+
+not_found : (word : List ℕ) (es : List Ending) → position (λ x. bytes_eq x.word word) es ≡ None → ending_of word es ≡ None
+not_found word es at =
+    let past = no_place (ltb (position_or_len (λ x. bytes_eq x.word word) es) (length es)) (position_or_len (λ x. bytes_eq x.word word) es) at in
+    let outside : length es ≤ position_or_len (λ x. bytes_eq x.word word) es = grind (arith, nat_tests, past) in
+    find_at (λ x. bytes_eq x.word word) es ∙ past_end es _ outside
+
+pub returns-in_default-clause-status : goal.returns-in_default-clause-status
+returns-in_default-clause-status c =
+    let none : position (λ x. bytes_eq x.word c.args.word.now) c.args.endings.now.items ≡ None = ap (position (λ x. bytes_eq x.word c.args.word.now)) (sym c.as_slice.ensures.value) ∙ sym c.place_of.ensures ∙ c.in_default.is in
+    ap status_of (sym (not_found c.args.word.now c.args.endings.now.items none))
+
+pub returns-in_default-clause-effects : goal.returns-in_default-clause-effects
+returns-in_default-clause-effects c =
+    let none : position (λ x. bytes_eq x.word c.args.word.now) c.args.endings.now.items ≡ None = ap (position (λ x. bytes_eq x.word c.args.word.now)) (sym c.as_slice.ensures.value) ∙ sym c.place_of.ensures ∙ c.in_default.is in
+    ap (tree_after c.args.self.now) (sym (not_found c.args.word.now c.args.endings.now.items none))
+
+pub returns-clause-status : goal.returns-clause-status
+returns-clause-status c =
+    let some : position (λ x. bytes_eq x.word c.args.word.now) c.args.endings.now.items ≡ Some c.in-Some.at = ap (position (λ x. bytes_eq x.word c.args.word.now)) (sym c.as_slice.ensures.value) ∙ sym c.place_of.ensures ∙ c.in-Some.is in
+    ap status_of (sym (found c.args.word.now c.args.endings.now.items c.in-Some.at c.remove-status.result some c.remove-status.ensures.value))
+
+pub returns-clause-effects : goal.returns-clause-effects
+returns-clause-effects c =
+    let some : position (λ x. bytes_eq x.word c.args.word.now) c.args.endings.now.items ≡ Some c.in-Some.at = ap (position (λ x. bytes_eq x.word c.args.word.now)) (sym c.as_slice.ensures.value) ∙ sym c.place_of.ensures ∙ c.in-Some.is in
+    let before : from_entries {R = slice_cmp nat_cmp} c.reserve.new.self.items ≡ c.args.self.now = ap (from_entries {R = slice_cmp nat_cmp}) c.reserve.ensures.items ∙ c.self.view_is in
+    c.apply.ensures
+    ∙ ap (λ m. after_effects m c.remove-status.result.effects.items) before
+    ∙ ap (tree_after c.args.self.now) (sym (found c.args.word.now c.args.endings.now.items c.in-Some.at c.remove-status.result some c.remove-status.ensures.value))

@@ -1,0 +1,9 @@
+use Rattle.std.proofs.Common.{refl}
+use Rattle.just_host.specs.Mem.{world_of}
+use Rattle.just_host.proofs.memory.MemHostHost.start.Goals as goal
+
+pub returns-then-strike-clause-leaves : goal.returns-then-strike-clause-leaves
+returns-then-strike-clause-leaves c = (world_of c.args.self.now, refl, refl, refl, refl)
+
+pub returns-clause-leaves : goal.returns-clause-leaves
+returns-clause-leaves c = (world_of c.args.self.now, refl, refl, refl, refl)

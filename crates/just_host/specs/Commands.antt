@@ -1,0 +1,29 @@
+-- What a child's command is to say, and what its end is to mean.
+use Rattle.std.specs.Prelude.{ℕ, ◌≡◌, if◌then◌else◌, Bool, false, List, [], ◌∷◌, Option, Some, None, ℤ}
+use Rattle.std.specs.Str.{bytes_eq}
+use Rattle.std.specs.Process.{command_program, command_args, command_dir, command_var, clears_env}
+use Rattle.std.specs.declared.alloc.Global.{Global}
+use Rattle.std.specs.declared.process.Command.{Command}
+use Rattle.just_host.specs.declared.entry.Spec.{Spec}
+use Rattle.just_host.specs.declared.entry.Status.{Status}
+use Rattle.just_host.specs.declared.entry.Status.TheVariants.{Code, Signal, Unknown}
+
+-- what is said of a variable after these changes, one after the other, where that was said before: the last change of
+-- its name counts; nothing is said of a variable that is left alone, and of one that is taken out that it has no value
+abbrev pub said_after : List ℕ → Option (Option (List ℕ)) → List (List ℕ × Option (List ℕ)) → Option (Option (List ℕ))
+said_after name before [] = before
+said_after name before (c ∷ cs) = said_after name (if bytes_eq c.0 name then Some c.1 else before) cs
+
+-- a command that is the spec: its program, arguments, folder and changes, over the environment of this process
+pub record IsCommandOf (spec : Spec) (command : Command Global) : Type 0 where
+  pub program : command_program command ≡ spec.program
+  pub arguments : command_args command ≡ spec.arguments
+  pub folder : command_dir command ≡ spec.folder
+  pub changes : (name : List ℕ) → command_var command name ≡ said_after name None spec.changes
+  pub inherits : clears_env command ≡ false
+
+-- a child's end by its code and its signal, as the system tells them
+abbrev pub status_told : Option ℤ → Option ℤ → Status
+status_told (Some code) signal = Code code
+status_told None (Some signal) = Signal signal
+status_told None None = Unknown

@@ -1,0 +1,159 @@
+ghost use Rattle.std.specs.Prelude.{◌≡◌, ◌+◌, ◌-◌, ◌<◌, ◌≤◌, nat_lt, [], ◌∷◌, ◌++◌, false, OnOk, OnErr, IfOk, vec_len, vec_capacity};
+ghost use Rattle.just_path.specs.Path.{text_of};
+ghost use Rattle.just_host.specs.declared.entry.Entry.{Entry};
+ghost use Rattle.just_host.specs.Record.{children, is_started, settled_entry, settled_answer};
+
+use super::{Call, Entry, HostFault, Spec, Status};
+use just_path::{Miss, NoMemory, Utf8Path};
+use std::alloc::Global;
+
+/// The record of a host, with the memory that is kept for entries to come.
+#[derive(Debug, Drop)]
+pub struct Log {
+    entries: Vec<Entry>,
+    /// How many children were started.
+    started: u32,
+    /// How many entries of `settle` need no memory.
+    spare: usize,
+    ghost room_left: { vec_len entries + spare ≤ vec_capacity entries },
+    ghost numbered: { started ≡ children entries.items },
+}
+
+impl Log {
+    pub fn new(alloc: Global) -> Log
+        ensures entries { result.entries.items ≡ [] }
+        ensures spare { result.spare ≡ 0 }
+    {
+        Log {
+            entries: Vec::new(alloc),
+            started: 0,
+            spare: 0,
+        }
+    }
+
+    pub fn entries(&self) -> &[Entry]
+        ensures { result.now ≡ self.now.entries.items }
+    {
+        self.entries.as_slice()
+    }
+
+    /// Makes room for `n` entries of `settle`.
+    pub fn room(&mut self, n: usize) -> Result<(), NoMemory>
+        ensures entries { self.new.entries.items ≡ self.old.entries.items }
+        ensures ok { OnOk result (n ≤ self.new.spare) }
+        ensures err { OnErr result (self.new.spare ≡ self.old.spare) }
+    {
+        self.entries.reserve(n)?;
+        if self.spare < n {
+            self.spare = n;
+        }
+        Ok(())
+    }
+
+    /// Makes sure that there is memory for one entry beside the spare ones.
+    pub fn ready(&mut self) -> Result<(), NoMemory>
+        ensures entries { self.new.entries.items ≡ self.old.entries.items }
+        ensures spare { self.new.spare ≡ self.old.spare }
+        ensures started { self.new.started ≡ self.old.started }
+        ensures ok { OnOk result (vec_len self.new.entries + self.new.spare < vec_capacity self.new.entries) }
+    {
+        let Some(wanted) = self.spare.checked_add(1) else {
+            return Err(NoMemory);
+        };
+        self.entries.reserve(wanted)?;
+        Ok(())
+    }
+
+    /// Appends an entry that starts no child, where `ready` made sure of its memory.
+    pub fn append(&mut self, entry: Entry)
+        requires room { vec_len self.old.entries + self.old.spare < vec_capacity self.old.entries }
+        requires other { is_started entry ≡ false }
+        ensures entries { self.new.entries.items ≡ self.old.entries.items ++ entry ∷ [] }
+        ensures spare { self.new.spare ≡ self.old.spare }
+        ensures started { self.new.started ≡ self.old.started }
+    {
+        self.entries.push_reserved(entry);
+    }
+
+    /// Appends an entry that starts no child.
+    pub fn note(&mut self, entry: Entry) -> Result<(), NoMemory>
+        requires { is_started entry ≡ false }
+        ensures ok { OnOk result (self.new.entries.items ≡ self.old.entries.items ++ entry ∷ []) }
+        ensures err { OnErr result (self.new.entries.items ≡ self.old.entries.items) }
+        ensures spare { self.new.spare ≡ self.old.spare }
+    {
+        self.ready()?;
+        self.append(entry);
+        Ok(())
+    }
+
+    /// Appends the miss of a path.
+    pub fn miss(&mut self, alloc: Global, path: Utf8Path<'_>, miss: Miss) -> Result<(), NoMemory>
+        ensures ok { OnOk result (self.new.entries.items ≡ self.old.entries.items ++ Entry.Missed (text_of path.entry) miss ∷ []) }
+        ensures err { OnErr result (self.new.entries.items ≡ self.old.entries.items) }
+        ensures spare { self.new.spare ≡ self.old.spare }
+    {
+        let path = path.to_path_buf(alloc)?;
+        self.note(Entry::Missed(path, miss))
+    }
+
+    /// Appends the failure of a call.
+    pub fn failure(&mut self, call: Call) -> Result<(), NoMemory>
+        ensures ok { OnOk result (self.new.entries.items ≡ self.old.entries.items ++ Entry.Failed call ∷ []) }
+        ensures err { OnErr result (self.new.entries.items ≡ self.old.entries.items) }
+        ensures spare { self.new.spare ≡ self.old.spare }
+    {
+        self.note(Entry::Failed(call))
+    }
+
+    /// Whether one more child can have a number of its own.
+    pub fn can_number(&self) -> bool
+        ensures { result ≡ nat_lt self.now.started u32.MAX }
+    {
+        self.started < u32::MAX
+    }
+
+    /// Appends the start of a child, and answers its number.
+    pub fn start(&mut self, spec: Spec) -> u32
+        requires room { vec_len self.old.entries + self.old.spare < vec_capacity self.old.entries }
+        requires number { self.old.started < u32.MAX }
+        ensures entries { self.new.entries.items ≡ self.old.entries.items ++ Entry.Started result spec ∷ [] }
+        ensures number { result ≡ children self.old.entries.items }
+        ensures spare { self.new.spare ≡ self.old.spare }
+    {
+        let number = self.started;
+        self.started = number + 1;
+        self.entries.push_reserved(Entry::Started(number, spec));
+        number
+    }
+
+    /// Appends what settling a child stands for, with the end of the child of that number and the status that
+    /// waiting gave, and answers it.
+    pub fn settle(
+        &mut self,
+        child: u32,
+        number: u32,
+        waited: Option<Status>,
+    ) -> Result<Status, HostFault>
+        requires { 0 < self.old.spare }
+        ensures entries { self.new.entries.items ≡ self.old.entries.items ++ settled_entry child number waited ∷ [] }
+        ensures answer { result ≡ settled_answer child number waited }
+        ensures spare { self.new.spare + 1 ≡ self.old.spare }
+    {
+        self.spare -= 1;
+        if number != child {
+            self.append(Entry::Strayed(child, number));
+            return Err(HostFault::Failed(Call::Wait));
+        }
+        match waited {
+            Some(status) => {
+                self.append(Entry::Ended(child, status));
+                Ok(status)
+            }
+            None => {
+                self.append(Entry::Failed(Call::Wait));
+                Err(HostFault::Failed(Call::Wait))
+            }
+        }
+    }
+}

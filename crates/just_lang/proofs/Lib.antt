@@ -1,0 +1,15 @@
+pub mod Around
+pub mod Equal
+pub mod Items
+pub mod Visited
+pub mod Grown
+pub mod Closed
+pub mod Forward
+pub mod Cuts
+pub mod Priors
+pub mod Marks
+pub mod Bodies
+pub mod Lists
+pub mod Builds
+pub mod ItemsRead
+pub mod NamesRead

@@ -1,0 +1,11 @@
+use Rattle.std.proofs.Common.{subst, sym, ap, ◌∙◌, List, ℕ}
+use Rattle.just_sched.specs.Tables.{InRange}
+use Rattle.just_sched.proofs.PlanLaws.{subsequents_read}
+use Rattle.just_sched.proofs.WantedLaws.{subsequents_within}
+use Rattle.just_sched.proofs.wanted.follow_one.Goals as goal
+
+pub lead-requires-clause-within : goal.lead-requires-clause-within
+lead-requires-clause-within c =
+    let nodes = c.args.plan.now.nodes in
+    let are = subsequents_read nodes c.as_slice.result.now c.args.at c.index-as_slice-at.result c.as_slice-then-counts.result.now c.as_slice.ensures c.requires.within (c.as_slice-then-counts.ensures ∙ ap (λ x. x.node.subsequents) c.index-as_slice-at.is) in
+    subst (λ (xs : List ℕ). InRange xs c.args.flags.now) (sym are) (subsequents_within nodes c.args.plan.now.invocations c.args.plan.now.well c.args.flags.now c.args.at c.requires.sized)

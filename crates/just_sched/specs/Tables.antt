@@ -1,0 +1,23 @@
+-- Flags of nodes: a list with one flag for each node of a plan.
+use Rattle.std.specs.Prelude.{ℕ, ◌≡◌, ◌<◌, ◌==◌, ◌⊎◌, Bool, true, false, List, length, slice_index, slice_index_or, Contains, Option, Some, None}
+
+-- the flag of a node; false past the last one
+abbrev pub flag : List Bool → ℕ → Bool
+flag flags n = slice_index_or flags n false
+
+-- each flag says this of its node
+abbrev pub Shows : List Bool → (ℕ → Bool) → Type 0
+Shows flags f = (k : ℕ) → k < length flags → flag flags k ≡ f k
+
+-- each flag says whether this holds of its node
+abbrev pub Tells : List Bool → (ℕ → Type 0) → Type 0
+Tells flags P = (k : ℕ) → k < length flags → (flag flags k ≡ true → P k) × (flag flags k ≡ false → P k → ⊥)
+
+-- the number is n
+abbrev pub names : Option ℕ → ℕ → Bool
+names None n = false
+names (Some m) n = m == n
+
+-- each number of the list is that of a flag
+abbrev pub InRange : List ℕ → List Bool → Type 0
+InRange xs flags = (j : ℕ) → j < length xs → slice_index xs j < length flags
