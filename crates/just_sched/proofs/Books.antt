@@ -1,5 +1,5 @@
 -- What a book's moves need: how its run is kept, its room, and the states of a node, by one event more.
-use Rattle.std.proofs.Common.{◌≡◌, ◌≢◌, ℕ, ◌+◌, ◌-◌, ◌^◌, ◌<◌, ◌≤◌, ◌==◌, ◌&&◌, ◌||◌, ◌⊎◌, inl, inr, not, nat_lt, Bool, true, false, cond, if◌then◌else◌, List, [], ◌∷◌, ◌++◌, length, slice_get, get_or, All, count_by, Option, Some, None, is_none, is_some, MatchOption, Result, Ok, Err, refl, ap, sym, ◌∙◌, subst, append_assoc, append-nil, arith, eqb-true, eq-eqb, le-ltb}
+use Rattle.std.proofs.Common.{◌≡◌, ◌≢◌, ℕ, ◌+◌, ◌-◌, ◌*◌, ◌^◌, ◌<◌, ◌≤◌, ◌==◌, ◌&&◌, ◌||◌, ◌⊎◌, inl, inr, not, nat_lt, Bool, true, false, cond, if◌then◌else◌, List, [], ◌∷◌, ◌++◌, length, slice_get, get_or, All, count_by, Option, Some, None, is_none, is_some, MatchOption, Result, Ok, Err, refl, ap, sym, ◌∙◌, subst, append_assoc, append-nil, arith, eqb-true, eq-eqb, le-ltb}
 use Rattle.std.specs.List.{list_any, range_with_len}
 use Rattle.std.proofs.Math.Logic.{∥∥₁_map, ∥∥₁_elim}
 use Rattle.std.proofs.Math.Bool.{Bool-set}
@@ -28,16 +28,22 @@ use Rattle.just_sched.specs.declared.plan.Plan.{Plan}
 use Rattle.just_sched.specs.declared.plan_node.PlanNode.{PlanNode}
 use Rattle.just_sched.specs.declared.work.Command.{Command}
 use Rattle.just_sched.specs.Works.{commands_of}
-use Rattle.just_sched.specs.Nodes.{banner_at, banner_in, command_at, work_in}
+use Rattle.just_sched.specs.Nodes.{banner_at, banner_in, command_at, work_in, prompt_in}
 use Rattle.just_sched.specs.Room.{slots, settles, total_commands, is_settled}
 use Rattle.just_sched.specs.Start.{Start, run_of, Kept}
-use Rattle.just_sched.specs.State.{is_took, is_gave, is_started, is_ended, is_done, is_begun, is_skipped, is_caught, took, gave, begun, skipped, done, is_open, starts, ends, running, caught}
+use Rattle.just_sched.specs.State.{is_took, is_gave, is_started, is_ended, is_done, is_begun, is_skipped, is_caught, took, gave, begun, skipped, done, is_open, starts, ends, running, caught, Ready, ToAsk}
 use Rattle.just_sched.specs.Legal.{Run, Due, Begun, Started, Ended, IsDue, May, is_start, all_starts, open_bodies, in_body}
 use Rattle.just_sched.specs.Match.{Stands, printed, started_entries}
-use Rattle.just_sched.specs.Moves.{Grown, Settled, RunsWith, Rests, TellGains, StartGains}
+use Rattle.just_sched.specs.Idle.{HasWork, CanMove}
+use Rattle.just_sched.specs.Moves.{Grown, Settled, RunsWith, Rests, MatchNext, TellGains, StartGains}
+use Rattle.just_sched.specs.declared.event.Idle.{Idle}
+use Rattle.just_sched.specs.declared.token.Next.{Next}
+use Rattle.just_sched.specs.declared.token.Next.TheVariants as next
+use Rattle.just_host.specs.declared.outside.Host
+use Rattle.just_path.specs.declared.host.PathHost
 use Rattle.just_sched.proofs.Keeps.{legal_more, matches_more, neither, any_now, any_none, is_of, apart, others_stay, IsSame, all_starts_more, settles_more, caught_more, starts_more, ends_more, last_started, is_open_stays, running_stays, in_body_stays}
 use Rattle.just_sched.proofs.Sane.{skipped_none, open_inside, untaken, is_opened, opened, inside, running_inside, due_start, runs, is_running, sane}
-use Rattle.just_sched.proofs.Totals.{Formed, room, settle_room, open_took, open_gave, open_stays, in_range, fresh_start}
+use Rattle.just_sched.proofs.Totals.{Formed, room, settle_room, open_took, open_gave, open_stays, in_range, ready_there, fresh_start}
 
 and_false : (b : Bool) → (b && false) ≡ false
 and_false true = refl
@@ -103,6 +109,9 @@ grown_two a b c n p q = record {
   runs = λ m ne. q.runs m ne ∙ p.runs m ne;
   starts = λ m ne. q.starts m ne ∙ p.starts m ne;
 }
+
+pub grown_on : (a b b' c : List Event) (n : ℕ) → Grown a b n → b' ≡ b → Grown b' c n → Grown a c n
+grown_on a b b' c n p e q = grown_two a b' c n (subst (λ k. Grown a k n) (sym e) p) q
 
 -- ---- what a book counts
 
@@ -294,8 +303,8 @@ started_start n (event.Started m i c) q = refl
 started_start n _ q = absurd (cc)
 
 -- where a node runs, a child was started
-pub running_started : (h later : List Event) (e : Event) (n : ℕ) → running h n ≡ true → all_starts (h ++ e ∷ []) ≡ 0 → ⊥
-running_started h later e n r z = omega (arith, none_started h e z, count_le (is_started n) is_start (started_start n) h, (runs h n r).0)
+pub running_started : (h : List Event) (e : Event) (n : ℕ) → running h n ≡ true → all_starts (h ++ e ∷ []) ≡ 0 → ⊥
+running_started h e n r z = omega (arith, none_started h e z, count_le (is_started n) is_start (started_start n) h, (runs h n r).0)
 
 -- ---- settling
 
@@ -331,3 +340,98 @@ spared_settled h later e total spare less grew settled enough one =
 
 pub spared_same : (h later : List Event) (e : Event) (total spare same : ℕ) → later ≡ h ++ e ∷ [] → total ≤ spare + settles h → same ≡ spare → total ≤ same + settles later
 spared_same h later e total spare same grew enough is = omega (arith, spared_more h later e total spare grew enough, is)
+
+-- ---- no node is to be asked
+
+no_prompt : (o : Option (List ℕ)) → is_none o ≡ true → is_some o ≡ true → ⊥
+no_prompt None a b = absurd (cc)
+no_prompt (Some x) a b = absurd (cc)
+
+prompted_at : (nodes : List PlanNode) (n : ℕ) (o : Option PlanNode) → slice_get nodes n ≡ o → All (λ x. is_none x.prompt ≡ true) nodes → is_some (prompt_in o) ≡ true → ⊥
+prompted_at nodes n None q all e = absurd (cc)
+prompted_at nodes n (Some x) q all e =
+    no_prompt x.prompt (subst (λ (y : PlanNode). is_none y.prompt ≡ true) (get_or_from_slice_get nodes n x x q) (all n x (slice_get_within nodes n x q))) e
+
+pub none_asked : (s : Start) (h : List Event) (n : ℕ) → ToAsk s.plan.nodes s.plan.invocations h n → ⊥
+none_asked s h n asked = ∥∥₁_elim s.plan.unprompted (λ x. absurd x) (λ all. prompted_at s.plan.nodes n (slice_get s.plan.nodes n) refl all asked.prompted)
+
+-- ---- moves
+
+pub match_next : {X C D : Type 0} {g : Host.Ghosts X C D} {p : PathHost.Ghosts X} (r : Next X C D g p) (A A' : Type 0) (B B' : ℕ → ℕ → Type 0) (K K' : Idle → Type 0) → (A → A') → ((n c : ℕ) → B n c → B' n c) → ((i : Idle) → K i → K' i) → MatchNext r A B K → MatchNext r A' B' K'
+match_next next.Moved A A' B B' K K' a b k m = a m
+match_next (next.Body body) A A' B B' K K' a b k m = b body.node body.child m
+match_next (next.Idle i) A A' B B' K K' a b k m = k i m
+
+same_or : (P : ℕ → Type 0) (m n : ℕ) (b : Bool) → (m == n) ≡ b → (m ≢ n → P m) → P n → P m
+same_or P m n true q other here = subst P (sym (eqb-true m n q)) here
+same_or P m n false q other here = other (λ e. absurd (cc (eq-eqb m n e, q)))
+
+-- a node that took a job and gave it back leaves every node as it was
+pub settled_by : (old mid new : List Event) (n : ℕ) → Grown old mid n → Grown mid new n → is_open old n ≡ false → running old n ≡ false → Rests new n → Settled old new
+settled_by old mid new n a b closed still rests =
+    let all = grown_two old mid new n a b in
+    record {
+      more = all.more;
+      grew = all.grew;
+      opens = λ m. same_or (λ k. is_open new k ≡ is_open old k) m n (m == n) refl (all.opens m) (rests.closed ∙ sym closed);
+      runs = λ m. same_or (λ k. running new k ≡ running old k) m n (m == n) refl (all.runs m) (rests.still ∙ sym still);
+    }
+
+-- ---- why there is no move, and that there is one
+
+pub nothing_ready : (s : Start) (h : List Event) → ((n : ℕ) → n < length s.plan.nodes → Ready s.plan.nodes s.plan.invocations h n → ⊥) → HasWork (run_of s) h → ⊥
+nothing_ready s h none (n, inl ready) = ∥∥₁_elim s.plan.well (λ x. absurd x) (λ f. none n (ready_there (run_of s) h n f ready) ready)
+nothing_ready s h none (n, inr asked) = none_asked s h n asked
+
+not_full : (jobs : Option ℕ) (count : ℕ) → MatchOption jobs (Unit {0}) (λ j. count < j) → jobs ≡ Some count → ⊥
+not_full None count free e = absurd (cc)
+not_full (Some j) count free e = let same : j ≡ count = cc in omega arith
+
+pub can_move : (s : Start) (h : List Event) (n : ℕ) → caught h ≡ false → Ready s.plan.nodes s.plan.invocations h n → MatchOption s.jobs (Unit {0}) (λ j. open_bodies (run_of s) h < j) → CanMove (run_of s) h
+can_move s h n calm ready free = (calm, (n, inl ready), λ none full. not_full s.jobs (open_bodies (run_of s) h) free full)
+
+-- what became of a move, where the node took a job and was then gone on with
+pub did_next : {X C D : Type 0} {g : Host.Ghosts X C D} {p : PathHost.Ghosts X} (r : Next X C D g p) (old first mid new : List Event) (node : ℕ) (K : Idle → Type 0) → first ≡ old → Grown first mid node → (is_open first node ≡ false) × (running first node ≡ false) → Grown mid new node → MatchNext r (Rests new node) (λ n c. (n ≡ node) × RunsWith new n c) (λ i. ⊥) → MatchNext r (Settled old new) (λ n c. Grown old new n × (is_open old n ≡ false) × RunsWith new n c) K
+did_next r old first mid new node K same took was went did =
+    let a : Grown old mid node = subst (λ h. Grown h mid node) same took in
+    let closed : is_open old node ≡ false = ap (λ h. is_open h node) (sym same) ∙ was.0 in
+    let still : running old node ≡ false = ap (λ h. running h node) (sym same) ∙ was.1 in
+    match_next r (Rests new node) (Settled old new) (λ n c. (n ≡ node) × RunsWith new n c) (λ n c. Grown old new n × (is_open old n ≡ false) × RunsWith new n c) (λ i. ⊥) K
+        (λ rests. settled_by old mid new node a went closed still rests)
+        (λ n c m. (subst (λ k. Grown old new k) (sym m.0) (grown_two old mid new node a went), ap (is_open old) m.0 ∙ closed, m.1))
+        (λ i x. absurd x)
+        did
+
+-- ---- room
+
+pub slots_are : (nodes : List PlanNode) → slots nodes ≡ 8 * length nodes + 2 * total_commands nodes + 1
+unfolding slots total_commands
+slots_are [] = refl
+slots_are (x ∷ nodes) =
+    let e = slots_are nodes in
+    omega (arith, e, sum_by-cons (λ y. 8 + 2 * length (commands_of y.work)) x nodes, sum_by-cons (λ y. length (commands_of y.work)) x nodes)
+
+-- ---- a book that was just opened
+
+pub kept_none : (s : Start) (h : List Event) (now : List Entry) (w : Option World) → h ≡ [] → now ≡ s.entries → w ≡ s.world → ∥ Kept s h now w ∥₁
+kept_none s h now w none same world = subst (λ k. ∥ Kept s k now w ∥₁) (sym none) (∣ record { legal = tt; gained = []; grew = same ∙ sym (append-nil s.entries); matches = refl; untouched = λ _ _. world } ∣₁)
+
+none_open : (xs : List ℕ) → count_by (λ n. is_open [] n) xs ≡ 0
+none_open [] = refl
+none_open (x ∷ xs) = omega (arith, sum_by-cons (λ n. cond (is_open [] n) 1 0) x xs, none_open xs)
+
+pub counted_none : (s : Run) (h : List Event) → h ≡ [] → 0 ≡ open_bodies s h
+counted_none s h none = sym (ap (open_bodies s) none ∙ none_open (range_with_len 0 (length s.nodes)))
+
+pub bound_none : (jobs : Option ℕ) → MatchOption jobs (Unit {0}) (λ j. 0 ≤ j)
+bound_none None = tt
+bound_none (Some j) = omega arith
+
+-- a turn of a body: its child's end is noted, and it is gone on with
+pub grown_turn : (a b c d : List Event) (n m k : ℕ) → m ≡ n → k ≡ m → Grown a b n → Grown b c m → Grown c d k → Grown a d n
+grown_turn a b c d n m k first then p q r =
+    grown_two a b d n p (grown_two b c d n (subst (λ j. Grown b c j) first q) (subst (λ j. Grown c d j) (then ∙ first) r))
+
+-- a node that was opened and rests leaves all closed that was closed
+pub closed_by : (a b c : List Event) (n : ℕ) → Grown a b n → Grown b c n → Rests c n → ((m : ℕ) → is_open a m ≡ false) → (m : ℕ) → is_open c m ≡ false
+closed_by a b c n p q rests closed m = same_or (λ k. is_open c k ≡ false) m n (m == n) refl (λ ne. q.opens m ne ∙ p.opens m ne ∙ closed m) rests.closed

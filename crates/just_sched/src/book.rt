@@ -149,15 +149,7 @@ impl<H: Host + Drop, P: Naming> Book<H, P> {
         ensures still { running self.new.history.items body.node ≡ false }
     {
         let (node, child, ended) = body.take_apart();
-        let place = self.place(node);
-        match self.host.settle(child, ended) {
-            Ok(status) => self
-                .history
-                .push_reserved(Event::Ended(node, place, child, status)),
-            Err(_) => self
-                .history
-                .push_reserved(Event::Done(node, Outcome::Failed(Reason::Fault(Call::Wait)))),
-        }
+        self.settle(node, child, ended);
         HeldBody::new(node)
     }
 
@@ -181,7 +173,9 @@ impl<H: Host + Drop, P: Naming> Book<H, P> {
         ensures host { result.host ≡ self.host }
         ensures plan { result.plan ≡ self.plan }
         ensures history { result.history ≡ self.history.items }
-        ensures verdict { IsVerdict (run_of P.start) self.history.items result.verdict }
+        ensures kept { ∥ Kept P.start result.history (H.entries result.host) (H.world result.host) ∥₁ }
+        ensures calm { caught result.history ≡ false }
+        ensures verdict { IsVerdict (run_of P.start) result.history result.verdict }
     {
         let Book {
             plan,
@@ -204,8 +198,8 @@ impl<H: Host + Drop, P: Naming> Book<H, P> {
     /// The first node that is ready.
     fn first_ready(&mut self) -> Option<u32>
         ensures same { (self.new.history ≡ self.old.history) × (self.new.plan ≡ self.old.plan) × (self.new.jobs ≡ self.old.jobs) × (self.new.host ≡ self.old.host) × (self.new.taken ≡ self.old.taken) }
-        ensures some { IfSome result (λ n. Ready P.start.plan.nodes P.start.plan.invocations self.old.history.items n × (n < length P.start.plan.nodes)) }
-        ensures none { IfNone result ((n : ℕ) → Ready P.start.plan.nodes P.start.plan.invocations self.old.history.items n → ⊥) }
+        ensures ready { IfSome result (λ n. (n < length P.start.plan.nodes) × Ready P.start.plan.nodes P.start.plan.invocations self.old.history.items n) }
+        ensures none { IfNone result ((n : ℕ) → n < length P.start.plan.nodes → Ready P.start.plan.nodes P.start.plan.invocations self.old.history.items n → ⊥) }
     {
         let plan = &self.plan;
         let history = self.history.as_slice();
@@ -350,6 +344,27 @@ impl<H: Host + Drop, P: Naming> Book<H, P> {
                     .push_reserved(Event::Done(node, Outcome::Failed(reason)));
                 None
             }
+        }
+    }
+
+    /// Settles the child that the node runs; where waiting failed, the body is done.
+    fn settle(&mut self, node: u32, child: u32, ended: H::Done)
+        requires runs { RunsWith self.old.history.items node child }
+        requires own { H.done_number ended ≡ child }
+        ensures plan { self.new.plan ≡ self.old.plan }
+        ensures jobs { self.new.jobs ≡ self.old.jobs }
+        ensures grown { Grown self.old.history.items self.new.history.items node }
+        ensures opened { is_open self.new.history.items node ≡ true }
+        ensures still { running self.new.history.items node ≡ false }
+    {
+        let place = self.place(node);
+        match self.host.settle(child, ended) {
+            Ok(status) => self
+                .history
+                .push_reserved(Event::Ended(node, place, child, status)),
+            Err(_) => self
+                .history
+                .push_reserved(Event::Done(node, Outcome::Failed(Reason::Fault(Call::Wait)))),
         }
     }
 

@@ -6,6 +6,7 @@ mod calls;
 mod choice;
 mod commands;
 mod driven;
+mod driving;
 mod event;
 mod look;
 mod named;
@@ -20,6 +21,7 @@ mod work;
 
 pub use book::Book;
 pub use commands::work_for;
+pub use driving::drive;
 pub use driven::Driven;
 pub use event::{Event, Idle, Outcome, Reason, Verdict};
 pub use look::after;

@@ -18,6 +18,7 @@ fn size(work: &Work) -> usize
     }
 }
 
+#[tactic(auto, unfolding(crate::specs::Room::total_commands))]
 /// How many commands the bodies have together; None where no number holds it.
 pub(crate) fn command_count(plan: &Plan) -> Option<usize>
     ensures { IfSome result (λ n. n ≡ total_commands plan.now.nodes) }
@@ -34,7 +35,7 @@ pub(crate) fn event_count(plan: &Plan, commands: usize) -> Option<usize>
     requires { commands ≡ total_commands plan.now.nodes }
     ensures { IfSome result (λ n. n ≡ slots plan.now.nodes) }
 {
-    commands
-        .checked_mul(2)?
-        .checked_add(8 * plan.nodes.len() + 1)
+    let twice = commands.checked_mul(2)?;
+    let events = twice.checked_add(8 * plan.nodes.len() + 1)?;
+    Some(events)
 }
