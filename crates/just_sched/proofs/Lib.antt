@@ -7,3 +7,4 @@ pub mod Sane
 pub mod TableLaws
 pub mod Totals
 pub mod WantedLaws
+pub mod Books

@@ -1,11 +1,10 @@
 -- A plan that is made of a closure is a plan.
-use Rattle.std.proofs.Common.{◌≡◌, ℕ, zero, ◌<◌, ◌≤◌, Bool, true, List, [], ◌∷◌, map, length, get_or, find, filter, Option, Some, None, refl, sym, ◌∙◌, ap, subst, arith}
+use Rattle.std.proofs.Common.{◌≡◌, ℕ, ◌<◌, ◌≤◌, Bool, true, List, [], ◌∷◌, map, length, get_or, find, filter, Option, Some, None, refl, sym, ◌∙◌, ap, subst, arith}
 use Rattle.std.specs.Prelude.{All, is_none}
 use Rattle.std.proofs.lemmas.List.{length-map}
 use Rattle.std.proofs.lemmas.List.Sums.{length-filter, count_by-le-length}
 use Rattle.std.proofs.lemmas.List.Elements.{All-map}
 use Rattle.just_lang.specs.declared.ast.Recipe.{Recipe}
-use Rattle.just_lang.specs.declared.key.Key.{Key}
 use Rattle.just_lang.specs.declared.node.BodyLine.{BodyLine}
 use Rattle.just_lang.specs.declared.node.Node.{Node}
 use Rattle.just_lang.specs.BodyLines.{body_lines_of, lines_of, plain_line}

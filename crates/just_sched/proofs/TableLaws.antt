@@ -1,7 +1,7 @@
 -- Laws of the flags of nodes.
 use Rattle.std.proofs.Common.{◌≡◌, ℕ, Bool, true, false, ◌||◌, List, [], ◌∷◌, refl}
-use Rattle.std.proofs.Common.{◌+◌, ◌-◌, ◌<◌, ◌≤◌, ◌≢◌, ◌⊎◌, inl, inr, ⊎_elim, get_or, set, length, arith, sym, ◌∙◌, ap, subst, get_or-set_other, get_or-set_same}
-use Rattle.std.specs.Prelude.{Contains, slice_get, Some, None, All}
+use Rattle.std.proofs.Common.{◌+◌, ◌-◌, ◌<◌, ◌≤◌, ◌≢◌, ◌⊎◌, inl, inr, ⊎_elim, set, length, arith, sym, ◌∙◌, get_or-set_other, get_or-set_same}
+use Rattle.std.specs.Prelude.{Contains, Some, None}
 use Rattle.std.proofs.Math.Decide.{dec_lt}
 use Rattle.std.proofs.Math.Logic.{∥∥₁_elim}
 use Rattle.std.proofs.Math.Bridge.{le_prop}
@@ -9,10 +9,10 @@ use Rattle.std.specs.Coded.{×_prop}
 use Rattle.std.specs.Prelude.{slice_index}
 use Rattle.just_sched.proofs.PlanLaws.{shapes, subsequent_behind, contains_at}
 use Rattle.std.specs.List.{list_any}
-use Rattle.just_lang.specs.WellFormed.{IsWellFormed, round_at}
+use Rattle.just_lang.specs.WellFormed.{IsWellFormed}
 use Rattle.just_sched.specs.declared.event.Event.{Event}
 use Rattle.just_sched.specs.declared.plan_node.PlanNode.{PlanNode}
-use Rattle.just_sched.specs.Nodes.{subsequents_at, priors_at}
+use Rattle.just_sched.specs.Nodes.{subsequents_at}
 use Rattle.just_sched.specs.declared.event.Event.TheVariants as event
 use Rattle.just_sched.specs.State.{over_well, Finished, finished, caught, caught_signal}
 use Rattle.just_sched.specs.Tables.{flag}

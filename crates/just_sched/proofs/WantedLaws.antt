@@ -1,5 +1,5 @@
 -- Laws of the flags of wanted nodes.
-use Rattle.std.proofs.Common.{◌≡◌, ℕ, ◌+◌, ◌-◌, ◌<◌, ◌≤◌, ◌≢◌, ◌⊎◌, inl, inr, ⊎_elim, zero, suc, Bool, true, false, List, length, get_or, refl, sym, ◌∙◌, ap, subst, arith}
+use Rattle.std.proofs.Common.{◌≡◌, ℕ, ◌+◌, ◌-◌, ◌<◌, ◌≤◌, ◌⊎◌, inl, inr, ⊎_elim, zero, suc, Bool, true, false, List, length, get_or, refl, sym, ◌∙◌, ap, subst, arith}
 use Rattle.std.proofs.Math.Logic.{∥∥₁_elim}
 use Rattle.std.proofs.Math.Bridge.{le_prop}
 use Rattle.std.proofs.Math.Decide.{dec_lt}
@@ -9,9 +9,9 @@ use Rattle.just_lang.specs.WellFormed.{IsWellFormed}
 use Rattle.just_sched.specs.declared.event.Event.{Event}
 use Rattle.just_sched.specs.declared.plan_node.PlanNode.{PlanNode}
 use Rattle.just_sched.specs.Nodes.{subsequents_at, priors_at, parallel_at, parallel_in}
-use Rattle.just_sched.specs.State.{over_well, Finished, Wanted, Leads, invoked, prior, subsequent, confirmed}
+use Rattle.just_sched.specs.State.{over_well, Finished, Wanted, Leads, invoked, prior, subsequent}
 use Rattle.just_sched.specs.Tables.{flag, InRange, Shows, Tells}
-use Rattle.just_sched.proofs.PlanLaws.{shapes, subsequent_behind, prior_before, prior_within, invocation_within, contains_at, contained, subsequent_within, confirmed_all}
+use Rattle.just_sched.proofs.PlanLaws.{shapes, subsequent_behind, prior_before, prior_within, invocation_within, contains_at, subsequent_within, confirmed_all}
 
 -- who leads a list stands in it
 pub leads_contains : (F : ℕ → Type 0) (together : Bool) (xs : List ℕ) (k : ℕ) → Leads F together xs k → Contains xs k

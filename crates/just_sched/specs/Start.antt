@@ -28,3 +28,7 @@ pub record Kept (s : Start) (h : List Event) (now : List Entry) (world : Option 
   pub grew : now ≡ s.entries ++ gained
   pub matches : Matches (run_of s) h gained
   pub untouched : all_starts h ≡ 0 → list_any is_failed gained ≡ false → world ≡ s.world
+
+-- what a run is of that has this plan, this job limit and a host with this record and told world
+abbrev pub begins : Plan → Option ℕ → List Entry → Option World → Start
+begins plan jobs entries world = record { plan = plan; jobs = jobs; entries = entries; world = world }

@@ -1,0 +1,417 @@
+//! The book of a run: its history, kept legal, and the moves that go on with it.
+
+ghost use Rattle.std.specs.Prelude.{◌≡◌, ◌≢◌, ◌+◌, ◌<◌, ◌≤◌, ℕ, Bool, true, false, List, [], ◌∷◌, ◌++◌, Option, Some, None, length, option_map, IfOk, IfErr, IfSome, IfNone, OnOk, MatchOption, MatchBool, vec_len, vec_capacity};
+ghost use Rattle.std.specs.Int.NonZero.{non_zero_u64_get};
+ghost use Rattle.std.proofs.Props.{props};
+ghost use Rattle.just_host.specs.Record.{children};
+ghost use Rattle.just_sched.specs.Codes.{plan_code};
+ghost use Rattle.just_sched.specs.Start.{Kept, run_of};
+ghost use Rattle.just_sched.specs.Room.{slots, total_commands, settles};
+ghost use Rattle.just_sched.specs.State.{Ready, is_open, running, begun, done, caught, last_start as start_of, next_step as step_of};
+ghost use Rattle.just_sched.specs.Legal.{Run, IsClosed, May, open_bodies, in_body};
+ghost use Rattle.just_sched.specs.Match.{Stands};
+ghost use Rattle.just_sched.specs.Idle.{IsIdle, CanMove};
+ghost use Rattle.just_sched.specs.Verdict.{IsVerdict};
+ghost use Rattle.just_sched.specs.Moves.{Grown, Settled, RunsWith, Rests, MatchNext};
+ghost use base.Stored.{Coded-set};
+
+use super::calls::{banner, planned, start_child, tell};
+use super::choice::Tables;
+use super::look::{is_done, last_start, next_step};
+use super::room::{command_count, event_count};
+use super::{Driven, Event, HeldBody, Idle, Named, Naming, Next, OpenBody, Outcome, Plan, Reason, Step, WaitedBody};
+use just_host::{Call, Host};
+use just_path::{NoMemory, Seq};
+use std::alloc::Global;
+use std::marker::PhantomData;
+use std::num::NonZeroU64;
+
+/// A run that goes on: its plan, its host, and the history so far, which is legal and matches what the host's record
+/// gained since the book was opened. It has room for every event, so only the host's calls take memory.
+pub struct Book<H: Host + Drop, P: Naming> {
+    pub plan: Plan,
+    /// How many bodies may be open at once; any number where it isn't given.
+    pub jobs: Option<NonZeroU64>,
+    pub host: H,
+    pub history: Vec<Event>,
+    /// How many bodies are open.
+    taken: usize,
+    tables: Tables,
+    of: PhantomData<P>,
+    pub ghost plan_named: { plan ≡ P.start.plan } by { Coded-set plan_code plan P.start.plan },
+    pub ghost jobs_named: { option_map non_zero_u64_get jobs ≡ P.start.jobs } by { Prim.hlevel props },
+    pub ghost kept: { ∥ Kept P.start history.items (H.entries host) (H.world host) ∥₁ },
+    pub ghost calm: { caught history.items ≡ false },
+    ghost roomy: { slots P.start.plan.nodes ≤ vec_capacity history },
+    ghost spared: { total_commands P.start.plan.nodes ≤ H.spare host + settles history.items },
+    ghost counted: { taken ≡ open_bodies (run_of P.start) history.items },
+    ghost bound: { MatchOption P.start.jobs (Unit {0}) (λ j. taken ≤ j) } by { Prim.hlevel props },
+    ghost sized: { tables.size ≡ length P.start.plan.nodes },
+}
+
+/// What a book takes memory for.
+struct Room {
+    history: Vec<Event>,
+    tables: Tables,
+}
+
+/// Takes room for every event of a run of the plan.
+fn make_room<H: Host>(alloc: Global, plan: &Plan, host: &mut H) -> Result<Room, NoMemory>
+    ensures entries { H.entries host.new ≡ H.entries host.old }
+    ensures world { H.world host.new ≡ H.world host.old }
+    ensures empty { IfOk result (λ r. r.history.items ≡ []) }
+    ensures room { IfOk result (λ r. slots plan.now.nodes ≤ vec_capacity r.history) }
+    ensures spare { OnOk result (total_commands plan.now.nodes ≤ H.spare host.new) }
+    ensures size { IfOk result (λ r. r.tables.size ≡ length plan.now.nodes) }
+{
+    let Some(commands) = command_count(plan) else {
+        return Err(NoMemory);
+    };
+    let Some(events) = event_count(plan, commands) else {
+        return Err(NoMemory);
+    };
+    let history = Vec::with_capacity(alloc, events)?;
+    let tables = Tables::new(alloc, plan.nodes.len())?;
+    match host.room(commands) {
+        Ok(()) => Ok(Room { history, tables }),
+        Err(NoMemory) => Err(NoMemory),
+    }
+}
+
+impl<H: Host + Drop, P: Naming> Book<H, P> {
+    /// A book of no events yet. It takes room for every event, and asks the host for its own; where memory is wanting,
+    /// host and plan come back.
+    pub fn open(alloc: Global, plan: Named<P>, host: H, jobs: Option<NonZeroU64>) -> Result<Book<H, P>, (H, Named<P>)>
+        requires jobs { option_map non_zero_u64_get jobs ≡ P.start.jobs }
+        requires entries { H.entries host ≡ P.start.entries }
+        requires world { H.world host ≡ P.start.world }
+        ensures empty { IfOk result (λ b. b.history.items ≡ []) }
+        ensures plan { IfOk result (λ b. b.plan ≡ plan.plan) }
+        ensures jobs { IfOk result (λ b. b.jobs ≡ jobs) }
+        ensures back { IfErr result (λ r. (H.entries r.0 ≡ H.entries host) × (H.world r.0 ≡ H.world host) × (r.1.plan ≡ plan.plan)) }
+    {
+        let mut host = host;
+        match make_room(alloc, &plan.plan, &mut host) {
+            Ok(Room { history, tables }) => Ok(Book {
+                plan: plan.into_plan(),
+                jobs,
+                host,
+                history,
+                taken: 0,
+                tables,
+                of: PhantomData,
+            }),
+            Err(NoMemory) => Err((host, plan)),
+        }
+    }
+
+    /// How many bodies are open.
+    pub fn open_bodies(&self) -> usize
+        ensures { result ≡ open_bodies (run_of P.start) self.now.history.items }
+    {
+        self.taken
+    }
+
+    pub fn history(&self) -> &[Event]
+        ensures { result.now ≡ self.now.history.items }
+    {
+        self.history.as_slice()
+    }
+
+    /// Makes one move, if there is one: the first node that is ready takes a job, and its body is begun and gone on with,
+    /// until a child runs or the job is given back. It waits for no child.
+    pub fn next(&mut self) -> Next<H>
+        ensures plan { self.new.plan ≡ self.old.plan }
+        ensures jobs { self.new.jobs ≡ self.old.jobs }
+        ensures can { MatchNext result (CanMove (run_of P.start) self.old.history.items) (λ node child. CanMove (run_of P.start) self.old.history.items) (λ i. IsIdle (run_of P.start) self.old.history.items i) }
+        ensures did { MatchNext result (Settled self.old.history.items self.new.history.items)
+            (λ node child. Grown self.old.history.items self.new.history.items node × (is_open self.old.history.items node ≡ false) × RunsWith self.new.history.items node child)
+            (λ i. (self.new.history.items ≡ self.old.history.items) × (H.entries self.new.host ≡ H.entries self.old.host)) }
+    {
+        let Some(node) = self.first_ready() else {
+            return Next::Idle(Idle::Nothing);
+        };
+        if self.is_full() {
+            return Next::Idle(Idle::Jobs);
+        }
+        self.take(node);
+        self.advance(node)
+    }
+
+    /// Notes how the body's child ended. It takes no memory.
+    pub fn note_end(&mut self, body: WaitedBody<H>) -> HeldBody
+        requires runs { RunsWith self.old.history.items body.node body.child }
+        ensures plan { self.new.plan ≡ self.old.plan }
+        ensures jobs { self.new.jobs ≡ self.old.jobs }
+        ensures node { result.node ≡ body.node }
+        ensures grown { Grown self.old.history.items self.new.history.items body.node }
+        ensures opened { is_open self.new.history.items body.node ≡ true }
+        ensures still { running self.new.history.items body.node ≡ false }
+    {
+        let (node, child, ended) = body.take_apart();
+        self.settle(node, child, ended);
+        HeldBody::new(node)
+    }
+
+    /// Goes on with a body that runs no child, until one runs or the job is given back.
+    pub fn go_on(&mut self, body: HeldBody) -> Next<H>
+        requires opened { is_open self.old.history.items body.node ≡ true }
+        requires still { running self.old.history.items body.node ≡ false }
+        ensures plan { self.new.plan ≡ self.old.plan }
+        ensures jobs { self.new.jobs ≡ self.old.jobs }
+        ensures grown { Grown self.old.history.items self.new.history.items body.node }
+        ensures did { MatchNext result (Rests self.new.history.items body.node)
+            (λ node child. (node ≡ body.node) × RunsWith self.new.history.items node child)
+            (λ i. ⊥) }
+    {
+        self.advance(body.into_node())
+    }
+
+    /// Closes the book of a run in which no body is open.
+    pub fn close(self) -> Driven<H>
+        requires { IsClosed (run_of P.start) self.history.items }
+        ensures host { result.host ≡ self.host }
+        ensures plan { result.plan ≡ self.plan }
+        ensures history { result.history ≡ self.history.items }
+        ensures kept { ∥ Kept P.start result.history (H.entries result.host) (H.world result.host) ∥₁ }
+        ensures calm { caught result.history ≡ false }
+        ensures verdict { IsVerdict (run_of P.start) result.history result.verdict }
+    {
+        let Book {
+            plan,
+            jobs: _,
+            host,
+            history,
+            taken: _,
+            mut tables,
+            of: _,
+        } = self;
+        let verdict = tables.verdict(&plan, history.as_slice());
+        Driven {
+            host,
+            plan,
+            history: Seq::from(history),
+            verdict,
+        }
+    }
+
+    /// The first node that is ready.
+    fn first_ready(&mut self) -> Option<u32>
+        ensures same { (self.new.history ≡ self.old.history) × (self.new.plan ≡ self.old.plan) × (self.new.jobs ≡ self.old.jobs) × (self.new.host ≡ self.old.host) × (self.new.taken ≡ self.old.taken) }
+        ensures ready { IfSome result (λ n. (n < length P.start.plan.nodes) × Ready P.start.plan.nodes P.start.plan.invocations self.old.history.items n) }
+        ensures none { IfNone result ((n : ℕ) → n < length P.start.plan.nodes → Ready P.start.plan.nodes P.start.plan.invocations self.old.history.items n → ⊥) }
+    {
+        let plan = &self.plan;
+        let history = self.history.as_slice();
+        self.tables.first_ready(plan, history)
+    }
+
+    /// Whether each job is taken.
+    fn is_full(&self) -> bool
+        ensures { MatchBool result
+            (P.start.jobs ≡ Some (open_bodies (run_of P.start) self.now.history.items))
+            (MatchOption P.start.jobs (Unit {0}) (λ j. open_bodies (run_of P.start) self.now.history.items < j)) }
+    {
+        match self.jobs {
+            Some(jobs) => self.taken as u64 == jobs.get(),
+            None => false,
+        }
+    }
+
+    /// The place of the command that the node runs.
+    fn place(&self, node: u32) -> u32
+        ensures { (i c : ℕ) → start_of self.now.history.items node ≡ Some (i, c) → result ≡ i }
+    {
+        match last_start(self.history.as_slice(), node) {
+            Some((place, _)) => place,
+            None => 0,
+        }
+    }
+
+    /// Whether the node's body was begun.
+    fn is_begun(&self, node: u32) -> bool
+        ensures { result ≡ begun self.now.history.items node }
+    {
+        self.history
+            .iter()
+            .any(|e| matches!(e, Event::Begun(n) if *n == node))
+    }
+
+    /// The next step of the node's body.
+    fn next_step(&self, node: u32) -> Step
+        requires { is_open self.now.history.items node ≡ true }
+        ensures { result ≡ step_of P.start.plan.nodes self.now.history.items node }
+    {
+        next_step(&self.plan, self.history.as_slice(), node)
+    }
+
+    /// The node's body takes a job.
+    fn take(&mut self, node: u32)
+        requires ready { Ready P.start.plan.nodes P.start.plan.invocations self.old.history.items node }
+        requires range { node < length P.start.plan.nodes }
+        requires free { MatchOption P.start.jobs (Unit {0}) (λ j. open_bodies (run_of P.start) self.old.history.items < j) }
+        ensures plan { self.new.plan ≡ self.old.plan }
+        ensures jobs { self.new.jobs ≡ self.old.jobs }
+        ensures grown { Grown self.old.history.items self.new.history.items node }
+        ensures was { (is_open self.old.history.items node ≡ false) × (running self.old.history.items node ≡ false) }
+        ensures opened { is_open self.new.history.items node ≡ true }
+        ensures still { running self.new.history.items node ≡ false }
+    {
+        self.taken += 1;
+        self.history.push_reserved(Event::Took(node));
+    }
+
+    /// The node's body gives its job back.
+    fn give(&mut self, node: u32)
+        requires opened { is_open self.old.history.items node ≡ true }
+        requires over { done self.old.history.items node ≡ true }
+        ensures plan { self.new.plan ≡ self.old.plan }
+        ensures jobs { self.new.jobs ≡ self.old.jobs }
+        ensures grown { Grown self.old.history.items self.new.history.items node }
+        ensures rests { Rests self.new.history.items node }
+    {
+        self.taken -= 1;
+        self.history.push_reserved(Event::Gave(node));
+    }
+
+    /// The node's body is done by its statuses.
+    fn end(&mut self, node: u32, outcome: Outcome)
+        requires may { May (run_of P.start) self.old.history.items (Event.Done node outcome) }
+        requires stands { Stands (run_of P.start) self.old.history.items (Event.Done node outcome) [] }
+        requires opened { is_open self.old.history.items node ≡ true }
+        ensures plan { self.new.plan ≡ self.old.plan }
+        ensures jobs { self.new.jobs ≡ self.old.jobs }
+        ensures grown { Grown self.old.history.items self.new.history.items node }
+        ensures opened { is_open self.new.history.items node ≡ true }
+        ensures over { done self.new.history.items node ≡ true }
+    {
+        self.history.push_reserved(Event::Done(node, outcome));
+    }
+
+    /// Begins the node's body, and prints its banner; false where that failed, by which the body is done.
+    fn begin(&mut self, node: u32) -> bool
+        requires inside { in_body self.old.history.items node ≡ true }
+        requires fresh { begun self.old.history.items node ≡ false }
+        requires still { running self.old.history.items node ≡ false }
+        ensures plan { self.new.plan ≡ self.old.plan }
+        ensures jobs { self.new.jobs ≡ self.old.jobs }
+        ensures grown { Grown self.old.history.items self.new.history.items node }
+        ensures opened { is_open self.new.history.items node ≡ true }
+        ensures did { MatchBool result
+            ((in_body self.new.history.items node ≡ true) × (begun self.new.history.items node ≡ true) × (running self.new.history.items node ≡ false))
+            (done self.new.history.items node ≡ true) }
+    {
+        let plan = &self.plan;
+        match tell(&mut self.host, banner(plan, node)) {
+            Ok(()) => {
+                self.history.push_reserved(Event::Begun(node));
+                true
+            }
+            Err(reason) => {
+                self.history
+                    .push_reserved(Event::Done(node, Outcome::Failed(reason)));
+                false
+            }
+        }
+    }
+
+    /// Starts a command of the node; None where that failed, by which the body is done.
+    fn start(&mut self, node: u32, place: usize) -> Option<OpenBody<H>>
+        requires inside { in_body self.old.history.items node ≡ true }
+        requires begun { begun self.old.history.items node ≡ true }
+        requires still { running self.old.history.items node ≡ false }
+        requires due { step_of P.start.plan.nodes self.old.history.items node ≡ Step.Start place }
+        ensures plan { self.new.plan ≡ self.old.plan }
+        ensures jobs { self.new.jobs ≡ self.old.jobs }
+        ensures grown { Grown self.old.history.items self.new.history.items node }
+        ensures did { MatchOption result
+            ((is_open self.new.history.items node ≡ true) × (done self.new.history.items node ≡ true))
+            (λ b. (b.node ≡ node) × RunsWith self.new.history.items node b.child) }
+    {
+        let plan = &self.plan;
+        let Some(command) = planned(plan, node, place) else {
+            unreachable!()
+        };
+        match start_child(&mut self.host, command) {
+            Ok(inner) => {
+                let child = H::number(&inner);
+                self.history
+                    .push_reserved(Event::Started(node, place as u32, child));
+                Some(OpenBody::new(node, child, inner))
+            }
+            Err(reason) => {
+                self.history
+                    .push_reserved(Event::Done(node, Outcome::Failed(reason)));
+                None
+            }
+        }
+    }
+
+    /// Settles the child that the node runs; where waiting failed, the body is done.
+    fn settle(&mut self, node: u32, child: u32, ended: H::Done)
+        requires runs { RunsWith self.old.history.items node child }
+        requires own { H.done_number ended ≡ child }
+        ensures plan { self.new.plan ≡ self.old.plan }
+        ensures jobs { self.new.jobs ≡ self.old.jobs }
+        ensures grown { Grown self.old.history.items self.new.history.items node }
+        ensures opened { is_open self.new.history.items node ≡ true }
+        ensures still { running self.new.history.items node ≡ false }
+    {
+        let place = self.place(node);
+        match self.host.settle(child, ended) {
+            Ok(status) => self
+                .history
+                .push_reserved(Event::Ended(node, place, child, status)),
+            Err(_) => self
+                .history
+                .push_reserved(Event::Done(node, Outcome::Failed(Reason::Fault(Call::Wait)))),
+        }
+    }
+
+    /// Starts the next command of a body that was begun, or ends it and gives its job back.
+    fn step(&mut self, node: u32) -> Next<H>
+        requires inside { in_body self.old.history.items node ≡ true }
+        requires begun { begun self.old.history.items node ≡ true }
+        requires still { running self.old.history.items node ≡ false }
+        ensures plan { self.new.plan ≡ self.old.plan }
+        ensures jobs { self.new.jobs ≡ self.old.jobs }
+        ensures grown { Grown self.old.history.items self.new.history.items node }
+        ensures did { MatchNext result (Rests self.new.history.items node)
+            (λ n child. (n ≡ node) × RunsWith self.new.history.items n child)
+            (λ i. ⊥) }
+    {
+        match self.next_step(node) {
+            Step::Start(place) => {
+                if let Some(body) = self.start(node, place) {
+                    return Next::Body(body);
+                }
+            }
+            Step::Well => self.end(node, Outcome::Well),
+            Step::Failed => self.end(node, Outcome::Failed(Reason::Status)),
+        }
+        self.give(node);
+        Next::Moved
+    }
+
+    /// Goes on with an open body that runs no child: it is begun, where it wasn't, and then makes a step.
+    fn advance(&mut self, node: u32) -> Next<H>
+        requires opened { is_open self.old.history.items node ≡ true }
+        requires still { running self.old.history.items node ≡ false }
+        ensures plan { self.new.plan ≡ self.old.plan }
+        ensures jobs { self.new.jobs ≡ self.old.jobs }
+        ensures grown { Grown self.old.history.items self.new.history.items node }
+        ensures did { MatchNext result (Rests self.new.history.items node)
+            (λ n child. (n ≡ node) × RunsWith self.new.history.items n child)
+            (λ i. ⊥) }
+    {
+        if is_done(self.history.as_slice(), node) {
+            self.give(node);
+            return Next::Moved;
+        }
+        if !self.is_begun(node) && !self.begin(node) {
+            self.give(node);
+            return Next::Moved;
+        }
+        self.step(node)
+    }
+}

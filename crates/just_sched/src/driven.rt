@@ -1,0 +1,11 @@
+use super::{Event, Plan, Verdict};
+use just_host::Host;
+use just_path::Seq;
+
+/// A run that has come to its end.
+pub struct Driven<H: Host> {
+    pub host: H,
+    pub plan: Plan,
+    pub history: Seq<Event>,
+    pub verdict: Verdict,
+}
