@@ -67,6 +67,7 @@ fn usage_text(kind: UsageKind) -> &'static str
 }
 
 /// Where a command stands, as it is told.
+#[derive(Drop)]
 struct OnLine(Option<usize>);
 
 impl fmt::Display for OnLine {
