@@ -1,5 +1,8 @@
+ghost use Rattle.std.specs.Prelude.{◌≡◌};
+ghost use Rattle.just_host.specs.declared.entry.HostFault.{HostFault};
+
 use super::Signal;
-use just_path::{Miss, Seq, Text, Utf8PathBuf};
+use just_path::{Miss, NoMemory, Seq, Text, Utf8PathBuf};
 
 /// The calls of a host that can fail.
 #[derive(Clone, Copy, Debug, PartialEq, Eq, Hash)]
@@ -33,6 +36,16 @@ pub enum HostFault {
     Missed(Miss),
     Failed(Call),
     NoMemory,
+}
+
+impl From<NoMemory> for HostFault {
+    ghost from_gives = { λ _ f. f ≡ HostFault.NoMemory };
+
+    fn from(_wanting: NoMemory) -> HostFault
+        ensures { result ≡ HostFault.NoMemory }
+    {
+        HostFault::NoMemory
+    }
 }
 
 /// Where a text is printed.

@@ -1,4 +1,10 @@
+pub mod Asked
 pub mod Keys
 pub mod Names
+pub mod Root
 pub mod Sound
+pub mod Walk
 pub mod WellFormed
+pub mod Form
+pub mod Kinds
+pub mod Runs

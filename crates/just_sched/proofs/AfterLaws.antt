@@ -1,5 +1,5 @@
 -- The step after some statuses, by their number and the last of them.
-use Rattle.std.proofs.Common.{◌≡◌, ℕ, zero, suc, ◌+◌, ◌-◌, List, [], ◌∷◌, length, ◌≤◌, drop, refl, sym, ◌∙◌, ap, sub-one}
+use Rattle.std.proofs.Common.{◌≡◌, ℕ, suc, ◌+◌, ◌-◌, List, [], ◌∷◌, length, ◌≤◌, drop, refl, sym, ◌∙◌, ap, sub-one}
 use native.Mathlib.Numerals.{unary_clauses}
 use Rattle.std.specs.Prelude.{Option, Some, None, slice_get, filter_map}
 use Rattle.std.proofs.lemmas.List.{drop_all}

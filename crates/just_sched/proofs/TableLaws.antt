@@ -1,7 +1,7 @@
 -- Laws of the flags of nodes.
 use Rattle.std.proofs.Common.{◌≡◌, ℕ, Bool, true, false, ◌||◌, List, [], ◌∷◌, refl}
-use Rattle.std.proofs.Common.{◌+◌, ◌-◌, ◌<◌, ◌≤◌, ◌≢◌, ◌⊎◌, inl, inr, ⊎_elim, get_or, set, length, arith, sym, ◌∙◌, ap, subst, get_or-set_other, get_or-set_same}
-use Rattle.std.specs.Prelude.{Contains, slice_get, Some, None, All}
+use Rattle.std.proofs.Common.{◌+◌, ◌-◌, ◌<◌, ◌≤◌, ◌≢◌, ◌⊎◌, inl, inr, ⊎_elim, set, length, arith, sym, ◌∙◌, get_or-set_other, get_or-set_same}
+use Rattle.std.specs.Prelude.{Contains, Some, None}
 use Rattle.std.proofs.Math.Decide.{dec_lt}
 use Rattle.std.proofs.Math.Logic.{∥∥₁_elim}
 use Rattle.std.proofs.Math.Bridge.{le_prop}
@@ -9,10 +9,10 @@ use Rattle.std.specs.Coded.{×_prop}
 use Rattle.std.specs.Prelude.{slice_index}
 use Rattle.just_sched.proofs.PlanLaws.{shapes, subsequent_behind, contains_at}
 use Rattle.std.specs.List.{list_any}
-use Rattle.just_lang.specs.WellFormed.{IsWellFormed, round_at}
+use Rattle.just_lang.specs.WellFormed.{IsWellFormed}
 use Rattle.just_sched.specs.declared.event.Event.{Event}
 use Rattle.just_sched.specs.declared.plan_node.PlanNode.{PlanNode}
-use Rattle.just_sched.specs.Nodes.{subsequents_at, priors_at}
+use Rattle.just_sched.specs.Nodes.{subsequents_at}
 use Rattle.just_sched.specs.declared.event.Event.TheVariants as event
 use Rattle.just_sched.specs.State.{over_well, Finished, finished, caught, caught_signal}
 use Rattle.just_sched.specs.Tables.{flag}
@@ -60,7 +60,7 @@ module _ (nodes : List PlanNode) (h : List Event) (flags : List Bool) (m : ℕ) 
       ⊎_elim
       (λ (over : over_well h m ≡ false). let same : true ≡ false = sym (finished_over nodes h m f) ∙ over in cc)
       (λ (s : (q : ℕ) × Contains (subsequents_at nodes m) q × (flag flags q ≡ false)).
-        (swept.high s.0 (omega (arith, (behind s.0 s.1).0)) (behind s.0 s.1).1).1 s.2 (finished_behind nodes h m s.0 f s.1))
+      (swept.high s.0 (omega (arith, (behind s.0 s.1).0)) (behind s.0 s.1).1).1 s.2 (finished_behind nodes h m s.0 f s.1))
       (no_is e)
 
   pub sweep_turn : Sweep nodes h (set flags m b) m
@@ -89,13 +89,13 @@ swept_on nodes invocations h flags back at b subsequents well sized lt is_at are
     let before : length nodes - back ≡ at + 1 = omega arith in
     let swept' = rw before at swept in
     rw boundary (sweep_turn nodes h flags at b sized (omega arith) swept'
-      (λ q c. ∥∥₁_elim well (×_prop le_prop le_prop) (λ w. subsequent_behind nodes invocations w at q c))
-      (λ e. (sym (swept'.low at (omega arith) (omega arith)) ∙ (yes_is e).0, λ q c. (yes_is e).1 q (rw (sym are) at c)))
-      (λ e. ⊎_elim
-        (λ (down : flag flags at ≡ false). inl (sym (swept'.low at (omega arith) (omega arith)) ∙ down))
-        (λ (s : (j : ℕ) × (j < length subsequents) × (flag flags (slice_index subsequents j) ≡ false)).
-          inr (slice_index subsequents s.0, rw (sym are) (contains_at subsequents s.0 s.1), s.2))
-        (no_is e)))
+    (λ q c. ∥∥₁_elim well (×_prop le_prop le_prop) (λ w. subsequent_behind nodes invocations w at q c))
+    (λ e. (sym (swept'.low at (omega arith) (omega arith)) ∙ (yes_is e).0, λ q c. (yes_is e).1 q (rw (sym are) at c)))
+    (λ e. ⊎_elim
+    (λ (down : flag flags at ≡ false). inl (sym (swept'.low at (omega arith) (omega arith)) ∙ down))
+    (λ (s : (j : ℕ) × (j < length subsequents) × (flag flags (slice_index subsequents j) ≡ false)).
+    inr (slice_index subsequents s.0, rw (sym are) (contains_at subsequents s.0 s.1), s.2))
+    (no_is e)))
 
 -- no signal was caught where there is no first one
 pub not_caught : (h : List Event) → caught_signal h ≡ None → caught h ≡ false

@@ -1,5 +1,5 @@
 -- Flags of nodes: a list with one flag for each node of a plan.
-use Rattle.std.specs.Prelude.{ℕ, ◌≡◌, ◌<◌, ◌==◌, ◌⊎◌, Bool, true, false, List, length, slice_index, slice_index_or, Contains, Option, Some, None}
+use Rattle.std.specs.Prelude.{ℕ, ◌≡◌, ◌<◌, ◌==◌, Bool, true, false, List, length, slice_index, slice_index_or, Option, Some, None}
 
 -- the flag of a node; false past the last one
 abbrev pub flag : List Bool → ℕ → Bool

@@ -21,8 +21,8 @@ mod work;
 
 pub use book::Book;
 pub use commands::work_for;
-pub use driving::drive;
 pub use driven::Driven;
+pub use driving::drive;
 pub use event::{Event, Idle, Outcome, Reason, Verdict};
 pub use look::after;
 pub use named::Named;

@@ -1,6 +1,6 @@
 -- The last start so far, with those behind, gives the last of all.
 use Rattle.std.proofs.Common.{◌≡◌, drop}
-use Rattle.std.specs.Prelude.{filter_map, None}
+use Rattle.std.specs.Prelude.{filter_map}
 use Rattle.std.specs.List.{last_or}
 use Rattle.just_sched.specs.State.{start_of, last_start}
 use Rattle.just_sched.proofs.look.last_start.Given as goal

@@ -1,5 +1,5 @@
 -- The members so far are flagged, and no others were; each of them is finished, or they go together.
-use Rattle.std.proofs.Common.{◌≡◌, ℕ, ◌<◌, ◌⊎◌, get_or, false, true, length, slice_index}
+use Rattle.std.proofs.Common.{◌≡◌, ℕ, ◌<◌, ◌⊎◌, get_or, false, true, slice_index}
 use Rattle.just_sched.specs.State.{Leads}
 use Rattle.just_sched.proofs.tables.lead.Given as goal
 

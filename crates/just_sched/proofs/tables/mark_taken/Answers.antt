@@ -1,7 +1,5 @@
-use Rattle.std.proofs.Common.{◌∙◌, ap, arith}
+use Rattle.std.proofs.Common.{◌∙◌, arith}
 use Rattle.std.proofs.lemmas.List.{take_all}
-use Rattle.std.specs.Prelude.{◌||◌}
-use Rattle.std.specs.List.{list_any}
 use Rattle.just_sched.specs.State.{is_took, is_done}
 use Rattle.just_sched.proofs.TableLaws.{any_or}
 use Rattle.just_sched.proofs.tables.mark_taken.Goals as goal

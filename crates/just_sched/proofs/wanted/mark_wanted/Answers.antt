@@ -1,4 +1,4 @@
-use Rattle.std.proofs.Common.{◌≡◌, ℕ, List, length, arith, subst, sym}
+use Rattle.std.proofs.Common.{ℕ, List, arith, subst, sym}
 use Rattle.just_sched.specs.Tables.{InRange}
 use Rattle.just_sched.proofs.WantedLaws.{invocations_within, tells_wanted}
 use Rattle.just_sched.proofs.wanted.mark_wanted.Goals as goal

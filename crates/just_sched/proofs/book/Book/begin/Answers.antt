@@ -3,13 +3,11 @@ use Rattle.just_sched.specs.Start.{run_of}
 use Rattle.just_sched.specs.Match.{printed}
 use Rattle.just_sched.specs.Nodes.{banner_at}
 use Rattle.just_sched.specs.Moves.{TellGains}
-use Rattle.just_sched.proofs.Books.{kept_more, room_for, grown_one, calm_more, spared_more, counted_stays, spared_same, node_in, begin_fails}
+use Rattle.just_sched.proofs.Books.{kept_more, room_for, grown_one, calm_more, counted_stays, spared_same, node_in, begin_fails}
 use Rattle.just_sched.proofs.Keeps.{apart}
 use Rattle.just_sched.proofs.Sane.{inside}
 use Rattle.just_sched.specs.declared.event.Event.TheVariants as event
 use Rattle.just_sched.specs.declared.event.Outcome.TheVariants as outcome
-use Rattle.just_sched.specs.declared.event.Reason.TheVariants as reason
-use Rattle.just_host.specs.declared.entry.Call.TheVariants as call
 use Rattle.just_sched.proofs.book.Book.begin.Goals as goal
 
 pub banner-requires : goal.banner-requires

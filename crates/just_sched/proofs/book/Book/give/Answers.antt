@@ -1,6 +1,5 @@
-use Rattle.std.proofs.Common.{arith, refl, sym, ◌∙◌, ap}
-use Rattle.just_sched.specs.Start.{run_of}
-use Rattle.just_sched.proofs.Books.{kept_quiet, room_for, grown_one, calm_more, spared_more, may_give, some_open, counted_gave, counted_given, bound_less, gave_closes, running_as, over_rests}
+use Rattle.std.proofs.Common.{arith, refl, sym, ◌∙◌}
+use Rattle.just_sched.proofs.Books.{kept_quiet, room_for, grown_one, calm_more, spared_more, may_give, some_open, counted_given, bound_less, gave_closes, running_as, over_rests}
 use Rattle.just_sched.proofs.Keeps.{apart}
 use Rattle.just_sched.specs.declared.event.Event.TheVariants as event
 use Rattle.just_sched.proofs.book.Book.give.Goals as goal

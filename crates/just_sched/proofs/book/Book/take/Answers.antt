@@ -1,5 +1,4 @@
-use Rattle.std.proofs.Common.{arith, refl, sym, ◌∙◌, ap}
-use Rattle.just_sched.specs.Start.{run_of}
+use Rattle.std.proofs.Common.{arith, refl, sym, ◌∙◌}
 use Rattle.just_sched.proofs.Books.{kept_quiet, room_for, grown_one, calm_more, spared_more, counted_took, counted_few, bound_more, not_open, not_running, not_given, took_opens, running_as}
 use Rattle.just_sched.proofs.Keeps.{apart}
 use Rattle.just_sched.specs.declared.event.Event.TheVariants as event

@@ -1,4 +1,4 @@
-use Rattle.std.proofs.Common.{◌≡◌, ℕ, ◌<◌, List, length, subst, sym, ◌∙◌, inl, inr, refl}
+use Rattle.std.proofs.Common.{◌<◌, List, length, subst, sym, inl, inr, refl}
 use Rattle.just_sched.specs.declared.plan_node.PlanNode.{PlanNode}
 use Rattle.just_sched.proofs.TableLaws.{not_caught}
 use Rattle.just_sched.proofs.choice.Tables.verdict.Goals as goal
