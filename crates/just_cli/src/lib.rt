@@ -6,9 +6,9 @@ mod error;
 mod failure;
 mod outcome;
 mod prepare;
-mod run;
+mod runner;
 mod words;
 
 pub use ended::{Ended, Failure, Report};
 pub use error::Error;
-pub use run::{run, run_with};
+pub use runner::{run, run_with};

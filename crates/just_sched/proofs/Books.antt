@@ -1,5 +1,5 @@
 -- What a book's moves need: how its run is kept, its room, and the states of a node, by one event more.
-use Rattle.std.proofs.Common.{◌≡◌, ◌≢◌, ℕ, ◌+◌, ◌-◌, ◌*◌, ◌^◌, ◌<◌, ◌≤◌, ◌==◌, ◌&&◌, ◌||◌, ◌⊎◌, inl, inr, not, nat_lt, Bool, true, false, cond, if◌then◌else◌, List, [], ◌∷◌, ◌++◌, length, slice_get, get_or, All, count_by, Option, Some, None, is_none, is_some, MatchOption, Result, Ok, Err, refl, ap, sym, ◌∙◌, subst, append_assoc, append-nil, arith, eqb-true, eq-eqb, le-ltb}
+use Rattle.std.proofs.Common.{◌≡◌, ◌≢◌, ℕ, ◌+◌, ◌-◌, ◌*◌, ◌^◌, ◌<◌, ◌≤◌, ◌==◌, ◌&&◌, ◌||◌, inl, inr, not, nat_lt, Bool, true, false, cond, if◌then◌else◌, List, [], ◌∷◌, ◌++◌, length, slice_get, All, count_by, Option, Some, None, is_none, is_some, MatchOption, Ok, Err, refl, ap, sym, ◌∙◌, subst, append_assoc, append-nil, arith, eqb-true, eq-eqb, le-ltb}
 use Rattle.std.specs.List.{list_any, range_with_len}
 use Rattle.std.proofs.Math.Logic.{∥∥₁_map, ∥∥₁_elim}
 use Rattle.std.proofs.Math.Bool.{Bool-set}
@@ -7,9 +7,8 @@ use Rattle.std.proofs.Math.Nat.{ℕ_set}
 use Rattle.std.proofs.lemmas.List.Folds.{list_any-append}
 use Rattle.std.proofs.lemmas.List.FromFn.{length-range_with_len}
 use Rattle.std.proofs.lemmas.List.Sums.{count_by-le-length, sum_by-cons}
-use Rattle.std.proofs.lemmas.Option.{slice_get-get_or, slice_get_within, get_or_from_slice_get}
+use Rattle.std.proofs.lemmas.Option.{slice_get_within, get_or_from_slice_get}
 use Rattle.std.proofs.Math.Bridge.{le_prop}
-use Rattle.just_host.specs.declared.entry.Call.{Call}
 use Rattle.just_host.specs.declared.entry.Call.TheVariants as call
 use Rattle.just_host.specs.declared.entry.Entry.{Entry}
 use Rattle.just_host.specs.declared.entry.Entry.TheVariants as entry
@@ -24,15 +23,14 @@ use Rattle.just_sched.specs.declared.event.Outcome.{Outcome}
 use Rattle.just_sched.specs.declared.event.Outcome.TheVariants as outcome
 use Rattle.just_sched.specs.declared.event.Reason.{Reason}
 use Rattle.just_sched.specs.declared.event.Reason.TheVariants as reason
-use Rattle.just_sched.specs.declared.plan.Plan.{Plan}
 use Rattle.just_sched.specs.declared.plan_node.PlanNode.{PlanNode}
 use Rattle.just_sched.specs.declared.work.Command.{Command}
 use Rattle.just_sched.specs.Works.{commands_of}
-use Rattle.just_sched.specs.Nodes.{banner_at, banner_in, command_at, work_in, prompt_in}
+use Rattle.just_sched.specs.Nodes.{banner_at, command_at, work_in, prompt_in}
 use Rattle.just_sched.specs.Room.{slots, settles, total_commands, is_settled}
 use Rattle.just_sched.specs.Start.{Start, run_of, Kept}
 use Rattle.just_sched.specs.State.{is_took, is_gave, is_started, is_ended, is_done, is_begun, is_skipped, is_caught, took, gave, begun, skipped, done, is_open, starts, ends, running, caught, Ready, ToAsk}
-use Rattle.just_sched.specs.Legal.{Run, Due, Begun, Started, Ended, IsDue, May, is_start, all_starts, open_bodies, in_body}
+use Rattle.just_sched.specs.Legal.{Run, Begun, Started, IsDue, May, is_start, all_starts, open_bodies, in_body}
 use Rattle.just_sched.specs.Match.{Stands, printed, started_entries}
 use Rattle.just_sched.specs.Idle.{HasWork, CanMove}
 use Rattle.just_sched.specs.Moves.{Grown, Settled, RunsWith, Rests, MatchNext, TellGains, StartGains}
@@ -41,9 +39,9 @@ use Rattle.just_sched.specs.declared.token.Next.{Next}
 use Rattle.just_sched.specs.declared.token.Next.TheVariants as next
 use Rattle.just_host.specs.declared.outside.Host
 use Rattle.just_path.specs.declared.host.PathHost
-use Rattle.just_sched.proofs.Keeps.{legal_more, matches_more, neither, any_now, any_none, is_of, apart, others_stay, IsSame, all_starts_more, settles_more, caught_more, starts_more, ends_more, last_started, is_open_stays, running_stays, in_body_stays}
+use Rattle.just_sched.proofs.Keeps.{legal_more, matches_more, neither, any_now, any_none, is_of, others_stay, all_starts_more, settles_more, caught_more, starts_more, ends_more, last_started, is_open_stays, running_stays, in_body_stays}
 use Rattle.just_sched.proofs.Sane.{skipped_none, open_inside, untaken, is_opened, opened, inside, running_inside, due_start, runs, is_running, sane}
-use Rattle.just_sched.proofs.Totals.{Formed, room, settle_room, open_took, open_gave, open_stays, in_range, ready_there, fresh_start}
+use Rattle.just_sched.proofs.Totals.{room, settle_room, open_took, open_gave, open_stays, in_range, ready_there, fresh_start}
 
 and_false : (b : Bool) → (b && false) ≡ false
 and_false true = refl
@@ -70,8 +68,8 @@ kept_more s h later now fs new w v e kept grew gained may stands same =
       grew = gained ∙ ap (λ x. x ++ fs) k.grew ∙ append_assoc s.entries k.gained fs;
       matches = matches_more (run_of s) h e k.gained fs k.matches stands;
       untouched = λ z none.
-        let parts = none_failed k.gained fs none in
-        same z parts.1 ∙ k.untouched (none_started h e z) parts.0;
+          let parts = none_failed k.gained fs none in
+          same z parts.1 ∙ k.untouched (none_started h e z) parts.0;
     }))
 
 -- an event that stands for no entries
@@ -127,12 +125,12 @@ counted_stays s h later e count grew took gave counted = counted ∙ sym (open_s
 pub counted_took : (s : Start) (h later : List Event) (now : List Entry) (w : Option World) (n count : ℕ) → ∥ Kept s h now w ∥₁ → later ≡ h ++ event.Took n ∷ [] → May (run_of s) h (event.Took n) → count ≡ open_bodies (run_of s) h → count + 1 ≡ open_bodies (run_of s) later
 counted_took s h later now w n count kept grew may counted =
     ∥∥₁_elim s.plan.well (ℕ_set _ _) (λ f. ∥∥₁_elim kept (ℕ_set _ _) (λ k.
-      omega (arith, counted, open_took (run_of s) h n f k.legal may, ap (open_bodies (run_of s)) grew)))
+    omega (arith, counted, open_took (run_of s) h n f k.legal may, ap (open_bodies (run_of s)) grew)))
 
 pub counted_gave : (s : Start) (h later : List Event) (now : List Entry) (w : Option World) (n count : ℕ) → ∥ Kept s h now w ∥₁ → later ≡ h ++ event.Gave n ∷ [] → May (run_of s) h (event.Gave n) → count ≡ open_bodies (run_of s) h → (open_bodies (run_of s) later + 1 ≡ count)
 counted_gave s h later now w n count kept grew may counted =
     ∥∥₁_elim s.plan.well (ℕ_set _ _) (λ f. ∥∥₁_elim kept (ℕ_set _ _) (λ k.
-      omega (arith, counted, open_gave (run_of s) h n f k.legal may, ap (open_bodies (run_of s)) grew)))
+    omega (arith, counted, open_gave (run_of s) h n f k.legal may, ap (open_bodies (run_of s)) grew)))
 
 -- ---- the states of the node of an event
 
@@ -288,7 +286,7 @@ ended_rests s h later now w n i child t kept grew =
     let e = event.Ended n i child t in
     let one = one_if (is_ended n e) (eq-eqb n n refl) in
     ap (λ k. running k n) grew ∙ ∥∥₁_elim kept (Bool-set _ _) (λ k.
-      ap (λ b. b && not (done (h ++ e ∷ []) n)) (le-ltb (ends (h ++ e ∷ []) n) (starts (h ++ e ∷ []) n) (omega (arith, ends_more h e n, one, starts_more h e n, (sane (run_of s) h n k.legal).high))))
+    ap (λ b. b && not (done (h ++ e ∷ []) n)) (le-ltb (ends (h ++ e ∷ []) n) (starts (h ++ e ∷ []) n) (omega (arith, ends_more h e n, one, starts_more h e n, (sane (run_of s) h n k.legal).high))))
 
 cond_le : (a b : Bool) → (a ≡ true → b ≡ true) → cond a 1 0 ≤ cond b 1 0
 cond_le true b f = omega (arith, one_if b (f refl))
@@ -397,10 +395,10 @@ did_next r old first mid new node K same took was went did =
     let closed : is_open old node ≡ false = ap (λ h. is_open h node) (sym same) ∙ was.0 in
     let still : running old node ≡ false = ap (λ h. running h node) (sym same) ∙ was.1 in
     match_next r (Rests new node) (Settled old new) (λ n c. (n ≡ node) × RunsWith new n c) (λ n c. Grown old new n × (is_open old n ≡ false) × RunsWith new n c) (λ i. ⊥) K
-        (λ rests. settled_by old mid new node a went closed still rests)
-        (λ n c m. (subst (λ k. Grown old new k) (sym m.0) (grown_two old mid new node a went), ap (is_open old) m.0 ∙ closed, m.1))
-        (λ i x. absurd x)
-        did
+    (λ rests. settled_by old mid new node a went closed still rests)
+    (λ n c m. (subst (λ k. Grown old new k) (sym m.0) (grown_two old mid new node a went), ap (is_open old) m.0 ∙ closed, m.1))
+    (λ i x. absurd x)
+    did
 
 -- ---- room
 
@@ -429,8 +427,8 @@ bound_none (Some j) = omega arith
 
 -- a turn of a body: its child's end is noted, and it is gone on with
 pub grown_turn : (a b c d : List Event) (n m k : ℕ) → m ≡ n → k ≡ m → Grown a b n → Grown b c m → Grown c d k → Grown a d n
-grown_turn a b c d n m k first then p q r =
-    grown_two a b d n p (grown_two b c d n (subst (λ j. Grown b c j) first q) (subst (λ j. Grown c d j) (then ∙ first) r))
+grown_turn a b c d n m k first after p q r =
+    grown_two a b d n p (grown_two b c d n (subst (λ j. Grown b c j) first q) (subst (λ j. Grown c d j) (after ∙ first) r))
 
 -- a node that was opened and rests leaves all closed that was closed
 pub closed_by : (a b c : List Event) (n : ℕ) → Grown a b n → Grown b c n → Rests c n → ((m : ℕ) → is_open a m ≡ false) → (m : ℕ) → is_open c m ≡ false

@@ -53,8 +53,8 @@ module _ (nodes : List PlanNode) (invocations : List ℕ) (well : IsWellFormed (
   subsequent_behind n q =
       elim (slice_get nodes n) as (λ o. slice_get nodes n ≡ o → Contains (subsequents_in o) q → (n < q) × (q < length nodes)) [
         | Some x ↦ λ found at.
-          let is = contained (λ m. (n < m) × (round_at (shapes nodes) m ≡ Some (Some n))) x.node.subsequents q (well.subsequents_are n x.node (node_found n x found)) at in
-          (is.0, shapes_within q (round_within (shapes nodes) q (Some n) is.1))
+            let is = contained (λ m. (n < m) × (round_at (shapes nodes) m ≡ Some (Some n))) x.node.subsequents q (well.subsequents_are n x.node (node_found n x found)) at in
+            (is.0, shapes_within q (round_within (shapes nodes) q (Some n) is.1))
         | None ↦ λ found at. absurd (omega (arith, at.1))
       ] refl
 
@@ -63,7 +63,7 @@ module _ (nodes : List PlanNode) (invocations : List ℕ) (well : IsWellFormed (
   prior_before n q =
       elim (slice_get nodes n) as (λ o. slice_get nodes n ≡ o → Contains (priors_in o) q → q < n) [
         | Some x ↦ λ found at.
-          (contained (λ m. (m < n) × (round_at (shapes nodes) m ≡ Some x.node.round)) x.node.priors q (well.priors_are n x.node (node_found n x found)) at).0
+            (contained (λ m. (m < n) × (round_at (shapes nodes) m ≡ Some x.node.round)) x.node.priors q (well.priors_are n x.node (node_found n x found)) at).0
         | None ↦ λ found at. absurd (omega (arith, at.1))
       ] refl
 
@@ -92,8 +92,8 @@ pub confirmed_all : (nodes : List PlanNode) (h : List Event) (n : ℕ) → ∥ A
 confirmed_all nodes h n unprompted =
     elim (slice_get nodes n) as (λ o. slice_get nodes n ≡ o → (is_none (prompt_in o) || list_any (is_answer true n) h) ≡ true) [
       | Some x ↦ λ found.
-        let none : is_none x.prompt ≡ true =
-            ∥∥₁_elim unprompted (Bool-set _ _) (λ all. subst (λ (y : PlanNode). is_none y.prompt ≡ true) (get_or_from_slice_get nodes n x x found) (all n x (slice_get_within nodes n x found))) in
-        rw none refl
+          let none : is_none x.prompt ≡ true =
+          ∥∥₁_elim unprompted (Bool-set _ _) (λ all. subst (λ (y : PlanNode). is_none y.prompt ≡ true) (get_or_from_slice_get nodes n x x found) (all n x (slice_get_within nodes n x found))) in
+          rw none refl
       | None ↦ λ found. refl
     ] refl

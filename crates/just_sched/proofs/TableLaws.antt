@@ -60,7 +60,7 @@ module _ (nodes : List PlanNode) (h : List Event) (flags : List Bool) (m : ℕ) 
       ⊎_elim
       (λ (over : over_well h m ≡ false). let same : true ≡ false = sym (finished_over nodes h m f) ∙ over in cc)
       (λ (s : (q : ℕ) × Contains (subsequents_at nodes m) q × (flag flags q ≡ false)).
-        (swept.high s.0 (omega (arith, (behind s.0 s.1).0)) (behind s.0 s.1).1).1 s.2 (finished_behind nodes h m s.0 f s.1))
+      (swept.high s.0 (omega (arith, (behind s.0 s.1).0)) (behind s.0 s.1).1).1 s.2 (finished_behind nodes h m s.0 f s.1))
       (no_is e)
 
   pub sweep_turn : Sweep nodes h (set flags m b) m
@@ -89,13 +89,13 @@ swept_on nodes invocations h flags back at b subsequents well sized lt is_at are
     let before : length nodes - back ≡ at + 1 = omega arith in
     let swept' = rw before at swept in
     rw boundary (sweep_turn nodes h flags at b sized (omega arith) swept'
-      (λ q c. ∥∥₁_elim well (×_prop le_prop le_prop) (λ w. subsequent_behind nodes invocations w at q c))
-      (λ e. (sym (swept'.low at (omega arith) (omega arith)) ∙ (yes_is e).0, λ q c. (yes_is e).1 q (rw (sym are) at c)))
-      (λ e. ⊎_elim
-        (λ (down : flag flags at ≡ false). inl (sym (swept'.low at (omega arith) (omega arith)) ∙ down))
-        (λ (s : (j : ℕ) × (j < length subsequents) × (flag flags (slice_index subsequents j) ≡ false)).
-          inr (slice_index subsequents s.0, rw (sym are) (contains_at subsequents s.0 s.1), s.2))
-        (no_is e)))
+    (λ q c. ∥∥₁_elim well (×_prop le_prop le_prop) (λ w. subsequent_behind nodes invocations w at q c))
+    (λ e. (sym (swept'.low at (omega arith) (omega arith)) ∙ (yes_is e).0, λ q c. (yes_is e).1 q (rw (sym are) at c)))
+    (λ e. ⊎_elim
+    (λ (down : flag flags at ≡ false). inl (sym (swept'.low at (omega arith) (omega arith)) ∙ down))
+    (λ (s : (j : ℕ) × (j < length subsequents) × (flag flags (slice_index subsequents j) ≡ false)).
+    inr (slice_index subsequents s.0, rw (sym are) (contains_at subsequents s.0 s.1), s.2))
+    (no_is e)))
 
 -- no signal was caught where there is no first one
 pub not_caught : (h : List Event) → caught_signal h ≡ None → caught h ≡ false

@@ -29,7 +29,7 @@ module _ (nodes : List PlanNode) (invocations : List ℕ) (well : ∥ IsWellForm
   pub subsequents_within : (flags : List Bool) (at : ℕ) → length flags ≡ length nodes → InRange (subsequents_at nodes at) flags
   subsequents_within flags at sized j lt =
       let inside : slice_index (subsequents_at nodes at) j < length nodes =
-          ∥∥₁_elim well le_prop (λ w. (subsequent_behind nodes invocations w at (slice_index (subsequents_at nodes at) j) (contains_at (subsequents_at nodes at) j lt)).1) in
+      ∥∥₁_elim well le_prop (λ w. (subsequent_behind nodes invocations w at (slice_index (subsequents_at nodes at) j) (contains_at (subsequents_at nodes at) j lt)).1) in
       omega arith
 
   pub priors_below : (at q : ℕ) → Contains (priors_at nodes at) q → (q < at)
@@ -60,7 +60,7 @@ module _ (nodes : List PlanNode) (invocations : List ℕ) (well : ∥ IsWellForm
     as_before m le up =
         ⊎_elim (λ (before : flag old m ≡ true). before)
         (λ (led : (flag old at ≡ true) × Leads (λ q. flag finished q ≡ true) (parallel_at nodes at) (priors_at nodes at) m).
-          absurd (let below : m < at = priors_below at m (leads_contains (λ q. flag finished q ≡ true) (parallel_at nodes at) (priors_at nodes at) m led.1) in omega arith))
+        absurd (let below : m < at = priors_below at m (leads_contains (λ q. flag finished q ≡ true) (parallel_at nodes at) (priors_at nodes at) m led.1) in omega arith))
         (only m up)
 
     pub descend_marks :
@@ -71,8 +71,8 @@ module _ (nodes : List PlanNode) (invocations : List ℕ) (well : ∥ IsWellForm
         elim (dec_lt at m) [
           | yes further ↦ keeps k (so_far m k (omega arith) lt before leads)
           | no not_further ↦
-            (let same : m ≡ at = omega arith in
-            marks (subst (λ i. flag old i ≡ true) same before) k (subst (λ i. Leads (λ q. flag finished q ≡ true) (parallel_at nodes i) (priors_at nodes i) k) same leads))
+              (let same : m ≡ at = omega arith in
+              marks (subst (λ i. flag old i ≡ true) same before) k (subst (λ i. Leads (λ q. flag finished q ≡ true) (parallel_at nodes i) (priors_at nodes i) k) same leads))
         ]
 
     pub descend_only :
@@ -81,12 +81,12 @@ module _ (nodes : List PlanNode) (invocations : List ℕ) (well : ∥ IsWellForm
     descend_only so_far k up =
         ⊎_elim
         (λ (before : flag old k ≡ true).
-          ⊎_elim (λ (first : flag initial k ≡ true). inl first)
-          (λ (w : (m : ℕ) × (m < length nodes) × (flag old m ≡ true) × Leads (λ q. flag finished q ≡ true) (parallel_at nodes m) (priors_at nodes m) k).
-            inr (w.0, w.1, keeps w.0 w.2, w.3))
-          (so_far k before))
+        ⊎_elim (λ (first : flag initial k ≡ true). inl first)
+        (λ (w : (m : ℕ) × (m < length nodes) × (flag old m ≡ true) × Leads (λ q. flag finished q ≡ true) (parallel_at nodes m) (priors_at nodes m) k).
+        inr (w.0, w.1, keeps w.0 w.2, w.3))
+        (so_far k before))
         (λ (led : (flag old at ≡ true) × Leads (λ q. flag finished q ≡ true) (parallel_at nodes at) (priors_at nodes at) k).
-          inr (at, omega arith, keeps at led.0, led.1))
+        inr (at, omega arith, keeps at led.0, led.1))
         (only k up)
 
   -- the three passes, one behind the other, flag just the wanted nodes
@@ -143,7 +143,7 @@ module _ (nodes : List PlanNode) (invocations : List ℕ) (well : ∥ IsWellForm
     second_sound k lt up =
         ⊎_elim (first_sound k lt)
         (λ (w : (m : ℕ) × (m < length nodes) × (flag over m ≡ true) × Leads (λ q. flag finished q ≡ true) (parallel_at nodes m) (subsequents_at nodes m) k).
-          subsequent w.0 k (sym (over_is w.0 (omega (arith, w.1))) ∙ w.2) (really (parallel_at nodes w.0) (subsequents_at nodes w.0) k (of_subsequents w.0) w.3))
+        subsequent w.0 k (sym (over_is w.0 (omega (arith, w.1))) ∙ w.2) (really (parallel_at nodes w.0) (subsequents_at nodes w.0) k (of_subsequents w.0) w.3))
         (only2 k up)
 
     -- by the number of nodes behind
@@ -152,8 +152,8 @@ module _ (nodes : List PlanNode) (invocations : List ℕ) (well : ∥ IsWellForm
     third_sound (suc n) k lt le up =
         ⊎_elim (second_sound k lt)
         (λ (w : (m : ℕ) × (m < length nodes) × (flag third m ≡ true) × Leads (λ q. flag finished q ≡ true) (parallel_at nodes m) (priors_at nodes m) k).
-          let below : k < w.0 = priors_below w.0 k (leads_contains (λ q. flag finished q ≡ true) (parallel_at nodes w.0) (priors_at nodes w.0) k w.3) in
-          prior w.0 k (third_sound n w.0 w.1 (omega arith) w.2) (confirmed_all nodes h w.0 unprompted) (really (parallel_at nodes w.0) (priors_at nodes w.0) k (of_priors w.0) w.3))
+        let below : k < w.0 = priors_below w.0 k (leads_contains (λ q. flag finished q ≡ true) (parallel_at nodes w.0) (priors_at nodes w.0) k w.3) in
+        prior w.0 k (third_sound n w.0 w.1 (omega arith) w.2) (confirmed_all nodes h w.0 unprompted) (really (parallel_at nodes w.0) (priors_at nodes w.0) k (of_priors w.0) w.3))
         (only3 k up)
 
     third_whole : (k : ℕ) → Wanted nodes invocations h k → flag third k ≡ true

@@ -19,7 +19,10 @@ use super::calls::{banner, planned, start_child, tell};
 use super::choice::Tables;
 use super::look::{is_done, last_start, next_step};
 use super::room::{command_count, event_count};
-use super::{Driven, Event, HeldBody, Idle, Named, Naming, Next, OpenBody, Outcome, Plan, Reason, Step, WaitedBody};
+use super::{
+    Driven, Event, HeldBody, Idle, Named, Naming, Next, OpenBody, Outcome, Plan, Reason, Step,
+    WaitedBody,
+};
 use just_host::{Call, Host};
 use just_path::{NoMemory, Seq};
 use std::alloc::Global;
@@ -81,7 +84,12 @@ fn make_room<H: Host>(alloc: Global, plan: &Plan, host: &mut H) -> Result<Room, 
 impl<H: Host + Drop, P: Naming> Book<H, P> {
     /// A book of no events yet. It takes room for every event, and asks the host for its own; where memory is wanting,
     /// host and plan come back.
-    pub fn open(alloc: Global, plan: Named<P>, host: H, jobs: Option<NonZeroU64>) -> Result<Book<H, P>, (H, Named<P>)>
+    pub fn open(
+        alloc: Global,
+        plan: Named<P>,
+        host: H,
+        jobs: Option<NonZeroU64>,
+    ) -> Result<Book<H, P>, (H, Named<P>)>
         requires jobs { option_map non_zero_u64_get jobs ≡ P.start.jobs }
         requires entries { H.entries host ≡ P.start.entries }
         requires world { H.world host ≡ P.start.world }
@@ -362,9 +370,10 @@ impl<H: Host + Drop, P: Naming> Book<H, P> {
             Ok(status) => self
                 .history
                 .push_reserved(Event::Ended(node, place, child, status)),
-            Err(_) => self
-                .history
-                .push_reserved(Event::Done(node, Outcome::Failed(Reason::Fault(Call::Wait)))),
+            Err(_) => self.history.push_reserved(Event::Done(
+                node,
+                Outcome::Failed(Reason::Fault(Call::Wait)),
+            )),
         }
     }
 

@@ -14,7 +14,14 @@ use just_path::NoMemory;
 use std::alloc::Global;
 
 /// Whether the node is ready, by the flags of the wanted, the taken and the finished nodes.
-fn is_ready(plan: &Plan, history: &[Event], at: usize, wanted: &[bool], taken: &[bool], finished: &[bool]) -> bool
+fn is_ready(
+    plan: &Plan,
+    history: &[Event],
+    at: usize,
+    wanted: &[bool],
+    taken: &[bool],
+    finished: &[bool],
+) -> bool
     requires within { at < length plan.now.nodes }
     requires wanted_sized { length wanted.now ≡ length plan.now.nodes }
     requires taken_sized { length taken.now ≡ length plan.now.nodes }
@@ -34,7 +41,13 @@ fn is_ready(plan: &Plan, history: &[Event], at: usize, wanted: &[bool], taken: &
 }
 
 /// The first node that is ready, by the flags of the wanted, the taken and the finished nodes.
-fn first_by(plan: &Plan, history: &[Event], wanted: &[bool], taken: &[bool], finished: &[bool]) -> Option<u32>
+fn first_by(
+    plan: &Plan,
+    history: &[Event],
+    wanted: &[bool],
+    taken: &[bool],
+    finished: &[bool],
+) -> Option<u32>
     requires wanted_sized { length wanted.now ≡ length plan.now.nodes }
     requires taken_sized { length taken.now ≡ length plan.now.nodes }
     requires finished_sized { length finished.now ≡ length plan.now.nodes }

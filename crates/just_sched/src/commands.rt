@@ -61,7 +61,12 @@ fn command(alloc: Global, folder: Utf8Path<'_>, line: &BodyLine) -> Result<Comma
 }
 
 /// Adds the command of a line, where the line isn't empty.
-fn add(alloc: Global, folder: Utf8Path<'_>, line: &BodyLine, commands: &mut Vec<Command>) -> Result<(), NoMemory>
+fn add(
+    alloc: Global,
+    folder: Utf8Path<'_>,
+    line: &BodyLine,
+    commands: &mut Vec<Command>,
+) -> Result<(), NoMemory>
     ensures { OnOk result (commands.new.items ≡ commands.old.items ++ map (command_of (text_of folder.entry)) (filter is_filled (line.now ∷ []))) }
 {
     if line.text.as_str().is_empty() {

@@ -55,7 +55,13 @@ fn run_all<H: Host + Drop, P: Naming, R: Wait>(rt: &R, book: &mut Book<H, P>)
 }
 
 /// Drives a run under its name.
-fn drive_named<H: Host + Drop, P: Naming, R: Wait>(rt: &R, alloc: Global, plan: Plan, host: H, jobs: Option<NonZeroU64>) -> Result<Driven<H>, (H, Plan)>
+fn drive_named<H: Host + Drop, P: Naming, R: Wait>(
+    rt: &R,
+    alloc: Global,
+    plan: Plan,
+    host: H,
+    jobs: Option<NonZeroU64>,
+) -> Result<Driven<H>, (H, Plan)>
     requires plan { plan ≡ P.start.plan }
     requires jobs { option_map non_zero_u64_get jobs ≡ P.start.jobs }
     requires entries { H.entries host ≡ P.start.entries }
@@ -77,7 +83,13 @@ fn drive_named<H: Host + Drop, P: Naming, R: Wait>(rt: &R, alloc: Global, plan: 
 }
 
 /// Runs a plan to its end. Its Err is want of memory, before anything was run, and hands host and plan back.
-pub fn drive<R: Threads + Wait + Sync, H: Host + Send + Drop>(rt: &R, alloc: Global, plan: Plan, host: H, jobs: Option<NonZeroU64>) -> Result<Driven<H>, (H, Plan)>
+pub fn drive<R: Threads + Wait + Sync, H: Host + Send + Drop>(
+    rt: &R,
+    alloc: Global,
+    plan: Plan,
+    host: H,
+    jobs: Option<NonZeroU64>,
+) -> Result<Driven<H>, (H, Plan)>
     ensures plan { IfOk result (λ d. d.plan ≡ plan) }
     ensures kept { IfOk result (λ d. ∥ Kept (begins plan (option_map non_zero_u64_get jobs) (H.entries host) (H.world host)) d.history (H.entries d.host) (H.world d.host) ∥₁) }
     ensures calm { IfOk result (λ d. caught d.history ≡ false) }

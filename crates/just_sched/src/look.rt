@@ -16,13 +16,7 @@ pub fn command(work: &Work, at: usize) -> Option<&Command>
 {
     match work {
         Work::Lines(commands) => commands.as_slice().get(at),
-        Work::Script(command) => {
-            if at == 0 {
-                Some(command)
-            } else {
-                None
-            }
-        }
+        Work::Script(command) => { if at == 0 { Some(command) } else { None } }
         Work::Empty => None,
     }
 }
@@ -78,14 +72,18 @@ pub fn after(work: &Work, statuses: &[Status]) -> Step
 pub(crate) fn is_taken(history: &[Event], node: u32) -> bool
     ensures { result ≡ took history.now node }
 {
-    history.iter().any(|e| matches!(e, Event::Took(n) if *n == node))
+    history
+        .iter()
+        .any(|e| matches!(e, Event::Took(n) if *n == node))
 }
 
 /// Whether the node's body is done.
 pub(crate) fn is_done(history: &[Event], node: u32) -> bool
     ensures { result ≡ done history.now node }
 {
-    history.iter().any(|e| matches!(e, Event::Done(n, _) if *n == node))
+    history
+        .iter()
+        .any(|e| matches!(e, Event::Done(n, _) if *n == node))
 }
 
 /// What the node's body does next.
@@ -139,7 +137,9 @@ pub fn reason_of(history: &[Event], node: u32) -> Option<Reason>
 pub(crate) fn is_given_back(history: &[Event], node: u32) -> bool
     ensures { result ≡ gave history.now node }
 {
-    history.iter().any(|e| matches!(e, Event::Gave(n) if *n == node))
+    history
+        .iter()
+        .any(|e| matches!(e, Event::Gave(n) if *n == node))
 }
 
 /// Whether the node's body took a job and hasn't given it back.

@@ -19,7 +19,12 @@ fn follow_one(plan: &Plan, at: usize, counts: bool, finished: &[bool], flags: &m
 {
     if counts {
         let node = &plan.nodes.as_slice()[at];
-        lead(node.node.subsequents.as_slice(), node.parallel, finished, flags);
+        lead(
+            node.node.subsequents.as_slice(),
+            node.parallel,
+            finished,
+            flags,
+        );
     }
 }
 
@@ -69,7 +74,13 @@ fn descend(plan: &Plan, finished: &[bool], flags: &mut [bool])
 }
 
 /// Flags the nodes that are wanted. It is told which are over well and which are finished.
-pub(crate) fn mark_wanted(plan: &Plan, history: &[Event], over: &[bool], finished: &[bool], flags: &mut [bool])
+pub(crate) fn mark_wanted(
+    plan: &Plan,
+    history: &[Event],
+    over: &[bool],
+    finished: &[bool],
+    flags: &mut [bool],
+)
     requires sized { length flags.old ≡ length plan.now.nodes }
     requires over_sized { length over.now ≡ length plan.now.nodes }
     requires finished_sized { length finished.now ≡ length plan.now.nodes }

@@ -22,7 +22,7 @@ returns-then-not-is_settled-clause-not_so c = λ e s same complete.
     let in_run = subst (λ (xs : List PlanNode). at < length xs) (sym same) lt in
     ⊎_elim
     (λ (down : get_or c.args.finished.now at false ≡ false).
-      (c.requires.finished at (omega (arith, c.requires.sized))).1 down (subst (λ (xs : List PlanNode). Finished xs h at) same (complete.all_finished at in_run)))
+    (c.requires.finished at (omega (arith, c.requires.sized))).1 down (subst (λ (xs : List PlanNode). Finished xs h at) same (complete.all_finished at in_run)))
     (λ (opened : is_open h at ≡ true). let never : true ≡ false = sym opened ∙ complete.closed at in_run in cc)
     (and_not_false (get_or c.args.finished.now at false) (is_open h at) c.if-not-is_settled.ensures)
 
@@ -38,8 +38,8 @@ loop-at-preserved c =
 
 pub returns-clause-is : goal.returns-clause-is
 returns-clause-is c = λ e s same. record {
-      closed = λ n lt. c.loop-at.invariant.closed n (let inside = subst (λ (xs : List PlanNode). n < length xs) same lt in omega (arith, c.len-at-end.ensures));
-      all_finished = λ n lt.
-        subst (λ (xs : List PlanNode). Finished xs c.args.history.now n) (sym same)
-        (c.loop-at.invariant.all_finished n (let inside = subst (λ (xs : List PlanNode). n < length xs) same lt in omega (arith, c.len-at-end.ensures)));
-    }
+  closed = λ n lt. c.loop-at.invariant.closed n (let inside = subst (λ (xs : List PlanNode). n < length xs) same lt in omega (arith, c.len-at-end.ensures));
+  all_finished = λ n lt.
+      subst (λ (xs : List PlanNode). Finished xs c.args.history.now n) (sym same)
+      (c.loop-at.invariant.all_finished n (let inside = subst (λ (xs : List PlanNode). n < length xs) same lt in omega (arith, c.len-at-end.ensures)));
+}

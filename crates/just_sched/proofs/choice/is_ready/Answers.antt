@@ -31,9 +31,9 @@ returns-clause-is c = λ e.
       wanted = (c.requires.wanted c.args.at (omega (arith, c.requires.within, c.requires.wanted_sized))).0 c.if-not-wanted-at.false;
       confirmed = confirmed_all plan.nodes c.args.history.now c.args.at plan.unprompted;
       priors = λ q at_prior.
-        let below : q < c.args.at = priors_below plan.nodes plan.invocations plan.well c.args.at q at_prior in
-        (c.requires.finished q (omega (arith, c.requires.within, c.requires.finished_sized))).0
-        (c.all_flagged.ensures.yes e q (subst (λ (xs : List ℕ). Contains xs q) (sym (are (goal.at.returns-clause-is c).After-as_slice-2)) at_prior));
+          let below : q < c.args.at = priors_below plan.nodes plan.invocations plan.well c.args.at q at_prior in
+          (c.requires.finished q (omega (arith, c.requires.within, c.requires.finished_sized))).0
+          (c.all_flagged.ensures.yes e q (subst (λ (xs : List ℕ). Contains xs q) (sym (are (goal.at.returns-clause-is c).After-as_slice-2)) at_prior));
       not_taken = apart.0;
       not_done = apart.1;
     }

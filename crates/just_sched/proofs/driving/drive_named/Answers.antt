@@ -5,7 +5,7 @@ use Rattle.just_sched.specs.Idle.{IsIdle}
 use Rattle.just_sched.proofs.driving.drive_named.Goals as goal
 
 pub close-requires-after_bounds : goal.close-requires-after_bounds
-close-requires-after_bounds g c = λ n lt. c.run_all.ensures.closed n
+close-requires-after_bounds g c _ _ = λ n lt. c.run_all.ensures.closed n
 
 pub returns-clause-closed : goal.returns-clause-closed
 returns-clause-closed g c = λ n lt. ap (λ h. is_open h n) c.close.ensures.history ∙ c.run_all.ensures.closed n

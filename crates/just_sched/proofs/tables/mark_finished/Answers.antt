@@ -15,7 +15,7 @@ stays-finished-requires c = λ j lt.
     let are = subsequents_read nodes c.as_slice-nodes.result.now at c.index-nodes-at.result c.as_slice.result.now c.as_slice-nodes.ensures (omega arith) c.as_slice.ensures in
     let q = slice_index c.as_slice.result.now j in
     let inside : q < length nodes =
-        ∥∥₁_elim c.args.plan.now.well le_prop (λ w. (subsequent_behind nodes c.args.plan.now.invocations w at q (subst (λ (xs : List ℕ). Contains xs q) are (contains_at c.as_slice.result.now j lt))).1) in
+    ∥∥₁_elim c.args.plan.now.well le_prop (λ w. (subsequent_behind nodes c.args.plan.now.invocations w at q (subst (λ (xs : List ℕ). Contains xs q) are (contains_at c.as_slice.result.now j lt))).1) in
     omega (arith, c.loop-back.invariant.sized)
 
 pub loop-back-preserved : goal.loop-back-preserved
@@ -26,7 +26,7 @@ loop-back-preserved c =
     record {
       sized = simp length-set c.loop-back.invariant.sized;
       swept = swept_on nodes c.args.plan.now.invocations c.args.history.now c.loop-back.flags c.loop-back.back at c.stays-finished.result c.as_slice.result.now
-        c.args.plan.now.well (omega (arith, c.loop-back.invariant.sized)) (omega arith) (omega arith)
-        (subsequents_read nodes c.as_slice-nodes.result.now at c.index-nodes-at.result c.as_slice.result.now c.as_slice-nodes.ensures (omega arith) c.as_slice.ensures)
-        c.loop-back.invariant.swept c.stays-finished.ensures.yes c.stays-finished.ensures.not_all;
+          c.args.plan.now.well (omega (arith, c.loop-back.invariant.sized)) (omega arith) (omega arith)
+          (subsequents_read nodes c.as_slice-nodes.result.now at c.index-nodes-at.result c.as_slice.result.now c.as_slice-nodes.ensures (omega arith) c.as_slice.ensures)
+          c.loop-back.invariant.swept c.stays-finished.ensures.yes c.stays-finished.ensures.not_all;
     }

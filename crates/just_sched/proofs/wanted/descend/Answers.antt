@@ -10,7 +10,7 @@ loop-back-preserved c =
       sized = omega (arith, c.descend_one.auto.flags, c.loop-back.invariant.sized);
       keeps = λ k up. c.descend_one.ensures.keeps k (c.loop-back.invariant.keeps k up);
       marks = descend_marks nodes c.args.plan.now.invocations c.args.plan.now.well c.args.finished.now c.args.flags.now c.loop-back.flags c.descend_one.new.flags c.loop-back.back at
-        (omega (arith, c.len-count.ensures)) (omega (arith, c.len-count.ensures)) c.descend_one.ensures.keeps c.descend_one.ensures.marks c.descend_one.ensures.only c.loop-back.invariant.marks;
+          (omega (arith, c.len-count.ensures)) (omega (arith, c.len-count.ensures)) c.descend_one.ensures.keeps c.descend_one.ensures.marks c.descend_one.ensures.only c.loop-back.invariant.marks;
       only = descend_only nodes c.args.plan.now.invocations c.args.plan.now.well c.args.finished.now c.args.flags.now c.loop-back.flags c.descend_one.new.flags c.loop-back.back at
-        (omega (arith, c.len-count.ensures)) (omega (arith, c.len-count.ensures)) c.descend_one.ensures.keeps c.descend_one.ensures.marks c.descend_one.ensures.only c.loop-back.invariant.only;
+          (omega (arith, c.len-count.ensures)) (omega (arith, c.len-count.ensures)) c.descend_one.ensures.keeps c.descend_one.ensures.marks c.descend_one.ensures.only c.loop-back.invariant.only;
     }

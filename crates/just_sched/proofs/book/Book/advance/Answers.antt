@@ -17,14 +17,14 @@ pub step-requires-clause-inside : goal.step-requires-clause-inside
 step-requires-clause-inside g c _ _ =
     let s = c.args.self.now in
     elim c.else-not-is_begun.branch [
-      else-not-is_begun-via-then-not-is_begun+else-not-begin w ↦ ap (λ b. in_body b.history.items c.args.node) w.self-is ∙ w.if-not-begin.ensures.did.0
-    | else-not-is_begun-via-else-not-is_begun w ↦ ap (λ b. in_body b.history.items c.args.node) w.self-is ∙ inside_open g.P.Naming.start s.history.items _ _ c.args.node s.kept c.requires.opened (ap (λ h. done h c.args.node) (sym c.as_slice.ensures.value) ∙ sym c.if-is_done.ensures)
+      | else-not-is_begun-via-then-not-is_begun+else-not-begin w ↦ ap (λ b. in_body b.history.items c.args.node) w.self-is ∙ w.if-not-begin.ensures.did.0
+      | else-not-is_begun-via-else-not-is_begun w ↦ ap (λ b. in_body b.history.items c.args.node) w.self-is ∙ inside_open g.P.Naming.start s.history.items _ _ c.args.node s.kept c.requires.opened (ap (λ h. done h c.args.node) (sym c.as_slice.ensures.value) ∙ sym c.if-is_done.ensures)
     ]
 
 pub returns-clause-grown : goal.returns-clause-grown
 returns-clause-grown g c =
     let h = c.args.self.now.history.items in
     elim c.else-not-is_begun.branch [
-      else-not-is_begun-via-then-not-is_begun+else-not-begin w ↦ grown_on h _ _ _ c.args.node w.begin.ensures.grown (ap (λ b. b.history.items) w.self-is) c.step.ensures.grown
-    | else-not-is_begun-via-else-not-is_begun w ↦ grown_on h h _ _ c.args.node (grown_none h c.args.node) (ap (λ b. b.history.items) w.self-is) c.step.ensures.grown
+      | else-not-is_begun-via-then-not-is_begun+else-not-begin w ↦ grown_on h _ _ _ c.args.node w.begin.ensures.grown (ap (λ b. b.history.items) w.self-is) c.step.ensures.grown
+      | else-not-is_begun-via-else-not-is_begun w ↦ grown_on h h _ _ c.args.node (grown_none h c.args.node) (ap (λ b. b.history.items) w.self-is) c.step.ensures.grown
     ]

@@ -27,8 +27,8 @@ pub invariant_of-self-clause-kept : goal.invariant_of-self-clause-kept
 invariant_of-self-clause-kept g c =
     let s = c.args.self.now in
     kept_more g.P.Naming.start s.history.items _ _ _ _ _ _ (event.Ended c.args.node c.place-place.result c.args.child c.in-Ok.status) s.kept c.push_reserved.ensures.items c.in-Ok.ensures.entries ((inside_running g.P.Naming.start s.history.items _ _ c.args.node s.kept c.requires.runs.runs, c.requires.runs.runs), (c.requires.runs.started ∙ ap (λ i. Some (i, c.args.child)) (sym (c.place-place.ensures _ _ c.requires.runs.started))))
-        (settled_ok c.args.child (g.H.Host.done_number c.args.ended) (g.H.Host.waited c.args.ended) c.in-Ok.status c.requires.own c.in-Ok.ensures.answer)
-        (λ z none. absurd (running_started s.history.items (event.Ended c.args.node c.place-place.result c.args.child c.in-Ok.status) c.args.node c.requires.runs.runs z))
+    (settled_ok c.args.child (g.H.Host.done_number c.args.ended) (g.H.Host.waited c.args.ended) c.in-Ok.status c.requires.own c.in-Ok.ensures.answer)
+    (λ z none. absurd (running_started s.history.items (event.Ended c.args.node c.place-place.result c.args.child c.in-Ok.status) c.args.node c.requires.runs.runs z))
 
 pub invariant_of-self-clause-calm : goal.invariant_of-self-clause-calm
 invariant_of-self-clause-calm g c =
@@ -49,8 +49,8 @@ pub invariant_of-self-in-Err-clause-kept : goal.invariant_of-self-in-Err-clause-
 invariant_of-self-in-Err-clause-kept g c =
     let s = c.args.self.now in
     kept_more g.P.Naming.start s.history.items _ _ _ _ _ _ (event.Done c.args.node (outcome.Failed (reason.Fault call.Wait))) s.kept c.push_reserved-in-Err.ensures.items c.in-Err.ensures.entries (inside_running g.P.Naming.start s.history.items _ _ c.args.node s.kept c.requires.runs.runs, c.requires.runs.runs)
-        (inl (settled_err c.args.child (g.H.Host.done_number c.args.ended) (g.H.Host.waited c.args.ended) c.in-Err.field-0 c.requires.own c.in-Err.ensures.answer))
-        (λ z none. absurd (running_started s.history.items (event.Done c.args.node (outcome.Failed (reason.Fault call.Wait))) c.args.node c.requires.runs.runs z))
+    (inl (settled_err c.args.child (g.H.Host.done_number c.args.ended) (g.H.Host.waited c.args.ended) c.in-Err.field-0 c.requires.own c.in-Err.ensures.answer))
+    (λ z none. absurd (running_started s.history.items (event.Done c.args.node (outcome.Failed (reason.Fault call.Wait))) c.args.node c.requires.runs.runs z))
 
 pub invariant_of-self-in-Err-clause-calm : goal.invariant_of-self-in-Err-clause-calm
 invariant_of-self-in-Err-clause-calm g c =

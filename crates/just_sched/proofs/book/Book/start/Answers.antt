@@ -29,8 +29,8 @@ pub invariant_of-self-clause-kept : goal.invariant_of-self-clause-kept
 invariant_of-self-clause-kept g c =
     let s = c.args.self.now in
     kept_more g.P.Naming.start s.history.items _ _ c.in-Ok.ensures.gains.0 _ _ _ (event.Started c.args.node c.args.place c.number-child.result) s.kept c.push_reserved.ensures.items c.in-Ok.ensures.gains.1 ((c.requires.inside, c.requires.begun, c.requires.still, c.requires.due), s.calm, c.number-child.ensures ∙ c.in-Ok.ensures.number ∙ fresh_child g.P.Naming.start s.history.items _ _ s.kept)
-        (start_stands (run_of g.P.Naming.start) s.history.items c.args.node c.args.place c.number-child.result c.in-Some.command.now c.in-Ok.ensures.gains.0 (sym (c.in-Some.ensures ∙ ap (λ p. command_at p.nodes c.args.node c.args.place) s.plan_named)) (c.in-Ok.ensures.gains.2 ∙ ap (λ k. started_entries k c.in-Some.command.now) (sym c.number-child.ensures)))
-        (λ z none. absurd (started_not_none s.history.items c.args.node c.args.place c.number-child.result z))
+    (start_stands (run_of g.P.Naming.start) s.history.items c.args.node c.args.place c.number-child.result c.in-Some.command.now c.in-Ok.ensures.gains.0 (sym (c.in-Some.ensures ∙ ap (λ p. command_at p.nodes c.args.node c.args.place) s.plan_named)) (c.in-Ok.ensures.gains.2 ∙ ap (λ k. started_entries k c.in-Some.command.now) (sym c.number-child.ensures)))
+    (λ z none. absurd (started_not_none s.history.items c.args.node c.args.place c.number-child.result z))
 
 pub invariant_of-self-clause-calm : goal.invariant_of-self-clause-calm
 invariant_of-self-clause-calm g c =

@@ -6,7 +6,7 @@ use Rattle.just_sched.proofs.book.Book.step.Goals.{in-Start+in_default, in-Well,
 pub returns-clause-grown : goal.returns-clause-grown
 returns-clause-grown g c =
     elim c.match-next_step.branch [
-      in-Start+in_default w ↦ grown_on c.args.self.now.history.items _ _ _ c.args.node w.start.ensures.grown (ap (λ b. b.history.items) w.self-is) c.give.ensures.grown
-    | in-Well w ↦ grown_on c.args.self.now.history.items _ _ _ c.args.node w.end.ensures.grown (ap (λ b. b.history.items) w.self-is) c.give.ensures.grown
-    | in-Failed w ↦ grown_on c.args.self.now.history.items _ _ _ c.args.node w.end-in-Failed.ensures.grown (ap (λ b. b.history.items) w.self-is) c.give.ensures.grown
+      | in-Start+in_default w ↦ grown_on c.args.self.now.history.items _ _ _ c.args.node w.start.ensures.grown (ap (λ b. b.history.items) w.self-is) c.give.ensures.grown
+      | in-Well w ↦ grown_on c.args.self.now.history.items _ _ _ c.args.node w.end.ensures.grown (ap (λ b. b.history.items) w.self-is) c.give.ensures.grown
+      | in-Failed w ↦ grown_on c.args.self.now.history.items _ _ _ c.args.node w.end-in-Failed.ensures.grown (ap (λ b. b.history.items) w.self-is) c.give.ensures.grown
     ]
