@@ -1,5 +1,5 @@
 ghost use Rattle.std.specs.Prelude.{◌≡◌, Some, IfOk, string_bytes};
-ghost use Rattle.just_cli.specs.Texts.{error_text, code_of, prints, miss_text, fault_text, kind_text, usage_text, line_text};
+ghost use Rattle.just_cli.specs.Texts.{error_text, code_of, prints, miss_text, fault_text, kind_text, usage_text};
 
 use just_host::HostFault;
 use just_lang::{CompileError, CompileKind, Usage, UsageKind};
@@ -66,21 +66,6 @@ fn usage_text(kind: UsageKind) -> &'static str
     }
 }
 
-/// Where a command stands, as it is told.
-#[derive(Drop)]
-struct OnLine(Option<usize>);
-
-impl fmt::Display for OnLine {
-    ghost output = { λ at. Some (line_text at.0) };
-
-    fn fmt<W: fmt::Write>(&self, f: &mut fmt::Formatter<W>) -> fmt::Result {
-        match self.0 {
-            Some(line) => write!(f, " on line {line}"),
-            None => Ok(()),
-        }
-    }
-}
-
 impl fmt::Display for Error {
     ghost output = { λ e. Some (error_text e) };
 
@@ -113,30 +98,55 @@ impl fmt::Display for Error {
             ),
             Error::ClosureLimit => f.write_str("error: request needs more than 1000000 recipes"),
             Error::Code {
-                recipe, line, code, ..
+                recipe,
+                line: Some(line),
+                code,
+                ..
             } => write!(
                 f,
-                "error: recipe `{}` failed{} with exit code {}",
-                recipe.as_str(),
-                OnLine(*line),
-                code
+                "error: recipe `{}` failed on line {line} with exit code {code}",
+                recipe.as_str()
+            ),
+            Error::Code {
+                recipe,
+                line: None,
+                code,
+                ..
+            } => write!(
+                f,
+                "error: recipe `{}` failed with exit code {code}",
+                recipe.as_str()
             ),
             Error::Signal {
                 recipe,
-                line,
+                line: Some(line),
                 signal,
             } => write!(
                 f,
-                "error: recipe `{}` was terminated{} by signal {}",
-                recipe.as_str(),
-                OnLine(*line),
-                signal
+                "error: recipe `{}` was terminated on line {line} by signal {signal}",
+                recipe.as_str()
             ),
-            Error::Unknown { recipe, line } => write!(
+            Error::Signal {
+                recipe,
+                line: None,
+                signal,
+            } => write!(
                 f,
-                "error: recipe `{}` failed{} for an unknown reason",
-                recipe.as_str(),
-                OnLine(*line)
+                "error: recipe `{}` was terminated by signal {signal}",
+                recipe.as_str()
+            ),
+            Error::Unknown {
+                recipe,
+                line: Some(line),
+            } => write!(
+                f,
+                "error: recipe `{}` failed on line {line} for an unknown reason",
+                recipe.as_str()
+            ),
+            Error::Unknown { recipe, line: None } => write!(
+                f,
+                "error: recipe `{}` failed for an unknown reason",
+                recipe.as_str()
             ),
             Error::NoMemory => f.write_str("error: out of memory"),
         }
