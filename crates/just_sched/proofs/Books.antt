@@ -1,5 +1,5 @@
 -- What a book's moves need: how its run is kept, its room, and the states of a node, by one event more.
-use Rattle.std.proofs.Common.{◌≡◌, ◌≢◌, ℕ, ◌+◌, ◌-◌, ◌*◌, ◌^◌, ◌<◌, ◌≤◌, ◌==◌, ◌&&◌, ◌||◌, inl, inr, not, nat_lt, Bool, true, false, cond, if◌then◌else◌, List, [], ◌∷◌, ◌++◌, length, slice_get, All, count_by, Option, Some, None, is_none, is_some, MatchOption, Ok, Err, refl, ap, sym, ◌∙◌, subst, append_assoc, append-nil, arith, eqb-true, eq-eqb, le-ltb}
+use Rattle.std.proofs.Common.{◌≡◌, ◌≢◌, ℕ, ◌+◌, ◌-◌, ◌*◌, ◌^◌, ◌<◌, ◌≤◌, ◌==◌, ◌&&◌, ◌||◌, inl, inr, not, nat_lt, Bool, true, false, cond, if◌then◌else◌, List, [], ◌∷◌, ◌++◌, length, slice_get, All, count_by, Option, Some, None, is_none, is_some, MatchOption, Ok, Err, refl, ap, sym, ◌∙◌, subst, append_assoc, append-nil, length-append, arith, eqb-true, eq-eqb, le-ltb}
 use Rattle.std.specs.List.{list_any, range_with_len}
 use Rattle.std.proofs.Math.Logic.{∥∥₁_map, ∥∥₁_elim}
 use Rattle.std.proofs.Math.Bool.{Bool-set}
@@ -365,12 +365,13 @@ same_or P m n true q other here = subst P (sym (eqb-true m n q)) here
 same_or P m n false q other here = other (λ e. absurd (cc (eq-eqb m n e, q)))
 
 -- a node that took a job and gave it back leaves every node as it was
-pub settled_by : (old mid new : List Event) (n : ℕ) → Grown old mid n → Grown mid new n → is_open old n ≡ false → running old n ≡ false → Rests new n → Settled old new
-settled_by old mid new n a b closed still rests =
+pub settled_by : (old mid new : List Event) (n : ℕ) → length old < length mid → Grown old mid n → Grown mid new n → is_open old n ≡ false → running old n ≡ false → Rests new n → Settled old new
+settled_by old mid new n longer a b closed still rests =
     let all = grown_two old mid new n a b in
     record {
       more = all.more;
       grew = all.grew;
+      longer = omega (arith, longer, ap length b.grew ∙ length-append mid b.more);
       opens = λ m. same_or (λ k. is_open new k ≡ is_open old k) m n (m == n) refl (all.opens m) (rests.closed ∙ sym closed);
       runs = λ m. same_or (λ k. running new k ≡ running old k) m n (m == n) refl (all.runs m) (rests.still ∙ sym still);
     }
@@ -389,13 +390,13 @@ pub can_move : (s : Start) (h : List Event) (n : ℕ) → caught h ≡ false →
 can_move s h n calm ready free = (calm, (n, inl ready), λ none full. not_full s.jobs (open_bodies (run_of s) h) free full)
 
 -- what became of a move, where the node took a job and was then gone on with
-pub did_next : {X C D : Type 0} {g : Host.Ghosts X C D} {p : PathHost.Ghosts X} (r : Next X C D g p) (old first mid new : List Event) (node : ℕ) (K : Idle → Type 0) → first ≡ old → Grown first mid node → (is_open first node ≡ false) × (running first node ≡ false) → Grown mid new node → MatchNext r (Rests new node) (λ n c. (n ≡ node) × RunsWith new n c) (λ i. ⊥) → MatchNext r (Settled old new) (λ n c. Grown old new n × (is_open old n ≡ false) × RunsWith new n c) K
-did_next r old first mid new node K same took was went did =
+pub did_next : {X C D : Type 0} {g : Host.Ghosts X C D} {p : PathHost.Ghosts X} (r : Next X C D g p) (old first mid new : List Event) (node : ℕ) (K : Idle → Type 0) → first ≡ old → length first < length mid → Grown first mid node → (is_open first node ≡ false) × (running first node ≡ false) → Grown mid new node → MatchNext r (Rests new node) (λ n c. (n ≡ node) × RunsWith new n c) (λ i. ⊥) → MatchNext r (Settled old new) (λ n c. Grown old new n × (is_open old n ≡ false) × RunsWith new n c) K
+did_next r old first mid new node K same longer took was went did =
     let a : Grown old mid node = subst (λ h. Grown h mid node) same took in
     let closed : is_open old node ≡ false = ap (λ h. is_open h node) (sym same) ∙ was.0 in
     let still : running old node ≡ false = ap (λ h. running h node) (sym same) ∙ was.1 in
     match_next r (Rests new node) (Settled old new) (λ n c. (n ≡ node) × RunsWith new n c) (λ n c. Grown old new n × (is_open old n ≡ false) × RunsWith new n c) (λ i. ⊥) K
-    (λ rests. settled_by old mid new node a went closed still rests)
+    (λ rests. settled_by old mid new node (subst (λ h. length h < length mid) same longer) a went closed still rests)
     (λ n c m. (subst (λ k. Grown old new k) (sym m.0) (grown_two old mid new node a went), ap (is_open old) m.0 ∙ closed, m.1))
     (λ i x. absurd x)
     did

@@ -1,5 +1,5 @@
 -- What the calls of a book leave: how the history grew, what became of its nodes, and what a host's record gained.
-use Rattle.std.specs.Prelude.{ℕ, ◌≡◌, ◌≢◌, ◌⊎◌, true, false, List, [], ◌∷◌, ◌++◌, Some, Result, Ok, Err}
+use Rattle.std.specs.Prelude.{ℕ, ◌<◌, length, ◌≡◌, ◌≢◌, ◌⊎◌, true, false, List, [], ◌∷◌, ◌++◌, Some, Result, Ok, Err}
 use Rattle.just_host.specs.declared.entry.Call.TheVariants as call
 use Rattle.just_host.specs.declared.entry.Entry.{Entry}
 use Rattle.just_host.specs.declared.entry.Entry.TheVariants as entry
@@ -24,10 +24,11 @@ pub record Grown (old new : List Event) (node : ℕ) : Type 0 where
   pub runs : (m : ℕ) → m ≢ node → running new m ≡ running old m
   pub starts : (m : ℕ) → m ≢ node → last_start new m ≡ last_start old m
 
--- a history that grew, by which every node is as open and as running as it was
+-- a history that gained events, by which every node is as open and as running as it was
 pub record Settled (old new : List Event) : Type 0 where
   pub more : List Event
   pub grew : new ≡ old ++ more
+  pub longer : length old < length new
   pub opens : (m : ℕ) → is_open new m ≡ is_open old m
   pub runs : (m : ℕ) → running new m ≡ running old m
 

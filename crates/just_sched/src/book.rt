@@ -261,6 +261,7 @@ impl<H: Host + Drop, P: Naming> Book<H, P> {
         ensures plan { self.new.plan ≡ self.old.plan }
         ensures jobs { self.new.jobs ≡ self.old.jobs }
         ensures grown { Grown self.old.history.items self.new.history.items node }
+        ensures longer { length self.old.history.items < length self.new.history.items }
         ensures was { (is_open self.old.history.items node ≡ false) × (running self.old.history.items node ≡ false) }
         ensures opened { is_open self.new.history.items node ≡ true }
         ensures still { running self.new.history.items node ≡ false }

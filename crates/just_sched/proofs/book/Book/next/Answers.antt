@@ -16,4 +16,4 @@ returns-then-is_full-clause-can g c =
 
 pub returns-clause-did : goal.returns-clause-did
 returns-clause-did g c =
-    did_next c.advance.result c.args.self.now.history.items _ _ _ c.in-Some.node _ (ap (λ v. v.items) c.in-Some.ensures.same.0) c.take.ensures.grown c.take.ensures.was c.advance.ensures.grown c.advance.ensures.did
+    did_next c.advance.result c.args.self.now.history.items _ _ _ c.in-Some.node _ (ap (λ v. v.items) c.in-Some.ensures.same.0) c.take.ensures.longer c.take.ensures.grown c.take.ensures.was c.advance.ensures.grown c.advance.ensures.did
