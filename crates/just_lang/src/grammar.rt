@@ -11,12 +11,11 @@ mod kind;
 mod line;
 mod name;
 
-pub use line::is_recipe_name;
-
 use crate::{Ast, CompileError, CompileKind, LangError, Source};
 use item::items;
 use just_path::NoMemory;
 use kind::{Kind, first_outside, kinds};
+pub use line::is_recipe_name;
 use name::{first_misfit, headers, sooner};
 use std::alloc::{AllocError, Global};
 

@@ -31,8 +31,8 @@ commands_back (c ∷ cs) = refl
 few_commands : (folder : List ℕ) (ls : List BodyLine) → length (commands_of (work_of folder ls)) ≤ length ls
 few_commands folder ls =
     subst (λ n. n ≤ length ls)
-        (sym (length-filter is_filled ls) ∙ (sym (length-map (filter is_filled ls) (command_of folder)) ∙ sym (ap length (commands_back (map (command_of folder) (filter is_filled ls))))))
-        (count_by-le-length is_filled ls)
+    (sym (length-filter is_filled ls) ∙ (sym (length-map (filter is_filled ls) (command_of folder)) ∙ sym (ap length (commands_back (map (command_of folder) (filter is_filled ls))))))
+    (count_by-le-length is_filled ls)
 
 short_lines : (n : ℕ) (rs : List Recipe) (p : Recipe → Bool) → 0 < n → All (λ r. length r.body < n) rs → (o : Option Recipe) → find p rs ≡ o → length (lines_of o) < n
 short_lines n rs p some short None e = some
@@ -42,9 +42,9 @@ short_lines n rs p some short (Some r) e = subst (λ m. m < n) (sym (length-map 
 pub short_bodies : (n : ℕ) (rs : List Recipe) (folder : List ℕ) → 0 < n → All (λ r. length r.body < n) rs → (xs : List Node) → All (λ y. length (commands_of y.work) < n) (plan_nodes rs folder xs)
 short_bodies n rs folder some short xs =
     All-map (λ y. length (commands_of y.work) < n) (plan_node_of rs folder) xs (λ i d lt.
-        let few = few_commands folder (body_lines_of rs (get_or xs i d).key) in
-        let lines = short_lines n rs (λ r. same_path r.path (get_or xs i d).key.recipe) some short (recipe_of rs (get_or xs i d).key) refl in
-        omega (arith, few, lines))
+    let few = few_commands folder (body_lines_of rs (get_or xs i d).key) in
+    let lines = short_lines n rs (λ r. same_path r.path (get_or xs i d).key.recipe) some short (recipe_of rs (get_or xs i d).key) refl in
+    omega (arith, few, lines))
 
 pub no_prompts : (rs : List Recipe) (folder : List ℕ) (xs : List Node) → All (λ y. is_none y.prompt ≡ true) (plan_nodes rs folder xs)
 no_prompts rs folder xs = All-map (λ y. is_none y.prompt ≡ true) (plan_node_of rs folder) xs (λ i d lt. refl)
@@ -63,5 +63,5 @@ planned rs folder xs invocations short formed few =
       well = ∣ subst (λ ys. IsWellFormed ys invocations) (sym (nodes_back rs folder xs)) formed ∣₁;
       few = subst (λ n. n < 4294967296) (sym (length-map xs (plan_node_of rs folder))) few;
       short = ∥∥₁_map short (λ all. short_bodies 4294967296 rs folder (omega arith) all xs);
-      unprompted = ∣ no_prompts rs folder xs ∣₁
+      unprompted = ∣ no_prompts rs folder xs ∣₁;
     }

@@ -12,7 +12,12 @@ use just_path::{NoMemory, Seq, Text, Utf8Path};
 use std::alloc::Global;
 
 /// A node with what its recipe's body has to run in the folder.
-fn plan_node(alloc: Global, justfile: &Justfile, folder: Utf8Path<'_>, node: Node) -> Result<PlanNode, LangError>
+fn plan_node(
+    alloc: Global,
+    justfile: &Justfile,
+    folder: Utf8Path<'_>,
+    node: Node,
+) -> Result<PlanNode, LangError>
     requires { NamesRecipe justfile.now.recipes node.key }
     ensures node { IfOk result (λ x. x ≡ plan_node_of justfile.now.recipes (text_of folder.entry) node) }
     ensures refused { IfErr result (λ e. e ≡ LangError.NoMemory) }
@@ -30,7 +35,12 @@ fn plan_node(alloc: Global, justfile: &Justfile, folder: Utf8Path<'_>, node: Nod
 }
 
 /// The nodes of the plan, one for each node of the closure.
-fn make_nodes(alloc: Global, justfile: &Justfile, folder: Utf8Path<'_>, nodes: Vec<Node>) -> Result<Vec<PlanNode>, LangError>
+fn make_nodes(
+    alloc: Global,
+    justfile: &Justfile,
+    folder: Utf8Path<'_>,
+    nodes: Vec<Node>,
+) -> Result<Vec<PlanNode>, LangError>
     requires { All (λ x. NamesRecipe justfile.now.recipes x.key) nodes.items }
     ensures nodes { IfOk result (λ v. v.items ≡ plan_nodes justfile.now.recipes (text_of folder.entry) nodes.items) }
     ensures refused { IfErr result (λ e. e ≡ LangError.NoMemory) }
@@ -44,7 +54,12 @@ fn make_nodes(alloc: Global, justfile: &Justfile, folder: Utf8Path<'_>, nodes: V
 
 /// The plan of a closure: its nodes in their order, each with the commands of its recipe in the folder. The only refusal
 /// is want of memory.
-pub fn plan_for(alloc: Global, justfile: &Justfile, folder: Utf8Path<'_>, closure: Closure) -> Result<Plan, LangError>
+pub fn plan_for(
+    alloc: Global,
+    justfile: &Justfile,
+    folder: Utf8Path<'_>,
+    closure: Closure,
+) -> Result<Plan, LangError>
     requires formed { IsWellFormed closure.nodes closure.invocations }
     requires few { length closure.nodes < 2 ^ 32 }
     requires named { All (λ x. NamesRecipe justfile.now.recipes x.key) closure.nodes }
