@@ -1,7 +1,6 @@
 -- The error of a node that failed.
-use Rattle.std.specs.Prelude.{ℕ, ◌≡◌, ◌-◌, ◌<◌, ◌⊎◌, true, List, [], ◌∷◌, length, slice_get, Option, Some, None}
+use Rattle.std.specs.Prelude.{ℕ, ◌≡◌, ◌-◌, ◌<◌, ◌⊎◌, true, List, [], length, slice_get, Option, Some, None}
 use Rattle.std.specs.List.{last_or}
-use Rattle.just_host.specs.declared.entry.Call.TheVariants as call
 use Rattle.just_host.specs.declared.entry.HostFault.TheVariants as fault
 use Rattle.just_host.specs.declared.entry.Status.{Status}
 use Rattle.just_host.specs.declared.entry.Status.TheVariants as status
@@ -20,7 +19,7 @@ use Rattle.just_cli.specs.declared.error.Error.TheVariants as error
 
 -- the name of a node's recipe: the last part of its path
 abbrev pub name_of : PlanNode → List ℕ
-name_of x = text_or_empty (last_or None x.node.key.recipe.components)
+name_of x = text_or_empty (slice_get x.node.key.recipe.components (length x.node.key.recipe.components - 1))
 
 -- the error of a command that ended so
 abbrev pub status_error : List ℕ → Option ℕ → Status → Error

@@ -1,6 +1,5 @@
 -- What a run leaves in its host's record.
-use Rattle.std.specs.Prelude.{ℕ, ◌≡◌, ◌++◌, ◌||◌, ◌⊎◌, Bool, true, false, List, [], ◌∷◌, Option, None}
-use Rattle.std.specs.List.{list_any}
+use Rattle.std.specs.Prelude.{◌≡◌, ◌++◌, ◌⊎◌, List, [], ◌∷◌, None}
 use Rattle.just_host.specs.declared.entry.Call.TheVariants as call
 use Rattle.just_host.specs.declared.entry.Entry.{Entry}
 use Rattle.just_host.specs.declared.entry.Entry.TheVariants as entry
@@ -8,7 +7,7 @@ use Rattle.just_host.specs.declared.entry.Stream.TheVariants as stream
 use Rattle.just_host.specs.Record.{children, refused}
 use Rattle.just_sched.specs.declared.event.Event.{Event}
 use Rattle.just_sched.specs.declared.plan.Plan.{Plan}
-use Rattle.just_sched.specs.Legal.{Run, IsLegal, IsClosed, IsComplete}
+use Rattle.just_sched.specs.Legal.{Run, IsLegal, IsClosed}
 use Rattle.just_sched.specs.Match.{Matches}
 use Rattle.just_cli.specs.declared.error.Error.{Error}
 use Rattle.just_cli.specs.declared.error.Error.TheVariants as error

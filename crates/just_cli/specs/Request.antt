@@ -1,7 +1,6 @@
 -- What words ask for in a told world: the plan of a run, or a refusal.
-use Rattle.std.specs.Prelude.{ℕ, ◌≡◌, ◌≤◌, ◌<◌, ◌⊎◌, List, [], ◌∷◌, length, codes, Result, Ok, Err, Option, Some, None}
+use Rattle.std.specs.Prelude.{ℕ, ◌≡◌, ◌≤◌, List, [], ◌∷◌, length, codes, Ok}
 use Rattle.just_path.specs.Path.{pushed}
-use Rattle.just_path.specs.declared.host.Miss.{Miss}
 use Rattle.just_path.specs.declared.host.PathFault.{PathFault}
 use Rattle.just_path.specs.declared.host.PathFault.TheVariants as path_fault
 use Rattle.just_host.specs.declared.entry.Call.TheVariants as call
@@ -11,19 +10,14 @@ use Rattle.just_host.specs.declared.entry.HostFault.TheVariants as fault
 use Rattle.just_lang.specs.declared.ast.AstItem.{AstItem}
 use Rattle.just_lang.specs.declared.ast.Source.{Source}
 use Rattle.just_lang.specs.declared.TheConstants.{CLOSURE_LIMIT}
-use Rattle.just_lang.specs.declared.usage.UsageKind.TheVariants.{NotBuilt}
-use Rattle.just_lang.specs.declared.error.LangError.{LangError}
-use Rattle.just_lang.specs.declared.error.LangError.TheVariants as lang
 use Rattle.just_lang.specs.Asked.{key_named, NamesRecipe}
 use Rattle.just_lang.specs.Form.{IsJustfile, recipes_of}
-use Rattle.just_lang.specs.Keys.{recipe_of}
-use Rattle.just_lang.specs.Outside.{IsUnsupported}
 use Rattle.just_lang.specs.Walk.{walk, closure_of}
 use Rattle.just_sched.specs.declared.plan_node.PlanNode.{PlanNode}
 use Rattle.just_sched.specs.Planning.{plan_nodes}
 use Rattle.just_cli.specs.declared.error.Error.{Error}
 use Rattle.just_cli.specs.declared.error.Error.TheVariants as error
-use Rattle.just_cli.specs.Words.{AsksFor, BreaksForm}
+use Rattle.just_cli.specs.Words.{AsksFor}
 
 -- the justfile of a folder
 abbrev pub justfile_in : List ℕ → List ℕ

@@ -1,5 +1,5 @@
 -- The texts of errors, and the exit codes that they stand for.
-use Rattle.std.specs.Prelude.{ℕ, ◌++◌, ◌+ℤ◌, ◌≤ℤ◌, ℤ, pos, Bool, true, false, List, [], ◌∷◌, Option, Some, None, codes, decimal, if◌then◌else◌, int_le}
+use Rattle.std.specs.Prelude.{ℕ, ◌++◌, ◌+ℤ◌, ℤ, pos, Bool, true, List, [], Option, Some, None, codes, decimal, if◌then◌else◌, int_le}
 use Rattle.std.specs.Fmt.{signed_decimal}
 use Rattle.just_path.specs.declared.host.Miss.{Miss}
 use Rattle.just_path.specs.declared.host.Miss.TheVariants as miss
@@ -40,6 +40,17 @@ abbrev pub line_text : Option ℕ → List ℕ
 line_text (Some n) = codes " on line " ++ decimal n
 line_text None = []
 
+-- the recipe that an error is of
+abbrev pub recipe_text : List ℕ → List ℕ
+recipe_text recipe = codes "error: recipe " ++ ticked recipe
+
+-- a recipe's line failed, or was ended by a signal
+abbrev pub failed_text : List ℕ → Option ℕ → List ℕ
+failed_text recipe line = recipe_text recipe ++ (codes " failed" ++ line_text line)
+
+abbrev pub terminated_text : List ℕ → Option ℕ → List ℕ
+terminated_text recipe line = recipe_text recipe ++ (codes " was terminated" ++ line_text line)
+
 -- what an error is printed as
 abbrev pub error_text : Error → List ℕ
 error_text (error.Usage u) = codes "error: usage: " ++ (usage_text u.kind ++ (codes " " ++ ticked u.word))
@@ -47,9 +58,9 @@ error_text (error.FilesystemIo path io) = codes "error: I/O error at " ++ (ticke
 error_text (error.Compile e) = codes "error: " ++ (kind_text e.kind ++ (codes " at " ++ (e.path ++ (codes ":" ++ (decimal e.line ++ (codes ":" ++ decimal e.column))))))
 error_text (error.UnknownRecipe recipe) = codes "error: justfile does not contain recipe " ++ ticked recipe
 error_text error.ClosureLimit = codes "error: request needs more than 1000000 recipes"
-error_text (error.Code recipe line code message) = codes "error: recipe " ++ (ticked recipe ++ (codes " failed" ++ (line_text line ++ (codes " with exit code " ++ signed_decimal code))))
-error_text (error.Signal recipe line signal) = codes "error: recipe " ++ (ticked recipe ++ (codes " was terminated" ++ (line_text line ++ (codes " by signal " ++ signed_decimal signal))))
-error_text (error.Unknown recipe line) = codes "error: recipe " ++ (ticked recipe ++ (codes " failed" ++ (line_text line ++ codes " for an unknown reason")))
+error_text (error.Code recipe line code message) = failed_text recipe line ++ (codes " with exit code " ++ signed_decimal code)
+error_text (error.Signal recipe line signal) = terminated_text recipe line ++ (codes " by signal " ++ signed_decimal signal)
+error_text (error.Unknown recipe line) = failed_text recipe line ++ codes " for an unknown reason"
 error_text error.NoMemory = codes "error: out of memory"
 
 -- the exit code that an error stands for: a recipe's own, and 128 and the number of a signal, where that is a code

@@ -1,5 +1,6 @@
-ghost use Rattle.std.specs.Prelude.{◌≡◌, Some, IfOk, string_bytes};
-ghost use Rattle.just_cli.specs.Texts.{error_text, code_of, prints, miss_text, fault_text, kind_text, usage_text};
+ghost use Rattle.std.specs.Prelude.{◌≡◌, ◌++◌, codes, Some, IfOk, string_bytes};
+ghost use Rattle.std.specs.Fmt.{DisplaysOnOk, signed_decimal};
+ghost use Rattle.just_cli.specs.Texts.{error_text, code_of, prints, miss_text, fault_text, kind_text, usage_text, line_text, failed_text, terminated_text};
 
 use just_host::HostFault;
 use just_lang::{CompileError, CompileKind, Usage, UsageKind};
@@ -13,17 +14,34 @@ pub enum Error {
     /// The words of the command line are at fault.
     Usage(Usage),
     /// A call of the host was a miss or failed; the path is empty where the call names none.
-    FilesystemIo { path: Utf8PathBuf, io: HostFault },
+    FilesystemIo {
+        path: Utf8PathBuf,
+        io: HostFault,
+    },
     Compile(CompileError),
-    UnknownRecipe { recipe: Text },
+    UnknownRecipe {
+        recipe: Text,
+    },
     /// The request needs more than 1,000,000 recipes.
     ClosureLimit,
     /// A recipe's line ended with a code other than 0. The last field says whether the message is printed.
-    Code { recipe: Text, line: Option<usize>, code: i32, message: bool },
+    Code {
+        recipe: Text,
+        line: Option<usize>,
+        code: i32,
+        message: bool,
+    },
     /// A recipe's line was ended by a signal.
-    Signal { recipe: Text, line: Option<usize>, signal: i32 },
+    Signal {
+        recipe: Text,
+        line: Option<usize>,
+        signal: i32,
+    },
     /// How a recipe's line ended isn't known.
-    Unknown { recipe: Text, line: Option<usize> },
+    Unknown {
+        recipe: Text,
+        line: Option<usize>,
+    },
     NoMemory,
 }
 
@@ -66,6 +84,44 @@ fn usage_text(kind: UsageKind) -> &'static str
     }
 }
 
+/// Where a command stands, if that is known.
+fn tell_line<W: fmt::Write>(line: &Option<usize>, f: &mut fmt::Formatter<W>) -> fmt::Result
+    ensures { DisplaysOnOk W.write_str_gives f.old result (Some (line_text line.now)) f.new }
+{
+    match line {
+        Some(line) => write!(f, " on line {line}"),
+        None => Ok(()),
+    }
+}
+
+fn tell_failed<W: fmt::Write>(
+    recipe: &str,
+    line: &Option<usize>,
+    f: &mut fmt::Formatter<W>,
+) -> fmt::Result
+    ensures { DisplaysOnOk W.write_str_gives f.old result (Some (failed_text recipe.now line.now)) f.new }
+{
+    write!(f, "error: recipe `{recipe}` failed")?;
+    tell_line(line, f)
+}
+
+fn tell_terminated<W: fmt::Write>(
+    recipe: &str,
+    line: &Option<usize>,
+    f: &mut fmt::Formatter<W>,
+) -> fmt::Result
+    ensures { DisplaysOnOk W.write_str_gives f.old result (Some (terminated_text recipe.now line.now)) f.new }
+{
+    write!(f, "error: recipe `{recipe}` was terminated")?;
+    tell_line(line, f)
+}
+
+fn tell_signal<W: fmt::Write>(signal: &i32, f: &mut fmt::Formatter<W>) -> fmt::Result
+    ensures { DisplaysOnOk W.write_str_gives f.old result (Some (codes " by signal " ++ signed_decimal signal.now)) f.new }
+{
+    write!(f, " by signal {signal}")
+}
+
 impl fmt::Display for Error {
     ghost output = { λ e. Some (error_text e) };
 
@@ -99,55 +155,25 @@ impl fmt::Display for Error {
             Error::ClosureLimit => f.write_str("error: request needs more than 1000000 recipes"),
             Error::Code {
                 recipe,
-                line: Some(line),
+                line,
                 code,
                 ..
-            } => write!(
-                f,
-                "error: recipe `{}` failed on line {line} with exit code {code}",
-                recipe.as_str()
-            ),
-            Error::Code {
-                recipe,
-                line: None,
-                code,
-                ..
-            } => write!(
-                f,
-                "error: recipe `{}` failed with exit code {code}",
-                recipe.as_str()
-            ),
+            } => {
+                tell_failed(recipe.as_str(), line, f)?;
+                write!(f, " with exit code {code}")
+            }
             Error::Signal {
                 recipe,
-                line: Some(line),
+                line,
                 signal,
-            } => write!(
-                f,
-                "error: recipe `{}` was terminated on line {line} by signal {signal}",
-                recipe.as_str()
-            ),
-            Error::Signal {
-                recipe,
-                line: None,
-                signal,
-            } => write!(
-                f,
-                "error: recipe `{}` was terminated by signal {signal}",
-                recipe.as_str()
-            ),
-            Error::Unknown {
-                recipe,
-                line: Some(line),
-            } => write!(
-                f,
-                "error: recipe `{}` failed on line {line} for an unknown reason",
-                recipe.as_str()
-            ),
-            Error::Unknown { recipe, line: None } => write!(
-                f,
-                "error: recipe `{}` failed for an unknown reason",
-                recipe.as_str()
-            ),
+            } => {
+                tell_terminated(recipe.as_str(), line, f)?;
+                tell_signal(signal, f)
+            }
+            Error::Unknown { recipe, line } => {
+                tell_failed(recipe.as_str(), line, f)?;
+                f.write_str(" for an unknown reason")
+            }
             Error::NoMemory => f.write_str("error: out of memory"),
         }
     }

@@ -47,7 +47,13 @@ fn tell<H: Host>(alloc: Global, host: &mut H, error: &Error)
 }
 
 /// The end of a run with an error, which is told.
-pub(crate) fn fail<H: Host>(alloc: Global, host: H, error: Error, plan: Option<Plan>, history: Seq<Event>) -> Ended<H>
+pub(crate) fn fail<H: Host>(
+    alloc: Global,
+    host: H,
+    error: Error,
+    plan: Option<Plan>,
+    history: Seq<Event>,
+) -> Ended<H>
     ensures failed { result.result ≡ Err (record { error = error; plan = plan; history = history; code = code_for error }) }
     ensures told { (es : List Entry) × (H.entries result.host ≡ H.entries host ++ es) × IsTold error es }
 {

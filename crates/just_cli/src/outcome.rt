@@ -10,14 +10,17 @@ ghost use Rattle.just_sched.specs.State.{statuses, reason_of as failure_of};
 use super::Error;
 use just_host::{HostFault, Status};
 use just_path::{NoMemory, Text, Utf8PathBuf};
-use just_sched::{Event, Plan, PlanNode, Reason, Verdict, command, last_status, reason_of, status_count};
+use just_sched::{
+    Event, Plan, PlanNode, Reason, Verdict, command, last_status, reason_of, status_count,
+};
 use std::alloc::Global;
 
 /// The name of a node's recipe.
 fn name_of(alloc: Global, node: &PlanNode) -> Result<Text, NoMemory>
     ensures { IfOk result (λ t. t ≡ recipe_name node.now) }
 {
-    match node.node.key.recipe.components.as_slice().last() {
+    let path = node.node.key.recipe.components.as_slice();
+    match path.get(path.len().saturating_sub(1)) {
         Some(name) => name.try_clone(),
         None => Text::from_str(alloc, ""),
     }
@@ -44,7 +47,12 @@ fn status_error(recipe: Text, line: Option<usize>, status: Status) -> Error
 }
 
 /// The error of the command of the node that ended last.
-fn last_error(alloc: Global, node: &PlanNode, history: &[Event], number: u32) -> Result<Error, NoMemory>
+fn last_error(
+    alloc: Global,
+    node: &PlanNode,
+    history: &[Event],
+    number: u32,
+) -> Result<Error, NoMemory>
     ensures { IfOk result (λ e. e ≡ error_of_last node.now (statuses history.now number) (last_or None (statuses history.now number))) }
 {
     let Some(status) = last_status(history, number) else {
@@ -82,7 +90,12 @@ pub(crate) fn error_of(alloc: Global, plan: &Plan, history: &[Event], number: u3
 }
 
 /// The error of a run of that verdict; none where it went well.
-pub(crate) fn error_for(alloc: Global, plan: &Plan, history: &[Event], verdict: Verdict) -> Option<Error>
+pub(crate) fn error_for(
+    alloc: Global,
+    plan: &Plan,
+    history: &[Event],
+    verdict: Verdict,
+) -> Option<Error>
     requires { NamesNode verdict (length plan.now.nodes) }
     ensures { IsErrorFor plan.now.nodes history.now verdict result }
 {

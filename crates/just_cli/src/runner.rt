@@ -21,7 +21,12 @@ use std::thread::Threads;
 
 /// Runs what the words ask for over a host: reads the justfile of its current folder, makes the plan, and drives it to its
 /// end. An error is told on standard error. The words are those behind the program's name. It waits for the children.
-pub fn run_with<R: Threads + Wait + Sync, H: Host + Send + Drop>(rt: &R, alloc: Global, words: &[&str], host: H) -> Ended<H>
+pub fn run_with<R: Threads + Wait + Sync, H: Host + Send + Drop>(
+    rt: &R,
+    alloc: Global,
+    words: &[&str],
+    host: H,
+) -> Ended<H>
     ensures ran { IfOk result.result (λ r. ∥ Ran r.plan r.history (H.entries host) (H.entries result.host) ∥₁) }
     ensures asked { MatchOption (H.world host) (Unit {0}) (λ w. IfOk result.result (λ r. ∥ AsksRun (map (λ x. x.now) words.now) w r.plan.nodes r.plan.invocations ∥₁)) }
     ensures failed { IfErr result.result (λ f. MatchOption f.plan (∥ Refused f.error (H.entries host) (H.entries result.host) ∥₁) (λ p. ∥ Fell p f.history f.error (H.entries host) (H.entries result.host) ∥₁)) }
@@ -34,12 +39,14 @@ pub fn run_with<R: Threads + Wait + Sync, H: Host + Send + Drop>(rt: &R, alloc: 
         Err(error) => return fail(alloc, host, error, None, Seq::new(alloc)),
     };
     match drive(rt, alloc, plan, host, None) {
-        Ok(Driven {
-            host,
-            plan,
-            history,
-            verdict,
-        }) => match error_for(alloc, &plan, history.as_slice(), verdict) {
+        Ok(
+            Driven {
+                host,
+                plan,
+                history,
+                verdict,
+            },
+        ) => match error_for(alloc, &plan, history.as_slice(), verdict) {
             None => Ended {
                 host,
                 result: Ok(Report { plan, history }),
@@ -54,7 +61,13 @@ pub fn run_with<R: Threads + Wait + Sync, H: Host + Send + Drop>(rt: &R, alloc: 
 /// host. The only refusal is want of memory.
 pub fn run<R>(rt: &R, alloc: Global, words: &[&str]) -> Result<Ended<RealHost<R>>, NoMemory>
 where
-    R: Runtime + Files<File = File> + Processes<Started = SystemProcess> + Threads + Wait + Send + Sync,
+    R: Runtime
+        + Files<File = File>
+        + Processes<Started = SystemProcess>
+        + Threads
+        + Wait
+        + Send
+        + Sync,
     R::Dir: Send,
     R::Reader: Send,
     R::A: Send,

@@ -1,17 +1,14 @@
-use Rattle.std.proofs.Common.{rules, ◌≡◌, [], ◌∷◌, map, IfOk, IfErr, ℕ, ◌+◌, ◌-◌, ◌*◌, ◌<◌, ◌≤◌, length, ◌/◌, ◌%◌, Bool, true, false, nat_eq, nat_lt, List, ◌++◌, slice_index_or, slice_set, bit_and, bit_or, Fits, w8, w32, w64, Bor, MutBor}
-use Rattle.just_cli.specs.Words.{AsksFor, BreaksForm}
+use Rattle.std.proofs.Common.{arith, refl, sym, true≢false}
+use Rattle.just_cli.proofs.Breaks.{first_breaks, second_breaks}
 use Rattle.just_cli.proofs.words.asked_recipe.Goals as goal
 
--- src/words.rt:9:1
 pub returns-else-is_recipe_name-clause-refused : goal.returns-else-is_recipe_name-clause-refused
-returns-else-is_recipe_name-clause-refused c = ?
+returns-else-is_recipe_name-clause-refused c = first_breaks (λ w. w.now) c.args.words.now _ (omega (arith, c.in-len1.len_at_least)) (λ is. true≢false (sym (c.if-is_recipe_name.ensures.1 is)))
 
--- src/words.rt:9:1
 pub returns-then-is_recipe_name-2-clause-refused :
     goal.returns-then-is_recipe_name-2-clause-refused
-returns-then-is_recipe_name-2-clause-refused c = ?
+returns-then-is_recipe_name-2-clause-refused c = second_breaks (λ w. w.now) c.args.words.now _ (omega (arith, c.in-len2-up.len_at_least)) (c.if-is_recipe_name-2.ensures.0 refl)
 
--- src/words.rt:9:1
 pub returns-else-is_recipe_name-2-clause-refused :
     goal.returns-else-is_recipe_name-2-clause-refused
-returns-else-is_recipe_name-2-clause-refused c = ?
+returns-else-is_recipe_name-2-clause-refused c = first_breaks (λ w. w.now) c.args.words.now _ (omega (arith, c.in-len2-up.len_at_least)) (λ is. true≢false (sym (c.if-is_recipe_name-2.ensures.1 is)))
