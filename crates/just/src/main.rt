@@ -1,6 +1,7 @@
 //! The program `just`: runs what the words of the command line ask for, over the files and processes of the system.
 #![tactic(auto)]
 
+use just_cli::Ended;
 use std::env;
 use std::io::ErrorKind;
 use std::process::ExitCode;
@@ -25,7 +26,7 @@ fn main(rt: HostRuntime) -> ExitCode {
         return ExitCode::from(NO_MEMORY);
     };
     match just_cli::run(&rt, alloc, words.as_slice()) {
-        Ok(ended) => match ended.result {
+        Ok(Ended { host: _, result }) => match result {
             Ok(_) => ExitCode::SUCCESS,
             Err(failure) => ExitCode::from(u8::try_from(failure.code & 0xff).unwrap_or(1)),
         },

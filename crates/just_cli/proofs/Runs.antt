@@ -1,23 +1,60 @@
 -- What a run leaves, from what its drive kept.
-use Rattle.std.proofs.Common.{◌≡◌, ◌++◌, ℤ, List, Option, Some, None, Result, Err, sym, ◌∙◌, ap, subst, append_assoc}
+use Rattle.std.proofs.Common.{◌≡◌, ◌++◌, ◌⊎◌, inl, inr, false, true≢false, refl, ℤ, List, Option, Some, None, Result, Err, sym, ◌∙◌, ap, subst, append_assoc}
 use Rattle.std.specs.Prelude.{IfErr, MatchOption}
-use Rattle.std.proofs.Math.Logic.{∥∥₁_map}
+use Rattle.std.proofs.Math.Logic.{∥∥₁_map, ∥∥₁_elim}
 use Rattle.just_host.specs.World.{World}
 use Rattle.just_host.specs.declared.entry.Entry.{Entry}
 use Rattle.just_sched.specs.declared.event.Event.{Event}
 use Rattle.just_sched.specs.declared.plan.Plan.{Plan}
-use Rattle.just_sched.specs.Legal.{IsClosed}
+use Rattle.just_sched.specs.declared.event.Idle.{Idle}
+use Rattle.just_sched.specs.declared.event.Idle.TheVariants as idle
+use Rattle.just_sched.specs.declared.event.Verdict.{Verdict}
+use Rattle.just_sched.specs.declared.event.Verdict.TheVariants as verdict
+use Rattle.just_sched.specs.declared.plan_node.PlanNode.{PlanNode}
+use Rattle.just_sched.specs.Idle.{IsIdle, HasWork}
+use Rattle.just_sched.specs.Legal.{Run, IsLegal, IsClosed, IsComplete, open_bodies}
+use Rattle.just_sched.specs.State.{caught}
+use Rattle.just_sched.specs.Verdict.{IsVerdict, NoneDecides}
+use Rattle.just_sched.proofs.Totals.{Formed}
+use Rattle.just_sched.proofs.Complete.{Unprompted, complete, complete_prop, no_reason, unprompted_answered}
+use Rattle.just_cli.specs.Outcome.{IsErrorFor}
 use Rattle.just_sched.specs.Start.{begins, run_of}
 use Rattle.just_sched.specs.Start.{Kept as IsKept}
 use Rattle.just_cli.specs.declared.ended.Failure.{Failure}
 use Rattle.just_cli.specs.declared.ended.Report.{Report}
 use Rattle.just_cli.specs.declared.error.Error.{Error}
-use Rattle.just_cli.specs.Ran.{Ran, Fell, Refused, IsTold}
+use Rattle.just_cli.specs.Ran.{Ran, Fell, Refused, IsTold, run_over}
+
+no_work : (s : Run) (h : List Event) (i : Idle) → s.jobs ≡ None → caught h ≡ false → IsIdle s h i → HasWork s h → ⊥
+no_work s h idle.Signal free calm is = absurd (true≢false (sym is ∙ calm))
+no_work s h idle.Nothing free calm is = is.1
+no_work s h idle.Jobs free calm is = let full : s.jobs ≡ Some (open_bodies s h) = is.3 in absurd (cc)
+no_work s h idle.Class free calm is = absurd is
+
+-- where there is no error, no node's failure decides
+none_decides : (s : Run) (h : List Event) (nodes : List PlanNode) (shown : List Event) (verdict : Verdict) → IsErrorFor nodes shown verdict None → IsVerdict s h verdict → NoneDecides s h
+none_decides s h nodes shown verdict.Well e is = is.0
+none_decides s h nodes shown (verdict.Failed n) (inl e) is = absurd (cc)
+none_decides s h nodes shown (verdict.Failed n) (inr e) is = absurd (cc)
+none_decides s h nodes shown (verdict.Interrupted signal) e is = absurd (cc)
+none_decides s h nodes shown verdict.NoMemory e is = absurd (cc)
+
+-- where no node failed and nothing can be done, all is done
+all_done : (s : Run) (h : List Event) → ∥ Formed s ∥₁ → ∥ Unprompted s ∥₁ → IsLegal s h → IsClosed s h → caught h ≡ false → NoneDecides s h → (HasWork s h → ⊥) → IsComplete s h
+all_done s h formed unprompted legal closed calm well nothing =
+    ∥∥₁_elim formed (complete_prop s h) (λ f. ∥∥₁_elim unprompted (complete_prop s h) (λ u.
+    complete s h f legal closed (no_reason s h legal well calm) (unprompted_answered s h u legal) calm nothing))
 
 module _ (driven : Plan) (h : List Event) (old now : List Entry) (w v : Option World)
     (kept : ∥ IsKept (begins driven None old w) h now v ∥₁) (closed : IsClosed (run_of (begins driven None old w)) h) where
-  ran_over : ∥ Ran driven h old now ∥₁
-  ran_over = ∥∥₁_map kept (λ k. record { mid = k.gained; grew = k.grew; kept = record { legal = k.legal; closed = closed; matches = k.matches } })
+  ran_over : caught h ≡ false → (i : Idle) × IsIdle (run_over driven old) h i → NoneDecides (run_over driven old) h → ∥ Ran driven h old now ∥₁
+  ran_over calm idle well = ∥∥₁_map kept (λ k. record {
+    mid = k.gained;
+    grew = k.grew;
+    kept = record { legal = k.legal; closed = closed; matches = k.matches };
+    well = well;
+    complete = all_done (run_over driven old) h driven.well driven.unprompted k.legal closed calm well (no_work (run_over driven old) h idle.0 refl calm idle.1);
+  })
 
   fell_over : (e : Error) (new : List Entry) → (es : List Entry) × (new ≡ now ++ es) × IsTold e es → ∥ Fell driven h e old new ∥₁
   fell_over e new told = ∥∥₁_map kept (λ k. record {
@@ -29,10 +66,13 @@ module _ (driven : Plan) (h : List Event) (old now : List Entry) (w v : Option W
   })
 
 -- a run whose plan and record are those of its drive
-pub ran_well : (plan driven : Plan) (h : List Event) (first old now : List Entry) (w v : Option World)
-    → plan ≡ driven → old ≡ first → ∥ IsKept (begins driven None old w) h now v ∥₁ → IsClosed (run_of (begins driven None old w)) h → ∥ Ran plan h first now ∥₁
-ran_well plan driven h first old now w v plan_is old_is kept closed =
-    subst (λ p. ∥ Ran p h first now ∥₁) (sym plan_is) (subst (λ es. ∥ Ran driven h es now ∥₁) old_is (ran_over driven h old now w v kept closed))
+pub ran_well : (plan driven : Plan) (h : List Event) (first old now : List Entry) (w v : Option World) (nodes : List PlanNode) (shown : List Event) (verdict : Verdict)
+    → plan ≡ driven → old ≡ first → ∥ IsKept (begins driven None old w) h now v ∥₁ → IsClosed (run_of (begins driven None old w)) h
+    → caught h ≡ false → (i : Idle) × IsIdle (run_over driven old) h i → IsVerdict (run_over driven old) h verdict → IsErrorFor nodes shown verdict None
+    → ∥ Ran plan h first now ∥₁
+ran_well plan driven h first old now w v nodes shown verdict plan_is old_is kept closed calm idle judged no_error =
+    subst (λ p. ∥ Ran p h first now ∥₁) (sym plan_is) (subst (λ es. ∥ Ran driven h es now ∥₁) old_is
+    (ran_over driven h old now w v kept closed calm idle (none_decides (run_over driven old) h nodes shown verdict no_error judged)))
 
 pub fell_ill : (r : Result Report Failure) (e : Error) (plan driven : Plan) (h : List Event) (code : ℤ) (first old now new : List Entry) (w v : Option World)
     → r ≡ Err (record { error = e; plan = Some plan; history = h; code = code })

@@ -7,8 +7,9 @@ use Rattle.just_host.specs.declared.entry.Stream.TheVariants as stream
 use Rattle.just_host.specs.Record.{children, refused}
 use Rattle.just_sched.specs.declared.event.Event.{Event}
 use Rattle.just_sched.specs.declared.plan.Plan.{Plan}
-use Rattle.just_sched.specs.Legal.{Run, IsLegal, IsClosed}
+use Rattle.just_sched.specs.Legal.{Run, IsLegal, IsClosed, IsComplete}
 use Rattle.just_sched.specs.Match.{Matches}
+use Rattle.just_sched.specs.Verdict.{NoneDecides}
 use Rattle.just_cli.specs.declared.error.Error.{Error}
 use Rattle.just_cli.specs.declared.error.Error.TheVariants as error
 use Rattle.just_cli.specs.Texts.{error_text}
@@ -32,11 +33,14 @@ pub record Kept (plan : Plan) (h : List Event) (old mid : List Entry) : Type 0 w
   pub closed : IsClosed (run_over plan old) h
   pub matches : Matches (run_over plan old) h mid
 
--- A run that went well: the record gained just the entries of its history, which is legal and closed.
+-- A run that went well: the record gained just the entries of its history, which is legal and complete: no node failed,
+-- and each was run to its end.
 pub record Ran (plan : Plan) (h : List Event) (old new : List Entry) : Type 0 where
   pub mid : List Entry
   pub grew : new ≡ old ++ mid
   pub kept : Kept plan h old mid
+  pub well : NoneDecides (run_over plan old) h
+  pub complete : IsComplete (run_over plan old) h
 
 -- A run that failed: behind the entries of its history the error was told.
 pub record Fell (plan : Plan) (h : List Event) (e : Error) (old new : List Entry) : Type 0 where

@@ -1,12 +1,13 @@
 //! Each public call that may want memory, called once with ample memory.
 
 use crate::hosts::host;
-use just_cli::run_with;
-use just_host::{Host, HostFault, Plot, Stream};
+use just_cli::{Ended, run_with};
+use just_host::{Host, MemHost, Plot, Stream};
 use just_lang::{Source, assemble, body_lines, closure, dependencies, invocations, parse};
 use just_path::{Environ, PathHost, Seq, Text, Utf8Path};
-use just_sched::{drive, plan_for};
+use just_sched::{Driven, Plan, drive, plan_for};
 use std::alloc::Global;
+use std::process::Abort;
 use std::test::Fail;
 
 fn source(alloc: Global, text: &str) -> Result<Source, Fail> {
@@ -17,41 +18,72 @@ fn source(alloc: Global, text: &str) -> Result<Source, Fail> {
     })
 }
 
-#[test]
-fn every_call_answers(rt: HostRuntime) -> Result<(), Fail> {
-    let alloc = rt.alloc();
+/// The calls over paths and texts.
+fn paths_answer(rt: &impl Abort, alloc: Global) -> Result<(), Fail> {
     let text = Text::from_str(alloc, "x")?;
     assert_eq!(rt; text.try_clone()?.as_str(), "x");
-    assert_eq!(rt; Utf8Path::new("/p").join(alloc, Utf8Path::new("x"))?.as_str(), "/p/x");
+    assert_eq!(rt;
+        Utf8Path::new("/p")
+            .join(alloc, Utf8Path::new("x"))?
+            .as_str(),
+        "/p/x"
+    );
+    Ok(())
+}
 
+/// The calls from a source to its plan.
+fn plan_answers(rt: &impl Abort, alloc: Global) -> Result<Plan, Fail> {
     let sources = [source(alloc, "b: a\n\techo b\na:\n")?];
     assert_eq!(rt; parse(alloc, &sources[0])?.items.len(), 2);
     let environ = Environ {
         pairs: Seq::new(alloc),
     };
     let justfile = assemble(alloc, &sources, &environ)?;
-    assert_eq!(rt; justfile.recipes.len(), 2);
     let keys = invocations(alloc, &justfile, &["b"])?;
-    assert_eq!(rt; keys.len(), 1);
-    let closure = closure(alloc, &justfile, keys.as_slice())?;
-    assert_eq!(rt; closure.nodes.len(), 2);
     for key in keys.as_slice() {
         assert_eq!(rt; dependencies(alloc, &justfile, key)?.0.len(), 1);
         assert_eq!(rt; body_lines(alloc, &justfile, key)?.len(), 1);
     }
+    let closure = closure(alloc, &justfile, keys.as_slice())?;
+    Ok(plan_for(alloc, &justfile, Utf8Path::new("/p"), closure)?)
+}
 
-    let plan = plan_for(alloc, &justfile, Utf8Path::new("/p"), closure)?;
+/// The calls of a host.
+fn host_answers(rt: &impl Abort, alloc: Global) -> Result<MemHost, Fail> {
     let mut memory = host(alloc, "b:\n", Plot::new(alloc))?;
     assert_eq!(rt; memory.current()?.as_str(), "/p");
     assert_eq!(rt; memory.read(Utf8Path::new("/p/justfile"))?.as_str(), "b:\n");
     memory.print(Stream::Err, "x")?;
     memory.room(1)?;
+    Ok(memory)
+}
+
+#[test]
+fn every_call_answers(rt: HostRuntime) -> Result<(), Fail> {
+    let alloc = rt.alloc();
+    paths_answer(&rt, alloc)?;
+    let plan = plan_answers(&rt, alloc)?;
+    assert_eq!(rt; plan.nodes.len(), 2);
+    let memory = host_answers(&rt, alloc)?;
     match drive(&rt, alloc, plan, memory, None) {
-        Ok(driven) => assert_eq!(rt; driven.history.len(), 10),
+        Ok(
+            Driven {
+                host: _,
+                plan: _,
+                history,
+                verdict: _,
+            },
+        ) => assert_eq!(rt; history.len(), 10),
         Err(_) => assert_eq!(rt; 0, 10, "drive wanted memory"),
     }
+    Ok(())
+}
 
+#[test]
+fn run_with_answers(rt: HostRuntime) -> Result<(), Fail> {
+    let alloc = rt.alloc();
     let memory = host(alloc, "b:\n", Plot::new(alloc))?;
-    assert!(rt; run_with(&rt, alloc, &["b"], memory).result.is_ok());
+    let Ended { host: _, result } = run_with(&rt, alloc, &["b"], memory);
+    assert!(rt; result.is_ok());
     Ok(())
 }

@@ -4,7 +4,8 @@ use Rattle.just_cli.proofs.runner.run_with.Goals as goal
 
 pub returns-in-None-clause-ran : goal.returns-in-None-clause-ran
 returns-in-None-clause-ran g c =
-    ran_well _ c.in-Ok.plan _ _ _ _ _ _ c.in-Ok-drive.ensures.plan c.in-Ok.ensures.grew c.in-Ok-drive.ensures.kept c.in-Ok-drive.ensures.closed
+    ran_well _ c.in-Ok.plan _ _ _ _ _ _ _ _ _ c.in-Ok-drive.ensures.plan c.in-Ok.ensures.grew c.in-Ok-drive.ensures.kept c.in-Ok-drive.ensures.closed
+    c.in-Ok-drive.ensures.calm c.in-Ok-drive.ensures.idle c.in-Ok-drive.ensures.verdict c.in-None.ensures
 
 pub returns-in-Some-clause-failed : goal.returns-in-Some-clause-failed
 returns-in-Some-clause-failed g c =
