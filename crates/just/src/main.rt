@@ -22,7 +22,12 @@ fn main(rt: HostRuntime) -> ExitCode {
     let Ok(all) = all else {
         return ExitCode::from(NO_MEMORY);
     };
-    let Ok(words) = all.iter().skip(1).map(|word| word.as_str()).collect::<Vec<&str>>(alloc) else {
+    let Ok(words) = all
+        .iter()
+        .skip(1)
+        .map(|word| word.as_str())
+        .collect::<Vec<&str>>(alloc)
+    else {
         return ExitCode::from(NO_MEMORY);
     };
     match just_cli::run(&rt, alloc, words.as_slice()) {

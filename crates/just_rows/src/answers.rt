@@ -58,6 +58,22 @@ fn host_answers(rt: &impl Abort, alloc: Global) -> Result<MemHost, Fail> {
     Ok(memory)
 }
 
+/// How many events a drive made; none where it wanted memory.
+fn event_count(driven: Result<Driven<MemHost>, (MemHost, Plan)>) -> usize {
+    match driven {
+        Ok(driven) => {
+            let Driven {
+                host: _,
+                plan: _,
+                history,
+                verdict: _,
+            } = driven;
+            history.len()
+        }
+        Err(_) => 0,
+    }
+}
+
 #[test]
 fn every_call_answers(rt: HostRuntime) -> Result<(), Fail> {
     let alloc = rt.alloc();
@@ -65,17 +81,7 @@ fn every_call_answers(rt: HostRuntime) -> Result<(), Fail> {
     let plan = plan_answers(&rt, alloc)?;
     assert_eq!(rt; plan.nodes.len(), 2);
     let memory = host_answers(&rt, alloc)?;
-    match drive(&rt, alloc, plan, memory, None) {
-        Ok(
-            Driven {
-                host: _,
-                plan: _,
-                history,
-                verdict: _,
-            },
-        ) => assert_eq!(rt; history.len(), 10),
-        Err(_) => assert_eq!(rt; 0, 10, "drive wanted memory"),
-    }
+    assert_eq!(rt; event_count(drive(&rt, alloc, plan, memory, None)), 10);
     Ok(())
 }
 
