@@ -6,4 +6,6 @@ mod answers;
 #[cfg(test)]
 mod hosts;
 #[cfg(test)]
+mod libraries;
+#[cfg(test)]
 mod runs;
