@@ -1,5 +1,6 @@
 //! Each public call of the libraries that may want memory, called once with ample memory.
 
+use just_expand::path::Expanded;
 use just_expand::{
     NotPresent, env, env_with_context, env_with_context_no_errors, full, full_with_context,
     full_with_context_no_errors, path, tilde, tilde_with_context,
@@ -7,6 +8,7 @@ use just_expand::{
 use just_path::{Environ, NoMemory, Seq, Text, Utf8Path};
 use just_read::{Boxed, Class, Cursor};
 use std::alloc::Global;
+use std::borrow::CowStr;
 use std::test::Fail;
 
 struct Digit;
@@ -31,59 +33,80 @@ fn environment(alloc: Global) -> Result<Environ, NoMemory> {
     })
 }
 
-fn answers<T: Drop, E: Drop>(result: Result<T, E>) -> bool {
-    result.is_ok()
+fn text_is<E: Drop>(answer: Result<CowStr<'_, Global>, E>, want: &str) -> bool {
+    match answer {
+        Ok(CowStr::Borrowed(text)) => text == want,
+        Ok(CowStr::Owned(text)) => text.as_str() == want,
+        Err(_) => false,
+    }
+}
+
+fn path_is<E: Drop>(answer: Result<Expanded<'_>, E>, want: &str) -> bool {
+    match answer {
+        Ok(Expanded::Borrowed(path)) => path.as_str() == want,
+        Ok(Expanded::Owned(path)) => path.as_str() == want,
+        Err(_) => false,
+    }
 }
 
 #[test]
 fn readers_answer(rt: HostRuntime) -> Result<(), Fail> {
     let alloc = rt.alloc();
     let environ = environment(alloc)?;
-    assert!(rt; answers(just_dotenv::read(alloc, "B=1\nC=$A\n", &environ)));
+    assert_eq!(rt; just_dotenv::read(alloc, "B=1\nC=$A\n", &environ)?.len(), 2);
     let digits = ['1', '2'];
     let mut cursor = Cursor::new(&digits);
     assert_eq!(rt; cursor.take::<Digit>(alloc)?.as_str(), "12");
-    assert!(rt; answers(Boxed::new(alloc, 7u8)));
     Ok(())
 }
 
 #[test]
-fn expansions_of_texts_answer(rt: HostRuntime) -> Result<(), Fail> {
+fn boxes_answer(rt: HostRuntime) -> Result<(), Fail> {
+    let boxed = Boxed::new(rt.alloc(), 7u8)?;
+    assert_eq!(rt; boxed.into_inner(), 7);
+    Ok(())
+}
+
+#[test]
+fn expansions_of_texts_answer(rt: HostRuntime) {
     let alloc = rt.alloc();
-    let environ = environment(alloc)?;
+    let environ = environment(alloc).expect(&rt, "memory");
     let x = |_name: &str| String::from_str(alloc, "x").ok();
     let known = |_name: &str| -> Result<Option<String>, NotPresent> {
         Ok(String::from_str(alloc, "x").ok())
     };
     let home = || String::from_str(alloc, "/h").ok();
-    assert!(rt; answers(env_with_context(alloc, "~/$A", known)));
-    assert!(rt; answers(env_with_context_no_errors(alloc, "~/$A", x)));
-    assert!(rt; answers(env(alloc, "~/$A", &environ)));
-    assert!(rt; answers(tilde_with_context(alloc, "~/$A", home)));
-    assert!(rt; answers(tilde(alloc, "~/$A", &environ)));
-    assert!(rt; answers(full_with_context(alloc, "~/$A", home, known)));
-    assert!(rt; answers(full_with_context_no_errors(alloc, "~/$A", home, x)));
-    assert!(rt; answers(full(alloc, "~/$A", &environ)));
-    Ok(())
+    assert!(rt; text_is(env_with_context(alloc, "~/$A", known), "~/x"));
+    assert!(rt; text_is(env_with_context_no_errors(alloc, "~/$A", x), "~/x"));
+    assert!(rt; text_is(env(alloc, "~/$A", &environ), "~/x"));
+    assert!(rt; text_is(tilde_with_context(alloc, "~/$A", home), "/h/$A"));
+    assert!(rt; text_is(tilde(alloc, "~/$A", &environ), "/h/$A"));
+    assert!(rt; text_is(full_with_context(alloc, "~/$A", home, known), "/h/x"));
+    assert!(rt; text_is(full_with_context_no_errors(alloc, "~/$A", home, x), "/h/x"));
+    assert!(rt; text_is(full(alloc, "~/$A", &environ), "/h/x"));
 }
 
 #[test]
-fn expansions_of_paths_answer(rt: HostRuntime) -> Result<(), Fail> {
+fn expansions_of_paths_answer(rt: HostRuntime) {
     let alloc = rt.alloc();
-    let environ = environment(alloc)?;
+    let environ = environment(alloc).expect(&rt, "memory");
     let x = |_name: &str| String::from_str(alloc, "x").ok();
     let known = |_name: &str| -> Result<Option<String>, NotPresent> {
         Ok(String::from_str(alloc, "x").ok())
     };
     let home = || String::from_str(alloc, "/h").ok();
     let given = Utf8Path::new("~/$A");
-    assert!(rt; answers(path::env_with_context(alloc, given, known)));
-    assert!(rt; answers(path::env_with_context_no_errors(alloc, given, x)));
-    assert!(rt; answers(path::env(alloc, given, &environ)));
-    assert!(rt; answers(path::tilde_with_context(alloc, given, home)));
-    assert!(rt; answers(path::tilde(alloc, given, &environ)));
-    assert!(rt; answers(path::full_with_context(alloc, given, home, known)));
-    assert!(rt; answers(path::full_with_context_no_errors(alloc, given, home, x)));
-    assert!(rt; answers(path::full(alloc, given, &environ)));
-    Ok(())
+    assert!(rt; path_is(path::env_with_context(alloc, given, known), "~/x"));
+    assert!(rt; path_is(path::env_with_context_no_errors(alloc, given, x), "~/x"));
+    assert!(rt; path_is(path::env(alloc, given, &environ), "~/x"));
+    assert!(rt; path_is(path::tilde_with_context(alloc, given, home), "/h/$A"));
+    assert!(rt; path_is(path::tilde(alloc, given, &environ), "/h/$A"));
+    assert!(rt; path_is(path::full_with_context(alloc, given, home, known), "/h/x"));
+    assert!(rt;
+        path_is(
+            path::full_with_context_no_errors(alloc, given, home, x),
+            "/h/x"
+        )
+    );
+    assert!(rt; path_is(path::full(alloc, given, &environ), "/h/x"));
 }
