@@ -6,6 +6,10 @@ mod answers;
 #[cfg(test)]
 mod hosts;
 #[cfg(test)]
+mod lattice;
+#[cfg(test)]
 mod libraries;
+#[cfg(test)]
+mod refusals;
 #[cfg(test)]
 mod runs;
