@@ -13,6 +13,7 @@ fn file(alloc: Global, text: &str) -> Result<Thing, NoMemory> {
 }
 
 /// A host in the folder `/p` with that justfile, over which nothing happens.
+/// It promises nothing beyond safety: it is public to these tests alone, and no theorem stands on it.
 pub fn host(alloc: Global, justfile: &str, plot: Plot) -> Result<MemHost, NoMemory> {
     let mut tree = Tree::new(alloc);
     tree.insert(alloc, "/p", Thing::Folder)?;
@@ -25,6 +26,7 @@ pub fn host(alloc: Global, justfile: &str, plot: Plot) -> Result<MemHost, NoMemo
 }
 
 /// The plot in which the child of that line of `sh` ends so.
+/// It promises nothing beyond safety: it is public to these tests alone, and no theorem stands on it.
 pub fn ends(alloc: Global, line: &str, status: Status) -> Result<Plot, NoMemory> {
     let mut plot = Plot::new(alloc);
     let mut word = String::from_str(alloc, "-cu ")?;
@@ -39,6 +41,7 @@ pub fn ends(alloc: Global, line: &str, status: Status) -> Result<Plot, NoMemory>
 }
 
 /// What was printed to standard error, one text behind the other.
+/// It promises nothing beyond safety: it is public to these tests alone, and no theorem stands on it.
 pub fn told(alloc: Global, entries: &[Entry]) -> Result<String, NoMemory> {
     let mut all = String::new(alloc);
     for entry in entries {
@@ -50,6 +53,7 @@ pub fn told(alloc: Global, entries: &[Entry]) -> Result<String, NoMemory> {
 }
 
 /// The children that were started: each one's program and arguments with its folder, a line each.
+/// It promises nothing beyond safety: it is public to these tests alone, and no theorem stands on it.
 pub fn children(alloc: Global, entries: &[Entry]) -> Result<String, NoMemory> {
     let mut all = String::new(alloc);
     for entry in entries {
