@@ -1,4 +1,5 @@
 pub mod AfterLaws
+pub mod Causes
 pub mod Complete
 pub mod Keeps
 pub mod PlanLaws
