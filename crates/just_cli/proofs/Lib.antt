@@ -1,3 +1,4 @@
 pub mod Breaks
+pub mod Caused
 pub mod Plans
 pub mod Runs

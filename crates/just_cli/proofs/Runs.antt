@@ -1,5 +1,5 @@
 -- What a run leaves, from what its drive kept.
-use Rattle.std.proofs.Common.{◌≡◌, ◌++◌, ◌⊎◌, inl, inr, false, true≢false, refl, ℤ, List, Option, Some, None, Result, Err, sym, ◌∙◌, ap, subst, append_assoc}
+use Rattle.std.proofs.Common.{◌≡◌, ◌++◌, inl, inr, false, true≢false, refl, ℤ, List, Option, Some, None, Result, Err, sym, ◌∙◌, ap, subst, append_assoc}
 use Rattle.std.specs.Prelude.{IfErr, MatchOption}
 use Rattle.std.proofs.Math.Logic.{∥∥₁_map, ∥∥₁_elim}
 use Rattle.just_host.specs.World.{World}
@@ -24,6 +24,7 @@ use Rattle.just_cli.specs.declared.ended.Failure.{Failure}
 use Rattle.just_cli.specs.declared.ended.Report.{Report}
 use Rattle.just_cli.specs.declared.error.Error.{Error}
 use Rattle.just_cli.specs.Ran.{Ran, Fell, Refused, IsTold, run_over}
+use Rattle.just_cli.proofs.Caused.{caused}
 
 no_work : (s : Run) (h : List Event) (i : Idle) → s.jobs ≡ None → caught h ≡ false → IsIdle s h i → HasWork s h → ⊥
 no_work s h idle.Signal free calm is = absurd (true≢false (sym is ∙ calm))
@@ -56,12 +57,17 @@ module _ (driven : Plan) (h : List Event) (old now : List Entry) (w v : Option W
     complete = all_done (run_over driven old) h driven.well driven.unprompted k.legal closed calm well (no_work (run_over driven old) h idle.0 refl calm idle.1);
   })
 
-  fell_over : (e : Error) (new : List Entry) → (es : List Entry) × (new ≡ now ++ es) × IsTold e es → ∥ Fell driven h e old new ∥₁
-  fell_over e new told = ∥∥₁_map kept (λ k. record {
+  fell_over : (e : Error) (v : Verdict) (new : List Entry) → caught h ≡ false → (i : Idle) × IsIdle (run_over driven old) h i → IsVerdict (run_over driven old) h v → IsErrorFor driven.nodes h v (Some e) → (es : List Entry) × (new ≡ now ++ es) × IsTold e es → ∥ Fell driven h e old new ∥₁
+  fell_over e v new calm idle judged decided told = ∥∥₁_map kept (λ k. record {
     mid = k.gained;
     post = told.0;
     grew = told.1 ∙ (ap (λ es. es ++ told.0) k.grew ∙ append_assoc old k.gained told.0);
     kept = record { legal = k.legal; closed = closed; matches = k.matches };
+    verdict = v;
+    judged = judged;
+    decided = decided;
+    nothing_left = no_work (run_over driven old) h idle.0 refl calm idle.1;
+    caused = caused (run_over driven old) h k.gained k.legal k.matches v e decided;
     told = told.2;
   })
 
@@ -74,11 +80,13 @@ ran_well plan driven h first old now w v nodes shown verdict plan_is old_is kept
     subst (λ p. ∥ Ran p h first now ∥₁) (sym plan_is) (subst (λ es. ∥ Ran driven h es now ∥₁) old_is
     (ran_over driven h old now w v kept closed calm idle (none_decides (run_over driven old) h nodes shown verdict no_error judged)))
 
-pub fell_ill : (r : Result Report Failure) (e : Error) (plan driven : Plan) (h : List Event) (code : ℤ) (first old now new : List Entry) (w v : Option World)
+pub fell_ill : (r : Result Report Failure) (e : Error) (plan driven : Plan) (h shown : List Event) (code : ℤ) (first old now new : List Entry) (w v : Option World) (verdict : Verdict)
     → r ≡ Err (record { error = e; plan = Some plan; history = h; code = code })
     → plan ≡ driven → old ≡ first → ∥ IsKept (begins driven None old w) h now v ∥₁ → IsClosed (run_of (begins driven None old w)) h
+    → caught h ≡ false → (i : Idle) × IsIdle (run_over driven old) h i → IsVerdict (run_over driven old) h verdict → IsErrorFor plan.nodes shown verdict (Some e) → shown ≡ h
     → (es : List Entry) × (new ≡ now ++ es) × IsTold e es
     → IfErr r (λ f. MatchOption f.plan (∥ Refused f.error first new ∥₁) (λ p. ∥ Fell p f.history f.error first new ∥₁))
-fell_ill r e plan driven h code first old now new w v is plan_is old_is kept closed told =
+fell_ill r e plan driven h shown code first old now new w v verdict is plan_is old_is kept closed calm idle judged decided shown_is told =
+    let decided_here = subst (λ k. IsErrorFor driven.nodes k verdict (Some e)) shown_is (subst (λ p. IsErrorFor p.nodes shown verdict (Some e)) plan_is decided) in
     subst (λ q. IfErr q (λ f. MatchOption f.plan (∥ Refused f.error first new ∥₁) (λ p. ∥ Fell p f.history f.error first new ∥₁))) (sym is)
-    (subst (λ p. ∥ Fell p h e first new ∥₁) (sym plan_is) (subst (λ es. ∥ Fell driven h e es new ∥₁) old_is (fell_over driven h old now w v kept closed e new told)))
+    (subst (λ p. ∥ Fell p h e first new ∥₁) (sym plan_is) (subst (λ es. ∥ Fell driven h e es new ∥₁) old_is (fell_over driven h old now w v kept closed e verdict new calm idle judged decided_here told)))

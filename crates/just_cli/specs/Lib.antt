@@ -3,3 +3,4 @@ pub mod Texts
 pub mod Request
 pub mod Ran
 pub mod Outcome
+pub mod Caused

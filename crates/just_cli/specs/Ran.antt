@@ -1,15 +1,19 @@
 -- What a run leaves in its host's record.
-use Rattle.std.specs.Prelude.{◌≡◌, ◌++◌, ◌⊎◌, List, [], ◌∷◌, None}
+use Rattle.std.specs.Prelude.{◌≡◌, ◌++◌, ◌⊎◌, List, [], ◌∷◌, Some, None}
 use Rattle.just_host.specs.declared.entry.Call.TheVariants as call
 use Rattle.just_host.specs.declared.entry.Entry.{Entry}
 use Rattle.just_host.specs.declared.entry.Entry.TheVariants as entry
 use Rattle.just_host.specs.declared.entry.Stream.TheVariants as stream
 use Rattle.just_host.specs.Record.{children, refused}
 use Rattle.just_sched.specs.declared.event.Event.{Event}
+use Rattle.just_sched.specs.declared.event.Verdict.{Verdict}
 use Rattle.just_sched.specs.declared.plan.Plan.{Plan}
+use Rattle.just_sched.specs.Idle.{HasWork}
 use Rattle.just_sched.specs.Legal.{Run, IsLegal, IsClosed, IsComplete}
 use Rattle.just_sched.specs.Match.{Matches}
-use Rattle.just_sched.specs.Verdict.{NoneDecides}
+use Rattle.just_sched.specs.Verdict.{IsVerdict, NoneDecides}
+use Rattle.just_cli.specs.Caused.{IsCaused}
+use Rattle.just_cli.specs.Outcome.{IsErrorFor}
 use Rattle.just_cli.specs.declared.error.Error.{Error}
 use Rattle.just_cli.specs.declared.error.Error.TheVariants as error
 use Rattle.just_cli.specs.Texts.{error_text}
@@ -42,12 +46,18 @@ pub record Ran (plan : Plan) (h : List Event) (old new : List Entry) : Type 0 wh
   pub well : NoneDecides (run_over plan old) h
   pub complete : IsComplete (run_over plan old) h
 
--- A run that failed: behind the entries of its history the error was told.
+-- A run that failed: its error is that of the history's verdict, and the record shows its cause; nothing was left to do,
+-- so it didn't stop at its first failure. Behind the entries of its history the error was told.
 pub record Fell (plan : Plan) (h : List Event) (e : Error) (old new : List Entry) : Type 0 where
   pub mid : List Entry
   pub post : List Entry
   pub grew : new ≡ old ++ (mid ++ post)
   pub kept : Kept plan h old mid
+  pub verdict : Verdict
+  pub judged : IsVerdict (run_over plan old) h verdict
+  pub decided : IsErrorFor plan.nodes h verdict (Some e)
+  pub nothing_left : HasWork (run_over plan old) h → ⊥
+  pub caused : IsCaused plan.nodes h e mid
   pub told : IsTold e post
 
 -- A refusal before the run: the entry of the refused call, and the error was told.

@@ -1,5 +1,7 @@
 pub mod AfterLaws
+pub mod Causes
 pub mod Complete
+pub mod Ended
 pub mod Keeps
 pub mod PlanLaws
 pub mod Plans

@@ -488,7 +488,7 @@ all_front p (f ∷ fs) more a = let c = both (p f) (list_all p (fs ++ more)) a i
 front_printed : (xs : List Entry) (x : Entry) (fs rest : List Entry) → list_all is_printed xs ≡ true → xs ++ x ∷ [] ≡ fs ++ rest → (rest ≡ [] → ⊥) → list_all is_printed fs ≡ true
 front_printed xs x fs rest a e some = let r = front xs x fs rest e some in all_front is_printed fs r.0 (ap (λ k. list_all is_printed k) (sym r.1) ∙ a)
 
-option_there : {A : Type 0} (F : A → Type 0) (o : Option A) → MatchOption o ⊥ F → (x : A) × F x
+pub option_there : {A : Type 0} (F : A → Type 0) (o : Option A) → MatchOption o ⊥ F → (x : A) × F x
 option_there F None m = absurd m
 option_there F (Some x) m = (x, m)
 

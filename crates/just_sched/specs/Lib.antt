@@ -1,5 +1,6 @@
 pub mod Codes
 pub mod Commands
+pub mod Favourable
 pub mod Idle
 pub mod Legal
 pub mod Match

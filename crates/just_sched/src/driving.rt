@@ -5,12 +5,12 @@ ghost use Rattle.std.specs.Int.NonZero.{non_zero_u64_get};
 ghost use Rattle.just_sched.specs.declared.event.Idle.{Idle};
 ghost use Rattle.just_sched.specs.Start.{Kept, run_of, begins};
 ghost use Rattle.just_sched.specs.State.{is_open, caught};
-ghost use Rattle.just_sched.specs.Legal.{IsClosed};
+ghost use Rattle.just_sched.specs.Legal.{IsClosed, IsComplete};
 ghost use Rattle.just_sched.specs.Idle.{IsIdle};
 ghost use Rattle.just_sched.specs.Verdict.{IsVerdict};
 ghost use Rattle.just_sched.specs.Moves.{Grown, RunsWith, Rests};
 
-use super::{Book, Driven, Named, Naming, Next, OpenBody, Plan};
+use super::{Book, Driven, Named, Naming, Next, OpenBody, Plan, Verdict};
 use just_host::Host;
 use std::alloc::Global;
 use std::marker::Brand;
@@ -72,6 +72,7 @@ fn drive_named<H: Host + Drop, P: Naming, R: Wait>(
     ensures closed { IfOk result (λ d. IsClosed (run_of P.start) d.history) }
     ensures idle { IfOk result (λ d. (i : Idle) × IsIdle (run_of P.start) d.history i) }
     ensures verdict { IfOk result (λ d. IsVerdict (run_of P.start) d.history d.verdict) }
+    ensures complete { IfOk result (λ d. d.verdict ≡ Verdict.Well → IsComplete (run_of P.start) d.history) }
     ensures back { IfErr result (λ r. (H.entries r.0 ≡ H.entries host) × (H.world r.0 ≡ H.world host) × (r.1 ≡ plan)) }
 {
     let mut book = match Book::<H, P>::open(alloc, Named::new(plan), host, jobs) {
@@ -96,6 +97,7 @@ pub fn drive<R: Threads + Wait + Sync, H: Host + Send + Drop>(
     ensures closed { IfOk result (λ d. IsClosed (run_of (begins plan (option_map non_zero_u64_get jobs) (H.entries host) (H.world host))) d.history) }
     ensures idle { IfOk result (λ d. (i : Idle) × IsIdle (run_of (begins plan (option_map non_zero_u64_get jobs) (H.entries host) (H.world host))) d.history i) }
     ensures verdict { IfOk result (λ d. IsVerdict (run_of (begins plan (option_map non_zero_u64_get jobs) (H.entries host) (H.world host))) d.history d.verdict) }
+    ensures complete { IfOk result (λ d. d.verdict ≡ Verdict.Well → IsComplete (run_of (begins plan (option_map non_zero_u64_get jobs) (H.entries host) (H.world host))) d.history) }
     ensures back { IfErr result (λ r. (H.entries r.0 ≡ H.entries host) × (H.world r.0 ≡ H.world host) × (r.1 ≡ plan)) }
 {
     drive_named::<H, Brand, R>(rt, alloc, plan, host, jobs)

@@ -9,4 +9,5 @@ returns-in-None-clause-ran g c =
 
 pub returns-in-Some-clause-failed : goal.returns-in-Some-clause-failed
 returns-in-Some-clause-failed g c =
-    fell_ill _ _ _ c.in-Ok.plan _ _ _ _ _ _ _ _ c.fail-in-Some.ensures.failed c.in-Ok-drive.ensures.plan c.in-Ok.ensures.grew c.in-Ok-drive.ensures.kept c.in-Ok-drive.ensures.closed c.fail-in-Some.ensures.told
+    fell_ill _ _ _ c.in-Ok.plan _ _ _ _ _ _ _ _ _ _ c.fail-in-Some.ensures.failed c.in-Ok-drive.ensures.plan c.in-Ok.ensures.grew c.in-Ok-drive.ensures.kept c.in-Ok-drive.ensures.closed
+    c.in-Ok-drive.ensures.calm c.in-Ok-drive.ensures.idle c.in-Ok-drive.ensures.verdict c.in-Some.ensures c.as_slice.ensures c.fail-in-Some.ensures.told
