@@ -10,3 +10,5 @@ pub mod Pushes
 pub mod Fronts
 pub mod Cleans
 pub mod Made
+pub mod Parents
+pub mod Lossies
