@@ -12,3 +12,4 @@ pub mod Cleans
 pub mod Made
 pub mod Parents
 pub mod Lossies
+pub mod Mixtures

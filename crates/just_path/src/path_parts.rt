@@ -5,6 +5,7 @@ ghost use Rattle.just_path.specs.Comps.{Comp, comps, has_prefix};
 ghost use Rattle.just_path.specs.Parts.{parent_of, parent_of_leading, HasOneLess};
 ghost use Rattle.just_path.specs.Component.{one_of};
 ghost use Rattle.just_path.specs.Names.{file_name_of, stem_of, prefix_of, extension_of};
+ghost use Rattle.just_path.specs.Mixture.{Move, Taken, from_front, from_back};
 ghost use Rattle.just_path.specs.Order.{begins_with, ends_with};
 ghost use Rattle.just_path.specs.Walk.{left, slice, slice_left};
 ghost use Rattle.just_path.specs.Ancestors.{ancestor_next};
@@ -17,10 +18,12 @@ use super::{Iter, StripPrefix, Utf8Ancestors, Utf8Component, Utf8Components, Utf
 
 impl<'a> Utf8Path<'a> {
     /// The components, from either end.
-    #[tactic(auto, using(crate::proofs::Parents::no_prefix))]
+    #[tactic(auto, using(crate::proofs::Parents::no_prefix, crate::proofs::Mixtures::each_once))]
     pub fn components(&self) -> Utf8Components<'a>
         ensures left { left result ≡ comps (text_of self.now) }
         ensures slice { (n : ℕ) → slice_left result n ≡ slice n (text_of self.now) }
+        // Taken from front and back in any mixture, each comes once, and none is left out.
+        ensures once { (moves : List Move) (after : List Comp) → Taken (comps (text_of self.now)) moves after → comps (text_of self.now) ≡ from_front moves ++ (after ++ from_back moves) }
         // None of them is a prefix.
         ensures unix { has_prefix (comps (text_of self.now)) ≡ false }
     {

@@ -1,5 +1,5 @@
 -- One chunk more is written; where none is left, nothing more is shown.
-use Rattle.std.proofs.Common.{◌≡◌, ◌∙◌, List, ℕ, ◌++◌, refl, sym, ap, append_assoc}
+use Rattle.std.proofs.Common.{◌≡◌, ◌∙◌, List, ℕ, true, ◌++◌, refl, sym, ap, append_assoc}
 use Rattle.std.proofs.lemmas.List.{append-nil}
 use Rattle.std.proofs.lemmas.Str.{utf8_lossy_empty}
 use Rattle.std.proofs.Output.{has_written_append, has_written_of_eq}
@@ -19,7 +19,7 @@ loop-chunk-preserved g c =
     let (parts, less, last, first) = c.in-Some.ensures.steps in
     let shown : utf8_lossy (utf8_chunks_rest c.loop-chunk.left) ≡ chunk_shown v i ++ utf8_lossy r = lossy_parts (utf8_chunks_rest c.loop-chunk.left) v i r parts last first.0 first.1 in (
       done ++ chunk_shown v i,
-      has_written_append _ _ _ _ _ _ wrote (c.in_ok-write_chunk.ensures wrote.plain refl),
+      has_written_append _ _ _ _ _ _ wrote (c.in_ok-write_chunk.ensures wrote.plain (refl {a = true})),
       append_assoc done (chunk_shown v i) (utf8_lossy r) ∙ ap (λ t. done ++ t) (sym shown) ∙ same,
     )
 
