@@ -10,3 +10,6 @@ pub mod Pushes
 pub mod Fronts
 pub mod Cleans
 pub mod Made
+pub mod Parents
+pub mod Lossies
+pub mod Mixtures

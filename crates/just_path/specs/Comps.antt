@@ -65,3 +65,12 @@ leading t = if is_absolute t then root ∷ [] else (if is_dot_first (pieces t) t
 -- the components of a path's text
 unfoldable pub comps : List ℕ → List Comp
 comps t = leading t ++ names t
+
+-- whether a component is a prefix
+abbrev pub has_prefix : List Comp → Bool
+has_prefix [] = false
+has_prefix (prefix t ∷ cs) = true
+has_prefix (root ∷ cs) = has_prefix cs
+has_prefix (current ∷ cs) = has_prefix cs
+has_prefix (parent ∷ cs) = has_prefix cs
+has_prefix (normal t ∷ cs) = has_prefix cs

@@ -15,3 +15,4 @@ pub mod Clean
 pub mod Settled
 pub mod OrderLaws
 pub mod Utf8
+pub mod Mixture

@@ -1,7 +1,7 @@
 -- Parts of a path's text: from a component on, and up to a component.
-use Rattle.std.specs.Prelude.{ℕ, zero, suc, nat_lt, Option, Some, None, List, [], ◌∷◌, ◌++◌, length, take, if◌then◌else◌}
+use Rattle.std.specs.Prelude.{◌≡◌, ◌⊎◌, ℕ, zero, suc, nat_lt, Option, Some, None, List, [], ◌∷◌, ◌++◌, length, take, if◌then◌else◌}
 use Rattle.std.specs.List.{flat_map}
-use Rattle.just_path.specs.Comps.{Comp, current, named, pieces, names, leading, is_empty}
+use Rattle.just_path.specs.Comps.{Comp, root, current, named, pieces, names, leading, comps, is_empty}
 
 -- the text of which these are the pieces
 abbrev pub joined : List (List ℕ) → List ℕ
@@ -34,3 +34,8 @@ parent_of_leading _ = None
 
 unfoldable pub parent_of : List ℕ → Option (List ℕ)
 parent_of t = if is_empty (names t) then parent_of_leading (leading t) else Some (cut 1 t)
+
+-- a parent has one component less than the path; one without a parent has none, or the root alone
+abbrev pub HasOneLess : List Comp → Option (List ℕ) → Type 0
+HasOneLess cs None = (cs ≡ []) ⊎ (cs ≡ root ∷ [])
+HasOneLess cs (Some d) = (c : Comp) × (cs ≡ comps d ++ c ∷ [])

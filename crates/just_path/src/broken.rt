@@ -1,6 +1,10 @@
 ghost use Rattle.std.specs.Prelude.{◌≡◌, MatchResult, IfErr, IfOk, IsUtf8};
-ghost use Rattle.just_path.specs.Utf8.{Breaks};
+ghost use Rattle.std.specs.Fmt.{WritesOnOk};
+ghost use Rattle.std.specs.Str.Lossy.{utf8_lossy};
+ghost use Rattle.std.specs.Str.Chunks.{utf8_chunk_valid, utf8_chunk_invalid};
+ghost use Rattle.just_path.specs.Utf8.{Breaks, chunk_shown};
 
+use std::str::Utf8Chunk;
 use std::{fmt, str};
 
 /// Where bytes aren't UTF-8.
@@ -31,13 +35,24 @@ pub(crate) fn text_of_bytes(bytes: &[u8]) -> Result<&str, Broken>
     }
 }
 
+/// Writes the text of a chunk, and U+FFFD where a broken sequence is behind it.
+fn write_chunk<W: fmt::Write>(chunk: &Utf8Chunk<'_>, f: &mut fmt::Formatter<W>) -> fmt::Result
+    ensures { WritesOnOk W.write_str_gives f.old result (chunk_shown (utf8_chunk_valid chunk.now) (utf8_chunk_invalid chunk.now)) f.new }
+{
+    f.write_str(chunk.valid())?;
+    if chunk.invalid().is_empty() {
+        return Ok(());
+    }
+    f.write_str("\u{FFFD}")
+}
+
 /// Writes bytes with U+FFFD for each broken sequence.
-pub(crate) fn write_lossy<W: fmt::Write>(bytes: &[u8], f: &mut fmt::Formatter<W>) -> fmt::Result {
-    for chunk in bytes.utf8_chunks() {
-        f.write_str(chunk.valid())?;
-        if !chunk.invalid().is_empty() {
-            f.write_str("\u{FFFD}")?;
-        }
+pub(crate) fn write_lossy<W: fmt::Write>(bytes: &[u8], f: &mut fmt::Formatter<W>) -> fmt::Result
+    ensures { WritesOnOk W.write_str_gives f.old result (utf8_lossy bytes.now) f.new }
+{
+    let mut left = bytes.utf8_chunks();
+    while let Some(chunk) = left.next() {
+        write_chunk(&chunk, f)?;
     }
     Ok(())
 }

@@ -5,10 +5,9 @@ ghost use Rattle.just_path.specs.Names.{name_of};
 ghost use Rattle.just_path.specs.Component.{comp_of, one_of};
 
 use super::Utf8PrefixComponent;
-use std::fmt;
 
 /// A component of a path.
-#[derive(Clone, Copy, Debug, PartialEq, Eq, PartialOrd, Ord, Hash)]
+#[derive(Clone, Copy, PartialEq, Eq, PartialOrd, Ord, Hash)]
 pub enum Utf8Component<'a> {
     /// No Unix path has one.
     Prefix(Utf8PrefixComponent<'a>),

@@ -114,7 +114,7 @@ impl<'a> Utf8Components<'a> {
 impl<'a> Iterator for Utf8Components<'a> {
     type Item = Utf8Component<'a>;
 
-    ghost next_gives = { λ s r t. TakesFirst (left s) r (left t) };
+    ghost next_gives = { λ s r t. TakesFirst (left s) r (left t) × IfSome r (λ c. (n : ℕ) → slice_left s (suc n) ≡ slice_left t n) };
 
     ghost remaining = { λ s. at_most (left_bound s) };
 

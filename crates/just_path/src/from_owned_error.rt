@@ -1,5 +1,6 @@
-ghost use Rattle.std.specs.Prelude.{◌≡◌};
+ghost use Rattle.std.specs.Prelude.{◌≡◌, Some, codes};
 ghost use Rattle.just_path.specs.declared.broken.Broken.{Broken};
+ghost use Rattle.just_path.specs.Utf8.{shown_with};
 
 use super::broken::{Broken, write_lossy};
 use super::{FromOsStrError, FromPathError, Miss, PathFault};
@@ -52,6 +53,8 @@ impl FromPathBufError {
 }
 
 impl fmt::Display for FromPathBufError {
+    ghost output = { λ e. Some (shown_with (codes "PathBuf contains invalid UTF-8: ") e.bytes.items) };
+
     fn fmt<W: fmt::Write>(&self, f: &mut fmt::Formatter<W>) -> fmt::Result {
         f.write_str("PathBuf contains invalid UTF-8: ")?;
         write_lossy(self.bytes.as_slice(), f)
@@ -106,6 +109,8 @@ impl FromOsStringError {
 }
 
 impl fmt::Display for FromOsStringError {
+    ghost output = { λ e. Some (shown_with (codes "OsString contains invalid UTF-8: ") e.bytes.items) };
+
     fn fmt<W: fmt::Write>(&self, f: &mut fmt::Formatter<W>) -> fmt::Result {
         f.write_str("OsString contains invalid UTF-8: ")?;
         write_lossy(self.bytes.as_slice(), f)
@@ -160,6 +165,8 @@ impl FromBoxedPathError {
 }
 
 impl fmt::Display for FromBoxedPathError {
+    ghost output = { λ e. Some (shown_with (codes "Box<Path> contains invalid UTF-8: ") e.bytes.items) };
+
     fn fmt<W: fmt::Write>(&self, f: &mut fmt::Formatter<W>) -> fmt::Result {
         f.write_str("Box<Path> contains invalid UTF-8: ")?;
         write_lossy(self.bytes.as_slice(), f)

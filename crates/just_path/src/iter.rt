@@ -1,4 +1,4 @@
-ghost use Rattle.std.specs.Prelude.{◌≡◌, [], ◌∷◌, ◌++◌, MatchOption, None, Some, option_map, option_and_then};
+ghost use Rattle.std.specs.Prelude.{◌≡◌, ℕ, [], ◌∷◌, ◌++◌, MatchOption, None, Some, option_map, option_and_then};
 ghost use Rattle.std.specs.Iterator.{at_most};
 ghost use Rattle.just_path.specs.Path.{text_of};
 ghost use Rattle.just_path.specs.Comps.{comps, comp_text};
@@ -15,7 +15,8 @@ pub struct Iter<'a> {
 
 impl<'a> Iter<'a> {
     pub(crate) fn new(inner: Utf8Components<'a>) -> Iter<'a>
-        ensures { left result.inner ≡ left inner.entry }
+        ensures left { left result.inner ≡ left inner.entry }
+        ensures slice { (n : ℕ) → slice_left result.inner n ≡ slice_left inner.entry n }
     {
         Iter { inner }
     }

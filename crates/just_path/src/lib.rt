@@ -25,6 +25,7 @@ mod prefix;
 mod room;
 mod scan;
 mod seq;
+mod serialized;
 mod show;
 mod strip;
 mod text;

@@ -5,7 +5,7 @@ use super::{NoMemory, Utf8PathBuf};
 use std::alloc::Global;
 
 /// A borrowed path: a text that is read as Unix paths are.
-#[derive(Clone, Copy, Debug, Drop)]
+#[derive(Clone, Copy, Drop)]
 pub struct Utf8Path<'a> {
     text: &'a str,
 }

@@ -5,7 +5,7 @@ use super::{NoMemory, Utf8Path};
 use std::marker::Model;
 
 /// An owned path, which contracts see as the list of its text's bytes.
-#[derive(Debug, Drop)]
+#[derive(Drop)]
 pub struct Utf8PathBuf {
     pub(crate) text: String,
 }

@@ -1,10 +1,11 @@
 ghost use Rattle.std.specs.Prelude.{◌≡◌, ◌++◌, ℕ, List, ◌<◌, IfOk, IfSome, MatchResult, length, take, true, false, option_map, option_and_then, Some};
 ghost use Rattle.std.specs.Option.{option_copied};
 ghost use Rattle.just_path.specs.Path.{text_of, pushed};
-ghost use Rattle.just_path.specs.Comps.{Comp, comps};
-ghost use Rattle.just_path.specs.Parts.{parent_of, parent_of_leading};
+ghost use Rattle.just_path.specs.Comps.{Comp, comps, has_prefix};
+ghost use Rattle.just_path.specs.Parts.{parent_of, parent_of_leading, HasOneLess};
 ghost use Rattle.just_path.specs.Component.{one_of};
 ghost use Rattle.just_path.specs.Names.{file_name_of, stem_of, prefix_of, extension_of};
+ghost use Rattle.just_path.specs.Mixture.{Move, Taken, from_front, from_back};
 ghost use Rattle.just_path.specs.Order.{begins_with, ends_with};
 ghost use Rattle.just_path.specs.Walk.{left, slice, slice_left};
 ghost use Rattle.just_path.specs.Ancestors.{ancestor_next};
@@ -17,25 +18,33 @@ use super::{Iter, StripPrefix, Utf8Ancestors, Utf8Component, Utf8Components, Utf
 
 impl<'a> Utf8Path<'a> {
     /// The components, from either end.
+    #[tactic(auto, using(crate::proofs::Parents::no_prefix, crate::proofs::Mixtures::each_once))]
     pub fn components(&self) -> Utf8Components<'a>
         ensures left { left result ≡ comps (text_of self.now) }
         ensures slice { (n : ℕ) → slice_left result n ≡ slice n (text_of self.now) }
+        // Taken from front and back in any mixture, each comes once, and none is left out.
+        ensures once { (moves : List Move) (after : List Comp) → Taken (comps (text_of self.now)) moves after → comps (text_of self.now) ≡ from_front moves ++ (after ++ from_back moves) }
+        // None of them is a prefix.
+        ensures unix { has_prefix (comps (text_of self.now)) ≡ false }
     {
         Utf8Components::new(self.as_str())
     }
 
     /// The texts of the components, from either end.
     pub fn iter(&self) -> Iter<'a>
-        ensures { left result.inner ≡ comps (text_of self.now) }
+        ensures left { left result.inner ≡ comps (text_of self.now) }
+        ensures slice { (n : ℕ) → slice_left result.inner n ≡ slice n (text_of self.now) }
     {
         Iter::new(self.components())
     }
 
     /// The path without its last component: none where there is no component, or the root alone.
-    #[tactic(auto, using(crate::proofs::Files::parent_behind, crate::proofs::Files::parent_alone, crate::proofs::Leading::no_longer, crate::proofs::Fronts::parent_front))]
+    #[tactic(auto, using(crate::proofs::Files::parent_behind, crate::proofs::Files::parent_alone, crate::proofs::Leading::no_longer, crate::proofs::Fronts::parent_front, crate::proofs::Parents::less_behind, crate::proofs::Parents::less_alone))]
     pub fn parent(&self) -> Option<Utf8Path<'a>>
         ensures parent { option_map text_of result ≡ parent_of (text_of self.now) }
         ensures shorter { IfSome result (λ p. length (text_of p) < length (text_of self.now)) }
+        // It has one component less; none is answered only where there is no component, or the root alone.
+        ensures less { HasOneLess (comps (text_of self.now)) (option_map text_of result) }
         // It is a front of the text.
         ensures front { IfSome result (λ p. take (length (text_of p)) (text_of self.now) ≡ text_of p) }
     {

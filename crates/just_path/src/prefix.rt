@@ -2,7 +2,7 @@ ghost use Rattle.std.specs.Prelude.{◌≡◌, Bool};
 ghost use Rattle.just_path.specs.Prefix.{is_verbatim};
 
 /// The prefixes that a path has on Windows. No Unix path gives one.
-#[derive(Clone, Copy, Debug, PartialEq, Eq, PartialOrd, Ord, Hash)]
+#[derive(Clone, Copy, PartialEq, Eq, PartialOrd, Ord, Hash)]
 pub enum Utf8Prefix<'a> {
     /// `\\?\NAME`
     Verbatim(&'a str),
@@ -35,7 +35,7 @@ impl<'a> Utf8Prefix<'a> {
 }
 
 /// A prefix with its text. Comparisons read the parsed prefix alone.
-#[derive(Clone, Copy, Debug)]
+#[derive(Clone, Copy)]
 #[derive_where(PartialEq, Eq, PartialOrd, Ord, Hash)]
 pub struct Utf8PrefixComponent<'a> {
     #[derive_where(skip(EqHashOrd))]

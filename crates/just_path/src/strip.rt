@@ -1,3 +1,5 @@
+ghost use Rattle.std.specs.Prelude.{Some, codes};
+
 use std::error::Error;
 use std::fmt;
 
@@ -6,6 +8,8 @@ use std::fmt;
 pub struct StripPrefix;
 
 impl fmt::Display for StripPrefix {
+    ghost output = { λ _. Some (codes "prefix not found") };
+
     fn fmt<W: fmt::Write>(&self, f: &mut fmt::Formatter<W>) -> fmt::Result {
         f.write_str("prefix not found")
     }

@@ -84,3 +84,52 @@ fn bytes_that_are_no_text(rt: HostRuntime) -> Result<(), Fail> {
     assert_eq!(rt; text.as_str(), "a//b ..");
     Ok(())
 }
+
+#[test]
+fn bytes_to_path_and_back(rt: HostRuntime) -> Result<(), Fail> {
+    let alloc = rt.alloc();
+    for text in ["", "bar", "\u{1F4A9}"] {
+        match Utf8PathBuf::from_os_string(Vec::from_slice(alloc, text.as_bytes())?) {
+            Ok(path) => assert!(rt; path.into_os_string().as_slice() == text.as_bytes()),
+            Err(_) => assert!(rt; false),
+        }
+    }
+    match Utf8PathBuf::try_from_os_string(Vec::from_slice(alloc, b"\xff")?) {
+        Ok(_) => assert!(rt; false),
+        Err(error) => {
+            let place = error.from_os_str_error();
+            assert_eq!(rt; place.valid_up_to(), 0);
+            assert!(rt; place.error_len() == Some(1));
+            let text = format!(in alloc; "{error}; {place}")?;
+            assert_eq!(rt;
+                text.as_str(),
+                "OsString contains invalid UTF-8: \u{FFFD}; OsStr contains invalid UTF-8"
+            );
+            assert!(rt; error.into_os_string().as_slice() == b"\xff".as_slice());
+        }
+    }
+    match Utf8PathBuf::try_from_boxed_path(Vec::from_slice(alloc, b"a\xf0\x9f")?) {
+        Ok(_) => assert!(rt; false),
+        Err(error) => {
+            assert!(rt; error.from_path_error().error_len().is_none());
+            let text = format!(in alloc; "{error}")?;
+            assert_eq!(rt;
+                text.as_str(),
+                "Box<Path> contains invalid UTF-8: a\u{FFFD}"
+            );
+        }
+    }
+    Ok(())
+}
+
+#[test]
+fn debug_texts(rt: HostRuntime) -> Result<(), Fail> {
+    let alloc = rt.alloc();
+    let path = Utf8PathBuf::from_str(alloc, "a\"/\t\u{e9}")?;
+    let text = format!(in alloc; "{path:?} {:?} {:>4}", path.as_path(), Utf8Path::new("a"))?;
+    assert_eq!(rt;
+        text.as_str(),
+        "\"a\\\"/\\t\u{e9}\" \"a\\\"/\\t\u{e9}\"    a"
+    );
+    Ok(())
+}

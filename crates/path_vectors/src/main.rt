@@ -6,6 +6,8 @@ mod bytes;
 mod field;
 mod pairs;
 mod paths;
+#[cfg(test)]
+mod tests;
 mod wrong;
 
 use std::alloc::Global;
