@@ -2,6 +2,8 @@ pub mod formers
 pub mod Path
 pub mod Environ
 pub mod Host
+pub mod View
+pub mod Asked
 pub mod Comps
 pub mod Parts
 pub mod Prefix

@@ -15,6 +15,8 @@ mod from_owned_error;
 mod host;
 mod iter;
 mod memory;
+mod meta;
+mod metadata;
 mod name;
 mod order;
 mod path;
@@ -39,6 +41,7 @@ pub use from_owned_error::{FromBoxedPathError, FromOsStringError, FromPathBufErr
 pub use host::{Miss, PathCall, PathFault, PathHost, PathNote};
 pub use iter::Iter;
 pub use memory::NoMemory;
+pub use meta::{Item, Kind, Meta};
 pub use path::Utf8Path;
 pub use path_buf::Utf8PathBuf;
 pub use prefix::{Utf8Prefix, Utf8PrefixComponent};
