@@ -8,7 +8,6 @@ use Rattle.std.specs.declared.alloc.Global.{Global}
 use Rattle.std.specs.declared.vec.Vec.{Vec}
 use Rattle.just_path.specs.Path.{pushed}
 use Rattle.just_path.specs.Comps.{is_empty}
-use Rattle.just_path.specs.Names.{has_no_slash}
 use Rattle.just_path.specs.declared.host.Miss.{Miss}
 use Rattle.just_path.specs.declared.host.Miss.TheVariants as miss
 use Rattle.just_path.specs.declared.host.PathFault.{PathFault}
@@ -23,13 +22,16 @@ pub data Sight : Type 0 where
   thing : Meta → Sight
   link : Meta → List ℕ → Sight
 
--- the current folder, and what stands at each path. The paths are clean and absolute
+-- what stands at each path. The paths are clean and absolute
+abbrev pub Sights : Type 0
+Sights = FinMap (slice_cmp nat_cmp) Sight
+
 pub record View : Type 0 where
   pub current : List ℕ
-  pub tree : FinMap (slice_cmp nat_cmp) Sight
+  pub tree : Sights
 
-abbrev pub sight : List ℕ → View → Option Sight
-sight path v = get v.tree path
+abbrev pub sight : List ℕ → Sights → Option Sight
+sight path tree = get tree path
 
 abbrev pub meta_of : Sight → Meta
 meta_of (thing m) = m
@@ -52,13 +54,13 @@ sees_file None = false
 sees_file (Some s) = is_file (meta_of s).kind
 
 -- whether the text before one of the path's slashes is a file
-abbrev pub goes_through_file : List ℕ → View → Bool
-goes_through_file path v =
-    list_any (λ k. (slice_index path k == 47) && sees_file (sight (take k path) v)) (range_with_len 0 (length path))
+abbrev pub goes_through_file : List ℕ → Sights → Bool
+goes_through_file path tree =
+    list_any (λ k. (slice_index path k == 47) && sees_file (sight (take k path) tree)) (range_with_len 0 (length path))
 
 -- the miss of a path at which nothing stands
-abbrev pub absence : List ℕ → View → Miss
-absence path v = if goes_through_file path v then miss.NotFolder else miss.NotFound
+abbrev pub absence : List ℕ → Sights → Miss
+absence path tree = if goes_through_file path tree then miss.NotFolder else miss.NotFound
 
 -- what a link points at; a link to a link is not followed
 abbrev pub behind_link : Option Sight → Result Meta Miss
@@ -66,18 +68,18 @@ behind_link (Some (thing m)) = Ok m
 behind_link (Some (link m target)) = Err miss.NotFound
 behind_link None = Err miss.NotFound
 
-abbrev pub followed : List ℕ → View → Option Sight → Result Meta Miss
-followed path v (Some (thing m)) = Ok m
-followed path v (Some (link m target)) = behind_link (sight target v)
-followed path v None = Err (absence path v)
+abbrev pub followed : List ℕ → Sights → Option Sight → Result Meta Miss
+followed path tree (Some (thing m)) = Ok m
+followed path tree (Some (link m target)) = behind_link (sight target tree)
+followed path tree None = Err (absence path tree)
 
-abbrev pub standing : List ℕ → View → Option Sight → Result Meta Miss
-standing path v (Some s) = Ok (meta_of s)
-standing path v None = Err (absence path v)
+abbrev pub standing : List ℕ → Sights → Option Sight → Result Meta Miss
+standing path tree (Some s) = Ok (meta_of s)
+standing path tree None = Err (absence path tree)
 
 -- what stands at a path, behind the link if it is one and is followed. A path is looked up as it is given
-abbrev pub meta_told : List ℕ → Bool → View → Result Meta Miss
-meta_told path follow v = if follow then followed path v (sight path v) else standing path v (sight path v)
+abbrev pub meta_told : List ℕ → Bool → Sights → Result Meta Miss
+meta_told path follow tree = if follow then followed path tree (sight path tree) else standing path tree (sight path tree)
 
 -- where a link leads that stands at a path, else the path
 abbrev pub led : List ℕ → Option Sight → List ℕ
@@ -90,25 +92,25 @@ abbrev pub found : {A : Type 0} → List ℕ → Result A Miss → Result (List 
 found path (Ok x) = Ok path
 found path (Err m) = Err m
 
-abbrev pub canonical_told : List ℕ → View → Result (List ℕ) Miss
-canonical_told path v = found (led path (sight path v)) (meta_told path true v)
+abbrev pub canonical_told : List ℕ → Sights → Result (List ℕ) Miss
+canonical_told path tree = found (led path (sight path tree)) (meta_told path true tree)
 
 -- the same of a path that is to be a folder
 abbrev pub folder_found : List ℕ → Result Meta Miss → Result (List ℕ) Miss
 folder_found path (Ok m) = if is_folder m.kind then Ok path else Err miss.NotFolder
 folder_found path (Err m) = Err m
 
-abbrev pub folder_told : List ℕ → View → Result (List ℕ) Miss
-folder_told path v = folder_found (led path (sight path v)) (meta_told path true v)
+abbrev pub folder_told : List ℕ → Sights → Result (List ℕ) Miss
+folder_told path tree = folder_found (led path (sight path tree)) (meta_told path true tree)
 
 -- the target of a link; where another thing stands no link is found
-abbrev pub target_of : List ℕ → View → Option Sight → Result (List ℕ) Miss
-target_of path v (Some (link m target)) = Ok target
-target_of path v (Some (thing m)) = Err miss.NotFound
-target_of path v None = Err (absence path v)
+abbrev pub target_of : List ℕ → Sights → Option Sight → Result (List ℕ) Miss
+target_of path tree (Some (link m target)) = Ok target
+target_of path tree (Some (thing m)) = Err miss.NotFound
+target_of path tree None = Err (absence path tree)
 
-abbrev pub link_told : List ℕ → View → Result (List ℕ) Miss
-link_told path v = target_of path v (sight path v)
+abbrev pub link_told : List ℕ → Sights → Result (List ℕ) Miss
+link_told path tree = target_of path tree (sight path tree)
 
 abbrev pub current_told : View → Result (List ℕ) Miss
 current_told v = Ok v.current
@@ -121,16 +123,17 @@ named items = map (λ i. (i.name, i.kind)) items
 abbrev pub AreInOrder : List Item → Type 0
 AreInOrder items = T (is_sorted (slice_cmp nat_cmp) (named items))
 
+-- whether a text is the name of an item
 abbrev pub is_name : List ℕ → Bool
-is_name name = not (is_empty name) && has_no_slash name
+is_name name = not (is_empty name) && not (list_any (λ b. b == 47) name)
 
 -- the kind of what stands directly in a folder under a name
-abbrev pub kind_in : List ℕ → List ℕ → View → Option Kind
-kind_in folder name v = if is_name name then option_map (λ s. (meta_of s).kind) (sight (pushed folder name) v) else None
+abbrev pub kind_in : List ℕ → List ℕ → Sights → Option Kind
+kind_in folder name tree = if is_name name then option_map (λ s. (meta_of s).kind) (sight (pushed folder name) tree) else None
 
 -- the items are what stands directly in a folder, each by its name
-abbrev pub AreItemsOf : List ℕ → View → List Item → Type 0
-AreItemsOf folder v items = (name : List ℕ) → find (slice_cmp nat_cmp) name (named items) ≡ kind_in folder name v
+abbrev pub AreItemsOf : List ℕ → Sights → List Item → Type 0
+AreItemsOf folder tree items = (name : List ℕ) → find (slice_cmp nat_cmp) name (named items) ≡ kind_in folder name tree
 
 -- a miss is the one that is shown; of a failure and of want of memory nothing is
 abbrev pub ToldFault : {A : Type 0} → Result A Miss → PathFault → Type 0
@@ -150,5 +153,5 @@ Tells (Some v) shown r = Told (shown v) r
 -- the same of a list: its items are those of the folder that the path shows
 abbrev pub TellsItems : Option View → List ℕ → Result (Vec Item Global) PathFault → Type 0
 TellsItems None path r = Unit {0}
-TellsItems (Some v) path (Ok items) = (folder : List ℕ) × (folder_told path v ≡ Ok folder) × AreItemsOf folder v items.items
-TellsItems (Some v) path (Err e) = ToldFault (folder_told path v) e
+TellsItems (Some v) path (Ok items) = (folder : List ℕ) × (folder_told path v.tree ≡ Ok folder) × AreItemsOf folder v.tree items.items
+TellsItems (Some v) path (Err e) = ToldFault (folder_told path v.tree) e
