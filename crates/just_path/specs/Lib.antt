@@ -2,6 +2,10 @@ pub mod formers
 pub mod Path
 pub mod Environ
 pub mod Host
+pub mod View
+pub mod Asked
+pub mod Directory
+pub mod Absolute
 pub mod Comps
 pub mod Parts
 pub mod Prefix

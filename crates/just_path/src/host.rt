@@ -1,8 +1,10 @@
-ghost use Rattle.std.specs.Prelude.{◌≡◌, ℕ, List, [], Option, IfOk, MatchOption};
+ghost use Rattle.std.specs.Prelude.{◌≡◌, ℕ, [], Option, IfOk};
+ghost use Rattle.just_path.specs.Path.{text_of};
 ghost use Rattle.just_path.specs.declared.host.PathNote.{PathNote};
 ghost use Rattle.just_path.specs.Host.{note_of, Counts};
+ghost use Rattle.just_path.specs.View.{View, Tells, TellsItems, AreInOrder, meta_told, canonical_told, link_told, current_told};
 
-use super::Utf8PathBuf;
+use super::{Item, Meta, Utf8Path, Utf8PathBuf};
 
 /// Why a path wasn't found as it was asked for.
 #[derive(Clone, Copy, Debug, PartialEq, Eq, Hash)]
@@ -43,20 +45,43 @@ pub enum PathNote {
 }
 
 /// A host of files, as far as paths ask it. Contracts know it by the counts of its faults and misses, which never
-/// fall, by the current folder where it tells one, and by `went`, the relation that each call keeps to.
+/// fall, by the view of its files where it tells one, and by `went`, the relation that each call keeps to.
 pub trait PathHost {
     ghost faults: { Self → ℕ };
 
     ghost misses: { Self → ℕ };
 
-    ghost here: { Self → Option (List ℕ) };
+    ghost view: { Self → Option View };
 
     ghost went: { Self → Self → PathNote → Type 0 };
+
+    /// What stands at a path: behind the link, if it is one and is to be followed.
+    fn meta(&mut self, path: Utf8Path<'_>, follow: bool) -> Result<Meta, PathFault>
+        ensures went { went self.old self.new (note_of PathCall.Meta (text_of path.entry) result) }
+        ensures told { Tells (view self.old) (λ v. meta_told (text_of path.entry) follow v.tree) result };
+
+    /// What stands in a folder, by rising names.
+    fn list(&mut self, path: Utf8Path<'_>) -> Result<Vec<Item>, PathFault>
+        ensures went { went self.old self.new (note_of PathCall.List (text_of path.entry) result) }
+        ensures order { IfOk result (λ items. AreInOrder items.items) }
+        ensures told { TellsItems (view self.old) (text_of path.entry) result };
+
+    /// The path at which a path is found, with no link on the way.
+    fn canonical(&mut self, path: Utf8Path<'_>) -> Result<Utf8PathBuf, PathFault>
+        ensures went { went self.old self.new (note_of PathCall.Canonical (text_of path.entry) result) }
+        ensures told { Tells (view self.old) (λ v. canonical_told (text_of path.entry) v.tree) result };
+
+    /// The target of a link. Where something else stands, no link is found.
+    fn link(&mut self, path: Utf8Path<'_>) -> Result<Utf8PathBuf, PathFault>
+        ensures went { went self.old self.new (note_of PathCall.Link (text_of path.entry) result) }
+        ensures told { Tells (view self.old) (λ v. link_told (text_of path.entry) v.tree) result };
 
     /// The current folder. Where it is a miss, its path is empty.
     fn current(&mut self) -> Result<Utf8PathBuf, PathFault>
         ensures went { went self.old self.new (note_of PathCall.Current [] result) }
-        ensures told { MatchOption (here self.old) (Unit {0}) (λ folder. IfOk result (λ p. p ≡ folder)) };
+        ensures told { Tells (view self.old) current_told result };
 
     ghost counts: { (a b : Self) (n : PathNote) → Self.went a b n → Counts n (faults a) (faults b) (misses a) (misses b) };
+
+    ghost went_view: { (a b : Self) (n : PathNote) → Self.went a b n → view b ≡ view a };
 }

@@ -1,0 +1,28 @@
+use super::Text;
+
+/// What stands at a path.
+#[derive(Clone, Copy, Debug, PartialEq, Eq, Hash)]
+pub enum Kind {
+    File,
+    Folder,
+    Link,
+    /// A device, a pipe or a socket.
+    Other,
+}
+
+/// What is known of what stands at a path.
+#[derive(Clone, Copy, Debug, PartialEq, Eq, Hash)]
+pub struct Meta {
+    pub kind: Kind,
+    /// The bytes of a file, or of a link's target.
+    pub len: u64,
+    /// Whether it is a file that may be run.
+    pub executable: bool,
+}
+
+/// What stands in a listed folder under a name. A link is not followed.
+#[derive(Debug, Drop)]
+pub struct Item {
+    pub name: Text,
+    pub kind: Kind,
+}
