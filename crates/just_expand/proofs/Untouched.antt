@@ -1,5 +1,5 @@
 -- A text without `$` is its own expansion, and asks for nothing.
-use Rattle.std.proofs.Common.{◌≡◌, ℕ, List, [], ◌∷◌, refl, sym, inl, ◌∙◌, ap, subst}
+use Rattle.std.proofs.Common.{◌≡◌, ℕ, List, [], ◌∷◌, refl, sym, inl, subst}
 use Rattle.std.proofs.lemmas.List.{append-nil}
 use Rattle.std.specs.Prelude.{Some}
 use Rattle.just_expand.specs.Pieces.{Piece, Lacks, Begins, Cuts, plain, dollar, bare, braced, defaulted, unclosed, lone}

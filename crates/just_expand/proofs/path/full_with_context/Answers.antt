@@ -1,12 +1,11 @@
-use Rattle.std.proofs.Common.{sym, subst, ◌≡◌, ℕ, List}
+use Rattle.std.proofs.Common.{sym, subst}
 use Rattle.std.specs.Fn.{TakesAt}
 use Rattle.just_path.specs.Path.{text_of}
 use Rattle.just_expand.specs.Pieces.{Lacks, BeginsWithout}
 use Rattle.just_expand.specs.Expansion.{MayAsk, ExpandsTo}
-use Rattle.just_expand.specs.Tilde.{IsTilde, HasNoTilde, MayAskHome, TildeTo, FullTo}
-use Rattle.just_expand.specs.Contexts.{answers, always, environ_answers, homes, home_is, MayCall}
-use Rattle.just_path.specs.Environ.{home_of}
-use Rattle.just_expand.proofs.OverPaths.{sure, expansion, full_expansion, same_path, owned}
+use Rattle.just_expand.specs.Tilde.{MayAskHome}
+use Rattle.just_expand.specs.Contexts.{answers, homes, MayCall}
+use Rattle.just_expand.proofs.OverPaths.{sure, full_expansion, same_path, owned}
 use Rattle.just_expand.proofs.Unique.{one_cut}
 use Rattle.just_expand.proofs.Untouched.{asks_nothing}
 use Rattle.just_expand.proofs.path.full_with_context.Goals as goal
