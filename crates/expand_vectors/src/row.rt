@@ -119,6 +119,9 @@ fn tilde_agrees(alloc: Global, text: &str, field: &str) -> io::Result<bool> {
 }
 
 /// Whether each call answers what the row says.
+///
+/// It has no clause, since it is public to this crate's modules alone and no theorem stands on it: the program is itself
+/// the test, and what it answers is seen by comparing with the original's answers.
 pub fn agrees(alloc: Global, row: &str) -> io::Result<bool> {
     let mut fields = row.split('\t');
     let (Some(text), Some(env), Some(names)) = (fields.next(), fields.next(), fields.next()) else {

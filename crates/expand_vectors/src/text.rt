@@ -1,10 +1,18 @@
 use std::alloc::Global;
 use std::io;
 
+/// The error that says that memory was wanting.
+///
+/// It has no clause, since it is public to this crate's modules alone and no theorem stands on it: it only ends the
+/// program, whose rows then count as not compared.
 pub fn out_of_memory() -> io::Error {
     io::Error::from(io::ErrorKind::OutOfMemory)
 }
 
+/// The error that says that a row is not of the form.
+///
+/// It has no clause, since it is public to this crate's modules alone and no theorem stands on it: it only ends the
+/// program, whose rows then count as not compared.
 pub fn bad_row() -> io::Error {
     io::Error::from(io::ErrorKind::InvalidData)
 }
@@ -19,6 +27,9 @@ enum Escape {
 }
 
 /// A field's text.
+///
+/// It has no clause, since it is public to this crate's modules alone and no theorem stands on it: what it answers is seen
+/// by comparing with the original's answers, which agree with those of `just_expand` only where both texts are read right.
 pub fn unescaped(alloc: Global, field: &str) -> io::Result<String> {
     let mut bytes: Vec<u8> = Vec::new(alloc);
     let mut escape = Escape::Outside;

@@ -1,11 +1,11 @@
 -- Tildes, from what stripping a prefix says.
-use Rattle.std.proofs.Common.{◌≡◌, ◌≢◌, ℕ, List, [], ◌∷◌, ◌++◌, ◌<◌, refl, sym, ◌∙◌, ap, subst, drop, length, ◌+◌, inl, inr, ◌⊎◌, Bor, Option}
+use Rattle.std.proofs.Common.{◌≡◌, ◌≢◌, ℕ, List, [], ◌∷◌, ◌++◌, ◌<◌, refl, sym, ◌∙◌, ap, subst, drop, length, ◌+◌, inl, inr, Bor, Option}
 use Rattle.std.specs.Option.{MatchOption}
 use Rattle.std.specs.Prelude.{Some, None}
 use Rattle.std.specs.Str.Pattern.{FindsCharPrefix}
 use Rattle.std.proofs.lemmas.Str.Pattern.{strip_prefix_char}
 use Rattle.just_expand.specs.Pieces.{Lacks, BeginsWithout, EndsOrBegins}
-use Rattle.just_expand.specs.Tilde.{IsTilde, HasNoTilde, TildeTo, StaysFull, FullTildeTo, IsBrought, GainsTilde}
+use Rattle.just_expand.specs.Tilde.{IsTilde, HasNoTilde, StaysFull, FullTildeTo, IsBrought, GainsTilde}
 
 abbrev Stripped : ℕ → List ℕ → Option (Bor (List ℕ)) → Type 0
 Stripped c bs r = MatchOption r ((rest : List ℕ) → bs ≢ c ∷ rest) (λ x. bs ≡ c ∷ x.now)

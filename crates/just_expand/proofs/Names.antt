@@ -1,7 +1,7 @@
 -- Runs of name characters, from what a search for another character finds.
-use Rattle.std.proofs.Common.{◌≡◌, ℕ, ◌++◌, List, [], ◌∷◌, Bool, true, false, not, refl, sym, ◌∙◌, ap, length, drop, take, arith, length-append}
+use Rattle.std.proofs.Common.{◌≡◌, ℕ, ◌++◌, List, [], ◌∷◌, Bool, true, false, not, refl, sym, ◌∙◌, ap, length, drop, arith, length-append}
 use Rattle.std.specs.List.{AllByRecursion}
-use Rattle.std.specs.Str.{encode_utf8_all, NoCharPasses, NonePass}
+use Rattle.std.specs.Str.{NoCharPasses, NonePass}
 use Rattle.std.specs.Str.Pattern.{HasPassingCharAt}
 use Rattle.std.specs.Char.{encode_utf8}
 use Rattle.std.proofs.lemmas.Str.{encode_same, length-encode, len_utf8_bounds}

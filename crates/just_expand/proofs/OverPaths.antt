@@ -1,18 +1,18 @@
 -- From the results over texts to those over paths.
-use Rattle.std.proofs.Common.{◌≡◌, ℕ, List, sym, ◌∙◌, subst, Option, refl, Bor}
-use Rattle.std.specs.Prelude.{Result, Ok, Err, IfOk, string_bytes}
-use Rattle.std.specs.Cow.{cow_str_bytes}
+use Rattle.std.proofs.Common.{◌≡◌, ℕ, List, sym, ◌∙◌, subst, Option, Bor}
+use Rattle.std.specs.Prelude.{Result, Ok, Err, IfOk}
+use Rattle.std.specs.Cow.{cow_str_bytes, IsBorrowedStr}
 use Rattle.std.specs.declared.alloc.Global.{Global}
 use Rattle.std.specs.declared.borrow.CowStr.{CowStr}
 use Rattle.std.specs.declared.borrow.CowStr.TheVariants as text
-use Rattle.just_path.specs.Path.{text_of}
+use Rattle.just_expand.specs.Pieces.{Lacks}
 use Rattle.just_expand.specs.Expansion.{Reply, ExpandsTo}
 use Rattle.just_expand.specs.Tilde.{FullTo}
 use Rattle.just_expand.specs.Contexts.{IsCause, IsExpansion, IsFullExpansion}
 use Rattle.just_expand.specs.declared.error.Expand.{Expand}
 use Rattle.just_expand.specs.declared.path.Expanded.{Expanded}
 use Rattle.just_expand.specs.declared.path.Expanded.TheVariants as path
-use Rattle.just_expand.specs.Paths.{expanded_bytes, IsSamePath, IsPathOf, IsPathResultOf, IsPathExpansion, IsFullPathExpansion}
+use Rattle.just_expand.specs.Paths.{expanded_bytes, IsBorrowedPath, IsSamePath, IsPathOf, IsPathResultOf, IsPathExpansion, IsFullPathExpansion}
 
 same_bytes : (x : CowStr Global) (y : Expanded) → IsPathOf x y → expanded_bytes y ≡ cow_str_bytes x
 same_bytes (text.Borrowed r) (path.Borrowed p) h = h
@@ -53,3 +53,15 @@ same_path_of i t (Err f) h e = h
 
 pub same_path : {X : Type 0} (i : Bor (List ℕ)) (t : List ℕ) (r : Result (CowStr Global) X) (r' : Result Expanded X) → r ≡ Ok (text.Borrowed i) → IsPathResultOf r r' → i.now ≡ t → IsSamePath t r'
 same_path i t r r' e h n = same_path_of i t r' (subst (λ k. IsPathResultOf k r') e h) n
+
+lent : (x : CowStr Global) (y : Expanded) → IsPathOf x y → IsBorrowedPath y → IsBorrowedStr x
+lent (text.Borrowed r) (path.Borrowed p) h b = tt
+lent (text.Borrowed r) (path.Owned p) h b = absurd h
+lent (text.Owned s) (path.Borrowed p) h b = absurd h
+lent (text.Owned s) (path.Owned p) h b = b
+
+pub owned : {X : Type 0} (s t : List ℕ) (r : Result (CowStr Global) X) (r' : Result Expanded X) → s ≡ t → IsPathResultOf r r' → IfOk r (λ x. IsBorrowedStr x → Lacks 36 s) → IfOk r' (λ y. IsBorrowedPath y → Lacks 36 t)
+owned s t (Ok x) (Ok y) e h p = λ b. subst (Lacks 36) e (p (lent x y h b))
+owned s t (Ok x) (Err f) e h p = tt
+owned s t (Err f) (Ok y) e h p = absurd h
+owned s t (Err f) (Err g) e h p = tt

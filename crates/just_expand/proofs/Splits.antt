@@ -1,9 +1,8 @@
 -- What a split at a character or at `:-` leaves, in the words of the pieces.
-use Rattle.std.proofs.Common.{◌≡◌, ◌≢◌, ℕ, suc, ◌+◌, ◌<◌, ◌≤◌, ◌++◌, ◌==◌, List, [], ◌∷◌, Bool, true, false, refl, sym, ◌∙◌, ap, subst, inl, inr, length, take, drop, get_or, arith, length-append, append_assoc, Bor, Option, lit<}
+use Rattle.std.proofs.Common.{◌≡◌, ◌≢◌, ℕ, suc, ◌<◌, ◌++◌, ◌==◌, List, [], ◌∷◌, true, false, refl, sym, ◌∙◌, ap, subst, inl, inr, length, take, drop, get_or, arith, length-append, append_assoc, Bor, Option, lit<}
 use Rattle.std.specs.Option.{MatchOption}
 use Rattle.std.specs.Prelude.{Some, None}
-use Rattle.std.specs.List.{AllByRecursion}
-use Rattle.std.specs.Str.Pattern.{FindsText, LacksTextAt, FindsChar}
+use Rattle.std.specs.Str.Pattern.{FindsText, FindsChar}
 use Rattle.std.proofs.lemmas.List.{take-append-drop, append-nil}
 use Rattle.std.proofs.Math.Seq.{drop-append_seam}
 use Rattle.std.proofs.lemmas.Str.Pattern.{IsSplitOnceResult, split_parts, NoCharPasses-char, drop_at_char}

@@ -1,5 +1,5 @@
 -- One more piece behind those that became text.
-use Rattle.std.proofs.Common.{◌≡◌, ℕ, ◌++◌, List, [], ◌∷◌, Option, refl, sym, subst, ◌∙◌, ap}
+use Rattle.std.proofs.Common.{◌≡◌, ℕ, ◌++◌, List, [], ◌∷◌, Option, refl, sym, subst}
 use Rattle.std.specs.Prelude.{Some, None, Result, Ok}
 use Rattle.std.specs.Prelude.{String, Bool, true, false, not, IsTrue, ◌↔◌}
 use Rattle.std.specs.declared.alloc.Global.{Global}

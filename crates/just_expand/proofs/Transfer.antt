@@ -1,10 +1,10 @@
 -- What holds over one context holds over another that makes the same calls.
-use Rattle.std.proofs.Common.{◌≡◌, ℕ, List, [], ◌∷◌, Option, refl, sym, subst, ap}
+use Rattle.std.proofs.Common.{◌≡◌, ℕ, List, [], ◌∷◌, Option, refl, ap}
 use Rattle.std.specs.Prelude.{Some, None, Result, Ok, Err}
 use Rattle.std.specs.List.{FoldsTo}
 use Rattle.std.specs.declared.alloc.Global.{Global}
 use Rattle.std.specs.declared.borrow.CowStr.{CowStr}
-use Rattle.just_expand.specs.Pieces.{Piece, Begins, Cuts, Lacks, plain}
+use Rattle.just_expand.specs.Pieces.{Piece}
 use Rattle.just_expand.specs.Expansion.{Reply, question, Puts, PutsBy, Reaches, ExpandsTo, FailsAt, MayAsk}
 use Rattle.just_expand.specs.Contexts.{IsCause, IsExpansion}
 use Rattle.just_expand.specs.Code.{IsCallOf}

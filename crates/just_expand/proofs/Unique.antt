@@ -10,7 +10,7 @@ use Rattle.ucd_category.specs.GeneralCategoryRows.{general_category_rows}
 use Rattle.unicode.specs.Binary.{is_alphabetic}
 use Rattle.unicode.specs.GeneralCategory.{general_category}
 use Rattle.just_expand.proofs.Splits.{finish_defaulted}
-use Rattle.just_expand.specs.Pieces.{Piece, plain, dollar, bare, braced, defaulted, unclosed, lone, written, Stands, Begins, Cuts, Lacks, LacksMark, BeginsWithMark, BeginsWithout, BeginsWithoutName, EndsOrBegins, IsNameRun, is_name_char, CutOneWay}
+use Rattle.just_expand.specs.Pieces.{Piece, plain, dollar, bare, braced, defaulted, unclosed, lone, written, Stands, Cuts, Lacks, LacksMark, BeginsWithMark, BeginsWithout, BeginsWithoutName, EndsOrBegins, IsNameRun, is_name_char, CutOneWay}
 
 head : List ℕ → ℕ
 head [] = 0

@@ -1,6 +1,5 @@
 -- What the values of the code stand for.
-use Rattle.std.specs.Prelude.{◌≡◌, ◌++◌, ℕ, List, Option, Some, None, Result, Ok, Err, string_bytes}
-use Rattle.std.specs.Option.{option_map}
+use Rattle.std.specs.Prelude.{◌≡◌, ◌++◌, ℕ, List, Option, Result, Ok, Err, string_bytes}
 use Rattle.std.specs.Prelude.{String}
 use denote.Ref.{Bor}
 use Rattle.just_path.specs.declared.memory.NoMemory.{NoMemory}

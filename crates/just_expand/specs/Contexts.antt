@@ -1,5 +1,5 @@
 -- What the calls say of their contexts and results.
-use Rattle.std.specs.Prelude.{◌≡◌, ◌⊎◌, ℕ, List, ◌∷◌, ◌++◌, Option, Some, None, Result, Ok, Err, String, string_bytes, IfOk}
+use Rattle.std.specs.Prelude.{◌≡◌, ℕ, List, Option, Some, None, Result, Ok, Err, String, string_bytes, IfOk}
 use Rattle.std.specs.Option.{option_map}
 use Rattle.std.specs.Cow.{cow_str_bytes}
 use Rattle.std.specs.Fn.{CalledAt, Mut, Once}
@@ -9,7 +9,7 @@ use Rattle.std.specs.declared.convert.Infallible.{Infallible}
 use denote.Ref.{Bor}
 use Rattle.just_path.specs.declared.memory.NoMemory.{NoMemory}
 use Rattle.just_expand.specs.Expansion.{Reply, ExpandsTo, FailsAt}
-use Rattle.just_expand.specs.Tilde.{TildeTo, FullTo}
+use Rattle.just_expand.specs.Tilde.{FullTo}
 use Rattle.just_path.specs.Environ.{value_of}
 use Rattle.just_expand.specs.declared.error.NotPresent.{NotPresent}
 use Rattle.just_expand.specs.declared.error.Expand.{Expand}

@@ -17,6 +17,11 @@ abbrev pub expanded_bytes : Expanded → List ℕ
 expanded_bytes (path.Borrowed p) = text_of p
 expanded_bytes (path.Owned p) = p
 
+-- the path is the one that was given
+abbrev pub IsBorrowedPath : Expanded → Type 0
+IsBorrowedPath (path.Borrowed p) = Unit {0}
+IsBorrowedPath (path.Owned p) = ⊥
+
 -- the result is the path of that text, borrowed
 abbrev pub IsSamePath : {X : Type 0} → List ℕ → Result Expanded X → Type 0
 IsSamePath t (Ok (path.Borrowed p)) = text_of p ≡ t

@@ -103,7 +103,7 @@ where
     requires { MayAsk (tells C.FnMut) (TakesAt C.FnMut) context input.now }
     ensures { MatchResult result (λ out. ExpandsTo (tells C.FnMut) context input.now (string_bytes out)) (IsCause (tells C.FnMut) context input.now) }
 {
-    let mut out = String::new(alloc);
+    let mut out = String::with_capacity(alloc, input.len())?;
     let mut rest = input;
     let mut may_close = true;
     while let Some((piece, behind)) = split_piece(rest, may_close) {

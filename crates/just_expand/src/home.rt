@@ -1,10 +1,10 @@
 // The calls over texts that put the home folder in.
 ghost use Rattle.std.specs.Prelude.{◌≡◌, ◌∷◌, List, ℕ, Ok, IfOk};
 ghost use Rattle.std.specs.Fn.{TakesAt};
-ghost use Rattle.std.specs.Cow.{cow_str_bytes};
+ghost use Rattle.std.specs.Cow.{cow_str_bytes, IsBorrowedStr};
 ghost use Rattle.just_path.specs.Environ.{home_of};
-ghost use Rattle.just_expand.specs.Pieces.{Lacks, BeginsWithout};
-ghost use Rattle.just_expand.specs.Expansion.{MayAsk, ExpandsTo};
+ghost use Rattle.just_expand.specs.Pieces.{Lacks, BeginsWithout, CutOneWay};
+ghost use Rattle.just_expand.specs.Expansion.{MayAsk, ExpandsTo, AsksNothing};
 ghost use Rattle.just_expand.specs.Tilde.{IsTilde, HasNoTilde, MayAskHome, TildeTo, FullTo};
 ghost use Rattle.just_expand.specs.Contexts.{answers, always, environ_answers, homes, home_is, MayCall, IsFullExpansion};
 
@@ -69,9 +69,12 @@ where
     E: Drop,
     requires asked { MayAsk (answers C.FnMut) (TakesAt C.FnMut) context input.now }
     requires home { MayAskHome (answers C.FnMut) (MayCall H.FnOnce home_dir) context input.now }
+    ensures one_cut { CutOneWay input.now }
     ensures expanded { IsFullExpansion (answers C.FnMut) (homes H.FnOnce home_dir) context input.now result }
+    ensures unasked { Lacks 36 input.now → AsksNothing (answers C.FnMut) context input.now }
     ensures brought { BeginsWithout 126 input.now → IfOk result (λ text. ExpandsTo (answers C.FnMut) context input.now (cow_str_bytes text)) }
     ensures borrowed { Lacks 36 input.now → BeginsWithout 126 input.now → result ≡ Ok (CowStr.Borrowed input.entry) }
+    ensures owned { IfOk result (λ text. IsBorrowedStr text → Lacks 36 input.now) }
 {
     let expanded = match env_with_context(alloc, input, context) {
         Ok(expanded) => expanded,
@@ -100,9 +103,12 @@ where
     C: FnMut(&str) -> Option<String> + Drop,
     requires asked { MayAsk (always C.FnMut) (TakesAt C.FnMut) context input.now }
     requires home { MayAskHome (always C.FnMut) (MayCall H.FnOnce home_dir) context input.now }
+    ensures one_cut { CutOneWay input.now }
     ensures expanded { IfOk result (λ text. FullTo (always C.FnMut) (homes H.FnOnce home_dir) context input.now (cow_str_bytes text)) }
+    ensures unasked { Lacks 36 input.now → AsksNothing (always C.FnMut) context input.now }
     ensures brought { BeginsWithout 126 input.now → IfOk result (λ text. ExpandsTo (always C.FnMut) context input.now (cow_str_bytes text)) }
     ensures borrowed { Lacks 36 input.now → BeginsWithout 126 input.now → result ≡ Ok (CowStr.Borrowed input.entry) }
+    ensures owned { IfOk result (λ text. IsBorrowedStr text → Lacks 36 input.now) }
 {
     let expanded = match env_with_context_no_errors(alloc, input, context) {
         Ok(expanded) => expanded,
@@ -125,9 +131,12 @@ pub fn full<'a>(
     input: &'a str,
     environ: &Environ,
 ) -> Result<CowStr<'a, Global>, Expand<NotPresent>>
+    ensures one_cut { CutOneWay input.now }
     ensures expanded { IsFullExpansion environ_answers (home_is (home_of environ.now.pairs)) environ.now.pairs input.now result }
+    ensures unasked { Lacks 36 input.now → AsksNothing environ_answers environ.now.pairs input.now }
     ensures brought { BeginsWithout 126 input.now → IfOk result (λ text. ExpandsTo environ_answers environ.now.pairs input.now (cow_str_bytes text)) }
     ensures borrowed { Lacks 36 input.now → BeginsWithout 126 input.now → result ≡ Ok (CowStr.Borrowed input.entry) }
+    ensures owned { IfOk result (λ text. IsBorrowedStr text → Lacks 36 input.now) }
 {
     let expanded = match env(alloc, input, environ) {
         Ok(expanded) => expanded,

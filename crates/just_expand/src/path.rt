@@ -3,17 +3,22 @@ ghost use Rattle.std.specs.Prelude.{◌≡◌, ◌∷◌, List, ℕ, IfOk};
 ghost use Rattle.std.specs.Fn.{TakesAt};
 ghost use Rattle.just_path.specs.Environ.{home_of};
 ghost use Rattle.just_path.specs.Path.{text_of};
-ghost use Rattle.just_expand.specs.Pieces.{Lacks, BeginsWithout};
-ghost use Rattle.just_expand.specs.Expansion.{MayAsk, ExpandsTo};
+ghost use Rattle.just_expand.specs.Pieces.{Lacks, BeginsWithout, CutOneWay};
+ghost use Rattle.just_expand.specs.Expansion.{MayAsk, ExpandsTo, AsksNothing};
 ghost use Rattle.just_expand.specs.Tilde.{IsTilde, HasNoTilde, MayAskHome, TildeTo, FullTo};
 ghost use Rattle.just_expand.specs.Contexts.{answers, always, environ_answers, homes, home_is, MayCall};
-ghost use Rattle.just_expand.specs.Paths.{expanded_bytes, IsSamePath, IsPathResultOf, IsPathExpansion, IsFullPathExpansion};
+ghost use Rattle.just_expand.specs.Paths.{expanded_bytes, IsBorrowedPath, IsSamePath, IsPathResultOf, IsPathExpansion, IsFullPathExpansion};
 
+pub use crate::error::OString;
 use crate::error::{Expand, NotPresent};
+pub use crate::texts::{WInput, Wstr};
 use crate::{home, texts};
 use just_path::{Environ, NoMemory, Utf8Path, Utf8PathBuf};
 use std::alloc::Global;
 use std::borrow::CowStr;
+
+/// What a call is given, and answers where it borrows.
+pub type Xstr<'a> = Utf8Path<'a>;
 
 /// An expanded path: the one that was given, or a new one.
 #[derive(Debug, Drop)]
@@ -43,8 +48,11 @@ where
     C: FnMut(&str) -> Result<Option<String>, E> + Drop,
     E: Drop,
     requires { MayAsk (answers C.FnMut) (TakesAt C.FnMut) context (text_of input) }
+    ensures one_cut { CutOneWay (text_of input.entry) }
     ensures expanded { IsPathExpansion (answers C.FnMut) context (text_of input.entry) result }
+    ensures unasked { Lacks 36 (text_of input.entry) → AsksNothing (answers C.FnMut) context (text_of input.entry) }
     ensures borrowed { Lacks 36 (text_of input.entry) → IsSamePath (text_of input.entry) result }
+    ensures owned { IfOk result (λ path. IsBorrowedPath path → Lacks 36 (text_of input.entry)) }
 {
     as_path(texts::env_with_context(alloc, input.as_str(), context))
 }
@@ -58,8 +66,11 @@ pub fn env_with_context_no_errors<'a, C>(
 where
     C: FnMut(&str) -> Option<String> + Drop,
     requires { MayAsk (always C.FnMut) (TakesAt C.FnMut) context (text_of input) }
+    ensures one_cut { CutOneWay (text_of input.entry) }
     ensures expanded { IfOk result (λ path. ExpandsTo (always C.FnMut) context (text_of input.entry) (expanded_bytes path)) }
+    ensures unasked { Lacks 36 (text_of input.entry) → AsksNothing (always C.FnMut) context (text_of input.entry) }
     ensures borrowed { Lacks 36 (text_of input.entry) → IsSamePath (text_of input.entry) result }
+    ensures owned { IfOk result (λ path. IsBorrowedPath path → Lacks 36 (text_of input.entry)) }
 {
     as_path(texts::env_with_context_no_errors(alloc, input.as_str(), context))
 }
@@ -70,8 +81,11 @@ pub fn env<'a>(
     input: Utf8Path<'a>,
     environ: &Environ,
 ) -> Result<Expanded<'a>, Expand<NotPresent>>
+    ensures one_cut { CutOneWay (text_of input.entry) }
     ensures expanded { IsPathExpansion environ_answers environ.now.pairs (text_of input.entry) result }
+    ensures unasked { Lacks 36 (text_of input.entry) → AsksNothing environ_answers environ.now.pairs (text_of input.entry) }
     ensures borrowed { Lacks 36 (text_of input.entry) → IsSamePath (text_of input.entry) result }
+    ensures owned { IfOk result (λ path. IsBorrowedPath path → Lacks 36 (text_of input.entry)) }
 {
     as_path(texts::env(alloc, input.as_str(), environ))
 }
@@ -116,8 +130,12 @@ where
     E: Drop,
     requires asked { MayAsk (answers C.FnMut) (TakesAt C.FnMut) context (text_of input) }
     requires home { MayAskHome (answers C.FnMut) (MayCall H.FnOnce home_dir) context (text_of input) }
+    ensures one_cut { CutOneWay (text_of input.entry) }
     ensures expanded { IsFullPathExpansion (answers C.FnMut) (homes H.FnOnce home_dir) context (text_of input.entry) result }
+    ensures unasked { Lacks 36 (text_of input.entry) → AsksNothing (answers C.FnMut) context (text_of input.entry) }
+    ensures brought { BeginsWithout 126 (text_of input.entry) → IfOk result (λ path. ExpandsTo (answers C.FnMut) context (text_of input.entry) (expanded_bytes path)) }
     ensures borrowed { Lacks 36 (text_of input.entry) → BeginsWithout 126 (text_of input.entry) → IsSamePath (text_of input.entry) result }
+    ensures owned { IfOk result (λ path. IsBorrowedPath path → Lacks 36 (text_of input.entry)) }
 {
     as_path(home::full_with_context(alloc, input.as_str(), home_dir, context))
 }
@@ -135,8 +153,12 @@ where
     C: FnMut(&str) -> Option<String> + Drop,
     requires asked { MayAsk (always C.FnMut) (TakesAt C.FnMut) context (text_of input) }
     requires home { MayAskHome (always C.FnMut) (MayCall H.FnOnce home_dir) context (text_of input) }
+    ensures one_cut { CutOneWay (text_of input.entry) }
     ensures expanded { IfOk result (λ path. FullTo (always C.FnMut) (homes H.FnOnce home_dir) context (text_of input.entry) (expanded_bytes path)) }
+    ensures unasked { Lacks 36 (text_of input.entry) → AsksNothing (always C.FnMut) context (text_of input.entry) }
+    ensures brought { BeginsWithout 126 (text_of input.entry) → IfOk result (λ path. ExpandsTo (always C.FnMut) context (text_of input.entry) (expanded_bytes path)) }
     ensures borrowed { Lacks 36 (text_of input.entry) → BeginsWithout 126 (text_of input.entry) → IsSamePath (text_of input.entry) result }
+    ensures owned { IfOk result (λ path. IsBorrowedPath path → Lacks 36 (text_of input.entry)) }
 {
     as_path(home::full_with_context_no_errors(alloc, input.as_str(), home_dir, context))
 }
@@ -148,8 +170,12 @@ pub fn full<'a>(
     input: Utf8Path<'a>,
     environ: &Environ,
 ) -> Result<Expanded<'a>, Expand<NotPresent>>
+    ensures one_cut { CutOneWay (text_of input.entry) }
     ensures expanded { IsFullPathExpansion environ_answers (home_is (home_of environ.now.pairs)) environ.now.pairs (text_of input.entry) result }
+    ensures unasked { Lacks 36 (text_of input.entry) → AsksNothing environ_answers environ.now.pairs (text_of input.entry) }
+    ensures brought { BeginsWithout 126 (text_of input.entry) → IfOk result (λ path. ExpandsTo environ_answers environ.now.pairs (text_of input.entry) (expanded_bytes path)) }
     ensures borrowed { Lacks 36 (text_of input.entry) → BeginsWithout 126 (text_of input.entry) → IsSamePath (text_of input.entry) result }
+    ensures owned { IfOk result (λ path. IsBorrowedPath path → Lacks 36 (text_of input.entry)) }
 {
     as_path(home::full(alloc, input.as_str(), environ))
 }

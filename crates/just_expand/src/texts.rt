@@ -4,7 +4,7 @@ ghost use Rattle.std.specs.Cow.{IsBorrowedStr};
 ghost use Rattle.std.specs.Fn.{TakesAt, CalledAt};
 ghost use Rattle.just_path.specs.Environ.{value_of};
 ghost use Rattle.just_expand.specs.Pieces.{Lacks, CutOneWay};
-ghost use Rattle.just_expand.specs.Expansion.{MayAsk};
+ghost use Rattle.just_expand.specs.Expansion.{MayAsk, AsksNothing};
 ghost use Rattle.just_expand.specs.Code.{IsCallOf, IsLookup};
 ghost use Rattle.just_expand.specs.Contexts.{answers, always, environ_answers, IsExpansion, IsSureExpansion};
 
@@ -14,6 +14,15 @@ use just_path::{Environ, NoMemory};
 use std::alloc::Global;
 use std::borrow::CowStr;
 use std::convert::Infallible;
+
+/// What a call is given, and answers where it borrows.
+pub type Xstr<'a> = &'a str;
+
+/// A part of a text.
+pub type Wstr<'a> = &'a str;
+
+/// A text as it is read.
+pub type WInput<'a> = &'a str;
 
 /// Expands the variables of the text by `context`, which is asked for each name in turn.
 pub fn env_with_context<'a, C, E>(
@@ -27,6 +36,7 @@ where
     requires { MayAsk (answers C.FnMut) (TakesAt C.FnMut) context input.now }
     ensures one_cut { CutOneWay input.now }
     ensures expanded { IsExpansion (answers C.FnMut) context input.now result }
+    ensures unasked { Lacks 36 input.now → AsksNothing (answers C.FnMut) context input.now }
     ensures borrowed { Lacks 36 input.now → result ≡ Ok (CowStr.Borrowed input.entry) }
     ensures owned { IfOk result (λ text. IsBorrowedStr text → Lacks 36 input.now) }
 {
@@ -49,17 +59,19 @@ pub fn env_with_context_no_errors<'a, C>(
 where
     C: FnMut(&str) -> Option<String> + Drop,
     requires { MayAsk (always C.FnMut) (TakesAt C.FnMut) context input.now }
+    ensures one_cut { CutOneWay input.now }
     ensures expanded { IsSureExpansion (always C.FnMut) context input.now result }
+    ensures unasked { Lacks 36 input.now → AsksNothing (always C.FnMut) context input.now }
     ensures borrowed { Lacks 36 input.now → result ≡ Ok (CowStr.Borrowed input.entry) }
     ensures owned { IfOk result (λ text. IsBorrowedStr text → Lacks 36 input.now) }
 {
     let expanded = env_with_context(
         alloc,
         input,
-        |name: &str| -> Result<Option<String>, Infallible>
-            requires { TakesAt C.FnMut context name.now }
-            ensures { IsCallOf (CalledAt C.FnMut context.entry name.now) result context.exit }
-        { Ok(context(name)) },
+        |variable: &str| -> Result<Option<String>, Infallible>
+            requires { TakesAt C.FnMut context variable.now }
+            ensures { IsCallOf (CalledAt C.FnMut context.entry variable.now) result context.exit }
+        { Ok(context(variable)) },
     );
     match expanded {
         Ok(text) => Ok(text),
@@ -91,7 +103,9 @@ pub fn env<'a>(
     input: &'a str,
     environ: &Environ,
 ) -> Result<CowStr<'a, Global>, Expand<NotPresent>>
+    ensures one_cut { CutOneWay input.now }
     ensures expanded { IsExpansion environ_answers environ.now.pairs input.now result }
+    ensures unasked { Lacks 36 input.now → AsksNothing environ_answers environ.now.pairs input.now }
     ensures borrowed { Lacks 36 input.now → result ≡ Ok (CowStr.Borrowed input.entry) }
     ensures owned { IfOk result (λ text. IsBorrowedStr text → Lacks 36 input.now) }
 {

@@ -1,12 +1,9 @@
-use Rattle.std.proofs.Common.{sym, subst, ◌≡◌, ℕ, List}
-use Rattle.std.specs.Fn.{TakesAt}
+use Rattle.std.proofs.Common.{sym, subst}
 use Rattle.just_path.specs.Path.{text_of}
-use Rattle.just_expand.specs.Pieces.{Lacks, BeginsWithout}
-use Rattle.just_expand.specs.Expansion.{MayAsk, ExpandsTo}
-use Rattle.just_expand.specs.Tilde.{IsTilde, HasNoTilde, MayAskHome, TildeTo, FullTo}
-use Rattle.just_expand.specs.Contexts.{answers, always, environ_answers, homes, home_is, MayCall}
+use Rattle.just_expand.specs.Tilde.{HasNoTilde, TildeTo}
+use Rattle.just_expand.specs.Contexts.{home_is}
 use Rattle.just_path.specs.Environ.{home_of}
-use Rattle.just_expand.proofs.OverPaths.{sure, expansion, full_expansion, same_path}
+use Rattle.just_expand.proofs.OverPaths.{sure, same_path}
 use Rattle.just_expand.proofs.path.tilde.Goals as goal
 
 pub returns-clause-expanded : goal.returns-clause-expanded

@@ -1,4 +1,4 @@
-use Rattle.std.proofs.Common.{◌≡◌, ◌++◌, ◌∷◌, [], inl, inr, ap, sym, subst}
+use Rattle.std.proofs.Common.{◌∷◌, inr, ap, sym, subst}
 use Rattle.just_expand.specs.Pieces.{Lacks}
 use Rattle.just_expand.proofs.Splits.{no_mark, cut_at_mark, first_mark, finish_braced, finish_defaulted, lacks_left, lacks_right, not_empty}
 use Rattle.just_expand.proofs.piece.read_inside.Goals as goal

@@ -1,4 +1,4 @@
-use Rattle.std.proofs.Common.{◌∷◌, refl, lit<}
+use Rattle.std.proofs.Common.{refl, lit<}
 use Rattle.just_expand.proofs.Splits.{split_some, lacks_all}
 use Rattle.just_expand.proofs.piece.split_braced.Goals as goal
 

@@ -1,4 +1,4 @@
-use Rattle.std.proofs.Common.{rules, ◌≡◌, ◌++◌, ℕ, List, true, false, sym, subst}
+use Rattle.std.proofs.Common.{rules, sym, subst}
 use Rattle.std.proofs.lemmas.Fn.{always_returns_same}
 use Rattle.just_expand.specs.Pieces.{IsNameRun, BeginsWithoutName}
 use Rattle.just_expand.proofs.Names.{is_other, name_run, without_name, without_name_nil}
