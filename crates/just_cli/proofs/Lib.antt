@@ -1,3 +1,6 @@
 pub mod Breaks
 pub mod Plans
+pub mod Readings
+pub mod Refusals
+pub mod Requests
 pub mod Runs

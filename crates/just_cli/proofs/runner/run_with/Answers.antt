@@ -1,4 +1,5 @@
 -- A run leaves what its drive kept, and the error told behind it.
+use Rattle.just_cli.proofs.Refusals.{wants_memory}
 use Rattle.just_cli.proofs.Runs.{ran_well, fell_ill}
 use Rattle.just_cli.proofs.runner.run_with.Goals as goal
 
@@ -10,3 +11,6 @@ returns-in-None-clause-ran g c =
 pub returns-in-Some-clause-failed : goal.returns-in-Some-clause-failed
 returns-in-Some-clause-failed g c =
     fell_ill _ _ _ c.in-Ok.plan _ _ _ _ _ _ _ _ c.fail-in-Some.ensures.failed c.in-Ok-drive.ensures.plan c.in-Ok.ensures.grew c.in-Ok-drive.ensures.kept c.in-Ok-drive.ensures.closed c.fail-in-Some.ensures.told
+
+pub returns-in-Err-drive-clause-refused : goal.returns-in-Err-drive-clause-refused
+returns-in-Err-drive-clause-refused g c = wants_memory _ _ _ _ _ c.fail-in-Err-drive.ensures.failed
