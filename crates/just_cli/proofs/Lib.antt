@@ -1,3 +1,4 @@
+pub mod Answered
 pub mod Breaks
 pub mod Plans
 pub mod Readings

@@ -1,5 +1,5 @@
 -- What a run leaves, from what its drive kept.
-use Rattle.std.proofs.Common.{◌≡◌, ◌++◌, inl, inr, false, true≢false, refl, ℤ, List, Option, Some, None, Result, Err, sym, ◌∙◌, ap, subst, append_assoc}
+use Rattle.std.proofs.Common.{◌≡◌, ◌++◌, ◌⊎◌, inl, inr, false, true≢false, refl, ℤ, List, Option, Some, None, Result, Err, sym, ◌∙◌, ap, subst, append_assoc}
 use Rattle.std.specs.Prelude.{IfErr, MatchOption}
 use Rattle.std.proofs.Math.Logic.{∥∥₁_map, ∥∥₁_elim}
 use Rattle.just_host.specs.World.{World}

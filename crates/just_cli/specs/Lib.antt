@@ -1,5 +1,6 @@
 pub mod Words
 pub mod Texts
 pub mod Request
+pub mod Answered
 pub mod Ran
 pub mod Outcome
