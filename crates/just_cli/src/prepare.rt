@@ -1,10 +1,12 @@
 //! From the words to the plan: the steps of a request, in their order.
 
-ghost use Rattle.std.specs.Prelude.{◌≡◌, ◌++◌, [], ◌∷◌, map, IfOk, IfErr, MatchOption, MatchResult, Ok};
+ghost use Rattle.std.specs.Prelude.{◌≡◌, ◌≤◌, ◌++◌, [], ◌∷◌, true, length, map, IfOk, IfErr, MatchOption, MatchResult, Ok};
+ghost use Rattle.std.specs.Str.{is_utf8};
+ghost use Rattle.just_host.specs.declared.outside.TheConstants.{MAX_BYTES};
 ghost use Rattle.just_host.specs.World.{told_read};
 ghost use Rattle.just_lang.specs.Form.{IsName};
 ghost use Rattle.just_cli.specs.Ran.{entries_of};
-ghost use Rattle.just_cli.specs.Request.{AsksRun, IsPlanOf, justfile_in, io_error_of, fault_of_path, source_in};
+ghost use Rattle.just_cli.specs.Request.{IsAsked, IsPlanOf, RefusedFor, RefusesPlan, IsNotBuilt, IsFolderFault, IsReadFault, error_of_lang, justfile_in, io_error_of, fault_of_path, source_in};
 
 use super::Error;
 use super::words::asked_recipe;
@@ -40,6 +42,7 @@ fn current_folder<H: Host>(alloc: Global, host: &mut H) -> Result<Utf8PathBuf, E
     ensures grew { MatchResult result (λ _. H.entries host.new ≡ H.entries host.old) (λ e. H.entries host.new ≡ H.entries host.old ++ entries_of e) }
     ensures world { H.world host.new ≡ H.world host.old }
     ensures told { MatchOption (H.world host.old) (Unit {0}) (λ w. IfOk result (λ p. p ≡ w.current)) }
+    ensures refused { IfErr result IsFolderFault }
 {
     match host.current() {
         Ok(folder) => Ok(folder),
@@ -53,6 +56,9 @@ fn read_source<H: Host>(alloc: Global, host: &mut H, folder: Utf8PathBuf) -> Res
     ensures world { H.world host.new ≡ H.world host.old }
     ensures source { IfOk result (λ s. s ≡ source_in folder s.text) }
     ensures told { MatchOption (H.world host.old) (Unit {0}) (λ w. IfOk result (λ s. told_read w.tree (justfile_in folder) ≡ Ok s.text)) }
+    ensures limit { IfOk result (λ s. length s.text ≤ MAX_BYTES) }
+    ensures utf8 { IfOk result (λ s. is_utf8 s.text ≡ true) }
+    ensures refused { IfErr result (IsReadFault (H.world host.old) folder) }
 {
     let path = folder.as_path().join(alloc, Utf8Path::new("justfile"))?;
     let named = path.try_clone()?;
@@ -68,7 +74,8 @@ fn read_source<H: Host>(alloc: Global, host: &mut H, folder: Utf8PathBuf) -> Res
 
 /// The error of a refused justfile or request.
 fn lang_error(error: LangError) -> Error
-    ensures { entries_of result ≡ [] }
+    ensures error { result ≡ error_of_lang error }
+    ensures entries { entries_of result ≡ [] }
 {
     match error {
         LangError::Compile(error) => Error::Compile(error),
@@ -80,7 +87,8 @@ fn lang_error(error: LangError) -> Error
 
 /// The plan of a recipe of a source.
 fn plan_of(alloc: Global, source: Source, name: &str) -> Result<Plan, LangError>
-    ensures { IfOk result (λ p. IsPlanOf source name.now p.nodes p.invocations) }
+    ensures plan { IfOk result (λ p. IsPlanOf source name.now p.nodes p.invocations) }
+    ensures refused { IfErr result (RefusesPlan source name.now) }
 {
     let environ = Environ {
         pairs: Seq::new(alloc),
@@ -94,7 +102,8 @@ fn plan_of(alloc: Global, source: Source, name: &str) -> Result<Plan, LangError>
 
 /// The error of words that aren't read yet.
 fn not_built(alloc: Global, word: &str) -> Error
-    ensures { entries_of result ≡ [] }
+    ensures error { IsNotBuilt word.now result }
+    ensures entries { entries_of result ≡ [] }
 {
     match Text::from_str(alloc, word) {
         Ok(word) => Error::Usage(Usage {
@@ -109,7 +118,8 @@ fn not_built(alloc: Global, word: &str) -> Error
 pub(crate) fn prepare<H: Host>(alloc: Global, words: &[&str], host: &mut H) -> Result<Plan, Error>
     ensures grew { MatchResult result (λ _. H.entries host.new ≡ H.entries host.old) (λ e. H.entries host.new ≡ H.entries host.old ++ entries_of e) }
     ensures world { H.world host.new ≡ H.world host.old }
-    ensures asked { MatchOption (H.world host.old) (Unit {0}) (λ w. IfOk result (λ p. ∥ AsksRun (map (λ x. x.now) words.now) w p.nodes p.invocations ∥₁)) }
+    ensures asked { IfOk result (λ p. IsAsked (map (λ x. x.now) words.now) (H.world host.old) p) }
+    ensures refused { IfErr result (λ e. ∥ RefusedFor (map (λ x. x.now) words.now) (H.world host.old) e ∥₁) }
 {
     let name = match asked_recipe(words) {
         Ok(name) => name,

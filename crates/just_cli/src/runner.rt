@@ -1,8 +1,9 @@
 //! The top calls: words and a host become a run and its end.
 
-ghost use Rattle.std.specs.Prelude.{◌≡◌, [], Option, Some, None, map, IfOk, IfErr, MatchOption};
+ghost use Rattle.std.specs.Prelude.{◌≡◌, [], Option, Some, None, map, IfOk, IfErr, MatchOption, MatchResult};
+ghost use Rattle.just_cli.specs.Answered.{IsAnswered};
 ghost use Rattle.just_cli.specs.Ran.{Ran, Fell, Refused, run_over};
-ghost use Rattle.just_cli.specs.Request.{AsksRun};
+ghost use Rattle.just_cli.specs.Request.{IsAsked, RefusedFor};
 ghost use Rattle.just_cli.specs.Texts.{exit_code};
 
 use super::failure::fail;
@@ -28,7 +29,9 @@ pub fn run_with<R: Threads + Wait + Sync, H: Host + Send + Drop>(
     host: H,
 ) -> Ended<H>
     ensures ran { IfOk result.result (λ r. ∥ Ran r.plan r.history (H.entries host) (H.entries result.host) ∥₁) }
-    ensures asked { MatchOption (H.world host) (Unit {0}) (λ w. IfOk result.result (λ r. ∥ AsksRun (map (λ x. x.now) words.now) w r.plan.nodes r.plan.invocations ∥₁)) }
+    ensures asked { MatchResult result.result (λ r. IsAsked (map (λ x. x.now) words.now) (H.world host) r.plan) (λ f. MatchOption f.plan (Unit {0}) (λ p. IsAsked (map (λ x. x.now) words.now) (H.world host) p)) }
+    ensures refused { IfErr result.result (λ f. f.plan ≡ None → ∥ RefusedFor (map (λ x. x.now) words.now) (H.world host) f.error ∥₁) }
+    ensures answered { IsAnswered (map (λ x. x.now) words.now) (H.world host) result.result }
     ensures failed { IfErr result.result (λ f. MatchOption f.plan (∥ Refused f.error (H.entries host) (H.entries result.host) ∥₁) (λ p. ∥ Fell p f.history f.error (H.entries host) (H.entries result.host) ∥₁)) }
     ensures unplanned { IfErr result.result (λ f. f.plan ≡ None → f.history ≡ []) }
     ensures code { IfErr result.result (λ f. f.code ≡ exit_code f.error) }
@@ -72,6 +75,8 @@ where
     R::Reader: Send,
     R::A: Send,
     ensures ran { IfOk result (λ d. IfOk d.result (λ r. ∥ Ran r.plan r.history [] d.host.log.entries.items ∥₁)) }
+    ensures asked { IfOk result (λ d. MatchResult d.result (λ r. IsAsked (map (λ x. x.now) words.now) None r.plan) (λ f. MatchOption f.plan (Unit {0}) (λ p. IsAsked (map (λ x. x.now) words.now) None p))) }
+    ensures refused { IfOk result (λ d. IfErr d.result (λ f. f.plan ≡ None → ∥ RefusedFor (map (λ x. x.now) words.now) None f.error ∥₁)) }
     ensures failed { IfOk result (λ d. IfErr d.result (λ f. MatchOption f.plan (∥ Refused f.error [] d.host.log.entries.items ∥₁) (λ p. ∥ Fell p f.history f.error [] d.host.log.entries.items ∥₁))) }
     ensures unplanned { IfOk result (λ d. IfErr d.result (λ f. f.plan ≡ None → f.history ≡ [])) }
     ensures code { IfOk result (λ d. IfErr d.result (λ f. f.code ≡ exit_code f.error)) }
