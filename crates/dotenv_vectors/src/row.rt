@@ -3,7 +3,8 @@ use just_path::{Environ, NoMemory, Seq, Text};
 use std::alloc::Global;
 use std::io;
 
-/// The environment in which the rows are read.
+/// The environment in which the rows are read. No clause: it is public to this crate's modules alone, what it
+/// answers is seen by comparing with the originals' answers, and no theorem stands on it.
 pub fn environment(alloc: Global) -> io::Result<Environ> {
     let variables = [
         ("E", "ev"),
@@ -35,7 +36,8 @@ fn bad_row() -> io::Error {
     io::Error::from(io::ErrorKind::InvalidData)
 }
 
-/// Whether the reader answers what the row says.
+/// Whether the reader answers what the row says. No clause: it is public to this crate's modules alone, what it
+/// answers is seen by comparing with the originals' answers, and no theorem stands on it.
 pub fn agrees(alloc: Global, row: &str, environ: &Environ) -> io::Result<bool> {
     let Some((text, rest)) = row.split_once('\t') else {
         return Err(bad_row());

@@ -10,6 +10,8 @@ mod lattice;
 #[cfg(test)]
 mod libraries;
 #[cfg(test)]
+mod paths;
+#[cfg(test)]
 mod refusals;
 #[cfg(test)]
 mod runs;

@@ -2,7 +2,8 @@ use super::{Wrong, field};
 use just_path::Utf8PathBuf;
 use std::alloc::Global;
 
-/// Whether the row of some bytes says how the crate reads them.
+/// Whether the row of some bytes says how the crate reads them. No clause: it is public to this crate's modules
+/// alone, what it answers is seen by comparing with the originals' answers, and no theorem stands on it.
 pub fn agrees(alloc: Global, fields: &[&str]) -> Result<bool, Wrong> {
     let bytes = field::bytes(alloc, fields, 0)?;
     match Utf8PathBuf::try_from_path_buf(bytes) {

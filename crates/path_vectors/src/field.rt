@@ -15,7 +15,8 @@ fn digit(byte: u8) -> Option<u8>
     }
 }
 
-/// The bytes of an escaped text.
+/// The bytes of an escaped text. No clause: it is public to this crate's modules alone, what it answers is seen by
+/// comparing with the originals' answers, and no theorem stands on it.
 pub fn unescaped(alloc: Global, text: &str) -> Result<Vec<u8>, Wrong> {
     let mut found = Vec::new(alloc);
     let mut bytes = text.as_bytes().iter();
@@ -47,7 +48,8 @@ fn hex(high: u8, low: u8) -> Result<u8, Wrong> {
     }
 }
 
-/// The field with that number.
+/// The field with that number. No clause: it is public to this crate's modules alone, what it answers is seen by
+/// comparing with the originals' answers, and no theorem stands on it.
 pub fn at<'a>(fields: &[&'a str], number: usize) -> Result<&'a str, Wrong> {
     match fields.get(number) {
         Some(field) => Ok(*field),
@@ -55,7 +57,8 @@ pub fn at<'a>(fields: &[&'a str], number: usize) -> Result<&'a str, Wrong> {
     }
 }
 
-/// The bytes of a field that holds some.
+/// The bytes of a field that holds some. No clause: it is public to this crate's modules alone, what it answers is
+/// seen by comparing with the originals' answers, and no theorem stands on it.
 pub fn bytes(alloc: Global, fields: &[&str], number: usize) -> Result<Vec<u8>, Wrong> {
     match at(fields, number)?.strip_prefix('=') {
         Some(text) => unescaped(alloc, text),
@@ -63,7 +66,8 @@ pub fn bytes(alloc: Global, fields: &[&str], number: usize) -> Result<Vec<u8>, W
     }
 }
 
-/// The text of a field that holds one.
+/// The text of a field that holds one. No clause: it is public to this crate's modules alone, what it answers is
+/// seen by comparing with the originals' answers, and no theorem stands on it.
 pub fn text(alloc: Global, fields: &[&str], number: usize) -> Result<String, Wrong> {
     match String::from_utf8(bytes(alloc, fields, number)?) {
         Ok(text) => Ok(text),
@@ -71,7 +75,8 @@ pub fn text(alloc: Global, fields: &[&str], number: usize) -> Result<String, Wro
     }
 }
 
-/// Whether a field says that answer.
+/// Whether a field says that answer. No clause: it is public to this crate's modules alone, what it answers is seen
+/// by comparing with the originals' answers, and no theorem stands on it.
 pub fn says(
     alloc: Global,
     fields: &[&str],
@@ -90,7 +95,8 @@ pub fn says(
     }
 }
 
-/// Whether a flag says that answer.
+/// Whether a flag says that answer. No clause: it is public to this crate's modules alone, what it answers is seen
+/// by comparing with the originals' answers, and no theorem stands on it.
 pub fn flags(fields: &[&str], number: usize, answer: bool) -> Result<bool, Wrong> {
     Ok(at(fields, number)? == if answer { "1" } else { "0" })
 }

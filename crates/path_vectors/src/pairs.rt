@@ -6,7 +6,8 @@ use just_path::Utf8Path;
 use std::alloc::Global;
 use std::cmp::Ordering;
 
-/// Whether the row of two paths says what the crate answers.
+/// Whether the row of two paths says what the crate answers. No clause: it is public to this crate's modules alone,
+/// what it answers is seen by comparing with the originals' answers, and no theorem stands on it.
 pub fn agrees(alloc: Global, fields: &[&str]) -> Result<bool, Wrong> {
     let left = field::text(alloc, fields, 0)?;
     let right = field::text(alloc, fields, 1)?;

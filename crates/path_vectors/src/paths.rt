@@ -2,7 +2,8 @@ use super::{Wrong, field};
 use just_path::{Utf8Component, Utf8Path};
 use std::alloc::Global;
 
-/// Whether the row of a path says what the crate answers.
+/// Whether the row of a path says what the crate answers. No clause: it is public to this crate's modules alone,
+/// what it answers is seen by comparing with the originals' answers, and no theorem stands on it.
 pub fn agrees(alloc: Global, fields: &[&str]) -> Result<bool, Wrong> {
     let text = field::text(alloc, fields, 0)?;
     let path = Utf8Path::new(text.as_str());
