@@ -1,1 +1,4 @@
 pub mod Trees
+pub mod Lookups
+pub mod Places
+pub mod Behind

@@ -1,5 +1,7 @@
 pub mod Record
 pub mod World
+pub mod Sights
+pub mod Items
 pub mod Counts
 pub mod Playing
 pub mod Mem

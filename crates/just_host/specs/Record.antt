@@ -2,6 +2,9 @@
 use Rattle.std.specs.Prelude.{ℕ, ◌≡◌, ◌==◌, ◌⊎◌, Bool, true, false, if◌then◌else◌, List, [], ◌∷◌, Option, Some, None, Result, Ok, Err, count_by, is_some}
 use Rattle.just_path.specs.declared.host.PathCall.{PathCall}
 use Rattle.just_path.specs.declared.host.PathCall.TheVariants as path_call
+use Rattle.just_path.specs.declared.host.Miss.{Miss}
+use Rattle.just_path.specs.declared.host.PathFault.{PathFault}
+use Rattle.just_path.specs.declared.host.PathFault.TheVariants as path_fault
 use Rattle.just_path.specs.declared.host.PathNote.{PathNote}
 use Rattle.just_path.specs.declared.host.PathNote.TheVariants as note
 use Rattle.just_host.specs.declared.entry.Call.{Call}
@@ -59,6 +62,17 @@ abbrev pub noted : PathNote → List Entry
 noted note.Nothing = []
 noted (note.Missed path m) = entry.Missed path m ∷ []
 noted (note.Failed c) = entry.Failed (call_of c) ∷ []
+
+-- a refusal of a path host's call that failed, and one that is that miss; each may want memory in its place
+abbrev pub IsFailure : PathFault → Type 0
+IsFailure (path_fault.Missed m) = ⊥
+IsFailure path_fault.Failed = Unit {0}
+IsFailure path_fault.NoMemory = Unit {0}
+
+abbrev pub IsMissOf : Miss → PathFault → Type 0
+IsMissOf m (path_fault.Missed n) = n ≡ m
+IsMissOf m path_fault.Failed = ⊥
+IsMissOf m path_fault.NoMemory = Unit {0}
 
 abbrev pub is_failed : Entry → Bool
 is_failed (entry.Failed c) = true

@@ -48,6 +48,19 @@ fn copy_text(text: &Option<Text>) -> Result<Option<Text>, NoMemory>
     }
 }
 
+/// A copy of the pairs of an environment.
+pub fn copy_pairs(alloc: Global, pairs: &Seq<(Text, Text)>) -> Result<Seq<(Text, Text)>, NoMemory>
+    ensures { IfOk result (λ s. s ≡ pairs.now) }
+{
+    let mut copies = Vec::new(alloc);
+    for pair in pairs.as_slice() {
+        let name = pair.0.try_clone()?;
+        let value = pair.1.try_clone()?;
+        copies.push((name, value))?;
+    }
+    Ok(Seq::from(copies))
+}
+
 fn copy_texts(alloc: Global, texts: &Seq<Text>) -> Result<Seq<Text>, NoMemory>
     ensures { IfOk result (λ s. s ≡ texts.now) }
 {

@@ -16,7 +16,7 @@ use std::marker::Model;
 /// Files, folders and links by their paths, which are clean and absolute. Contracts see it as a finite map.
 #[derive(Debug, Drop)]
 pub struct Tree {
-    things: Vec<(Text, Thing)>,
+    pub(crate) things: Vec<(Text, Thing)>,
 }
 
 impl Model for Tree {
@@ -79,7 +79,7 @@ impl Tree {
         false
     }
 
-    fn absence(&self, path: &[u8]) -> Miss
+    pub(crate) fn absence(&self, path: &[u8]) -> Miss
         ensures { result ≡ absence self.now path.now }
     {
         if self.goes_through_file(path) {

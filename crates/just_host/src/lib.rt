@@ -5,12 +5,15 @@ mod command;
 mod copies;
 mod entry;
 mod files;
+mod items;
 mod log;
 mod memory;
 mod outside;
 mod plot;
 mod real;
+mod sights;
 mod signal;
+mod system;
 mod tree;
 
 pub use entry::{Call, Entry, HostFault, Look, Script, Spec, Status, Stream};

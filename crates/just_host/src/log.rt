@@ -1,10 +1,12 @@
 ghost use Rattle.std.specs.Prelude.{◌≡◌, ◌+◌, ◌-◌, ◌<◌, ◌≤◌, nat_lt, [], ◌∷◌, ◌++◌, false, OnOk, OnErr, IfOk, vec_len, vec_capacity};
 ghost use Rattle.just_path.specs.Path.{text_of};
 ghost use Rattle.just_host.specs.declared.entry.Entry.{Entry};
-ghost use Rattle.just_host.specs.Record.{children, is_started, settled_entry, settled_answer};
+ghost use Rattle.just_path.specs.Host.{note_of_fault};
+ghost use Rattle.just_path.specs.declared.host.PathCall.{PathCall};
+ghost use Rattle.just_host.specs.Record.{call_of, noted, IsFailure, IsMissOf, children, is_started, settled_entry, settled_answer};
 
 use super::{Call, Entry, HostFault, Spec, Status};
-use just_path::{Miss, NoMemory, Utf8Path};
+use just_path::{Miss, NoMemory, PathCall, PathFault, Utf8Path};
 use std::alloc::Global;
 
 /// The record of a host, with the memory that is kept for entries to come.
@@ -106,6 +108,30 @@ impl Log {
         self.note(Entry::Failed(call))
     }
 
+    /// Appends the failure of a call of a path host, and answers it.
+    pub fn path_failure(&mut self, call: PathCall) -> PathFault
+        ensures entries { self.new.entries.items ≡ self.old.entries.items ++ noted (note_of_fault call [] result) }
+        ensures kind { IsFailure result }
+        ensures spare { self.new.spare ≡ self.old.spare }
+    {
+        match self.failure(call_of(call)) {
+            Ok(()) => PathFault::Failed,
+            Err(NoMemory) => PathFault::NoMemory,
+        }
+    }
+
+    /// Appends the miss of a path, of a call of a path host, and answers it.
+    pub fn path_miss(&mut self, alloc: Global, path: Utf8Path<'_>, miss: Miss) -> PathFault
+        ensures entries { (call : PathCall) → self.new.entries.items ≡ self.old.entries.items ++ noted (note_of_fault call (text_of path.entry) result) }
+        ensures kind { IsMissOf miss result }
+        ensures spare { self.new.spare ≡ self.old.spare }
+    {
+        match self.miss(alloc, path, miss) {
+            Ok(()) => PathFault::Missed(miss),
+            Err(NoMemory) => PathFault::NoMemory,
+        }
+    }
+
     /// Whether one more child can have a number of its own.
     pub fn can_number(&self) -> bool
         ensures { result ≡ nat_lt self.now.started u32.MAX }
@@ -155,5 +181,18 @@ impl Log {
                 Err(HostFault::Failed(Call::Wait))
             }
         }
+    }
+}
+
+/// The call of a host that a call of a path host is.
+fn call_of(call: PathCall) -> Call
+    ensures { result ≡ call_of call }
+{
+    match call {
+        PathCall::Meta => Call::Meta,
+        PathCall::List => Call::List,
+        PathCall::Canonical => Call::Canonical,
+        PathCall::Link => Call::Link,
+        PathCall::Current => Call::Current,
     }
 }

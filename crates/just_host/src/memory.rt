@@ -1,21 +1,24 @@
-ghost use Rattle.std.specs.Prelude.{◌≡◌, ◌+◌, ◌<◌, ◌≤◌, ℕ, List, [], ◌∷◌, ◌++◌, Option, Some, refl, IfOk, OnOk, OnErr, MatchOption, length, string_bytes};
+ghost use Rattle.std.specs.Prelude.{◌≡◌, ◌+◌, ◌<◌, ◌≤◌, ℕ, List, [], ◌∷◌, ◌++◌, Option, Some, Ok, refl, option_map, IfOk, OnOk, OnErr, MatchOption, MatchResult, length, string_bytes};
 ghost use Rattle.std.specs.FinMap as map;
 ghost use Rattle.just_path.specs.Path.{text_of};
 ghost use Rattle.just_path.specs.Host.{note_of};
+ghost use Rattle.just_path.specs.View.{AreInOrder, Told, TellsItems, meta_told, canonical_told, link_told};
 ghost use Rattle.just_path.specs.declared.host.PathCall.{PathCall};
 ghost use Rattle.just_host.specs.declared.entry.Entry.{Entry};
 ghost use Rattle.just_host.specs.declared.entry.Status.{Status};
 ghost use Rattle.just_host.specs.declared.outside.TheConstants.{MAX_BYTES};
 ghost use Rattle.just_host.specs.Record.{gained, IsOwn, NeverMissed, children, faults_of, misses_of, settled_entry, settled_answer, script_folder, IsStartFault};
 ghost use Rattle.just_host.specs.World.{World, ReadTells, Touched, Leaves};
+ghost use Rattle.just_host.specs.Sights.{seen, view_of};
 ghost use Rattle.just_host.specs.Mem.{world_of, Went, is_struck, is_wait_struck, waited_for, IsCounted, FailsIf, PathFailsIf};
 ghost use Rattle.just_host.specs.Playing.{next_call, word_of, ending_of, status_of, tree_after, others};
 ghost use Rattle.just_host.specs.Counts.{counts_noted};
 
+use super::copies::copy_pairs;
 use super::log::Log;
 use super::plot::{Faults, word_of};
 use super::{Call, Ending, Entry, Host, HostFault, Plot, Signal, Spec, Status, Stream, Tree};
-use just_path::{Environ, NoMemory, PathFault, PathHost, Seq, Text, Utf8Path, Utf8PathBuf};
+use just_path::{Environ, Item, Meta, NoMemory, PathCall, PathFault, PathHost, Seq, Text, Utf8Path, Utf8PathBuf};
 use std::alloc::Global;
 
 /// A host in memory, which does what its plot says. It tells its world.
@@ -99,26 +102,97 @@ impl MemHost {
     }
 }
 
+/// A path of that text, unless memory is wanting.
+fn copied(alloc: Global, text: &str) -> Result<Utf8PathBuf, PathFault>
+    ensures { MatchResult result (λ p. p ≡ text.now) (λ f. f ≡ PathFault.NoMemory) }
+{
+    match Utf8PathBuf::from_str(alloc, text) {
+        Ok(path) => Ok(path),
+        Err(NoMemory) => Err(PathFault::NoMemory),
+    }
+}
+
 impl PathHost for MemHost {
     ghost faults = { λ h. faults_of h.log.entries.items };
 
     ghost misses = { λ h. misses_of h.log.entries.items };
 
-    ghost here = { λ h. Some h.folder };
+    ghost view = { λ h. Some (view_of (world_of h)) };
 
     ghost went = { Went };
 
-    fn current(&mut self) -> Result<Utf8PathBuf, PathFault>
-        ensures went { Went self.old self.new (note_of PathCall.Current [] result) }
-        ensures told { IfOk result (λ p. p ≡ self.old.folder) }
+    fn meta(&mut self, path: Utf8Path<'_>, follow: bool) -> Result<Meta, PathFault>
+        ensures went { Went self.old self.new (note_of PathCall.Meta (text_of path.entry) result) }
+        ensures told { Told (meta_told (text_of path.entry) follow (seen self.old.tree)) result }
         ensures fails { PathFailsIf (is_struck self.old.faults) result }
         ensures counted { IsCounted self.old.faults self.new.faults }
     {
         if self.faults.strike() {
-            return match self.log.failure(Call::Current) {
-                Ok(()) => Err(PathFault::Failed),
+            return Err(self.log.path_failure(PathCall::Meta));
+        }
+        match self.tree.meta(path.as_str(), follow) {
+            Ok(meta) => Ok(meta),
+            Err(miss) => Err(self.log.path_miss(self.alloc, path, miss)),
+        }
+    }
+
+    fn list(&mut self, path: Utf8Path<'_>) -> Result<Vec<Item>, PathFault>
+        ensures went { Went self.old self.new (note_of PathCall.List (text_of path.entry) result) }
+        ensures order { IfOk result (λ items. AreInOrder items.items) }
+        ensures told { TellsItems (Some (view_of (world_of self.old))) (text_of path.entry) result }
+        ensures fails { PathFailsIf (is_struck self.old.faults) result }
+        ensures counted { IsCounted self.old.faults self.new.faults }
+    {
+        if self.faults.strike() {
+            return Err(self.log.path_failure(PathCall::List));
+        }
+        match self.tree.folder(path.as_str()) {
+            Ok(folder) => match self.tree.items(self.alloc, folder) {
+                Ok(items) => Ok(items),
                 Err(NoMemory) => Err(PathFault::NoMemory),
-            };
+            },
+            Err(miss) => Err(self.log.path_miss(self.alloc, path, miss)),
+        }
+    }
+
+    fn canonical(&mut self, path: Utf8Path<'_>) -> Result<Utf8PathBuf, PathFault>
+        ensures went { Went self.old self.new (note_of PathCall.Canonical (text_of path.entry) result) }
+        ensures told { Told (canonical_told (text_of path.entry) (seen self.old.tree)) result }
+        ensures fails { PathFailsIf (is_struck self.old.faults) result }
+        ensures counted { IsCounted self.old.faults self.new.faults }
+    {
+        if self.faults.strike() {
+            return Err(self.log.path_failure(PathCall::Canonical));
+        }
+        match self.tree.canonical(path.as_str()) {
+            Ok(found) => copied(self.alloc, found),
+            Err(miss) => Err(self.log.path_miss(self.alloc, path, miss)),
+        }
+    }
+
+    fn link(&mut self, path: Utf8Path<'_>) -> Result<Utf8PathBuf, PathFault>
+        ensures went { Went self.old self.new (note_of PathCall.Link (text_of path.entry) result) }
+        ensures told { Told (link_told (text_of path.entry) (seen self.old.tree)) result }
+        ensures fails { PathFailsIf (is_struck self.old.faults) result }
+        ensures counted { IsCounted self.old.faults self.new.faults }
+    {
+        if self.faults.strike() {
+            return Err(self.log.path_failure(PathCall::Link));
+        }
+        match self.tree.link(path.as_str()) {
+            Ok(target) => copied(self.alloc, target),
+            Err(miss) => Err(self.log.path_miss(self.alloc, path, miss)),
+        }
+    }
+
+    fn current(&mut self) -> Result<Utf8PathBuf, PathFault>
+        ensures went { Went self.old self.new (note_of PathCall.Current [] result) }
+        ensures told { Told (Ok self.old.folder) result }
+        ensures fails { PathFailsIf (is_struck self.old.faults) result }
+        ensures counted { IsCounted self.old.faults self.new.faults }
+    {
+        if self.faults.strike() {
+            return Err(self.log.path_failure(PathCall::Current));
         }
         match self.folder.try_clone() {
             Ok(folder) => Ok(folder),
@@ -127,6 +201,8 @@ impl PathHost for MemHost {
     }
 
     ghost counts = { λ a b n w. counts_noted a.log.entries.items b.log.entries.items n w.entries };
+
+    ghost went_view = { λ a b n w. λ i. option_map view_of (w.world i) };
 }
 
 impl Host for MemHost {
@@ -167,6 +243,24 @@ impl Host for MemHost {
                 Err(HostFault::Missed(miss))
             }
         }
+    }
+
+    fn environ(&mut self) -> Result<Environ, HostFault>
+        ensures entries { self.new.log.entries.items ≡ self.old.log.entries.items ++ gained [] (λ _. []) result }
+        ensures own { IsOwn Call.Environ result }
+        ensures never_missed { NeverMissed result }
+        ensures told { IfOk result (λ e. e.pairs ≡ self.old.environ.pairs) }
+        ensures world { world_of self.new ≡ world_of self.old }
+        ensures spare { self.new.log.spare ≡ self.old.log.spare }
+        ensures fails { FailsIf (is_struck self.old.faults) result }
+        ensures counted { IsCounted self.old.faults self.new.faults }
+    {
+        if self.faults.strike() {
+            self.log.failure(Call::Environ)?;
+            return Err(HostFault::Failed(Call::Environ));
+        }
+        let pairs = copy_pairs(self.alloc, &self.environ.pairs)?;
+        Ok(Environ { pairs })
     }
 
     fn print(&mut self, stream: Stream, text: &str) -> Result<(), HostFault>
@@ -245,7 +339,7 @@ impl Host for MemHost {
 
     ghost misses_are = { λ h. refl };
 
-    ghost here_is = { λ h. refl };
+    ghost view_is = { λ h. refl };
 
     ghost went_entries = { λ a b n w. w.entries };
 

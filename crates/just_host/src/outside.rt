@@ -1,4 +1,4 @@
-ghost use Rattle.std.specs.Prelude.{◌≡◌, ◌+◌, ◌<◌, ◌≤◌, ℕ, List, [], ◌∷◌, ◌++◌, length, Option, Result, option_map, IfOk, OnOk, OnErr, string_bytes};
+ghost use Rattle.std.specs.Prelude.{◌≡◌, ◌+◌, ◌<◌, ◌≤◌, ℕ, List, [], ◌∷◌, ◌++◌, length, Option, Result, option_map, IfOk, MatchOption, OnOk, OnErr, string_bytes};
 ghost use Rattle.just_path.specs.Path.{text_of};
 ghost use Rattle.just_path.specs.declared.host.PathNote.{PathNote};
 ghost use Rattle.just_host.specs.declared.entry.Entry.{Entry};
@@ -6,9 +6,10 @@ ghost use Rattle.just_host.specs.declared.entry.Status.{Status};
 ghost use Rattle.just_host.specs.declared.outside.TheConstants.{MAX_BYTES};
 ghost use Rattle.just_host.specs.Record.{gained, IsOwn, NeverMissed, noted, children, faults_of, misses_of, settled_entry, settled_answer, script_folder, IsStartFault};
 ghost use Rattle.just_host.specs.World.{World, ReadTells, Touched, Leaves};
+ghost use Rattle.just_host.specs.Sights.{view_of};
 
 use super::{Call, Entry, HostFault, Spec, Status, Stream};
-use just_path::{NoMemory, PathHost, Utf8Path};
+use just_path::{Environ, NoMemory, PathHost, Utf8Path};
 
 /// The most bytes that a read file, a read input or a captured output may have.
 pub const MAX_BYTES: usize = 67_108_864;
@@ -42,6 +43,15 @@ pub trait Host: PathHost {
         ensures own { IsOwn Call.Read result }
         ensures limit { IfOk result (λ s. length (string_bytes s) ≤ MAX_BYTES) }
         ensures told { ReadTells (world self.old) (text_of path.entry) result }
+        ensures world { world self.new ≡ world self.old }
+        ensures spare { spare self.new ≡ spare self.old };
+
+    /// The environment.
+    fn environ(&mut self) -> Result<Environ, HostFault>
+        ensures entries { entries self.new ≡ entries self.old ++ gained [] (λ _. []) result }
+        ensures own { IsOwn Call.Environ result }
+        ensures never_missed { NeverMissed result }
+        ensures told { MatchOption (world self.old) (Unit {0}) (λ w. IfOk result (λ e. e.pairs ≡ w.environ)) }
         ensures world { world self.new ≡ world self.old }
         ensures spare { spare self.new ≡ spare self.old };
 
@@ -88,7 +98,7 @@ pub trait Host: PathHost {
 
     ghost misses_are: { (h : Self) → Self.misses h ≡ misses_of (entries h) };
 
-    ghost here_is: { (h : Self) → Self.here h ≡ option_map (λ (w : World). w.current) (world h) };
+    ghost view_is: { (h : Self) → Self.view h ≡ option_map view_of (world h) };
 
     ghost went_entries: { (a b : Self) (n : PathNote) → Self.went a b n → entries b ≡ entries a ++ noted n };
 

@@ -2,15 +2,19 @@ ghost use Rattle.std.specs.Prelude.{◌≡◌, ◌++◌, ◌≤◌, [], Some, No
 ghost use Rattle.std.specs.Process.{child_status, exit_code, exit_signal};
 ghost use Rattle.just_path.specs.Path.{text_of};
 ghost use Rattle.just_host.specs.declared.outside.TheConstants.{MAX_BYTES};
-ghost use Rattle.just_host.specs.Record.{refused, IsOwnFault, faults_of, misses_of};
+ghost use Rattle.just_path.specs.Host.{note_of_fault};
+ghost use Rattle.just_host.specs.Record.{noted, refused, IsOwnFault, faults_of, misses_of};
 ghost use Rattle.just_host.specs.Commands.{status_told};
 ghost use Rattle.just_host.specs.Went.{LogWent};
 ghost use Rattle.just_host.specs.Counts.{counts_noted};
 
 use super::command::{command_of, status_of};
 use super::log::Log;
+use super::system::{canonical, list, look, pairs, target};
 use super::{Call, Entry, Host, HostFault, MAX_BYTES, Spec, Status, Stream};
-use just_path::{Miss, NoMemory, PathFault, PathHost, Text, Utf8Path, Utf8PathBuf};
+use just_path::{
+    Environ, Item, Meta, Miss, NoMemory, PathCall, PathFault, PathHost, Text, Utf8Path, Utf8PathBuf,
+};
 use std::alloc::Global;
 use std::io::{self, ErrorKind, Read};
 use std::process::{Child, Processes, SystemProcess};
@@ -147,33 +151,85 @@ fn refuse(
     }
 }
 
+/// The same of a call of a path host.
+fn refuse_path(
+    log: &mut Log,
+    alloc: Global,
+    call: PathCall,
+    path: Utf8Path<'_>,
+    error: &io::Error,
+) -> PathFault
+    ensures entries { log.new.entries.items ≡ log.old.entries.items ++ noted (note_of_fault call (text_of path.entry) result) }
+    ensures spare { log.new.spare ≡ log.old.spare }
+{
+    if error.kind() == ErrorKind::OutOfMemory {
+        return PathFault::NoMemory;
+    }
+    match miss_of(error) {
+        Some(miss) => log.path_miss(alloc, path, miss),
+        None => log.path_failure(call),
+    }
+}
+
 impl<R: Runtime + Processes<Started = SystemProcess>> PathHost for RealHost<R> {
     ghost faults = { λ h. faults_of h.log.entries.items };
 
     ghost misses = { λ h. misses_of h.log.entries.items };
 
-    ghost here = { λ h. None };
+    ghost view = { λ h. None };
 
     ghost went = { λ a b n. LogWent a.log b.log n };
+
+    fn meta(&mut self, path: Utf8Path<'_>, follow: bool) -> Result<Meta, PathFault> {
+        match look(&self.rt, path.as_str(), follow) {
+            Ok(meta) => Ok(meta),
+            Err(error) => Err(refuse_path(&mut self.log, self.alloc, PathCall::Meta, path, &error)),
+        }
+    }
+
+    fn list(&mut self, path: Utf8Path<'_>) -> Result<Vec<Item>, PathFault> {
+        match list(&self.rt, self.alloc, path.as_str()) {
+            Ok(items) => Ok(items),
+            Err(error) => Err(refuse_path(&mut self.log, self.alloc, PathCall::List, path, &error)),
+        }
+    }
+
+    fn canonical(&mut self, path: Utf8Path<'_>) -> Result<Utf8PathBuf, PathFault> {
+        match canonical(&self.rt, self.alloc, path.as_str()) {
+            Ok(text) => Ok(Utf8PathBuf::from(text)),
+            Err(error) => Err(refuse_path(
+                &mut self.log,
+                self.alloc,
+                PathCall::Canonical,
+                path,
+                &error,
+            )),
+        }
+    }
+
+    fn link(&mut self, path: Utf8Path<'_>) -> Result<Utf8PathBuf, PathFault> {
+        match target(&self.rt, self.alloc, path.as_str()) {
+            Ok(text) => Ok(Utf8PathBuf::from(text)),
+            Err(error) => Err(refuse_path(&mut self.log, self.alloc, PathCall::Link, path, &error)),
+        }
+    }
 
     fn current(&mut self) -> Result<Utf8PathBuf, PathFault> {
         match self.here() {
             Ok(text) => Ok(Utf8PathBuf::from(text)),
-            Err(error) => match refuse(
+            Err(error) => Err(refuse_path(
                 &mut self.log,
                 self.alloc,
-                Call::Current,
+                PathCall::Current,
                 Utf8Path::new(""),
                 &error,
-            ) {
-                HostFault::Missed(miss) => Err(PathFault::Missed(miss)),
-                HostFault::Failed(_) => Err(PathFault::Failed),
-                HostFault::NoMemory => Err(PathFault::NoMemory),
-            },
+            )),
         }
     }
 
     ghost counts = { λ a b n w. counts_noted a.log.entries.items b.log.entries.items n w.entries };
+
+    ghost went_view = { λ a b n w. refl };
 }
 
 impl<R: Runtime + Processes<Started = SystemProcess>> Host for RealHost<R> {
@@ -202,6 +258,11 @@ impl<R: Runtime + Processes<Started = SystemProcess>> Host for RealHost<R> {
             }
             Err(error) => Err(refuse(&mut self.log, self.alloc, Call::Read, path, &error)),
         }
+    }
+
+    fn environ(&mut self) -> Result<Environ, HostFault> {
+        let pairs = pairs(&self.rt, self.alloc)?;
+        Ok(Environ { pairs })
     }
 
     fn print(&mut self, stream: Stream, text: &str) -> Result<(), HostFault> {
@@ -269,7 +330,7 @@ impl<R: Runtime + Processes<Started = SystemProcess>> Host for RealHost<R> {
 
     ghost misses_are = { λ h. refl };
 
-    ghost here_is = { λ h. refl };
+    ghost view_is = { λ h. refl };
 
     ghost went_entries = { λ a b n w. w.entries };
 

@@ -1,0 +1,12 @@
+-- The items so far are those of the things from here on.
+use Rattle.std.proofs.Common.{◌≤◌, length, drop}
+use Rattle.just_path.specs.View.{AreInOrder}
+use Rattle.just_host.specs.Items.{AreItemsBehind}
+use Rattle.just_host.proofs.sights.items_of.Given as goal
+
+abbrev pub invariant-loop-i : goal.invariant-loop-i
+invariant-loop-i l = record {
+  inside : l.i ≤ length l.things;
+  order : AreInOrder l.items.items;
+  items : AreItemsBehind l.front (drop l.i l.things) l.items.items;
+}
