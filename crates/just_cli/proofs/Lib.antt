@@ -1,4 +1,6 @@
 pub mod Breaks
 pub mod Caused
+pub mod Falls
 pub mod Plans
 pub mod Runs
+pub mod Worlds
