@@ -1,8 +1,10 @@
 pub mod Answered
 pub mod Breaks
 pub mod Caused
+pub mod Falls
 pub mod Plans
 pub mod Readings
 pub mod Refusals
 pub mod Requests
 pub mod Runs
+pub mod Worlds

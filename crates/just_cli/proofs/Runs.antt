@@ -7,7 +7,6 @@ use Rattle.just_host.specs.declared.entry.Entry.{Entry}
 use Rattle.just_sched.specs.declared.event.Event.{Event}
 use Rattle.just_sched.specs.declared.plan.Plan.{Plan}
 use Rattle.just_sched.specs.declared.event.Idle.{Idle}
-use Rattle.just_sched.specs.declared.event.Idle.TheVariants as idle
 use Rattle.just_sched.specs.declared.event.Verdict.{Verdict}
 use Rattle.just_sched.specs.declared.event.Verdict.TheVariants as verdict
 use Rattle.just_sched.specs.declared.plan_node.PlanNode.{PlanNode}
@@ -15,8 +14,7 @@ use Rattle.just_sched.specs.Idle.{IsIdle, HasWork}
 use Rattle.just_sched.specs.Legal.{Run, IsLegal, IsClosed, IsComplete, open_bodies}
 use Rattle.just_sched.specs.State.{caught}
 use Rattle.just_sched.specs.Verdict.{IsVerdict, NoneDecides}
-use Rattle.just_sched.proofs.Totals.{Formed}
-use Rattle.just_sched.proofs.Complete.{Unprompted, complete, complete_prop, no_reason, unprompted_answered}
+use Rattle.just_sched.proofs.Ended.{all_done, no_work}
 use Rattle.just_cli.specs.Outcome.{IsErrorFor}
 use Rattle.just_sched.specs.Start.{begins, run_of}
 use Rattle.just_sched.specs.Start.{Kept as IsKept}
@@ -26,12 +24,6 @@ use Rattle.just_cli.specs.declared.error.Error.{Error}
 use Rattle.just_cli.specs.Ran.{Ran, Fell, Refused, IsTold, run_over}
 use Rattle.just_cli.proofs.Caused.{caused}
 
-no_work : (s : Run) (h : List Event) (i : Idle) → s.jobs ≡ None → caught h ≡ false → IsIdle s h i → HasWork s h → ⊥
-no_work s h idle.Signal free calm is = absurd (true≢false (sym is ∙ calm))
-no_work s h idle.Nothing free calm is = is.1
-no_work s h idle.Jobs free calm is = let full : s.jobs ≡ Some (open_bodies s h) = is.3 in absurd (cc)
-no_work s h idle.Class free calm is = absurd is
-
 -- where there is no error, no node's failure decides
 none_decides : (s : Run) (h : List Event) (nodes : List PlanNode) (shown : List Event) (verdict : Verdict) → IsErrorFor nodes shown verdict None → IsVerdict s h verdict → NoneDecides s h
 none_decides s h nodes shown verdict.Well e is = is.0
@@ -39,12 +31,6 @@ none_decides s h nodes shown (verdict.Failed n) (inl e) is = absurd (cc)
 none_decides s h nodes shown (verdict.Failed n) (inr e) is = absurd (cc)
 none_decides s h nodes shown (verdict.Interrupted signal) e is = absurd (cc)
 none_decides s h nodes shown verdict.NoMemory e is = absurd (cc)
-
--- where no node failed and nothing can be done, all is done
-all_done : (s : Run) (h : List Event) → ∥ Formed s ∥₁ → ∥ Unprompted s ∥₁ → IsLegal s h → IsClosed s h → caught h ≡ false → NoneDecides s h → (HasWork s h → ⊥) → IsComplete s h
-all_done s h formed unprompted legal closed calm well nothing =
-    ∥∥₁_elim formed (complete_prop s h) (λ f. ∥∥₁_elim unprompted (complete_prop s h) (λ u.
-    complete s h f legal closed (no_reason s h legal well calm) (unprompted_answered s h u legal) calm nothing))
 
 module _ (driven : Plan) (h : List Event) (old now : List Entry) (w v : Option World)
     (kept : ∥ IsKept (begins driven None old w) h now v ∥₁) (closed : IsClosed (run_of (begins driven None old w)) h) where
@@ -54,7 +40,7 @@ module _ (driven : Plan) (h : List Event) (old now : List Entry) (w v : Option W
     grew = k.grew;
     kept = record { legal = k.legal; closed = closed; matches = k.matches };
     well = well;
-    complete = all_done (run_over driven old) h driven.well driven.unprompted k.legal closed calm well (no_work (run_over driven old) h idle.0 refl calm idle.1);
+    complete = all_done (run_over driven old) h driven.well driven.unprompted k.legal closed calm well (no_work (run_over driven old) h idle.0 tt closed calm idle.1);
   })
 
   fell_over : (e : Error) (v : Verdict) (new : List Entry) → caught h ≡ false → (i : Idle) × IsIdle (run_over driven old) h i → IsVerdict (run_over driven old) h v → IsErrorFor driven.nodes h v (Some e) → (es : List Entry) × (new ≡ now ++ es) × IsTold e es → ∥ Fell driven h e old new ∥₁
@@ -66,7 +52,7 @@ module _ (driven : Plan) (h : List Event) (old now : List Entry) (w v : Option W
     verdict = v;
     judged = judged;
     decided = decided;
-    nothing_left = no_work (run_over driven old) h idle.0 refl calm idle.1;
+    nothing_left = no_work (run_over driven old) h idle.0 tt closed calm idle.1;
     caused = caused (run_over driven old) h k.gained k.legal k.matches v e decided;
     told = told.2;
   })

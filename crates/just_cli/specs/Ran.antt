@@ -1,10 +1,11 @@
 -- What a run leaves in its host's record.
-use Rattle.std.specs.Prelude.{◌≡◌, ◌++◌, ◌⊎◌, List, [], ◌∷◌, Some, None}
+use Rattle.std.specs.Prelude.{◌≡◌, ◌++◌, ◌⊎◌, true, false, List, [], ◌∷◌, Some, None}
+use Rattle.std.specs.List.{list_any}
 use Rattle.just_host.specs.declared.entry.Call.TheVariants as call
 use Rattle.just_host.specs.declared.entry.Entry.{Entry}
 use Rattle.just_host.specs.declared.entry.Entry.TheVariants as entry
 use Rattle.just_host.specs.declared.entry.Stream.TheVariants as stream
-use Rattle.just_host.specs.Record.{children, refused}
+use Rattle.just_host.specs.Record.{children, refused, is_failed, is_started}
 use Rattle.just_sched.specs.declared.event.Event.{Event}
 use Rattle.just_sched.specs.declared.event.Verdict.{Verdict}
 use Rattle.just_sched.specs.declared.plan.Plan.{Plan}
@@ -16,7 +17,7 @@ use Rattle.just_cli.specs.Caused.{IsCaused}
 use Rattle.just_cli.specs.Outcome.{IsErrorFor}
 use Rattle.just_cli.specs.declared.error.Error.{Error}
 use Rattle.just_cli.specs.declared.error.Error.TheVariants as error
-use Rattle.just_cli.specs.Texts.{error_text}
+use Rattle.just_cli.specs.Texts.{error_text, prints}
 
 -- the run of a plan with no job limit, over a host with that record
 abbrev pub run_over : Plan → List Entry → Run
@@ -27,9 +28,18 @@ abbrev pub entries_of : Error → List Entry
 entries_of (error.FilesystemIo path io) = refused path io
 entries_of _ = []
 
--- a fault is printed to standard error as its text and a newline; the print may fail, and wanting memory leaves nothing
+-- a fault is printed once to standard error, as its text and a newline; the print may fail, and wanting memory leaves nothing
+abbrev pub IsPrinted : Error → List Entry → Type 0
+IsPrinted e es = (es ≡ entry.Printed stream.Err (error_text e ++ 10 ∷ []) ∷ []) ⊎ ((es ≡ entry.Failed call.Print ∷ []) ⊎ (es ≡ []))
+
+-- what telling an error leaves: nothing, where it is one that isn't printed
 abbrev pub IsTold : Error → List Entry → Type 0
-IsTold e es = (es ≡ entry.Printed stream.Err (error_text e ++ 10 ∷ []) ∷ []) ⊎ ((es ≡ entry.Failed call.Print ∷ []) ⊎ (es ≡ []))
+IsTold e es = ((prints e ≡ true) × IsPrinted e es) ⊎ ((prints e ≡ false) × (es ≡ []))
+
+-- no child was started, and nothing failed
+pub record IsQuiet (es : List Entry) : Type 0 where
+  pub no_child : list_any is_started es ≡ false
+  pub no_failure : list_any is_failed es ≡ false
 
 -- The stretch of the record while the book was open is matched by a legal and closed history of the plan's run.
 pub record Kept (plan : Plan) (h : List Event) (old mid : List Entry) : Type 0 where

@@ -33,7 +33,8 @@ fn message(alloc: Global, error: &Error) -> Result<String, NoMemory>
 
 /// Tells the error on standard error. A failed print changes nothing of the answer.
 fn tell<H: Host>(alloc: Global, host: &mut H, error: &Error)
-    ensures { (es : List Entry) × (H.entries host.new ≡ H.entries host.old ++ es) × IsTold error.now es }
+    ensures told { (es : List Entry) × (H.entries host.new ≡ H.entries host.old ++ es) × IsTold error.now es }
+    ensures world { H.world host.new ≡ H.world host.old }
 {
     if !error.print_message() {
         return;
@@ -56,6 +57,7 @@ pub(crate) fn fail<H: Host>(
 ) -> Ended<H>
     ensures failed { result.result ≡ Err (record { error = error; plan = plan; history = history; code = code_for error }) }
     ensures told { (es : List Entry) × (H.entries result.host ≡ H.entries host ++ es) × IsTold error es }
+    ensures world { H.world result.host ≡ H.world host }
 {
     let mut host = host;
     tell(alloc, &mut host, &error);
