@@ -24,7 +24,7 @@ use Rattle.just_cli.specs.declared.ended.Failure.{Failure}
 use Rattle.just_cli.specs.declared.ended.Report.{Report}
 use Rattle.just_cli.specs.declared.error.Error.{Error}
 use Rattle.just_cli.specs.Ran.{Ran, Fell, Refused, IsTold, run_over}
-use Rattle.just_cli.proofs.Caused.{caused}
+use Rattle.just_cli.proofs.Caused.{caused, memory_left}
 
 no_work : (s : Run) (h : List Event) (i : Idle) → s.jobs ≡ None → caught h ≡ false → IsIdle s h i → HasWork s h → ⊥
 no_work s h idle.Signal free calm is = absurd (true≢false (sym is ∙ calm))
@@ -68,6 +68,7 @@ module _ (driven : Plan) (h : List Event) (old now : List Entry) (w v : Option W
     decided = decided;
     nothing_left = no_work (run_over driven old) h idle.0 refl calm idle.1;
     caused = caused (run_over driven old) h k.gained k.legal k.matches v e decided;
+    favoured = memory_left driven.nodes h e k.gained (caused (run_over driven old) h k.gained k.legal k.matches v e decided);
     told = told.2;
   })
 
