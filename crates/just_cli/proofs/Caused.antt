@@ -1,7 +1,11 @@
 -- That a record shows the error of a run that failed.
-use Rattle.std.proofs.Common.{◌≡◌, ℕ, ◌-◌, inl, inr, List, length, slice_get, Option, Some, None, refl, ap, subst, arith}
+use Rattle.std.proofs.Common.{◌≡◌, ℕ, ◌-◌, inl, inr, true, List, length, slice_get, Contains, Option, Some, None, pos, true≢false, refl, ap, sym, subst, arith}
 use Rattle.std.specs.List.{last_or}
+use Rattle.std.specs.Cmp.{signed_Decides}
+use Rattle.std.proofs.lemmas.List.Elements.{All-contains}
 use Rattle.just_host.specs.declared.entry.Entry.{Entry}
+use Rattle.just_host.specs.declared.entry.Entry.TheVariants as entry
+use Rattle.just_host.specs.declared.entry.HostFault.TheVariants as fault
 use Rattle.just_host.specs.declared.entry.Status.{Status}
 use Rattle.just_host.specs.declared.entry.Status.TheVariants as status
 use Rattle.just_sched.specs.declared.event.Event.{Event}
@@ -11,6 +15,7 @@ use Rattle.just_sched.specs.declared.event.Verdict.{Verdict}
 use Rattle.just_sched.specs.declared.event.Verdict.TheVariants as verdict
 use Rattle.just_sched.specs.declared.plan_node.PlanNode.{PlanNode}
 use Rattle.just_sched.specs.declared.work.Step.TheVariants as step
+use Rattle.just_sched.specs.Favourable.{is_favourable, IsFavourable}
 use Rattle.just_sched.specs.Nodes.{work_in}
 use Rattle.just_sched.specs.Works.{commands_of, after}
 use Rattle.just_sched.specs.Legal.{Run, IsLegal}
@@ -67,3 +72,21 @@ module _ (s : Run) (h : List Event) (es : List Entry) (legal : IsLegal s h) (mat
   caused (verdict.Failed n) e (inr is) = same_cause e error.NoMemory is tt
   caused (verdict.Interrupted signal) e is = same_cause e error.NoMemory is tt
   caused verdict.NoMemory e is = same_cause e error.NoMemory is tt
+
+-- ---- favourable records
+
+-- a record in which nothing stood against the run shows no cause but want of memory
+pub memory_alone : (nodes : List PlanNode) (h : List Event) (e : Error) (es : List Entry) → IsCaused nodes h e es → ((x : Entry) → Contains es x → is_favourable x ≡ true) → e ≡ error.NoMemory
+memory_alone nodes h (error.FilesystemIo path (fault.Failed c)) es (inl a) all = absurd (true≢false (sym (all (entry.Failed c) a)))
+memory_alone nodes h (error.FilesystemIo path (fault.Failed c)) es (inr b) all = absurd (true≢false (sym (all (entry.Strayed b.1 b.2) b.3)))
+memory_alone nodes h (error.FilesystemIo path (fault.Missed m)) es c all = absurd (true≢false (sym (all (entry.Missed c.0 m) c.1)))
+memory_alone nodes h (error.FilesystemIo path fault.NoMemory) es c all = absurd c
+memory_alone nodes h (error.Code recipe line code message) es c all = absurd (c.0 ((signed_Decides code (pos 0)).0 (all (entry.Ended c.1.child (status.Code code)) c.1.ended_so)))
+memory_alone nodes h (error.Signal recipe line signal) es c all = absurd (true≢false (sym (all (entry.Ended c.child (status.Signal signal)) c.ended_so)))
+memory_alone nodes h (error.Unknown recipe line) es c all = absurd (true≢false (sym (all (entry.Ended c.child status.Unknown) c.ended_so)))
+memory_alone nodes h error.NoMemory es c all = refl
+memory_alone nodes h _ es c all = absurd c
+
+-- the same, of a favourable record
+pub memory_left : (nodes : List PlanNode) (h : List Event) (e : Error) (es : List Entry) → IsCaused nodes h e es → IsFavourable es → e ≡ error.NoMemory
+memory_left nodes h e es c good = memory_alone nodes h e es c (λ x within. All-contains (λ y. is_favourable y ≡ true) es x good within)

@@ -1,7 +1,6 @@
 -- What follows for a run that failed, or came to its end, from what it left.
-use Rattle.std.proofs.Common.{◌≡◌, ℕ, zero, suc, ◌<◌, ◌++◌, inl, inr, Bool, true, false, cond, List, [], ◌∷◌, count_by, Contains, Option, Some, None, Result, Ok, Err, IfErr, MatchOption, pos, true≢false, refl, ap, sym, ◌∙◌, subst, append_assoc, arith}
+use Rattle.std.proofs.Common.{◌≡◌, ℕ, zero, suc, ◌<◌, ◌++◌, inl, inr, Bool, true, false, cond, List, [], ◌∷◌, count_by, Contains, Option, Some, None, Result, Ok, Err, IfErr, MatchOption, refl, ap, sym, ◌∙◌, subst, append_assoc, arith}
 use Rattle.std.specs.List.{list_any}
-use Rattle.std.specs.Cmp.{signed_Decides}
 use Rattle.std.proofs.Math.Bridge.{le_prop}
 use Rattle.std.proofs.Math.Logic.{∥∥₁_elim}
 use Rattle.std.proofs.lemmas.List.{append_cancel_left}
@@ -13,7 +12,6 @@ use Rattle.just_host.specs.Record.{faults_of, misses_of, is_failed, is_missed, i
 use Rattle.just_host.specs.declared.entry.Entry.{Entry}
 use Rattle.just_host.specs.declared.entry.Entry.TheVariants as entry
 use Rattle.just_host.specs.declared.entry.HostFault.TheVariants as fault
-use Rattle.just_host.specs.declared.entry.Status.TheVariants as status
 use Rattle.just_sched.specs.declared.event.Event.{Event}
 use Rattle.just_sched.specs.declared.plan.Plan.{Plan}
 use Rattle.just_sched.specs.declared.plan_node.PlanNode.{PlanNode}
@@ -28,6 +26,7 @@ use Rattle.just_cli.specs.declared.ended.Report.{Report}
 use Rattle.just_cli.specs.declared.error.Error.{Error}
 use Rattle.just_cli.specs.declared.error.Error.TheVariants as error
 use Rattle.just_cli.specs.Caused.{IsCaused, is_fault, is_miss}
+use Rattle.just_cli.proofs.Caused.{memory_alone}
 use Rattle.just_cli.specs.Ran.{Fell, Refused, IsQuiet, entries_of}
 use Rattle.just_cli.proofs.Worlds.{worlds_set, errors_set}
 
@@ -97,18 +96,6 @@ misses_rise (Ok x) old new before after failed b a = tt
 misses_rise (Err f) old new before after failed b a = λ is. omega (arith, b, a, rises is_missed is_miss miss_shown miss_refused f.plan f.history f.error old new failed is)
 
 -- ---- favourable records
-
--- a record in which nothing stood against the run shows no cause but want of memory
-memory_alone : (nodes : List PlanNode) (h : List Event) (e : Error) (es : List Entry) → IsCaused nodes h e es → ((x : Entry) → Contains es x → is_favourable x ≡ true) → e ≡ error.NoMemory
-memory_alone nodes h (error.FilesystemIo path (fault.Failed c)) es (inl a) all = absurd (true≢false (sym (all (entry.Failed c) a)))
-memory_alone nodes h (error.FilesystemIo path (fault.Failed c)) es (inr b) all = absurd (true≢false (sym (all (entry.Strayed b.1 b.2) b.3)))
-memory_alone nodes h (error.FilesystemIo path (fault.Missed m)) es c all = absurd (true≢false (sym (all (entry.Missed c.0 m) c.1)))
-memory_alone nodes h (error.FilesystemIo path fault.NoMemory) es c all = absurd c
-memory_alone nodes h (error.Code recipe line code message) es c all = absurd (c.0 ((signed_Decides code (pos 0)).0 (all (entry.Ended c.1.child (status.Code code)) c.1.ended_so)))
-memory_alone nodes h (error.Signal recipe line signal) es c all = absurd (true≢false (sym (all (entry.Ended c.child (status.Signal signal)) c.ended_so)))
-memory_alone nodes h (error.Unknown recipe line) es c all = absurd (true≢false (sym (all (entry.Ended c.child status.Unknown) c.ended_so)))
-memory_alone nodes h error.NoMemory es c all = refl
-memory_alone nodes h _ es c all = absurd c
 
 memory_by : (o : Option Plan) (h : List Event) (e : Error) (old new : List Entry) → MatchOption o (∥ Refused e old new ∥₁) (λ plan. ∥ Fell plan h e old new ∥₁) → (p : Plan) → o ≡ Some p → (es : List Entry) → new ≡ old ++ es → IsFavourable es → e ≡ error.NoMemory
 memory_by None h e old new failed p is es grew good = absurd (cc)

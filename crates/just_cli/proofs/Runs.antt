@@ -22,7 +22,7 @@ use Rattle.just_cli.specs.declared.ended.Failure.{Failure}
 use Rattle.just_cli.specs.declared.ended.Report.{Report}
 use Rattle.just_cli.specs.declared.error.Error.{Error}
 use Rattle.just_cli.specs.Ran.{Ran, Fell, Refused, IsTold, run_over}
-use Rattle.just_cli.proofs.Caused.{caused}
+use Rattle.just_cli.proofs.Caused.{caused, memory_left}
 
 -- where there is no error, no node's failure decides
 none_decides : (s : Run) (h : List Event) (nodes : List PlanNode) (shown : List Event) (verdict : Verdict) → IsErrorFor nodes shown verdict None → IsVerdict s h verdict → NoneDecides s h
@@ -54,6 +54,7 @@ module _ (driven : Plan) (h : List Event) (old now : List Entry) (w v : Option W
     decided = decided;
     nothing_left = no_work (run_over driven old) h idle.0 tt closed calm idle.1;
     caused = caused (run_over driven old) h k.gained k.legal k.matches v e decided;
+    favoured = memory_left driven.nodes h e k.gained (caused (run_over driven old) h k.gained k.legal k.matches v e decided);
     told = told.2;
   })
 

@@ -9,6 +9,7 @@ use Rattle.just_host.specs.Record.{children, refused, is_failed, is_started}
 use Rattle.just_sched.specs.declared.event.Event.{Event}
 use Rattle.just_sched.specs.declared.event.Verdict.{Verdict}
 use Rattle.just_sched.specs.declared.plan.Plan.{Plan}
+use Rattle.just_sched.specs.Favourable.{IsFavourable}
 use Rattle.just_sched.specs.Idle.{HasWork}
 use Rattle.just_sched.specs.Legal.{Run, IsLegal, IsClosed, IsComplete}
 use Rattle.just_sched.specs.Match.{Matches}
@@ -56,8 +57,8 @@ pub record Ran (plan : Plan) (h : List Event) (old new : List Entry) : Type 0 wh
   pub well : NoneDecides (run_over plan old) h
   pub complete : IsComplete (run_over plan old) h
 
--- A run that failed: its error is that of the history's verdict, and the record shows its cause; nothing was left to do,
--- so it didn't stop at its first failure. Behind the entries of its history the error was told.
+-- A run that failed: its error is that of the history's verdict, and the record shows its cause; a favourable record shows
+-- none. Nothing was left to do, so it didn't stop at its first failure. Behind the entries of its history the error was told.
 pub record Fell (plan : Plan) (h : List Event) (e : Error) (old new : List Entry) : Type 0 where
   pub mid : List Entry
   pub post : List Entry
@@ -68,6 +69,7 @@ pub record Fell (plan : Plan) (h : List Event) (e : Error) (old new : List Entry
   pub decided : IsErrorFor plan.nodes h verdict (Some e)
   pub nothing_left : HasWork (run_over plan old) h → ⊥
   pub caused : IsCaused plan.nodes h e mid
+  pub favoured : IsFavourable mid → e ≡ error.NoMemory
   pub told : IsTold e post
 
 -- A refusal before the run: the entry of the refused call, and the error was told.
