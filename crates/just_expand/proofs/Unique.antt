@@ -259,12 +259,16 @@ some_written unclosed u h e = cc
 some_written lone u h e = cc
 
 -- a whole text
-pub one_cut : (t : List ℕ) → CutOneWay t
-one_cut t [] [] c d = refl
-one_cut t [] (q ∷ qs) c d = absurd (some_written q d.0 d.1.1 (sym c ∙ d.1.0))
-one_cut t (p ∷ ps) [] c d = absurd (some_written p c.0 c.1.1 (sym d ∙ c.1.0))
-one_cut t (p ∷ ps) (q ∷ qs) c d =
+same_cut : (t : List ℕ) (ps qs : List Piece) → Cuts t ps [] → Cuts t qs [] → ps ≡ qs
+same_cut t [] [] c d = refl
+same_cut t [] (q ∷ qs) c d = absurd (some_written q d.0 d.1.1 (sym c ∙ d.1.0))
+same_cut t (p ∷ ps) [] c d = absurd (some_written p c.0 c.1.1 (sym d ∙ c.1.0))
+same_cut t (p ∷ ps) (q ∷ qs) c d =
     let first = unique p q c.0 d.0 (sym c.1.0 ∙ d.1.0) c.1.1 d.1.1 in
     let P : List ℕ → Type 0 = λ w. Cuts w ps [] in
-    let rest = one_cut d.0 ps qs (subst P first.1 c.2) d.2 in
+    let rest = same_cut d.0 ps qs (subst P first.1 c.2) d.2 in
     ap (λ k. k ∷ ps) first.0 ∙ ap (λ k. q ∷ k) rest
+
+pub one_cut : (t : List ℕ) → CutOneWay t
+unfolding CutOneWay
+one_cut t = same_cut t

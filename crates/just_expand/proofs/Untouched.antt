@@ -25,4 +25,5 @@ no_question t unclosed behind n h b e = cc
 no_question t lone behind n h b e = cc
 
 pub asks_nothing : {S E : Type 0} (asks : S → List ℕ → Reply E → S → Type 0) (s : S) (t : List ℕ) → Lacks 36 t → AsksNothing asks s t
+unfolding AsksNothing
 asks_nothing asks s t h = λ rest out s' p behind n r b q. no_question rest p behind n (lacks_cut t r.0 rest r.1 h) b q

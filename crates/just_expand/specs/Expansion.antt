@@ -94,5 +94,5 @@ module _ {S E : Type 0} (asks : S → List ℕ → Reply E → S → Type 0) whe
   MayAsk may s t = (rest out : List ℕ) (s' : S) (p : Piece) (behind n : List ℕ) → Reaches s t rest out s' → Begins rest p behind → question p ≡ Some n → may s' n
 
   -- no name of the text is asked for: a context that may never be asked serves
-  abbrev pub AsksNothing : S → List ℕ → Type 0
+  unfoldable pub AsksNothing : S → List ℕ → Type 0
   AsksNothing s t = MayAsk (λ s n. ⊥) s t

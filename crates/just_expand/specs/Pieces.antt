@@ -82,5 +82,5 @@ Cuts t [] rest = t ≡ rest
 Cuts t (p ∷ ps) rest = (behind : List ℕ) × Begins t p behind × Cuts behind ps rest
 
 -- there is one way at most to cut the whole text
-abbrev pub CutOneWay : List ℕ → Type 0
+unfoldable pub CutOneWay : List ℕ → Type 0
 CutOneWay t = (ps qs : List Piece) → Cuts t ps [] → Cuts t qs [] → ps ≡ qs

@@ -57,6 +57,7 @@ pub fn tilde<'a>(
 }
 
 /// Expands the variables of the text by `context`, and then a leading tilde, unless a variable brought it to the front.
+#[tactic(auto, using(crate::proofs::Unique::one_cut, crate::proofs::Untouched::asks_nothing))]
 pub fn full_with_context<'a, H, C, E>(
     alloc: Global,
     input: &'a str,
@@ -92,6 +93,7 @@ where
 
 /// Expands the variables of the text by a `context` that gives no errors, and then a leading tilde, unless a variable
 /// brought it to the front.
+#[tactic(auto, using(crate::proofs::Unique::one_cut, crate::proofs::Untouched::asks_nothing))]
 pub fn full_with_context_no_errors<'a, H, C>(
     alloc: Global,
     input: &'a str,
@@ -126,6 +128,7 @@ where
 
 /// Expands the variables of the text by the environment, and then a leading tilde by its home folder, unless a variable
 /// brought it to the front.
+#[tactic(auto, using(crate::proofs::Unique::one_cut, crate::proofs::Untouched::asks_nothing))]
 pub fn full<'a>(
     alloc: Global,
     input: &'a str,

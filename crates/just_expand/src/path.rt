@@ -39,6 +39,7 @@ fn as_path<'a, X>(expanded: Result<CowStr<'a, Global>, X>) -> Result<Expanded<'a
 }
 
 /// Expands the variables of the path by `context`, which is asked for each name in turn.
+#[tactic(auto, using(crate::proofs::Unique::one_cut, crate::proofs::Untouched::asks_nothing))]
 pub fn env_with_context<'a, C, E>(
     alloc: Global,
     input: Utf8Path<'a>,
@@ -58,6 +59,7 @@ where
 }
 
 /// Expands the variables of the path by a `context` that gives no errors.
+#[tactic(auto, using(crate::proofs::Unique::one_cut, crate::proofs::Untouched::asks_nothing))]
 pub fn env_with_context_no_errors<'a, C>(
     alloc: Global,
     input: Utf8Path<'a>,
@@ -76,6 +78,7 @@ where
 }
 
 /// Expands the variables of the path by the environment.
+#[tactic(auto, using(crate::proofs::Unique::one_cut, crate::proofs::Untouched::asks_nothing))]
 pub fn env<'a>(
     alloc: Global,
     input: Utf8Path<'a>,
@@ -118,6 +121,7 @@ pub fn tilde<'a>(
 }
 
 /// Expands the variables of the path by `context`, and then a leading tilde, unless a variable brought it to the front.
+#[tactic(auto, using(crate::proofs::Unique::one_cut, crate::proofs::Untouched::asks_nothing))]
 pub fn full_with_context<'a, H, C, E>(
     alloc: Global,
     input: Utf8Path<'a>,
@@ -142,6 +146,7 @@ where
 
 /// Expands the variables of the path by a `context` that gives no errors, and then a leading tilde, unless a variable
 /// brought it to the front.
+#[tactic(auto, using(crate::proofs::Unique::one_cut, crate::proofs::Untouched::asks_nothing))]
 pub fn full_with_context_no_errors<'a, H, C>(
     alloc: Global,
     input: Utf8Path<'a>,
@@ -165,6 +170,7 @@ where
 
 /// Expands the variables of the path by the environment, and then a leading tilde by its home folder, unless a variable
 /// brought it to the front.
+#[tactic(auto, using(crate::proofs::Unique::one_cut, crate::proofs::Untouched::asks_nothing))]
 pub fn full<'a>(
     alloc: Global,
     input: Utf8Path<'a>,

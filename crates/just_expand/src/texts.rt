@@ -25,6 +25,7 @@ pub type Wstr<'a> = &'a str;
 pub type WInput<'a> = &'a str;
 
 /// Expands the variables of the text by `context`, which is asked for each name in turn.
+#[tactic(auto, using(crate::proofs::Unique::one_cut, crate::proofs::Untouched::asks_nothing))]
 pub fn env_with_context<'a, C, E>(
     alloc: Global,
     input: &'a str,
@@ -51,6 +52,7 @@ where
 }
 
 /// Expands the variables of the text by a `context` that gives no errors.
+#[tactic(auto, using(crate::proofs::Unique::one_cut, crate::proofs::Untouched::asks_nothing))]
 pub fn env_with_context_no_errors<'a, C>(
     alloc: Global,
     input: &'a str,
@@ -98,6 +100,7 @@ fn look_up(
 }
 
 /// Expands the variables of the text by the environment.
+#[tactic(auto, using(crate::proofs::Unique::one_cut, crate::proofs::Untouched::asks_nothing))]
 pub fn env<'a>(
     alloc: Global,
     input: &'a str,

@@ -5,8 +5,6 @@ use Rattle.just_expand.specs.Pieces.{Lacks}
 use Rattle.just_expand.specs.Expansion.{MayAsk}
 use Rattle.just_expand.specs.Contexts.{answers}
 use Rattle.just_expand.proofs.OverPaths.{expansion, same_path, owned}
-use Rattle.just_expand.proofs.Unique.{one_cut}
-use Rattle.just_expand.proofs.Untouched.{asks_nothing}
 use Rattle.just_expand.proofs.path.env_with_context.Goals as goal
 
 pub env_with_context-requires : goal.env_with_context-requires
@@ -17,12 +15,6 @@ returns-clause-expanded g c = expansion (answers g.C.FnMut) c.args.context c.as_
 
 pub returns-clause-borrowed : goal.returns-clause-borrowed
 returns-clause-borrowed g c = λ h0. same_path c.as_str.result (text_of c.args.input) _ _ (c.env_with_context.ensures.borrowed (subst (Lacks 36) (sym c.as_str.ensures) h0)) c.as_path.ensures c.as_str.ensures
-
-pub returns-clause-one_cut : goal.returns-clause-one_cut
-returns-clause-one_cut g c = one_cut (text_of c.args.input)
-
-pub returns-clause-unasked : goal.returns-clause-unasked
-returns-clause-unasked g c = asks_nothing (answers g.C.FnMut) c.args.context (text_of c.args.input)
 
 pub returns-clause-owned : goal.returns-clause-owned
 returns-clause-owned g c = owned c.as_str.result.now (text_of c.args.input) _ _ c.as_str.ensures c.as_path.ensures c.env_with_context.ensures.owned

@@ -5,8 +5,6 @@ use Rattle.just_expand.specs.Pieces.{Lacks}
 use Rattle.just_expand.specs.Expansion.{MayAsk, ExpandsTo}
 use Rattle.just_expand.specs.Contexts.{always}
 use Rattle.just_expand.proofs.OverPaths.{sure, same_path, owned}
-use Rattle.just_expand.proofs.Unique.{one_cut}
-use Rattle.just_expand.proofs.Untouched.{asks_nothing}
 use Rattle.just_expand.proofs.path.env_with_context_no_errors.Goals as goal
 
 pub env_with_context_no_errors-requires : goal.env_with_context_no_errors-requires
@@ -17,12 +15,6 @@ returns-clause-expanded g c = sure (ExpandsTo (always g.C.FnMut) c.args.context)
 
 pub returns-clause-borrowed : goal.returns-clause-borrowed
 returns-clause-borrowed g c = λ h0. same_path c.as_str.result (text_of c.args.input) _ _ (c.env_with_context_no_errors.ensures.borrowed (subst (Lacks 36) (sym c.as_str.ensures) h0)) c.as_path.ensures c.as_str.ensures
-
-pub returns-clause-one_cut : goal.returns-clause-one_cut
-returns-clause-one_cut g c = one_cut (text_of c.args.input)
-
-pub returns-clause-unasked : goal.returns-clause-unasked
-returns-clause-unasked g c = asks_nothing (always g.C.FnMut) c.args.context (text_of c.args.input)
 
 pub returns-clause-owned : goal.returns-clause-owned
 returns-clause-owned g c = owned c.as_str.result.now (text_of c.args.input) _ _ c.as_str.ensures c.as_path.ensures c.env_with_context_no_errors.ensures.owned

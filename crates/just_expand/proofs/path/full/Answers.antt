@@ -5,8 +5,6 @@ use Rattle.just_expand.specs.Expansion.{ExpandsTo}
 use Rattle.just_expand.specs.Contexts.{environ_answers, home_is}
 use Rattle.just_path.specs.Environ.{home_of}
 use Rattle.just_expand.proofs.OverPaths.{sure, full_expansion, same_path, owned}
-use Rattle.just_expand.proofs.Unique.{one_cut}
-use Rattle.just_expand.proofs.Untouched.{asks_nothing}
 use Rattle.just_expand.proofs.path.full.Goals as goal
 
 pub returns-clause-expanded : goal.returns-clause-expanded
@@ -14,12 +12,6 @@ returns-clause-expanded c = full_expansion environ_answers c.args.environ.now.pa
 
 pub returns-clause-borrowed : goal.returns-clause-borrowed
 returns-clause-borrowed c = λ h0 h1. same_path c.as_str.result (text_of c.args.input) _ _ (c.full.ensures.borrowed (subst (Lacks 36) (sym c.as_str.ensures) h0) (subst (BeginsWithout 126) (sym c.as_str.ensures) h1)) c.as_path.ensures c.as_str.ensures
-
-pub returns-clause-one_cut : goal.returns-clause-one_cut
-returns-clause-one_cut c = one_cut (text_of c.args.input)
-
-pub returns-clause-unasked : goal.returns-clause-unasked
-returns-clause-unasked c = asks_nothing environ_answers c.args.environ.now.pairs (text_of c.args.input)
 
 pub returns-clause-brought : goal.returns-clause-brought
 returns-clause-brought c = λ h0. sure (ExpandsTo environ_answers c.args.environ.now.pairs) c.as_str.result.now (text_of c.args.input) _ _ c.as_str.ensures c.as_path.ensures (c.full.ensures.brought (subst (BeginsWithout 126) (sym c.as_str.ensures) h0))

@@ -6,8 +6,6 @@ use Rattle.just_expand.specs.Expansion.{MayAsk, ExpandsTo}
 use Rattle.just_expand.specs.Tilde.{MayAskHome}
 use Rattle.just_expand.specs.Contexts.{answers, homes, MayCall}
 use Rattle.just_expand.proofs.OverPaths.{sure, full_expansion, same_path, owned}
-use Rattle.just_expand.proofs.Unique.{one_cut}
-use Rattle.just_expand.proofs.Untouched.{asks_nothing}
 use Rattle.just_expand.proofs.path.full_with_context.Goals as goal
 
 pub full_with_context-requires-clause-asked : goal.full_with_context-requires-clause-asked
@@ -21,12 +19,6 @@ returns-clause-expanded g c = full_expansion (answers g.C.FnMut) c.args.context 
 
 pub returns-clause-borrowed : goal.returns-clause-borrowed
 returns-clause-borrowed g c = λ h0 h1. same_path c.as_str.result (text_of c.args.input) _ _ (c.full_with_context.ensures.borrowed (subst (Lacks 36) (sym c.as_str.ensures) h0) (subst (BeginsWithout 126) (sym c.as_str.ensures) h1)) c.as_path.ensures c.as_str.ensures
-
-pub returns-clause-one_cut : goal.returns-clause-one_cut
-returns-clause-one_cut g c = one_cut (text_of c.args.input)
-
-pub returns-clause-unasked : goal.returns-clause-unasked
-returns-clause-unasked g c = asks_nothing (answers g.C.FnMut) c.args.context (text_of c.args.input)
 
 pub returns-clause-brought : goal.returns-clause-brought
 returns-clause-brought g c = λ h0. sure (ExpandsTo (answers g.C.FnMut) c.args.context) c.as_str.result.now (text_of c.args.input) _ _ c.as_str.ensures c.as_path.ensures (c.full_with_context.ensures.brought (subst (BeginsWithout 126) (sym c.as_str.ensures) h0))

@@ -2,8 +2,6 @@ use Rattle.std.proofs.Common.{◌∙◌, ap}
 use Rattle.just_expand.specs.Contexts.{environ_answers, found_or}
 use Rattle.just_path.specs.Environ.{value_of}
 use Rattle.just_expand.proofs.Transfer.{is_expansion}
-use Rattle.just_expand.proofs.Unique.{one_cut}
-use Rattle.just_expand.proofs.Untouched.{asks_nothing}
 use Rattle.just_expand.proofs.texts.env.Goals as goal
 
 pub returns-clause-expanded : goal.returns-clause-expanded
@@ -11,9 +9,3 @@ returns-clause-expanded c =
     is_expansion _ environ_answers (λ w. w.1.now.pairs) (λ s n r s' k.
     let h = k.1.called.met in
     (k.2 ∙ h.1.0 ∙ ap (λ m. found_or (value_of m s.1.now.pairs)) k.1.shows, h.1.1)) _ _ _ c.expand_text.ensures.expanded
-
-pub returns-clause-unasked : goal.returns-clause-unasked
-returns-clause-unasked c = asks_nothing environ_answers c.args.environ.now.pairs c.args.input.now
-
-pub returns-clause-one_cut : goal.returns-clause-one_cut
-returns-clause-one_cut c = one_cut c.args.input.now

@@ -2,7 +2,6 @@ use Rattle.std.proofs.Common.{subst, ◌∙◌, ap}
 use Rattle.std.specs.Fn.{CalledAt, TakesAt}
 use Rattle.just_expand.specs.Contexts.{always, reply_of}
 use Rattle.just_expand.proofs.Transfer.{expands_to, may_ask, call_kept}
-use Rattle.just_expand.proofs.Untouched.{asks_nothing}
 use Rattle.just_expand.proofs.texts.env_with_context_no_errors.Goals as goal
 
 pub env_with_context-expanded-requires : goal.env_with_context-expanded-requires
@@ -18,6 +17,3 @@ returns-in-Ok-clause-expanded g c =
     let h = call_kept _ k.0 _ k.1.called.met.1 in
     (h.0, subst (λ m. CalledAt g.C.FnMut s.0.now m h.0 s'.0.now) k.1.shows h.1, k.2 ∙ ap reply_of h.2))
     _ _ _ c.in-Ok.ensures.expanded
-
-pub returns-in-Ok-clause-unasked : goal.returns-in-Ok-clause-unasked
-returns-in-Ok-clause-unasked g c = asks_nothing (always g.C.FnMut) c.args.context c.args.input.now
