@@ -8,4 +8,6 @@ mod hosts;
 #[cfg(test)]
 mod libraries;
 #[cfg(test)]
+mod paths;
+#[cfg(test)]
 mod runs;
