@@ -26,4 +26,6 @@ pub use signal::Signal;
 pub use tree::Thing;
 
 #[cfg(test)]
+mod path_tests;
+#[cfg(test)]
 mod tests;

@@ -18,7 +18,9 @@ use super::copies::copy_pairs;
 use super::log::Log;
 use super::plot::{Faults, word_of};
 use super::{Call, Ending, Entry, Host, HostFault, Plot, Signal, Spec, Status, Stream, Tree};
-use just_path::{Environ, Item, Meta, NoMemory, PathCall, PathFault, PathHost, Seq, Text, Utf8Path, Utf8PathBuf};
+use just_path::{
+    Environ, Item, Meta, NoMemory, PathCall, PathFault, PathHost, Seq, Text, Utf8Path, Utf8PathBuf,
+};
 use std::alloc::Global;
 
 /// A host in memory, which does what its plot says. It tells its world.

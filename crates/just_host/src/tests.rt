@@ -66,7 +66,7 @@ fn ending(alloc: Global) -> Result<Ending, NoMemory> {
     })
 }
 
-fn memory(alloc: Global, fails: &[u32]) -> Result<MemHost, NoMemory> {
+pub(super) fn memory(alloc: Global, fails: &[u32]) -> Result<MemHost, NoMemory> {
     let mut plot = Plot::new(alloc);
     plot.endings.push(ending(alloc)?)?;
     plot.fails = Seq::from(Vec::from_slice(alloc, fails)?);

@@ -1,6 +1,7 @@
 //! Each public call that may want memory, called once with ample memory.
 
 use crate::hosts::host;
+use crate::paths::path_calls_answer;
 use just_cli::{Ended, run_with};
 use just_host::{Host, MemHost, Plot, Stream};
 use just_lang::{Source, assemble, body_lines, closure, dependencies, invocations, parse};
@@ -78,6 +79,7 @@ fn event_count(driven: Result<Driven<MemHost>, (MemHost, Plan)>) -> usize {
 fn every_call_answers(rt: HostRuntime) -> Result<(), Fail> {
     let alloc = rt.alloc();
     paths_answer(&rt, alloc)?;
+    path_calls_answer(&rt, alloc)?;
     let plan = plan_answers(&rt, alloc)?;
     assert_eq!(rt; plan.nodes.len(), 2);
     let memory = host_answers(&rt, alloc)?;

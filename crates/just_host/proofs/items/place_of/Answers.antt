@@ -11,7 +11,8 @@ returns-then-is_behind c =
 
 pub loop-at-preserved : goal.loop-at-preserved
 loop-at-preserved c =
-    let inside : c.loop-at.at - 1 < length c.args.items.now = omega (arith, c.loop-at-test.true, c.loop-at.invariant.0) in
-    (omega (arith, c.loop-at.invariant.0),
-    place_passed c.args.items.now c.args.name.now (c.loop-at.at - 1) c.index-items-at.result inside c.index-items-at.is (sym c.is_behind.ensures ∙ c.if-is_behind.false)
-    (λ k d low high. c.loop-at.invariant.1 k d (omega (arith, c.loop-at-test.true)) high))
+    let inside : c.loop-at.at - 1 < length c.args.items.now = omega (arith, c.loop-at-test.true, c.loop-at.invariant.0) in (
+      omega (arith, c.loop-at.invariant.0),
+      place_passed c.args.items.now c.args.name.now (c.loop-at.at - 1) c.index-items-at.result inside c.index-items-at.is (sym c.is_behind.ensures ∙ c.if-is_behind.false)
+          (λ k d low high. c.loop-at.invariant.1 k d (omega (arith, c.loop-at-test.true)) high),
+    )

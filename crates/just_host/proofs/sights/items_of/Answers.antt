@@ -17,9 +17,9 @@ loop-i-preserved-in-Continue-branch-2 c =
       inside = omega (arith, c.loop-i.invariant.inside);
       order = order_put c.loop-i.items.items c.put_item.new.items.items c.in_ok-name.name c.meta_of-kind.result.kind c.loop-i.invariant.order c.in_ok-put_item.ensures;
       items = thing_put c.args.front.now c.args.things.now (c.loop-i.i - 1) c.index-things-i.result c.in-Some.name.now c.loop-i.items.items c.put_item.new.items.items inside c.index-things-i.is
-        c.in-Some.ensures.0 (sym c.as_str.ensures ∙ c.in-Some.ensures.1)
-        (c.in_ok-put_item.ensures ∙ ap₂ (λ n m. put (slice_cmp nat_cmp) n m.kind (named c.loop-i.items.items)) c.in_ok-name.ensures c.meta_of-kind.ensures)
-        (subst (λ k. AreItemsBehind c.args.front.now (drop k c.args.things.now) c.loop-i.items.items) further c.loop-i.invariant.items);
+          c.in-Some.ensures.0 (sym c.as_str.ensures ∙ c.in-Some.ensures.1)
+          (c.in_ok-put_item.ensures ∙ ap₂ (λ n m. put (slice_cmp nat_cmp) n m.kind (named c.loop-i.items.items)) c.in_ok-name.ensures c.meta_of-kind.ensures)
+          (subst (λ k. AreItemsBehind c.args.front.now (drop k c.args.things.now) c.loop-i.items.items) further c.loop-i.invariant.items);
     }
 
 pub loop-i-preserved : goal.loop-i-preserved
@@ -30,8 +30,8 @@ loop-i-preserved c =
       inside = omega (arith, c.loop-i.invariant.inside);
       order = c.loop-i.invariant.order;
       items = thing_passed c.args.front.now c.args.things.now (c.loop-i.i - 1) c.index-things-i.result c.loop-i.items.items inside c.index-things-i.is
-        (λ name isname at. c.in_default.ensures name isname (c.as_str.ensures ∙ at))
-        (subst (λ k. AreItemsBehind c.args.front.now (drop k c.args.things.now) c.loop-i.items.items) further c.loop-i.invariant.items);
+          (λ name isname at. c.in_default.ensures name isname (c.as_str.ensures ∙ at))
+          (subst (λ k. AreItemsBehind c.args.front.now (drop k c.args.things.now) c.loop-i.items.items) further c.loop-i.invariant.items);
     }
 
 pub returns-clause-items : goal.returns-clause-items
