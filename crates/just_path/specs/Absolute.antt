@@ -1,5 +1,5 @@
 -- The absolute path of a text.
-use Rattle.std.specs.Prelude.{ℕ, ◌≡◌, ◌==◌, ◌&&◌, Bool, true, false, not, if◌then◌else◌, List, [], ◌∷◌, map, fold, Option, Result, Ok, Err}
+use Rattle.std.specs.Prelude.{ℕ, ◌≡◌, ◌==◌, ◌&&◌, Bool, false, not, if◌then◌else◌, List, [], ◌∷◌, map, fold, Option, Result, Ok, Err}
 use Rattle.just_path.specs.Path.{is_absolute, ends_open, pushed}
 use Rattle.just_path.specs.Comps.{names, comp_text}
 use Rattle.just_path.specs.Host.{note_of}

@@ -1,14 +1,13 @@
 -- What is made of a host's answer when a path is asked about.
-use Rattle.std.specs.Prelude.{ℕ, ◌≡◌, Bool, true, false, List, Option, Some, None, is_some, Result, Ok, Err}
+use Rattle.std.specs.Prelude.{ℕ, ◌≡◌, Bool, true, false, List, Option, Result, Ok, Err}
 use Rattle.just_path.specs.Host.{note_of}
-use Rattle.just_path.specs.View.{View, Tells, meta_told, current_told}
+use Rattle.just_path.specs.View.{View, Tells, meta_told}
 use Rattle.just_path.specs.declared.host.Miss.TheVariants as miss
 use Rattle.just_path.specs.declared.host.PathCall.TheVariants as path_call
 use Rattle.just_path.specs.declared.host.PathFault.{PathFault}
 use Rattle.just_path.specs.declared.host.PathFault.TheVariants as fault
 use Rattle.just_path.specs.declared.host.PathNote.{PathNote}
 use Rattle.just_path.specs.declared.memory.NoMemory.{NoMemory}
-use Rattle.just_path.specs.declared.meta.Kind.{Kind}
 use Rattle.just_path.specs.declared.meta.Meta.{Meta}
 
 -- one call of `meta` decides: the host answered so, and the result is made of that answer

@@ -1,12 +1,10 @@
 -- The entries of a listed folder.
-use Rattle.std.specs.Prelude.{ℕ, List, Option, Some, None, map, reverse, Result, Ok, Err, ◌≡◌}
+use Rattle.std.specs.Prelude.{ℕ, List, Option, Some, None, map, reverse, Ok, ◌≡◌}
 use Rattle.just_path.specs.Path.{pushed}
-use Rattle.just_path.specs.Host.{note_of}
 use Rattle.just_path.specs.View.{View, AreInOrder, AreItemsOf, ToldFault, folder_told}
 use Rattle.just_path.specs.declared.directory.ReadDirUtf8.{ReadDirUtf8}
 use Rattle.just_path.specs.declared.directory.Utf8DirEntry.{Utf8DirEntry}
 use Rattle.just_path.specs.declared.host.PathFault.{PathFault}
-use Rattle.just_path.specs.declared.host.PathFault.TheVariants as fault
 use Rattle.just_path.specs.declared.meta.Item.{Item}
 
 -- the entry of an item: its path is the folder's, with the name pushed
