@@ -1,5 +1,5 @@
 -- What a name is behind a folder's front.
-use Rattle.std.proofs.Common.{◌≡◌, ◌==◌, ◌&&◌, ◌||◌, ◌≢◌, if◌then◌else◌, ◌<◌, ◌+◌, Bool, true, false, not, cond, ℕ, List, [], ◌∷◌, ◌++◌, length, get_or, drop, Option, Some, None, option_map, refl, sym, ap, subst, ◌∙◌, append_assoc, append-nil, arith, bytes_eq}
+use Rattle.std.proofs.Common.{◌≡◌, ◌==◌, ◌||◌, ◌≢◌, if◌then◌else◌, ◌<◌, ◌+◌, Bool, true, false, not, cond, ℕ, List, [], ◌∷◌, ◌++◌, length, get_or, drop, Option, Some, None, option_map, refl, sym, ap, subst, ◌∙◌, append_assoc, append-nil, bytes_eq}
 use Rattle.std.specs.List.{list_any}
 use Rattle.std.specs.Ordering.{nat_cmp, eq_by_cmp}
 use Rattle.std.specs.Cmp.Lexicographic.{slice_cmp}
@@ -10,7 +10,7 @@ use Rattle.std.proofs.lemmas.List.{append_cancel_left}
 use Rattle.std.proofs.lemmas.Map.Text.{is_eq-slice_cmp}
 use Rattle.std.proofs.lemmas.Slice.Eq.{bytes_eq-Decides}
 use Rattle.just_path.specs.Path.{pushed, is_absolute, ends_open}
-use Rattle.just_path.specs.View.{named, is_name, kind_in, meta_of, sight, AreItemsOf}
+use Rattle.just_path.specs.View.{named, is_name, meta_of, sight, AreItemsOf}
 use Rattle.just_path.specs.declared.meta.Item.{Item}
 use Rattle.just_path.specs.declared.meta.Kind.{Kind}
 use Rattle.just_host.specs.declared.tree.Thing.{Thing}

@@ -3,7 +3,7 @@ use Rattle.std.proofs.Common.{◌≡◌, ◌==◌, ◌&&◌, if◌then◌else◌
 use Rattle.std.specs.List.{list_any, range_with_len}
 use Rattle.std.specs.Ordering.{nat_cmp, eq_by_cmp}
 use Rattle.std.specs.Cmp.Lexicographic.{slice_cmp}
-use Rattle.std.specs.FinMap.{find, get, entries, from_entries, get-from_entries, get-entries}
+use Rattle.std.specs.FinMap.{find, get, entries, get-from_entries, get-entries}
 use Rattle.std.proofs.lemmas.Cmp.{nat_list_cmp_total}
 use Rattle.just_path.specs.View as view
 use Rattle.just_path.specs.View.{meta_of, meta_told, sight, led, link_told, sees_file}

@@ -1,9 +1,8 @@
 -- The world of a host, as its paths see it.
-use Rattle.std.specs.Prelude.{ℕ, List, length, map, false}
+use Rattle.std.specs.Prelude.{length, map, false}
 use Rattle.std.specs.FinMap.{from_entries, entries}
 use Rattle.just_path.specs.View.{Sight, thing, link, Sights, View}
 use Rattle.just_path.specs.declared.meta.Kind.TheVariants as kind
-use Rattle.just_path.specs.declared.meta.Meta.{Meta}
 use Rattle.just_host.specs.declared.tree.Thing.{Thing}
 use Rattle.just_host.specs.declared.tree.Thing.TheVariants as things
 use Rattle.just_host.specs.World.{Tree, World}

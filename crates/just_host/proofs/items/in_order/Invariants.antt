@@ -1,5 +1,4 @@
 -- The items so far are in order.
-use Rattle.std.specs.Vec.Iter.{into_iter_items}
 use Rattle.just_path.specs.View.{AreInOrder}
 use Rattle.just_host.proofs.items.in_order.Given as goal
 

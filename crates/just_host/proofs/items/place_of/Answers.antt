@@ -1,5 +1,4 @@
-use Rattle.std.proofs.Common.{◌≡◌, ◌-◌, ◌<◌, true, false, length, sym, ap, ◌∙◌, arith}
-use Rattle.std.specs.Ordering.{is_gt}
+use Rattle.std.proofs.Common.{◌-◌, ◌<◌, length, sym, ◌∙◌, arith}
 use Rattle.just_host.proofs.Places.{place_found, place_passed}
 use Rattle.just_host.proofs.items.place_of.Goals as goal
 

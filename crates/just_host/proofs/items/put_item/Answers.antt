@@ -1,7 +1,6 @@
-use Rattle.std.proofs.Common.{◌≡◌, ◌<◌, true, false, length, bytes_eq, List, ap, ◌∙◌, arith}
+use Rattle.std.proofs.Common.{◌≡◌, ◌<◌, true, length, bytes_eq, ap, ◌∙◌, arith}
 use Rattle.std.proofs.lemmas.Grind.{common_steps}
 use Rattle.just_path.specs.View.{named}
-use Rattle.just_path.specs.declared.meta.Item.{Item}
 use Rattle.just_host.proofs.Places.{put_between, put_over, placed}
 use Rattle.just_host.proofs.items.put_item.Goals as goal
 use Rattle.just_host.proofs.items.put_item.Goals.{else-at-len-via-then-at-len+else-eq, else-at-len-via-else-at-len}

@@ -2,8 +2,7 @@ use Rattle.std.proofs.Common.{◌≡◌, ◌+◌, ◌-◌, ◌<◌, length, drop
 use Rattle.std.specs.Ordering.{nat_cmp}
 use Rattle.std.specs.Cmp.Lexicographic.{slice_cmp}
 use Rattle.std.specs.FinMap.Entries.{put}
-use Rattle.just_path.specs.View.{named, meta_of}
-use Rattle.just_host.specs.Sights.{sight_of}
+use Rattle.just_path.specs.View.{named}
 use Rattle.just_host.specs.Items.{AreItemsBehind}
 use Rattle.just_host.proofs.Places.{order_put}
 use Rattle.just_host.proofs.Behind.{thing_passed, thing_put}
