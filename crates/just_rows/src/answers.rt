@@ -1,7 +1,7 @@
 //! Each public call that may want memory, called once with ample memory.
 
+use crate::host_paths::path_calls_answer;
 use crate::hosts::host;
-use crate::paths::path_calls_answer;
 use just_cli::{Ended, run_with};
 use just_host::{Host, MemHost, Plot, Stream};
 use just_lang::{Source, assemble, body_lines, closure, dependencies, invocations, parse};

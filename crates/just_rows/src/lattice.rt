@@ -16,8 +16,8 @@ const WIDEST: u32 = 14;
 
 const RECIPES: u32 = 200;
 
-/// No chain of priors is longer.
-const DEEPEST: u32 = 31;
+/// Each recipe is begun once and listed once.
+const STEPS: u32 = 400;
 
 fn width(layer: u32) -> u32 {
     if layer < WIDEST {
@@ -82,23 +82,36 @@ fn justfile(alloc: Global, priors: &[Vec<u32>]) -> Result<String, NoMemory> {
     Ok(text)
 }
 
-/// The visit of a recipe: nothing where it is listed already; else the visits of its priors, and then itself.
-fn visit(
-    priors: &[Vec<u32>],
-    recipe: u32,
-    deepest: u32,
-    listed: &mut Vec<u32>,
-) -> Result<(), NoMemory> {
-    if deepest == 0 || listed.contains(&recipe) {
-        return Ok(());
-    }
-    if let Some(below) = priors.get(recipe as usize) {
-        for prior in below.iter() {
-            visit(priors, *prior, deepest - 1, listed)?;
+/// The first prior of a recipe that isn't listed yet.
+fn unlisted(priors: &[Vec<u32>], recipe: u32, listed: &[u32]) -> Option<u32> {
+    let below = priors.get(recipe as usize)?;
+    for prior in below.iter() {
+        if !listed.contains(prior) {
+            return Some(*prior);
         }
     }
-    listed.push(recipe)?;
-    Ok(())
+    None
+}
+
+/// The visits of a recipe: those of its priors, in their order and each once, and then itself. A recipe is visited when
+/// each prior before it is listed, and it is listed when all of its own are.
+fn visits(alloc: Global, priors: &[Vec<u32>], recipe: u32) -> Result<Vec<u32>, NoMemory> {
+    let mut listed = Vec::new(alloc);
+    let mut begun = Vec::new(alloc);
+    begun.push(recipe)?;
+    for _ in 0..STEPS {
+        let Some(last) = begun.last().copied() else {
+            return Ok(listed);
+        };
+        match unlisted(priors, last, listed.as_slice()) {
+            Some(prior) => begun.push(prior)?,
+            None => {
+                let _ = begun.pop();
+                listed.push(last)?;
+            }
+        }
+    }
+    Ok(listed)
 }
 
 /// The events of a run in which each of so many nodes has one command that ends well.
@@ -149,8 +162,7 @@ fn lattice_of_two_hundred_recipes(rt: HostRuntime) -> Result<(), Fail> {
     let alloc = rt.alloc();
     let priors = lattice(alloc)?;
     assert_eq!(rt; priors.len(), 200);
-    let mut listed = Vec::new(alloc);
-    visit(priors.as_slice(), 0, DEEPEST, &mut listed)?;
+    let listed = visits(alloc, priors.as_slice(), 0)?;
     assert_eq!(rt; listed.len(), 200);
     let text = justfile(alloc, priors.as_slice())?;
     let host = host(alloc, text.as_str(), Plot::new(alloc))?;

@@ -16,4 +16,6 @@ mod paths;
 #[cfg(test)]
 mod refusals;
 #[cfg(test)]
+mod requests;
+#[cfg(test)]
 mod runs;

@@ -40,6 +40,7 @@ returns-in-Err-drive-clause-answered g c = answered _ _ _ (search rules) (return
 
 pub returns-in-Err-clause-answered : goal.returns-in-Err-clause-answered
 returns-in-Err-clause-answered g c = answered _ _ _ (search rules) (search rules)
+
 pub returns-in-Some-clause-favoured : goal.returns-in-Some-clause-favoured
 returns-in-Some-clause-favoured g c = memory_wanted _ _ _ (returns-in-Some-clause-failed g c)
 
