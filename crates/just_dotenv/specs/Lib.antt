@@ -3,4 +3,3 @@ pub mod Grammar
 pub mod Meaning
 pub mod File
 pub mod Readers
-pub mod Texts

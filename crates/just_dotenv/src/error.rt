@@ -1,5 +1,4 @@
-ghost use Rattle.std.specs.Prelude.{◌≡◌, Some};
-ghost use Rattle.just_dotenv.specs.Texts.{error_text};
+ghost use Rattle.std.specs.Prelude.{◌≡◌};
 
 use std::alloc::{AllocError, AllocFailed};
 use std::error::Error;
@@ -42,8 +41,6 @@ impl<T: Drop> From<AllocFailed<T>> for DotenvError {
 }
 
 impl fmt::Display for DotenvError {
-    ghost output = { λ e. Some (error_text e) };
-
     fn fmt<W: fmt::Write>(&self, f: &mut fmt::Formatter<W>) -> fmt::Result {
         match self {
             DotenvError::Line(line) => write!(f, "line {line}"),
