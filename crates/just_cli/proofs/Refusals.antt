@@ -75,8 +75,8 @@ no_form words word told e breaks (inl is) = ∣ subst (λ x. RefusedFor words to
 no_form words word told e breaks (inr is) = ∣ subst (λ x. RefusedFor words told x) (sym is) no_memory ∣₁
 
 -- no current folder
-pub no_folder : (words : List (List ℕ)) (name : List ℕ) (told : Option World) (e : Error) → AsksFor words name → IsFolderFault e → ∥ RefusedFor words told e ∥₁
-no_folder words name told e asks (inl (m, is)) = ∣ subst (λ x. RefusedFor words told x) (sym is) (by_host _ (folder_missed name m asks)) ∣₁
+pub no_folder : (words : List (List ℕ)) (name : List ℕ) (told : Option World) (e : Error) → AsksFor words name → IsFolderFault told e → ∥ RefusedFor words told e ∥₁
+no_folder words name told e asks (inl (m, untold, is)) = ∣ subst (λ x. RefusedFor words told x) (sym is) (by_host _ (folder_missed name m asks untold)) ∣₁
 no_folder words name told e asks (inr (inl is)) = ∣ subst (λ x. RefusedFor words told x) (sym is) (by_host _ (folder_failed name asks)) ∣₁
 no_folder words name told e asks (inr (inr is)) = ∣ subst (λ x. RefusedFor words told x) (sym is) no_memory ∣₁
 

@@ -1,7 +1,7 @@
 -- What a run leaves, from what its drive kept.
-use Rattle.std.proofs.Common.{◌≡◌, ◌++◌, inl, inr, false, true≢false, refl, ℤ, List, Option, Some, None, Result, Err, sym, ◌∙◌, ap, subst, append_assoc}
+use Rattle.std.proofs.Common.{◌≡◌, ◌++◌, inl, inr, false, ℤ, List, Option, Some, None, Result, Err, sym, ◌∙◌, ap, subst, append_assoc}
 use Rattle.std.specs.Prelude.{IfErr, MatchOption}
-use Rattle.std.proofs.Math.Logic.{∥∥₁_map, ∥∥₁_elim}
+use Rattle.std.proofs.Math.Logic.{∥∥₁_map}
 use Rattle.just_host.specs.World.{World}
 use Rattle.just_host.specs.declared.entry.Entry.{Entry}
 use Rattle.just_sched.specs.declared.event.Event.{Event}
@@ -10,8 +10,8 @@ use Rattle.just_sched.specs.declared.event.Idle.{Idle}
 use Rattle.just_sched.specs.declared.event.Verdict.{Verdict}
 use Rattle.just_sched.specs.declared.event.Verdict.TheVariants as verdict
 use Rattle.just_sched.specs.declared.plan_node.PlanNode.{PlanNode}
-use Rattle.just_sched.specs.Idle.{IsIdle, HasWork}
-use Rattle.just_sched.specs.Legal.{Run, IsLegal, IsClosed, IsComplete, open_bodies}
+use Rattle.just_sched.specs.Idle.{IsIdle}
+use Rattle.just_sched.specs.Legal.{Run, IsClosed}
 use Rattle.just_sched.specs.State.{caught}
 use Rattle.just_sched.specs.Verdict.{IsVerdict, NoneDecides}
 use Rattle.just_sched.proofs.Ended.{all_done, no_work}
@@ -21,7 +21,7 @@ use Rattle.just_sched.specs.Start.{Kept as IsKept}
 use Rattle.just_cli.specs.declared.ended.Failure.{Failure}
 use Rattle.just_cli.specs.declared.ended.Report.{Report}
 use Rattle.just_cli.specs.declared.error.Error.{Error}
-use Rattle.just_cli.specs.Ran.{Ran, Fell, Refused, IsTold, run_over}
+use Rattle.just_cli.specs.Ran.{Ran, Fell, Refused, IsTold, entries_of, run_over}
 use Rattle.just_cli.proofs.Caused.{caused, memory_left}
 
 -- where there is no error, no node's failure decides
@@ -77,3 +77,12 @@ fell_ill r e plan driven h shown code first old now new w v verdict is plan_is o
     let decided_here = subst (λ k. IsErrorFor driven.nodes k verdict (Some e)) shown_is (subst (λ p. IsErrorFor p.nodes shown verdict (Some e)) plan_is decided) in
     subst (λ q. IfErr q (λ f. MatchOption f.plan (∥ Refused f.error first new ∥₁) (λ p. ∥ Fell p f.history f.error first new ∥₁))) (sym is)
     (subst (λ p. ∥ Fell p h e first new ∥₁) (sym plan_is) (subst (λ es. ∥ Fell driven h e es new ∥₁) old_is (fell_over driven h old now w v kept closed e verdict new calm idle judged decided_here told)))
+
+-- a refusal before the run leaves the entry of the refused call, and the error told behind it
+pub refused_ill : (r : Result Report Failure) (e : Error) (h : List Event) (code : ℤ) (old now new : List Entry)
+    → r ≡ Err (record { error = e; plan = None; history = h; code = code })
+    → now ≡ old ++ entries_of e → (es : List Entry) × (new ≡ now ++ es) × IsTold e es
+    → IfErr r (λ f. MatchOption f.plan (∥ Refused f.error old new ∥₁) (λ p. ∥ Fell p f.history f.error old new ∥₁))
+refused_ill r e h code old now new is grew told =
+    subst (λ q. IfErr q (λ f. MatchOption f.plan (∥ Refused f.error old new ∥₁) (λ p. ∥ Fell p f.history f.error old new ∥₁))) (sym is)
+    ∣ record { post = told.0; grew = told.1 ∙ (ap (λ es. es ++ told.0) grew ∙ append_assoc old (entries_of e) told.0); told = told.2 } ∣₁

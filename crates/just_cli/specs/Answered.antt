@@ -1,5 +1,6 @@
 -- The answer to a request, over a told world.
-use Rattle.std.specs.Prelude.{ℕ, ◌≡◌, ◌⊎◌, List, Option, None, Result, MatchOption, MatchResult}
+use Rattle.std.specs.Prelude.{ℕ, ◌≡◌, ◌⊎◌, List, Option, None, Result, IfErr, MatchOption, MatchResult}
+use Rattle.just_host.specs.declared.entry.Entry.{Entry}
 use Rattle.just_host.specs.World.{World}
 use Rattle.just_sched.specs.declared.plan.Plan.{Plan}
 use Rattle.just_sched.specs.declared.plan_node.PlanNode.{PlanNode}
@@ -7,6 +8,7 @@ use Rattle.just_cli.specs.declared.ended.Failure.{Failure}
 use Rattle.just_cli.specs.declared.ended.Report.{Report}
 use Rattle.just_cli.specs.declared.error.Error.{Error}
 use Rattle.just_cli.specs.declared.error.Error.TheVariants as error
+use Rattle.just_cli.specs.Ran.{Hindered}
 use Rattle.just_cli.specs.Request.{AsksRun, Refuses, HostRefuses}
 
 -- the plan has these nodes and invocations
@@ -24,3 +26,7 @@ pub record IsAnswered (words : List (List ℕ)) (told : Option World) (answer : 
       MatchResult answer (λ r. HasNodes nodes invocations r.plan) (λ f. MatchOption f.plan (∥ IsBeside words told f.error ∥₁) (λ p. HasNodes nodes invocations p)))
   pub denied : MatchOption told (Unit {0}) (λ w. (e : Error) → Refuses words w e →
       MatchResult answer (λ r. ⊥) (λ f. (f.plan ≡ None) × ∥ (f.error ≡ e) ⊎ IsBeside words told f.error ∥₁))
+
+-- Over a told world a request that is a run ends well, unless memory is wanting or the record shows what stood against it.
+abbrev pub IsServed : List (List ℕ) → Option World → Result Report Failure → List Entry → List Entry → Type 0
+IsServed words told answer old new = MatchOption told (Unit {0}) (λ w. (nodes : List PlanNode) (invocations : List ℕ) → AsksRun words w nodes invocations → IfErr answer (λ f. ∥ (f.error ≡ error.NoMemory) ⊎ Hindered f old new ∥₁))

@@ -1,9 +1,11 @@
 -- What a run leaves in its host's record.
-use Rattle.std.specs.Prelude.{◌≡◌, ◌++◌, ◌⊎◌, true, false, List, [], ◌∷◌, Some, None}
+use Rattle.std.specs.Prelude.{ℕ, ◌≡◌, ◌++◌, ◌⊎◌, true, false, List, [], ◌∷◌, Some, None}
 use Rattle.std.specs.List.{list_any}
+use Rattle.just_host.specs.declared.entry.Call.{Call}
 use Rattle.just_host.specs.declared.entry.Call.TheVariants as call
 use Rattle.just_host.specs.declared.entry.Entry.{Entry}
 use Rattle.just_host.specs.declared.entry.Entry.TheVariants as entry
+use Rattle.just_host.specs.declared.entry.HostFault.TheVariants as fault
 use Rattle.just_host.specs.declared.entry.Stream.TheVariants as stream
 use Rattle.just_host.specs.Record.{children, refused, is_failed, is_started}
 use Rattle.just_sched.specs.declared.event.Event.{Event}
@@ -16,6 +18,7 @@ use Rattle.just_sched.specs.Match.{Matches}
 use Rattle.just_sched.specs.Verdict.{IsVerdict, NoneDecides}
 use Rattle.just_cli.specs.Caused.{IsCaused}
 use Rattle.just_cli.specs.Outcome.{IsErrorFor}
+use Rattle.just_cli.specs.declared.ended.Failure.{Failure}
 use Rattle.just_cli.specs.declared.error.Error.{Error}
 use Rattle.just_cli.specs.declared.error.Error.TheVariants as error
 use Rattle.just_cli.specs.Texts.{error_text, prints}
@@ -77,3 +80,9 @@ pub record Refused (e : Error) (old new : List Entry) : Type 0 where
   pub post : List Entry
   pub grew : new ≡ old ++ (entries_of e ++ post)
   pub told : IsTold e post
+
+-- What a record shows that stood against a run: before its plan a failed call of the host; or in the stretch of its book an
+-- entry that isn't favourable.
+pub data Hindered (f : Failure) (old new : List Entry) : Type 0 where
+  before : (path : List ℕ) (c : Call) (post : List Entry) → f.plan ≡ None → f.error ≡ error.FilesystemIo path (fault.Failed c) → new ≡ old ++ (entry.Failed c ∷ post) → Hindered f old new
+  within : (p : Plan) (mid post : List Entry) → f.plan ≡ Some p → Kept p f.history old mid → new ≡ old ++ (mid ++ post) → (IsFavourable mid → ⊥) → Hindered f old new

@@ -90,9 +90,10 @@ abbrev pub IsAsked : List (List ℕ) → Option World → Plan → Type 0
 IsAsked words told p = ∥ InWorld told (λ w. AsksRun words w p.nodes p.invocations) ∥₁
 
 -- A call of the host that the request needs has no answer, by no fault of the request: that of the current folder, or that
--- of reading the justfile there. A miss of the justfile is one only where no world is told that would show it.
+-- of reading the justfile there. A miss is one only where no world is told: a told world has a current folder, and shows
+-- what is at the justfile's path.
 pub data HostRefuses (words : List (List ℕ)) (told : Option World) : Error → Type 0 where
-  folder_missed : (name : List ℕ) (m : Miss) → AsksFor words name → HostRefuses words told (error.FilesystemIo [] (fault.Missed m))
+  folder_missed : (name : List ℕ) (m : Miss) → AsksFor words name → told ≡ None → HostRefuses words told (error.FilesystemIo [] (fault.Missed m))
   folder_failed : (name : List ℕ) → AsksFor words name → HostRefuses words told (error.FilesystemIo [] (fault.Failed call.Current))
   read_missed : (name folder : List ℕ) (m : Miss) → AsksFor words name → told ≡ None → HostRefuses words told (error.FilesystemIo (justfile_in folder) (fault.Missed m))
   read_failed : (name folder : List ℕ) → AsksFor words name → MatchOption told (Unit {0}) (λ w. folder ≡ w.current) → HostRefuses words told (error.FilesystemIo (justfile_in folder) (fault.Failed call.Read))
@@ -121,9 +122,9 @@ error_of_lang lang.NoMemory = error.NoMemory
 abbrev pub IsNotBuilt : List ℕ → Error → Type 0
 IsNotBuilt word e = (e ≡ error.Usage (record { kind = usage.NotBuilt; word = word })) ⊎ (e ≡ error.NoMemory)
 
--- the error of a refused call for the current folder
-abbrev pub IsFolderFault : Error → Type 0
-IsFolderFault e = ((m : Miss) × (e ≡ error.FilesystemIo [] (fault.Missed m))) ⊎ ((e ≡ error.FilesystemIo [] (fault.Failed call.Current)) ⊎ (e ≡ error.NoMemory))
+-- the error of a refused call for the current folder: it is no miss over a told world
+abbrev pub IsFolderFault : Option World → Error → Type 0
+IsFolderFault told e = ((m : Miss) × (told ≡ None) × (e ≡ error.FilesystemIo [] (fault.Missed m))) ⊎ ((e ≡ error.FilesystemIo [] (fault.Failed call.Current)) ⊎ (e ≡ error.NoMemory))
 
 -- the error of a refused read of a folder's justfile: over a told world a miss is one that its tree shows
 abbrev pub IsReadFault : Option World → List ℕ → Error → Type 0

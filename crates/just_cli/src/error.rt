@@ -1,5 +1,6 @@
 ghost use Rattle.std.specs.Prelude.{◌≡◌, ◌++◌, codes, Some, IfOk, string_bytes};
 ghost use Rattle.std.specs.Fmt.{DisplaysOnOk, signed_decimal};
+ghost use Rattle.just_cli.specs.declared.error.Error.{Error};
 ghost use Rattle.just_cli.specs.Texts.{error_text, code_of, prints, miss_text, fault_text, kind_text, usage_text, line_text, failed_text, terminated_text};
 
 use just_host::HostFault;
@@ -122,31 +123,53 @@ fn tell_signal<W: fmt::Write>(signal: &i32, f: &mut fmt::Formatter<W>) -> fmt::R
     write!(f, " by signal {signal}")
 }
 
+fn tell_usage<W: fmt::Write>(usage: &Usage, f: &mut fmt::Formatter<W>) -> fmt::Result
+    ensures { DisplaysOnOk W.write_str_gives f.old result (Some (error_text (Error.Usage usage.now))) f.new }
+{
+    write!(
+        f,
+        "error: usage: {} `{}`",
+        usage_text(usage.kind),
+        usage.word.as_str()
+    )
+}
+
+fn tell_io<W: fmt::Write>(
+    path: &Utf8PathBuf,
+    io: &HostFault,
+    f: &mut fmt::Formatter<W>,
+) -> fmt::Result
+    ensures { DisplaysOnOk W.write_str_gives f.old result (Some (error_text (Error.FilesystemIo path.now io.now))) f.new }
+{
+    write!(
+        f,
+        "error: I/O error at `{}`: {}",
+        path.as_str(),
+        fault_text(*io)
+    )
+}
+
+fn tell_compile<W: fmt::Write>(error: &CompileError, f: &mut fmt::Formatter<W>) -> fmt::Result
+    ensures { DisplaysOnOk W.write_str_gives f.old result (Some (error_text (Error.Compile error.now))) f.new }
+{
+    write!(
+        f,
+        "error: {} at {}:{}:{}",
+        kind_text(error.kind),
+        error.path.as_str(),
+        error.line,
+        error.column
+    )
+}
+
 impl fmt::Display for Error {
     ghost output = { λ e. Some (error_text e) };
 
     fn fmt<W: fmt::Write>(&self, f: &mut fmt::Formatter<W>) -> fmt::Result {
         match self {
-            Error::Usage(usage) => write!(
-                f,
-                "error: usage: {} `{}`",
-                usage_text(usage.kind),
-                usage.word.as_str()
-            ),
-            Error::FilesystemIo { path, io } => write!(
-                f,
-                "error: I/O error at `{}`: {}",
-                path.as_str(),
-                fault_text(*io)
-            ),
-            Error::Compile(error) => write!(
-                f,
-                "error: {} at {}:{}:{}",
-                kind_text(error.kind),
-                error.path.as_str(),
-                error.line,
-                error.column
-            ),
+            Error::Usage(usage) => tell_usage(usage, f),
+            Error::FilesystemIo { path, io } => tell_io(path, io, f),
+            Error::Compile(error) => tell_compile(error, f),
             Error::UnknownRecipe { recipe } => write!(
                 f,
                 "error: justfile does not contain recipe `{}`",

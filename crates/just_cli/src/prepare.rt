@@ -42,7 +42,7 @@ fn current_folder<H: Host>(alloc: Global, host: &mut H) -> Result<Utf8PathBuf, E
     ensures grew { MatchResult result (λ _. H.entries host.new ≡ H.entries host.old) (λ e. H.entries host.new ≡ H.entries host.old ++ entries_of e) }
     ensures world { H.world host.new ≡ H.world host.old }
     ensures told { MatchOption (H.world host.old) (Unit {0}) (λ w. IfOk result (λ p. p ≡ w.current)) }
-    ensures refused { IfErr result IsFolderFault }
+    ensures refused { IfErr result (IsFolderFault (H.world host.old)) }
 {
     match host.current() {
         Ok(folder) => Ok(folder),

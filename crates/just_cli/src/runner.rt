@@ -5,7 +5,7 @@ ghost use Rattle.just_host.specs.Record.{faults_of, misses_of};
 ghost use Rattle.just_host.specs.declared.entry.Entry.{Entry};
 ghost use Rattle.just_sched.specs.Favourable.{IsFavourable};
 ghost use Rattle.just_sched.specs.declared.plan.Plan.{Plan};
-ghost use Rattle.just_cli.specs.Answered.{IsAnswered};
+ghost use Rattle.just_cli.specs.Answered.{IsAnswered, IsServed};
 ghost use Rattle.just_cli.specs.Caused.{is_fault, is_miss};
 ghost use Rattle.just_cli.specs.Ran.{Ran, Fell, Refused, IsQuiet, run_over};
 ghost use Rattle.just_cli.specs.Request.{IsAsked, RefusedFor};
@@ -38,6 +38,7 @@ pub fn run_with<R: Threads + Wait + Sync, H: Host + Send + Drop>(
     ensures refused { IfErr result.result (λ f. f.plan ≡ None → ∥ RefusedFor (map (λ x. x.now) words.now) (H.world host) f.error ∥₁) }
     ensures answered { IsAnswered (map (λ x. x.now) words.now) (H.world host) result.result }
     ensures failed { IfErr result.result (λ f. MatchOption f.plan (∥ Refused f.error (H.entries host) (H.entries result.host) ∥₁) (λ p. ∥ Fell p f.history f.error (H.entries host) (H.entries result.host) ∥₁)) }
+    ensures complete { IsServed (map (λ x. x.now) words.now) (H.world host) result.result (H.entries host) (H.entries result.host) }
     ensures unplanned { IfErr result.result (λ f. f.plan ≡ None → f.history ≡ []) }
     ensures code { IfErr result.result (λ f. f.code ≡ exit_code f.error) }
     ensures favoured { IfErr result.result (λ f. (p : Plan) → f.plan ≡ Some p → (es : List Entry) → H.entries result.host ≡ H.entries host ++ es → IsFavourable es → f.error ≡ Error.NoMemory) }

@@ -3,3 +3,4 @@ pub mod Grammar
 pub mod Meaning
 pub mod File
 pub mod Readers
+pub mod Texts

@@ -41,6 +41,11 @@ impl<T: Drop> From<AllocFailed<T>> for DotenvError {
 }
 
 impl fmt::Display for DotenvError {
+    ghost use Rattle.std.specs.Prelude.{Some};
+    ghost use Rattle.just_dotenv.specs.Texts.{error_text};
+
+    ghost output = { λ e. Some (error_text e) };
+
     fn fmt<W: fmt::Write>(&self, f: &mut fmt::Formatter<W>) -> fmt::Result {
         match self {
             DotenvError::Line(line) => write!(f, "line {line}"),

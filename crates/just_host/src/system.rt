@@ -1,4 +1,6 @@
 //! What the system tells of paths and of the environment. An error that is a miss has the kind of one.
+//! Nothing is claimed of what the system answers, so most of these functions have no clause.
+
 ghost use Rattle.std.specs.Prelude.{IfOk};
 ghost use Rattle.just_path.specs.View.{AreInOrder};
 
@@ -23,7 +25,8 @@ fn kind_of(file_type: &FileType) -> Kind {
     }
 }
 
-/// What stands at a path. The length of a folder is 0, as that of anything but files and links.
+/// What stands at a path. The length of a folder is 0, as that of anything but files and links. It has no clause, since
+/// nothing is claimed of what the system answers.
 pub fn look<R: Runtime>(rt: &R, path: &str, follow: bool) -> io::Result<Meta> {
     let data = if follow {
         fs::metadata(rt, path)?
@@ -80,14 +83,15 @@ fn found<R: Runtime>(rt: &R, alloc: Global, path: &str) -> io::Result<Vec<Item>>
     Ok(items)
 }
 
-/// The path at which a path is found.
+/// The path at which a path is found. It has no clause, since nothing is claimed of what the system answers.
 pub fn canonical<R: Runtime>(rt: &R, alloc: Global, path: &str) -> io::Result<String> {
     let pair = (rt, alloc);
     let found = fs::canonicalize(&pair, path)?;
     Ok(found.into_string())
 }
 
-/// The target of a link. Where something else stands, no link is found.
+/// The target of a link. Where something else stands, no link is found. It has no clause, since nothing is claimed of what
+/// the system answers.
 pub fn target<R: Runtime>(rt: &R, alloc: Global, path: &str) -> io::Result<String> {
     let pair = (rt, alloc);
     match fs::read_link(&pair, path) {
@@ -99,7 +103,7 @@ pub fn target<R: Runtime>(rt: &R, alloc: Global, path: &str) -> io::Result<Strin
     }
 }
 
-/// The pairs of the environment that are UTF-8.
+/// The pairs of the environment that are UTF-8. It has no clause, since nothing is claimed of what the system answers.
 pub fn pairs<E: Env>(env: &E, alloc: Global) -> Result<Seq<(Text, Text)>, NoMemory> {
     let mut pairs = Vec::new(alloc);
     for i in 0..usize::MAX {

@@ -34,7 +34,7 @@ fn folder_answers(rt: &impl Abort, alloc: Global, memory: &mut MemHost) -> Resul
     Ok(())
 }
 
-/// The calls of paths over a host.
+/// The calls of paths over a host. It has no clause, since it is a part of a test, and tests promise nothing.
 pub fn path_calls_answer(rt: &impl Abort, alloc: Global) -> Result<(), Fail> {
     let mut memory = host(alloc, "b:\n", Plot::new(alloc))?;
     file_answers(rt, &mut memory)?;

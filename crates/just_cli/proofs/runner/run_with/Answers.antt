@@ -5,7 +5,8 @@ use Rattle.just_cli.proofs.Refusals.{wants_memory}
 use Rattle.std.proofs.Common.{◌++◌, [], None, sym, ap, ◌∙◌, append-nil}
 use Rattle.just_sched.specs.Start.{begins}
 use Rattle.just_cli.proofs.Falls.{faults_rise, misses_rise, memory_wanted, world_left}
-use Rattle.just_cli.proofs.Runs.{ran_well, fell_ill}
+use Rattle.just_cli.proofs.Runs.{ran_well, fell_ill, refused_ill}
+use Rattle.just_cli.proofs.Served.{served}
 use Rattle.just_cli.proofs.runner.run_with.Goals as goal
 
 pub returns-in-None-clause-ran : goal.returns-in-None-clause-ran
@@ -40,6 +41,19 @@ returns-in-Err-drive-clause-answered g c = answered _ _ _ (search rules) (return
 
 pub returns-in-Err-clause-answered : goal.returns-in-Err-clause-answered
 returns-in-Err-clause-answered g c = answered _ _ _ (search rules) (search rules)
+
+pub returns-in-None-clause-complete : goal.returns-in-None-clause-complete
+returns-in-None-clause-complete g c = served _ _ _ [] [] (returns-in-None-clause-answered g c) tt
+
+pub returns-in-Some-clause-complete : goal.returns-in-Some-clause-complete
+returns-in-Some-clause-complete g c = served _ _ _ _ _ (returns-in-Some-clause-answered g c) (returns-in-Some-clause-failed g c)
+
+pub returns-in-Err-drive-clause-complete : goal.returns-in-Err-drive-clause-complete
+returns-in-Err-drive-clause-complete g c = served _ _ _ _ _ (returns-in-Err-drive-clause-answered g c)
+    (refused_ill _ _ _ _ _ _ _ c.fail-in-Err-drive.ensures.failed (c.in-Err-drive.ensures.back.0 ∙ c.in-Ok.ensures.grew ∙ sym (append-nil _)) c.fail-in-Err-drive.ensures.told)
+
+pub returns-in-Err-clause-complete : goal.returns-in-Err-clause-complete
+returns-in-Err-clause-complete g c = served _ _ _ _ _ (returns-in-Err-clause-answered g c) (refused_ill _ _ _ _ _ _ _ c.fail.ensures.failed c.in-Err.ensures.grew c.fail.ensures.told)
 
 pub returns-in-Some-clause-favoured : goal.returns-in-Some-clause-favoured
 returns-in-Some-clause-favoured g c = memory_wanted _ _ _ (returns-in-Some-clause-failed g c)
