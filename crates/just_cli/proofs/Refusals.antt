@@ -9,11 +9,11 @@ use Rattle.std.proofs.lemmas.Cmp.{nat_list_cmp_total}
 use Rattle.std.proofs.lemmas.Grind.{common_steps}
 use Rattle.std.proofs.lemmas.Map.Text.{is_eq-slice_cmp}
 use Rattle.std.proofs.lemmas.Slice.Eq.{bytes_eq-Decides}
-use Rattle.just_host.specs.declared.entry.HostFault.TheVariants as fault
-use Rattle.just_host.specs.declared.outside.TheConstants.{MAX_BYTES}
-use Rattle.just_host.specs.declared.tree.Thing.{Thing}
-use Rattle.just_host.specs.declared.tree.Thing.TheVariants as thing
-use Rattle.just_host.specs.World.{World, told_read, text_in, text_of_thing, followed}
+use Rattle.just_outside.specs.declared.entry.HostFault.TheVariants as fault
+use Rattle.just_outside.specs.declared.outside.TheConstants.{MAX_BYTES}
+use Rattle.just_outside.specs.declared.tree.Thing.{Thing}
+use Rattle.just_outside.specs.declared.tree.Thing.TheVariants as thing
+use Rattle.just_outside.specs.World.{World, told_read, text_in, text_of_thing, followed}
 use Rattle.just_lang.specs.declared.ast.Source.{Source}
 use Rattle.just_lang.specs.declared.error.LangError.{LangError}
 use Rattle.just_lang.specs.declared.error.LangError.TheVariants as lang

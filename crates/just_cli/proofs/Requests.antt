@@ -1,8 +1,8 @@
 -- A request is one: a run of one plan, or a refusal with one error.
 use Rattle.std.proofs.Common.{◌≡◌, ◌≤◌, ◌<◌, ℕ, List, [], ◌∷◌, length, Result, Ok, Err, refl, sym, ◌∙◌, ap, subst, arith}
 use Rattle.just_path.specs.declared.host.Miss.{Miss}
-use Rattle.just_host.specs.declared.entry.HostFault.TheVariants as fault
-use Rattle.just_host.specs.World.{World, told_read}
+use Rattle.just_outside.specs.declared.entry.HostFault.TheVariants as fault
+use Rattle.just_outside.specs.World.{World, told_read}
 use Rattle.just_lang.specs.declared.ast.AstItem.{AstItem}
 use Rattle.just_lang.specs.declared.error.CompileError.{CompileError}
 use Rattle.just_lang.specs.declared.error.LangError.TheVariants as lang

@@ -2,8 +2,8 @@
 use Rattle.std.proofs.Common.{◌≡◌, ◌++◌, inl, inr, false, ℤ, List, Option, Some, None, Result, Err, sym, ◌∙◌, ap, subst, append_assoc}
 use Rattle.std.specs.Prelude.{IfErr, MatchOption}
 use Rattle.std.proofs.Math.Logic.{∥∥₁_map}
-use Rattle.just_host.specs.World.{World}
-use Rattle.just_host.specs.declared.entry.Entry.{Entry}
+use Rattle.just_outside.specs.World.{World}
+use Rattle.just_outside.specs.declared.entry.Entry.{Entry}
 use Rattle.just_sched.specs.declared.event.Event.{Event}
 use Rattle.just_sched.specs.declared.plan.Plan.{Plan}
 use Rattle.just_sched.specs.declared.event.Idle.{Idle}

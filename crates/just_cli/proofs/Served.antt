@@ -3,9 +3,9 @@ use Rattle.std.proofs.Common.{◌≡◌, ◌⊎◌, inl, inr, ℕ, Bool, true, f
 use Rattle.std.specs.List.{list_all}
 use Rattle.std.proofs.Math.Logic.{∥∥₁_map, ∥∥₁_elim, ∥∥₁_prop}
 use Rattle.std.proofs.lemmas.List.Sums.{AllPass-from_list_all, list_all-from_AllPass}
-use Rattle.just_host.specs.World.{World}
-use Rattle.just_host.specs.declared.entry.Call.TheVariants as call
-use Rattle.just_host.specs.declared.entry.Entry.{Entry}
+use Rattle.just_outside.specs.World.{World}
+use Rattle.just_outside.specs.declared.entry.Call.TheVariants as call
+use Rattle.just_outside.specs.declared.entry.Entry.{Entry}
 use Rattle.just_sched.specs.Favourable.{is_favourable}
 use Rattle.just_sched.specs.declared.plan.Plan.{Plan}
 use Rattle.just_sched.specs.declared.plan_node.PlanNode.{PlanNode}

@@ -1,13 +1,13 @@
 -- What a record shows of the error of a run that failed.
 use Rattle.std.specs.Prelude.{ℕ, ◌≡◌, ◌≢◌, ◌⊎◌, Bool, true, false, pos, List, Contains, Option, Some, slice_get}
 use Rattle.just_path.specs.declared.host.Miss.{Miss}
-use Rattle.just_host.specs.declared.entry.Call.{Call}
-use Rattle.just_host.specs.declared.entry.Call.TheVariants as call
-use Rattle.just_host.specs.declared.entry.Entry.{Entry}
-use Rattle.just_host.specs.declared.entry.Entry.TheVariants as entry
-use Rattle.just_host.specs.declared.entry.HostFault.TheVariants as fault
-use Rattle.just_host.specs.declared.entry.Status.{Status}
-use Rattle.just_host.specs.declared.entry.Status.TheVariants as status
+use Rattle.just_outside.specs.declared.entry.Call.{Call}
+use Rattle.just_outside.specs.declared.entry.Call.TheVariants as call
+use Rattle.just_outside.specs.declared.entry.Entry.{Entry}
+use Rattle.just_outside.specs.declared.entry.Entry.TheVariants as entry
+use Rattle.just_outside.specs.declared.entry.HostFault.TheVariants as fault
+use Rattle.just_outside.specs.declared.entry.Status.{Status}
+use Rattle.just_outside.specs.declared.entry.Status.TheVariants as status
 use Rattle.just_sched.specs.declared.event.Event.{Event}
 use Rattle.just_sched.specs.declared.event.Event.TheVariants as event
 use Rattle.just_sched.specs.declared.plan_node.PlanNode.{PlanNode}

@@ -1,10 +1,10 @@
 -- The error of a node that failed.
 use Rattle.std.specs.Prelude.{ℕ, ◌≡◌, ◌-◌, ◌<◌, ◌⊎◌, true, List, [], length, slice_get, Option, Some, None}
 use Rattle.std.specs.List.{last_or}
-use Rattle.just_host.specs.declared.entry.HostFault.TheVariants as fault
-use Rattle.just_host.specs.declared.entry.Status.{Status}
-use Rattle.just_host.specs.declared.entry.Status.TheVariants as status
-use Rattle.just_host.specs.Record.{text_or_empty}
+use Rattle.just_outside.specs.declared.entry.HostFault.TheVariants as fault
+use Rattle.just_outside.specs.declared.entry.Status.{Status}
+use Rattle.just_outside.specs.declared.entry.Status.TheVariants as status
+use Rattle.just_outside.specs.Record.{text_or_empty}
 use Rattle.just_sched.specs.declared.event.Event.{Event}
 use Rattle.just_sched.specs.declared.event.Reason.{Reason}
 use Rattle.just_sched.specs.declared.event.Verdict.{Verdict}

@@ -1,13 +1,13 @@
 -- What a run leaves in its host's record.
 use Rattle.std.specs.Prelude.{ℕ, ◌≡◌, ◌++◌, ◌⊎◌, true, false, List, [], ◌∷◌, Some, None}
 use Rattle.std.specs.List.{list_any}
-use Rattle.just_host.specs.declared.entry.Call.{Call}
-use Rattle.just_host.specs.declared.entry.Call.TheVariants as call
-use Rattle.just_host.specs.declared.entry.Entry.{Entry}
-use Rattle.just_host.specs.declared.entry.Entry.TheVariants as entry
-use Rattle.just_host.specs.declared.entry.HostFault.TheVariants as fault
-use Rattle.just_host.specs.declared.entry.Stream.TheVariants as stream
-use Rattle.just_host.specs.Record.{children, refused, is_failed, is_started}
+use Rattle.just_outside.specs.declared.entry.Call.{Call}
+use Rattle.just_outside.specs.declared.entry.Call.TheVariants as call
+use Rattle.just_outside.specs.declared.entry.Entry.{Entry}
+use Rattle.just_outside.specs.declared.entry.Entry.TheVariants as entry
+use Rattle.just_outside.specs.declared.entry.HostFault.TheVariants as fault
+use Rattle.just_outside.specs.declared.entry.Stream.TheVariants as stream
+use Rattle.just_outside.specs.Record.{children, refused, is_failed, is_started}
 use Rattle.just_sched.specs.declared.event.Event.{Event}
 use Rattle.just_sched.specs.declared.event.Verdict.{Verdict}
 use Rattle.just_sched.specs.declared.plan.Plan.{Plan}

@@ -4,10 +4,10 @@ use Rattle.just_path.specs.Path.{pushed}
 use Rattle.just_path.specs.declared.host.Miss.{Miss}
 use Rattle.just_path.specs.declared.host.PathFault.{PathFault}
 use Rattle.just_path.specs.declared.host.PathFault.TheVariants as path_fault
-use Rattle.just_host.specs.declared.entry.Call.TheVariants as call
-use Rattle.just_host.specs.World.{World, told_read}
-use Rattle.just_host.specs.declared.entry.HostFault.{HostFault}
-use Rattle.just_host.specs.declared.entry.HostFault.TheVariants as fault
+use Rattle.just_outside.specs.declared.entry.Call.TheVariants as call
+use Rattle.just_outside.specs.World.{World, told_read}
+use Rattle.just_outside.specs.declared.entry.HostFault.{HostFault}
+use Rattle.just_outside.specs.declared.entry.HostFault.TheVariants as fault
 use Rattle.just_lang.specs.declared.ast.AstItem.{AstItem}
 use Rattle.just_lang.specs.declared.ast.Source.{Source}
 use Rattle.just_lang.specs.declared.error.CompileError.{CompileError}

@@ -3,8 +3,8 @@ use Rattle.std.specs.Prelude.{ℕ, ◌++◌, ◌+ℤ◌, ℤ, pos, Bool, true, L
 use Rattle.std.specs.Fmt.{signed_decimal}
 use Rattle.just_path.specs.declared.host.Miss.{Miss}
 use Rattle.just_path.specs.declared.host.Miss.TheVariants as miss
-use Rattle.just_host.specs.declared.entry.HostFault.{HostFault}
-use Rattle.just_host.specs.declared.entry.HostFault.TheVariants as fault
+use Rattle.just_outside.specs.declared.entry.HostFault.{HostFault}
+use Rattle.just_outside.specs.declared.entry.HostFault.TheVariants as fault
 use Rattle.just_lang.specs.declared.error.CompileKind.{CompileKind}
 use Rattle.just_lang.specs.declared.error.CompileKind.TheVariants as kind
 use Rattle.just_lang.specs.declared.usage.UsageKind.{UsageKind}

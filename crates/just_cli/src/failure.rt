@@ -1,7 +1,7 @@
 //! What a run answers that doesn't end well: its error, what is told of it, and its exit code.
 
 ghost use Rattle.std.specs.Prelude.{◌≡◌, ◌++◌, ◌∷◌, [], List, Option, Some, None, IfOk, string_bytes};
-ghost use Rattle.just_host.specs.declared.entry.Entry.{Entry};
+ghost use Rattle.just_outside.specs.declared.entry.Entry.{Entry};
 ghost use Rattle.just_cli.specs.Texts.{error_text, exit_code as code_for};
 ghost use Rattle.just_cli.specs.Ran.{IsTold};
 

@@ -3,7 +3,7 @@
 ghost use Rattle.std.specs.Prelude.{◌≡◌, ◌⊎◌, ◌<◌, List, Option, Some, None, length, IfOk};
 ghost use Rattle.std.specs.Option.{option_copied};
 ghost use Rattle.std.specs.List.{last_or};
-ghost use Rattle.just_host.specs.Record.{text_or_empty};
+ghost use Rattle.just_outside.specs.Record.{text_or_empty};
 ghost use Rattle.just_cli.specs.Outcome.{name_of as recipe_name, status_error as error_of_status, last_error as error_of_last, node_error, NamesNode, IsErrorFor};
 ghost use Rattle.just_sched.specs.State.{statuses, reason_of as failure_of};
 

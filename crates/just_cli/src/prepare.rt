@@ -2,8 +2,8 @@
 
 ghost use Rattle.std.specs.Prelude.{◌≡◌, ◌≤◌, ◌++◌, [], ◌∷◌, true, length, map, IfOk, IfErr, MatchOption, MatchResult, Ok};
 ghost use Rattle.std.specs.Str.{is_utf8};
-ghost use Rattle.just_host.specs.declared.outside.TheConstants.{MAX_BYTES};
-ghost use Rattle.just_host.specs.World.{told_read};
+ghost use Rattle.just_outside.specs.declared.outside.TheConstants.{MAX_BYTES};
+ghost use Rattle.just_outside.specs.World.{told_read};
 ghost use Rattle.just_lang.specs.Form.{IsName};
 ghost use Rattle.just_cli.specs.Ran.{entries_of};
 ghost use Rattle.just_cli.specs.Request.{IsAsked, IsPlanOf, RefusedFor, RefusesPlan, IsNotBuilt, IsFolderFault, IsReadFault, error_of_lang, justfile_in, io_error_of, fault_of_path, source_in};

@@ -1,8 +1,8 @@
 //! The top calls: words and a host become a run and its end.
 
 ghost use Rattle.std.specs.Prelude.{◌≡◌, ◌<◌, ◌++◌, true, List, [], Option, Some, None, map, IfOk, IfErr, MatchOption, MatchResult};
-ghost use Rattle.just_host.specs.Record.{faults_of, misses_of};
-ghost use Rattle.just_host.specs.declared.entry.Entry.{Entry};
+ghost use Rattle.just_outside.specs.Record.{faults_of, misses_of};
+ghost use Rattle.just_outside.specs.declared.entry.Entry.{Entry};
 ghost use Rattle.just_sched.specs.Favourable.{IsFavourable};
 ghost use Rattle.just_sched.specs.declared.plan.Plan.{Plan};
 ghost use Rattle.just_cli.specs.Answered.{IsAnswered, IsServed};

@@ -13,9 +13,9 @@ use Rattle.just_path.specs.Path.{pushed, is_absolute, ends_open}
 use Rattle.just_path.specs.View.{named, is_name, meta_of, sight, AreItemsOf}
 use Rattle.just_path.specs.declared.meta.Item.{Item}
 use Rattle.just_path.specs.declared.meta.Kind.{Kind}
-use Rattle.just_host.specs.declared.tree.Thing.{Thing}
-use Rattle.just_host.specs.Sights.{sight_of, seen}
-use Rattle.just_host.specs.World.{Tree}
+use Rattle.just_outside.specs.declared.tree.Thing.{Thing}
+use Rattle.just_outside.specs.Sights.{sight_of, seen}
+use Rattle.just_outside.specs.World.{Tree}
 use Rattle.just_host.specs.Items.{kind_behind, AreItemsBehind}
 use Rattle.just_host.proofs.Lookups.{sight_seen}
 use Rattle.just_host.proofs.Trees.{find_hit, find_pass}

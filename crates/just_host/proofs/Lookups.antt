@@ -10,11 +10,11 @@ use Rattle.just_path.specs.View.{meta_of, meta_told, sight, led, link_told, sees
 use Rattle.just_path.specs.declared.host.Miss.{Miss}
 use Rattle.just_path.specs.declared.host.Miss.TheVariants as miss
 use Rattle.just_path.specs.declared.meta.Meta.{Meta}
-use Rattle.just_host.specs.declared.tree.Thing.{Thing}
-use Rattle.just_host.specs.declared.tree.Thing.TheVariants as things
-use Rattle.just_host.specs.Sights.{sight_of, seen}
-use Rattle.just_host.specs.World as world
-use Rattle.just_host.specs.World.{Tree, is_file, thing_at}
+use Rattle.just_outside.specs.declared.tree.Thing.{Thing}
+use Rattle.just_outside.specs.declared.tree.Thing.TheVariants as things
+use Rattle.just_outside.specs.Sights.{sight_of, seen}
+use Rattle.just_outside.specs.World as world
+use Rattle.just_outside.specs.World.{Tree, is_file, thing_at}
 
 mapped_cond : (b : Bool) (t : Thing) (o : Option Thing) → cond b (Some (sight_of t)) (option_map sight_of o) ≡ option_map sight_of (cond b (Some t) o)
 mapped_cond true t o = refl

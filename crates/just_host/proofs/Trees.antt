@@ -11,7 +11,7 @@ use Rattle.std.proofs.lemmas.Cmp.{nat_list_cmp_total}
 use Rattle.std.proofs.lemmas.Slice.Eq.{bytes_eq-Decides}
 use Rattle.std.proofs.lemmas.List.FromFn.{length-range_with_len, get_or-range_with_len}
 use Rattle.std.proofs.lemmas.List.Folds.{list_any_at}
-use Rattle.just_host.specs.declared.tree.Thing.{Thing}
+use Rattle.just_outside.specs.declared.tree.Thing.{Thing}
 
 -- the next thing is the one that is found, or is passed
 pub find_more : (path : List ℕ) (es : List (List ℕ × Thing)) (i : ℕ) (d : List ℕ × Thing) → i < length es → find (slice_cmp nat_cmp) path (drop i es) ≡ cond (bytes_eq path (get_or es i d).0) (Some (get_or es i d).1) (find (slice_cmp nat_cmp) path (drop (i + 1) es))

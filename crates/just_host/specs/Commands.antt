@@ -4,9 +4,9 @@ use Rattle.std.specs.Str.{bytes_eq}
 use Rattle.std.specs.Process.{command_program, command_args, command_dir, command_var, clears_env}
 use Rattle.std.specs.declared.alloc.Global.{Global}
 use Rattle.std.specs.declared.process.Command.{Command}
-use Rattle.just_host.specs.declared.entry.Spec.{Spec}
-use Rattle.just_host.specs.declared.entry.Status.{Status}
-use Rattle.just_host.specs.declared.entry.Status.TheVariants.{Code, Signal, Unknown}
+use Rattle.just_outside.specs.declared.entry.Spec.{Spec}
+use Rattle.just_outside.specs.declared.entry.Status.{Status}
+use Rattle.just_outside.specs.declared.entry.Status.TheVariants.{Code, Signal, Unknown}
 
 -- what is said of a variable after these changes, one after the other, where that was said before: the last change of
 -- its name counts; nothing is said of a variable that is left alone, and of one that is taken out that it has no value

@@ -6,8 +6,8 @@ use Rattle.std.specs.Cmp.Lexicographic.{slice_cmp}
 use Rattle.just_path.specs.View.{named, is_name, meta_of}
 use Rattle.just_path.specs.declared.meta.Kind.{Kind}
 use Rattle.just_path.specs.declared.meta.Item.{Item}
-use Rattle.just_host.specs.declared.tree.Thing.{Thing}
-use Rattle.just_host.specs.Sights.{sight_of}
+use Rattle.just_outside.specs.declared.tree.Thing.{Thing}
+use Rattle.just_outside.specs.Sights.{sight_of}
 
 -- the name is greater than each before that place, and not than the one at it
 pub record IsPlaceOf (name : List ℕ) (at : ℕ) (es : List (List ℕ × Kind)) : Type 0 where

@@ -1,10 +1,4 @@
-pub mod Record
-pub mod World
-pub mod Sights
 pub mod Items
-pub mod Counts
 pub mod Playing
 pub mod Mem
 pub mod Commands
-pub mod Went
-pub mod Signals

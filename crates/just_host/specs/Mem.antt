@@ -4,14 +4,14 @@ use Rattle.std.specs.List.{list_any}
 use Rattle.just_path.specs.declared.host.PathFault.{PathFault}
 use Rattle.just_path.specs.declared.host.PathFault.TheVariants as path_fault
 use Rattle.just_path.specs.declared.host.PathNote.{PathNote}
-use Rattle.just_host.specs.declared.entry.HostFault.{HostFault}
-use Rattle.just_host.specs.declared.entry.HostFault.TheVariants as fault
+use Rattle.just_outside.specs.declared.entry.HostFault.{HostFault}
+use Rattle.just_outside.specs.declared.entry.HostFault.TheVariants as fault
 use Rattle.just_host.specs.declared.memory.MemHost.{MemHost}
 use Rattle.just_host.specs.declared.plot.Faults.{Faults}
-use Rattle.just_host.specs.declared.entry.Status.{Status}
-use Rattle.just_host.specs.Record.{noted}
+use Rattle.just_outside.specs.declared.entry.Status.{Status}
+use Rattle.just_outside.specs.Record.{noted}
 use Rattle.just_host.specs.Playing.{next_call}
-use Rattle.just_host.specs.World.{World}
+use Rattle.just_outside.specs.World.{World}
 
 -- the world of a host in memory is what it holds
 abbrev pub world_of : MemHost → World

@@ -6,13 +6,13 @@ use Rattle.std.specs.Str.{bytes_eq}
 use Rattle.std.specs.declared.string.String.{String}
 use Rattle.std.specs.declared.alloc.Global.{Global}
 use Rattle.just_path.specs.declared.host.Miss.{Miss}
-use Rattle.just_host.specs.declared.entry.Script.{Script}
-use Rattle.just_host.specs.declared.entry.Spec.{Spec}
-use Rattle.just_host.specs.declared.entry.Status.{Status}
-use Rattle.just_host.specs.declared.entry.Status.TheVariants.{Code}
+use Rattle.just_outside.specs.declared.entry.Script.{Script}
+use Rattle.just_outside.specs.declared.entry.Spec.{Spec}
+use Rattle.just_outside.specs.declared.entry.Status.{Status}
+use Rattle.just_outside.specs.declared.entry.Status.TheVariants.{Code}
 use Rattle.just_host.specs.declared.plot.Ending.{Ending}
-use Rattle.just_host.specs.declared.tree.Thing.{Thing}
-use Rattle.just_host.specs.World.{Tree}
+use Rattle.just_outside.specs.declared.tree.Thing.{Thing}
+use Rattle.just_outside.specs.World.{Tree}
 
 -- a text, or a miss, as it is told
 abbrev pub Tells : Result (List ℕ) Miss → Result (String Global) Miss → Type 0

@@ -3,7 +3,7 @@ ghost use Rattle.std.specs.Str.{bytes_eq};
 ghost use Rattle.std.specs.Process.{command_program, command_args, command_dir, command_var, clears_env, exit_code, exit_signal};
 ghost use Rattle.just_host.specs.Commands.{IsCommandOf, said_after, status_told};
 
-use super::{Spec, Status};
+use just_outside::{Spec, Status};
 use just_path::{NoMemory, Text};
 use std::alloc::Global;
 use std::os::unix::process::ExitStatusExt;

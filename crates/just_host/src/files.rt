@@ -4,11 +4,12 @@ ghost use Rattle.std.specs.Cmp.Lexicographic.{slice_cmp};
 ghost use Rattle.std.specs.FinMap as map;
 ghost use Rattle.std.specs.List.{position};
 ghost use Rattle.std.specs.Str.{bytes_eq};
-ghost use Rattle.just_host.specs.declared.outside.TheConstants.{MAX_BYTES};
-ghost use Rattle.just_host.specs.World.{is_file, goes_through_file, absence, thing_at, text_in, told_read};
+ghost use Rattle.just_outside.specs.declared.outside.TheConstants.{MAX_BYTES};
+ghost use Rattle.just_outside.specs.World.{is_file, goes_through_file, absence, thing_at, text_in, told_read};
 ghost use Rattle.just_host.specs.Playing.{Tells, ending_of, status_of, tree_after, after_effects, others};
 
-use super::{Ending, MAX_BYTES, Status, Thing};
+use super::Ending;
+use just_outside::{MAX_BYTES, Status, Thing};
 use just_path::{Miss, NoMemory, Text};
 use std::alloc::Global;
 use std::marker::Model;
@@ -24,8 +25,8 @@ impl Model for Tree {
     ghost use Rattle.std.specs.Cmp.Lexicographic.{slice_cmp};
     ghost use Rattle.std.specs.FinMap as map;
     ghost use Rattle.std.specs.Coded.{coded_list, coded_ℕ};
-    ghost use Rattle.just_host.specs.declared.tree.Thing.{Thing};
-    ghost use Rattle.just_host.specs.contracts.tree.Thing.{the_row};
+    ghost use Rattle.just_outside.specs.declared.tree.Thing.{Thing};
+    ghost use Rattle.just_outside.specs.contracts.tree.Thing.{the_row};
 
     ghost Value = { map.FinMap (slice_cmp nat_cmp) Thing };
 

@@ -4,20 +4,19 @@ ghost use Rattle.just_path.specs.Path.{text_of};
 ghost use Rattle.just_path.specs.Host.{note_of};
 ghost use Rattle.just_path.specs.View.{AreInOrder, Told, TellsItems, meta_told, canonical_told, link_told};
 ghost use Rattle.just_path.specs.declared.host.PathCall.{PathCall};
-ghost use Rattle.just_host.specs.declared.entry.Entry.{Entry};
-ghost use Rattle.just_host.specs.declared.entry.Status.{Status};
-ghost use Rattle.just_host.specs.declared.outside.TheConstants.{MAX_BYTES};
-ghost use Rattle.just_host.specs.Record.{gained, IsOwn, NeverMissed, children, faults_of, misses_of, settled_entry, settled_answer, script_folder, IsStartFault};
-ghost use Rattle.just_host.specs.World.{World, ReadTells, Touched, Leaves};
-ghost use Rattle.just_host.specs.Sights.{seen, view_of};
+ghost use Rattle.just_outside.specs.declared.entry.Entry.{Entry};
+ghost use Rattle.just_outside.specs.declared.entry.Status.{Status};
+ghost use Rattle.just_outside.specs.declared.outside.TheConstants.{MAX_BYTES};
+ghost use Rattle.just_outside.specs.Record.{gained, IsOwn, NeverMissed, children, faults_of, misses_of, settled_entry, settled_answer, script_folder, IsStartFault};
+ghost use Rattle.just_outside.specs.World.{World, ReadTells, Touched, Leaves};
+ghost use Rattle.just_outside.specs.Sights.{seen, view_of};
 ghost use Rattle.just_host.specs.Mem.{world_of, Went, is_struck, is_wait_struck, waited_for, IsCounted, FailsIf, PathFailsIf};
 ghost use Rattle.just_host.specs.Playing.{next_call, word_of, ending_of, status_of, tree_after, others};
-ghost use Rattle.just_host.specs.Counts.{counts_noted};
+ghost use Rattle.just_outside.specs.Counts.{counts_noted};
 
-use super::copies::copy_pairs;
-use super::log::Log;
 use super::plot::{Faults, word_of};
-use super::{Call, Ending, Entry, Host, HostFault, Plot, Signal, Spec, Status, Stream, Tree};
+use super::{Ending, Plot, Tree};
+use just_outside::{Call, Entry, Host, HostFault, Log, Signal, Spec, Status, Stream, copy_pairs};
 use just_path::{
     Environ, Item, Meta, NoMemory, PathCall, PathFault, PathHost, Seq, Text, Utf8Path, Utf8PathBuf,
 };

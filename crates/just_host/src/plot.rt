@@ -2,7 +2,7 @@ ghost use Rattle.std.specs.Prelude.{◌≡◌, ◌==◌, [], IfOk, string_bytes}
 ghost use Rattle.std.specs.List.{list_any};
 ghost use Rattle.just_host.specs.Playing.{joined, next_call, word_of};
 
-use super::{Signal, Spec, Status, Thing};
+use just_outside::{Signal, Spec, Status, Thing};
 use just_path::{NoMemory, Seq, Text};
 use std::alloc::Global;
 

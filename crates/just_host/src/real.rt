@@ -1,17 +1,16 @@
 ghost use Rattle.std.specs.Prelude.{◌≡◌, ◌++◌, ◌≤◌, [], Some, None, IfOk, IfSome, option_map, length, refl, string_bytes};
 ghost use Rattle.std.specs.Process.{child_status, exit_code, exit_signal};
 ghost use Rattle.just_path.specs.Path.{text_of};
-ghost use Rattle.just_host.specs.declared.outside.TheConstants.{MAX_BYTES};
+ghost use Rattle.just_outside.specs.declared.outside.TheConstants.{MAX_BYTES};
 ghost use Rattle.just_path.specs.Host.{note_of_fault};
-ghost use Rattle.just_host.specs.Record.{noted, refused, IsOwnFault, faults_of, misses_of};
+ghost use Rattle.just_outside.specs.Record.{noted, refused, IsOwnFault, faults_of, misses_of};
 ghost use Rattle.just_host.specs.Commands.{status_told};
-ghost use Rattle.just_host.specs.Went.{LogWent};
-ghost use Rattle.just_host.specs.Counts.{counts_noted};
+ghost use Rattle.just_outside.specs.Went.{LogWent};
+ghost use Rattle.just_outside.specs.Counts.{counts_noted};
 
 use super::command::{command_of, status_of};
-use super::log::Log;
 use super::system::{canonical, list, look, pairs, target};
-use super::{Call, Entry, Host, HostFault, MAX_BYTES, Spec, Status, Stream};
+use just_outside::{Call, Entry, Host, HostFault, Log, MAX_BYTES, Spec, Status, Stream};
 use just_path::{
     Environ, Item, Meta, Miss, NoMemory, PathCall, PathFault, PathHost, Text, Utf8Path, Utf8PathBuf,
 };

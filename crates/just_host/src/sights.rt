@@ -1,11 +1,12 @@
 //! What the paths of a tree show.
 ghost use Rattle.std.specs.Prelude.{◌≡◌, true, false, Ok, Err, IfOk, MatchResult};
 ghost use Rattle.just_path.specs.View.{meta_of, meta_told, canonical_told, folder_told, link_told, led, sight, AreInOrder, AreItemsOf};
-ghost use Rattle.just_host.specs.Sights.{sight_of, seen};
+ghost use Rattle.just_outside.specs.Sights.{sight_of, seen};
 ghost use Rattle.just_host.specs.Items.{AreItemsBehind};
 
+use super::Tree;
 use super::items::{name_behind, put_item};
-use super::{Thing, Tree};
+use just_outside::Thing;
 use just_path::{Item, Kind, Meta, Miss, NoMemory, Text, Utf8Path};
 use std::alloc::Global;
 

@@ -4,7 +4,7 @@ use native.Mathlib.Numerals.{unary_clauses}
 use Rattle.std.specs.Prelude.{Option, Some, None, slice_get, filter_map}
 use Rattle.std.proofs.lemmas.List.{drop_all}
 use Rattle.std.specs.List.{last_or}
-use Rattle.just_host.specs.declared.entry.Status.{Status}
+use Rattle.just_outside.specs.declared.entry.Status.{Status}
 use Rattle.just_sched.specs.declared.work.Command.{Command}
 use Rattle.just_sched.specs.declared.work.Work.{Work}
 use Rattle.just_sched.specs.declared.event.Event.{Event}

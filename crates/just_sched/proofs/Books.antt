@@ -9,14 +9,14 @@ use Rattle.std.proofs.lemmas.List.FromFn.{length-range_with_len}
 use Rattle.std.proofs.lemmas.List.Sums.{count_by-le-length, sum_by-cons}
 use Rattle.std.proofs.lemmas.Option.{slice_get_within, get_or_from_slice_get}
 use Rattle.std.proofs.Math.Bridge.{le_prop}
-use Rattle.just_host.specs.declared.entry.Call.TheVariants as call
-use Rattle.just_host.specs.declared.entry.Entry.{Entry}
-use Rattle.just_host.specs.declared.entry.Entry.TheVariants as entry
-use Rattle.just_host.specs.declared.entry.HostFault.{HostFault}
-use Rattle.just_host.specs.declared.entry.HostFault.TheVariants as fault
-use Rattle.just_host.specs.declared.entry.Status.{Status}
-use Rattle.just_host.specs.Record.{children, is_failed, ended_entry, ended_answer, settled_entry, settled_answer, script_folder}
-use Rattle.just_host.specs.World.{World}
+use Rattle.just_outside.specs.declared.entry.Call.TheVariants as call
+use Rattle.just_outside.specs.declared.entry.Entry.{Entry}
+use Rattle.just_outside.specs.declared.entry.Entry.TheVariants as entry
+use Rattle.just_outside.specs.declared.entry.HostFault.{HostFault}
+use Rattle.just_outside.specs.declared.entry.HostFault.TheVariants as fault
+use Rattle.just_outside.specs.declared.entry.Status.{Status}
+use Rattle.just_outside.specs.Record.{children, is_failed, ended_entry, ended_answer, settled_entry, settled_answer, script_folder}
+use Rattle.just_outside.specs.World.{World}
 use Rattle.just_sched.specs.declared.event.Event.{Event}
 use Rattle.just_sched.specs.declared.event.Event.TheVariants as event
 use Rattle.just_sched.specs.declared.event.Outcome.{Outcome}
@@ -37,7 +37,7 @@ use Rattle.just_sched.specs.Moves.{Grown, Settled, RunsWith, Rests, MatchNext, T
 use Rattle.just_sched.specs.declared.event.Idle.{Idle}
 use Rattle.just_sched.specs.declared.token.Next.{Next}
 use Rattle.just_sched.specs.declared.token.Next.TheVariants as next
-use Rattle.just_host.specs.declared.outside.Host
+use Rattle.just_outside.specs.declared.outside.Host
 use Rattle.just_path.specs.declared.host.PathHost
 use Rattle.just_sched.proofs.Keeps.{legal_more, matches_more, neither, any_now, any_none, is_of, others_stay, all_starts_more, settles_more, caught_more, starts_more, ends_more, last_started, is_open_stays, running_stays, in_body_stays}
 use Rattle.just_sched.proofs.Sane.{skipped_none, open_inside, untaken, is_opened, opened, inside, running_inside, due_start, runs, is_running, sane}

@@ -3,9 +3,9 @@ use Rattle.std.proofs.Common.{◌≡◌, ℕ, zero, suc, ◌+◌, ◌-◌, ◌<�
 use Rattle.std.specs.List.{list_any}
 use Rattle.std.proofs.lemmas.List.Sums.{sum_by-cons}
 use Rattle.std.proofs.lemmas.Option.{slice_get_within}
-use Rattle.just_host.specs.declared.entry.Call.{Call}
-use Rattle.just_host.specs.declared.entry.Call.TheVariants as call
-use Rattle.just_host.specs.declared.entry.Status.{Status}
+use Rattle.just_outside.specs.declared.entry.Call.{Call}
+use Rattle.just_outside.specs.declared.entry.Call.TheVariants as call
+use Rattle.just_outside.specs.declared.entry.Status.{Status}
 use Rattle.just_sched.specs.declared.event.Event.{Event}
 use Rattle.just_sched.specs.declared.event.Event.TheVariants as event
 use Rattle.just_sched.specs.declared.event.Outcome.{Outcome}

@@ -6,13 +6,13 @@ use Rattle.std.proofs.lemmas.List.Folds.{list_any-append}
 use Rattle.std.proofs.lemmas.List.Sums.{sum_by-cons, sum_by-append}
 use Rattle.std.proofs.lemmas.Option.{slice_get_within, slice_get-map}
 use Rattle.just_path.specs.declared.host.Miss.{Miss}
-use Rattle.just_host.specs.declared.entry.Call.{Call}
-use Rattle.just_host.specs.declared.entry.Call.TheVariants as call
-use Rattle.just_host.specs.declared.entry.Entry.{Entry}
-use Rattle.just_host.specs.declared.entry.Entry.TheVariants as entry
-use Rattle.just_host.specs.declared.entry.Status.{Status}
-use Rattle.just_host.specs.declared.entry.Stream.TheVariants as stream
-use Rattle.just_host.specs.Record.{children, is_failed, is_missed, is_started as is_child, script_folder}
+use Rattle.just_outside.specs.declared.entry.Call.{Call}
+use Rattle.just_outside.specs.declared.entry.Call.TheVariants as call
+use Rattle.just_outside.specs.declared.entry.Entry.{Entry}
+use Rattle.just_outside.specs.declared.entry.Entry.TheVariants as entry
+use Rattle.just_outside.specs.declared.entry.Status.{Status}
+use Rattle.just_outside.specs.declared.entry.Stream.TheVariants as stream
+use Rattle.just_outside.specs.Record.{children, is_failed, is_missed, is_started as is_child, script_folder}
 use Rattle.just_lang.specs.WellFormed.{IsWellFormed, round_at}
 use Rattle.just_sched.specs.declared.event.Event.{Event}
 use Rattle.just_sched.specs.declared.event.Event.TheVariants as event

@@ -1,6 +1,6 @@
 -- The commands of a linewise body: each line that isn't empty is a child of the shell.
 use Rattle.std.specs.Prelude.{ℕ, Bool, true, false, List, [], ◌∷◌, ◌++◌, map, filter, Some, None, codes}
-use Rattle.just_host.specs.declared.entry.Spec.{Spec}
+use Rattle.just_outside.specs.declared.entry.Spec.{Spec}
 use Rattle.just_lang.specs.declared.node.BodyLine.{BodyLine}
 use Rattle.just_sched.specs.declared.work.Command.{Command}
 use Rattle.just_sched.specs.declared.work.Work.{Work}

@@ -1,8 +1,8 @@
 -- A record in which nothing stood against a run.
 use Rattle.std.specs.Prelude.{Bool, true, false, List, is_none, pos}
 use Rattle.std.specs.List.{AllPass}
-use Rattle.just_host.specs.declared.entry.Entry.{Entry}
-use Rattle.just_host.specs.declared.entry.Entry.TheVariants as entry
+use Rattle.just_outside.specs.declared.entry.Entry.{Entry}
+use Rattle.just_outside.specs.declared.entry.Entry.TheVariants as entry
 use Rattle.just_sched.specs.Match.{is_yes}
 use Rattle.just_sched.specs.Works.{is_code}
 

@@ -1,8 +1,8 @@
 -- Legal, closed and complete histories of a run.
 use Rattle.std.specs.Prelude.{ℕ, ◌≡◌, ◌+◌, ◌<◌, ◌&&◌, not, Bool, true, false, List, [], ◌∷◌, ◌++◌, length, Option, Some, MatchOption, count_by, ◌⊎◌, ◌≢◌, ◌||◌}
 use Rattle.std.specs.List.{range_with_len}
-use Rattle.just_host.specs.declared.entry.Call.{Call}
-use Rattle.just_host.specs.declared.entry.Call.TheVariants as call
+use Rattle.just_outside.specs.declared.entry.Call.{Call}
+use Rattle.just_outside.specs.declared.entry.Call.TheVariants as call
 use Rattle.just_sched.specs.declared.event.Event.{Event}
 use Rattle.just_sched.specs.declared.event.Event.TheVariants as event
 use Rattle.just_sched.specs.declared.event.Outcome.TheVariants as outcome

@@ -2,12 +2,12 @@
 use Rattle.std.specs.Prelude.{ℕ, ◌≡◌, ◌≢◌, ◌||◌, ◌⊎◌, Bool, true, List, [], ◌∷◌, ◌++◌, Some, MatchOption, bytes_eq, codes}
 use Rattle.std.specs.Str.{trim, str_to_ascii_lowercase}
 use Rattle.just_path.specs.declared.host.Miss.{Miss}
-use Rattle.just_host.specs.declared.entry.Call.{Call}
-use Rattle.just_host.specs.declared.entry.Call.TheVariants as call
-use Rattle.just_host.specs.declared.entry.Entry.{Entry}
-use Rattle.just_host.specs.declared.entry.Entry.TheVariants as entry
-use Rattle.just_host.specs.declared.entry.Stream.TheVariants as stream
-use Rattle.just_host.specs.Record.{script_folder}
+use Rattle.just_outside.specs.declared.entry.Call.{Call}
+use Rattle.just_outside.specs.declared.entry.Call.TheVariants as call
+use Rattle.just_outside.specs.declared.entry.Entry.{Entry}
+use Rattle.just_outside.specs.declared.entry.Entry.TheVariants as entry
+use Rattle.just_outside.specs.declared.entry.Stream.TheVariants as stream
+use Rattle.just_outside.specs.Record.{script_folder}
 use Rattle.just_sched.specs.declared.event.Event.{Event}
 use Rattle.just_sched.specs.declared.event.Event.TheVariants as event
 use Rattle.just_sched.specs.declared.event.Outcome.TheVariants as outcome

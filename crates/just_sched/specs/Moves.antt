@@ -1,10 +1,10 @@
 -- What the calls of a book leave: how the history grew, what became of its nodes, and what a host's record gained.
 use Rattle.std.specs.Prelude.{ℕ, ◌<◌, length, ◌≡◌, ◌≢◌, ◌⊎◌, true, false, List, [], ◌∷◌, ◌++◌, Some, Result, Ok, Err}
-use Rattle.just_host.specs.declared.entry.Call.TheVariants as call
-use Rattle.just_host.specs.declared.entry.Entry.{Entry}
-use Rattle.just_host.specs.declared.entry.Entry.TheVariants as entry
-use Rattle.just_host.specs.declared.outside.Host
-use Rattle.just_host.specs.Record.{script_folder}
+use Rattle.just_outside.specs.declared.entry.Call.TheVariants as call
+use Rattle.just_outside.specs.declared.entry.Entry.{Entry}
+use Rattle.just_outside.specs.declared.entry.Entry.TheVariants as entry
+use Rattle.just_outside.specs.declared.outside.Host
+use Rattle.just_outside.specs.Record.{script_folder}
 use Rattle.just_path.specs.declared.host.PathHost
 use Rattle.just_sched.specs.declared.event.Event.{Event}
 use Rattle.just_sched.specs.declared.event.Idle.{Idle}

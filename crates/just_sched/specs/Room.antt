@@ -1,6 +1,6 @@
 -- How many events and settled children a run can have at most.
 use Rattle.std.specs.Prelude.{ℕ, ◌+◌, ◌*◌, Bool, true, false, List, length, sum_by, count_by}
-use Rattle.just_host.specs.declared.entry.Call.TheVariants as call
+use Rattle.just_outside.specs.declared.entry.Call.TheVariants as call
 use Rattle.just_sched.specs.declared.event.Event.{Event}
 use Rattle.just_sched.specs.declared.event.Event.TheVariants as event
 use Rattle.just_sched.specs.declared.event.Outcome.TheVariants as outcome

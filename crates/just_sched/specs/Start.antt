@@ -1,9 +1,9 @@
 -- What a run is of, as it was when its book was opened, and what the book keeps of it.
 use Rattle.std.specs.Prelude.{ℕ, ◌≡◌, false, List, ◌++◌, Option}
 use Rattle.std.specs.List.{list_any}
-use Rattle.just_host.specs.declared.entry.Entry.{Entry}
-use Rattle.just_host.specs.Record.{children, is_failed}
-use Rattle.just_host.specs.World.{World}
+use Rattle.just_outside.specs.declared.entry.Entry.{Entry}
+use Rattle.just_outside.specs.Record.{children, is_failed}
+use Rattle.just_outside.specs.World.{World}
 use Rattle.just_sched.specs.declared.event.Event.{Event}
 use Rattle.just_sched.specs.declared.plan.Plan.{Plan}
 use Rattle.just_sched.specs.Legal.{Run, IsLegal, all_starts}

@@ -1,8 +1,8 @@
 -- The states of a node over a history: a list of events, the oldest first.
 use Rattle.std.specs.Prelude.{ℕ, ◌<◌, length, slice_index, Contains, ◌≡◌, ◌==◌, ◌&&◌, ◌||◌, not, nat_lt, Bool, true, false, if◌then◌else◌, List, [], ◌∷◌, Option, Some, None, is_none, is_some, count_by, filter_map, ◌⊎◌}
 use Rattle.std.specs.List.{list_any, last_or}
-use Rattle.just_host.specs.declared.entry.Status.{Status}
-use Rattle.just_host.specs.declared.signal.Signal.{Signal}
+use Rattle.just_outside.specs.declared.entry.Status.{Status}
+use Rattle.just_outside.specs.declared.signal.Signal.{Signal}
 use Rattle.just_sched.specs.declared.event.Event.{Event}
 use Rattle.just_sched.specs.declared.event.Event.TheVariants as event
 use Rattle.just_sched.specs.declared.event.Outcome.TheVariants as outcome

@@ -1,8 +1,8 @@
 -- The commands of a body, and the step after the statuses of those that ended.
 use Rattle.std.specs.Prelude.{◌≡◌, ℕ, ◌-◌, ◌&&◌, ◌||◌, not, Bool, true, false, if◌then◌else◌, List, [], ◌∷◌, length, slice_get, is_some, Option, Some, None, ℤ, pos}
 use Rattle.std.specs.Ordering.{int_eq}
-use Rattle.just_host.specs.declared.entry.Status.{Status}
-use Rattle.just_host.specs.declared.entry.Status.TheVariants as status
+use Rattle.just_outside.specs.declared.entry.Status.{Status}
+use Rattle.just_outside.specs.declared.entry.Status.TheVariants as status
 use Rattle.just_sched.specs.declared.work.Command.{Command}
 use Rattle.just_sched.specs.declared.work.Step.{Step}
 use Rattle.just_sched.specs.declared.work.Step.TheVariants as step

@@ -3,7 +3,7 @@
 ghost use Rattle.std.specs.Prelude.{◌≡◌, ◌≢◌, ◌+◌, ◌<◌, ◌≤◌, ℕ, Bool, true, false, List, [], ◌∷◌, ◌++◌, Option, Some, None, length, option_map, IfOk, IfErr, IfSome, IfNone, OnOk, MatchOption, MatchBool, vec_len, vec_capacity};
 ghost use Rattle.std.specs.Int.NonZero.{non_zero_u64_get};
 ghost use Rattle.std.proofs.Props.{props};
-ghost use Rattle.just_host.specs.Record.{children};
+ghost use Rattle.just_outside.specs.Record.{children};
 ghost use Rattle.just_sched.specs.Codes.{plan_code};
 ghost use Rattle.just_sched.specs.Start.{Kept, run_of};
 ghost use Rattle.just_sched.specs.Room.{slots, total_commands, settles};
@@ -23,7 +23,7 @@ use super::{
     Driven, Event, HeldBody, Idle, Named, Naming, Next, OpenBody, Outcome, Plan, Reason, Step,
     WaitedBody,
 };
-use just_host::{Call, Host};
+use just_outside::{Call, Host};
 use just_path::{NoMemory, Seq};
 use std::alloc::Global;
 use std::marker::PhantomData;

@@ -3,14 +3,14 @@
 ghost use Rattle.std.specs.Prelude.{◌≡◌, ◌<◌, ◌++◌, List, [], length, Option, false, IfOk};
 ghost use Rattle.std.specs.List.{list_any};
 ghost use Rattle.std.specs.Option.{option_copied};
-ghost use Rattle.just_host.specs.declared.entry.Entry.{Entry};
-ghost use Rattle.just_host.specs.Record.{children, is_failed};
+ghost use Rattle.just_outside.specs.declared.entry.Entry.{Entry};
+ghost use Rattle.just_outside.specs.Record.{children, is_failed};
 ghost use Rattle.just_sched.specs.Nodes.{banner_at, command_at};
 ghost use Rattle.just_sched.specs.Moves.{TellGains, StartGains, IfRefused};
 
 use super::look::command;
 use super::{Command, Plan, Reason};
-use just_host::{Call, Host, HostFault, Stream};
+use just_outside::{Call, Host, HostFault, Stream};
 
 /// What is printed as the node's body begins.
 pub(crate) fn banner(plan: &Plan, node: u32) -> &str

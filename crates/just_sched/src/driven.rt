@@ -1,5 +1,5 @@
 use super::{Event, Plan, Verdict};
-use just_host::Host;
+use just_outside::Host;
 use just_path::Seq;
 
 /// A run that has come to its end.

@@ -11,7 +11,7 @@ ghost use Rattle.just_sched.specs.Verdict.{IsVerdict};
 ghost use Rattle.just_sched.specs.Moves.{Grown, RunsWith, Rests};
 
 use super::{Book, Driven, Named, Naming, Next, OpenBody, Plan, Verdict};
-use just_host::Host;
+use just_outside::Host;
 use std::alloc::Global;
 use std::marker::Brand;
 use std::num::NonZeroU64;

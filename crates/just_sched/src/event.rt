@@ -1,4 +1,4 @@
-use just_host::{Call, Look, Signal, Status};
+use just_outside::{Call, Look, Signal, Status};
 use just_path::{Miss, Seq};
 
 /// One event of a run. The first number of each is that of its node.

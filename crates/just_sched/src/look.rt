@@ -8,7 +8,7 @@ ghost use Rattle.just_sched.specs.State.{took, gave, done, last_start as start_o
 ghost use Rattle.just_sched.specs.Nodes.{work_at};
 
 use super::{Command, Event, Outcome, Plan, Reason, Step, Work};
-use just_host::{Signal, Status};
+use just_outside::{Signal, Status};
 
 /// The command of a body at a place.
 pub fn command(work: &Work, at: usize) -> Option<&Command>

@@ -1,7 +1,7 @@
 ghost use Rattle.std.specs.Prelude.{◌≡◌};
 
 use super::Idle;
-use just_host::Host;
+use just_outside::Host;
 
 /// A body that runs a child, which is to be waited for. Only a book makes one.
 pub struct OpenBody<H: Host> {

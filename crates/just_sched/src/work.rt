@@ -1,4 +1,4 @@
-use just_host::Spec;
+use just_outside::Spec;
 use just_path::{Seq, Text};
 
 /// What a body has to run.

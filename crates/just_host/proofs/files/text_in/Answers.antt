@@ -3,8 +3,8 @@ use Rattle.std.specs.Str.{is_utf8}
 use Rattle.std.proofs.lemmas.Str.{is_utf8-from_IsUtf8, IsUtf8-from_is_utf8}
 use Rattle.std.proofs.lemmas.Bool.Decides.{nat_tests}
 use Rattle.just_path.specs.declared.host.Miss.TheVariants as miss
-use Rattle.just_host.specs.declared.outside.TheConstants.{MAX_BYTES}
-use Rattle.just_host.specs.World.{text_in}
+use Rattle.just_outside.specs.declared.outside.TheConstants.{MAX_BYTES}
+use Rattle.just_outside.specs.World.{text_in}
 use Rattle.just_host.proofs.files.text_in.Goals as goal
 
 text_of_utf8 : (bytes : List ℕ) → length bytes ≤ MAX_BYTES → is_utf8 bytes ≡ true → text_in bytes ≡ Ok bytes

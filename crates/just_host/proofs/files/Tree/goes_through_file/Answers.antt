@@ -1,7 +1,7 @@
 use Rattle.std.proofs.Common.{◌≡◌, ◌==◌, ◌&&◌, Bool, true, length, take, slice_index, sym, ap, ◌∙◌, arith, eq-eqb}
 use Rattle.std.proofs.lemmas.Grind.{common_steps}
 use Rattle.std.specs.FinMap.{get}
-use Rattle.just_host.specs.World.{is_file}
+use Rattle.just_outside.specs.World.{is_file}
 use Rattle.just_host.proofs.Trees.{any_below, none_below}
 use Rattle.just_host.proofs.files.Tree.goes_through_file.Goals as goal
 

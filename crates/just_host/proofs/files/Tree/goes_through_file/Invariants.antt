@@ -1,7 +1,7 @@
 -- No slash that was passed ends the path of a file.
 use Rattle.std.proofs.Common.{◌≡◌, ◌==◌, ◌&&◌, ◌<◌, ℕ, false, take, slice_index}
 use Rattle.std.specs.FinMap.{get}
-use Rattle.just_host.specs.World.{is_file}
+use Rattle.just_outside.specs.World.{is_file}
 use Rattle.just_host.proofs.files.Tree.goes_through_file.Given as goal
 
 abbrev pub invariant-loop-k : goal.invariant-loop-k

@@ -1,6 +1,6 @@
 use Rattle.std.proofs.Common.{sym, ap, ◌∙◌}
 use Rattle.just_path.specs.View.{folder_told}
-use Rattle.just_host.specs.Sights.{seen}
+use Rattle.just_outside.specs.Sights.{seen}
 use Rattle.just_host.proofs.memory.MemHostPathHost.list.Goals as goal
 
 pub returns-in-Ok-items-clause-told : goal.returns-in-Ok-items-clause-told

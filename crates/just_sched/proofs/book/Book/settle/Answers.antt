@@ -1,5 +1,5 @@
 use Rattle.std.proofs.Common.{Some, arith, refl, sym, ◌∙◌, ap, inl}
-use Rattle.just_host.specs.declared.entry.Call.TheVariants as call
+use Rattle.just_outside.specs.declared.entry.Call.TheVariants as call
 use Rattle.just_sched.specs.declared.event.Event.TheVariants as event
 use Rattle.just_sched.specs.declared.event.Outcome.TheVariants as outcome
 use Rattle.just_sched.specs.declared.event.Reason.TheVariants as reason

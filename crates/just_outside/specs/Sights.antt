@@ -3,9 +3,9 @@ use Rattle.std.specs.Prelude.{length, map, false}
 use Rattle.std.specs.FinMap.{from_entries, entries}
 use Rattle.just_path.specs.View.{Sight, thing, link, Sights, View}
 use Rattle.just_path.specs.declared.meta.Kind.TheVariants as kind
-use Rattle.just_host.specs.declared.tree.Thing.{Thing}
-use Rattle.just_host.specs.declared.tree.Thing.TheVariants as things
-use Rattle.just_host.specs.World.{Tree, World}
+use Rattle.just_outside.specs.declared.tree.Thing.{Thing}
+use Rattle.just_outside.specs.declared.tree.Thing.TheVariants as things
+use Rattle.just_outside.specs.World.{Tree, World}
 
 -- what a thing looks like at its path. A folder has no length
 abbrev pub sight_of : Thing → Sight

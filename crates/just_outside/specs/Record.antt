@@ -7,15 +7,15 @@ use Rattle.just_path.specs.declared.host.PathFault.{PathFault}
 use Rattle.just_path.specs.declared.host.PathFault.TheVariants as path_fault
 use Rattle.just_path.specs.declared.host.PathNote.{PathNote}
 use Rattle.just_path.specs.declared.host.PathNote.TheVariants as note
-use Rattle.just_host.specs.declared.entry.Call.{Call}
-use Rattle.just_host.specs.declared.entry.Call.TheVariants as call
-use Rattle.just_host.specs.declared.entry.Entry.{Entry}
-use Rattle.just_host.specs.declared.entry.Entry.TheVariants as entry
-use Rattle.just_host.specs.declared.entry.HostFault.{HostFault}
-use Rattle.just_host.specs.declared.entry.HostFault.TheVariants as fault
-use Rattle.just_host.specs.declared.entry.Script.{Script}
-use Rattle.just_host.specs.declared.entry.Spec.{Spec}
-use Rattle.just_host.specs.declared.entry.Status.{Status}
+use Rattle.just_outside.specs.declared.entry.Call.{Call}
+use Rattle.just_outside.specs.declared.entry.Call.TheVariants as call
+use Rattle.just_outside.specs.declared.entry.Entry.{Entry}
+use Rattle.just_outside.specs.declared.entry.Entry.TheVariants as entry
+use Rattle.just_outside.specs.declared.entry.HostFault.{HostFault}
+use Rattle.just_outside.specs.declared.entry.HostFault.TheVariants as fault
+use Rattle.just_outside.specs.declared.entry.Script.{Script}
+use Rattle.just_outside.specs.declared.entry.Spec.{Spec}
+use Rattle.just_outside.specs.declared.entry.Status.{Status}
 
 -- what a refused call appends: the miss of its path, the failure of its call, or nothing
 abbrev pub refused : List ℕ → HostFault → List Entry

@@ -4,8 +4,8 @@ use Rattle.std.proofs.lemmas.List.Sums.{sum_by-append}
 use Rattle.just_path.specs.Host.{Counts}
 use Rattle.just_path.specs.declared.host.PathNote.{PathNote}
 use Rattle.just_path.specs.declared.host.PathNote.TheVariants as note
-use Rattle.just_host.specs.declared.entry.Entry.{Entry}
-use Rattle.just_host.specs.Record.{noted, faults_of, misses_of, is_failed, is_missed}
+use Rattle.just_outside.specs.declared.entry.Entry.{Entry}
+use Rattle.just_outside.specs.Record.{noted, faults_of, misses_of, is_failed, is_missed}
 
 faults-append : (es bs : List Entry) → faults_of (es ++ bs) ≡ faults_of es + faults_of bs
 faults-append es bs = sum_by-append (λ e. cond (is_failed e) 1 0) es bs

@@ -1,12 +1,12 @@
 ghost use Rattle.std.specs.Prelude.{◌≡◌, ◌+◌, ◌<◌, ◌≤◌, ℕ, List, [], ◌∷◌, ◌++◌, length, Option, Result, option_map, IfOk, MatchOption, OnOk, OnErr, string_bytes};
 ghost use Rattle.just_path.specs.Path.{text_of};
 ghost use Rattle.just_path.specs.declared.host.PathNote.{PathNote};
-ghost use Rattle.just_host.specs.declared.entry.Entry.{Entry};
-ghost use Rattle.just_host.specs.declared.entry.Status.{Status};
-ghost use Rattle.just_host.specs.declared.outside.TheConstants.{MAX_BYTES};
-ghost use Rattle.just_host.specs.Record.{gained, IsOwn, NeverMissed, noted, children, faults_of, misses_of, settled_entry, settled_answer, script_folder, IsStartFault};
-ghost use Rattle.just_host.specs.World.{World, ReadTells, Touched, Leaves};
-ghost use Rattle.just_host.specs.Sights.{view_of};
+ghost use Rattle.just_outside.specs.declared.entry.Entry.{Entry};
+ghost use Rattle.just_outside.specs.declared.entry.Status.{Status};
+ghost use Rattle.just_outside.specs.declared.outside.TheConstants.{MAX_BYTES};
+ghost use Rattle.just_outside.specs.Record.{gained, IsOwn, NeverMissed, noted, children, faults_of, misses_of, settled_entry, settled_answer, script_folder, IsStartFault};
+ghost use Rattle.just_outside.specs.World.{World, ReadTells, Touched, Leaves};
+ghost use Rattle.just_outside.specs.Sights.{view_of};
 
 use super::{Call, Entry, HostFault, Spec, Status, Stream};
 use just_path::{Environ, NoMemory, PathHost, Utf8Path};

@@ -1,5 +1,5 @@
 ghost use Rattle.std.specs.Prelude.{◌≡◌};
-ghost use Rattle.just_host.specs.declared.entry.HostFault.{HostFault};
+ghost use Rattle.just_outside.specs.declared.entry.HostFault.{HostFault};
 
 use super::Signal;
 use just_path::{Miss, NoMemory, Seq, Text, Utf8PathBuf};

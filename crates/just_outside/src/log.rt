@@ -1,9 +1,9 @@
 ghost use Rattle.std.specs.Prelude.{◌≡◌, ◌+◌, ◌-◌, ◌<◌, ◌≤◌, nat_lt, [], ◌∷◌, ◌++◌, false, OnOk, OnErr, IfOk, vec_len, vec_capacity};
 ghost use Rattle.just_path.specs.Path.{text_of};
-ghost use Rattle.just_host.specs.declared.entry.Entry.{Entry};
+ghost use Rattle.just_outside.specs.declared.entry.Entry.{Entry};
 ghost use Rattle.just_path.specs.Host.{note_of_fault};
 ghost use Rattle.just_path.specs.declared.host.PathCall.{PathCall};
-ghost use Rattle.just_host.specs.Record.{call_of, noted, IsFailure, IsMissOf, children, is_started, settled_entry, settled_answer};
+ghost use Rattle.just_outside.specs.Record.{call_of, noted, IsFailure, IsMissOf, children, is_started, settled_entry, settled_answer};
 
 use super::{Call, Entry, HostFault, Spec, Status};
 use just_path::{Miss, NoMemory, PathCall, PathFault, Utf8Path};

@@ -9,11 +9,11 @@ use Rattle.std.specs.declared.string.String.{String}
 use Rattle.std.specs.declared.alloc.Global.{Global}
 use Rattle.just_path.specs.declared.host.Miss.{Miss}
 use Rattle.just_path.specs.declared.host.Miss.TheVariants as miss
-use Rattle.just_host.specs.declared.entry.HostFault.{HostFault}
-use Rattle.just_host.specs.declared.entry.HostFault.TheVariants as fault
-use Rattle.just_host.specs.declared.outside.TheConstants.{MAX_BYTES}
-use Rattle.just_host.specs.declared.tree.Thing.{Thing}
-use Rattle.just_host.specs.declared.tree.Thing.TheVariants as thing
+use Rattle.just_outside.specs.declared.entry.HostFault.{HostFault}
+use Rattle.just_outside.specs.declared.entry.HostFault.TheVariants as fault
+use Rattle.just_outside.specs.declared.outside.TheConstants.{MAX_BYTES}
+use Rattle.just_outside.specs.declared.tree.Thing.{Thing}
+use Rattle.just_outside.specs.declared.tree.Thing.TheVariants as thing
 
 -- files, folders and links by their paths, which are clean and absolute
 abbrev pub Tree : Type 0

@@ -1,6 +1,6 @@
 ghost use Rattle.std.specs.Prelude.{◌≡◌, ◌+◌, ℕ, List, Some, true, pos, ok_or, IfOk};
-ghost use Rattle.just_host.specs.declared.signal.Signal.{Signal};
-ghost use Rattle.just_host.specs.Signals.{number_of, name_of, all, named, numbered};
+ghost use Rattle.just_outside.specs.declared.signal.Signal.{Signal};
+ghost use Rattle.just_outside.specs.Signals.{number_of, name_of, all, named, numbered};
 
 use std::fmt;
 

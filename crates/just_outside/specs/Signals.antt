@@ -2,8 +2,8 @@
 use Rattle.std.specs.Prelude.{ℕ, ◌==◌, List, [], ◌∷◌, Option, codes}
 use Rattle.std.specs.List.{find}
 use Rattle.std.specs.Str.{bytes_eq}
-use Rattle.just_host.specs.declared.signal.Signal.{Signal}
-use Rattle.just_host.specs.declared.signal.Signal.TheVariants.{Hangup, Interrupt, Quit, Terminate}
+use Rattle.just_outside.specs.declared.signal.Signal.{Signal}
+use Rattle.just_outside.specs.declared.signal.Signal.TheVariants.{Hangup, Interrupt, Quit, Terminate}
 
 abbrev pub number_of : Signal → ℕ
 number_of Hangup = 1

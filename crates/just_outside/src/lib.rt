@@ -1,0 +1,16 @@
+//! What a run touches of the outside: the trait `Host`, the entries of its record, and the log that a host keeps them in.
+#![tactic(auto)]
+
+mod copies;
+mod entry;
+mod log;
+mod outside;
+mod signal;
+mod tree;
+
+pub use copies::copy_pairs;
+pub use entry::{Call, Entry, HostFault, Look, Script, Spec, Status, Stream};
+pub use log::Log;
+pub use outside::{Host, MAX_BYTES};
+pub use signal::Signal;
+pub use tree::Thing;
