@@ -5,8 +5,8 @@ ghost use Rattle.just_path.specs.Path.{text_of};
 ghost use Rattle.just_sched.specs.Commands.{shell_child, command_of, is_filled, work_of, works_of};
 
 use super::{Command, Work};
-use just_outside::Spec;
 use just_lang::BodyLine;
+use just_outside::Spec;
 use just_path::{NoMemory, Seq, Text, Utf8Path};
 use std::alloc::Global;
 
