@@ -1,6 +1,7 @@
 -- Items of things, and the place of a name among items by rising names.
-use Rattle.std.specs.Prelude.{ℕ, ◌≡◌, ◌<◌, ◌≤◌, true, false, if◌then◌else◌, List, ◌++◌, length, slice_index_or, Option, None, option_map}
+use Rattle.std.specs.Prelude.{ℕ, ◌≡◌, ◌<◌, ◌≤◌, true, false, if◌then◌else◌, List, [], ◌∷◌, ◌++◌, length, slice_index_or, Option, None, option_map}
 use Rattle.std.specs.FinMap.{find}
+use Rattle.std.specs.FinMap.Entries.{put}
 use Rattle.std.specs.Ordering.{nat_cmp, is_gt}
 use Rattle.std.specs.Cmp.Lexicographic.{slice_cmp}
 use Rattle.just_path.specs.View.{named, is_name, meta_of}
@@ -14,6 +15,11 @@ pub record IsPlaceOf (name : List ℕ) (at : ℕ) (es : List (List ℕ × Kind))
   pub inside : at ≤ length es
   pub before : (i : ℕ) (d : List ℕ × Kind) → i < at → is_gt (slice_cmp nat_cmp name (slice_index_or es i d).0) ≡ true
   pub behind : (d : List ℕ × Kind) → at < length es → is_gt (slice_cmp nat_cmp name (slice_index_or es at d).0) ≡ false
+
+-- the kinds under their names, put in one item after the other: of those with one name the last stays
+abbrev pub put_in : List (List ℕ × Kind) → List Item → List (List ℕ × Kind)
+put_in kinds [] = kinds
+put_in kinds (x ∷ xs) = put_in (put (slice_cmp nat_cmp) x.name x.kind kinds) xs
 
 -- the kind of the first thing whose path is that front with the name behind it
 abbrev pub kind_behind : List ℕ → List (List ℕ × Thing) → List ℕ → Option Kind

@@ -1,11 +1,11 @@
 //! Items of a folder, by rising names.
-ghost use Rattle.std.specs.Prelude.{◌≡◌, ◌≢◌, ◌==◌, ◌++◌, ℕ, List, true, IfOk, OnOk, MatchOption};
+ghost use Rattle.std.specs.Prelude.{◌≡◌, ◌≢◌, ◌==◌, ◌++◌, ℕ, List, [], true, IfOk, OnOk, MatchOption};
 ghost use Rattle.std.specs.List.{list_any};
 ghost use Rattle.std.specs.Ordering.{nat_cmp, is_gt};
 ghost use Rattle.std.specs.Cmp.Lexicographic.{slice_cmp};
 ghost use Rattle.std.specs.FinMap.Entries.{put};
 ghost use Rattle.just_path.specs.View.{named, is_name, AreInOrder};
-ghost use Rattle.just_host.specs.Items.{IsPlaceOf};
+ghost use Rattle.just_host.specs.Items.{IsPlaceOf, put_in};
 
 use just_path::{Item, NoMemory};
 use std::alloc::Global;
@@ -73,7 +73,8 @@ pub fn put_item(items: &mut Vec<Item>, item: Item) -> Result<(), NoMemory>
 
 /// The items by rising names, each name once.
 pub fn in_order(alloc: Global, items: Vec<Item>) -> Result<Vec<Item>, NoMemory>
-    ensures { IfOk result (λ v. AreInOrder v.items) }
+    ensures order { IfOk result (λ v. AreInOrder v.items) }
+    ensures items { IfOk result (λ v. named v.items ≡ put_in [] items.items) }
 {
     let mut sorted = Vec::with_capacity(alloc, items.len())?;
     for item in items {
