@@ -4,7 +4,7 @@
 set -u
 top=$(cd "$(dirname "$(readlink -f "${BASH_SOURCE[0]}")")" && pwd)
 program=$top/crates/just/out/just
-if [ ! -x "$program" ] || [ -n "$(find "$top/crates.txt" "$top"/crates/just{,_cli,_sched,_lang,_host,_path}/{src,specs,proofs} -newer "$program" -print -quit 2>/dev/null)" ]; then
+if [ ! -x "$program" ] || [ -n "$(find "$top/crates.txt" "$top"/crates/just{,_cli,_sched,_lang,_host,_outside,_path}/{src,specs,proofs} -newer "$program" -print -quit 2>/dev/null)" ]; then
   echo "just: building the program; the first build proves its crates, which takes a while" >&2
   log=$(mktemp)
   # The empty word asks for nothing: the program is built, and answers that it is no request.
