@@ -5,7 +5,9 @@ use just_expand::{
     NotPresent, env, env_with_context, env_with_context_no_errors, full, full_with_context,
     full_with_context_no_errors, path, tilde, tilde_with_context,
 };
-use just_path::{Environ, NoMemory, Seq, Text, Utf8Path};
+use just_lang::{Key, Modulepath, Value};
+use just_outside::{Call, Entry, Log, Stream, copy_pairs};
+use just_path::{Environ, Miss, NoMemory, PathCall, PathFault, Seq, Text, Utf8Path};
 use just_read::{Boxed, Class, Cursor};
 use std::alloc::Global;
 use std::borrow::CowStr;
@@ -57,6 +59,54 @@ fn readers_answer(rt: HostRuntime) -> Result<(), Fail> {
     let digits = ['1', '2'];
     let mut cursor = Cursor::new(&digits);
     assert_eq!(rt; cursor.take::<Digit>(alloc)?.as_str(), "12");
+    Ok(())
+}
+
+/// The sequence of one text.
+fn one_text(alloc: Global, text: &str) -> Result<Seq<Text>, NoMemory> {
+    let mut texts = Vec::new(alloc);
+    texts.push(Text::from_str(alloc, text)?)?;
+    Ok(Seq::from(texts))
+}
+
+#[test]
+fn copies_of_keys_answer(rt: HostRuntime) -> Result<(), Fail> {
+    let alloc = rt.alloc();
+    let value = Value {
+        elements: one_text(alloc, "v")?,
+    };
+    let mut arguments = Vec::new(alloc);
+    arguments.push(value.try_clone(alloc)?)?;
+    let key = Key {
+        recipe: Modulepath {
+            components: one_text(alloc, "b")?,
+        },
+        arguments: Seq::from(arguments),
+    };
+    let copy = key.try_clone(alloc)?;
+    assert!(rt; copy.same(&key));
+    assert!(rt; key.recipe.try_clone(alloc)?.same(&copy.recipe));
+    match copy.arguments.as_slice() {
+        [argument] => assert!(rt; argument.same(&value)),
+        _ => assert!(rt; false),
+    }
+    Ok(())
+}
+
+#[test]
+fn records_answer(rt: HostRuntime) -> Result<(), Fail> {
+    let alloc = rt.alloc();
+    let mut log = Log::new(alloc);
+    log.room(2)?;
+    log.ready()?;
+    log.note(Entry::Printed(Stream::Err, Text::from_str(alloc, "x")?))?;
+    log.miss(alloc, Utf8Path::new("/x"), Miss::NotFound)?;
+    log.failure(Call::Read)?;
+    assert!(rt; log.path_failure(PathCall::Current) == PathFault::Failed);
+    let miss = log.path_miss(alloc, Utf8Path::new("/x"), Miss::NotFound);
+    assert!(rt; miss == PathFault::Missed(Miss::NotFound));
+    assert_eq!(rt; log.entries().len(), 5);
+    assert_eq!(rt; copy_pairs(alloc, &environment(alloc)?.pairs)?.len(), 2);
     Ok(())
 }
 
