@@ -7,9 +7,9 @@ use Rattle.std.specs.Cmp.Lexicographic.{slice_cmp}
 use Rattle.std.specs.FinMap.{FinMap, get, find, is_sorted}
 use Rattle.std.specs.declared.alloc.Global.{Global}
 use Rattle.std.specs.declared.vec.Vec.{Vec}
-use Rattle.just_path.specs.Path.{pushed, is_absolute}
+use Rattle.just_path.specs.Path.{pushed}
 use Rattle.just_path.specs.Comps.{is_empty, dot, dots, slash}
-use Rattle.just_path.specs.Clean.{cleaned}
+use Rattle.just_path.specs.Clean.{cleaned, is_clean_absolute}
 use Rattle.just_path.specs.declared.host.Miss.{Miss}
 use Rattle.just_path.specs.declared.host.Miss.TheVariants as miss
 use Rattle.just_path.specs.declared.host.PathFault.{PathFault}
@@ -31,10 +31,6 @@ Sights = FinMap (slice_cmp nat_cmp) Sight
 pub record View : Type 0 where
   pub current : List ℕ
   pub tree : Sights
-
--- whether a path is absolute and its own clean form
-abbrev pub is_clean_absolute : List ℕ → Bool
-is_clean_absolute t = is_absolute t && bytes_eq (cleaned t) t
 
 -- the current folder and all places are clean and absolute
 pub record IsCleanView (v : View) : Type 0 where
@@ -65,19 +61,27 @@ abbrev pub is_link : Kind → Bool
 is_link kind.Link = true
 is_link _ = false
 
-abbrev pub sees_file : Option Sight → Bool
-sees_file None = false
-sees_file (Some s) = is_file (meta_of s).kind
-
-abbrev pub sees_folder : Option Sight → Bool
-sees_folder None = false
-sees_folder (Some s) = is_folder (meta_of s).kind
+-- what is known of what stands at a place
+abbrev pub meta_seen : List ℕ → Sights → Option Meta
+meta_seen place tree = option_map meta_of (sight place tree)
 
 -- a link's target
-abbrev pub target_seen : Option Sight → Option (List ℕ)
-target_seen None = None
-target_seen (Some (thing m)) = None
-target_seen (Some (link m target)) = Some target
+abbrev pub target_of : Option Sight → Option (List ℕ)
+target_of None = None
+target_of (Some (thing m)) = None
+target_of (Some (link m target)) = Some target
+
+-- the target of the link at a place, if one stands there
+abbrev pub target_seen : List ℕ → Sights → Option (List ℕ)
+target_seen place tree = target_of (sight place tree)
+
+abbrev pub sees_file : Option Meta → Bool
+sees_file None = false
+sees_file (Some m) = is_file m.kind
+
+abbrev pub sees_folder : Option Meta → Bool
+sees_folder None = false
+sees_folder (Some m) = is_folder m.kind
 
 -- the place of a path under a folder: its clean form there
 abbrev pub place_under : List ℕ → List ℕ → List ℕ
@@ -91,7 +95,7 @@ asks_folder path =
 -- whether the text before one of the place's slashes is a file
 abbrev pub goes_through_file : List ℕ → Sights → Bool
 goes_through_file place tree =
-    list_any (λ k. (slice_index place k == 47) && sees_file (sight (take k place) tree)) (range_with_len 0 (length place))
+    list_any (λ k. (slice_index place k == 47) && sees_file (meta_seen (take k place) tree)) (range_with_len 0 (length place))
 
 -- the miss of a place at which nothing stands
 abbrev pub absence : List ℕ → Sights → Miss
@@ -99,7 +103,7 @@ absence place tree = if goes_through_file place tree then miss.NotFolder else mi
 
 -- a place, if something stands there
 abbrev pub filled_place : List ℕ → Sights → Result (List ℕ) Miss
-filled_place place tree = if is_some (sight place tree) then Ok place else Err (absence place tree)
+filled_place place tree = if is_some (meta_seen place tree) then Ok place else Err (absence place tree)
 
 -- the place of a path under a folder, if something stands there; the empty path has none
 abbrev pub named_place : List ℕ → List ℕ → Sights → Result (List ℕ) Miss
@@ -107,19 +111,20 @@ named_place folder path tree = if is_empty path then Err miss.NotFound else fill
 
 -- a place that was found, if a folder stands there
 abbrev pub folder_place : Sights → Result (List ℕ) Miss → Result (List ℕ) Miss
-folder_place tree (Ok place) = if sees_folder (sight place tree) then Ok place else Err miss.NotFolder
+folder_place tree (Ok place) = if sees_folder (meta_seen place tree) then Ok place else Err miss.NotFolder
 folder_place tree (Err m) = Err m
 
 -- the same where the path asks for a folder
 abbrev pub asked_place : List ℕ → Sights → Result (List ℕ) Miss → Result (List ℕ) Miss
-asked_place path tree found = if asks_folder path then folder_place tree found else found
+asked_place path tree (Ok place) = if asks_folder path then folder_place tree (Ok place) else Ok place
+asked_place path tree (Err m) = Err m
 
--- a place that was found, if no link stands there: links are followed once
+-- a place that was found, if no link stands there: a link is followed once
 abbrev pub last_place : Sights → Result (List ℕ) Miss → Result (List ℕ) Miss
-last_place tree (Ok place) = if is_some (target_seen (sight place tree)) then Err miss.NotFound else Ok place
+last_place tree (Ok place) = if is_some (target_seen place tree) then Err miss.NotFound else Ok place
 last_place tree (Err m) = Err m
 
--- the place behind a link at a place, with that target: the target is a path under the link's own folder
+-- the place behind a link at a place, with that target: a path under the link's own folder
 abbrev pub target_place : List ℕ → List ℕ → Sights → Result (List ℕ) Miss
 target_place place target tree = asked_place target tree (last_place tree (named_place (pushed place dots) target tree))
 
@@ -127,23 +132,18 @@ abbrev pub place_behind : List ℕ → Sights → Option (List ℕ) → Result (
 place_behind place tree None = Ok place
 place_behind place tree (Some target) = target_place place target tree
 
--- the place behind the link that stands at a place that was found, else that place
-abbrev pub followed_place : Sights → Result (List ℕ) Miss → Result (List ℕ) Miss
-followed_place tree (Ok place) = place_behind place tree (target_seen (sight place tree))
-followed_place tree (Err m) = Err m
+-- where it is to be followed, the place behind the link that stands at a place that was found, else that place
+abbrev pub followed_place : Bool → Sights → Result (List ℕ) Miss → Result (List ℕ) Miss
+followed_place follow tree (Ok place) = if follow then place_behind place tree (target_seen place tree) else Ok place
+followed_place follow tree (Err m) = Err m
 
--- the place that a path under a folder leads to, behind the link if one stands there and is followed. A path that
--- asks for a folder always follows
-abbrev pub place_in : List ℕ → List ℕ → Bool → Sights → Result (List ℕ) Miss
-place_in folder path follow tree =
-    if follow || asks_folder path then asked_place path tree (followed_place tree (named_place folder path tree)) else named_place folder path tree
-
--- the place that a path leads to under the current folder
+-- the place that a path leads to under the current folder. A path that asks for a folder always follows
 abbrev pub place_told : List ℕ → Bool → View → Result (List ℕ) Miss
-place_told path follow v = place_in v.current path follow v.tree
+place_told path follow v =
+    asked_place path v.tree (followed_place (follow || asks_folder path) v.tree (named_place v.current path v.tree))
 
 abbrev pub meta_at : Sights → Result (List ℕ) Miss → Result Meta Miss
-meta_at tree (Ok place) = ok_or (option_map meta_of (sight place tree)) miss.NotFound
+meta_at tree (Ok place) = ok_or (meta_seen place tree) miss.NotFound
 meta_at tree (Err m) = Err m
 
 -- what stands where a path leads
@@ -159,7 +159,7 @@ abbrev pub folder_told : List ℕ → View → Result (List ℕ) Miss
 folder_told path v = folder_place v.tree (place_told path true v)
 
 abbrev pub target_at : Sights → Result (List ℕ) Miss → Result (List ℕ) Miss
-target_at tree (Ok place) = ok_or (target_seen (sight place tree)) miss.NotFound
+target_at tree (Ok place) = ok_or (target_seen place tree) miss.NotFound
 target_at tree (Err m) = Err m
 
 -- the target of the link where a path leads; where another thing stands no link is found
