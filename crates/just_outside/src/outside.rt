@@ -1,3 +1,4 @@
+//! The trait of hosts.
 ghost use Rattle.std.specs.Prelude.{◌≡◌, ◌+◌, ◌<◌, ◌≤◌, ℕ, List, [], ◌∷◌, ◌++◌, length, Option, Result, option_map, IfOk, MatchOption, OnOk, OnErr, string_bytes};
 ghost use Rattle.just_path.specs.Path.{text_of};
 ghost use Rattle.just_path.specs.declared.host.PathNote.{PathNote};

@@ -32,10 +32,14 @@ pub record View : Type 0 where
   pub current : List ℕ
   pub tree : Sights
 
--- the current folder and all places are clean and absolute
+-- all places are clean and absolute
+abbrev pub HasCleanPlaces : Sights → Type 0
+HasCleanPlaces tree = (place : List ℕ) (s : Sight) → get tree place ≡ Some s → is_clean_absolute place ≡ true
+
+-- the current folder is too
 pub record IsCleanView (v : View) : Type 0 where
   pub current : is_clean_absolute v.current ≡ true
-  pub places : (place : List ℕ) (s : Sight) → get v.tree place ≡ Some s → is_clean_absolute place ≡ true
+  pub places : HasCleanPlaces v.tree
 
 -- a view, where one is told, is clean
 abbrev pub IsCleanlyTold : Option View → Type 0
