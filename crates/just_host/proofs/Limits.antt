@@ -1,5 +1,5 @@
 -- To read one byte more than the limit tells whether a text is within it.
-use Rattle.std.proofs.Common.{◌≡◌, ◌+◌, ◌<◌, ◌≤◌, ℕ, List, [], ◌++◌, length, take, nat_lt, true, false, Option, Some, None, option_map, Result, Err, IfSome, refl, sym, ap, subst, ◌∙◌, arith}
+use Rattle.std.proofs.Common.{◌≡◌, ◌+◌, ◌<◌, ℕ, List, [], ◌++◌, length, take, nat_lt, true, Option, Some, None, option_map, Result, Err, IfSome, sym, ap, subst, ◌∙◌, arith}
 use Rattle.std.proofs.Math.Decide.{dec_lt}
 use Rattle.std.specs.declared.string.String.{String}
 use Rattle.std.specs.declared.alloc.Global.{Global}
