@@ -31,9 +31,12 @@ unfolding cut
 cut_parts k t =
     let (qs, e) = upto_parts k (pieces t) in
     let (more, f) = joined_parts (upto k (pieces t)) qs in
-    elim (nat_lt k (length (names t))) as (λ v. (m : List ℕ) × (t ≡ cond v (joined (upto k (pieces t))) (take (length (leading t)) t) ++ m)) [
+    elim (nat_lt k (length (names t))) as (λ v. (m : List ℕ) × (t ≡ cond v (joined (upto k (pieces t))) (cond (eqb k (length (names t))) (take (length (leading t)) t) []) ++ m)) [
       | true ↦ (more, sym (joined_pieces t) ∙ ap joined e ∙ f)
-      | false ↦ (drop (length (leading t)) t, sym (take-append-drop (length (leading t)) t))
+      | false ↦ elim (eqb k (length (names t))) as (λ v. (m : List ℕ) × (t ≡ cond v (take (length (leading t)) t) [] ++ m)) [
+        | true ↦ (drop (length (leading t)) t, sym (take-append-drop (length (leading t)) t))
+        | false ↦ (t, refl)
+      ]
     ]
 
 pub cut_front : (k : ℕ) (t : List ℕ) → take (length (cut k t)) t ≡ cut k t

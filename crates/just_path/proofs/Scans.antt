@@ -1,12 +1,12 @@
 -- The first and the last piece of a text, by the place of a slash.
-use Rattle.std.proofs.Common.{◌≡◌, ◌≢◌, ℕ, zero, suc, ◌+◌, ◌<◌, ◌≤◌, true, false, List, [], ◌∷◌, ◌++◌, length, get_or, take, drop, refl, sym, ap, ◌∙◌, subst, arith, nat_lt, inl, inr, length-append, length-take, length-drop, append_assoc, ⊎_elim}
+use Rattle.std.proofs.Common.{◌≡◌, ◌≢◌, ℕ, zero, suc, ◌+◌, ◌<◌, ◌≤◌, Bool, true, false, cond, List, [], ◌∷◌, ◌++◌, length, get_or, take, drop, refl, sym, ap, ◌∙◌, subst, arith, nat_lt, inl, inr, length-append, length-take, length-drop, append_assoc, ⊎_elim}
 use Rattle.std.proofs.lemmas.Bool.{ne_eqb, cases_eq}
 use Rattle.std.proofs.lemmas.Bool.Decides.{nat_tests}
 use Rattle.std.proofs.lemmas.List.{take-append-drop, drop_more, get_or-take, get_or-drop, append-nil, take-take, nil_from_length}
 use Rattle.std.specs.List.{flat_map}
 use Rattle.std.proofs.lemmas.Grind.{flat_map-append}
 use Rattle.just_path.specs.Comps.{pieces, is_empty, named, names, leading}
-use Rattle.just_path.specs.Parts.{upto}
+use Rattle.just_path.specs.Parts.{upto, from}
 use Rattle.just_path.specs.Scan.{IsFirstPiece, IsLastPiece}
 use Rattle.just_path.proofs.Pieces.{pieces_slash, pieces_plain}
 use Rattle.just_path.proofs.Leading
@@ -38,6 +38,27 @@ upto_last k (q ∷ qs) p =
     rw (flat_map-append named qs (p ∷ []), append-nil (named p), length-append (named q) (flat_map named qs ++ named p), length-append (flat_map named qs) (named p), length-append (named q) (flat_map named qs)) (omega arith) in
     let e : nat_lt (length (named p) + k) (length (named q ++ flat_map named (qs ++ p ∷ []))) ≡ nat_lt k (length (named q ++ flat_map named qs)) = rw l (grind (arith, nat_tests)) in
     rw (e, upto_last k qs p) refl
+
+from_alone : (n k : ℕ) (p : List ℕ) (v : Bool) → is_empty (named p) ≡ v → upto (length (named p) + k) (from n (p ∷ [])) ≡ []
+from_alone zero k p true e = rw e refl
+from_alone zero k p false e = rw e (upto_last k [] p)
+from_alone (suc n) k p true e = rw e refl
+from_alone (suc zero) k p false e = rw e refl
+from_alone (suc (suc n)) k p false e = rw e refl
+
+-- the same of what stands behind the first n names
+pub upto_from_last : (n k : ℕ) (ps : List (List ℕ)) (p : List ℕ) → upto (length (named p) + k) (from n (ps ++ p ∷ [])) ≡ upto k (from n ps)
+upto_from_last n k [] p = from_alone n k p (is_empty (named p)) refl
+upto_from_last zero k (q ∷ qs) p =
+    elim (is_empty (named q)) as (λ v. upto (length (named p) + k) (cond v (from zero (qs ++ p ∷ [])) (q ∷ (qs ++ p ∷ []))) ≡ upto k (cond v (from zero qs) (q ∷ qs))) [
+      | true ↦ upto_from_last zero k qs p
+      | false ↦ upto_last k (q ∷ qs) p
+    ]
+upto_from_last (suc n) k (q ∷ qs) p =
+    elim (is_empty (named q)) as (λ v. upto (length (named p) + k) (cond v (from (suc n) (qs ++ p ∷ [])) (from n (qs ++ p ∷ []))) ≡ upto k (cond v (from (suc n) qs) (from n qs))) [
+      | true ↦ upto_from_last (suc n) k qs p
+      | false ↦ upto_from_last n k qs p
+    ]
 
 lead_second : (y : ℕ) (a b : List ℕ) → leading (46 ∷ y ∷ a) ≡ leading (46 ∷ y ∷ b)
 lead_second y a b =
@@ -104,6 +125,7 @@ last_at t i low d l m e h =
     record {
       gives = names_last t (take i t) (drop (i + 1) t) cut;
       ends = λ k. ap (upto (length (named (drop (i + 1) t)) + k)) cut ∙ upto_last k (pieces (take i t)) (drop (i + 1) t);
+      ends_from = λ n k. ap (λ ps. upto (length (named (drop (i + 1) t)) + k) (from n ps)) cut ∙ upto_from_last n k (pieces (take i t)) (drop (i + 1) t);
       whole = λ f. ap (upto 0) cut ∙ upto_whole (pieces (take i t)) (drop (i + 1) t) f ∙ sym cut;
       begins = lead_same (take i t) (drop (i + 1) t) (front_filled t i low d l m e) ∙ ap leading (sym whole);
       front = take-take low i t l;
@@ -112,11 +134,16 @@ last_at t i low d l m e h =
       shorter = omega (arith, length-take i t);
     }
 
+from_empties : (n : ℕ) (ps : List (List ℕ)) → from n ([] ∷ ps) ≡ from n ps
+from_empties zero ps = refl
+from_empties (suc n) ps = refl
+
 whole_piece : (t : List ℕ) → leading t ≡ [] → 0 < length t → pieces t ≡ t ∷ [] → IsLastPiece 0 t [] t
 unfolding names
 whole_piece t e l one = record {
   gives = ap (flat_map named) one ∙ append-nil (named t);
   ends = λ k. ap (upto (length (named t) + k)) one ∙ upto_last k [] t ∙ sym (upto_nameless k ([] ∷ []) refl);
+  ends_from = λ n k. ap (λ ps. upto (length (named t) + k) (from n ps)) one ∙ upto_from_last n k [] t ∙ sym (ap (upto k) (from_empties n []));
   whole = λ f. ap (upto 0) one ∙ upto_whole [] t f ∙ sym one;
   begins = Leading.leading_nil ∙ sym e;
   front = refl;
@@ -129,6 +156,7 @@ rooted_piece : (bs : List ℕ) → 0 < length bs → pieces bs ≡ bs ∷ [] →
 unfolding names
 rooted_piece bs l one = record {
   gives = ap (λ ps. flat_map named ([] ∷ ps)) one ∙ append-nil (named bs);
+  ends_from = λ n k. ap (λ ps. upto (length (named bs) + k) (from n ([] ∷ ps))) one ∙ upto_from_last n k ([] ∷ []) bs ∙ ap (upto k) (from_empties n [] ∙ sym (from_empties n ([] ∷ []) ∙ from_empties n []));
   ends = λ k. ap (λ ps. upto (length (named bs) + k) ([] ∷ ps)) one ∙ upto_last k ([] ∷ []) bs ∙ upto_nameless k ([] ∷ []) refl ∙ sym (upto_nameless k ([] ∷ [] ∷ []) refl);
   whole = λ f. ap (λ ps. upto 0 ([] ∷ ps)) one ∙ upto_whole ([] ∷ []) bs f ∙ ap (λ ps. [] ∷ ps) (sym one);
   begins = Leading.leading_root [] ∙ sym (Leading.leading_root bs);

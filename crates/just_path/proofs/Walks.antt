@@ -1,5 +1,5 @@
 -- A walk over the pieces of a text from either end: what is left of it gives the same.
-use Rattle.std.proofs.Common.{◌≡◌, ◌≢◌, ℕ, zero, suc, ◌+◌, ◌<◌, ◌≤◌, Bool, true, false, List, [], ◌∷◌, ◌++◌, length, take, refl, sym, ap, ◌∙◌, arith, cond, ◌||◌, nat_lt, length-append, ⊎_elim, zero-add}
+use Rattle.std.proofs.Common.{◌≡◌, ◌≢◌, ℕ, zero, suc, ◌+◌, ◌<◌, ◌≤◌, Bool, true, false, eqb, List, [], ◌∷◌, ◌++◌, length, take, refl, sym, ap, ◌∙◌, arith, cond, ◌||◌, nat_lt, length-append, ⊎_elim, zero-add}
 use Rattle.std.proofs.lemmas.Bool.{cases_eq}
 use Rattle.std.proofs.lemmas.Bool.Decides.{nat_tests}
 use Rattle.std.proofs.lemmas.List.{append-nil, take_all}
@@ -14,22 +14,23 @@ use Rattle.just_path.proofs.Leading
 
 pub record KeepsFirst (text left : List ℕ) : Type 0 where
   pub gives : names text ≡ names left
-  pub rests : (k : ℕ) → rest k text ≡ rest k left
+  pub rests : (n k : ℕ) → rest n k text ≡ rest n k left
   pub no_longer : length left ≤ length text
 
 pub record KeepsLast (text left : List ℕ) : Type 0 where
   pub gives : names text ≡ names left
   pub cuts : (k : ℕ) → cut k text ≡ cut k left
+  pub rests : (n k : ℕ) → rest n k text ≡ rest n k left
   pub begins : leading left ≡ leading text
   pub kept : length (leading text) ≤ length left
   pub front : take (length (leading text)) left ≡ take (length (leading text)) text
   pub no_longer : length left ≤ length text
 
 pub keeps_first : (t : List ℕ) → KeepsFirst t t
-keeps_first t = record { gives = refl; rests = λ k. refl; no_longer = omega arith }
+keeps_first t = record { gives = refl; rests = λ n k. refl; no_longer = omega arith }
 
 pub keeps_last : (t : List ℕ) → length (leading t) ≤ length t → KeepsLast t t
-keeps_last t h = record { gives = refl; cuts = λ k. refl; begins = refl; kept = h; front = refl; no_longer = omega arith }
+keeps_last t h = record { gives = refl; cuts = λ k. refl; rests = λ n k. refl; begins = refl; kept = h; front = refl; no_longer = omega arith }
 
 from_skip : (k : ℕ) (p : List ℕ) (ps : List (List ℕ)) → named p ≡ [] → from k (p ∷ ps) ≡ from k ps
 from_skip zero p ps h = rw h refl
@@ -51,27 +52,27 @@ names_first t p after f =
     (λ (e : (pieces t ≡ p ∷ []) × (after ≡ [])). ap (flat_map named) e.0 ∙ ap (λ a. named p ++ flat_map named (pieces a)) (sym e.1))
     f.split
 
-from_first : (k : ℕ) (t p after : List ℕ) → IsFirstPiece t p after → (n : ℕ) → ((ps : List (List ℕ)) → from n (p ∷ ps) ≡ from k ps) → rest n t ≡ rest k after
+from_first : (m k : ℕ) (t p after : List ℕ) → IsFirstPiece t p after → (n : ℕ) → ((ps : List (List ℕ)) → from n (p ∷ ps) ≡ from m ps) → rest n k t ≡ rest m k after
 unfolding rest
-from_first k t p after f n step =
+from_first m k t p after f n step =
     ⊎_elim
-    (λ (e : pieces t ≡ p ∷ pieces after). ap (λ ps. joined (upto 0 (from n ps))) e ∙ ap (λ ps. joined (upto 0 ps)) (step (pieces after)))
+    (λ (e : pieces t ≡ p ∷ pieces after). ap (λ ps. joined (upto k (from n ps))) e ∙ ap (λ ps. joined (upto k ps)) (step (pieces after)))
     (λ (e : (pieces t ≡ p ∷ []) × (after ≡ [])).
-    ap (λ ps. joined (upto 0 (from n ps))) e.0 ∙ ap (λ ps. joined (upto 0 ps)) (step []) ∙ ap (λ ps. joined (upto 0 ps)) (sym (from_nil k))
-    ∙ ap (λ a. joined (upto 0 (from k (pieces a)))) (sym e.1))
+    ap (λ ps. joined (upto k (from n ps))) e.0 ∙ ap (λ ps. joined (upto k ps)) (step []) ∙ ap (λ ps. joined (upto k ps)) (sym (from_nil m))
+    ∙ ap (λ a. joined (upto k (from m (pieces a)))) (sym e.1))
     f.split
 
 pub first_skips : (t left p after : List ℕ) → KeepsFirst t left → IsFirstPiece left p after → named p ≡ [] → 0 < length left → KeepsFirst t after
 first_skips t left p after k f h l = record {
   gives = k.gives ∙ names_first left p after f ∙ ap (λ ns. ns ++ names after) h;
-  rests = λ n. k.rests n ∙ from_first n left p after f n (λ ps. from_skip n p ps h);
+  rests = λ n j. k.rests n j ∙ from_first n j left p after f n (λ ps. from_skip n p ps h);
   no_longer = omega (arith, k.no_longer, f.shorter l);
 }
 
 pub first_takes : (t left p after : List ℕ) (c : Comp) → KeepsFirst t left → IsFirstPiece left p after → named p ≡ c ∷ [] → 0 < length left → HasFirst t c after
 first_takes t left p after c k f h l = record {
   gives = k.gives ∙ names_first left p after f ∙ ap (λ ns. ns ++ names after) h;
-  rests = λ n. k.rests (suc n) ∙ from_first n left p after f (suc n) (λ ps. from_take n p ps c h);
+  rests = λ n j. k.rests (suc n) j ∙ from_first n j left p after f (suc n) (λ ps. from_take n p ps c h);
   shorter = omega (arith, k.no_longer, f.shorter l);
 }
 
@@ -93,7 +94,12 @@ unfolding cut
 cut_less k t u c a b d =
     let l : length (names t) ≡ length (names u) + 1 = ap length a ∙ length-append (names u) (c ∷ []) in
     let e : nat_lt (suc k) (length (names t)) ≡ nat_lt k (length (names u)) = rw l (grind (arith, nat_tests)) in
-    rw (e, b, d) refl
+    let f : eqb (suc k) (length (names t)) ≡ eqb k (length (names u)) = rw l (grind (arith, nat_tests)) in
+    rw (e, f, b, d) refl
+
+rest_same : (n k j : ℕ) (t u : List ℕ) → upto j (from n (pieces t)) ≡ upto k (from n (pieces u)) → rest n j t ≡ rest n k u
+unfolding rest
+rest_same n k j t u h = ap joined h
 
 ends_skip : (low k : ℕ) (t before p : List ℕ) → IsLastPiece low t before p → named p ≡ [] → upto k (pieces t) ≡ upto k (pieces before)
 ends_skip low k t before p f h = ap (λ n. upto n (pieces t)) (sym (zero-add k) ∙ ap (λ ns. length ns + k) (sym h)) ∙ f.ends k
@@ -102,6 +108,14 @@ ends_take : (low k : ℕ) (t before p : List ℕ) (c : Comp) → IsLastPiece low
 ends_take low k t before p c f h =
     let e : suc k ≡ length (named p) + k = rw h (omega arith) in
     ap (λ n. upto n (pieces t)) e ∙ f.ends k
+
+rest_skip : (low n k : ℕ) (t before p : List ℕ) → IsLastPiece low t before p → named p ≡ [] → rest n k t ≡ rest n k before
+rest_skip low n k t before p f h = rest_same n k k t before (ap (λ j. upto j (from n (pieces t))) (sym (zero-add k) ∙ ap (λ ns. length ns + k) (sym h)) ∙ f.ends_from n k)
+
+rest_take : (low n k : ℕ) (t before p : List ℕ) (c : Comp) → IsLastPiece low t before p → named p ≡ c ∷ [] → rest n (suc k) t ≡ rest n k before
+rest_take low n k t before p c f h =
+    let e : suc k ≡ length (named p) + k = rw h (omega arith) in
+    rest_same n k (suc k) t before (ap (λ j. upto j (from n (pieces t))) e ∙ f.ends_from n k)
 
 front_kept : (low : ℕ) (t before p : List ℕ) → IsLastPiece low t before p → low ≡ length (leading t) → take (length (leading t)) t ≡ take (length (leading before)) before
 front_kept low t before p f d =
@@ -114,6 +128,7 @@ last_skips low t left before p k f d h =
     record {
       gives = k.gives ∙ g;
       cuts = λ n. k.cuts n ∙ cut_same n left before g (ends_skip low n left before p f h) (front_kept low left before p f d');
+      rests = λ n j. k.rests n j ∙ rest_skip low n j left before p f h;
       begins = f.begins ∙ k.begins;
       kept = omega (arith, f.kept);
       front = ap (λ n. take n before) (sym d) ∙ f.front ∙ ap (λ n. take n left) d ∙ k.front;
@@ -149,7 +164,8 @@ last_ends low t left k d h =
     let is : left ≡ take (length (leading t)) t = sym (take_all (length (leading t)) left (omega arith)) ∙ k.front in
     let none : names t ≡ [] = k.gives ∙ ap names is ∙ names_front t in
     let e : nat_lt 0 (length (names t)) ≡ false = rw none refl in
-    (none, rw e is)
+    let z : eqb 0 (length (names t)) ≡ true = rw none refl in
+    (none, rw (e, z) is)
 
 -- a text that begins with a name
 first_is_name : (p : List ℕ) (ps : List (List ℕ)) (c : Comp) → named p ≡ c ∷ [] → from 0 (p ∷ ps) ≡ p ∷ ps
@@ -194,7 +210,7 @@ shown t p after f =
 more : (ns : List Comp) → nat_lt 0 (suc (length ns)) ≡ true
 more ns = grind (arith, nat_tests)
 
-pub begins_named : (t p after : List ℕ) (c : Comp) → IsFirstPiece t p after → named p ≡ c ∷ [] → 0 < length t → (leading t ≡ []) × (cut 0 t ≡ rest 0 t)
+pub begins_named : (t p after : List ℕ) (c : Comp) → IsFirstPiece t p after → named p ≡ c ∷ [] → 0 < length t → (leading t ≡ []) × (cut 0 t ≡ rest 0 0 t)
 unfolding cut rest
 begins_named t p after c f h l =
     let (ps, e) = shown t p after f in
@@ -202,15 +218,15 @@ begins_named t p after c f h l =
     let some : nat_lt 0 (length (names t)) ≡ true = ap (λ ns. nat_lt 0 (length ns)) (names_first t p after f ∙ ap (λ ns. ns ++ names after) h) ∙ more (names after) in
     (lead, rw (some, e, first_is_name p ps c h) refl)
 
-pub first_found : (t left p after : List ℕ) (c : Comp) → KeepsFirst t left → IsFirstPiece left p after → named p ≡ c ∷ [] → 0 < length left → (cut 0 left ≡ rest 0 t) × (comps left ≡ names t)
+pub first_found : (t left p after : List ℕ) (c : Comp) → KeepsFirst t left → IsFirstPiece left p after → named p ≡ c ∷ [] → 0 < length left → (cut 0 left ≡ rest 0 0 t) × (comps left ≡ names t)
 unfolding comps
 first_found t left p after c k f h l =
     let b = begins_named left p after c f h l in
-    (b.1 ∙ sym (k.rests 0), ap (λ ls. ls ++ names left) b.0 ∙ sym k.gives)
+    (b.1 ∙ sym (k.rests 0 0), ap (λ ls. ls ++ names left) b.0 ∙ sym k.gives)
 
-pub first_over : (t left : List ℕ) → KeepsFirst t left → length left ≡ 0 → (cut 0 [] ≡ rest 0 t) × (comps [] ≡ names t)
+pub first_over : (t left : List ℕ) → KeepsFirst t left → length left ≡ 0 → (cut 0 [] ≡ rest 0 0 t) × (comps [] ≡ names t)
 unfolding comps cut rest names
-first_over t [] k l = (ap (λ n. take n []) (ap length Leading.leading_nil) ∙ sym (k.rests 0), ap (λ ls. ls ++ []) Leading.leading_nil ∙ sym k.gives)
+first_over t [] k l = (ap (λ n. take n []) (ap length Leading.leading_nil) ∙ sym (k.rests 0 0), ap (λ ls. ls ++ []) Leading.leading_nil ∙ sym k.gives)
 first_over t (b ∷ bs) k l = absurd (omega arith)
 
 pushed_more : (ns : List Comp) (c : Comp) → nat_lt 0 (length (ns ++ c ∷ [])) ≡ true
@@ -245,6 +261,7 @@ last_takes low t left before p c k f d h =
     record {
       gives = k.gives ∙ g;
       cuts = λ n. k.cuts (suc n) ∙ cut_less n left before c g (ends_take low n left before p c f h) (front_kept low left before p f d');
+      rests = λ n j. k.rests n (suc j) ∙ rest_take low n j left before p c f h;
       begins = f.begins ∙ k.begins;
       stands = (f.stands.0, sym (last_found low t left before p c k f h).0 ∙ f.stands.1 ∙ ap (λ q. f.stands.0 ++ q) (sym (named_text p c h)));
       shorter = omega (arith, k.no_longer, f.shorter);

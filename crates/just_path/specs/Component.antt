@@ -1,5 +1,5 @@
 -- What a value of the program is as a component.
-use Rattle.std.specs.Prelude.{◌≡◌, List, [], ◌∷◌, ◌++◌, Option, Some, None, MatchOption}
+use Rattle.std.specs.Prelude.{List, [], ◌∷◌, Option, Some, None}
 use Rattle.just_path.specs.Comps.{Comp, prefix, root, current, parent, normal}
 use Rattle.just_path.specs.declared.component.Utf8Component.{Utf8Component}
 use Rattle.just_path.specs.declared.component.Utf8Component.TheVariants as c
@@ -16,11 +16,3 @@ comp_of (c.Normal name) = normal name.now
 abbrev pub one_of : Option Utf8Component → List Comp
 one_of None = []
 one_of (Some x) = comp_of x ∷ []
-
--- the first component was taken and these are left; none is taken only where none was left, and then none is left
-abbrev pub TakesFirst : List Comp → Option Utf8Component → List Comp → Type 0
-TakesFirst before r after = MatchOption r ((before ≡ []) × (after ≡ [])) (λ x. before ≡ comp_of x ∷ after)
-
--- the same of the last component
-abbrev pub TakesLast : List Comp → Option Utf8Component → List Comp → Type 0
-TakesLast before r after = MatchOption r ((before ≡ []) × (after ≡ [])) (λ x. before ≡ after ++ comp_of x ∷ [])

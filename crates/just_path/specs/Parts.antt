@@ -1,5 +1,5 @@
 -- Parts of a path's text: from a component on, and up to a component.
-use Rattle.std.specs.Prelude.{◌≡◌, ◌⊎◌, ℕ, zero, suc, nat_lt, Option, Some, None, List, [], ◌∷◌, ◌++◌, length, take, if◌then◌else◌}
+use Rattle.std.specs.Prelude.{◌≡◌, ◌⊎◌, ◌==◌, ℕ, zero, suc, nat_lt, Option, Some, None, List, [], ◌∷◌, ◌++◌, length, take, if◌then◌else◌}
 use Rattle.std.specs.List.{flat_map}
 use Rattle.just_path.specs.Comps.{Comp, root, current, named, pieces, names, leading, comps, is_empty}
 
@@ -19,13 +19,18 @@ from k [] = []
 from zero (p ∷ ps) = if is_empty (named p) then from zero ps else p ∷ ps
 from (suc k) (p ∷ ps) = if is_empty (named p) then from (suc k) ps else from k ps
 
--- a path's text without what stands behind its last component, or behind its last but k
+-- a path's text up to its last component, or up to its last but k: without what stands behind that one
 unfoldable pub cut : ℕ → List ℕ → List ℕ
-cut k t = if nat_lt k (length (names t)) then joined (upto k (pieces t)) else take (length (leading t)) t
+cut k t = if nat_lt k (length (names t)) then joined (upto k (pieces t)) else (if k == length (names t) then take (length (leading t)) t else [])
 
--- the slice of a text that begins behind its first k names, from the next name to the last
-unfoldable pub rest : ℕ → List ℕ → List ℕ
-rest k t = joined (upto 0 (from k (pieces t)))
+-- the slice of a text that begins behind its first n names, from the next name to the last, or to the last but k
+unfoldable pub rest : ℕ → ℕ → List ℕ → List ℕ
+rest n k t = joined (upto k (from n (pieces t)))
+
+-- the slice of a text from its component number n to the last, or to the last but k
+abbrev pub slice : ℕ → ℕ → List ℕ → List ℕ
+slice zero k t = cut k t
+slice (suc n) k t = rest (if is_empty (leading t) then suc n else n) k t
 
 -- the parent: none where the path has no component or the root alone; else the text up to the end of the last component but one
 abbrev pub parent_of_leading : List Comp → Option (List ℕ)

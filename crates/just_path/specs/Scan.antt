@@ -1,7 +1,7 @@
 -- What the first and the last piece of a text are to it.
 use Rattle.std.specs.Prelude.{◌≡◌, ◌<◌, ◌≤◌, ◌+◌, ℕ, suc, false, List, [], ◌∷◌, ◌++◌, length, take, ◌⊎◌}
 use Rattle.just_path.specs.Comps.{Comp, comp_text, named, pieces, names, leading, is_empty}
-use Rattle.just_path.specs.Parts.{upto, rest, cut}
+use Rattle.just_path.specs.Parts.{upto, from, rest, cut}
 
 -- the piece is the first of a text, and `after` what follows its slash
 pub record IsFirstPiece (text piece after : List ℕ) : Type 0 where
@@ -12,6 +12,7 @@ pub record IsFirstPiece (text piece after : List ℕ) : Type 0 where
 pub record IsLastPiece (low : ℕ) (text before piece : List ℕ) : Type 0 where
   pub gives : names text ≡ names before ++ named piece
   pub ends : (k : ℕ) → upto (length (named piece) + k) (pieces text) ≡ upto k (pieces before)
+  pub ends_from : (n k : ℕ) → upto (length (named piece) + k) (from n (pieces text)) ≡ upto k (from n (pieces before))
   pub whole : is_empty (named piece) ≡ false → upto 0 (pieces text) ≡ pieces text
   pub begins : leading before ≡ leading text
   pub front : take low before ≡ take low text
@@ -22,13 +23,14 @@ pub record IsLastPiece (low : ℕ) (text before piece : List ℕ) : Type 0 where
 -- a text gives the component first, and `after` the others
 pub record HasFirst (text : List ℕ) (first : Comp) (after : List ℕ) : Type 0 where
   pub gives : names text ≡ first ∷ names after
-  pub rests : (k : ℕ) → rest (suc k) text ≡ rest k after
+  pub rests : (n k : ℕ) → rest (suc n) k text ≡ rest n k after
   pub shorter : length after < length text
 
 -- a text gives the component last, and `before` the others
 pub record HasLast (text before : List ℕ) (last : Comp) : Type 0 where
   pub gives : names text ≡ names before ++ last ∷ []
   pub cuts : (k : ℕ) → cut (suc k) text ≡ cut k before
+  pub rests : (n k : ℕ) → rest n (suc k) text ≡ rest n k before
   pub begins : leading before ≡ leading text
   pub shorter : length before < length text
   pub stands : (a : List ℕ) × (cut 0 text ≡ a ++ comp_text last)

@@ -1,10 +1,11 @@
-ghost use Rattle.std.specs.Prelude.{◌≡◌, ◌<◌, ℕ, suc, length, OnSome, IfSome};
+ghost use Rattle.std.specs.Prelude.{◌≡◌, ◌<◌, ℕ, length, OnSome, option_map};
 ghost use Rattle.std.specs.Iterator.{at_most};
 ghost use Rattle.just_path.specs.Path.{text_of};
 ghost use Rattle.just_path.specs.Comps.{names, comps};
-ghost use Rattle.just_path.specs.Parts.{rest};
-ghost use Rattle.just_path.specs.Component.{TakesFirst, TakesLast};
-ghost use Rattle.just_path.specs.Walk.{left, slice, slice_left, left_bound};
+ghost use Rattle.just_path.specs.Parts.{rest, slice};
+ghost use Rattle.just_path.specs.Component.{comp_of};
+ghost use Rattle.just_path.specs.Mixture.{front, back, Takes, Shortens, Moves};
+ghost use Rattle.just_path.specs.Walk.{left, slice_left, left_bound};
 
 use super::scan::leading;
 use super::walk::{first_name, last_name, trim_back, trim_front};
@@ -21,7 +22,7 @@ pub struct Utf8Components<'a> {
 impl<'a> Utf8Components<'a> {
     pub(crate) fn new(text: &'a str) -> Utf8Components<'a>
         ensures left { left result ≡ comps text.now }
-        ensures slice { (n : ℕ) → slice_left result n ≡ slice n text.now }
+        ensures slice { (n k : ℕ) → slice_left result n k ≡ slice n k text.now }
     {
         Utf8Components {
             text,
@@ -41,7 +42,7 @@ impl<'a> Utf8Components<'a> {
 
     /// The slice from the first to the last of the components that are left.
     pub fn as_path(&self) -> Utf8Path<'a>
-        ensures slice { text_of result ≡ slice_left self.now 0 }
+        ensures slice { text_of result ≡ slice_left self.now 0 0 }
         ensures left { comps (text_of result) ≡ left self.now }
     {
         if self.started {
@@ -52,10 +53,9 @@ impl<'a> Utf8Components<'a> {
     }
 
     /// The first component that is left.
-    #[tactic(auto, using(crate::proofs::Ends::comps_led, crate::proofs::Ends::comps_unled))]
+    #[tactic(auto, using(crate::proofs::Ends::comps_led, crate::proofs::Ends::comps_unled, crate::proofs::Ends::slices_led, crate::proofs::Ends::first_unled))]
     pub(crate) fn take_first(&mut self) -> Option<Utf8Component<'a>>
-        ensures step { TakesFirst (left self.old) result (left self.new) }
-        ensures slice { IfSome result (λ c. (n : ℕ) → slice_left self.old (suc n) ≡ slice_left self.new n) }
+        ensures step { Moves left slice_left self.old (front (option_map comp_of result)) self.new }
         ensures progress { OnSome result (left_bound self.new < left_bound self.old) }
     {
         if self.started {
@@ -69,11 +69,11 @@ impl<'a> Utf8Components<'a> {
     }
 
     /// The first name that is left.
-    #[tactic(auto, using(crate::proofs::Ends::no_names))]
+    #[tactic(auto, using(crate::proofs::Ends::no_names, crate::proofs::Ends::rests_over))]
     fn take_name(&mut self) -> Option<Utf8Component<'a>>
-        ensures step { TakesFirst (names self.old.text.now) result (names self.new.text.now) }
+        ensures takes { Takes (names self.old.text.now) (front (option_map comp_of result)) (names self.new.text.now) }
+        ensures shortens { Shortens (λ n k. rest n k self.old.text.now) (front (option_map comp_of result)) (λ n k. rest n k self.new.text.now) }
         ensures started { self.new.started ≡ self.old.started }
-        ensures slice { IfSome result (λ c. (n : ℕ) → rest (suc n) self.old.text.now ≡ rest n self.new.text.now) }
         ensures progress { OnSome result (length self.new.text.now < length self.old.text.now) }
     {
         match first_name(self.text) {
@@ -89,9 +89,9 @@ impl<'a> Utf8Components<'a> {
     }
 
     /// The last component that is left.
-    #[tactic(auto, using(crate::proofs::Ends::no_names, crate::proofs::Ends::last_left, crate::proofs::Ends::comps_led, crate::proofs::Ends::comps_unled))]
+    #[tactic(auto, using(crate::proofs::Ends::no_names, crate::proofs::Ends::last_left, crate::proofs::Ends::comps_led, crate::proofs::Ends::comps_unled, crate::proofs::Ends::slices_last, crate::proofs::Ends::slices_behind))]
     pub(crate) fn take_last(&mut self) -> Option<Utf8Component<'a>>
-        ensures step { TakesLast (left self.old) result (left self.new) }
+        ensures step { Moves left slice_left self.old (back (option_map comp_of result)) self.new }
         ensures progress { OnSome result (left_bound self.new < left_bound self.old) }
     {
         let text = self.text;
@@ -114,7 +114,7 @@ impl<'a> Utf8Components<'a> {
 impl<'a> Iterator for Utf8Components<'a> {
     type Item = Utf8Component<'a>;
 
-    ghost next_gives = { λ s r t. TakesFirst (left s) r (left t) × IfSome r (λ c. (n : ℕ) → slice_left s (suc n) ≡ slice_left t n) };
+    ghost next_gives = { λ s r t. Moves left slice_left s (front (option_map comp_of r)) t };
 
     ghost remaining = { λ s. at_most (left_bound s) };
 
@@ -124,7 +124,7 @@ impl<'a> Iterator for Utf8Components<'a> {
 }
 
 impl<'a> DoubleEndedIterator for Utf8Components<'a> {
-    ghost next_back_gives = { λ s r t. TakesLast (left s) r (left t) };
+    ghost next_back_gives = { λ s r t. Moves left slice_left s (back (option_map comp_of r)) t };
 
     fn next_back(&mut self) -> Option<Utf8Component<'a>> {
         self.take_last()

@@ -1,13 +1,15 @@
-ghost use Rattle.std.specs.Prelude.{◌≡◌, ◌++◌, ℕ, List, ◌<◌, IfOk, IfSome, MatchResult, length, take, true, false, option_map, option_and_then, Some};
+ghost use Rattle.std.specs.Prelude.{◌≡◌, ◌++◌, ℕ, List, ◌<◌, IfOk, IfSome, MatchResult, length, take, map, true, false, option_map, option_and_then, Some};
 ghost use Rattle.std.specs.Option.{option_copied};
 ghost use Rattle.just_path.specs.Path.{text_of, pushed};
-ghost use Rattle.just_path.specs.Comps.{Comp, comps, has_prefix};
-ghost use Rattle.just_path.specs.Parts.{parent_of, parent_of_leading, HasOneLess};
+ghost use Rattle.just_path.specs.Comps.{Comp, comp_text, comps, has_prefix};
+ghost use Rattle.just_path.specs.Parts.{slice, parent_of, parent_of_leading, HasOneLess};
 ghost use Rattle.just_path.specs.Component.{one_of};
 ghost use Rattle.just_path.specs.Names.{file_name_of, stem_of, prefix_of, extension_of};
-ghost use Rattle.just_path.specs.Mixture.{Move, Taken, from_front, from_back};
+ghost use Rattle.just_path.specs.Mixture.{Move, Walks, IsWalkOver};
+ghost use Rattle.just_path.specs.declared.components.Utf8Components.{Utf8Components};
+ghost use Rattle.just_path.specs.declared.iter.Iter.{Iter};
 ghost use Rattle.just_path.specs.Order.{begins_with, ends_with};
-ghost use Rattle.just_path.specs.Walk.{left, slice, slice_left};
+ghost use Rattle.just_path.specs.Walk.{left, slice_left, texts_left, texts_slice_left};
 ghost use Rattle.just_path.specs.Ancestors.{ancestor_next};
 
 use super::name::{extension_of, prefix_of, stem_of};
@@ -18,12 +20,13 @@ use super::{Iter, StripPrefix, Utf8Ancestors, Utf8Component, Utf8Components, Utf
 
 impl<'a> Utf8Path<'a> {
     /// The components, from either end.
-    #[tactic(auto, using(crate::proofs::Parents::no_prefix, crate::proofs::Mixtures::each_once))]
+    #[tactic(auto, using(crate::proofs::Parents::no_prefix))]
     pub fn components(&self) -> Utf8Components<'a>
         ensures left { left result ≡ comps (text_of self.now) }
-        ensures slice { (n : ℕ) → slice_left result n ≡ slice n (text_of self.now) }
-        // Taken from front and back in any mixture, each comes once, and none is left out.
-        ensures once { (moves : List Move) (after : List Comp) → Taken (comps (text_of self.now)) moves after → comps (text_of self.now) ≡ from_front moves ++ (after ++ from_back moves) }
+        ensures slice { (n k : ℕ) → slice_left result n k ≡ slice n k (text_of self.now) }
+        // Taken from front and back in any mixture, each comes once and then none for good, and `as_path` is exactly the
+        // slice between those that came.
+        ensures walk { (moves : List (Move Comp)) (after : Utf8Components) → Walks left slice_left result moves after → IsWalkOver (comps (text_of self.now)) (λ n k. slice n k (text_of self.now)) moves (left after) (slice_left after 0 0) }
         // None of them is a prefix.
         ensures unix { has_prefix (comps (text_of self.now)) ≡ false }
     {
@@ -32,8 +35,10 @@ impl<'a> Utf8Path<'a> {
 
     /// The texts of the components, from either end.
     pub fn iter(&self) -> Iter<'a>
-        ensures left { left result.inner ≡ comps (text_of self.now) }
-        ensures slice { (n : ℕ) → slice_left result.inner n ≡ slice n (text_of self.now) }
+        ensures left { texts_left result ≡ map comp_text (comps (text_of self.now)) }
+        ensures slice { (n k : ℕ) → texts_slice_left result n k ≡ slice n k (text_of self.now) }
+        // The law of the components' iterator, of their texts.
+        ensures walk { (moves : List (Move (List ℕ))) (after : Iter) → Walks texts_left texts_slice_left result moves after → IsWalkOver (map comp_text (comps (text_of self.now))) (λ n k. slice n k (text_of self.now)) moves (texts_left after) (texts_slice_left after 0 0) }
     {
         Iter::new(self.components())
     }
@@ -121,7 +126,7 @@ impl<'a> Utf8Path<'a> {
     /// exactly where the components don't begin with those of `base`.
     pub fn strip_prefix(&self, base: Utf8Path<'_>) -> Result<Utf8Path<'a>, StripPrefix>
         ensures slice { MatchResult result
-            (λ r. text_of r ≡ slice (length (comps (text_of base.entry))) (text_of self.now))
+            (λ r. text_of r ≡ slice (length (comps (text_of base.entry))) 0 (text_of self.now))
             (λ e. begins_with (comps (text_of self.now)) (comps (text_of base.entry)) ≡ false) }
         // What remains are the components behind those of `base`.
         ensures remains { IfOk result (λ r. comps (text_of self.now) ≡ comps (text_of base.entry) ++ comps (text_of r)) }

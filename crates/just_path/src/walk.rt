@@ -41,7 +41,7 @@ pub(crate) fn last_name(text: &str) -> Option<(&str, Utf8Component<'_>)>
 
 /// A text from its first name on.
 pub(crate) fn trim_front(text: &str) -> &str
-    ensures slice { cut 0 result.now ≡ rest 0 text.now }
+    ensures slice { cut 0 result.now ≡ rest 0 0 text.now }
     ensures comps { comps result.now ≡ names text.now }
 {
     let mut left = text;
