@@ -14,3 +14,4 @@ pub mod Parents
 pub mod Lossies
 pub mod Mixtures
 pub mod Laws
+pub mod Climbs

@@ -7,9 +7,9 @@ use Rattle.just_path.specs.Path.{is_absolute, ends_open, pushed}
 use Rattle.just_path.specs.Comps.{Comp, prefix, root, current, parent, normal, comp_text, dot, dots, slash, glued, pieces, is_dot_first, is_empty, named, names, leading, comps}
 use Rattle.just_path.specs.Component.{comp_of}
 use Rattle.just_path.specs.declared.component.Utf8Component.{Utf8Component}
-use Rattle.just_path.specs.Clean.{IsCleanOf, without_parents, after_name, put, reduced, or_current, path_from, cleaned, no_parent, parents_first}
+use Rattle.just_path.specs.Clean.{IsNormalForm, IsCleanOf, without_parents, after_name, put, reduced, or_current, path_from, cleaned, no_parent, parents_first}
 use Rattle.just_path.specs.Settled.{begins_parent, settled, comps_of}
-use Rattle.just_path.proofs.Cleans.{normal_form, reduced_settled, reduced_normal, settled_first, settled_rest}
+use Rattle.just_path.proofs.Cleans.{normal_form, one_normal_form, reduced_settled, reduced_normal, settled_first, settled_rest}
 use Rattle.just_path.proofs.Walks.{lead_named}
 use Rattle.just_path.proofs.Pushes.{all_named, all_append, all_of_piece, relative_unled, push_empty, comps_pushed}
 
@@ -170,6 +170,10 @@ clean_again t =
 pub clean_is_normal : (t : List ℕ) → IsCleanOf t (cleaned t)
 unfolding cleaned
 clean_is_normal t = (reduced (comps t), normal_form (comps t), refl)
+
+-- and each normal form of the components is that of the clean path
+pub clean_only : (t : List ℕ) (n : List Comp) → IsNormalForm (comps t) n → comps (cleaned t) ≡ or_current n
+clean_only t n h = comps_cleaned t ∙ ap or_current (one_normal_form (comps t) (reduced (comps t)) n (normal_form (comps t)) h)
 
 good_kind : (cs : List Comp) → AllGood cs → all_named cs ≡ true
 good_kind [] a = refl

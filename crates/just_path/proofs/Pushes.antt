@@ -7,7 +7,7 @@ use Rattle.std.proofs.lemmas.List.{append-nil}
 use Rattle.std.proofs.lemmas.Grind.{flat_map-append}
 use Rattle.std.proofs.lemmas.Bool.{ne_eqb, cases_eq}
 use Rattle.just_path.specs.Path.{is_absolute, is_other, ends_open, pushed}
-use Rattle.just_path.specs.Comps.{Comp, root, current, parent, normal, dot, dots, glued, pieces, is_dot_first, is_empty, named, names, leading, comps}
+use Rattle.just_path.specs.Comps.{Comp, prefix, root, current, parent, normal, dot, dots, glued, pieces, is_dot_first, is_empty, named, names, leading, comps, comps_joined}
 use Rattle.just_path.specs.Order.{rank}
 use Rattle.just_path.proofs.Pieces.{pieces_slash}
 use Rattle.just_path.proofs.Leading
@@ -180,3 +180,35 @@ joined_again t [] r h = ap comps (push_empty r) ∙ sym (h ∙ ap (λ cs. cs ++ 
 joined_again t (x ∷ b) r h =
     let l = behind_some t (comps (x ∷ b)) r (comps_filled x b) h in
     comps_pushed x b r (relative_unled r l) ∙ ap (λ cs. comps (x ∷ b) ++ cs) (unled_comps r l) ∙ sym h
+
+-- what is pushed on a component is put behind it, where it is names alone
+joined_names : (c : Comp) (cs ns : List Comp) → all_named ns ≡ true → comps_joined (c ∷ cs) ns ≡ (c ∷ cs) ++ ns
+joined_names c cs [] h = refl
+joined_names c cs (prefix t ∷ ns) h = refl
+joined_names c cs (root ∷ ns) h = cc
+joined_names c cs (current ∷ ns) h = cc
+joined_names c cs (parent ∷ ns) h = refl
+joined_names c cs (normal t ∷ ns) h = refl
+
+comps_absolute : (p : List ℕ) → is_absolute p ≡ true → comps p ≡ root ∷ names p
+unfolding comps leading
+comps_absolute p h = rw h refl
+
+joined_relative : (c : Comp) (cs : List Comp) (p : List ℕ) → is_absolute p ≡ false → (c ∷ cs) ++ names p ≡ comps_joined (c ∷ cs) (comps p)
+unfolding comps leading
+joined_relative c cs p h =
+    rw h
+    (elim (is_dot_first (pieces p)) as (λ v. (c ∷ cs) ++ names p ≡ comps_joined (c ∷ cs) (cond v (current ∷ []) [] ++ names p)) [
+      | true ↦ refl
+      | false ↦ sym (joined_names c cs (names p) (all_of_names p))
+    ])
+
+joined_on : (x : ℕ) (b p : List ℕ) (v : Bool) → is_absolute p ≡ v → (cs : List Comp) → comps (x ∷ b) ≡ cs → is_empty cs ≡ false → comps (pushed (x ∷ b) p) ≡ comps_joined cs (comps p)
+joined_on x b p v e [] h f = cc
+joined_on x b p true e (c ∷ cs) h f = ap comps (push_absolute (x ∷ b) p e) ∙ comps_absolute p e ∙ sym (ap (comps_joined (c ∷ cs)) (comps_absolute p e))
+joined_on x b p false e (c ∷ cs) h f = comps_pushed x b p e ∙ ap (λ ds. ds ++ names p) h ∙ joined_relative c cs p e
+
+-- the components of a path with another pushed
+pub joined_comps : (b p : List ℕ) → comps (pushed b p) ≡ comps_joined (comps b) (comps p)
+joined_comps [] p = ap comps (push_empty p) ∙ sym (ap (λ cs. comps_joined cs (comps p)) comps_none)
+joined_comps (x ∷ b) p = joined_on x b p (is_absolute p) refl (comps (x ∷ b)) refl (comps_filled x b)

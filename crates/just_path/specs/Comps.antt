@@ -74,3 +74,11 @@ has_prefix (root ∷ cs) = has_prefix cs
 has_prefix (current ∷ cs) = has_prefix cs
 has_prefix (parent ∷ cs) = has_prefix cs
 has_prefix (normal t ∷ cs) = has_prefix cs
+
+-- the components of a path with another pushed: those of both, one behind the other, but an absolute path replaces what it is
+-- pushed on, and a `.` in front of it stays only where it is pushed on nothing
+abbrev pub comps_joined : List Comp → List Comp → List Comp
+comps_joined [] ds = ds
+comps_joined (c ∷ cs) (root ∷ ds) = root ∷ ds
+comps_joined (c ∷ cs) (current ∷ ds) = (c ∷ cs) ++ ds
+comps_joined (c ∷ cs) ds = (c ∷ cs) ++ ds

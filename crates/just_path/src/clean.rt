@@ -2,7 +2,7 @@ ghost use Rattle.std.specs.Prelude.{◌≡◌, ◌++◌, ◌∷◌, [], List, tr
 ghost use Rattle.just_path.specs.Path.{text_of, pushed};
 ghost use Rattle.just_path.specs.Comps.{Comp, parent, comp_text, comps};
 ghost use Rattle.just_path.specs.Component.{comp_of};
-ghost use Rattle.just_path.specs.Clean.{reduced, cleaned, IsCleanOf, parents_first};
+ghost use Rattle.just_path.specs.Clean.{reduced, or_current, cleaned, IsNormalForm, IsCleanOf, parents_first};
 ghost use Rattle.just_path.specs.Settled.{follows, settled, comps_of};
 ghost use Rattle.just_path.specs.Walk.{left};
 
@@ -14,8 +14,10 @@ impl<'a> Utf8Path<'a> {
     /// root. Where nothing is left it is `.`.
     pub fn clean(&self, alloc: Global) -> Result<Utf8PathBuf, NoMemory>
         ensures clean { IfOk result (λ p. p ≡ cleaned (text_of self.now)) }
-        // The components are the one normal form of the path's under the rewrites, or `.` where that is empty.
+        // It is made of a normal form of the path's components under the rewrites, or of `.` where that is empty.
         ensures normal { IfOk result (λ p. IsCleanOf (text_of self.now) p) }
+        // Each normal form of the path's components is this one.
+        ensures only { IfOk result (λ p. (n : List Comp) → IsNormalForm (comps (text_of self.now)) n → comps p ≡ or_current n) }
         // What is clean stays as it is.
         ensures again { IfOk result (λ p. cleaned p ≡ p) }
         // `..` stands only in front, and not at all behind the root.

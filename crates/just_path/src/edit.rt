@@ -1,5 +1,6 @@
 ghost use Rattle.std.specs.Prelude.{◌≡◌, ◌≤◌, ◌<◌, ◌+◌, if◌then◌else◌, ◌++◌, ◌∷◌, [], length, take, IfSome, IfOk, OnOk, OnErr, IsTrue, is_some, option_map, unwrap_or, fold, map, string_bytes, string_len, string_capacity, IsUtf8};
 ghost use Rattle.just_path.specs.Path.{text_of, pushed};
+ghost use Rattle.just_path.specs.Comps.{comps, comps_joined};
 ghost use Rattle.just_path.specs.Parts.{parent_of, cut};
 ghost use Rattle.just_path.specs.Names.{file_name_of, with_name, with_extension, with_added, stem_end, has_no_slash, dotted};
 
@@ -103,8 +104,11 @@ fn put_extension(text: &mut String, extension: &str) -> Result<(), NoMemory>
 impl Utf8PathBuf {
     /// Puts `path` on: an absolute path replaces this one; else one `/` stands between, where the text isn't empty
     /// and doesn't end in one.
+    #[tactic(auto, using(crate::proofs::Pushes::joined_comps))]
     pub fn push(&mut self, path: Utf8Path<'_>) -> Result<(), NoMemory>
         ensures ok { OnOk result (self.new ≡ pushed self.old (text_of path.entry)) }
+        // The components are those of both.
+        ensures comps { OnOk result (comps self.new ≡ comps_joined (comps self.old) (comps (text_of path.entry))) }
         ensures err { OnErr result (self.new ≡ self.old) }
     {
         push(&mut self.text, path.as_str())

@@ -1,5 +1,6 @@
 ghost use Rattle.std.specs.Prelude.{◌≡◌, IfOk, IsTrue, ◌↔◌, slice_get, Some};
 ghost use Rattle.just_path.specs.Path.{text_of, pushed, is_absolute, ends_open};
+ghost use Rattle.just_path.specs.Comps.{comps, comps_joined};
 
 use super::{NoMemory, Utf8PathBuf};
 use std::alloc::Global;
@@ -40,19 +41,30 @@ impl<'a> Utf8Path<'a> {
 
     /// A copy with `path` pushed: an absolute path replaces it; else one `/` stands between, where the text
     /// isn't empty and doesn't end in one.
+    #[tactic(auto, using(crate::proofs::Pushes::joined_comps))]
     pub fn join(&self, alloc: Global, path: Utf8Path<'_>) -> Result<Utf8PathBuf, NoMemory>
-        ensures { IfOk result (λ p. p ≡ pushed (text_of self.now) (text_of path.entry)) }
+        ensures path { IfOk result (λ p. p ≡ pushed (text_of self.now) (text_of path.entry)) }
+        // Its components are those of both.
+        ensures comps { IfOk result (λ p. comps p ≡ comps_joined (comps (text_of self.now)) (comps (text_of path.entry))) }
     {
-        if path.is_absolute() {
-            return path.to_path_buf(alloc);
-        }
-        let mut text = String::from_str(alloc, self.text)?;
-        if needs_slash(self.text) {
-            text.push_str("/")?;
-        }
-        text.push_str(path.text)?;
-        Ok(Utf8PathBuf::from(text))
+        let path = put_on(alloc, self.text, path)?;
+        Ok(path)
     }
+}
+
+/// The push rule, on a copy of the text.
+fn put_on(alloc: Global, base: &str, path: Utf8Path<'_>) -> Result<Utf8PathBuf, NoMemory>
+    ensures { IfOk result (λ p. p ≡ pushed base.now (text_of path.entry)) }
+{
+    if path.is_absolute() {
+        return path.to_path_buf(alloc);
+    }
+    let mut text = String::from_str(alloc, base)?;
+    if needs_slash(base) {
+        text.push_str("/")?;
+    }
+    text.push_str(path.text)?;
+    Ok(Utf8PathBuf::from(text))
 }
 
 /// Whether a `/` goes between this text and what is pushed on it.

@@ -10,7 +10,7 @@ ghost use Rattle.just_path.specs.declared.components.Utf8Components.{Utf8Compone
 ghost use Rattle.just_path.specs.declared.iter.Iter.{Iter};
 ghost use Rattle.just_path.specs.Order.{begins_with, ends_with};
 ghost use Rattle.just_path.specs.Walk.{left, slice_left, texts_left, texts_slice_left};
-ghost use Rattle.just_path.specs.Ancestors.{ancestor_next};
+ghost use Rattle.just_path.specs.Ancestors.{ancestors_of, ancestors_left};
 
 use super::name::{extension_of, prefix_of, stem_of};
 use super::order::{begins_with, ends_with, same};
@@ -62,7 +62,7 @@ impl<'a> Utf8Path<'a> {
 
     /// The path itself, its parent, and so on.
     pub fn ancestors(&self) -> Utf8Ancestors<'a>
-        ensures { ancestor_next result ≡ Some (text_of self.now) }
+        ensures { ancestors_left result ≡ ancestors_of (text_of self.now) }
     {
         Utf8Ancestors::new(*self)
     }

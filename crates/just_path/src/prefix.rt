@@ -1,5 +1,5 @@
 ghost use Rattle.std.specs.Prelude.{◌≡◌, Bool};
-ghost use Rattle.just_path.specs.Prefix.{is_verbatim};
+ghost use Rattle.just_path.specs.Prefix.{is_verbatim, prefix_text, prefix_kind};
 
 /// The prefixes that a path has on Windows. No Unix path gives one.
 #[derive(Clone, Copy, PartialEq, Eq, PartialOrd, Ord, Hash)]
@@ -46,20 +46,20 @@ pub struct Utf8PrefixComponent<'a> {
 impl<'a> Utf8PrefixComponent<'a> {
     /// The parsed prefix.
     pub fn kind(&self) -> Utf8Prefix<'a>
-        ensures { result ≡ self.now.parsed }
+        ensures { result ≡ prefix_kind self.now }
     {
         self.parsed
     }
 
     pub fn as_str(&self) -> &'a str
-        ensures { result.now ≡ self.now.raw.now }
+        ensures { result.now ≡ prefix_text self.now }
     {
         self.raw
     }
 
     /// The text's bytes.
     pub fn as_os_str(&self) -> &'a [u8]
-        ensures { result.now ≡ self.now.raw.now }
+        ensures { result.now ≡ prefix_text self.now }
     {
         self.raw.as_bytes()
     }
