@@ -43,6 +43,7 @@ impl Log {
     pub fn room(&mut self, n: usize) -> Result<(), NoMemory>
         ensures entries { self.new.entries.items ≡ self.old.entries.items }
         ensures ok { OnOk result (n ≤ self.new.spare) }
+        ensures kept { self.old.spare ≤ self.new.spare }
         ensures err { OnErr result (self.new.spare ≡ self.old.spare) }
     {
         self.entries.reserve(n)?;
