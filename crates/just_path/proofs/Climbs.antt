@@ -5,80 +5,80 @@ use Rattle.std.specs.Str.{bytes_eq}
 use Rattle.std.proofs.lemmas.Bool.{cases_lt}
 use Rattle.std.proofs.lemmas.Bool.Decides.{nat_tests}
 use Rattle.std.proofs.lemmas.List.{take_all}
-use Rattle.just_path.specs.Comps.{Comp, prefix, root, current, parent, normal, dot, dots, pieces, is_empty, named, names, leading}
-use Rattle.just_path.specs.Parts.{joined, upto, cut, parent_of, parent_of_leading}
+use Rattle.just_path.specs.Comps.{Comp, prefix, root, current, parent, normal, dot, dots, pieces, is_empty, comps_of_piece, names, lead_of}
+use Rattle.just_path.specs.Parts.{text_of_pieces, pieces_upto, text_upto, parent_of, parent_of_lead}
 use Rattle.just_path.specs.Ancestors.{first_ancestors, ancestors_of, ancestors_from, bound_of}
-use Rattle.just_path.proofs.Pieces.{joined_pieces}
+use Rattle.just_path.proofs.Pieces.{text_of_pieces_of}
 use Rattle.just_path.proofs.Leading
 use Rattle.just_path.proofs.Walks.{names_front}
 use Rattle.just_path.proofs.Ends.{no_names}
 
 -- a piece gives one name at most
-one_name : (p : List ℕ) → length (named p) ≤ 1
+one_name : (p : List ℕ) → length (comps_of_piece p) ≤ 1
 one_name p =
     elim (is_empty p || bytes_eq p dot) as (λ v. length (cond v [] (cond (bytes_eq p dots) (parent ∷ []) (normal p ∷ []))) ≤ 1) [
       | true ↦ omega arith
       | false ↦ elim (bytes_eq p dots) as (λ v. length (cond v (parent ∷ []) (normal p ∷ [])) ≤ 1) [ true ↦ omega arith | false ↦ omega arith ]
     ]
 
-length_more : (p q : List ℕ) (qs : List (List ℕ)) → length (joined (p ∷ q ∷ qs)) ≡ length p + (1 + length (joined (q ∷ qs)))
+length_more : (p q : List ℕ) (qs : List (List ℕ)) → length (text_of_pieces (p ∷ q ∷ qs)) ≡ length p + (1 + length (text_of_pieces (q ∷ qs)))
 length_more p q qs = length-append p (47 ∷ (q ++ flat_map (λ r. 47 ∷ r) qs)) ∙ omega arith
 
-length_alone : (p : List ℕ) → length (joined (p ∷ [])) ≡ length p
+length_alone : (p : List ℕ) → length (text_of_pieces (p ∷ [])) ≡ length p
 length_alone p = length-append p [] ∙ omega arith
 
 -- pieces with a name among them have a text
-joined_some : (ps : List (List ℕ)) → 0 < length (flat_map named ps) → 0 < length (joined ps)
+joined_some : (ps : List (List ℕ)) → 0 < length (flat_map comps_of_piece ps) → 0 < length (text_of_pieces ps)
 joined_some [] h = absurd (omega arith)
 joined_some ([] ∷ []) h = absurd (omega arith)
 joined_some ([] ∷ q ∷ qs) h = omega (arith, length_more [] q qs)
 joined_some ((x ∷ p) ∷ ps) h = omega arith
 
-joined_step : (p : List ℕ) (us ps : List (List ℕ)) → 0 < length ps → length (joined us) < length (joined ps) → length (joined (p ∷ us)) < length (joined (p ∷ ps))
+joined_step : (p : List ℕ) (us ps : List (List ℕ)) → 0 < length ps → length (text_of_pieces us) < length (text_of_pieces ps) → length (text_of_pieces (p ∷ us)) < length (text_of_pieces (p ∷ ps))
 joined_step p us [] l h = absurd (omega arith)
 joined_step p [] (q ∷ qs) l h = omega (arith, length_alone p, length_more p q qs)
 joined_step p (u ∷ us) (q ∷ qs) l h = omega (arith, length_more p u us, length_more p q qs)
 
-some_pieces : (ps : List (List ℕ)) → 0 < length (flat_map named ps) → 0 < length ps
+some_pieces : (ps : List (List ℕ)) → 0 < length (flat_map comps_of_piece ps) → 0 < length ps
 some_pieces [] h = h
 some_pieces (p ∷ ps) h = omega arith
 
-upto_case : (k : ℕ) (p : List ℕ) (ps : List (List ℕ)) (v : Bool) → nat_lt (suc k) (length (flat_map named (p ∷ ps))) ≡ v → (0 < length (flat_map named ps) → length (joined (upto (suc k) ps)) < length (joined ps)) → 0 < length (flat_map named (p ∷ ps)) → length (joined (cond v (p ∷ upto (suc k) ps) [])) < length (joined (p ∷ ps))
-upto_case k p ps false e less h = joined_some (p ∷ ps) h
-upto_case k p ps true e less h =
-    let l : suc k < length (flat_map named (p ∷ ps)) = grind (arith, nat_tests) in
-    let m : 0 < length (flat_map named ps) = omega (arith, one_name p, length-append (named p) (flat_map named ps)) in
-    joined_step p (upto (suc k) ps) ps (some_pieces ps m) (less m)
+pieces_upto_case : (k : ℕ) (p : List ℕ) (ps : List (List ℕ)) (v : Bool) → nat_lt (suc k) (length (flat_map comps_of_piece (p ∷ ps))) ≡ v → (0 < length (flat_map comps_of_piece ps) → length (text_of_pieces (pieces_upto (suc k) ps)) < length (text_of_pieces ps)) → 0 < length (flat_map comps_of_piece (p ∷ ps)) → length (text_of_pieces (cond v (p ∷ pieces_upto (suc k) ps) [])) < length (text_of_pieces (p ∷ ps))
+pieces_upto_case k p ps false e less h = joined_some (p ∷ ps) h
+pieces_upto_case k p ps true e less h =
+    let l : suc k < length (flat_map comps_of_piece (p ∷ ps)) = grind (arith, nat_tests) in
+    let m : 0 < length (flat_map comps_of_piece ps) = omega (arith, one_name p, length-append (comps_of_piece p) (flat_map comps_of_piece ps)) in
+    joined_step p (pieces_upto (suc k) ps) ps (some_pieces ps m) (less m)
 
 -- pieces up to the last name but some are shorter than all
-upto_shorter : (k : ℕ) (ps : List (List ℕ)) → 0 < length (flat_map named ps) → length (joined (upto (suc k) ps)) < length (joined ps)
-upto_shorter k [] h = absurd (omega arith)
-upto_shorter k (p ∷ ps) h = upto_case k p ps (nat_lt (suc k) (length (flat_map named (p ∷ ps)))) refl (upto_shorter k ps) h
+pieces_upto_shorter : (k : ℕ) (ps : List (List ℕ)) → 0 < length (flat_map comps_of_piece ps) → length (text_of_pieces (pieces_upto (suc k) ps)) < length (text_of_pieces ps)
+pieces_upto_shorter k [] h = absurd (omega arith)
+pieces_upto_shorter k (p ∷ ps) h = pieces_upto_case k p ps (nat_lt (suc k) (length (flat_map comps_of_piece (p ∷ ps)))) refl (pieces_upto_shorter k ps) h
 
 some_names : (t : List ℕ) → is_empty (names t) ≡ false → 0 < length (names t)
 some_names t h = elim (names t) as (λ ns. is_empty ns ≡ false → 0 < length ns) [ [] ↦ λ e. cc | n ∷ ns ↦ λ e. omega arith ] h
 
-front_shorter : (t : List ℕ) → 0 < length (names t) → length (take (length (leading t)) t) < length t
+front_shorter : (t : List ℕ) → 0 < length (names t) → length (take (length (lead_of t)) t) < length t
 front_shorter t h =
     ⊎_elim
-    (λ (l : length (leading t) < length t). omega (arith, length-take (length (leading t)) t))
-    (λ (l : length t ≤ length (leading t)). absurd (let e : names t ≡ [] = ap names (sym (take_all (length (leading t)) t l)) ∙ names_front t in let z : length (names t) ≡ 0 = ap length e in omega arith))
-    (cases_lt (length (leading t)) (length t))
+    (λ (l : length (lead_of t) < length t). omega (arith, length-take (length (lead_of t)) t))
+    (λ (l : length t ≤ length (lead_of t)). absurd (let e : names t ≡ [] = ap names (sym (take_all (length (lead_of t)) t l)) ∙ names_front t in let z : length (names t) ≡ 0 = ap length e in omega arith))
+    (cases_lt (length (lead_of t)) (length t))
 
 text_some : (t : List ℕ) → 0 < length (names t) → 0 < length t
 text_some [] h = absurd (let z : length (names []) ≡ 0 = ap length no_names in omega arith)
 text_some (b ∷ bs) h = omega arith
 
 -- a text without its last name is shorter
-cut_shorter : (t : List ℕ) → 0 < length (names t) → length (cut 1 t) < length t
-unfolding cut names
-cut_shorter t h =
-    elim (nat_lt 1 (length (names t))) as (λ v. length (cond v (joined (upto 1 (pieces t))) (cond (eqb 1 (length (names t))) (take (length (leading t)) t) [])) < length t) [
-      | true ↦ (let a : length (joined (upto 1 (pieces t))) < length (joined (pieces t)) = upto_shorter 0 (pieces t) h in let e : length (joined (pieces t)) ≡ length t = ap length (joined_pieces t) in omega arith)
-      | false ↦ elim (eqb 1 (length (names t))) as (λ v. length (cond v (take (length (leading t)) t) []) < length t) [ true ↦ front_shorter t h | false ↦ text_some t h ]
+text_upto_shorter : (t : List ℕ) → 0 < length (names t) → length (text_upto 1 t) < length t
+unfolding text_upto names
+text_upto_shorter t h =
+    elim (nat_lt 1 (length (names t))) as (λ v. length (cond v (text_of_pieces (pieces_upto 1 (pieces t))) (cond (eqb 1 (length (names t))) (take (length (lead_of t)) t) [])) < length t) [
+      | true ↦ (let a : length (text_of_pieces (pieces_upto 1 (pieces t))) < length (text_of_pieces (pieces t)) = pieces_upto_shorter 0 (pieces t) h in let e : length (text_of_pieces (pieces t)) ≡ length t = ap length (text_of_pieces_of t) in omega arith)
+      | false ↦ elim (eqb 1 (length (names t))) as (λ v. length (cond v (take (length (lead_of t)) t) []) < length t) [ true ↦ front_shorter t h | false ↦ text_some t h ]
     ]
 
-leading_shorter : (t : List ℕ) (ls : List Comp) → leading t ≡ ls → bound_of (parent_of_leading ls) ≤ length t
+leading_shorter : (t : List ℕ) (ls : List Comp) → lead_of t ≡ ls → bound_of (parent_of_lead ls) ≤ length t
 leading_shorter t [] h = omega arith
 leading_shorter t (prefix p ∷ ls) h = omega arith
 leading_shorter t (root ∷ ls) h = omega arith
@@ -87,9 +87,9 @@ leading_shorter (b ∷ bs) (current ∷ ls) h = omega arith
 leading_shorter t (parent ∷ ls) h = omega arith
 leading_shorter t (normal p ∷ ls) h = omega arith
 
-parent_case : (t : List ℕ) (v : Bool) → is_empty (names t) ≡ v → bound_of (cond v (parent_of_leading (leading t)) (Some (cut 1 t))) ≤ length t
-parent_case t true e = leading_shorter t (leading t) refl
-parent_case t false e = omega (arith, cut_shorter t (some_names t e))
+parent_case : (t : List ℕ) (v : Bool) → is_empty (names t) ≡ v → bound_of (cond v (parent_of_lead (lead_of t)) (Some (text_upto 1 t))) ≤ length t
+parent_case t true e = leading_shorter t (lead_of t) refl
+parent_case t false e = omega (arith, text_upto_shorter t (some_names t e))
 
 -- a parent is shorter than its path
 pub parent_shorter : (t : List ℕ) → bound_of (parent_of t) ≤ length t

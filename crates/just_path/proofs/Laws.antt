@@ -5,8 +5,8 @@ use Rattle.std.specs.Cmp.Lexicographic.{pointwise}
 use Rattle.std.specs.Str.{bytes_eq}
 use Rattle.std.proofs.lemmas.Slice.Eq.{bytes_eq-Decides, slice_eq-Decides}
 use Rattle.just_path.specs.Path.{is_absolute, ends_open, pushed}
-use Rattle.just_path.specs.Comps.{root, slash, comp_text, leading, names, comps}
-use Rattle.just_path.specs.Clean.{reduced, without_parents, cleaned, is_clean_absolute}
+use Rattle.just_path.specs.Comps.{root, slash, comp_text, lead_of, names, comps}
+use Rattle.just_path.specs.Clean.{normal_form, without_parents, cleaned, is_clean_absolute}
 use Rattle.just_path.proofs.Made.{clean_again}
 
 -- `==` of two texts decides whether they are equal
@@ -47,14 +47,14 @@ absolute_fold [] b h = h
 absolute_fold (p ∷ ps) b h = absolute_fold ps (pushed b p) (absolute-pushed b p h)
 
 absolute_comps : (t : List ℕ) → is_absolute t ≡ true → comps t ≡ root ∷ names t
-unfolding comps leading
+unfolding comps lead_of
 absolute_comps t h = rw h refl
 
 -- the clean form of an absolute path is absolute
 pub absolute-cleaned : (t : List ℕ) → is_absolute t ≡ true → is_absolute (cleaned t) ≡ true
 unfolding cleaned
 absolute-cleaned t h =
-    rw (absolute_comps t h) (absolute_fold (map comp_text (without_parents (reduced (names t)))) slash refl)
+    rw (absolute_comps t h) (absolute_fold (map comp_text (without_parents (normal_form (names t)))) slash refl)
 
 -- what is clean stays as it is
 pub cleaned-cleaned : (t : List ℕ) → cleaned (cleaned t) ≡ cleaned t

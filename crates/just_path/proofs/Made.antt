@@ -4,27 +4,27 @@ use Rattle.std.specs.List.{flat_map}
 use Rattle.std.specs.Str.{bytes_eq}
 use Rattle.std.proofs.lemmas.List.{append-nil}
 use Rattle.just_path.specs.Path.{is_absolute, ends_open, pushed}
-use Rattle.just_path.specs.Comps.{Comp, prefix, root, current, parent, normal, comp_text, dot, dots, slash, glued, pieces, is_dot_first, is_empty, named, names, leading, comps}
+use Rattle.just_path.specs.Comps.{Comp, prefix, root, current, parent, normal, comp_text, dot, dots, slash, with_first_byte, pieces, is_dot_first, is_empty, comps_of_piece, names, lead_of, comps}
 use Rattle.just_path.specs.Component.{comp_of}
 use Rattle.just_path.specs.declared.component.Utf8Component.{Utf8Component}
-use Rattle.just_path.specs.Clean.{IsNormalForm, IsCleanOf, without_parents, after_name, put, reduced, or_current, path_from, cleaned, no_parent, parents_first}
-use Rattle.just_path.specs.Settled.{begins_parent, settled, comps_of}
-use Rattle.just_path.proofs.Cleans.{normal_form, one_normal_form, reduced_settled, reduced_normal, settled_first, settled_rest}
+use Rattle.just_path.specs.Clean.{IsNormalForm, IsCleanOf, without_parents, after_name, normal_form_with, normal_form, or_current, path_from, cleaned, no_parent, parents_first}
+use Rattle.just_path.specs.Reduced.{begins_with_parent, is_reduced, comps_of}
+use Rattle.just_path.proofs.Cleans.{IsNormalForm-normal_form, one_normal_form, normal_form_is_reduced, normal_form_of_reduced, reduced_first, reduced_rest}
 use Rattle.just_path.proofs.Walks.{lead_named}
-use Rattle.just_path.proofs.Pushes.{all_named, all_append, all_of_piece, relative_unled, push_empty, comps_pushed}
+use Rattle.just_path.proofs.Pushes.{all_named, all_append, all_of_piece, relative_unled, push_empty, comps_pushed_relative}
 
 -- each piece of a text is one piece
 abbrev AllPlain : List (List ℕ) → Type 0
 AllPlain [] = Unit {0}
 AllPlain (p ∷ ps) = (pieces p ≡ p ∷ []) × AllPlain ps
 
-plain_glued : (b : ℕ) (ps : List (List ℕ)) → eqb b 47 ≡ false → AllPlain ps → AllPlain (glued b ps)
-plain_glued b [] e a = (rw e refl, tt)
-plain_glued b (p ∷ ps) e a = (rw (e, a.0) refl, a.1)
+plain_with_first_byte : (b : ℕ) (ps : List (List ℕ)) → eqb b 47 ≡ false → AllPlain ps → AllPlain (with_first_byte b ps)
+plain_with_first_byte b [] e a = (rw e refl, tt)
+plain_with_first_byte b (p ∷ ps) e a = (rw (e, a.0) refl, a.1)
 
-plain_case : (b : ℕ) (bs : List ℕ) (v : Bool) → eqb b 47 ≡ v → AllPlain (pieces bs) → AllPlain (cond v ([] ∷ pieces bs) (glued b (pieces bs)))
+plain_case : (b : ℕ) (bs : List ℕ) (v : Bool) → eqb b 47 ≡ v → AllPlain (pieces bs) → AllPlain (cond v ([] ∷ pieces bs) (with_first_byte b (pieces bs)))
 plain_case b bs true e a = (refl, a)
-plain_case b bs false e a = plain_glued b (pieces bs) e a
+plain_case b bs false e a = plain_with_first_byte b (pieces bs) e a
 
 plain_pieces : (t : List ℕ) → AllPlain (pieces t)
 plain_pieces [] = (refl, tt)
@@ -32,7 +32,7 @@ plain_pieces (b ∷ bs) = plain_case b bs (eqb b 47) refl (plain_pieces bs)
 
 -- a component that its text gives, as a single piece
 abbrev pub IsGood : Comp → Type 0
-IsGood c = (named (comp_text c) ≡ c ∷ []) × (pieces (comp_text c) ≡ comp_text c ∷ [])
+IsGood c = (comps_of_piece (comp_text c) ≡ c ∷ []) × (pieces (comp_text c) ≡ comp_text c ∷ [])
 
 abbrev pub AllGood : List Comp → Type 0
 AllGood [] = Unit {0}
@@ -47,22 +47,22 @@ good_piece p true w e f a = tt
 good_piece p false true e f a = ((refl, refl), tt)
 good_piece p false false e f a = ((rw (e, f) refl, a), tt)
 
-good_pieces : (ps : List (List ℕ)) → AllPlain ps → AllGood (flat_map named ps)
+good_pieces : (ps : List (List ℕ)) → AllPlain ps → AllGood (flat_map comps_of_piece ps)
 good_pieces [] a = tt
-good_pieces (p ∷ ps) a = good_append (named p) (flat_map named ps) (good_piece p (is_empty p || bytes_eq p dot) (bytes_eq p dots) refl refl a.0) (good_pieces ps a.1)
+good_pieces (p ∷ ps) a = good_append (comps_of_piece p) (flat_map comps_of_piece ps) (good_piece p (is_empty p || bytes_eq p dot) (bytes_eq p dots) refl refl a.0) (good_pieces ps a.1)
 
 good_names : (t : List ℕ) → AllGood (names t)
 unfolding names
 good_names t = good_pieces (pieces t) (plain_pieces t)
 
 -- the normal form has such components too
-good_wp : (cs : List Comp) → AllGood cs → AllGood (without_parents cs)
-good_wp [] a = tt
-good_wp (prefix t ∷ cs) a = a
-good_wp (root ∷ cs) a = a
-good_wp (current ∷ cs) a = a
-good_wp (parent ∷ cs) a = good_wp cs a.1
-good_wp (normal n ∷ cs) a = a
+good_without_parents : (cs : List Comp) → AllGood cs → AllGood (without_parents cs)
+good_without_parents [] a = tt
+good_without_parents (prefix t ∷ cs) a = a
+good_without_parents (root ∷ cs) a = a
+good_without_parents (current ∷ cs) a = a
+good_without_parents (parent ∷ cs) a = good_without_parents cs a.1
+good_without_parents (normal n ∷ cs) a = a
 
 good_after : (n : List ℕ) (cs : List Comp) → IsGood (normal n) → AllGood cs → AllGood (after_name n cs)
 good_after n [] g a = (g, tt)
@@ -72,44 +72,44 @@ good_after n (current ∷ cs) g a = (g, a)
 good_after n (parent ∷ cs) g a = a.1
 good_after n (normal m ∷ cs) g a = (g, a)
 
-good_put : (c : Comp) (cs : List Comp) → IsGood c → AllGood cs → AllGood (put c cs)
+good_put : (c : Comp) (cs : List Comp) → IsGood c → AllGood cs → AllGood (normal_form_with c cs)
 good_put (prefix t) cs g a = (g, a)
-good_put root cs g a = (g, good_wp cs a)
+good_put root cs g a = (g, good_without_parents cs a)
 good_put current cs g a = a
 good_put parent cs g a = (g, a)
 good_put (normal n) cs g a = good_after n cs g a
 
-good_reduced : (cs : List Comp) → AllGood cs → AllGood (reduced cs)
+good_reduced : (cs : List Comp) → AllGood cs → AllGood (normal_form cs)
 good_reduced [] a = tt
-good_reduced (c ∷ cs) a = good_put c (reduced cs) a.0 (good_reduced cs a.1)
+good_reduced (c ∷ cs) a = good_put c (normal_form cs) a.0 (good_reduced cs a.1)
 
 abbrev Shaped : List Comp → Type 0
 Shaped n = AllGood n ⊎ ((ns : List Comp) × (n ≡ root ∷ ns) × AllGood ns)
 
-shaped : (t : List ℕ) → Shaped (reduced (comps t))
-unfolding comps leading
+shaped : (t : List ℕ) → Shaped (normal_form (comps t))
+unfolding comps lead_of
 shaped t =
-    elim (is_absolute t) as (λ v. Shaped (reduced (cond v (root ∷ []) (cond (is_dot_first (pieces t)) (current ∷ []) []) ++ names t))) [
-      | true ↦ inr (without_parents (reduced (names t)), refl, good_wp (reduced (names t)) (good_reduced (names t) (good_names t)))
-      | false ↦ elim (is_dot_first (pieces t)) as (λ v. Shaped (reduced (cond v (current ∷ []) [] ++ names t))) [
+    elim (is_absolute t) as (λ v. Shaped (normal_form (cond v (root ∷ []) (cond (is_dot_first (pieces t)) (current ∷ []) []) ++ names t))) [
+      | true ↦ inr (without_parents (normal_form (names t)), refl, good_without_parents (normal_form (names t)) (good_reduced (names t) (good_names t)))
+      | false ↦ elim (is_dot_first (pieces t)) as (λ v. Shaped (normal_form (cond v (current ∷ []) [] ++ names t))) [
         | true ↦ inl (good_reduced (names t) (good_names t))
         | false ↦ inl (good_reduced (names t) (good_names t))
       ]
     ]
 
 -- pushing such components
-good_lead : (c : Comp) → IsGood c → leading (comp_text c) ≡ []
-good_lead c g = lead_named (comp_text c) (comp_text c) [] c g.1 g.0
+good_unled : (c : Comp) → IsGood c → lead_of (comp_text c) ≡ []
+good_unled c g = lead_named (comp_text c) (comp_text c) [] c g.1 g.0
 
 good_one : (c : Comp) → IsGood c → names (comp_text c) ≡ c ∷ []
 unfolding names
-good_one c g = ap (flat_map named) g.1 ∙ append-nil (named (comp_text c)) ∙ g.0
+good_one c g = ap (flat_map comps_of_piece) g.1 ∙ append-nil (comps_of_piece (comp_text c)) ∙ g.0
 
 good_comps : (c : Comp) → IsGood c → comps (comp_text c) ≡ c ∷ []
 unfolding comps
-good_comps c g = ap (λ ls. ls ++ names (comp_text c)) (good_lead c g) ∙ good_one c g
+good_comps c g = ap (λ ls. ls ++ names (comp_text c)) (good_unled c g) ∙ good_one c g
 
-text_filled : (t : List ℕ) (c : Comp) → named t ≡ c ∷ [] → is_empty t ≡ false
+text_filled : (t : List ℕ) (c : Comp) → comps_of_piece t ≡ c ∷ [] → is_empty t ≡ false
 text_filled [] c h = cc
 text_filled (b ∷ bs) c h = refl
 
@@ -121,9 +121,9 @@ fold_good : (cs : List Comp) (b : List ℕ) → is_empty b ≡ false → AllGood
 fold_good [] b f a = sym (append-nil (comps b))
 fold_good (c ∷ cs) [] f a = cc
 fold_good (c ∷ cs) (x ∷ b) f a =
-    let rel : is_absolute (comp_text c) ≡ false = relative_unled (comp_text c) (good_lead c a.0) in
+    let rel : is_absolute (comp_text c) ≡ false = relative_unled (comp_text c) (good_unled c a.0) in
     fold_good cs (pushed (x ∷ b) (comp_text c)) (pushed_filled x b (comp_text c) rel) a.1
-    ∙ ap (λ ds. ds ++ cs) (comps_pushed x b (comp_text c) rel ∙ ap (λ ns. comps (x ∷ b) ++ ns) (good_one c a.0))
+    ∙ ap (λ ds. ds ++ cs) (comps_pushed_relative x b (comp_text c) rel ∙ ap (λ ns. comps (x ∷ b) ++ ns) (good_one c a.0))
     ∙ append_assoc (comps (x ∷ b)) (c ∷ []) cs
 
 good_path : (c : Comp) (cs : List Comp) → IsGood c → AllGood cs → comps (path_from (c ∷ cs)) ≡ c ∷ cs
@@ -133,11 +133,11 @@ good_path c cs g a =
     ∙ ap (λ ds. ds ++ cs) (good_comps c g)
 
 root_comps : comps slash ≡ root ∷ []
-unfolding comps leading names
+unfolding comps lead_of names
 root_comps = refl
 
 dot_comps : comps dot ≡ current ∷ []
-unfolding comps leading names
+unfolding comps lead_of names
 dot_comps = refl
 
 root_path : (cs : List Comp) → AllGood cs → comps (path_from (root ∷ cs)) ≡ root ∷ cs
@@ -152,28 +152,28 @@ made_of (c ∷ cs) s =
     subst (λ (ds : List Comp). comps (path_from (or_current ds)) ≡ or_current ds) (sym a.1) (root_path a.0 a.2))
     s
 
-pub comps_cleaned : (t : List ℕ) → comps (cleaned t) ≡ or_current (reduced (comps t))
+pub comps_cleaned : (t : List ℕ) → comps (cleaned t) ≡ or_current (normal_form (comps t))
 unfolding cleaned
-comps_cleaned t = made_of (reduced (comps t)) (shaped t)
+comps_cleaned t = made_of (normal_form (comps t)) (shaped t)
 
 -- the laws
-again_settled : (n : List Comp) → settled n ≡ true → or_current (reduced (or_current n)) ≡ or_current n
-again_settled [] h = refl
-again_settled (c ∷ cs) h = ap or_current (reduced_normal (c ∷ cs) h)
+again_reduced : (n : List Comp) → is_reduced n ≡ true → or_current (normal_form (or_current n)) ≡ or_current n
+again_reduced [] h = refl
+again_reduced (c ∷ cs) h = ap or_current (normal_form_of_reduced (c ∷ cs) h)
 
 pub clean_again : (t : List ℕ) → cleaned (cleaned t) ≡ cleaned t
 unfolding cleaned
 clean_again t =
-    ap (λ cs. path_from (or_current (reduced cs))) (made_of (reduced (comps t)) (shaped t))
-    ∙ ap path_from (again_settled (reduced (comps t)) (reduced_settled (comps t)))
+    ap (λ cs. path_from (or_current (normal_form cs))) (made_of (normal_form (comps t)) (shaped t))
+    ∙ ap path_from (again_reduced (normal_form (comps t)) (normal_form_is_reduced (comps t)))
 
 pub clean_is_normal : (t : List ℕ) → IsCleanOf t (cleaned t)
 unfolding cleaned
-clean_is_normal t = (reduced (comps t), normal_form (comps t), refl)
+clean_is_normal t = (normal_form (comps t), IsNormalForm-normal_form (comps t), refl)
 
 -- and each normal form of the components is that of the clean path
 pub clean_only : (t : List ℕ) (n : List Comp) → IsNormalForm (comps t) n → comps (cleaned t) ≡ or_current n
-clean_only t n h = comps_cleaned t ∙ ap or_current (one_normal_form (comps t) (reduced (comps t)) n (normal_form (comps t)) h)
+clean_only t n h = comps_cleaned t ∙ ap or_current (one_normal_form (comps t) (normal_form (comps t)) n (IsNormalForm-normal_form (comps t)) h)
 
 good_kind : (cs : List Comp) → AllGood cs → all_named cs ≡ true
 good_kind [] a = refl
@@ -189,43 +189,43 @@ not_true : (v : Bool) → not v ≡ true → v ≡ false
 not_true true h = cc
 not_true false h = refl
 
-no_ups : (cs : List Comp) → all_named cs ≡ true → settled cs ≡ true → begins_parent cs ≡ false → no_parent cs ≡ true
+no_ups : (cs : List Comp) → all_named cs ≡ true → is_reduced cs ≡ true → begins_with_parent cs ≡ false → no_parent cs ≡ true
 no_ups [] a s b = refl
 no_ups (prefix t ∷ cs) a s b = cc
 no_ups (root ∷ cs) a s b = cc
 no_ups (current ∷ cs) a s b = cc
 no_ups (parent ∷ cs) a s b = cc
-no_ups (normal n ∷ cs) a s b = no_ups cs a (settled_rest (normal n) cs s) (not_true (begins_parent cs) (settled_first (normal n) cs s))
+no_ups (normal n ∷ cs) a s b = no_ups cs a (reduced_rest (normal n) cs s) (not_true (begins_with_parent cs) (reduced_first (normal n) cs s))
 
-ups_first : (cs : List Comp) → all_named cs ≡ true → settled cs ≡ true → parents_first cs ≡ true
+ups_first : (cs : List Comp) → all_named cs ≡ true → is_reduced cs ≡ true → parents_first cs ≡ true
 ups_first [] a s = refl
 ups_first (prefix t ∷ cs) a s = cc
 ups_first (root ∷ cs) a s = cc
 ups_first (current ∷ cs) a s = cc
 ups_first (parent ∷ cs) a s = ups_first cs a s
-ups_first (normal n ∷ cs) a s = no_ups cs a (settled_rest (normal n) cs s) (not_true (begins_parent cs) (settled_first (normal n) cs s))
+ups_first (normal n ∷ cs) a s = no_ups cs a (reduced_rest (normal n) cs s) (not_true (begins_with_parent cs) (reduced_first (normal n) cs s))
 
-ups_root : (cs : List Comp) → AllGood cs → settled (root ∷ cs) ≡ true → parents_first (root ∷ cs) ≡ true
-ups_root cs a s = no_ups cs (good_kind cs a) (settled_rest root cs s) (not_true (begins_parent cs) (settled_first root cs s))
+ups_root : (cs : List Comp) → AllGood cs → is_reduced (root ∷ cs) ≡ true → parents_first (root ∷ cs) ≡ true
+ups_root cs a s = no_ups cs (good_kind cs a) (reduced_rest root cs s) (not_true (begins_with_parent cs) (reduced_first root cs s))
 
-ups_of : (n : List Comp) → Shaped n → settled n ≡ true → parents_first (or_current n) ≡ true
+ups_of : (n : List Comp) → Shaped n → is_reduced n ≡ true → parents_first (or_current n) ≡ true
 ups_of [] s h = refl
 ups_of (c ∷ cs) s h =
     ⊎_elim
     (λ (a : AllGood (c ∷ cs)). ups_first (c ∷ cs) (good_kind (c ∷ cs) a) h)
     (λ (a : (ns : List Comp) × (c ∷ cs ≡ root ∷ ns) × AllGood ns).
-    subst (λ (ds : List Comp). parents_first (or_current ds) ≡ true) (sym a.1) (ups_root a.0 a.2 (ap settled (sym a.1) ∙ h)))
+    subst (λ (ds : List Comp). parents_first (or_current ds) ≡ true) (sym a.1) (ups_root a.0 a.2 (ap is_reduced (sym a.1) ∙ h)))
     s
 
 pub clean_ups : (t : List ℕ) → parents_first (comps (cleaned t)) ≡ true
-clean_ups t = ap parents_first (comps_cleaned t) ∙ ups_of (reduced (comps t)) (shaped t) (reduced_settled (comps t))
+clean_ups t = ap parents_first (comps_cleaned t) ∙ ups_of (normal_form (comps t)) (shaped t) (normal_form_is_reduced (comps t))
 
 -- what the code makes
-fold_map : (cs : List Utf8Component) (b : List ℕ) → fold (λ path component. pushed path (comp_text (comp_of component))) b cs ≡ fold pushed b (map comp_text (map comp_of cs))
-fold_map [] b = refl
-fold_map (c ∷ cs) b = fold_map cs (pushed b (comp_text (comp_of c)))
+fold_comps : (cs : List Utf8Component) (b : List ℕ) → fold (λ path component. pushed path (comp_text (comp_of component))) b cs ≡ fold pushed b (map comp_text (map comp_of cs))
+fold_comps [] b = refl
+fold_comps (c ∷ cs) b = fold_comps cs (pushed b (comp_text (comp_of c)))
 
-pub made_empty : (t : List ℕ) (cs : List Utf8Component) → comps_of cs ≡ reduced (comps t) → cs ≡ [] → dot ≡ cleaned t
+pub made_empty : (t : List ℕ) (cs : List Utf8Component) → comps_of cs ≡ normal_form (comps t) → cs ≡ [] → dot ≡ cleaned t
 unfolding cleaned
 made_empty t cs h e = sym (ap (λ n. path_from (or_current n)) (sym h ∙ ap comps_of e))
 
@@ -233,9 +233,9 @@ filled_same : (cs : List Utf8Component) → is_empty cs ≡ false → or_current
 filled_same [] h = cc
 filled_same (c ∷ cs) h = refl
 
-pub made_path : (t : List ℕ) (cs : List Utf8Component) → comps_of cs ≡ reduced (comps t) → is_empty cs ≡ false → fold (λ path component. pushed path (comp_text (comp_of component))) [] cs ≡ cleaned t
+pub made_path : (t : List ℕ) (cs : List Utf8Component) → comps_of cs ≡ normal_form (comps t) → is_empty cs ≡ false → fold (λ path component. pushed path (comp_text (comp_of component))) [] cs ≡ cleaned t
 unfolding cleaned
-made_path t cs h e = fold_map cs [] ∙ ap path_from (sym (filled_same cs e) ∙ ap or_current h)
+made_path t cs h e = fold_comps cs [] ∙ ap path_from (sym (filled_same cs e) ∙ ap or_current h)
 
 pub filled_from_length : {A : Type 0} (xs : List A) → (length xs ≡ 0 → ⊥) → is_empty xs ≡ false
 filled_from_length [] h = absurd (h refl)

@@ -1,7 +1,7 @@
 -- What is taken from both ends, with what is left between, is the whole.
 use Rattle.std.proofs.Common.{◌≡◌, ℕ, suc, ◌+◌, true, Some, None, List, [], ◌∷◌, ◌++◌, length, refl, sym, ap, ◌∙◌, append_assoc, length-append, arith, zero-add}
 use Rattle.std.proofs.lemmas.List.{append-nil}
-use Rattle.just_path.specs.Mixture.{Move, front, back, Walks, from_front, from_back, gave_none, ended_for_good, IsWalkOver}
+use Rattle.just_path.specs.Mixture.{Move, front, back, Walks, from_front, from_back, gives_none, ends_for_good, IsWalkOver}
 
 one_back : {A : Type 0} (f a b : List A) (c : A) → (f ++ (a ++ b)) ++ c ∷ [] ≡ f ++ (a ++ (b ++ c ∷ []))
 one_back f a b c = append_assoc f (a ++ b) (c ∷ []) ∙ ap (λ t. f ++ t) (append_assoc a b (c ∷ []))
@@ -33,7 +33,7 @@ last_filled [] c h = cc
 last_filled (x ∷ xs) c h = cc
 
 -- where nothing is left nothing comes
-stays_empty : {S A : Type 0} (items : S → List A) (slices : S → ℕ → ℕ → List ℕ) (before : S) (moves : List (Move A)) (after : S) → Walks items slices before moves after → items before ≡ [] → gave_none moves ≡ true
+stays_empty : {S A : Type 0} (items : S → List A) (slices : S → ℕ → ℕ → List ℕ) (before : S) (moves : List (Move A)) (after : S) → Walks items slices before moves after → items before ≡ [] → gives_none moves ≡ true
 stays_empty items slices before [] after h e = refl
 stays_empty items slices before (front None ∷ ms) after (mid, m, w) e = stays_empty items slices mid ms after w m.takes.1
 stays_empty items slices before (front (Some c) ∷ ms) after (mid, m, w) e = absurd (let f : [] ≡ c ∷ items mid = sym e ∙ m.takes in cc)
@@ -41,7 +41,7 @@ stays_empty items slices before (back None ∷ ms) after (mid, m, w) e = stays_e
 stays_empty items slices before (back (Some c) ∷ ms) after (mid, m, w) e = absurd (last_filled (items mid) c (sym e ∙ m.takes))
 
 -- behind the end nothing comes any more
-none_for_good : {S A : Type 0} (items : S → List A) (slices : S → ℕ → ℕ → List ℕ) (before : S) (moves : List (Move A)) (after : S) → Walks items slices before moves after → ended_for_good moves ≡ true
+none_for_good : {S A : Type 0} (items : S → List A) (slices : S → ℕ → ℕ → List ℕ) (before : S) (moves : List (Move A)) (after : S) → Walks items slices before moves after → ends_for_good moves ≡ true
 none_for_good items slices before [] after h = refl
 none_for_good items slices before (front None ∷ ms) after (mid, m, w) = stays_empty items slices mid ms after w m.takes.1
 none_for_good items slices before (front (Some c) ∷ ms) after (mid, m, w) = none_for_good items slices mid ms after w

@@ -16,7 +16,7 @@ pub mod Names
 pub mod Order
 pub mod Ancestors
 pub mod Clean
-pub mod Settled
+pub mod Reduced
 pub mod OrderLaws
 pub mod Utf8
 pub mod Mixture

@@ -45,24 +45,24 @@ from_back (back None ∷ ms) = from_back ms
 from_back (back (Some c) ∷ ms) = from_back ms ++ c ∷ []
 
 -- whether no move gave an item
-abbrev pub gave_none : {A : Type 0} → List (Move A) → Bool
-gave_none [] = true
-gave_none (front None ∷ ms) = gave_none ms
-gave_none (front (Some c) ∷ ms) = false
-gave_none (back None ∷ ms) = gave_none ms
-gave_none (back (Some c) ∷ ms) = false
+abbrev pub gives_none : {A : Type 0} → List (Move A) → Bool
+gives_none [] = true
+gives_none (front None ∷ ms) = gives_none ms
+gives_none (front (Some c) ∷ ms) = false
+gives_none (back None ∷ ms) = gives_none ms
+gives_none (back (Some c) ∷ ms) = false
 
 -- whether no item came behind a move that gave none
-abbrev pub ended_for_good : {A : Type 0} → List (Move A) → Bool
-ended_for_good [] = true
-ended_for_good (front None ∷ ms) = gave_none ms
-ended_for_good (front (Some c) ∷ ms) = ended_for_good ms
-ended_for_good (back None ∷ ms) = gave_none ms
-ended_for_good (back (Some c) ∷ ms) = ended_for_good ms
+abbrev pub ends_for_good : {A : Type 0} → List (Move A) → Bool
+ends_for_good [] = true
+ends_for_good (front None ∷ ms) = gives_none ms
+ends_for_good (front (Some c) ∷ ms) = ends_for_good ms
+ends_for_good (back None ∷ ms) = gives_none ms
+ends_for_good (back (Some c) ∷ ms) = ends_for_good ms
 
 -- the law of such moves over a list and its slices: what came and what is left between is the list, each item once; the
 -- slice that is left is exactly the one between what came; behind the end nothing comes any more
 pub record IsWalkOver {A : Type 0} (whole : List A) (slices : ℕ → ℕ → List ℕ) (moves : List (Move A)) (items : List A) (slice : List ℕ) : Type 0 where
   pub once : whole ≡ from_front moves ++ (items ++ from_back moves)
   pub exact : slice ≡ slices (length (from_front moves)) (length (from_back moves))
-  pub for_good : ended_for_good moves ≡ true
+  pub for_good : ends_for_good moves ≡ true

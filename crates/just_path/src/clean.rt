@@ -2,9 +2,9 @@ ghost use Rattle.std.specs.Prelude.{◌≡◌, ◌++◌, ◌∷◌, [], List, tr
 ghost use Rattle.just_path.specs.Path.{text_of, pushed};
 ghost use Rattle.just_path.specs.Comps.{Comp, parent, comp_text, comps};
 ghost use Rattle.just_path.specs.Component.{comp_of};
-ghost use Rattle.just_path.specs.Clean.{reduced, or_current, cleaned, IsNormalForm, IsCleanOf, parents_first};
-ghost use Rattle.just_path.specs.Settled.{follows, settled, comps_of};
-ghost use Rattle.just_path.specs.Walk.{left};
+ghost use Rattle.just_path.specs.Clean.{normal_form, or_current, cleaned, IsNormalForm, IsCleanOf, parents_first};
+ghost use Rattle.just_path.specs.Reduced.{may_precede, is_reduced, comps_of};
+ghost use Rattle.just_path.specs.Walk.{comps_left};
 
 use super::{NoMemory, Utf8Component, Utf8Components, Utf8Path, Utf8PathBuf};
 use std::alloc::Global;
@@ -47,28 +47,25 @@ fn kept_of<'a>(
     alloc: Global,
     components: Utf8Components<'a>,
 ) -> Result<Vec<Utf8Component<'a>>, NoMemory>
-    ensures { IfOk result (λ v. comps_of v.items ≡ reduced (left components.entry)) }
+    ensures { IfOk result (λ v. comps_of v.items ≡ normal_form (comps_left components.entry)) }
 {
     let mut left = components;
     let mut kept = Vec::new(alloc);
     'components: while let Some(component) = left.take_first() {
-        settle(&mut kept, component)?;
+        put(&mut kept, component)?;
     }
     Ok(kept)
 }
 
 /// Puts a component behind those that stay, as far as the rewrites leave it there.
-fn settle<'a>(
-    kept: &mut Vec<Utf8Component<'a>>,
-    component: Utf8Component<'a>,
-) -> Result<(), NoMemory>
-    requires { settled (comps_of kept.old.items) ≡ true }
-    ensures settled { OnOk result (settled (comps_of kept.new.items) ≡ true) }
-    ensures same { OnOk result ((rest : List Comp) → reduced (comps_of kept.new.items ++ rest) ≡ reduced (comps_of kept.old.items ++ comp_of component.entry ∷ rest)) }
+fn put<'a>(kept: &mut Vec<Utf8Component<'a>>, component: Utf8Component<'a>) -> Result<(), NoMemory>
+    requires { is_reduced (comps_of kept.old.items) ≡ true }
+    ensures reduced { OnOk result (is_reduced (comps_of kept.new.items) ≡ true) }
+    ensures same { OnOk result ((rest : List Comp) → normal_form (comps_of kept.new.items ++ rest) ≡ normal_form (comps_of kept.old.items ++ comp_of component.entry ∷ rest)) }
 {
     match component {
         Utf8Component::CurDir => Ok(()),
-        Utf8Component::ParentDir => settle_parent(kept),
+        Utf8Component::ParentDir => put_parent(kept),
         Utf8Component::Prefix(_) => Ok(kept.push(component)?),
         Utf8Component::RootDir => Ok(kept.push(component)?),
         Utf8Component::Normal(_) => Ok(kept.push(component)?),
@@ -76,10 +73,10 @@ fn settle<'a>(
 }
 
 /// Puts a `..` behind those that stay.
-fn settle_parent(kept: &mut Vec<Utf8Component<'_>>) -> Result<(), NoMemory>
-    requires { settled (comps_of kept.old.items) ≡ true }
-    ensures settled { OnOk result (settled (comps_of kept.new.items) ≡ true) }
-    ensures same { OnOk result ((rest : List Comp) → reduced (comps_of kept.new.items ++ rest) ≡ reduced (comps_of kept.old.items ++ parent ∷ rest)) }
+fn put_parent(kept: &mut Vec<Utf8Component<'_>>) -> Result<(), NoMemory>
+    requires { is_reduced (comps_of kept.old.items) ≡ true }
+    ensures reduced { OnOk result (is_reduced (comps_of kept.new.items) ≡ true) }
+    ensures same { OnOk result ((rest : List Comp) → normal_form (comps_of kept.new.items ++ rest) ≡ normal_form (comps_of kept.old.items ++ parent ∷ rest)) }
 {
     let last = match kept.pop() {
         Some(last) => last,
@@ -88,21 +85,18 @@ fn settle_parent(kept: &mut Vec<Utf8Component<'_>>) -> Result<(), NoMemory>
     match last {
         Utf8Component::Normal(_) => Ok(()),
         Utf8Component::RootDir => Ok(kept.push(last)?),
-        Utf8Component::Prefix(_) => put_parent(kept, last),
-        Utf8Component::CurDir => put_parent(kept, last),
-        Utf8Component::ParentDir => put_parent(kept, last),
+        Utf8Component::Prefix(_) => put_back(kept, last),
+        Utf8Component::CurDir => put_back(kept, last),
+        Utf8Component::ParentDir => put_back(kept, last),
     }
 }
 
 /// Puts a component back, and a `..` behind it.
-fn put_parent<'a>(
-    kept: &mut Vec<Utf8Component<'a>>,
-    last: Utf8Component<'a>,
-) -> Result<(), NoMemory>
-    requires settled { settled (comps_of kept.old.items ++ comp_of last ∷ []) ≡ true }
-    requires fits { follows (comp_of last) (parent ∷ []) ≡ true }
-    ensures settled { OnOk result (settled (comps_of kept.new.items) ≡ true) }
-    ensures same { OnOk result ((rest : List Comp) → reduced (comps_of kept.new.items ++ rest) ≡ reduced ((comps_of kept.old.items ++ comp_of last.entry ∷ []) ++ parent ∷ rest)) }
+fn put_back<'a>(kept: &mut Vec<Utf8Component<'a>>, last: Utf8Component<'a>) -> Result<(), NoMemory>
+    requires reduced { is_reduced (comps_of kept.old.items ++ comp_of last ∷ []) ≡ true }
+    requires fits { may_precede (comp_of last) (parent ∷ []) ≡ true }
+    ensures reduced { OnOk result (is_reduced (comps_of kept.new.items) ≡ true) }
+    ensures same { OnOk result ((rest : List Comp) → normal_form (comps_of kept.new.items ++ rest) ≡ normal_form ((comps_of kept.old.items ++ comp_of last.entry ∷ []) ++ parent ∷ rest)) }
 {
     kept.push(last)?;
     kept.push(Utf8Component::ParentDir)?;

@@ -7,7 +7,7 @@ ghost use Rattle.std.specs.Cmp.Rules.{comparing};
 ghost use Rattle.just_path.specs.Path.{text_of};
 ghost use Rattle.just_path.specs.Comps.{comps};
 ghost use Rattle.just_path.specs.Order.{comp_cmp, path_cmp, path_hash};
-ghost use Rattle.just_path.specs.Walk.{left};
+ghost use Rattle.just_path.specs.Walk.{comps_left};
 ghost use Rattle.std.specs.Cmp.Lexicographic.{slice_cmp};
 ghost use Rattle.just_path.specs.OrderLaws.{path_cmp_total, left_cmp_total, path_hash_respects};
 
@@ -150,9 +150,9 @@ impl Hash for Utf8PathBuf {
 
 // Iterators are compared by what is left of them.
 impl<'a> PartialEq for Utf8Components<'a> {
-    ghost eq = { λ x y. is_eq (slice_cmp comp_cmp (left x) (left y)) };
+    ghost eq = { λ x y. is_eq (slice_cmp comp_cmp (comps_left x) (comps_left y)) };
 
-    ghost laws = { Cmp.partial_equiv_from_equiv (eq_by_cmp_equiv (left_cmp_total left)) };
+    ghost laws = { Cmp.partial_equiv_from_equiv (eq_by_cmp_equiv (left_cmp_total comps_left)) };
 
     fn eq(&self, other: &Utf8Components<'a>) -> bool {
         compare_left(self.copied(), other.copied()).is_eq()
@@ -160,13 +160,13 @@ impl<'a> PartialEq for Utf8Components<'a> {
 }
 
 impl<'a> Eq for Utf8Components<'a> {
-    ghost laws = { eq_by_cmp_equiv (left_cmp_total left) };
+    ghost laws = { eq_by_cmp_equiv (left_cmp_total comps_left) };
 }
 
 impl<'a> PartialOrd for Utf8Components<'a> {
-    ghost partial_cmp = { λ x y. Some (slice_cmp comp_cmp (left x) (left y)) };
+    ghost partial_cmp = { λ x y. Some (slice_cmp comp_cmp (comps_left x) (comps_left y)) };
 
-    ghost laws = { partial_order_from_total (left_cmp_total left) };
+    ghost laws = { partial_order_from_total (left_cmp_total comps_left) };
 
     fn partial_cmp(&self, other: &Utf8Components<'a>) -> Option<Ordering> {
         Some(compare_left(self.copied(), other.copied()))
@@ -174,9 +174,9 @@ impl<'a> PartialOrd for Utf8Components<'a> {
 }
 
 impl<'a> Ord for Utf8Components<'a> {
-    ghost cmp = { λ x y. slice_cmp comp_cmp (left x) (left y) };
+    ghost cmp = { λ x y. slice_cmp comp_cmp (comps_left x) (comps_left y) };
 
-    ghost total = { left_cmp_total left };
+    ghost total = { left_cmp_total comps_left };
 
     ghost matches_partial_cmp = { Prim.search (comparing, rules) };
 

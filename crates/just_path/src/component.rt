@@ -1,5 +1,5 @@
 ghost use Rattle.std.specs.Prelude.{◌≡◌};
-ghost use Rattle.just_path.specs.Comps.{comp_text, named};
+ghost use Rattle.just_path.specs.Comps.{comp_text, comps_of_piece};
 ghost use Rattle.std.specs.Option.{option_copied};
 ghost use Rattle.just_path.specs.Names.{name_of};
 ghost use Rattle.just_path.specs.Component.{comp_of, one_of};
@@ -57,7 +57,7 @@ impl<'a> Utf8Component<'a> {
 
 /// The component that a piece between slashes gives, if it gives one.
 pub(crate) fn component_of(piece: &str) -> Option<Utf8Component<'_>>
-    ensures { one_of result ≡ named piece.now }
+    ensures { one_of result ≡ comps_of_piece piece.now }
 {
     match piece {
         "" => None,

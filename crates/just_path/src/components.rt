@@ -2,10 +2,10 @@ ghost use Rattle.std.specs.Prelude.{◌≡◌, ◌<◌, ℕ, length, OnSome, opt
 ghost use Rattle.std.specs.Iterator.{at_most};
 ghost use Rattle.just_path.specs.Path.{text_of};
 ghost use Rattle.just_path.specs.Comps.{names, comps};
-ghost use Rattle.just_path.specs.Parts.{rest, slice};
+ghost use Rattle.just_path.specs.Parts.{name_slice, slice};
 ghost use Rattle.just_path.specs.Component.{comp_of};
 ghost use Rattle.just_path.specs.Mixture.{front, back, Takes, Shortens, Moves};
-ghost use Rattle.just_path.specs.Walk.{left, slice_left, left_bound};
+ghost use Rattle.just_path.specs.Walk.{comps_left, slice_left, left_bound};
 
 use super::scan::leading;
 use super::walk::{first_name, last_name, trim_back, trim_front};
@@ -21,7 +21,7 @@ pub struct Utf8Components<'a> {
 
 impl<'a> Utf8Components<'a> {
     pub(crate) fn new(text: &'a str) -> Utf8Components<'a>
-        ensures left { left result ≡ comps text.now }
+        ensures left { comps_left result ≡ comps text.now }
         ensures slice { (n k : ℕ) → slice_left result n k ≡ slice n k text.now }
     {
         Utf8Components {
@@ -32,7 +32,7 @@ impl<'a> Utf8Components<'a> {
 
     /// Another of the same components.
     pub(crate) fn copied(&self) -> Utf8Components<'a>
-        ensures { left result ≡ left self.now }
+        ensures { comps_left result ≡ comps_left self.now }
     {
         Utf8Components {
             text: self.text,
@@ -43,7 +43,7 @@ impl<'a> Utf8Components<'a> {
     /// The slice from the first to the last of the components that are left.
     pub fn as_path(&self) -> Utf8Path<'a>
         ensures slice { text_of result ≡ slice_left self.now 0 0 }
-        ensures left { comps (text_of result) ≡ left self.now }
+        ensures left { comps (text_of result) ≡ comps_left self.now }
     {
         if self.started {
             Utf8Path::new(trim_back(trim_front(self.text)))
@@ -55,7 +55,7 @@ impl<'a> Utf8Components<'a> {
     /// The first component that is left.
     #[tactic(auto, using(crate::proofs::Ends::comps_led, crate::proofs::Ends::comps_unled, crate::proofs::Ends::slices_led, crate::proofs::Ends::first_unled))]
     pub(crate) fn take_first(&mut self) -> Option<Utf8Component<'a>>
-        ensures step { Moves left slice_left self.old (front (option_map comp_of result)) self.new }
+        ensures step { Moves comps_left slice_left self.old (front (option_map comp_of result)) self.new }
         ensures progress { OnSome result (left_bound self.new < left_bound self.old) }
     {
         if self.started {
@@ -72,7 +72,7 @@ impl<'a> Utf8Components<'a> {
     #[tactic(auto, using(crate::proofs::Ends::no_names, crate::proofs::Ends::rests_over))]
     fn take_name(&mut self) -> Option<Utf8Component<'a>>
         ensures takes { Takes (names self.old.text.now) (front (option_map comp_of result)) (names self.new.text.now) }
-        ensures shortens { Shortens (λ n k. rest n k self.old.text.now) (front (option_map comp_of result)) (λ n k. rest n k self.new.text.now) }
+        ensures shortens { Shortens (λ n k. name_slice n k self.old.text.now) (front (option_map comp_of result)) (λ n k. name_slice n k self.new.text.now) }
         ensures started { self.new.started ≡ self.old.started }
         ensures progress { OnSome result (length self.new.text.now < length self.old.text.now) }
     {
@@ -91,7 +91,7 @@ impl<'a> Utf8Components<'a> {
     /// The last component that is left.
     #[tactic(auto, using(crate::proofs::Ends::no_names, crate::proofs::Ends::last_left, crate::proofs::Ends::comps_led, crate::proofs::Ends::comps_unled, crate::proofs::Ends::slices_last, crate::proofs::Ends::slices_behind))]
     pub(crate) fn take_last(&mut self) -> Option<Utf8Component<'a>>
-        ensures step { Moves left slice_left self.old (back (option_map comp_of result)) self.new }
+        ensures step { Moves comps_left slice_left self.old (back (option_map comp_of result)) self.new }
         ensures progress { OnSome result (left_bound self.new < left_bound self.old) }
     {
         let text = self.text;
@@ -114,7 +114,7 @@ impl<'a> Utf8Components<'a> {
 impl<'a> Iterator for Utf8Components<'a> {
     type Item = Utf8Component<'a>;
 
-    ghost next_gives = { λ s r t. Moves left slice_left s (front (option_map comp_of r)) t };
+    ghost next_gives = { λ s r t. Moves comps_left slice_left s (front (option_map comp_of r)) t };
 
     ghost remaining = { λ s. at_most (left_bound s) };
 
@@ -124,7 +124,7 @@ impl<'a> Iterator for Utf8Components<'a> {
 }
 
 impl<'a> DoubleEndedIterator for Utf8Components<'a> {
-    ghost next_back_gives = { λ s r t. Moves left slice_left s (back (option_map comp_of r)) t };
+    ghost next_back_gives = { λ s r t. Moves comps_left slice_left s (back (option_map comp_of r)) t };
 
     fn next_back(&mut self) -> Option<Utf8Component<'a>> {
         self.take_last()

@@ -1,8 +1,8 @@
 ghost use Rattle.std.specs.Prelude.{◌≡◌, ◌≤◌, ◌<◌, ◌+◌, if◌then◌else◌, ◌++◌, ◌∷◌, [], length, take, IfSome, IfOk, OnOk, OnErr, IsTrue, is_some, option_map, unwrap_or, fold, map, string_bytes, string_len, string_capacity, IsUtf8};
 ghost use Rattle.just_path.specs.Path.{text_of, pushed};
-ghost use Rattle.just_path.specs.Comps.{comps, comps_joined};
-ghost use Rattle.just_path.specs.Parts.{parent_of, cut};
-ghost use Rattle.just_path.specs.Names.{file_name_of, with_name, with_extension, with_added, stem_end, has_no_slash, dotted};
+ghost use Rattle.just_path.specs.Comps.{comps, join_comps};
+ghost use Rattle.just_path.specs.Parts.{parent_of, text_upto};
+ghost use Rattle.just_path.specs.Names.{file_name_of, with_file_name, with_extension, with_added_extension, stem_end, has_no_slash, dot_and_extension};
 
 use super::name::stem_of;
 use super::path::needs_slash;
@@ -88,7 +88,7 @@ fn pop_name(text: &mut String)
 
 /// Puts a dot and an extension at the end, nothing for the empty one; it is refused only where there is no room.
 fn put_extension(text: &mut String, extension: &str) -> Result<(), NoMemory>
-    ensures ok { OnOk result (string_bytes text.new ≡ string_bytes text.old ++ dotted extension.now) }
+    ensures ok { OnOk result (string_bytes text.new ≡ string_bytes text.old ++ dot_and_extension extension.now) }
     ensures err { OnErr result (string_bytes text.new ≡ string_bytes text.old) }
     ensures full { OnErr result (string_capacity text.old < string_len text.old + (length extension.now + 1)) }
 {
@@ -104,11 +104,11 @@ fn put_extension(text: &mut String, extension: &str) -> Result<(), NoMemory>
 impl Utf8PathBuf {
     /// Puts `path` on: an absolute path replaces this one; else one `/` stands between, where the text isn't empty
     /// and doesn't end in one.
-    #[tactic(auto, using(crate::proofs::Pushes::joined_comps))]
+    #[tactic(auto, using(crate::proofs::Pushes::comps_of_join))]
     pub fn push(&mut self, path: Utf8Path<'_>) -> Result<(), NoMemory>
         ensures ok { OnOk result (self.new ≡ pushed self.old (text_of path.entry)) }
         // The components are those of both.
-        ensures comps { OnOk result (comps self.new ≡ comps_joined (comps self.old) (comps (text_of path.entry))) }
+        ensures comps { OnOk result (comps self.new ≡ join_comps (comps self.old) (comps (text_of path.entry))) }
         ensures err { OnErr result (self.new ≡ self.old) }
     {
         push(&mut self.text, path.as_str())
@@ -124,7 +124,7 @@ impl Utf8PathBuf {
 
     /// Puts another file name: pops where there is one, then pushes.
     pub fn set_file_name(&mut self, name: &str) -> Result<(), NoMemory>
-        ensures ok { OnOk result (self.new ≡ with_name self.old name.now) }
+        ensures ok { OnOk result (self.new ≡ with_file_name self.old name.now) }
         ensures err { OnErr result (self.new ≡ self.old) }
     {
         self.text.reserve(name.len().saturating_add(1))?;
@@ -152,11 +152,11 @@ impl Utf8PathBuf {
 
     /// Puts a further extension behind the whole file name; the empty one changes nothing. False, and nothing done,
     /// where there is no file name.
-    #[tactic(auto, using(crate::proofs::Fronts::cut_front))]
+    #[tactic(auto, using(crate::proofs::Fronts::text_upto_front))]
     pub fn add_extension(&mut self, extension: &str) -> Result<bool, NoMemory>
         requires { IsTrue (has_no_slash extension.now) }
         ensures had { IfOk result (λ b. b ≡ is_some (file_name_of self.old)) }
-        ensures ok { OnOk result (self.new ≡ with_added self.old extension.now) }
+        ensures ok { OnOk result (self.new ≡ with_added_extension self.old extension.now) }
         ensures err { OnErr result (self.new ≡ self.old) }
     {
         match Utf8Path::new(self.text.as_str()).file_name() {

@@ -4,7 +4,7 @@ ghost use Rattle.just_path.specs.Path.{text_of};
 ghost use Rattle.just_path.specs.Comps.{comps, comp_text};
 ghost use Rattle.std.specs.Option.{option_copied};
 ghost use Rattle.just_path.specs.Mixture.{front, back, Moves};
-ghost use Rattle.just_path.specs.Walk.{left, slice_left, texts_left, texts_slice_left, texts_bound};
+ghost use Rattle.just_path.specs.Walk.{comps_left, slice_left, texts_left, texts_slice_left, texts_bound};
 
 use super::{Utf8Components, Utf8Path};
 use std::iter::FusedIterator;
@@ -17,7 +17,7 @@ pub struct Iter<'a> {
 
 impl<'a> Iter<'a> {
     pub(crate) fn new(inner: Utf8Components<'a>) -> Iter<'a>
-        ensures left { texts_left result ≡ map comp_text (left inner.entry) }
+        ensures left { texts_left result ≡ map comp_text (comps_left inner.entry) }
         ensures slice { (n k : ℕ) → texts_slice_left result n k ≡ slice_left inner.entry n k }
     {
         Iter { inner }

@@ -1,6 +1,6 @@
 ghost use Rattle.std.specs.Prelude.{◌≡◌, IfOk, IsTrue, ◌↔◌, slice_get, Some};
 ghost use Rattle.just_path.specs.Path.{text_of, pushed, is_absolute, ends_open};
-ghost use Rattle.just_path.specs.Comps.{comps, comps_joined};
+ghost use Rattle.just_path.specs.Comps.{comps, join_comps};
 
 use super::{NoMemory, Utf8PathBuf};
 use std::alloc::Global;
@@ -41,11 +41,11 @@ impl<'a> Utf8Path<'a> {
 
     /// A copy with `path` pushed: an absolute path replaces it; else one `/` stands between, where the text
     /// isn't empty and doesn't end in one.
-    #[tactic(auto, using(crate::proofs::Pushes::joined_comps))]
+    #[tactic(auto, using(crate::proofs::Pushes::comps_of_join))]
     pub fn join(&self, alloc: Global, path: Utf8Path<'_>) -> Result<Utf8PathBuf, NoMemory>
         ensures path { IfOk result (λ p. p ≡ pushed (text_of self.now) (text_of path.entry)) }
         // Its components are those of both.
-        ensures comps { IfOk result (λ p. comps p ≡ comps_joined (comps (text_of self.now)) (comps (text_of path.entry))) }
+        ensures comps { IfOk result (λ p. comps p ≡ join_comps (comps (text_of self.now)) (comps (text_of path.entry))) }
     {
         let path = put_on(alloc, self.text, path)?;
         Ok(path)

@@ -1,6 +1,6 @@
 ghost use Rattle.std.specs.Prelude.{◌≡◌, not, IfOk, IsTrue};
 ghost use Rattle.just_path.specs.Path.{text_of, pushed, is_absolute};
-ghost use Rattle.just_path.specs.Names.{with_name, with_extension, with_added, has_no_slash};
+ghost use Rattle.just_path.specs.Names.{with_file_name, with_extension, with_added_extension, has_no_slash};
 
 use super::{NoMemory, Utf8Path, Utf8PathBuf};
 use std::alloc::Global;
@@ -36,7 +36,7 @@ impl<'a> Utf8Path<'a> {
 
     /// A copy with another file name.
     pub fn with_file_name(&self, alloc: Global, name: &str) -> Result<Utf8PathBuf, NoMemory>
-        ensures { IfOk result (λ p. p ≡ with_name (text_of self.now) name.now) }
+        ensures { IfOk result (λ p. p ≡ with_file_name (text_of self.now) name.now) }
     {
         let mut path = self.to_path_buf(alloc)?;
         path.set_file_name(name)?;
@@ -60,7 +60,7 @@ impl<'a> Utf8Path<'a> {
         extension: &str,
     ) -> Result<Utf8PathBuf, NoMemory>
         requires { IsTrue (has_no_slash extension.now) }
-        ensures { IfOk result (λ p. p ≡ with_added (text_of self.now) extension.now) }
+        ensures { IfOk result (λ p. p ≡ with_added_extension (text_of self.now) extension.now) }
     {
         let mut path = self.to_path_buf(alloc)?;
         path.add_extension(extension)?;

@@ -2,14 +2,14 @@ ghost use Rattle.std.specs.Prelude.{◌≡◌, ◌++◌, ℕ, List, ◌<◌, IfO
 ghost use Rattle.std.specs.Option.{option_copied};
 ghost use Rattle.just_path.specs.Path.{text_of, pushed};
 ghost use Rattle.just_path.specs.Comps.{Comp, comp_text, comps, has_prefix};
-ghost use Rattle.just_path.specs.Parts.{slice, parent_of, parent_of_leading, HasOneLess};
+ghost use Rattle.just_path.specs.Parts.{slice, parent_of, parent_of_lead, HasOneLess};
 ghost use Rattle.just_path.specs.Component.{one_of};
 ghost use Rattle.just_path.specs.Names.{file_name_of, stem_of, prefix_of, extension_of};
 ghost use Rattle.just_path.specs.Mixture.{Move, Walks, IsWalkOver};
 ghost use Rattle.just_path.specs.declared.components.Utf8Components.{Utf8Components};
 ghost use Rattle.just_path.specs.declared.iter.Iter.{Iter};
 ghost use Rattle.just_path.specs.Order.{begins_with, ends_with};
-ghost use Rattle.just_path.specs.Walk.{left, slice_left, texts_left, texts_slice_left};
+ghost use Rattle.just_path.specs.Walk.{comps_left, slice_left, texts_left, texts_slice_left};
 ghost use Rattle.just_path.specs.Ancestors.{ancestors_of, ancestors_left};
 
 use super::name::{extension_of, prefix_of, stem_of};
@@ -22,11 +22,11 @@ impl<'a> Utf8Path<'a> {
     /// The components, from either end.
     #[tactic(auto, using(crate::proofs::Parents::no_prefix))]
     pub fn components(&self) -> Utf8Components<'a>
-        ensures left { left result ≡ comps (text_of self.now) }
+        ensures left { comps_left result ≡ comps (text_of self.now) }
         ensures slice { (n k : ℕ) → slice_left result n k ≡ slice n k (text_of self.now) }
         // Taken from front and back in any mixture, each comes once and then none for good, and `as_path` is exactly the
         // slice between those that came.
-        ensures walk { (moves : List (Move Comp)) (after : Utf8Components) → Walks left slice_left result moves after → IsWalkOver (comps (text_of self.now)) (λ n k. slice n k (text_of self.now)) moves (left after) (slice_left after 0 0) }
+        ensures walk { (moves : List (Move Comp)) (after : Utf8Components) → Walks comps_left slice_left result moves after → IsWalkOver (comps (text_of self.now)) (λ n k. slice n k (text_of self.now)) moves (comps_left after) (slice_left after 0 0) }
         // None of them is a prefix.
         ensures unix { has_prefix (comps (text_of self.now)) ≡ false }
     {
@@ -151,7 +151,7 @@ impl<'a> Utf8Path<'a> {
 
 /// The parent of a path that has no name: the empty one, where the path is `.`.
 fn above<'a>(leading: Option<Utf8Component<'_>>) -> Option<Utf8Path<'a>>
-    ensures parent { option_map text_of result ≡ parent_of_leading (one_of leading.entry) }
+    ensures parent { option_map text_of result ≡ parent_of_lead (one_of leading.entry) }
     ensures shorter { IfSome result (λ p. length (text_of p) < length (one_of leading.entry)) }
 {
     match leading {
