@@ -17,6 +17,6 @@ pub mod Order
 pub mod Ancestors
 pub mod Clean
 pub mod Reduced
-pub mod OrderLaws
 pub mod Utf8
 pub mod Mixture
+pub mod OrderLaws

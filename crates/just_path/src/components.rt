@@ -1,4 +1,4 @@
-ghost use Rattle.std.specs.Prelude.{◌≡◌, ◌<◌, ℕ, length, OnSome, option_map};
+ghost use Rattle.std.specs.Prelude.{◌≡◌, ◌<◌, ℕ, [], length, OnSome, option_map};
 ghost use Rattle.std.specs.Iterator.{at_most};
 ghost use Rattle.just_path.specs.Path.{text_of};
 ghost use Rattle.just_path.specs.Comps.{names, comps};
@@ -89,16 +89,26 @@ impl<'a> Utf8Components<'a> {
     }
 
     /// The last component that is left.
-    #[tactic(auto, using(crate::proofs::Ends::no_names, crate::proofs::Ends::last_left, crate::proofs::Ends::comps_led, crate::proofs::Ends::comps_unled, crate::proofs::Ends::slices_last, crate::proofs::Ends::slices_behind))]
+    #[tactic(auto, using(crate::proofs::Ends::last_left, crate::proofs::Ends::slices_last))]
     pub(crate) fn take_last(&mut self) -> Option<Utf8Component<'a>>
         ensures step { Moves comps_left slice_left self.old (back (option_map comp_of result)) self.new }
         ensures progress { OnSome result (left_bound self.new < left_bound self.old) }
     {
-        let text = self.text;
-        if let Some((before, name)) = last_name(text) {
+        if let Some((before, name)) = last_name(self.text) {
             self.text = before;
             return Some(name);
         }
+        self.take_lead()
+    }
+
+    /// What stands in front, where no name is left behind it.
+    #[tactic(auto, using(crate::proofs::Ends::no_names, crate::proofs::Ends::comps_led, crate::proofs::Ends::comps_unled, crate::proofs::Ends::slices_behind))]
+    fn take_lead(&mut self) -> Option<Utf8Component<'a>>
+        requires { names self.old.text.now ≡ [] }
+        ensures step { Moves comps_left slice_left self.old (back (option_map comp_of result)) self.new }
+        ensures progress { OnSome result (left_bound self.new < left_bound self.old) }
+    {
+        let text = self.text;
         self.text = "";
         if self.started {
             return None;
