@@ -3,6 +3,7 @@ use Rattle.std.proofs.Common.{◌≡◌, ℕ, suc, ◌+◌, true, Some, None, Li
 use Rattle.std.proofs.lemmas.List.{append-nil}
 use Rattle.just_path.specs.Mixture.{Move, front, back, Walks, from_front, from_back, gives_none, ends_for_good, IsWalkOver}
 
+-- one item behind what came, what is left and what came
 one_back : {A : Type 0} (f a b : List A) (c : A) → (f ++ (a ++ b)) ++ c ∷ [] ≡ f ++ (a ++ (b ++ c ∷ []))
 one_back f a b c = append_assoc f (a ++ b) (c ∷ []) ∙ ap (λ t. f ++ t) (append_assoc a b (c ∷ []))
 
@@ -28,6 +29,7 @@ each_slice items slices before (back (Some c) ∷ ms) after (mid, m, w) n k =
     let e : suc (length (from_back ms) + k) ≡ length (from_back ms ++ c ∷ []) + k = omega (arith, length-append (from_back ms) (c ∷ [])) in
     each_slice items slices mid ms after w n k ∙ sym (m.shortens (length (from_front ms) + n) (length (from_back ms) + k)) ∙ ap (λ j. slices before (length (from_front ms) + n) j) e
 
+-- a list with an item behind it is not empty
 last_filled : {A : Type 0} (xs : List A) (c : A) → [] ≡ xs ++ c ∷ [] → ⊥
 last_filled [] c h = cc
 last_filled (x ∷ xs) c h = cc

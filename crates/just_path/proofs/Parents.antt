@@ -9,6 +9,7 @@ use Rattle.just_path.specs.Parts.{parent_of_lead, HasOneLess}
 use Rattle.just_path.specs.Scan.{HasLast}
 use Rattle.just_path.proofs.Pushes.{all_named, all_of_names}
 
+-- names and `..` are no prefixes
 names_without_prefix : (cs : List Comp) → all_named cs ≡ true → has_prefix cs ≡ false
 names_without_prefix [] h = refl
 names_without_prefix (prefix t ∷ cs) h = cc
@@ -17,6 +18,7 @@ names_without_prefix (current ∷ cs) h = cc
 names_without_prefix (parent ∷ cs) h = names_without_prefix cs h
 names_without_prefix (normal t ∷ cs) h = names_without_prefix cs h
 
+-- no component of a path is a prefix
 pub no_prefix : (t : List ℕ) → has_prefix (comps t) ≡ false
 unfolding comps lead_of
 no_prefix t =
@@ -39,10 +41,12 @@ lead_alone : (t : List ℕ) → names t ≡ [] → comps t ≡ lead_of t
 unfolding comps
 lead_alone t n = ap (λ ns. lead_of t ++ ns) n ∙ append-nil (lead_of t)
 
+-- the empty text has no component
 nothing : comps [] ≡ []
 unfolding comps lead_of names
 nothing = refl
 
+-- what stands in front of a path without a name: its parent has one component less
 less_of : (t : List ℕ) → HasOneLess (lead_of t) (parent_of_lead (lead_of t))
 unfolding lead_of
 less_of t =
@@ -54,6 +58,7 @@ less_of t =
       ]
     ]
 
+-- the same of the path
 pub less_alone : (t : List ℕ) (ls : List Comp) (r : Option Utf8Path) → names t ≡ [] → ls ≡ lead_of t → option_map text_of r ≡ parent_of_lead ls → HasOneLess (comps t) (option_map text_of r)
 less_alone t ls r n l h =
     subst (λ (o : Option (List ℕ)). HasOneLess (comps t) o) (sym (h ∙ ap parent_of_lead l))

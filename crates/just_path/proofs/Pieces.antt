@@ -4,14 +4,17 @@ use Rattle.just_path.specs.Comps.{with_first_byte, pieces, is_empty}
 use Rattle.just_path.specs.Parts.{text_of_pieces}
 use Rattle.std.proofs.lemmas.Bool.{cases_eq, ne_eqb}
 
+-- a byte in front of pieces with others behind them
 pub with_first_byte_append : (b : ℕ) (ps qs : List (List ℕ)) → is_empty ps ≡ false → with_first_byte b (ps ++ qs) ≡ with_first_byte b ps ++ qs
 with_first_byte_append b [] qs h = cc
 with_first_byte_append b (p ∷ ps) qs h = refl
 
+-- with a byte in front there is a piece
 with_first_byte_filled : (b : ℕ) (ps : List (List ℕ)) → is_empty (with_first_byte b ps) ≡ false
 with_first_byte_filled b [] = refl
 with_first_byte_filled b (p ∷ ps) = refl
 
+-- each text has a piece
 pub pieces_filled : (t : List ℕ) → is_empty (pieces t) ≡ false
 pieces_filled [] = refl
 pieces_filled (b ∷ bs) =
@@ -34,10 +37,12 @@ pieces_plain (b ∷ bs) h =
     let here : eqb b 47 ≡ false = h 0 (omega arith) in
     rw (here, pieces_plain bs (λ k l. h (suc k) (omega arith))) refl
 
+-- the text of pieces with a byte in front is that byte and their text
 text_of_pieces_with_first_byte : (b : ℕ) (ps : List (List ℕ)) → text_of_pieces (with_first_byte b ps) ≡ b ∷ text_of_pieces ps
 text_of_pieces_with_first_byte b [] = refl
 text_of_pieces_with_first_byte b (p ∷ ps) = refl
 
+-- the text of an empty piece in front of others is a slash and their text
 text_of_more_pieces : (ps : List (List ℕ)) → is_empty ps ≡ false → text_of_pieces ([] ∷ ps) ≡ 47 ∷ text_of_pieces ps
 text_of_more_pieces [] h = cc
 text_of_more_pieces (p ∷ ps) h = refl

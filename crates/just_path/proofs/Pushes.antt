@@ -10,7 +10,8 @@ use Rattle.just_path.specs.Path.{is_absolute, is_other, ends_open, pushed}
 use Rattle.just_path.specs.Comps.{Comp, prefix, root, current, parent, normal, dot, dots, with_first_byte, pieces, is_dot_first, is_empty, comps_of_piece, names, lead_of, comps, join_comps}
 use Rattle.just_path.specs.Order.{rank}
 use Rattle.just_path.proofs.Pieces.{pieces_slash}
-use Rattle.just_path.proofs.Leading
+use Rattle.just_path.proofs.Truths.{and_left, and_right}
+use Rattle.just_path.proofs.Leads
 use Rattle.just_path.proofs.Scans.{lead_same}
 
 -- names alone: no root and no `.`
@@ -18,11 +19,13 @@ abbrev pub all_named : List Comp → Bool
 all_named [] = true
 all_named (c ∷ cs) = nat_lt 2 (rank c) && all_named cs
 
+-- two lists are names alone where each is
 pub all_append : (xs ys : List Comp) → all_named (xs ++ ys) ≡ (all_named xs && all_named ys)
 all_append [] ys = refl
 all_append (c ∷ cs) ys =
     elim (nat_lt 2 (rank c)) as (λ v. (v && all_named (cs ++ ys)) ≡ ((v && all_named cs) && all_named ys)) [ true ↦ all_append cs ys | false ↦ refl ]
 
+-- a piece gives names alone
 pub all_of_piece : (p : List ℕ) → all_named (comps_of_piece p) ≡ true
 all_of_piece p =
     elim (is_empty p || bytes_eq p dot) as (λ v. all_named (cond v [] (cond (bytes_eq p dots) (parent ∷ []) (normal p ∷ []))) ≡ true) [
@@ -30,21 +33,15 @@ all_of_piece p =
       | false ↦ elim (bytes_eq p dots) as (λ v. all_named (cond v (parent ∷ []) (normal p ∷ [])) ≡ true) [ true ↦ refl | false ↦ refl ]
     ]
 
+-- so do pieces
 all_of_pieces : (ps : List (List ℕ)) → all_named (flat_map comps_of_piece ps) ≡ true
 all_of_pieces [] = refl
 all_of_pieces (p ∷ ps) = all_append (comps_of_piece p) (flat_map comps_of_piece ps) ∙ rw (all_of_piece p, all_of_pieces ps) refl
 
+-- so does a text
 pub all_of_names : (t : List ℕ) → all_named (names t) ≡ true
 unfolding names
 all_of_names t = all_of_pieces (pieces t)
-
-and_right : (a b : Bool) → (a && b) ≡ true → b ≡ true
-and_right true b h = h
-and_right false b h = cc
-
-and_left : (a b : Bool) → (a && b) ≡ true → a ≡ true
-and_left true b h = refl
-and_left false b h = cc
 
 -- behind the first component of a path there are names alone
 tail_of_led : (ls ns : List Comp) (x : Comp) (cs : List Comp) → length ls < 2 → all_named ns ≡ true → ls ++ ns ≡ x ∷ cs → all_named cs ≡ true
@@ -52,10 +49,12 @@ tail_of_led [] ns x cs l a h = and_right (nat_lt 2 (rank x)) (all_named cs) (ap 
 tail_of_led (y ∷ []) ns x cs l a h = let e : ns ≡ cs = cc in ap all_named (sym e) ∙ a
 tail_of_led (y ∷ z ∷ ls) ns x cs l a h = absurd (omega arith)
 
+-- the same of a path's components
 pub tail_named : (t : List ℕ) (x : Comp) (cs : List Comp) → comps t ≡ x ∷ cs → all_named cs ≡ true
 unfolding comps
-tail_named t x cs h = tail_of_led (lead_of t) (names t) x cs (omega (arith, Leading.one_at_most t)) (all_of_names t) h
+tail_named t x cs h = tail_of_led (lead_of t) (names t) x cs (omega (arith, Leads.one_at_most t)) (all_of_names t) h
 
+-- where what stands in front is a name, nothing does
 no_lead : (t : List ℕ) → all_named (lead_of t) ≡ true → lead_of t ≡ []
 unfolding lead_of
 no_lead t =
@@ -64,6 +63,7 @@ no_lead t =
       | false ↦ elim (is_dot_first (pieces t)) as (λ v. all_named (cond v (current ∷ []) []) ≡ true → cond v (current ∷ []) [] ≡ []) [ true ↦ λ h. cc | false ↦ λ h. refl ]
     ]
 
+-- a path that nothing stands in front of is relative
 pub relative_unled : (t : List ℕ) → lead_of t ≡ [] → is_absolute t ≡ false
 unfolding lead_of
 relative_unled t =
@@ -77,10 +77,12 @@ filled_piece x p ns =
       | false ↦ elim (bytes_eq (x ∷ p) dots) as (λ v. is_empty (cond v (parent ∷ []) (normal (x ∷ p) ∷ []) ++ ns) ≡ false) [ true ↦ refl | false ↦ refl ]
     ]
 
+-- the components of pieces with a byte in front are not empty
 filled_with_first_byte : (x : ℕ) (ps : List (List ℕ)) → is_empty (cond (is_dot_first (with_first_byte x ps)) (current ∷ []) [] ++ flat_map comps_of_piece (with_first_byte x ps)) ≡ false
 filled_with_first_byte x [] = filled_piece x [] []
 filled_with_first_byte x (p ∷ ps) = filled_piece x p (flat_map comps_of_piece ps)
 
+-- nor are those of a text that is not empty
 pub comps_filled : (x : ℕ) (t : List ℕ) → is_empty (comps (x ∷ t)) ≡ false
 unfolding comps lead_of names
 comps_filled x t =
@@ -93,9 +95,11 @@ comps_filled x t =
 pub push_absolute : (b p : List ℕ) → is_absolute p ≡ true → pushed b p ≡ p
 push_absolute b p h = rw h refl
 
+-- on the empty path anything is pushed as it is
 pub push_empty : (p : List ℕ) → pushed [] p ≡ p
 push_empty p = elim (is_absolute p) as (λ v. cond v p ([] ++ p) ≡ p) [ true ↦ refl | false ↦ refl ]
 
+-- the last byte of a text with a byte behind it
 get_last : (b : List ℕ) (x : ℕ) → slice_get (b ++ x ∷ []) (length (b ++ x ∷ []) - 1) ≡ Some x
 get_last [] x = refl
 get_last (y ∷ []) x = refl
@@ -103,6 +107,7 @@ get_last (y ∷ z ∷ b) x =
     let e : length (y ∷ z ∷ (b ++ x ∷ [])) - 1 ≡ suc (length (z ∷ (b ++ x ∷ [])) - 1) = omega arith in
     ap (λ n. slice_get (y ∷ z ∷ (b ++ x ∷ [])) n) e ∙ get_last (z ∷ b) x
 
+-- such a text ends open where that byte is no slash
 pub ends_last : (b : List ℕ) (x : ℕ) → ends_open (b ++ x ∷ []) ≡ not (eqb x 47)
 ends_last b x = ap is_other (get_last b x)
 
@@ -111,22 +116,27 @@ pub by_last : {A : Type 0} (xs : List A) (x : A) → (ys : List A) × (y : A) ×
 by_last [] x = ([], x, refl)
 by_last (z ∷ xs) x = let (ys, y, e) = by_last xs z in (x ∷ ys, y, ap (λ r. x ∷ r) e)
 
+-- the names of two texts with a slash between
 pub names_slash : (a b : List ℕ) → names (a ++ 47 ∷ b) ≡ names a ++ names b
 unfolding names
 names_slash a b = ap (flat_map comps_of_piece) (pieces_slash a b) ∙ flat_map-append comps_of_piece (pieces a) (pieces b)
 
+-- what stands in front of a text with a slash in it depends on what stands before that alone
 pub lead_slash : (a r s : List ℕ) → lead_of (a ++ 47 ∷ r) ≡ lead_of (a ++ 47 ∷ s)
-lead_slash [] r s = Leading.leading_root r ∙ sym (Leading.leading_root s)
+lead_slash [] r s = Leads.leading_root r ∙ sym (Leads.leading_root s)
 lead_slash (x ∷ a) r s = sym (lead_same (x ∷ a) r (omega arith)) ∙ lead_same (x ∷ a) s (omega arith)
 
+-- a slash at the end adds no name
 no_names_slash : (a : List ℕ) → names (a ++ 47 ∷ []) ≡ names a
 unfolding names
 no_names_slash a = names_slash a [] ∙ append-nil (names a)
 
+-- a text with a byte behind it is not empty
 longer : (a : List ℕ) (y : ℕ) → 0 < length (a ++ y ∷ [])
 longer [] y = omega arith
 longer (x ∷ a) y = omega arith
 
+-- the components of a path that ends in a slash with a relative one pushed
 closed : (a p : List ℕ) → is_absolute p ≡ false → comps (pushed (a ++ 47 ∷ []) p) ≡ comps (a ++ 47 ∷ []) ++ names p
 unfolding comps
 closed a p h =
@@ -136,6 +146,7 @@ closed a p h =
     let n : names (a ++ 47 ∷ p) ≡ names (a ++ 47 ∷ []) ++ names p = names_slash a p ∙ ap (λ ns. ns ++ names p) (sym (no_names_slash a)) in
     ap (λ u. lead_of u ++ names u) t ∙ rw (l, n) (sym (append_assoc (lead_of (a ++ 47 ∷ [])) (names (a ++ 47 ∷ [])) (names p)))
 
+-- the same of a path that does not end in one
 opened : (a : List ℕ) (y : ℕ) (p : List ℕ) → is_absolute p ≡ false → ends_open (a ++ y ∷ []) ≡ true → comps (pushed (a ++ y ∷ []) p) ≡ comps (a ++ y ∷ []) ++ names p
 unfolding comps
 opened a y p h e =
@@ -163,18 +174,22 @@ unled_behind t x cs r h =
     no_lead r (and_left (all_named (lead_of r)) (all_named (names r)) (sym (all_append (lead_of r) (names r))
     ∙ and_right (all_named cs) (all_named (lead_of r ++ names r)) (sym (all_append cs (lead_of r ++ names r)) ∙ a)))
 
+-- the names of a path that nothing stands in front of are its components
 unled_comps : (r : List ℕ) → lead_of r ≡ [] → names r ≡ comps r
 unfolding comps
 unled_comps r h = sym (ap (λ ls. ls ++ names r) h)
 
+-- the empty path has no component
 comps_none : comps [] ≡ []
 unfolding comps lead_of names
 comps_none = refl
 
+-- the same behind a list of components that is not empty
 behind_some : (t : List ℕ) (cs : List Comp) (r : List ℕ) → is_empty cs ≡ false → comps t ≡ cs ++ comps r → lead_of r ≡ []
 behind_some t [] r f h = cc
 behind_some t (x ∷ cs) r f h = unled_behind t x cs r h
 
+-- what remains behind a base, pushed on it again, has the components of the whole
 pub joined_again : (t b r : List ℕ) → comps t ≡ comps b ++ comps r → comps (pushed b r) ≡ comps t
 joined_again t [] r h = ap comps (push_empty r) ∙ sym (h ∙ ap (λ cs. cs ++ comps r) comps_none)
 joined_again t (x ∷ b) r h =
@@ -190,10 +205,12 @@ joined_names c cs (current ∷ ns) h = cc
 joined_names c cs (parent ∷ ns) h = refl
 joined_names c cs (normal t ∷ ns) h = refl
 
-comps_absolute : (p : List ℕ) → is_absolute p ≡ true → comps p ≡ root ∷ names p
+-- the components of an absolute path: the root and its names
+pub comps_absolute : (p : List ℕ) → is_absolute p ≡ true → comps p ≡ root ∷ names p
 unfolding comps lead_of
 comps_absolute p h = rw h refl
 
+-- a relative path adds its names, by the definition
 joined_relative : (c : Comp) (cs : List Comp) (p : List ℕ) → is_absolute p ≡ false → (c ∷ cs) ++ names p ≡ join_comps (c ∷ cs) (comps p)
 unfolding comps lead_of
 joined_relative c cs p h =
@@ -203,6 +220,7 @@ joined_relative c cs p h =
       | false ↦ sym (joined_names c cs (names p) (all_of_names p))
     ])
 
+-- a path that is pushed on one that is not empty, by whether it is absolute
 joined_on : (x : ℕ) (b p : List ℕ) (v : Bool) → is_absolute p ≡ v → (cs : List Comp) → comps (x ∷ b) ≡ cs → is_empty cs ≡ false → comps (pushed (x ∷ b) p) ≡ join_comps cs (comps p)
 joined_on x b p v e [] h f = cc
 joined_on x b p true e (c ∷ cs) h f = ap comps (push_absolute (x ∷ b) p e) ∙ comps_absolute p e ∙ sym (ap (join_comps (c ∷ cs)) (comps_absolute p e))

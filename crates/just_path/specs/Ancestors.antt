@@ -28,5 +28,6 @@ abbrev pub bound_of : Option (List ℕ) → ℕ
 bound_of None = 0
 bound_of (Some t) = length t + 1
 
+-- the same of an iterator
 abbrev pub ancestors_bound : Utf8Ancestors → ℕ
 ancestors_bound s = bound_of (option_map text_of s.next)

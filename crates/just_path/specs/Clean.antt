@@ -32,6 +32,7 @@ without_parents (current ∷ cs) = current ∷ cs
 without_parents (parent ∷ cs) = without_parents cs
 without_parents (normal n ∷ cs) = normal n ∷ cs
 
+-- a name in front of a normal form: it goes with a `..` directly behind it
 abbrev pub after_name : List ℕ → List Comp → List Comp
 after_name n [] = normal n ∷ []
 after_name n (prefix t ∷ cs) = normal n ∷ prefix t ∷ cs
@@ -40,6 +41,7 @@ after_name n (current ∷ cs) = normal n ∷ current ∷ cs
 after_name n (parent ∷ cs) = cs
 after_name n (normal m ∷ cs) = normal n ∷ normal m ∷ cs
 
+-- any component in front of a normal form
 abbrev pub normal_form_with : Comp → List Comp → List Comp
 normal_form_with (prefix t) cs = prefix t ∷ cs
 normal_form_with root cs = root ∷ without_parents cs
@@ -47,6 +49,7 @@ normal_form_with current cs = cs
 normal_form_with parent cs = parent ∷ cs
 normal_form_with (normal n) cs = after_name n cs
 
+-- the normal form of a list
 abbrev pub normal_form : List Comp → List Comp
 normal_form [] = []
 normal_form (c ∷ cs) = normal_form_with c (normal_form cs)

@@ -12,13 +12,15 @@ pub data Comp : Type 0 where
   parent : Comp
   normal : List ℕ → Comp
 
--- the texts `.`, `..` and `/`
+-- the text `.`
 abbrev pub dot : List ℕ
 dot = 46 ∷ []
 
+-- the text `..`
 abbrev pub dots : List ℕ
 dots = 46 ∷ 46 ∷ []
 
+-- the text `/`
 abbrev pub slash : List ℕ
 slash = 47 ∷ []
 

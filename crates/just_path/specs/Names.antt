@@ -24,6 +24,7 @@ abbrev pub put_before : ℕ → List ℕ → Option (List ℕ × List ℕ) → O
 put_before b bs None = if b == 46 then Some ([], bs) else None
 put_before b bs (Some s) = Some (b ∷ s.0, s.1)
 
+-- a text, parted at its last dot
 abbrev pub parts_at_last_dot : List ℕ → Option (List ℕ × List ℕ)
 parts_at_last_dot [] = None
 parts_at_last_dot (b ∷ bs) = put_before b bs (parts_at_last_dot bs)
@@ -33,6 +34,7 @@ abbrev pub unless_first : Option (List ℕ × List ℕ) → Option (List ℕ × 
 unless_first None = None
 unless_first (Some s) = if is_empty s.0 then None else Some s
 
+-- the stem and the extension of a name, where a dot that isn't in front parts them
 unfoldable pub name_parts : List ℕ → Option (List ℕ × List ℕ)
 name_parts name = unless_first (parts_at_last_dot name)
 
@@ -72,6 +74,7 @@ abbrev pub with_extension_of : List ℕ → List ℕ → Option (List ℕ) → L
 with_extension_of t ext None = t
 with_extension_of t ext (Some name) = take (stem_end t name) t ++ dot_and_extension ext
 
+-- the same, of the path's own file name
 abbrev pub with_extension : List ℕ → List ℕ → List ℕ
 with_extension t ext = with_extension_of t ext (file_name_of t)
 

@@ -37,6 +37,7 @@ abbrev pub parent_of_lead : List Comp → Option (List ℕ)
 parent_of_lead (current ∷ cs) = Some []
 parent_of_lead _ = None
 
+-- the parent of a path
 unfoldable pub parent_of : List ℕ → Option (List ℕ)
 parent_of t = if is_empty (names t) then parent_of_lead (lead_of t) else Some (text_upto 1 t)
 

@@ -17,5 +17,6 @@ is_verbatim (a.Disk d) = false
 abbrev pub prefix_text : Utf8PrefixComponent → List ℕ
 prefix_text p = p.raw.now
 
+-- what it was read as
 abbrev pub prefix_kind : Utf8PrefixComponent → Utf8Prefix
 prefix_kind p = p.parsed

@@ -21,8 +21,10 @@ left_bound s = length s.text.now + (if s.started then 0 else 1)
 abbrev pub texts_left : Iter → List (List ℕ)
 texts_left s = map comp_text (comps_left s.inner)
 
+-- and their slices
 abbrev pub texts_slice_left : Iter → ℕ → ℕ → List ℕ
 texts_slice_left s n k = slice_left s.inner n k
 
+-- and the bound
 abbrev pub texts_bound : Iter → ℕ
 texts_bound s = left_bound s.inner

@@ -28,7 +28,7 @@ impl<'a> Iterator for Utf8Ancestors<'a> {
 
     ghost remaining = { λ s. at_most (ancestors_bound s) };
 
-    #[tactic(auto, using(crate::proofs::Climbs::ancestors_step))]
+    #[tactic(auto, using(crate::proofs::AncestorLists::ancestors_step))]
     fn next(&mut self) -> Option<Utf8Path<'a>> {
         match self.next {
             Some(path) => {

@@ -53,7 +53,7 @@ impl<'a> Utf8Components<'a> {
     }
 
     /// The first component that is left.
-    #[tactic(auto, using(crate::proofs::Ends::comps_led, crate::proofs::Ends::comps_unled, crate::proofs::Ends::slices_led, crate::proofs::Ends::first_unled))]
+    #[tactic(auto, using(crate::proofs::IteratorMoves::comps_led, crate::proofs::IteratorMoves::comps_unled, crate::proofs::IteratorMoves::slices_led, crate::proofs::IteratorMoves::first_unled))]
     pub(crate) fn take_first(&mut self) -> Option<Utf8Component<'a>>
         ensures step { Moves comps_left slice_left self.old (front (option_map comp_of result)) self.new }
         ensures progress { OnSome result (left_bound self.new < left_bound self.old) }
@@ -69,7 +69,7 @@ impl<'a> Utf8Components<'a> {
     }
 
     /// The first name that is left.
-    #[tactic(auto, using(crate::proofs::Ends::no_names, crate::proofs::Ends::rests_over))]
+    #[tactic(auto, using(crate::proofs::IteratorMoves::no_names, crate::proofs::IteratorMoves::rests_over))]
     fn take_name(&mut self) -> Option<Utf8Component<'a>>
         ensures takes { Takes (names self.old.text.now) (front (option_map comp_of result)) (names self.new.text.now) }
         ensures shortens { Shortens (λ n k. name_slice n k self.old.text.now) (front (option_map comp_of result)) (λ n k. name_slice n k self.new.text.now) }
@@ -89,7 +89,7 @@ impl<'a> Utf8Components<'a> {
     }
 
     /// The last component that is left.
-    #[tactic(auto, using(crate::proofs::Ends::last_left, crate::proofs::Ends::slices_last))]
+    #[tactic(auto, using(crate::proofs::IteratorMoves::last_left, crate::proofs::IteratorMoves::slices_last))]
     pub(crate) fn take_last(&mut self) -> Option<Utf8Component<'a>>
         ensures step { Moves comps_left slice_left self.old (back (option_map comp_of result)) self.new }
         ensures progress { OnSome result (left_bound self.new < left_bound self.old) }
@@ -102,7 +102,7 @@ impl<'a> Utf8Components<'a> {
     }
 
     /// What stands in front, where no name is left behind it.
-    #[tactic(auto, using(crate::proofs::Ends::no_names, crate::proofs::Ends::comps_led, crate::proofs::Ends::comps_unled, crate::proofs::Ends::slices_behind))]
+    #[tactic(auto, using(crate::proofs::IteratorMoves::no_names, crate::proofs::IteratorMoves::comps_led, crate::proofs::IteratorMoves::comps_unled, crate::proofs::IteratorMoves::slices_behind))]
     fn take_lead(&mut self) -> Option<Utf8Component<'a>>
         requires { names self.old.text.now ≡ [] }
         ensures step { Moves comps_left slice_left self.old (back (option_map comp_of result)) self.new }

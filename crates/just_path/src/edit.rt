@@ -10,7 +10,7 @@ use super::walk::{last_name, trim_back};
 use super::{NoMemory, Utf8Path, Utf8PathBuf};
 
 /// The place in a path's text where the stem of its file name ends.
-#[tactic(auto, using(crate::proofs::Files::file_name_last, crate::proofs::Files::file_name_none))]
+#[tactic(auto, using(crate::proofs::FileNames::file_name_last, crate::proofs::FileNames::file_name_none))]
 fn stem_end(text: &str) -> Option<usize>
     ensures place { result ≡ option_map (λ name. stem_end text.now name) (file_name_of text.now) }
     ensures fits { IfSome result (λ n. n ≤ length text.now) }
@@ -152,7 +152,7 @@ impl Utf8PathBuf {
 
     /// Puts a further extension behind the whole file name; the empty one changes nothing. False, and nothing done,
     /// where there is no file name.
-    #[tactic(auto, using(crate::proofs::Fronts::text_upto_front))]
+    #[tactic(auto, using(crate::proofs::TextFronts::text_upto_front))]
     pub fn add_extension(&mut self, extension: &str) -> Result<bool, NoMemory>
         requires { IsTrue (has_no_slash extension.now) }
         ensures had { IfOk result (λ b. b ≡ is_some (file_name_of self.old)) }

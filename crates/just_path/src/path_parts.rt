@@ -44,7 +44,7 @@ impl<'a> Utf8Path<'a> {
     }
 
     /// The path without its last component: none where there is no component, or the root alone.
-    #[tactic(auto, using(crate::proofs::Files::parent_behind, crate::proofs::Files::parent_alone, crate::proofs::Leading::no_longer, crate::proofs::Fronts::parent_front, crate::proofs::Parents::less_behind, crate::proofs::Parents::less_alone))]
+    #[tactic(auto, using(crate::proofs::FileNames::parent_behind, crate::proofs::FileNames::parent_alone, crate::proofs::Leads::no_longer, crate::proofs::TextFronts::parent_front, crate::proofs::Parents::less_behind, crate::proofs::Parents::less_alone))]
     pub fn parent(&self) -> Option<Utf8Path<'a>>
         ensures parent { option_map text_of result ≡ parent_of (text_of self.now) }
         ensures shorter { IfSome result (λ p. length (text_of p) < length (text_of self.now)) }
@@ -68,7 +68,7 @@ impl<'a> Utf8Path<'a> {
     }
 
     /// The last component, where it is a name.
-    #[tactic(auto, using(crate::proofs::Files::file_name_last, crate::proofs::Files::file_name_none))]
+    #[tactic(auto, using(crate::proofs::FileNames::file_name_last, crate::proofs::FileNames::file_name_none))]
     pub fn file_name(&self) -> Option<&'a str>
         ensures { option_copied result ≡ file_name_of (text_of self.now) }
     {

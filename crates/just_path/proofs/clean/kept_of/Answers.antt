@@ -6,7 +6,7 @@ use Rattle.just_path.specs.Comps.{Comp}
 use Rattle.just_path.specs.Walk.{comps_left}
 use Rattle.just_path.specs.Clean.{normal_form}
 use Rattle.just_path.specs.Reduced.{comps_of}
-use Rattle.just_path.proofs.Cleans.{normal_form_of_reduced}
+use Rattle.just_path.proofs.NormalForms.{normal_form_of_reduced}
 use Rattle.just_path.proofs.clean.kept_of.Goals as goal
 
 pub returns : goal.returns

@@ -7,7 +7,7 @@ use Rattle.just_path.specs.Component.{comp_of}
 use Rattle.just_path.specs.Path.{pushed}
 use Rattle.just_path.specs.Reduced.{comps_of}
 use Rattle.just_path.specs.Clean.{normal_form}
-use Rattle.just_path.proofs.Made.{made_empty, made_path, filled_from_length}
+use Rattle.just_path.proofs.CleanPaths.{made_empty, made_path, filled_from_length}
 use Rattle.just_path.proofs.clean.made.Goals as goal
 
 pub returns-then-is_empty : goal.returns-then-is_empty

@@ -5,7 +5,7 @@ use Rattle.just_path.specs.Component.{comp_of}
 use Rattle.just_path.specs.declared.component.Utf8Component.{Utf8Component}
 use Rattle.just_path.specs.Clean.{normal_form}
 use Rattle.just_path.specs.Reduced.{begins_with_parent, may_precede, is_reduced, comps_of}
-use Rattle.just_path.proofs.Cleans.{drops_current, reduced_plain}
+use Rattle.just_path.proofs.NormalForms.{drops_current, reduced_plain}
 use Rattle.just_path.proofs.clean.put.Goals as goal
 
 put_plain : (old new : List Utf8Component) (x : Utf8Component) → new ≡ old ++ x ∷ [] → begins_with_parent (comp_of x ∷ []) ≡ false → may_precede (comp_of x) [] ≡ true → is_reduced (comps_of old) ≡ true → is_reduced (comps_of new) ≡ true

@@ -6,7 +6,8 @@ use Rattle.just_path.specs.Component.{comp_of}
 use Rattle.just_path.specs.declared.component.Utf8Component.{Utf8Component}
 use Rattle.just_path.specs.Clean.{normal_form}
 use Rattle.just_path.specs.Reduced.{may_precede, is_reduced, comps_of}
-use Rattle.just_path.proofs.Cleans.{reduced_push, and_both}
+use Rattle.just_path.proofs.Truths.{and_both}
+use Rattle.just_path.proofs.NormalForms.{reduced_push}
 use Rattle.just_path.proofs.clean.put_back.Goals as goal
 
 two_more : (old mid new : List Utf8Component) (x y : Utf8Component) → mid ≡ old ++ x ∷ [] → new ≡ mid ++ y ∷ [] → comps_of new ≡ (comps_of old ++ comp_of x ∷ []) ++ comp_of y ∷ []

@@ -6,7 +6,7 @@ use Rattle.just_path.specs.Component.{comp_of}
 use Rattle.just_path.specs.declared.component.Utf8Component.{Utf8Component}
 use Rattle.just_path.specs.Clean.{normal_form}
 use Rattle.just_path.specs.Reduced.{is_reduced, comps_of}
-use Rattle.just_path.proofs.Cleans.{reduced_init, not_reduced_front, drops_pair, drops_parent}
+use Rattle.just_path.proofs.NormalForms.{reduced_init, not_reduced_front, drops_pair, drops_parent}
 use Rattle.just_path.proofs.clean.put_parent.Goals as goal
 
 one_more : (old new : List Utf8Component) (x : Utf8Component) → new ≡ old ++ x ∷ [] → comps_of new ≡ comps_of old ++ comp_of x ∷ []

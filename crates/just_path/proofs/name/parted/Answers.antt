@@ -3,7 +3,7 @@ use Rattle.std.proofs.Common.{◌≡◌, arith, sym, take, drop, ◌+◌}
 use Rattle.std.proofs.lemmas.Str.{IsCharBoundary-after_ascii}
 use Rattle.std.proofs.lemmas.Slice.{between_to_end, between_from_start}
 use Rattle.std.proofs.lemmas.Grind.{common_steps}
-use Rattle.just_path.proofs.Dots.{name_parts_at, name_parts_none}
+use Rattle.just_path.proofs.NameParts.{name_parts_at, name_parts_none}
 use Rattle.just_path.proofs.name.parted.Goals as goal
 
 pub range_from-requires : goal.range_from-requires

@@ -1,6 +1,6 @@
 -- Where nothing is left to take from the back.
 use Rattle.std.proofs.Common.{refl, sym}
-use Rattle.just_path.proofs.Ends.{last_over_names, last_over_whole}
+use Rattle.just_path.proofs.IteratorMoves.{last_over_names, last_over_whole}
 use Rattle.just_path.proofs.components.Utf8Components.take_lead.Goals as goal
 
 pub returns-then-self-clause-step : goal.returns-then-self-clause-step

@@ -3,7 +3,7 @@ use Rattle.std.proofs.Common.{◌≡◌, ◌∙◌, sym, ap, subst, List, ℕ}
 use Rattle.just_path.specs.Path.{text_of}
 use Rattle.just_path.specs.Comps.{comps}
 use Rattle.just_path.specs.Clean.{IsCleanOf, cleaned, parents_first}
-use Rattle.just_path.proofs.Made.{clean_is_normal, clean_only, clean_again, clean_ups}
+use Rattle.just_path.proofs.CleanPaths.{clean_is_normal, clean_only, clean_again, clean_ups}
 use Rattle.just_path.proofs.path.Utf8Path.clean.Goals as goal
 
 pub returns : goal.returns

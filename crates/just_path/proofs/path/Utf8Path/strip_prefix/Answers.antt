@@ -5,7 +5,7 @@ use Rattle.just_path.specs.Path.{text_of}
 use Rattle.just_path.specs.Component.{comp_of}
 use Rattle.just_path.specs.Walk.{comps_left, slice_left}
 use Rattle.just_path.specs.Order.{comp_eq, begins_with}
-use Rattle.just_path.proofs.Prefixes.{comp_eq_same}
+use Rattle.just_path.proofs.SameComponents.{comp_eq_same}
 use Rattle.just_path.proofs.Pushes.{joined_again}
 use Rattle.just_path.proofs.path.Utf8Path.strip_prefix.Goals as goal
 

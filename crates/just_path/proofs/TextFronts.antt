@@ -12,6 +12,7 @@ use Rattle.just_path.specs.Parts.{text_of_pieces, pieces_upto, text_upto, parent
 use Rattle.just_path.specs.Names.{parts_at_last_dot, put_before, unless_first, name_parts, stem_of, name_of}
 use Rattle.just_path.proofs.Pieces.{text_of_pieces_of}
 
+-- pieces up to a name are a front of the pieces
 pieces_upto_parts : (k : ℕ) (ps : List (List ℕ)) → (qs : List (List ℕ)) × (ps ≡ pieces_upto k ps ++ qs)
 pieces_upto_parts k [] = ([], refl)
 pieces_upto_parts k (p ∷ ps) =
@@ -21,11 +22,13 @@ pieces_upto_parts k (p ∷ ps) =
       | false ↦ (p ∷ ps, refl)
     ]
 
+-- the text of a front of the pieces is a front of the text
 text_of_pieces_parts : (xs ys : List (List ℕ)) → (more : List ℕ) × (text_of_pieces (xs ++ ys) ≡ text_of_pieces xs ++ more)
 text_of_pieces_parts [] ys = (text_of_pieces ys, refl)
 text_of_pieces_parts (p ∷ ps) ys =
     (flat_map (λ q. 47 ∷ q) ys, ap (λ r. p ++ r) (flat_map-append (λ q. 47 ∷ q) ps ys) ∙ sym (append_assoc p (flat_map (λ q. 47 ∷ q) ps) (flat_map (λ q. 47 ∷ q) ys)))
 
+-- a text up to a component is a front of the text
 pub text_upto_parts : (k : ℕ) (t : List ℕ) → (more : List ℕ) × (t ≡ text_upto k t ++ more)
 unfolding text_upto
 text_upto_parts k t =
@@ -39,6 +42,7 @@ text_upto_parts k t =
       ]
     ]
 
+-- so it is its first bytes
 pub text_upto_front : (k : ℕ) (t : List ℕ) → take (length (text_upto k t)) t ≡ text_upto k t
 text_upto_front k t =
     let (more, e) = text_upto_parts k t in
@@ -53,6 +57,7 @@ front_of_leading t d (current ∷ ls) h = let e : [] ≡ d = cc in subst (λ (x 
 front_of_leading t d (parent ∷ ls) h = cc
 front_of_leading t d (normal p ∷ ls) h = cc
 
+-- a parent is the first bytes of its path
 pub parent_front : (t d : List ℕ) → parent_of t ≡ Some d → take (length d) t ≡ d
 unfolding parent_of
 parent_front t d =
@@ -69,16 +74,19 @@ dot_here b bs s true e h =
     subst (λ (r : List ℕ × List ℕ). b ∷ bs ≡ r.0 ++ 46 ∷ r.1) p (ap (λ x. x ∷ bs) q)
 dot_here b bs s false e h = cc
 
+-- one byte more in front of a last dot
 dot_more : (b : ℕ) (bs : List ℕ) (o : Option (List ℕ × List ℕ)) → ((r : List ℕ × List ℕ) → o ≡ Some r → bs ≡ r.0 ++ 46 ∷ r.1) → (s : List ℕ × List ℕ) → put_before b bs o ≡ Some s → b ∷ bs ≡ s.0 ++ 46 ∷ s.1
 dot_more b bs None f s h = dot_here b bs s (eqb b 46) refl h
 dot_more b bs (Some r) f s h =
     let p : (b ∷ r.0, r.1) ≡ s = cc in
     subst (λ (q : List ℕ × List ℕ). b ∷ bs ≡ q.0 ++ 46 ∷ q.1) p (ap (λ x. b ∷ x) (f r refl))
 
+-- a text is what stands before its last dot, the dot, and what stands behind it
 dot_parts : (n : List ℕ) (o : Option (List ℕ × List ℕ)) → parts_at_last_dot n ≡ o → (s : List ℕ × List ℕ) → o ≡ Some s → n ≡ s.0 ++ 46 ∷ s.1
 dot_parts [] o h s e = cc
 dot_parts (b ∷ bs) o h s e = dot_more b bs (parts_at_last_dot bs) (λ r q. dot_parts bs (parts_at_last_dot bs) refl r q) s (h ∙ e)
 
+-- the stem of a name, by whether it has a dot
 stem_case : (n : List ℕ) (o : Option (List ℕ × List ℕ)) → ((s : List ℕ × List ℕ) → o ≡ Some s → n ≡ s.0 ++ 46 ∷ s.1) → (m : List ℕ) × (n ≡ unwrap_or (option_map (λ s. s.0) (unless_first o)) n ++ m)
 stem_case n None f = ([], sym (append-nil n))
 stem_case n (Some s) f =
@@ -87,10 +95,12 @@ stem_case n (Some s) f =
       | false ↦ (46 ∷ s.1, f s refl)
     ]
 
+-- a stem is a front of its name
 pub stem_parts : (n : List ℕ) → (m : List ℕ) × (n ≡ stem_of n ++ m)
 unfolding name_parts
 stem_parts n = stem_case n (parts_at_last_dot n) (λ s e. dot_parts n (parts_at_last_dot n) refl s e)
 
+-- the text of a name is the name
 pub name_text : (c : Comp) (n : List ℕ) → Some n ≡ name_of c → comp_text c ≡ n
 name_text (prefix t) n h = cc
 name_text root n h = cc
@@ -111,6 +121,7 @@ stem_cut t e a n s h k r =
     let at : length (a ++ s) ≡ length e - (length n - length s) = length-append a s ∙ omega arith in
     (omega arith, omega arith, ap (λ u. take (length e - (length n - length s)) u) whole ∙ take_at (a ++ s) (m ++ more) (length e - (length n - length s)) at)
 
+-- what stands before a text at the end of a text is text too
 pub text_before : (e a n : List ℕ) → e ≡ a ++ n → IsUtf8 e → IsUtf8 n → IsUtf8 a
 text_before e a n k u v =
     subst (λ (x : List ℕ). IsUtf8 x) (ap (λ x. take (length a) x) k ∙ take_at a n (length a) refl) (IsUtf8-take e (length a) u (IsCharBoundary-at_seam e a n k v))

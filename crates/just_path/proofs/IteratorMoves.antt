@@ -9,28 +9,34 @@ use Rattle.just_path.specs.Mixture.{front, back, Takes, Shortens, Moves}
 use Rattle.just_path.specs.Walk.{comps_left, slice_left}
 use Rattle.just_path.specs.declared.components.Utf8Components.{Utf8Components}
 
+-- the components of a path that something stands in front of: that, and its names
 pub comps_led : (t : List ℕ) (c : Comp) → lead_of t ≡ c ∷ [] → comps t ≡ c ∷ names t
 unfolding comps
 comps_led t c h = ap (λ ls. ls ++ names t) h
 
+-- the components of a path that nothing stands in front of: its names
 pub comps_unled : (t : List ℕ) → lead_of t ≡ [] → comps t ≡ names t
 unfolding comps
 comps_unled t h = ap (λ ls. ls ++ names t) h
 
+-- the empty text has no name
 pub no_names : names [] ≡ []
 unfolding names
 no_names = refl
 
+-- the components that are left without the last name
 pub last_left : (s : Bool) (t before : List ℕ) (c : Comp) → HasLast t before c → cond s (names t) (comps t) ≡ cond s (names before) (comps before) ++ c ∷ []
 unfolding comps
 last_left true t before c h = h.gives
 last_left false t before c h =
     ap (λ ns. lead_of t ++ ns) h.gives ∙ ap (λ ls. ls ++ (names before ++ c ∷ [])) (sym h.begins) ∙ sym (append_assoc (lead_of before) (names before) (c ∷ []))
 
+-- where two lists together are empty, each is
 nothing_appended : (cs ds : List Comp) → cs ++ ds ≡ [] → (cs ≡ []) × (ds ≡ [])
 nothing_appended [] ds h = (refl, h)
 nothing_appended (c ∷ cs) ds h = absurd (cc)
 
+-- pieces without a name have none behind the first names
 from_nameless : (n : ℕ) (ps : List (List ℕ)) → flat_map comps_of_piece ps ≡ [] → pieces_from n ps ≡ []
 from_nameless n [] h = refl
 from_nameless zero (p ∷ ps) h = let (a, b) = nothing_appended (comps_of_piece p) (flat_map comps_of_piece ps) h in rw a (from_nameless zero ps b)
@@ -41,6 +47,7 @@ pub rest_nameless : (n k : ℕ) (t : List ℕ) → names t ≡ [] → name_slice
 unfolding name_slice names
 rest_nameless n k t h = ap (λ ps. text_of_pieces (pieces_upto k ps)) (from_nameless n (pieces t) h)
 
+-- a text without a name has the slices of the empty text
 pub rests_over : (t : List ℕ) → names t ≡ [] → (n k : ℕ) → name_slice n k t ≡ name_slice n k []
 rests_over t h n k = rest_nameless n k t h ∙ sym (rest_nameless n k [] no_names)
 
@@ -49,6 +56,7 @@ text_upto_nameless : (t : List ℕ) → names t ≡ [] → lead_of t ≡ [] → 
 unfolding text_upto
 text_upto_nameless t h l = rw (h, l) refl
 
+-- a text without a name is cut to nothing behind what stands in front
 text_upto_over : (k : ℕ) (t : List ℕ) → names t ≡ [] → text_upto (suc k) t ≡ []
 unfolding text_upto
 text_upto_over k t h =
@@ -76,6 +84,7 @@ slices_last t before c h (suc n) k = h.rests (cond (is_empty (lead_of t)) (suc n
 pub slices_led : (t : List ℕ) (c : Comp) → lead_of t ≡ c ∷ [] → (n k : ℕ) → slice (suc n) k t ≡ name_slice n k t
 slices_led t c h n k = rw h refl
 
+-- the slices of a path of which the first name was taken, where nothing stands in front
 slices_unled : (t after : List ℕ) → lead_of t ≡ [] → ((n k : ℕ) → name_slice (suc n) k t ≡ name_slice n k after) → (n k : ℕ) → slice (suc n) k t ≡ name_slice n k after
 slices_unled t after h f n k = rw h (f n k)
 
@@ -97,6 +106,7 @@ last_over_names s u p q h e = record {
   shortens = λ n k. rw (p, q) (rests_over s.text.now h n k ∙ ap (name_slice n k) (sym e));
 }
 
+-- nor where the walk has not begun and nothing is there
 pub last_over_whole : (s u : Utf8Components) → s.started ≡ false → u.started ≡ true → names s.text.now ≡ [] → lead_of s.text.now ≡ [] → u.text.now ≡ [] → Moves comps_left slice_left s (back None) u
 last_over_whole s u p q h l e = record {
   takes = (rw p (comps_unled s.text.now l ∙ h), rw q (ap names e ∙ no_names));
