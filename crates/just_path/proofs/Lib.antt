@@ -1,3 +1,4 @@
+-- The lemmas of the proofs here, by subject; `Laws` is for the crates above.
 pub mod Truths
 pub mod Pieces
 pub mod Leads

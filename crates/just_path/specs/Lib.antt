@@ -1,3 +1,4 @@
+-- The definitions that the contracts here cite.
 pub mod formers
 pub mod Path
 pub mod Environ
@@ -20,3 +21,4 @@ pub mod Reduced
 pub mod Utf8
 pub mod Mixture
 pub mod OrderLaws
+pub mod Errors

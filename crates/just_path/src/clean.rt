@@ -1,3 +1,4 @@
+//! The clean form of a path, made on a stack of the components that stay.
 ghost use Rattle.std.specs.Prelude.{◌≡◌, ◌++◌, ◌∷◌, [], List, true, fold, IfOk, OnOk};
 ghost use Rattle.just_path.specs.Path.{text_of, pushed};
 ghost use Rattle.just_path.specs.Comps.{Comp, parent, comp_text, comps};
@@ -10,8 +11,13 @@ use super::{NoMemory, Utf8Component, Utf8Components, Utf8Path, Utf8PathBuf};
 use std::alloc::Global;
 
 impl<'a> Utf8Path<'a> {
-    /// The path without each `.`, each name with the `..` directly behind it, and each `..` directly behind the
-    /// root. Where nothing is left it is `.`.
+    /// The path without each `.`, each name with the `..` directly behind it, and each `..` directly behind the root. Where
+    /// nothing is left it is `.`. The files aren't asked, so where a name is a link the clean path may lead elsewhere.
+    ///
+    /// ```
+    /// assert!(Utf8Path::new("/../a/./b/..").clean(alloc)?.as_str() == "/a");
+    /// assert!(Utf8Path::new("a/..").clean(alloc)?.as_str() == ".");
+    /// ```
     pub fn clean(&self, alloc: Global) -> Result<Utf8PathBuf, NoMemory>
         ensures clean { IfOk result (λ p. p ≡ cleaned (text_of self.now)) }
         // It is made of a normal form of the path's components under the rewrites, or of `.` where that is empty.

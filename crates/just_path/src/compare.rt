@@ -1,3 +1,4 @@
+//! Equality, order and hash of paths, which speak of their components alone.
 ghost use Rattle.std.specs.Prelude.{◌≡◌, ◌↔◌, IsTrue, Some, fold};
 ghost use Rattle.std.proofs.Common.{rules};
 ghost use Rattle.std.specs.Ordering.{is_eq};
@@ -18,6 +19,10 @@ use std::hash::{Hash, Hasher};
 
 impl<'a> Utf8Path<'a> {
     /// Whether the text, read as a path, has the same components.
+    ///
+    /// ```
+    /// assert!(Utf8Path::new("a//b").eq_str("a/b/"));
+    /// ```
     #[tactic(auto, using(crate::specs::OrderLaws::same_is_equal))]
     pub fn eq_str(&self, other: &str) -> bool
         ensures order { result ≡ is_eq (path_cmp (text_of self.now) other.now) }
@@ -27,6 +32,10 @@ impl<'a> Utf8Path<'a> {
     }
 
     /// The order of this path and the text, read as a path.
+    ///
+    /// ```
+    /// assert!(Utf8Path::new("a/b").cmp_str("a/c") == Ordering::Less);
+    /// ```
     pub fn cmp_str(&self, other: &str) -> Ordering
         ensures { result ≡ path_cmp (text_of self.now) other.now }
     {
@@ -36,6 +45,10 @@ impl<'a> Utf8Path<'a> {
 
 impl Utf8PathBuf {
     /// Whether the text, read as a path, has the same components.
+    ///
+    /// ```
+    /// assert!(path.eq_str(path.as_str()));
+    /// ```
     #[tactic(auto, using(crate::specs::OrderLaws::same_is_equal))]
     pub fn eq_str(&self, other: &str) -> bool
         ensures order { result ≡ is_eq (path_cmp self.now other.now) }
@@ -45,6 +58,10 @@ impl Utf8PathBuf {
     }
 
     /// The order of this path and the text, read as a path.
+    ///
+    /// ```
+    /// assert!(path.cmp_str(path.as_str()) == Ordering::Equal);
+    /// ```
     pub fn cmp_str(&self, other: &str) -> Ordering
         ensures { result ≡ path_cmp self.now other.now }
     {

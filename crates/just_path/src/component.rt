@@ -1,3 +1,4 @@
+//! A component of a path.
 ghost use Rattle.std.specs.Prelude.{◌≡◌};
 ghost use Rattle.just_path.specs.Comps.{comp_text, comps_of_piece};
 ghost use Rattle.std.specs.Option.{option_copied};
@@ -22,6 +23,11 @@ pub enum Utf8Component<'a> {
 }
 
 impl<'a> Utf8Component<'a> {
+    /// The text of the component: `/`, `.`, `..` or the name.
+    ///
+    /// ```
+    /// assert!(Utf8Component::ParentDir.as_str() == "..");
+    /// ```
     pub fn as_str(&self) -> &'a str
         ensures { result.now ≡ comp_text (comp_of self.now) }
     {
@@ -48,6 +54,10 @@ impl<'a> Utf8Component<'a> {
     }
 
     /// The text's bytes.
+    ///
+    /// ```
+    /// assert!(Utf8Component::Normal("a").as_os_str() == b"a");
+    /// ```
     pub fn as_os_str(&self) -> &'a [u8]
         ensures { result.now ≡ comp_text (comp_of self.now) }
     {

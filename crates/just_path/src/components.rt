@@ -1,3 +1,4 @@
+//! The iterator over a path's components, from both ends.
 ghost use Rattle.std.specs.Prelude.{◌≡◌, ◌<◌, ℕ, [], length, OnSome, option_map};
 ghost use Rattle.std.specs.Iterator.{at_most};
 ghost use Rattle.just_path.specs.Path.{text_of};
@@ -40,7 +41,16 @@ impl<'a> Utf8Components<'a> {
         }
     }
 
-    /// The slice from the first to the last of the components that are left.
+    /// The slice of the path from the first to the last of the components that are left, whichever were taken from the front
+    /// and the back.
+    ///
+    /// ```
+    /// let mut components = Utf8Path::new("//a/./b/c").components();
+    /// let _last = components.next_back();
+    /// assert!(components.as_path().as_str() == "//a/./b");
+    /// let _root = components.next();
+    /// assert!(components.as_path().as_str() == "a/./b");
+    /// ```
     pub fn as_path(&self) -> Utf8Path<'a>
         ensures slice { text_of result ≡ slice_left self.now 0 0 }
         ensures left { comps (text_of result) ≡ comps_left self.now }

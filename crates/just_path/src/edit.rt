@@ -1,3 +1,4 @@
+//! Paths that are changed in place: push, pop, and another file name or extension.
 ghost use Rattle.std.specs.Prelude.{◌≡◌, ◌≤◌, ◌<◌, ◌+◌, if◌then◌else◌, ◌++◌, ◌∷◌, [], length, take, IfSome, IfOk, OnOk, OnErr, IsTrue, is_some, option_map, unwrap_or, fold, map, string_bytes, string_len, string_capacity, IsUtf8};
 ghost use Rattle.just_path.specs.Path.{text_of, pushed};
 ghost use Rattle.just_path.specs.Comps.{comps, join_comps};
@@ -102,8 +103,14 @@ fn put_extension(text: &mut String, extension: &str) -> Result<(), NoMemory>
 }
 
 impl Utf8PathBuf {
-    /// Puts `path` on: an absolute path replaces this one; else one `/` stands between, where the text isn't empty
-    /// and doesn't end in one.
+    /// Puts `path` on: an absolute path replaces this one; else one `/` stands between, where the text isn't empty and doesn't
+    /// end in one. Where memory is wanting the path is as it was.
+    ///
+    /// ```
+    /// let mut path = Utf8PathBuf::from_str(alloc, "a")?;
+    /// path.push(Utf8Path::new("b"))?;
+    /// assert!(path.as_str() == "a/b");
+    /// ```
     #[tactic(auto, using(crate::proofs::Pushes::comps_of_join))]
     pub fn push(&mut self, path: Utf8Path<'_>) -> Result<(), NoMemory>
         ensures ok { OnOk result (self.new ≡ pushed self.old (text_of path.entry)) }
@@ -115,6 +122,12 @@ impl Utf8PathBuf {
     }
 
     /// Cuts the path to its parent. False, and nothing done, where there is none.
+    ///
+    /// ```
+    /// let mut path = Utf8PathBuf::from_str(alloc, "/a")?;
+    /// assert!(path.pop() && path.as_str() == "/");
+    /// assert!(!path.pop());
+    /// ```
     pub fn pop(&mut self) -> bool
         ensures had { result ≡ is_some (parent_of self.old) }
         ensures path { self.new ≡ unwrap_or (parent_of self.old) self.old }
@@ -122,7 +135,13 @@ impl Utf8PathBuf {
         pop(&mut self.text)
     }
 
-    /// Puts another file name: pops where there is one, then pushes.
+    /// Puts another file name: pops where there is one, then pushes. Where memory is wanting the path is as it was.
+    ///
+    /// ```
+    /// let mut path = Utf8PathBuf::from_str(alloc, "/a/b")?;
+    /// path.set_file_name("c")?;
+    /// assert!(path.as_str() == "/a/c");
+    /// ```
     pub fn set_file_name(&mut self, name: &str) -> Result<(), NoMemory>
         ensures ok { OnOk result (self.new ≡ with_file_name self.old name.now) }
         ensures err { OnErr result (self.new ≡ self.old) }
@@ -132,8 +151,14 @@ impl Utf8PathBuf {
         push(&mut self.text, name)
     }
 
-    /// Puts another extension: the path is cut where the stem of its file name ends, and a dot and the extension are
-    /// put behind it, nothing for the empty one. False, and nothing done, where there is no file name.
+    /// Puts another extension: the path is cut where the stem of its file name ends, and a dot and the extension are put
+    /// behind it, nothing for the empty one. False, and nothing done, where there is no file name. `extension` may hold no
+    /// `/`.
+    ///
+    /// ```
+    /// let mut path = Utf8PathBuf::from_str(alloc, "a/b.txt/")?;
+    /// assert!(path.set_extension("rs")? && path.as_str() == "a/b.rs");
+    /// ```
     pub fn set_extension(&mut self, extension: &str) -> Result<bool, NoMemory>
         requires { IsTrue (has_no_slash extension.now) }
         ensures had { IfOk result (λ b. b ≡ is_some (file_name_of self.old)) }
@@ -150,8 +175,13 @@ impl Utf8PathBuf {
         Ok(true)
     }
 
-    /// Puts a further extension behind the whole file name; the empty one changes nothing. False, and nothing done,
-    /// where there is no file name.
+    /// Puts a further extension behind the whole file name; the empty one changes nothing. False, and nothing done, where
+    /// there is no file name. `extension` may hold no `/`.
+    ///
+    /// ```
+    /// let mut path = Utf8PathBuf::from_str(alloc, "a/b.tar")?;
+    /// assert!(path.add_extension("gz")? && path.as_str() == "a/b.tar.gz");
+    /// ```
     #[tactic(auto, using(crate::proofs::TextFronts::text_upto_front))]
     pub fn add_extension(&mut self, extension: &str) -> Result<bool, NoMemory>
         requires { IsTrue (has_no_slash extension.now) }

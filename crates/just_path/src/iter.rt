@@ -1,3 +1,4 @@
+//! The iterator over the texts of a path's components, from both ends.
 ghost use Rattle.std.specs.Prelude.{◌≡◌, ℕ, map};
 ghost use Rattle.std.specs.Iterator.{at_most};
 ghost use Rattle.just_path.specs.Path.{text_of};
@@ -23,7 +24,13 @@ impl<'a> Iter<'a> {
         Iter { inner }
     }
 
-    /// The slice from the first to the last of the components that are left.
+    /// The slice of the path from the first to the last of the components that are left.
+    ///
+    /// ```
+    /// let mut texts = Utf8Path::new("a//b/c").iter();
+    /// let _last = texts.next_back();
+    /// assert!(texts.as_path().as_str() == "a//b");
+    /// ```
     pub fn as_path(&self) -> Utf8Path<'a>
         ensures slice { text_of result ≡ texts_slice_left self.now 0 0 }
         ensures left { map comp_text (comps (text_of result)) ≡ texts_left self.now }

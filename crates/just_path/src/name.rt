@@ -1,3 +1,4 @@
+//! The parts of a file name: stem, prefix and extension.
 ghost use Rattle.std.specs.Prelude.{◌≡◌, ◌≢◌, ◌<◌, ℕ, length, slice_index, MatchOption, option_map, IsUtf8};
 ghost use Rattle.std.specs.Option.{option_copied};
 ghost use Rattle.just_path.specs.Names.{name_parts, stem_of, extension_of, prefix_of};

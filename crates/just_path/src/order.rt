@@ -1,3 +1,4 @@
+//! Components, one behind the other: compared, matched from either end, and hashed.
 ghost use Rattle.std.specs.Prelude.{◌≡◌, fold};
 ghost use Rattle.just_path.specs.Comps.{comps};
 ghost use Rattle.just_path.specs.Component.{comp_of};

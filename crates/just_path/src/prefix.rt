@@ -1,3 +1,4 @@
+//! The prefixes that a path has on Windows, kept since their types are public; no path here gives one.
 ghost use Rattle.std.specs.Prelude.{◌≡◌, Bool};
 ghost use Rattle.just_path.specs.Prefix.{is_verbatim, prefix_text, prefix_kind};
 
@@ -20,6 +21,10 @@ pub enum Utf8Prefix<'a> {
 
 impl<'a> Utf8Prefix<'a> {
     /// Whether the prefix begins with `\\?\`.
+    ///
+    /// ```
+    /// assert!(!Utf8Prefix::Disk(b'C').is_verbatim());
+    /// ```
     pub fn is_verbatim(&self) -> bool
         ensures { result ≡ is_verbatim self.now }
     {
@@ -45,12 +50,21 @@ pub struct Utf8PrefixComponent<'a> {
 
 impl<'a> Utf8PrefixComponent<'a> {
     /// The parsed prefix.
+    ///
+    /// ```
+    /// let kind = prefix.kind();
+    /// ```
     pub fn kind(&self) -> Utf8Prefix<'a>
         ensures { result ≡ prefix_kind self.now }
     {
         self.parsed
     }
 
+    /// The text, as it stood.
+    ///
+    /// ```
+    /// let text = prefix.as_str();
+    /// ```
     pub fn as_str(&self) -> &'a str
         ensures { result.now ≡ prefix_text self.now }
     {
@@ -58,6 +72,10 @@ impl<'a> Utf8PrefixComponent<'a> {
     }
 
     /// The text's bytes.
+    ///
+    /// ```
+    /// let bytes = prefix.as_os_str();
+    /// ```
     pub fn as_os_str(&self) -> &'a [u8]
         ensures { result.now ≡ prefix_text self.now }
     {

@@ -1,3 +1,4 @@
+//! The first and the last piece of a text, found at a slash.
 ghost use Rattle.std.specs.Prelude.{◌≡◌, ◌≢◌, ◌<◌, ◌≤◌, ◌+◌, ◌++◌, ℕ, List, [], ◌∷◌, length, slice_index, take, drop, MatchOption, IfSome, IsUtf8};
 ghost use Rattle.just_path.specs.Comps.{Comp, comps_of_piece, names, lead_of};
 ghost use Rattle.just_path.specs.Component.{one_of};

@@ -1,4 +1,4 @@
-// Paths and their components print their text.
+//! Paths and their components print their text.
 ghost use Rattle.std.specs.Prelude.{Some};
 ghost use Rattle.std.specs.Fmt.{styled_text, debug_str};
 ghost use Rattle.just_path.specs.Path.{text_of};

@@ -1,3 +1,4 @@
+//! The first and the last name of a text, found piece by piece.
 ghost use Rattle.std.specs.Prelude.{◌≡◌, ◌≤◌, [], length, MatchOption};
 ghost use Rattle.just_path.specs.Comps.{names, comps};
 ghost use Rattle.just_path.specs.Component.{comp_of};
