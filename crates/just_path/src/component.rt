@@ -56,7 +56,7 @@ impl<'a> Utf8Component<'a> {
     /// The text's bytes.
     ///
     /// ```
-    /// assert!(Utf8Component::Normal("a").as_os_str() == b"a");
+    /// assert!(Utf8Component::Normal("a").as_os_str() == b"a".as_slice());
     /// ```
     pub fn as_os_str(&self) -> &'a [u8]
         ensures { result.now ≡ comp_text (comp_of self.now) }

@@ -10,7 +10,7 @@ impl<'a> Utf8Path<'a> {
     /// The text's bytes.
     ///
     /// ```
-    /// assert!(Utf8Path::new("a").as_std_path() == b"a");
+    /// assert!(Utf8Path::new("a").as_std_path() == b"a".as_slice());
     /// ```
     pub fn as_std_path(&self) -> &'a [u8]
         ensures { result.now ≡ text_of self.now }
@@ -21,7 +21,7 @@ impl<'a> Utf8Path<'a> {
     /// The text's bytes.
     ///
     /// ```
-    /// assert!(Utf8Path::new("a").as_os_str() == b"a");
+    /// assert!(Utf8Path::new("a").as_os_str() == b"a".as_slice());
     /// ```
     pub fn as_os_str(&self) -> &'a [u8]
         ensures { result.now ≡ text_of self.now }
@@ -100,7 +100,7 @@ impl<'a> Utf8Path<'a> {
     /// The push rule of `join` on bytes that needn't be text.
     ///
     /// ```
-    /// assert!(Utf8Path::new("a").join_os(alloc, b"\xff")?.as_slice() == b"a/\xff");
+    /// assert!(Utf8Path::new("a").join_os(alloc, b"\xff")?.as_slice() == b"a/\xff".as_slice());
     /// ```
     pub fn join_os(&self, alloc: Global, path: &[u8]) -> Result<Vec<u8>, NoMemory>
         ensures { IfOk result (λ bytes. bytes.items ≡ pushed (text_of self.now) path.now) }
