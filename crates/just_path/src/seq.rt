@@ -47,6 +47,10 @@ impl<T> From<Vec<T>> for Seq<T> {
 
 impl<T> Seq<T> {
     /// The empty sequence; it takes no memory.
+    ///
+    /// ```
+    /// assert!(Seq::<u8>::new(alloc).is_empty());
+    /// ```
     pub fn new(alloc: Global) -> Seq<T>
         ensures { result ≡ [] }
     {
@@ -56,6 +60,10 @@ impl<T> Seq<T> {
     }
 
     /// The items, borrowed.
+    ///
+    /// ```
+    /// for item in items.as_slice() {}
+    /// ```
     pub fn as_slice(&self) -> &[T]
         ensures { result.now ≡ self.now }
     {
@@ -63,13 +71,21 @@ impl<T> Seq<T> {
     }
 
     /// How many items there are.
+    ///
+    /// ```
+    /// assert!(Seq::from(vec![in alloc; 1u8, 2]?).len() == 2);
+    /// ```
     pub fn len(&self) -> usize
         ensures { result ≡ length self.now }
     {
         self.vec.len()
     }
 
-    /// Whether there is none.
+    /// Whether there is no item.
+    ///
+    /// ```
+    /// assert!(Seq::<u8>::new(alloc).is_empty());
+    /// ```
     pub fn is_empty(&self) -> bool
         ensures { IsTrue result ↔ (self.now ≡ []) }
     {
@@ -77,6 +93,10 @@ impl<T> Seq<T> {
     }
 
     /// The items, in the `Vec` that holds them; it takes no memory.
+    ///
+    /// ```
+    /// let mut vec = items.into_vec();
+    /// ```
     pub fn into_vec(self) -> Vec<T>
         ensures { result.items ≡ self }
     {
@@ -86,7 +106,11 @@ impl<T> Seq<T> {
 }
 
 impl<T: TryClone> Seq<T> {
-    /// A copy on the same allocator.
+    /// A copy on the same allocator; it is equal to this sequence.
+    ///
+    /// ```
+    /// assert!(items.try_clone()? == items);
+    /// ```
     pub fn try_clone(&self) -> Result<Seq<T>, NoMemory>
         ensures { IfOk result (λ copy. copy ≡ self.now) }
     {

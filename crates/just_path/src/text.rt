@@ -47,6 +47,10 @@ impl From<String> for Text {
 
 impl Text {
     /// A copy of a borrowed text.
+    ///
+    /// ```
+    /// assert!(Text::from_str(alloc, "a")?.as_str() == "a");
+    /// ```
     pub fn from_str(alloc: Global, text: &str) -> Result<Text, NoMemory>
         ensures { IfOk result (λ t. t ≡ text.now) }
     {
@@ -55,13 +59,21 @@ impl Text {
     }
 
     /// The text, borrowed.
+    ///
+    /// ```
+    /// assert!(Text::from_str(alloc, "a")?.as_str() == "a");
+    /// ```
     pub fn as_str(&self) -> &str
         ensures { result.now ≡ self.now }
     {
         self.string.as_str()
     }
 
-    /// A copy on the same allocator.
+    /// A copy on the same allocator; it is equal to this text.
+    ///
+    /// ```
+    /// assert!(text.try_clone()? == text);
+    /// ```
     pub fn try_clone(&self) -> Result<Text, NoMemory>
         ensures { IfOk result (λ t. t ≡ self.now) }
     {
@@ -70,6 +82,10 @@ impl Text {
     }
 
     /// The string that holds the text, without taking memory.
+    ///
+    /// ```
+    /// let string = text.into_string();
+    /// ```
     pub fn into_string(self) -> String
         ensures { string_bytes result ≡ self }
     {
