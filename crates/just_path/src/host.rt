@@ -1,3 +1,4 @@
+//! The host that paths ask about files, and what its calls answer.
 ghost use Rattle.std.specs.Prelude.{◌≡◌, ℕ, [], Option, IfOk};
 ghost use Rattle.just_path.specs.Path.{text_of};
 ghost use Rattle.just_path.specs.declared.host.PathNote.{PathNote};
