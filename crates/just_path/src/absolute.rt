@@ -1,3 +1,4 @@
+//! The absolute path of a path.
 ghost use Rattle.std.specs.Prelude.{◌≡◌, ◌≢◌, [], true, false, Err, IfOk, OnOk, MatchResult};
 ghost use Rattle.just_path.specs.Path.{text_of, is_absolute};
 ghost use Rattle.just_path.specs.Absolute.{is_double, root_of, spread, under, Gives, PutsUnder};
@@ -10,6 +11,11 @@ use std::alloc::Global;
 /// The path as an absolute one. An absolute path is rebuilt from its components, where two slashes in front stay
 /// two; another is put under the host's current folder, without a `.` in front. Each `..` stays, and a `/` at the
 /// end. The empty path isn't found, and the host isn't asked for it.
+///
+/// ```
+/// // where the current folder is /a: /a/b/../c/
+/// let path = absolute_utf8(alloc, Utf8Path::new("./b/../c/"), &mut host)?;
+/// ```
 pub fn absolute_utf8<H: PathHost>(
     alloc: Global,
     path: Utf8Path<'_>,

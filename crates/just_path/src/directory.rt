@@ -1,3 +1,4 @@
+//! The entries of a listed folder.
 ghost use Rattle.std.specs.Prelude.{◌≡◌, [], ◌∷◌, map, reverse, false, length, IfOk, IfErr, MatchOption};
 ghost use Rattle.std.specs.Iterator.{at_most};
 ghost use Rattle.just_path.specs.Path.{text_of};
@@ -20,6 +21,11 @@ pub struct Utf8DirEntry {
 
 impl Utf8DirEntry {
     /// The folder's path, as it was listed by, with the name pushed.
+    ///
+    /// ```
+    /// // of the entry `b` of the folder `a`: a/b
+    /// let path = entry.path();
+    /// ```
     pub fn path(&self) -> Utf8Path<'_>
         ensures { text_of result ≡ self.now.path }
     {
@@ -27,26 +33,45 @@ impl Utf8DirEntry {
     }
 
     /// What stands at the path itself. A link isn't followed.
+    ///
+    /// ```
+    /// let len = entry.metadata(&mut host)?.len;
+    /// ```
     pub fn metadata<H: PathHost>(&self, host: &mut H) -> Result<Meta, PathFault>
         ensures went { H.went host.old host.new (note_of PathCall.Meta self.now.path result) }
-        ensures told { Tells (H.view host.old) (λ v. meta_told self.now.path false v.tree) result }
+        ensures told { Tells (H.view host.old) (meta_told self.now.path false) result }
     {
         host.meta(self.path.as_path(), false)
     }
 
     /// What stood there when the folder was listed. A link isn't followed.
+    ///
+    /// ```
+    /// if entry.file_type() == Kind::Folder {}
+    /// ```
     pub fn file_type(&self) -> Kind
         ensures { result ≡ self.now.kind }
     {
         self.kind
     }
 
+    /// The name under which it stands in the folder.
+    ///
+    /// ```
+    /// // of the entry `b` of the folder `a`: b
+    /// let name = entry.file_name();
+    /// ```
     pub fn file_name(&self) -> &str
         ensures { result.now ≡ self.now.name }
     {
         self.name.as_str()
     }
 
+    /// The path of `path`, owned; it takes no memory.
+    ///
+    /// ```
+    /// let path = entry.into_path();
+    /// ```
     pub fn into_path(self) -> Utf8PathBuf
         ensures { result ≡ self.path }
     {
@@ -78,6 +103,10 @@ impl FusedIterator for ReadDirUtf8 {}
 
 impl<'a> Utf8Path<'a> {
     /// What stands in the folder at the path.
+    ///
+    /// ```
+    /// for entry in Utf8Path::new("a").read_dir_utf8(alloc, &mut host)? {}
+    /// ```
     pub fn read_dir_utf8<H: PathHost>(
         &self,
         alloc: Global,

@@ -1,3 +1,4 @@
+//! What stands at a path, asked of a host.
 ghost use Rattle.std.specs.Prelude.{◌≡◌, Bool, true, false};
 ghost use Rattle.just_path.specs.Path.{text_of};
 ghost use Rattle.just_path.specs.Host.{note_of};
@@ -62,38 +63,58 @@ fn tried(answer: Result<Meta, PathFault>) -> Result<bool, PathFault>
 
 impl<'a> Utf8Path<'a> {
     /// What stands at the path. A link is followed.
+    ///
+    /// ```
+    /// let len = Utf8Path::new("a").metadata(&mut host)?.len;
+    /// ```
     pub fn metadata<H: PathHost>(&self, host: &mut H) -> Result<Meta, PathFault>
         ensures went { H.went host.old host.new (note_of PathCall.Meta (text_of self.now) result) }
-        ensures told { Tells (H.view host.old) (λ v. meta_told (text_of self.now) true v.tree) result }
+        ensures told { Tells (H.view host.old) (meta_told (text_of self.now) true) result }
     {
         host.meta(*self, true)
     }
 
     /// What stands at the path itself. A link isn't followed.
+    ///
+    /// ```
+    /// let kind = Utf8Path::new("a").symlink_metadata(&mut host)?.kind;
+    /// ```
     pub fn symlink_metadata<H: PathHost>(&self, host: &mut H) -> Result<Meta, PathFault>
         ensures went { H.went host.old host.new (note_of PathCall.Meta (text_of self.now) result) }
-        ensures told { Tells (H.view host.old) (λ v. meta_told (text_of self.now) false v.tree) result }
+        ensures told { Tells (H.view host.old) (meta_told (text_of self.now) false) result }
     {
         host.meta(*self, false)
     }
 
     /// The path at which the path is found, with no link on the way.
+    ///
+    /// ```
+    /// let path = Utf8Path::new("a/../b").canonicalize_utf8(&mut host)?;
+    /// ```
     pub fn canonicalize_utf8<H: PathHost>(&self, host: &mut H) -> Result<Utf8PathBuf, PathFault>
         ensures went { H.went host.old host.new (note_of PathCall.Canonical (text_of self.now) result) }
-        ensures told { Tells (H.view host.old) (λ v. canonical_told (text_of self.now) v.tree) result }
+        ensures told { Tells (H.view host.old) (canonical_told (text_of self.now)) result }
     {
         host.canonical(*self)
     }
 
     /// The target of the link at the path.
+    ///
+    /// ```
+    /// let target = Utf8Path::new("link").read_link_utf8(&mut host)?;
+    /// ```
     pub fn read_link_utf8<H: PathHost>(&self, host: &mut H) -> Result<Utf8PathBuf, PathFault>
         ensures went { H.went host.old host.new (note_of PathCall.Link (text_of self.now) result) }
-        ensures told { Tells (H.view host.old) (λ v. link_told (text_of self.now) v.tree) result }
+        ensures told { Tells (H.view host.old) (link_told (text_of self.now)) result }
     {
         host.link(*self)
     }
 
     /// Whether anything stands at the path, behind the link if it is one. False too where the host refused.
+    ///
+    /// ```
+    /// if Utf8Path::new("a").exists(&mut host)? {}
+    /// ```
     pub fn exists<H: PathHost>(&self, host: &mut H) -> Result<bool, NoMemory>
         ensures { Decides H.went H.view (text_of self.now) true (Holds (λ _. true)) host.old host.new result }
     {
@@ -102,6 +123,10 @@ impl<'a> Utf8Path<'a> {
     }
 
     /// Whether a file stands at the path, behind the link if it is one. False too where the host refused.
+    ///
+    /// ```
+    /// if Utf8Path::new("a").is_file(&mut host)? {}
+    /// ```
     pub fn is_file<H: PathHost>(&self, host: &mut H) -> Result<bool, NoMemory>
         ensures { Decides H.went H.view (text_of self.now) true (Holds (λ m. is_file m.kind)) host.old host.new result }
     {
@@ -110,6 +135,10 @@ impl<'a> Utf8Path<'a> {
     }
 
     /// Whether a folder stands at the path, behind the link if it is one. False too where the host refused.
+    ///
+    /// ```
+    /// if Utf8Path::new("a").is_dir(&mut host)? {}
+    /// ```
     pub fn is_dir<H: PathHost>(&self, host: &mut H) -> Result<bool, NoMemory>
         ensures { Decides H.went H.view (text_of self.now) true (Holds (λ m. is_folder m.kind)) host.old host.new result }
     {
@@ -118,6 +147,10 @@ impl<'a> Utf8Path<'a> {
     }
 
     /// Whether a link stands at the path. False too where the host refused.
+    ///
+    /// ```
+    /// if Utf8Path::new("a").is_symlink(&mut host)? {}
+    /// ```
     pub fn is_symlink<H: PathHost>(&self, host: &mut H) -> Result<bool, NoMemory>
         ensures { Decides H.went H.view (text_of self.now) false (Holds (λ m. is_link m.kind)) host.old host.new result }
     {
@@ -126,6 +159,10 @@ impl<'a> Utf8Path<'a> {
     }
 
     /// Whether anything stands at the path, behind the link if it is one. False exactly where it isn't found.
+    ///
+    /// ```
+    /// if !Utf8Path::new("a").try_exists(&mut host)? {}
+    /// ```
     pub fn try_exists<H: PathHost>(&self, host: &mut H) -> Result<bool, PathFault>
         ensures { Decides H.went H.view (text_of self.now) true Tried host.old host.new result }
     {

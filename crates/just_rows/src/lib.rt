@@ -19,3 +19,7 @@ mod refusals;
 mod requests;
 #[cfg(test)]
 mod runs;
+#[cfg(test)]
+mod real_edges;
+#[cfg(test)]
+mod trees;

@@ -1,1 +1,2 @@
+-- The same of the module `seq`.
 pub mod Seq
