@@ -1,5 +1,5 @@
 -- What the crate offers to the proofs of crates above: laws of places, of outcomes and of loops over readers.
-use Rattle.std.proofs.Common.{◌≡◌, ℕ, ◌==◌, ◌<◌, ◌≤◌, Bool, true, false, if◌then◌else◌, ◌⊎◌, List, [], ◌∷◌, length, Some, Ok, Err}
+use Rattle.std.proofs.Common.{◌≡◌, ℕ, ◌<◌, ◌≤◌, Bool, true, false, if◌then◌else◌, ◌⊎◌, List, [], ◌∷◌, length, Some, Ok, Err}
 use Rattle.just_read.specs.Place.{Place, next, past, first, starts, sees, is_end, IsCharacter, Rule, AreMany}
 use Rattle.just_read.specs.Reader.{Outcome, Reader, and_then, pure, expect, many}
 use Rattle.just_read.specs.declared.error.ReadError.{ReadError}
@@ -32,6 +32,10 @@ character_shorter = steps.character_shorter
 -- behind a run no more is left than before it
 pub past_le : (t : ℕ → Bool) (p : Place) → length (past t p).rest ≤ length p.rest
 past_le = steps.past_le
+
+-- behind the longest run no character passes
+pub past_ends : (t : ℕ → Bool) (p : Place) → starts t (past t p) ≡ false
+past_ends = steps.past_ends
 
 -- the text doesn't end where a character passes a test
 pub not_end_where_starts : (t : ℕ → Bool) (p : Place) → starts t p ≡ true → is_end p ≡ false
