@@ -1,6 +1,6 @@
 -- What the crate offers to the proofs of crates above: laws of places, of outcomes and of loops over readers.
-use Rattle.std.proofs.Common.{◌≡◌, ℕ, ◌<◌, ◌≤◌, Bool, true, false, if◌then◌else◌, ◌⊎◌, List, [], ◌∷◌, length, Some, Ok, Err}
-use Rattle.just_read.specs.Place.{Place, next, past, first, starts, sees, is_end, IsCharacter, Rule, AreMany}
+use Rattle.std.proofs.Common.{◌≡◌, ℕ, ◌<◌, ◌≤◌, Bool, true, false, if◌then◌else◌, ◌⊎◌, List, [], ◌∷◌, length, Some, None, Ok, Err}
+use Rattle.just_read.specs.Place.{Place, next, past, run, first, starts, sees, is_end, IsCharacter, Rule, AreMany}
 use Rattle.just_read.specs.Reader.{Outcome, Reader, and_then, pure, expect, many}
 use Rattle.just_read.specs.declared.error.ReadError.{ReadError}
 use Rattle.just_read.proofs.Steps as steps
@@ -21,6 +21,18 @@ sees_first = steps.sees_first
 pub starts_seen : (t : ℕ → Bool) (c : ℕ) (p : Place) → sees c p ≡ true → starts t p ≡ t c
 starts_seen = steps.starts_seen
 
+-- the text from here is the first character and what is left behind it
+pub first_is : (p : Place) (c : ℕ) → first p ≡ Some c → p.rest ≡ c ∷ (next p).rest
+first_is = steps.first_is
+
+-- where a character passes a test, there is one
+pub starts_with : (t : ℕ → Bool) (p : Place) → starts t p ≡ true → (c : ℕ) × (first p ≡ Some c) × (t c ≡ true)
+starts_with = steps.starts_with
+
+-- at the end no character passes
+pub starts_none : (t : ℕ → Bool) (p : Place) → first p ≡ None → starts t p ≡ false
+starts_none = steps.starts_none
+
 -- behind a character that passes a test fewer are left
 pub next_shorter : (t : ℕ → Bool) (p : Place) → starts t p ≡ true → length (next p).rest < length p.rest
 next_shorter = steps.next_shorter
@@ -28,6 +40,22 @@ next_shorter = steps.next_shorter
 -- behind a character that stands here fewer are left
 pub character_shorter : (c : ℕ) (p q : Place) → IsCharacter c p q → length q.rest < length p.rest
 character_shorter = steps.character_shorter
+
+-- behind a character that passes, the run ends where it does from that character
+pub past_next : (t : ℕ → Bool) (p : Place) → starts t p ≡ true → past t (next p) ≡ past t p
+past_next = steps.past_next
+
+-- a run is empty where no character passes
+pub past_stays : (t : ℕ → Bool) (p : Place) → starts t p ≡ false → past t p ≡ p
+past_stays = steps.past_stays
+
+-- a run is its first character and the run behind it
+pub run_next : (t : ℕ → Bool) (p : Place) (c : ℕ) → first p ≡ Some c → starts t p ≡ true → run t p.rest ≡ c ∷ run t (next p).rest
+run_next = steps.run_next
+
+-- a run has no characters where none passes
+pub run_none : (t : ℕ → Bool) (p : Place) → starts t p ≡ false → run t p.rest ≡ []
+run_none = steps.run_none
 
 -- behind a run no more is left than before it
 pub past_le : (t : ℕ → Bool) (p : Place) → length (past t p).rest ≤ length p.rest
