@@ -7,7 +7,7 @@ use Rattle.just_read.specs.Place.{Place, next, past, run, first_in, passes, star
 use Rattle.just_read.specs.Reader.{and_then, pure, expect}
 use Rattle.just_read.specs.declared.error.ReadError.TheVariants.{Syntax}
 use Rattle.just_read.proofs.Laws.{bind_ok, choose, ok_value, ok_place, expect_ok, expect_again, starts_seen, past_le, character_shorter, not_end_where_starts, length_before_end, not_end_of_length, length_at_end}
-use Rattle.just_dotenv.specs.Characters.{is_blank, begins_name, in_name, in_line}
+use Rattle.just_dotenv.specs.Characters.{is_blank, begins_name, in_name, in_line, number_sign, equals_sign, line_feed, carriage_return}
 use Rattle.just_dotenv.specs.Grammar.{behind_blanks, word, Entry, IsValue, IsAssignment, IsPair, IsNewline, IsRest, IsLine}
 use Rattle.just_dotenv.specs.Grammar.IsAssignment.{assigned}
 use Rattle.just_dotenv.specs.Grammar.IsPair.{plain, exported}
@@ -33,7 +33,7 @@ other t c p n s = starts_seen t c p s ∙ n
 assignment_ok : (p q : Place) (e : Entry) → starts begins_name p ≡ true → reader.assignment (word p) (past in_name p) ≡ Ok (e, q) → IsAssignment p q e
 unfolding reader.assignment
 assignment_ok p q e b h =
-    let (u, m, s, k) = bind_ok (expect 61 (behind_blanks (past in_name p))) _ e q h in
+    let (u, m, s, k) = bind_ok (expect equals_sign (behind_blanks (past in_name p))) _ e q h in
     let (v, n, r, j) = bind_ok (reader.value m) _ e q k in
     let same : record { name = word p; value = v } ≡ e = ok_value (record { name = word p; value = v }) e n q j in
     subst (λ (x : Entry). IsAssignment p q x) same
@@ -124,9 +124,9 @@ newline_ok p q u h =
     (λ (t : _).
     ⊎_elim (λ (w : _). return_feed (next p) (w.0, refl) (expect_ok 10 (next p) u q w.1))
     (λ (w : _). absurd (let no : ⊥ = cc (w.1) in no))
-    (choose (sees 13 p) (expect 10 (next p)) (Err Syntax) (Ok (u, q)) t.1))
-    (choose (sees 10 p) (Ok (tt, next p)) (if sees 13 p then expect 10 (next p) else Err Syntax) (Ok (u, q)) s.1))
-    (choose (is_end p) (Ok (tt, p)) (if sees 10 p then Ok (tt, next p) else (if sees 13 p then expect 10 (next p) else Err Syntax)) (Ok (u, q)) h)
+    (choose (sees carriage_return p) (expect line_feed (next p)) (Err Syntax) (Ok (u, q)) t.1))
+    (choose (sees line_feed p) (Ok (tt, next p)) (if sees carriage_return p then expect line_feed (next p) else Err Syntax) (Ok (u, q)) s.1))
+    (choose (is_end p) (Ok (tt, p)) (if sees line_feed p then Ok (tt, next p) else (if sees carriage_return p then expect line_feed (next p) else Err Syntax)) (Ok (u, q)) h)
 
 -- each newline is read
 newline_again : (p q : Place) → IsNewline p q → reader.newline p ≡ Ok (tt, q)
@@ -159,10 +159,10 @@ unfolding reader.rest
 rest_ok at_start p q u h =
     ⊎_elim
     (λ (s : _).
-    let (a, b) = and_true (at_start || starts is_blank p) (sees 35 (behind_blanks p)) s.0 in
+    let (a, b) = and_true (at_start || starts is_blank p) (sees number_sign (behind_blanks p)) s.0 in
     comment a b (newline_ok (past in_line (behind_blanks p)) q u s.1))
     (λ (s : _). no_comment (newline_ok (behind_blanks p) q u s.1))
-    (choose ((at_start || starts is_blank p) && sees 35 (behind_blanks p)) (reader.newline (past in_line (behind_blanks p))) (reader.newline (behind_blanks p)) (Ok (u, q)) h)
+    (choose ((at_start || starts is_blank p) && sees number_sign (behind_blanks p)) (reader.newline (past in_line (behind_blanks p))) (reader.newline (behind_blanks p)) (Ok (u, q)) h)
 
 -- each rest is read
 rest_again : (at_start : Bool) (p q : Place) → IsRest at_start p q → reader.rest at_start p ≡ Ok (tt, q)

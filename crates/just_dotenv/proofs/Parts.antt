@@ -6,7 +6,7 @@ use Rattle.just_read.specs.declared.error.ReadError.TheVariants.{Syntax}
 use Rattle.just_read.proofs.Laws.{choose, ok_value, ok_place, starts_at, starts_seen, sees_first, next_shorter, past_le, character_shorter, many_ok, many_again}
 use Rattle.just_dotenv.specs.declared.part.Part.{Part}
 use Rattle.just_dotenv.specs.declared.part.Part.TheVariants.{Letter, Name, Braced, Gap, Sign}
-use Rattle.just_dotenv.specs.Characters.{in_word, in_value, is_plain, escape}
+use Rattle.just_dotenv.specs.Characters.{in_word, in_value, is_plain, escape, dollar_sign, backslash, open_brace, close_brace}
 use Rattle.just_dotenv.specs.Grammar.{is_braced, IsPart}
 use Rattle.just_dotenv.specs.Grammar.IsPart.{itself, escaped, named, braced, gap, sign}
 use Rattle.just_dotenv.specs.Readers.{brace, dollar, letter, escape_of, escape_at, part_of, part, parts}
@@ -20,18 +20,18 @@ and_true false b h = absurd (false≢true h)
 
 module _ (quoted : Bool) (p : Place) where
   -- what is read behind a `$` and a `{` is a part
-  brace_ok : (m q : Place) (x : Part) → IsCharacter 36 p m → starts in_word m ≡ false → sees 123 m ≡ true → brace (next m) m ≡ Ok (x, q) → IsPart quoted p q x
+  brace_ok : (m q : Place) (x : Part) → IsCharacter dollar_sign p m → starts in_word m ≡ false → sees open_brace m ≡ true → brace (next m) m ≡ Ok (x, q) → IsPart quoted p q x
   unfolding brace
   brace_ok m q x s w o h =
       ⊎_elim
       (λ (t : _).
-      let (word, close) = and_true (starts in_word (next m)) (sees 125 (past in_word (next m))) t.0 in
+      let (word, close) = and_true (starts in_word (next m)) (sees close_brace (past in_word (next m))) t.0 in
       braced m (next m) s (o, refl) word (close, sym (ok_place _ x _ q t.1)) (sym (ok_value _ x _ q t.1)))
       (λ (t : _). subst (λ (r : Place). IsPart quoted p r x) (ok_place Gap x m q t.1) (gap s w o t.0 (sym (ok_value Gap x m q t.1))))
       (choose (is_braced (next m)) (Ok (Braced (encode_utf8_all (run in_word (next m).rest)), next (past in_word (next m)))) (Ok (Gap, m)) (Ok (x, q)) h)
 
   -- what is read behind a `$` is a part
-  dollar_ok : (m q : Place) (x : Part) → IsCharacter 36 p m → dollar m ≡ Ok (x, q) → IsPart quoted p q x
+  dollar_ok : (m q : Place) (x : Part) → IsCharacter dollar_sign p m → dollar m ≡ Ok (x, q) → IsPart quoted p q x
   unfolding dollar
   dollar_ok m q x s h =
       ⊎_elim
@@ -40,22 +40,22 @@ module _ (quoted : Bool) (p : Place) where
       ⊎_elim
       (λ (u : _). brace_ok m q x s t.0 u.0 u.1)
       (λ (u : _). subst (λ (r : Place). IsPart quoted p r x) (ok_place Sign x m q u.1) (sign s t.0 u.0 (sym (ok_value Sign x m q u.1))))
-      (choose (sees 123 m) (brace (next m) m) (Ok (Sign, m)) (Ok (x, q)) t.1))
-      (choose (starts in_word m) (Ok (Name (encode_utf8_all (run in_word m.rest)), past in_word m)) (if sees 123 m then brace (next m) m else Ok (Sign, m)) (Ok (x, q)) h)
+      (choose (sees open_brace m) (brace (next m) m) (Ok (Sign, m)) (Ok (x, q)) t.1))
+      (choose (starts in_word m) (Ok (Name (encode_utf8_all (run in_word m.rest)), past in_word m)) (if sees open_brace m then brace (next m) m else Ok (Sign, m)) (Ok (x, q)) h)
 
   -- what a backslash makes, where it makes something, is a part
-  letter_ok : (m q : Place) (x : Part) (c : ℕ) (d : Option ℕ) → quoted ≡ true → IsCharacter 92 p m → first m ≡ Some c → escape c ≡ d
+  letter_ok : (m q : Place) (x : Part) (c : ℕ) (d : Option ℕ) → quoted ≡ true → IsCharacter backslash p m → first m ≡ Some c → escape c ≡ d
       → letter d (next m) ≡ Ok (x, q) → IsPart quoted p q x
   letter_ok m q x c None t s f e h = absurd (let no : ⊥ = cc in no)
   letter_ok m q x c (Some d) t s f e h = escaped m c d t s f e (sym (ok_place _ x _ q h)) (sym (ok_value _ x _ q h))
 
   -- what is read of the character behind a backslash is a part
-  escape_of_ok : (m q : Place) (x : Part) (o : Option ℕ) → quoted ≡ true → IsCharacter 92 p m → first m ≡ o → escape_of o m ≡ Ok (x, q) → IsPart quoted p q x
+  escape_of_ok : (m q : Place) (x : Part) (o : Option ℕ) → quoted ≡ true → IsCharacter backslash p m → first m ≡ o → escape_of o m ≡ Ok (x, q) → IsPart quoted p q x
   escape_of_ok m q x None t s f h = absurd (let no : ⊥ = cc in no)
   escape_of_ok m q x (Some c) t s f h = letter_ok m q x c (escape c) t s f refl h
 
   -- what is read behind a backslash is a part
-  escape_ok : (m q : Place) (x : Part) → quoted ≡ true → IsCharacter 92 p m → escape_at m ≡ Ok (x, q) → IsPart quoted p q x
+  escape_ok : (m q : Place) (x : Part) → quoted ≡ true → IsCharacter backslash p m → escape_at m ≡ Ok (x, q) → IsPart quoted p q x
   unfolding escape_at
   escape_ok m q x t s h = escape_of_ok m q x (first m) t s refl h
 
@@ -101,12 +101,12 @@ dollar_within true = refl
 dollar_within false = refl
 
 -- where a `$` stands, the part is what stands behind it
-at_dollar : (quoted : Bool) (p m : Place) → IsCharacter 36 p m → part quoted p ≡ dollar m
+at_dollar : (quoted : Bool) (p m : Place) → IsCharacter dollar_sign p m → part quoted p ≡ dollar m
 unfolding part
 at_dollar quoted p m s = rw (sees_first 36 p s.0, dollar_plain quoted, s.1) refl
 
 -- where a backslash stands in double quotes, the part is what stands behind it
-at_slash : (quoted : Bool) (p m : Place) → quoted ≡ true → IsCharacter 92 p m → part quoted p ≡ escape_at m
+at_slash : (quoted : Bool) (p m : Place) → quoted ≡ true → IsCharacter backslash p m → part quoted p ≡ escape_at m
 unfolding part
 at_slash quoted p m t s = rw (sees_first 92 p s.0, t, s.1) refl
 
@@ -128,7 +128,7 @@ module _ (quoted : Bool) (p q : Place) (x : Part) where
   part_again (sign s w o z) = at_dollar quoted p q s ∙ rw (w, o, z) refl
 
   -- a value goes on where a `$` stands
-  from_dollar : (m : Place) → IsCharacter 36 p m → starts (in_value quoted) p ≡ true
+  from_dollar : (m : Place) → IsCharacter dollar_sign p m → starts (in_value quoted) p ≡ true
   from_dollar m s = starts_seen (in_value quoted) 36 p s.0 ∙ dollar_within quoted
 
   -- a value goes on where a part begins

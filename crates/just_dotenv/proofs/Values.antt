@@ -8,7 +8,7 @@ use Rattle.just_read.proofs.Laws.{many_end, many_more, many_wrong}
 use Rattle.just_dotenv.proofs.Parts.{read_shorter}
 use Rattle.just_dotenv.specs.declared.part.Part.{Part}
 use Rattle.just_dotenv.specs.declared.part.Part.TheVariants.{Letter}
-use Rattle.just_dotenv.specs.Characters.{in_value, in_single_quotes}
+use Rattle.just_dotenv.specs.Characters.{in_value, in_single_quotes, single_quote}
 use Rattle.just_dotenv.specs.Grammar.{is_close, is_gap, has_close, is_closed}
 use Rattle.just_dotenv.specs.Meaning.{Pairs, part_text, value_text}
 use Rattle.just_dotenv.specs.Readers.{part, parts, check_closed, closed_parts, as_text, single_quoted_value, waits, waits_behind}
@@ -19,7 +19,7 @@ letters_text environ earlier [] = refl
 letters_text environ earlier (c ∷ cs) = ap (λ (r : List ℕ). encode_utf8 c ++ r) (letters_text environ earlier cs)
 
 -- a single quoted value means the characters between the quotes
-pub single_reads : (environ earlier : Pairs) (p q : Place) (text : List ℕ) → expect 39 (past in_single_quotes p) ≡ Ok (tt, q)
+pub single_reads : (environ earlier : Pairs) (p q : Place) (text : List ℕ) → expect single_quote (past in_single_quotes p) ≡ Ok (tt, q)
     → text ≡ encode_utf8_all (run in_single_quotes p.rest) → as_text environ earlier single_quoted_value p ≡ Ok (text, q)
 unfolding single_quoted_value
 single_reads environ earlier p q text e t = rw (e, letters_text environ earlier (run in_single_quotes p.rest), t) refl

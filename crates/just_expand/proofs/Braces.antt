@@ -20,7 +20,7 @@ brace_stands (x ∷ xs) u h = brace_stands xs u h.1
 
 -- nor does one that is equal to it
 pub not_closed : (x u w : List ℕ) → w ≡ x ++ (close_brace ∷ u) → Lacks close_brace w → ⊥
-not_closed x u w e h = brace_stands x u (subst (Lacks 125) e h)
+not_closed x u w e h = brace_stands x u (subst (Lacks close_brace) e h)
 
 module _ (a b : ℕ) (apart : b ≢ a) where
   -- the two bytes don't stand in the text, one behind the other

@@ -71,7 +71,7 @@ borrowed_over_path (text.Owned s) (path.Owned p) h b = b
 
 -- so it is borrowed where the text has no `$` alone
 pub borrowed_without_dollar : {X : Type 0} (s t : List ℕ) (r : Result (CowStr Global) X) (r' : Result Expanded X) → s ≡ t → IsPathResultOf r r' → IfOk r (λ x. IsBorrowedStr x → Lacks dollar_sign s) → IfOk r' (λ y. IsBorrowedPath y → Lacks dollar_sign t)
-borrowed_without_dollar s t (Ok x) (Ok y) e h p = λ b. subst (Lacks 36) e (p (borrowed_over_path x y h b))
+borrowed_without_dollar s t (Ok x) (Ok y) e h p = λ b. subst (Lacks dollar_sign) e (p (borrowed_over_path x y h b))
 borrowed_without_dollar s t (Ok x) (Err f) e h p = tt
 borrowed_without_dollar s t (Err f) (Ok y) e h p = absurd h
 borrowed_without_dollar s t (Err f) (Err g) e h p = tt

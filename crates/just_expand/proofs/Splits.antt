@@ -53,7 +53,7 @@ pub plain_before : (t x y : List ℕ) (i j : ℕ) → FindsChar dollar_sign t (S
 plain_before t x y i j h ex ey without =
     let whole : t ≡ x ++ y = sym (take-append-drop i t) ∙ ap (λ u. u ++ drop i t) (sym ex) ∙ ap (λ u. x ++ u) (sym ey) in
     let begins : y ≡ 36 ∷ drop j t = ey ∙ drop_at_char 36 t i j h.1 (lit< tt) in
-    (whole, ((λ e. without (drop j t) (whole ∙ ap (λ u. u ++ y) e ∙ begins)), subst (Lacks 36) (sym ex) (lacks_all 36 (take i t) h.0 (lit< tt)), inr (drop j t, begins)))
+    (whole, ((λ e. without (drop j t) (whole ∙ ap (λ u. u ++ y) e ∙ begins)), subst (Lacks dollar_sign) (sym ex) (lacks_all 36 (take i t) h.0 (lit< tt)), inr (drop j t, begins)))
 
 -- where no `$` is found, all is
 pub plain_all : (t : List ℕ) → FindsChar dollar_sign t None → t ≢ [] → (t ≡ t ++ []) × ((t ≢ []) × Lacks dollar_sign t × EndsOrBegins dollar_sign [])

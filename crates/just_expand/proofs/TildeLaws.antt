@@ -32,7 +32,7 @@ no_slash_nor_end t some without (inr r) = without r.0 r.1
 pub needs_no_home_before_other : (t behind : List ℕ) → t ≡ tilde_sign ∷ behind → behind ≢ [] → BeginsWithout slash behind → NeedsNoHome t
 needs_no_home_before_other t behind e some without = λ rest h.
     let same : rest ≡ behind = same_tail 126 126 rest behind (sym h.0 ∙ e) in
-    no_slash_nor_end behind some without (subst (EndsOrBegins 47) same h.1)
+    no_slash_nor_end behind some without (subst (EndsOrBegins slash) same h.1)
 
 module _ (home : Option (List ℕ) → Type 0) where
   -- an own tilde stays where there is no home folder

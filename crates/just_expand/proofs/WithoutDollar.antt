@@ -15,16 +15,16 @@ expands_to_itself asks s (x ∷ xs) h =
 
 -- behind pieces of a text without `$` none stands
 lacks_cut : (t : List ℕ) (ps : List Piece) (rest : List ℕ) → Cuts t ps rest → Lacks dollar_sign t → Lacks dollar_sign rest
-lacks_cut t [] rest e h = subst (Lacks 36) e h
+lacks_cut t [] rest e h = subst (Lacks dollar_sign) e h
 lacks_cut t (p ∷ ps) rest c h = lacks_cut c.0 ps rest c.2 (lacks_behind 36 t p c.0 c.1 h)
 
 -- no piece of it asks
 no_question : (t : List ℕ) (p : Piece) (behind n : List ℕ) → Lacks dollar_sign t → Begins t p behind → question p ≡ Some n → ⊥
 no_question t (plain x) behind n h b e = cc
 no_question t dollar behind n h b e = cc
-no_question t (bare m) behind n h b e = (subst (Lacks 36) b.0 h).0 refl
-no_question t (braced m) behind n h b e = (subst (Lacks 36) b.0 h).0 refl
-no_question t (defaulted m d) behind n h b e = (subst (Lacks 36) b.0 h).0 refl
+no_question t (bare m) behind n h b e = (subst (Lacks dollar_sign) b.0 h).0 refl
+no_question t (braced m) behind n h b e = (subst (Lacks dollar_sign) b.0 h).0 refl
+no_question t (defaulted m d) behind n h b e = (subst (Lacks dollar_sign) b.0 h).0 refl
 no_question t unclosed behind n h b e = cc
 no_question t lone behind n h b e = cc
 

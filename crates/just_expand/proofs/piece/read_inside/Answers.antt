@@ -1,5 +1,6 @@
 -- The first `:-` parts name and default, unless none stands there.
 use Rattle.std.proofs.Common.{◌∷◌, inr, ap, sym, subst}
+use Rattle.just_expand.specs.Bytes.{close_brace}
 use Rattle.just_expand.specs.Pieces.{Lacks}
 use Rattle.just_expand.proofs.Lists.{lacks_left, lacks_right, is_not_empty}
 use Rattle.just_expand.proofs.Braces.{finish_braced, finish_defaulted}
@@ -16,7 +17,7 @@ returns-else-is_empty c = λ rest.
     let name = c.in-Some.name.now in
     let default = c.in-Some.default.now in
     let whole = cut_at_mark c.args.inside.now name default f.0 f.1 f.2 f.3 f.4 in
-    let lacks = subst (Lacks 125) whole c.requires in (
+    let lacks = subst (Lacks close_brace) whole c.requires in (
       ap (λ t. 36 ∷ 123 ∷ t) (finish_defaulted c.args.inside.now name default rest whole),
       (
         is_not_empty name (sym c.if-is_empty.ensures),
