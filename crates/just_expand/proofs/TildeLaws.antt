@@ -14,14 +14,14 @@ use Rattle.just_expand.specs.Tilde.{CallsForHome, NeedsNoHome, OwnTildeExpandsTo
 use Rattle.just_expand.proofs.Lists.{same_tail}
 
 -- the character was stripped from the front of the text, or is not there
-abbrev Stripped : ℕ → List ℕ → Option (Bor (List ℕ)) → Type 0
-Stripped c bs r = MatchOption r ((rest : List ℕ) → bs ≢ c ∷ rest) (λ x. bs ≡ c ∷ x.now)
+abbrev StripsCharacter : ℕ → List ℕ → Option (Bor (List ℕ)) → Type 0
+StripsCharacter c bs r = MatchOption r ((rest : List ℕ) → bs ≢ c ∷ rest) (λ x. bs ≡ c ∷ x.now)
 
 -- what the clause of `strip_prefix` at a character says of the rest
 pub begins_with_stripped : (c : ℕ) (bs : List ℕ) (r : Option (Bor (List ℕ))) (x : Bor (List ℕ))
     → MatchOption r (FindsCharPrefix c bs None) (λ y. (n : ℕ) × FindsCharPrefix c bs (Some n) × (y.now ≡ drop n bs) × (length y.now + n ≡ length bs))
     → c < 128 → r ≡ Some x → bs ≡ c ∷ x.now
-begins_with_stripped c bs r x h l e = let at : Stripped c bs (Some x) = subst (Stripped c bs) e (strip_prefix_char c bs r h l) in at
+begins_with_stripped c bs r x h l e = let at : StripsCharacter c bs (Some x) = subst (StripsCharacter c bs) e (strip_prefix_char c bs r h l) in at
 
 -- a text that isn't empty and doesn't begin with `/` is neither
 no_slash_nor_end : (t : List ℕ) → t ≢ [] → BeginsWithout slash t → EndsOrBegins slash t → ⊥

@@ -63,6 +63,6 @@ module _ {S T E : Type 0} (a : S → List ℕ → Reply E → S → Type 0) (b :
   may_ask may may' weaker s t h = λ rest out s' p behind n r g q. weaker s' n (h rest out (f s') p behind n (reaches s t rest out s' r) g q)
 
 -- what is handed on of a call is an answer of it
-pub call_kept : {C R E : Type 0} (called : R → C → Type 0) (x : Result R E) (c : C) → IsCallOf called x c → (y : R) × called y c × (x ≡ Ok y)
-call_kept called (Ok y) c h = (y, h, refl)
-call_kept called (Err e) c h = absurd h
+pub call_answers : {C R E : Type 0} (called : R → C → Type 0) (x : Result R E) (c : C) → IsCallOf called x c → (y : R) × called y c × (x ≡ Ok y)
+call_answers called (Ok y) c h = (y, h, refl)
+call_answers called (Err e) c h = absurd h
