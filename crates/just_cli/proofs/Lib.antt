@@ -3,7 +3,6 @@ pub mod Breaks
 pub mod Caused
 pub mod Falls
 pub mod Plans
-pub mod Readings
 pub mod Refusals
 pub mod Requests
 pub mod Runs
