@@ -52,6 +52,13 @@ failed_text recipe line = recipe_text recipe ++ (codes " failed" ++ line_text li
 abbrev pub terminated_text : List ℕ → Option ℕ → List ℕ
 terminated_text recipe line = recipe_text recipe ++ (codes " was terminated" ++ line_text line)
 
+-- a recipe's shell, or the file of its script, had a fault
+abbrev pub shell_text : List ℕ → List ℕ → HostFault → List ℕ
+shell_text recipe shell io = recipe_text recipe ++ (codes " could not be run because of an IO error while launching the shell " ++ (ticked shell ++ (codes ": " ++ fault_text io)))
+
+abbrev pub folder_text : List ℕ → HostFault → List ℕ
+folder_text recipe io = recipe_text recipe ++ (codes " could not be run because of an IO error while trying to create a temporary directory or write a file to that directory: " ++ fault_text io)
+
 -- what an error is printed as
 abbrev pub error_text : Error → List ℕ
 error_text (error.Usage u) = codes "error: usage: " ++ (usage_text u.kind ++ (codes " " ++ ticked u.word))
@@ -61,8 +68,8 @@ error_text (error.UnknownRecipe recipe) = codes "error: justfile does not contai
 error_text error.ClosureLimit = codes "error: request needs more than 1000000 recipes"
 error_text (error.Code recipe line code message) = failed_text recipe line ++ (codes " with exit code " ++ signed_decimal code)
 error_text (error.Signal recipe line signal) = terminated_text recipe line ++ (codes " by signal " ++ signed_decimal signal)
-error_text (error.ShellIo recipe shell io) = recipe_text recipe ++ (codes " could not be run because of an IO error while launching the shell " ++ (ticked shell ++ (codes ": " ++ fault_text io)))
-error_text (error.TempdirIo recipe io) = recipe_text recipe ++ (codes " could not be run because of an IO error while trying to create a temporary directory or write a file to that directory: " ++ fault_text io)
+error_text (error.ShellIo recipe shell io) = shell_text recipe shell io
+error_text (error.TempdirIo recipe io) = folder_text recipe io
 error_text (error.StdoutIo io) = codes "error: I/O error writing to stdout: " ++ fault_text io
 error_text (error.Interrupted signal) = codes "error: interrupted by " ++ name_of signal
 error_text (error.Unknown recipe line) = failed_text recipe line ++ codes " for an unknown reason"
