@@ -7,14 +7,16 @@ use Rattle.just_outside.specs.declared.entry.Entry.{Entry}
 use Rattle.just_outside.specs.declared.entry.Entry.TheVariants as entry
 use Rattle.just_outside.specs.declared.entry.HostFault.TheVariants as fault
 use Rattle.just_outside.specs.declared.entry.Stream.TheVariants as stream
-use Rattle.just_outside.specs.Record.{children, refused, is_failed, is_started}
+use Rattle.just_outside.specs.Record.{refused, is_failed, is_started}
 use Rattle.just_sched.specs.declared.event.Event.{Event}
 use Rattle.just_sched.specs.declared.event.Verdict.{Verdict}
 use Rattle.just_sched.specs.declared.plan.Plan.{Plan}
 use Rattle.just_sched.specs.Favourable.{IsFavourable}
 use Rattle.just_sched.specs.Idle.{HasWork}
-use Rattle.just_sched.specs.Legal.{Run, IsLegal, IsClosed, IsComplete}
+use Rattle.just_sched.specs.Legal.{IsLegal, IsClosed, IsComplete}
 use Rattle.just_sched.specs.Match.{Matches}
+use Rattle.just_sched.specs.Start.{run_over}
+use Rattle.just_sched.specs.State.{has_caught}
 use Rattle.just_sched.specs.Verdict.{IsVerdict, NoneDecides}
 use Rattle.just_cli.specs.Caused.{IsCaused}
 use Rattle.just_cli.specs.Outcome.{IsErrorFor}
@@ -22,10 +24,6 @@ use Rattle.just_cli.specs.declared.ended.Failure.{Failure}
 use Rattle.just_cli.specs.declared.error.Error.{Error}
 use Rattle.just_cli.specs.declared.error.Error.TheVariants as error
 use Rattle.just_cli.specs.Texts.{error_text, prints}
-
--- the run of a plan with no job limit, over a host with that record
-abbrev pub run_over : Plan → List Entry → Run
-run_over plan entries = record { nodes = plan.nodes; invocations = plan.invocations; jobs = None; base = children entries }
 
 -- what a refusal before the run leaves: the entry of the call that was refused
 abbrev pub entries_of : Error → List Entry
@@ -47,9 +45,9 @@ pub record IsQuiet (es : List Entry) : Type 0 where
 
 -- The stretch of the record while the book was open is matched by a legal and closed history of the plan's run.
 pub record Kept (plan : Plan) (h : List Event) (old mid : List Entry) : Type 0 where
-  pub legal : IsLegal (run_over plan old) h
-  pub closed : IsClosed (run_over plan old) h
-  pub matches : Matches (run_over plan old) h mid
+  pub legal : IsLegal (run_over plan None old) h
+  pub closed : IsClosed (run_over plan None old) h
+  pub matches : Matches (run_over plan None old) h mid
 
 -- A run that went well: the record gained just the entries of its history, which is legal and complete: no node failed,
 -- and each was run to its end.
@@ -57,20 +55,20 @@ pub record Ran (plan : Plan) (h : List Event) (old new : List Entry) : Type 0 wh
   pub mid : List Entry
   pub grew : new ≡ old ++ mid
   pub kept : Kept plan h old mid
-  pub well : NoneDecides (run_over plan old) h
-  pub complete : IsComplete (run_over plan old) h
+  pub well : NoneDecides (run_over plan None old) h
+  pub complete : IsComplete (run_over plan None old) h
 
 -- A run that failed: its error is that of the history's verdict, and the record shows its cause; a favourable record shows
--- none. Nothing was left to do, so it didn't stop at its first failure. Behind the entries of its history the error was told.
+-- none. Nothing was left to do, or a signal was caught, so it didn't stop at its first failure. Behind the entries of its history the error was told.
 pub record Fell (plan : Plan) (h : List Event) (e : Error) (old new : List Entry) : Type 0 where
   pub mid : List Entry
   pub post : List Entry
   pub grew : new ≡ old ++ (mid ++ post)
   pub kept : Kept plan h old mid
   pub verdict : Verdict
-  pub judged : IsVerdict (run_over plan old) h verdict
+  pub judged : IsVerdict (run_over plan None old) h verdict
   pub decided : IsErrorFor plan.nodes h verdict (Some e)
-  pub nothing_left : HasWork (run_over plan old) h → ⊥
+  pub nothing_left : (has_caught h ≡ true) ⊎ (HasWork (run_over plan None old) h → ⊥)
   pub caused : IsCaused plan.nodes h e mid
   pub favoured : IsFavourable mid → e ≡ error.NoMemory
   pub told : IsTold e post

@@ -7,7 +7,7 @@ ghost use Rattle.just_sched.specs.Favourable.{IsFavourable};
 ghost use Rattle.just_sched.specs.declared.plan.Plan.{Plan};
 ghost use Rattle.just_cli.specs.Answered.{IsAnswered, IsServed};
 ghost use Rattle.just_cli.specs.Caused.{is_fault, is_miss};
-ghost use Rattle.just_cli.specs.Ran.{Ran, Fell, Refused, IsQuiet, run_over};
+ghost use Rattle.just_cli.specs.Ran.{Ran, Fell, Refused, IsQuiet};
 ghost use Rattle.just_cli.specs.Request.{IsAsked, RefusedFor};
 ghost use Rattle.just_cli.specs.Texts.{exit_code};
 
