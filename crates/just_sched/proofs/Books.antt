@@ -351,7 +351,7 @@ prompted_at nodes n (Some x) q all e =
     no_prompt x.prompt (subst (λ (y : PlanNode). is_none y.prompt ≡ true) (get_or_from_slice_get nodes n x x q) (all n x (slice_get_within nodes n x q))) e
 
 pub none_asked : (s : Start) (h : List Event) (n : ℕ) → IsToAsk s.plan.nodes s.plan.invocations h n → ⊥
-none_asked s h n asked = ∥∥₁_elim s.plan.unprompted (λ x. absurd x) (λ all. prompted_at s.plan.nodes n (slice_get s.plan.nodes n) refl all is_asked.prompted)
+none_asked s h n asked = ∥∥₁_elim s.plan.unprompted (λ x. absurd x) (λ all. prompted_at s.plan.nodes n (slice_get s.plan.nodes n) refl all asked.prompted)
 
 -- ---- moves
 
@@ -380,7 +380,7 @@ settled_by old mid new n longer a b closed still rests =
 
 pub nothing_ready : (s : Start) (h : List Event) → ((n : ℕ) → n < length s.plan.nodes → IsReady s.plan.nodes s.plan.invocations h n → ⊥) → HasWork (run_of s) h → ⊥
 nothing_ready s h none (n, inl ready) = ∥∥₁_elim s.plan.well (λ x. absurd x) (λ f. none n (ready_there (run_of s) h n f ready) ready)
-nothing_ready s h none (n, inr is_asked) = none_asked s h n is_asked
+nothing_ready s h none (n, inr asked) = none_asked s h n asked
 
 not_full : (jobs : Option ℕ) (count : ℕ) → MatchOption jobs (Unit {0}) (λ j. count < j) → jobs ≡ Some count → ⊥
 not_full None count free e = absurd (cc)

@@ -1,5 +1,6 @@
 -- A book that was opened, run until it is idle, and closed is a run that was driven.
 use Rattle.std.proofs.Common.{ap, sym, ◌∙◌, subst}
+use Rattle.just_sched.specs.Legal.{IsClosed}
 use Rattle.just_sched.specs.Start.{run_of}
 use Rattle.just_sched.specs.State.{is_open}
 use Rattle.just_sched.specs.Idle.{IsIdle}
@@ -14,12 +15,12 @@ returns-clause-driven g c =
     let s = g.P.Naming.start in
     let d = c.close.result in
     let same = c.close.ensures.history in
-    let closed = λ n lt. ap (λ h. is_open h n) same ∙ c.run_all.ensures.closed n in
+    let closed : IsClosed (run_of s) d.history = λ n lt. ap (λ h. is_open h n) same ∙ c.run_all.ensures.closed n in
     let i = c.run_all.ensures.idle.0 in
     let is = subst (λ h. IsIdle (run_of s) h i) (sym same) c.run_all.ensures.idle.1 in
     let left = nothing_left_by (run_of s) d.history i c.args.jobs c.requires.jobs closed is in
     record {
-      plan = d.plan_is;
+      plan = c.close.ensures.plan ∙ c.run_all.ensures.plan ∙ c.in-Ok.ensures.plan ∙ c.new.ensures ∙ c.requires.plan;
       kept = c.close.ensures.kept;
       closed = closed;
       idle = (i, is);
