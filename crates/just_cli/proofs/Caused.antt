@@ -21,7 +21,7 @@ use Rattle.just_sched.specs.Works.{commands_of, after}
 use Rattle.just_sched.specs.Legal.{Run, IsLegal}
 use Rattle.just_sched.specs.Match.{Matches}
 use Rattle.just_sched.specs.State.{statuses, reason_of, next_step}
-use Rattle.just_sched.proofs.Causes.{last_end, status_failed, failed_code, fault_caused, miss_caused}
+use Rattle.just_sched.proofs.Laws.{last_status_shown, failed_by_statuses, failing_code, failed_call_shown, missed_call_shown}
 use Rattle.just_cli.specs.declared.error.Error.{Error}
 use Rattle.just_cli.specs.declared.error.Error.TheVariants as error
 use Rattle.just_cli.specs.Caused.{IsCaused, ShowsEnd}
@@ -30,7 +30,7 @@ use Rattle.just_cli.specs.Outcome.{name_of, line_of, failure_error, last_error, 
 module _ (s : Run) (h : List Event) (es : List Entry) (legal : IsLegal s h) (matches : Matches s h es) where
   the_end : (n : ℕ) (x : PlanNode) (t : Status) → slice_get s.nodes n ≡ Some x → next_step s.nodes h n ≡ step.Failed → last_or None (statuses h n) ≡ Some t → ShowsEnd s.nodes h es (name_of x) (line_of (slice_get (commands_of x.work) (length (statuses h n) - 1))) t
   the_end n x t is fails q =
-      let last = last_end s h es n t legal matches q in
+      let last = last_status_shown s h es n t legal matches q in
       let place : length (statuses h n) - 1 ≡ last.place = omega (arith, last.is_last) in
       record {
         number = n;
@@ -47,15 +47,15 @@ module _ (s : Run) (h : List Event) (es : List Entry) (legal : IsLegal s h) (mat
 
   by_status : (n : ℕ) (x : PlanNode) (o : Option Status) → slice_get s.nodes n ≡ Some x → next_step s.nodes h n ≡ step.Failed → last_or None (statuses h n) ≡ o → IsCaused s.nodes h (last_error x (statuses h n) o) es
   by_status n x (Some (status.Code z)) is fails q =
-      (failed_code x.work (statuses h n) z (subst (λ o. after (work_in o) (statuses h n) ≡ step.Failed) is fails) q, the_end n x (status.Code z) is fails q)
+      (failing_code x.work (statuses h n) z (subst (λ o. after (work_in o) (statuses h n) ≡ step.Failed) is fails) q, the_end n x (status.Code z) is fails q)
   by_status n x (Some (status.Signal z)) is fails q = the_end n x (status.Signal z) is fails q
   by_status n x (Some status.Unknown) is fails q = the_end n x status.Unknown is fails q
   by_status n x None is fails q = tt
 
   by_reason : (n : ℕ) (x : PlanNode) (o : Option Reason) → slice_get s.nodes n ≡ Some x → reason_of h n ≡ o → IsCaused s.nodes h (failure_error x (statuses h n) o) es
-  by_reason n x (Some reason.Status) is q = by_status n x (last_or None (statuses h n)) is (status_failed s h n legal q) refl
-  by_reason n x (Some (reason.Place c m)) is q = miss_caused s h es n c m matches q
-  by_reason n x (Some (reason.Fault c)) is q = fault_caused s h es n c matches q
+  by_reason n x (Some reason.Status) is q = by_status n x (last_or None (statuses h n)) is (failed_by_statuses s h n legal q) refl
+  by_reason n x (Some (reason.Place c m)) is q = missed_call_shown s h es n c m matches q
+  by_reason n x (Some (reason.Fault c)) is q = failed_call_shown s h es n c matches q
   by_reason n x _ is q = tt
 
   by_node : (n : ℕ) (o : Option PlanNode) → slice_get s.nodes n ≡ o → IsCaused s.nodes h (error_in o h n) es

@@ -16,11 +16,8 @@ use Rattle.just_sched.specs.declared.event.Event.{Event}
 use Rattle.just_sched.specs.declared.plan.Plan.{Plan}
 use Rattle.just_sched.specs.declared.plan_node.PlanNode.{PlanNode}
 use Rattle.just_sched.specs.Favourable.{is_favourable, IsFavourable}
-use Rattle.just_sched.specs.Start.{Start, run_of}
-use Rattle.just_sched.specs.Start.{Kept as IsKept}
-use Rattle.just_sched.proofs.Keeps.{neither}
-use Rattle.just_sched.proofs.Sane.{none_zero}
-use Rattle.just_sched.proofs.Totals.{matched_children}
+use Rattle.just_sched.specs.Start.{Start, IsKept, run_of}
+use Rattle.just_sched.proofs.Laws.{nothing_started}
 use Rattle.just_cli.specs.declared.ended.Failure.{Failure}
 use Rattle.just_cli.specs.declared.ended.Report.{Report}
 use Rattle.just_cli.specs.declared.error.Error.{Error}
@@ -116,8 +113,13 @@ own_record (Err f) old new none all = λ p is good. all p is new (sym (ap (λ xs
 
 -- ---- the world
 
+first_of : (a b : Bool) → (a || b) ≡ false → a ≡ false
+first_of true b e = absurd (cc)
+first_of false b e = refl
+
+-- what no entry of a list passes, none of its first part does
 quiet_front : (p : Entry → Bool) (mid post es : List Entry) → es ≡ mid ++ post → list_any p es ≡ false → list_any p mid ≡ false
-quiet_front p mid post es is none = (neither (list_any p mid) (list_any p post) (sym (list_any-append p mid post) ∙ (ap (λ xs. list_any p xs) (sym is) ∙ none))).0
+quiet_front p mid post es is none = first_of (list_any p mid) (list_any p post) (sym (list_any-append p mid post) ∙ (ap (λ xs. list_any p xs) (sym is) ∙ none))
 
 -- where no child was started and nothing failed, a drive leaves the world
 pub world_left : (s : Start) (h : List Event) (now new : List Entry) (v : Option World) (post es : List Entry) → ∥ IsKept s h now v ∥₁ → new ≡ now ++ post → new ≡ s.entries ++ es → IsQuiet es → v ≡ s.world
@@ -125,4 +127,4 @@ world_left s h now new v post es kept told grew quiet =
     ∥∥₁_elim kept (worlds_set _ _) (λ k.
     let same : es ≡ k.gained ++ post = append_cancel_left s.entries es (k.gained ++ post) (sym grew ∙ (told ∙ (ap (λ x. x ++ post) k.grew ∙ append_assoc s.entries k.gained post))) in
     let child = quiet_front is_started k.gained post es same quiet.no_child in
-    k.untouched (sym (matched_children (run_of s) h k.gained k.matches) ∙ none_zero is_started k.gained child) (quiet_front is_failed k.gained post es same quiet.no_failure))
+    k.untouched (nothing_started (run_of s) h k.gained k.matches child) (quiet_front is_failed k.gained post es same quiet.no_failure))

@@ -15,19 +15,12 @@ use Rattle.just_sched.specs.declared.event.Reason.{Reason}
 use Rattle.just_sched.specs.declared.event.Reason.TheVariants as reason
 use Rattle.just_sched.specs.declared.plan_node.PlanNode.{PlanNode}
 use Rattle.just_sched.specs.declared.work.Step.TheVariants as step
+use Rattle.just_sched.specs.Causes.{ShowsFailure, ShowsMiss}
 use Rattle.just_sched.specs.State.{next_step, reason_of, statuses}
 use Rattle.just_sched.specs.Works.{commands_of}
 use Rattle.just_cli.specs.Outcome.{name_of, line_of, shell_of}
 use Rattle.just_cli.specs.declared.error.Error.{Error}
 use Rattle.just_cli.specs.declared.error.Error.TheVariants as error
-
--- A failure of the call; of a wait, maybe as the end of another child.
-abbrev pub ShowsFailure : Call → List Entry → Type 0
-ShowsFailure c es = Contains es (entry.Failed c) ⊎ ((c ≡ call.Wait) × (child other : ℕ) × Contains es (entry.Strayed child other))
-
--- Such a miss, of some path.
-abbrev pub ShowsMiss : Miss → List Entry → Type 0
-ShowsMiss m es = (path : List ℕ) × Contains es (entry.Missed path m)
 
 -- The record shows that a child ended so, which a node of that recipe had started by its command of that line, and by
 -- which the node's body failed.

@@ -7,7 +7,7 @@ use Rattle.just_outside.specs.declared.entry.Entry.{Entry}
 use Rattle.just_outside.specs.declared.entry.Entry.TheVariants as entry
 use Rattle.just_outside.specs.declared.entry.HostFault.TheVariants as fault
 use Rattle.just_outside.specs.declared.entry.Stream.TheVariants as stream
-use Rattle.just_outside.specs.Record.{children, is_failed, is_started}
+use Rattle.just_outside.specs.Record.{is_failed, is_started}
 use Rattle.just_sched.specs.declared.event.Event.{Event}
 use Rattle.just_sched.specs.declared.event.Verdict.{Verdict}
 use Rattle.just_sched.specs.declared.plan.Plan.{Plan}
@@ -15,7 +15,8 @@ use Rattle.just_sched.specs.Favourable.{IsFavourable}
 use Rattle.just_sched.specs.Idle.{HasWork}
 use Rattle.just_sched.specs.Legal.{Run, IsLegal, IsClosed, IsComplete}
 use Rattle.just_sched.specs.Match.{Matches}
-use Rattle.just_sched.specs.State.{caught}
+use Rattle.just_sched.specs.Start.{run_over}
+use Rattle.just_sched.specs.State.{has_caught}
 use Rattle.just_sched.specs.Verdict.{IsVerdict, NoneDecides}
 use Rattle.just_cli.specs.Caused.{IsCaused}
 use Rattle.just_cli.specs.Faults.{entries_of}
@@ -31,10 +32,6 @@ pub record Stretches (old new : List Entry) : Type 0 where
   pub mid : List Entry
   pub post : List Entry
   pub grew : new ≡ old ++ (pre ++ (mid ++ post))
-
--- the run of a plan with that job limit, over a host with that record as its book is opened
-abbrev pub run_over : Plan → Option ℕ → List Entry → Run
-run_over plan jobs entries = record { nodes = plan.nodes; invocations = plan.invocations; jobs = jobs; base = children entries }
 
 -- a fault is printed once to standard error, as its text and a newline; the print may fail, and wanting memory leaves nothing
 abbrev pub IsPrinted : Error → List Entry → Type 0
@@ -66,7 +63,7 @@ pub record EndsWell (plan : Plan) (jobs : Option ℕ) (h : List Event) (old new 
   pub silent : stretches.post ≡ []
 
 -- A run that failed: its error is that of the history's verdict, and the record shows its cause; a favourable record shows
--- none. Nothing was left to do, or a signal was caught, so it didn't stop at its first failure. Behind the entries of its
+-- none. A signal was caught, or nothing was left to do, so it didn't stop at its first failure. Behind the entries of its
 -- history the error was told.
 pub record EndsIll (plan : Plan) (jobs : Option ℕ) (h : List Event) (e : Error) (old new : List Entry) : Type 0 where
   pub stretches : Stretches old new
@@ -75,7 +72,7 @@ pub record EndsIll (plan : Plan) (jobs : Option ℕ) (h : List Event) (e : Error
   pub verdict : Verdict
   pub judged : IsVerdict (run_over plan jobs (old ++ stretches.pre)) h verdict
   pub decided : IsErrorFor plan.nodes h verdict (Some e)
-  pub nothing_left : (HasWork (run_over plan jobs (old ++ stretches.pre)) h → ⊥) ⊎ (caught h ≡ true)
+  pub nothing_left : (has_caught h ≡ true) ⊎ (HasWork (run_over plan jobs (old ++ stretches.pre)) h → ⊥)
   pub caused : IsCaused plan.nodes h e stretches.mid
   pub favoured : IsFavourable stretches.mid → e ≡ error.NoMemory
   pub told : IsTold e stretches.post

@@ -10,6 +10,7 @@ use Rattle.just_outside.specs.declared.entry.Entry.{Entry}
 use Rattle.just_outside.specs.declared.entry.Entry.TheVariants as entry
 use Rattle.just_outside.specs.declared.entry.Status.{Status}
 use Rattle.just_outside.specs.declared.entry.Status.TheVariants as status
+use Rattle.just_outside.specs.declared.signal.Signal.{Signal}
 use Rattle.just_outside.specs.Record.{script_folder}
 use Rattle.just_sched.specs.declared.event.Event.{Event}
 use Rattle.just_sched.specs.declared.event.Event.TheVariants as event
@@ -19,20 +20,21 @@ use Rattle.just_sched.specs.declared.event.Reason.TheVariants as reason
 use Rattle.just_sched.specs.declared.work.Command.{Command}
 use Rattle.just_sched.specs.declared.work.Step.TheVariants as step
 use Rattle.just_sched.specs.declared.work.Work.{Work}
+use Rattle.just_sched.specs.Causes.{ShowsFailure, ShowsMiss, EndedLast}
 use Rattle.just_sched.specs.Nodes.{command_at}
 use Rattle.just_sched.specs.Works.{commands_of, ends_body, goes_on, is_code, start_or_well, judged, after}
-use Rattle.just_sched.specs.State.{status_of, reason_in, done, statuses, last_start, reason_of, next_step}
+use Rattle.just_sched.specs.State.{status_of, reason_in, signal_in, is_done, statuses, last_start, reason_of, caught_signal, next_step}
 use Rattle.just_sched.specs.Legal.{Run, Ended, IsDue, May, LegalFrom, IsLegal}
-use Rattle.just_sched.specs.Match.{Stands, FaultStands, MissStands, FailureStands, BehindEcho, MatchesFrom, Matches, printed}
+use Rattle.just_sched.specs.Match.{StandsFor, FaultStandsFor, MissStandsFor, FailureStandsFor, BehindEcho, MatchesFrom, Matches, printed}
 use Rattle.just_sched.proofs.AfterLaws.{after_judged}
-use Rattle.just_sched.proofs.Keeps.{neither, legal_more, legal_holds, last_push, last_started, last_start_stays, statuses_ended, statuses_stay, statuses_of, starts_of, reason_kept, reason_new, next_step_stays}
+use Rattle.just_sched.proofs.Keeps.{neither, legal_more, legal_holds, last_push, last_started, last_start_stays, statuses_ended, statuses_stay, statuses_of, starts_of, reason_kept, reason_new, signal_kept, signal_new, next_step_stays}
 use Rattle.just_sched.proofs.Sane.{inside, running_place}
 use Rattle.just_sched.proofs.Complete.{reason_due, reason_done}
 use Rattle.just_sched.proofs.Totals.{option_there, matches_holds}
 
 -- ---- a history with its record
 
-kept_from : (s : Run) (P : List Event → List Entry → Type 0) → ((h : List Event) (e : Event) (es fs : List Entry) → IsLegal s h → P h es → May s h e → Stands s h e fs → P (h ++ e ∷ []) (es ++ fs)) → (before h : List Event) (had es : List Entry) → IsLegal s before → P before had → LegalFrom s before h → MatchesFrom s before h es → P (before ++ h) (had ++ es)
+kept_from : (s : Run) (P : List Event → List Entry → Type 0) → ((h : List Event) (e : Event) (es fs : List Entry) → IsLegal s h → P h es → May s h e → StandsFor s h e fs → P (h ++ e ∷ []) (es ++ fs)) → (before h : List Event) (had es : List Entry) → IsLegal s before → P before had → LegalFrom s before h → MatchesFrom s before h es → P (before ++ h) (had ++ es)
 kept_from s P more before [] had es legal p l m =
     subst (λ k. P k (had ++ es)) (sym (append-nil before)) (subst (λ k. P before k) (sym (ap (λ x. had ++ x) m ∙ append-nil had)) p)
 kept_from s P more before (x ∷ h) had es legal p l m =
@@ -42,7 +44,7 @@ kept_from s P more before (x ∷ h) had es legal p l m =
 
 -- what holds of nothing, and goes on by each event that may come with the entries that it stands for, holds of each legal
 -- history and the record that it matches
-pub kept_holds : (s : Run) (P : List Event → List Entry → Type 0) → P [] [] → ((h : List Event) (e : Event) (es fs : List Entry) → IsLegal s h → P h es → May s h e → Stands s h e fs → P (h ++ e ∷ []) (es ++ fs)) → (h : List Event) (es : List Entry) → IsLegal s h → Matches s h es → P h es
+pub kept_holds : (s : Run) (P : List Event → List Entry → Type 0) → P [] [] → ((h : List Event) (e : Event) (es fs : List Entry) → IsLegal s h → P h es → May s h e → StandsFor s h e fs → P (h ++ e ∷ []) (es ++ fs)) → (h : List Event) (es : List Entry) → IsLegal s h → Matches s h es → P h es
 kept_holds s P none more h es l m = kept_from s P more [] h [] es tt none l m
 
 here : {A : Type 0} (x : A) → Contains (x ∷ []) x
@@ -81,15 +83,7 @@ pub start_there : (s : Run) (h : List Event) (n i c : ℕ) → IsLegal s h → l
 start_there s h n i c l =
     legal_holds s (λ k. last_start k n ≡ Some (i, c) → Contains k (event.Started n i c)) (λ q. absurd (cc)) (λ k e legal old m. start_more n i c k e old) h l
 
--- the command of a node that ended last, with that status: its place, its child, and what they show in history and record
-pub record LastEnd (h : List Event) (es : List Entry) (n : ℕ) (t : Status) : Type 0 where
-  pub place : ℕ
-  pub child : ℕ
-  pub is_last : place + 1 ≡ length (statuses h n)
-  pub started : Contains h (event.Started n place child)
-  pub ended : Contains es (entry.Ended child t)
-
-end_kept : (h : List Event) (e : Event) (es fs : List Entry) (n : ℕ) (t : Status) → status_of n e ≡ None → (last_or None (statuses h n) ≡ Some t → LastEnd h es n t) → last_or None (statuses (h ++ e ∷ []) n) ≡ Some t → LastEnd (h ++ e ∷ []) (es ++ fs) n t
+end_kept : (h : List Event) (e : Event) (es fs : List Entry) (n : ℕ) (t : Status) → status_of n e ≡ None → (last_or None (statuses h n) ≡ Some t → EndedLast h es n t) → last_or None (statuses (h ++ e ∷ []) n) ≡ Some t → EndedLast (h ++ e ∷ []) (es ++ fs) n t
 end_kept h e es fs n t quiet old q =
     let same = statuses_stay h e n quiet in
     let was = old (sym (ap (λ xs. last_or None xs) same) ∙ q) in
@@ -101,7 +95,7 @@ end_kept h e es fs n t quiet old q =
       ended = Contains-append_left es fs (entry.Ended was.child t) was.ended;
     }
 
-end_now : (s : Run) (h : List Event) (n i c : ℕ) (u : Status) (es fs : List Entry) (t : Status) → IsLegal s h → May s h (event.Ended n i c u) → Stands s h (event.Ended n i c u) fs → last_or None (statuses (h ++ event.Ended n i c u ∷ []) n) ≡ Some t → LastEnd (h ++ event.Ended n i c u ∷ []) (es ++ fs) n t
+end_now : (s : Run) (h : List Event) (n i c : ℕ) (u : Status) (es fs : List Entry) (t : Status) → IsLegal s h → May s h (event.Ended n i c u) → StandsFor s h (event.Ended n i c u) fs → last_or None (statuses (h ++ event.Ended n i c u ∷ []) n) ≡ Some t → EndedLast (h ++ event.Ended n i c u ∷ []) (es ++ fs) n t
 end_now s h n i c u es fs t legal may stands q =
     let e = event.Ended n i c u in
     let now = statuses_ended h n i c u in
@@ -115,22 +109,22 @@ end_now s h n i c u es fs t legal may stands q =
       ended = Contains-append_right es fs (entry.Ended c t) (alone fs (entry.Ended c t) (stands ∙ ap (λ x. entry.Ended c x ∷ []) same));
     }
 
-end_by : (s : Run) (h : List Event) (n m i c : ℕ) (u : Status) (es fs : List Entry) (t : Status) (b : Bool) → (m == n) ≡ b → IsLegal s h → (last_or None (statuses h n) ≡ Some t → LastEnd h es n t) → May s h (event.Ended m i c u) → Stands s h (event.Ended m i c u) fs → last_or None (statuses (h ++ event.Ended m i c u ∷ []) n) ≡ Some t → LastEnd (h ++ event.Ended m i c u ∷ []) (es ++ fs) n t
+end_by : (s : Run) (h : List Event) (n m i c : ℕ) (u : Status) (es fs : List Entry) (t : Status) (b : Bool) → (m == n) ≡ b → IsLegal s h → (last_or None (statuses h n) ≡ Some t → EndedLast h es n t) → May s h (event.Ended m i c u) → StandsFor s h (event.Ended m i c u) fs → last_or None (statuses (h ++ event.Ended m i c u ∷ []) n) ≡ Some t → EndedLast (h ++ event.Ended m i c u ∷ []) (es ++ fs) n t
 end_by s h n m i c u es fs t true same legal old may stands q =
     let is : m ≡ n = eqb-true m n same in
-    subst (λ k. LastEnd (h ++ event.Ended k i c u ∷ []) (es ++ fs) n t) (sym is)
-    (end_now s h n i c u es fs t legal (subst (λ k. May s h (event.Ended k i c u)) is may) (subst (λ k. Stands s h (event.Ended k i c u) fs) is stands) (subst (λ k. last_or None (statuses (h ++ event.Ended k i c u ∷ []) n) ≡ Some t) is q))
+    subst (λ k. EndedLast (h ++ event.Ended k i c u ∷ []) (es ++ fs) n t) (sym is)
+    (end_now s h n i c u es fs t legal (subst (λ k. May s h (event.Ended k i c u)) is may) (subst (λ k. StandsFor s h (event.Ended k i c u) fs) is stands) (subst (λ k. last_or None (statuses (h ++ event.Ended k i c u ∷ []) n) ≡ Some t) is q))
 end_by s h n m i c u es fs t false same legal old may stands q =
     end_kept h (event.Ended m i c u) es fs n t (statuses_of n (event.Ended m i c u) same) old q
 
-end_more : (s : Run) (h : List Event) (e : Event) (n : ℕ) (es fs : List Entry) (t : Status) → IsLegal s h → (last_or None (statuses h n) ≡ Some t → LastEnd h es n t) → May s h e → Stands s h e fs → last_or None (statuses (h ++ e ∷ []) n) ≡ Some t → LastEnd (h ++ e ∷ []) (es ++ fs) n t
+end_more : (s : Run) (h : List Event) (e : Event) (n : ℕ) (es fs : List Entry) (t : Status) → IsLegal s h → (last_or None (statuses h n) ≡ Some t → EndedLast h es n t) → May s h e → StandsFor s h e fs → last_or None (statuses (h ++ e ∷ []) n) ≡ Some t → EndedLast (h ++ e ∷ []) (es ++ fs) n t
 end_more s h (event.Ended m i c u) n es fs t legal old may stands q = end_by s h n m i c u es fs t (m == n) refl legal old may stands q
 end_more s h e n es fs t legal old may stands q = end_kept h e es fs n t refl old q
 
 -- the last status of a node is that of a child which the node started, and whose end is in the record
-pub last_end : (s : Run) (h : List Event) (es : List Entry) (n : ℕ) (t : Status) → IsLegal s h → Matches s h es → last_or None (statuses h n) ≡ Some t → LastEnd h es n t
+pub last_end : (s : Run) (h : List Event) (es : List Entry) (n : ℕ) (t : Status) → IsLegal s h → Matches s h es → last_or None (statuses h n) ≡ Some t → EndedLast h es n t
 last_end s h es n t l m =
-    kept_holds s (λ k fs. last_or None (statuses k n) ≡ Some t → LastEnd k fs n t) (λ q. absurd (cc)) (λ k e fs gs legal old may stands. end_more s k e n fs gs t legal old may stands) h es l m
+    kept_holds s (λ k fs. last_or None (statuses k n) ≡ Some t → EndedLast k fs n t) (λ q. absurd (cc)) (λ k e fs gs legal old may stands. end_more s k e n fs gs t legal old may stands) h es l m
 
 -- ---- a body that failed by its statuses
 
@@ -144,9 +138,9 @@ not_inside true d t over inside = absurd (true≢false (sym over ∙ inside refl
 not_inside false d t over inside = refl
 
 -- none of its commands ends behind the end of a body
-quiet_done : (s : Run) (h : List Event) (n : ℕ) (e : Event) → May s h e → done h n ≡ true → status_of n e ≡ None
+quiet_done : (s : Run) (h : List Event) (n : ℕ) (e : Event) → May s h e → is_done h n ≡ true → status_of n e ≡ None
 quiet_done s h n (event.Ended m i c t) may over =
-    not_inside (m == n) (done h n) t over (λ same. (inside h n (subst (λ k. IsDue s h k Ended) (eqb-true m n same) may.0).0).not_done)
+    not_inside (m == n) (is_done h n) t over (λ same. (inside h n (subst (λ k. IsDue s h k Ended) (eqb-true m n same) may.0).0).not_done)
 quiet_done s h n e may over = refl
 
 status_by : (s : Run) (h : List Event) (n : ℕ) (e : Event) (o : Option Reason) → reason_of h n ≡ o → (reason_of h n ≡ Some reason.Status → next_step s.nodes h n ≡ step.Failed) → May s h e → reason_of (h ++ e ∷ []) n ≡ Some reason.Status → next_step s.nodes (h ++ e ∷ []) n ≡ step.Failed
@@ -186,32 +180,24 @@ failed_code w ts z e q =
 
 -- ---- a body that a call of the host ended
 
--- a failure of the call; of a wait, maybe as the end of another child
-abbrev pub ShowsFailure : Call → List Entry → Type 0
-ShowsFailure c es = Contains es (entry.Failed c) ⊎ ((c ≡ call.Wait) × (child other : ℕ) × Contains es (entry.Strayed child other))
-
--- such a miss, of some path
-abbrev pub ShowsMiss : Miss → List Entry → Type 0
-ShowsMiss m es = (path : List ℕ) × Contains es (entry.Missed path m)
-
 -- the part of a record that a reason stands for
 record Part (s : Run) (r : Reason) (es : List Entry) : Type 0 where
   before : List Event
   node : ℕ
   part : List Entry
-  stands : FailureStands s before node r part
+  stands : FailureStandsFor s before node r part
   within : (x : Entry) → Contains part x → Contains es x
 
-part_at : (s : Run) (h : List Event) (m : ℕ) (r t : Reason) (fs : List Entry) (b : Bool) → (if b then Some t else None) ≡ Some r → FailureStands s h m t fs → Part s r fs
-part_at s h m r t fs true q stands = let same : t ≡ r = cc in record { before = h; node = m; part = fs; stands = subst (λ k. FailureStands s h m k fs) same stands; within = λ x c. c }
+part_at : (s : Run) (h : List Event) (m : ℕ) (r t : Reason) (fs : List Entry) (b : Bool) → (if b then Some t else None) ≡ Some r → FailureStandsFor s h m t fs → Part s r fs
+part_at s h m r t fs true q stands = let same : t ≡ r = cc in record { before = h; node = m; part = fs; stands = subst (λ k. FailureStandsFor s h m k fs) same stands; within = λ x c. c }
 part_at s h m r t fs false q stands = absurd (cc)
 
-part_of : (s : Run) (h : List Event) (n : ℕ) (r : Reason) (e : Event) (fs : List Entry) → reason_in n e ≡ Some r → Stands s h e fs → Part s r fs
+part_of : (s : Run) (h : List Event) (n : ℕ) (r : Reason) (e : Event) (fs : List Entry) → reason_in n e ≡ Some r → StandsFor s h e fs → Part s r fs
 part_of s h n r (event.Done m outcome.Well) fs q stands = absurd (cc)
 part_of s h n r (event.Done m (outcome.Failed t)) fs q stands = part_at s h m r t fs (m == n) q stands
 part_of s h n r e fs q stands = absurd (cc)
 
-part_more : (s : Run) (h : List Event) (e : Event) (es fs : List Entry) (n : ℕ) (r : Reason) (o : Option Reason) → reason_of h n ≡ o → (reason_of h n ≡ Some r → Part s r es) → Stands s h e fs → reason_of (h ++ e ∷ []) n ≡ Some r → Part s r (es ++ fs)
+part_more : (s : Run) (h : List Event) (e : Event) (es fs : List Entry) (n : ℕ) (r : Reason) (o : Option Reason) → reason_of h n ≡ o → (reason_of h n ≡ Some r → Part s r es) → StandsFor s h e fs → reason_of (h ++ e ∷ []) n ≡ Some r → Part s r (es ++ fs)
 part_more s h e es fs n r None q old stands now =
     let p = part_of s h n r e fs (sym (reason_new h e n q) ∙ now) stands in
     record { before = p.before; node = p.node; part = p.part; stands = p.stands; within = λ x c. Contains-append_right es fs x (p.within x c) }
@@ -228,7 +214,7 @@ behind s h n made fs b =
     let c = option_there (λ c. fs ≡ printed c.echo ++ made c ∷ []) (command_at s.nodes n b.0) b.2 in
     (c.0, subst (λ k. Contains k (made c.0)) (sym c.1) (pushed (printed c.0.echo) (made c.0)))
 
-fault_shown : (s : Run) (h : List Event) (n : ℕ) (c : Call) (fs : List Entry) → FaultStands s h n c fs → ShowsFailure c fs
+fault_shown : (s : Run) (h : List Event) (n : ℕ) (c : Call) (fs : List Entry) → FaultStandsFor s h n c fs → ShowsFailure c fs
 fault_shown s h n call.Ask fs b = inl (alone fs (entry.Failed call.Ask) b)
 fault_shown s h n call.Print fs b = inl (alone fs (entry.Failed call.Print) b.0)
 fault_shown s h n call.Temp fs b = inl (behind s h n (λ c. entry.Failed call.Temp) fs b).1
@@ -237,7 +223,7 @@ fault_shown s h n call.Wait fs (inl b) = inl (alone fs (entry.Failed call.Wait) 
 fault_shown s h n call.Wait fs (inr b) = inr (refl, b.1, b.2, alone fs (entry.Strayed b.1 b.2) b.5)
 fault_shown s h n _ fs b = absurd b
 
-miss_shown : (s : Run) (h : List Event) (n : ℕ) (c : Call) (m : Miss) (fs : List Entry) → MissStands s h n c m fs → ShowsMiss m fs
+miss_shown : (s : Run) (h : List Event) (n : ℕ) (c : Call) (m : Miss) (fs : List Entry) → MissStandsFor s h n c m fs → ShowsMiss m fs
 miss_shown s h n call.Ask m fs b = (codes "-", alone fs (entry.Missed (codes "-") m) b)
 miss_shown s h n call.Temp m fs b = let c = behind s h n (λ c. entry.Missed (script_folder c.spec) m) fs b in (script_folder c.0.spec, c.1)
 miss_shown s h n _ m fs b = absurd b
@@ -258,3 +244,22 @@ miss_caused s h es n c x m q =
     let p = the_part s h es n (reason.Place c x) m q in
     let shown = miss_shown s p.before p.node c x p.part p.stands in
     (shown.0, p.within (entry.Missed shown.0 x) shown.1)
+
+-- ---- a signal that was caught
+
+signal_same : (g k : Signal) → Some k ≡ Some g → k ≡ g
+signal_same g k e = cc
+
+-- an event that caught a signal stands for its entry
+signal_by : (s : Run) (h : List Event) (e : Event) (g : Signal) (fs : List Entry) → signal_in e ≡ Some g → StandsFor s h e fs → Contains fs (entry.Signalled g)
+signal_by s h (event.Caught k) g fs q stands = alone fs (entry.Signalled g) (stands ∙ ap (λ x. entry.Signalled x ∷ []) (signal_same g k q))
+signal_by s h _ g fs q stands = absurd (cc)
+
+signal_more : (s : Run) (h : List Event) (e : Event) (g : Signal) (es fs : List Entry) (o : Option Signal) → caught_signal h ≡ o → (caught_signal h ≡ Some g → Contains es (entry.Signalled g)) → StandsFor s h e fs → caught_signal (h ++ e ∷ []) ≡ Some g → Contains (es ++ fs) (entry.Signalled g)
+signal_more s h e g es fs None q old stands now = Contains-append_right es fs (entry.Signalled g) (signal_by s h e g fs (sym (signal_new h e q) ∙ now) stands)
+signal_more s h e g es fs (Some k) q old stands now = Contains-append_left es fs (entry.Signalled g) (old (q ∙ sym (signal_kept h e k q) ∙ now))
+
+-- the signal that a history caught first has its entry
+pub signal_shown : (s : Run) (h : List Event) (es : List Entry) (g : Signal) → Matches s h es → caught_signal h ≡ Some g → Contains es (entry.Signalled g)
+signal_shown s h es g m =
+    matches_holds s (λ k fs. caught_signal k ≡ Some g → Contains fs (entry.Signalled g)) (λ q. absurd (cc)) (λ k e fs gs old stands. signal_more s k e g fs gs (caught_signal k) refl old stands) h es m

@@ -13,10 +13,10 @@ use Rattle.just_sched.specs.declared.event.Reason.{Reason}
 use Rattle.just_sched.specs.declared.plan_node.PlanNode.{PlanNode}
 use Rattle.just_sched.specs.Works.{after}
 use Rattle.just_sched.specs.Nodes.{prompt_at, work_at}
-use Rattle.just_sched.specs.State.{is_answer, is_asked, is_took, is_skipped, is_begun, is_started, is_ended, is_done, is_well, is_failure, is_gave, is_caught, status_of, start_of, reason_in, signal_in, took, gave, begun, skipped, done, asked, over_well, failed, confirmed, is_open, starts, ends, running, statuses, last_start, first, reason_of, caught, caught_signal, next_step}
+use Rattle.just_sched.specs.State.{answers, asks, takes, skips, begins, starts, ends, concludes, concludes_well, fails, gives, catches, status_of, start_of, reason_in, signal_in, has_taken, has_given, is_begun, is_skipped, is_done, is_asked, is_over_well, has_failed, is_confirmed, is_open, start_count, end_count, is_running, statuses, last_start, first, reason_of, has_caught, caught_signal, next_step}
 use Rattle.just_sched.specs.Legal.{Run, May, LegalFrom, IsLegal, in_body, all_starts, is_start}
-use Rattle.just_sched.specs.Match.{Stands, MatchesFrom, Matches}
-use Rattle.just_sched.specs.Room.{settles, is_settled}
+use Rattle.just_sched.specs.Match.{StandsFor, MatchesFrom, Matches}
+use Rattle.just_sched.specs.Room.{settle_count, settles}
 
 -- ---- histories
 
@@ -37,14 +37,14 @@ legal_from s P step before (x ∷ h) legal p l =
 pub legal_holds : (s : Run) (P : List Event → Type 0) → P [] → ((h : List Event) (e : Event) → IsLegal s h → P h → May s h e → P (h ++ e ∷ [])) → (h : List Event) → IsLegal s h → P h
 legal_holds s P none step h l = legal_from s P step [] h tt none l
 
-matches_from_more : (s : Run) (before h : List Event) (e : Event) (es fs : List Entry) → MatchesFrom s before h es → Stands s (before ++ h) e fs → MatchesFrom s before (h ++ e ∷ []) (es ++ fs)
+matches_from_more : (s : Run) (before h : List Event) (e : Event) (es fs : List Entry) → MatchesFrom s before h es → StandsFor s (before ++ h) e fs → MatchesFrom s before (h ++ e ∷ []) (es ++ fs)
 matches_from_more s before [] e es fs m stands =
-    (fs, [], ap (λ k. k ++ fs) m ∙ sym (append-nil fs), subst (λ k. Stands s k e fs) (append-nil before) stands, refl)
+    (fs, [], ap (λ k. k ++ fs) m ∙ sym (append-nil fs), subst (λ k. StandsFor s k e fs) (append-nil before) stands, refl)
 matches_from_more s before (x ∷ h) e es fs m stands =
-    (m.0, m.1 ++ fs, ap (λ k. k ++ fs) m.2 ∙ append_assoc m.0 m.1 fs, m.3, matches_from_more s (before ++ x ∷ []) h e m.1 fs m.4 (subst (λ k. Stands s k e fs) (sym (append_assoc before (x ∷ []) h)) stands))
+    (m.0, m.1 ++ fs, ap (λ k. k ++ fs) m.2 ∙ append_assoc m.0 m.1 fs, m.3, matches_from_more s (before ++ x ∷ []) h e m.1 fs m.4 (subst (λ k. StandsFor s k e fs) (sym (append_assoc before (x ∷ []) h)) stands))
 
 -- a match goes on by an event and the entries that it stands for
-pub matches_more : (s : Run) (h : List Event) (e : Event) (es fs : List Entry) → Matches s h es → Stands s h e fs → Matches s (h ++ e ∷ []) (es ++ fs)
+pub matches_more : (s : Run) (h : List Event) (e : Event) (es fs : List Entry) → Matches s h es → StandsFor s h e fs → Matches s (h ++ e ∷ []) (es ++ fs)
 matches_more s h e es fs m stands = matches_from_more s [] h e es fs m stands
 
 -- ---- tests of Bools
@@ -133,70 +133,70 @@ confirmed_at : (a b c : Bool) → (a || b) ≡ true → (b ≡ true → c ≡ tr
 confirmed_at true b c h k = refl
 confirmed_at false b c h k = k h
 
-pub took_more : (h : List Event) (e : Event) (n : ℕ) → took (h ++ e ∷ []) n ≡ (took h n || is_took n e)
-took_more h e n = any_more (is_took n) h e
+pub took_more : (h : List Event) (e : Event) (n : ℕ) → has_taken (h ++ e ∷ []) n ≡ (has_taken h n || takes n e)
+took_more h e n = any_more (takes n) h e
 
-pub gave_more : (h : List Event) (e : Event) (n : ℕ) → gave (h ++ e ∷ []) n ≡ (gave h n || is_gave n e)
-gave_more h e n = any_more (is_gave n) h e
+pub gave_more : (h : List Event) (e : Event) (n : ℕ) → has_given (h ++ e ∷ []) n ≡ (has_given h n || gives n e)
+gave_more h e n = any_more (gives n) h e
 
-pub begun_more : (h : List Event) (e : Event) (n : ℕ) → begun (h ++ e ∷ []) n ≡ (begun h n || is_begun n e)
-begun_more h e n = any_more (is_begun n) h e
+pub begun_more : (h : List Event) (e : Event) (n : ℕ) → is_begun (h ++ e ∷ []) n ≡ (is_begun h n || begins n e)
+begun_more h e n = any_more (begins n) h e
 
-pub skipped_more : (h : List Event) (e : Event) (n : ℕ) → skipped (h ++ e ∷ []) n ≡ (skipped h n || is_skipped n e)
-skipped_more h e n = any_more (is_skipped n) h e
+pub skipped_more : (h : List Event) (e : Event) (n : ℕ) → is_skipped (h ++ e ∷ []) n ≡ (is_skipped h n || skips n e)
+skipped_more h e n = any_more (skips n) h e
 
-pub done_more : (h : List Event) (e : Event) (n : ℕ) → done (h ++ e ∷ []) n ≡ (done h n || is_done n e)
-done_more h e n = any_more (is_done n) h e
+pub done_more : (h : List Event) (e : Event) (n : ℕ) → is_done (h ++ e ∷ []) n ≡ (is_done h n || concludes n e)
+done_more h e n = any_more (concludes n) h e
 
-pub asked_more : (h : List Event) (e : Event) (n : ℕ) → asked (h ++ e ∷ []) n ≡ (asked h n || is_asked n e)
-asked_more h e n = any_more (is_asked n) h e
+pub asked_more : (h : List Event) (e : Event) (n : ℕ) → is_asked (h ++ e ∷ []) n ≡ (is_asked h n || asks n e)
+asked_more h e n = any_more (asks n) h e
 
-pub over_well_more : (h : List Event) (e : Event) (n : ℕ) → over_well (h ++ e ∷ []) n ≡ (over_well h n || (is_skipped n e || is_well n e))
-over_well_more h e n = any_more (λ x. is_skipped n x || is_well n x) h e
+pub over_well_more : (h : List Event) (e : Event) (n : ℕ) → is_over_well (h ++ e ∷ []) n ≡ (is_over_well h n || (skips n e || concludes_well n e))
+over_well_more h e n = any_more (λ x. skips n x || concludes_well n x) h e
 
-pub failed_more : (h : List Event) (e : Event) (n : ℕ) → failed (h ++ e ∷ []) n ≡ (failed h n || is_failure n e)
-failed_more h e n = any_more (is_failure n) h e
+pub failed_more : (h : List Event) (e : Event) (n : ℕ) → has_failed (h ++ e ∷ []) n ≡ (has_failed h n || fails n e)
+failed_more h e n = any_more (fails n) h e
 
-pub confirmed_kept : (nodes : List PlanNode) (h : List Event) (e : Event) (n : ℕ) → confirmed nodes h n ≡ true → confirmed nodes (h ++ e ∷ []) n ≡ true
-confirmed_kept nodes h e n c = confirmed_at (is_none (prompt_at nodes n)) _ _ c (any_kept (is_answer true n) h e)
+pub confirmed_kept : (nodes : List PlanNode) (h : List Event) (e : Event) (n : ℕ) → is_confirmed nodes h n ≡ true → is_confirmed nodes (h ++ e ∷ []) n ≡ true
+confirmed_kept nodes h e n c = confirmed_at (is_none (prompt_at nodes n)) _ _ c (any_kept (answers true n) h e)
 
-pub caught_more : (h : List Event) (e : Event) → caught (h ++ e ∷ []) ≡ (caught h || is_caught e)
-caught_more h e = any_more is_caught h e
+pub caught_more : (h : List Event) (e : Event) → has_caught (h ++ e ∷ []) ≡ (has_caught h || catches e)
+caught_more h e = any_more catches h e
 
-pub starts_more : (h : List Event) (e : Event) (n : ℕ) → starts (h ++ e ∷ []) n ≡ starts h n + cond (is_started n e) 1 0
-starts_more h e n = count_more (is_started n) h e
+pub starts_more : (h : List Event) (e : Event) (n : ℕ) → start_count (h ++ e ∷ []) n ≡ start_count h n + cond (starts n e) 1 0
+starts_more h e n = count_more (starts n) h e
 
-pub ends_more : (h : List Event) (e : Event) (n : ℕ) → ends (h ++ e ∷ []) n ≡ ends h n + cond (is_ended n e) 1 0
-ends_more h e n = count_more (is_ended n) h e
+pub ends_more : (h : List Event) (e : Event) (n : ℕ) → end_count (h ++ e ∷ []) n ≡ end_count h n + cond (ends n e) 1 0
+ends_more h e n = count_more (ends n) h e
 
 pub all_starts_more : (h : List Event) (e : Event) → all_starts (h ++ e ∷ []) ≡ all_starts h + cond (is_start e) 1 0
 all_starts_more h e = count_more is_start h e
 
-pub settles_more : (h : List Event) (e : Event) → settles (h ++ e ∷ []) ≡ settles h + cond (is_settled e) 1 0
-settles_more h e = count_more is_settled h e
+pub settles_more : (h : List Event) (e : Event) → settle_count (h ++ e ∷ []) ≡ settle_count h + cond (settles e) 1 0
+settles_more h e = count_more settles h e
 
-pub confirmed_more : (nodes : List PlanNode) (h : List Event) (e : Event) (n : ℕ) → confirmed nodes (h ++ e ∷ []) n ≡ (is_none (prompt_at nodes n) || (list_any (is_answer true n) h || is_answer true n e))
-confirmed_more nodes h e n = ap (λ b. is_none (prompt_at nodes n) || b) (any_more (is_answer true n) h e)
+pub confirmed_more : (nodes : List PlanNode) (h : List Event) (e : Event) (n : ℕ) → is_confirmed nodes (h ++ e ∷ []) n ≡ (is_none (prompt_at nodes n) || (list_any (answers true n) h || answers true n e))
+confirmed_more nodes h e n = ap (λ b. is_none (prompt_at nodes n) || b) (any_more (answers true n) h e)
 
-pub is_open_more : (h : List Event) (e : Event) (n : ℕ) → is_open (h ++ e ∷ []) n ≡ ((took h n || is_took n e) && not (gave h n || is_gave n e))
+pub is_open_more : (h : List Event) (e : Event) (n : ℕ) → is_open (h ++ e ∷ []) n ≡ ((has_taken h n || takes n e) && not (has_given h n || gives n e))
 is_open_more h e n = ap₂ (λ a b. a && not b) (took_more h e n) (gave_more h e n)
 
-pub running_more : (h : List Event) (e : Event) (n : ℕ) → running (h ++ e ∷ []) n ≡ (nat_lt (ends h n + cond (is_ended n e) 1 0) (starts h n + cond (is_started n e) 1 0) && not (done h n || is_done n e))
+pub running_more : (h : List Event) (e : Event) (n : ℕ) → is_running (h ++ e ∷ []) n ≡ (nat_lt (end_count h n + cond (ends n e) 1 0) (start_count h n + cond (starts n e) 1 0) && not (is_done h n || concludes n e))
 running_more h e n = ap₂ (λ a b. a && not b) (ap₂ (λ a b. nat_lt a b) (ends_more h e n) (starts_more h e n)) (done_more h e n)
 
 pub statuses_more : (h : List Event) (e : Event) (n : ℕ) → statuses (h ++ e ∷ []) n ≡ statuses h n ++ filter_map (status_of n) (e ∷ [])
 statuses_more h e n = list_more (status_of n) h e
 
-pub is_open_stays : (h : List Event) (e : Event) (n : ℕ) → is_took n e ≡ false → is_gave n e ≡ false → is_open (h ++ e ∷ []) n ≡ is_open h n
-is_open_stays h e n p q = ap₂ (λ a b. a && not b) (any_none (is_took n) h e p) (any_none (is_gave n) h e q)
+pub is_open_stays : (h : List Event) (e : Event) (n : ℕ) → takes n e ≡ false → gives n e ≡ false → is_open (h ++ e ∷ []) n ≡ is_open h n
+is_open_stays h e n p q = ap₂ (λ a b. a && not b) (any_none (takes n) h e p) (any_none (gives n) h e q)
 
-pub in_body_stays : (h : List Event) (e : Event) (n : ℕ) → is_took n e ≡ false → is_gave n e ≡ false → is_skipped n e ≡ false → is_done n e ≡ false → in_body (h ++ e ∷ []) n ≡ in_body h n
+pub in_body_stays : (h : List Event) (e : Event) (n : ℕ) → takes n e ≡ false → gives n e ≡ false → skips n e ≡ false → concludes n e ≡ false → in_body (h ++ e ∷ []) n ≡ in_body h n
 in_body_stays h e n p q r t =
-    ap₂ (λ a b. a && not b) (ap₂ (λ a b. a && not b) (is_open_stays h e n p q) (any_none (is_skipped n) h e r)) (any_none (is_done n) h e t)
+    ap₂ (λ a b. a && not b) (ap₂ (λ a b. a && not b) (is_open_stays h e n p q) (any_none (skips n) h e r)) (any_none (concludes n) h e t)
 
-pub running_stays : (h : List Event) (e : Event) (n : ℕ) → is_started n e ≡ false → is_ended n e ≡ false → is_done n e ≡ false → running (h ++ e ∷ []) n ≡ running h n
+pub running_stays : (h : List Event) (e : Event) (n : ℕ) → starts n e ≡ false → ends n e ≡ false → concludes n e ≡ false → is_running (h ++ e ∷ []) n ≡ is_running h n
 running_stays h e n p q r =
-    ap₂ (λ a b. a && not b) (ap₂ (λ a b. nat_lt a b) (count_none (is_ended n) h e q) (count_none (is_started n) h e p)) (any_none (is_done n) h e r)
+    ap₂ (λ a b. a && not b) (ap₂ (λ a b. nat_lt a b) (count_none (ends n) h e q) (count_none (starts n) h e p)) (any_none (concludes n) h e r)
 
 -- the child of a command that was just started
 pub last_started : (h : List Event) (n i c : ℕ) → last_start (h ++ event.Started n i c ∷ []) n ≡ Some (i, c)
@@ -228,8 +228,8 @@ reason_stays h e n q = ap first (list_none (reason_in n) h e q)
 pub signal_kept : (h : List Event) (e : Event) (g : Signal) → caught_signal h ≡ Some g → caught_signal (h ++ e ∷ []) ≡ Some g
 signal_kept h e g q = ap first (list_more signal_in h e) ∙ first_kept (filter_map signal_in h) _ g q
 
-pub signal_new : (h : List Event) (g : Signal) → caught_signal h ≡ None → caught_signal (h ++ event.Caught g ∷ []) ≡ Some g
-signal_new h g q = ap first (list_more signal_in h (event.Caught g)) ∙ first_none (filter_map signal_in h) _ q
+pub signal_new : (h : List Event) (e : Event) → caught_signal h ≡ None → caught_signal (h ++ e ∷ []) ≡ signal_in e
+signal_new h e q = ap first (list_more signal_in h e) ∙ first_none (filter_map signal_in h) _ q ∙ first_cons (signal_in e)
 
 pub signal_stays : (h : List Event) (e : Event) → signal_in e ≡ None → caught_signal (h ++ e ∷ []) ≡ caught_signal h
 signal_stays h e q = ap first (list_none signal_in h e q)
@@ -257,65 +257,65 @@ apart m n ne = ne_eqb m n ne
 pub record IsSame (h k : List Event) (n : ℕ) : Type 0 where
   pub in_body : in_body k n ≡ in_body h n
   pub is_open : is_open k n ≡ is_open h n
-  pub running : running k n ≡ running h n
-  pub took : took k n ≡ took h n
-  pub gave : gave k n ≡ gave h n
-  pub begun : begun k n ≡ begun h n
-  pub skipped : skipped k n ≡ skipped h n
-  pub done : done k n ≡ done h n
-  pub asked : asked k n ≡ asked h n
-  pub answered : (wanted : Bool) → list_any (is_answer wanted n) k ≡ list_any (is_answer wanted n) h
-  pub over_well : over_well k n ≡ over_well h n
-  pub failed : failed k n ≡ failed h n
-  pub starts : starts k n ≡ starts h n
-  pub ends : ends k n ≡ ends h n
+  pub running : is_running k n ≡ is_running h n
+  pub took : has_taken k n ≡ has_taken h n
+  pub gave : has_given k n ≡ has_given h n
+  pub begun : is_begun k n ≡ is_begun h n
+  pub skipped : is_skipped k n ≡ is_skipped h n
+  pub done : is_done k n ≡ is_done h n
+  pub asked : is_asked k n ≡ is_asked h n
+  pub answered : (wanted : Bool) → list_any (answers wanted n) k ≡ list_any (answers wanted n) h
+  pub over_well : is_over_well k n ≡ is_over_well h n
+  pub failed : has_failed k n ≡ has_failed h n
+  pub starts : start_count k n ≡ start_count h n
+  pub ends : end_count k n ≡ end_count h n
   pub statuses : statuses k n ≡ statuses h n
   pub last_start : last_start k n ≡ last_start h n
   pub reason_of : reason_of k n ≡ reason_of h n
 
-pub answer_of : (w : Bool) (n : ℕ) (e : Event) → is_of n e ≡ false → is_answer w n e ≡ false
+pub answer_of : (w : Bool) (n : ℕ) (e : Event) → is_of n e ≡ false → answers w n e ≡ false
 answer_of w n (event.Asked m y) o = ap (λ b. b && (if w then y else not y)) o
 answer_of w n _ o = refl
 
-pub asked_of : (n : ℕ) (e : Event) → is_of n e ≡ false → is_asked n e ≡ false
+pub asked_of : (n : ℕ) (e : Event) → is_of n e ≡ false → asks n e ≡ false
 asked_of n (event.Asked m y) o = o
 asked_of n _ o = refl
 
-pub took_of : (n : ℕ) (e : Event) → is_of n e ≡ false → is_took n e ≡ false
+pub took_of : (n : ℕ) (e : Event) → is_of n e ≡ false → takes n e ≡ false
 took_of n (event.Took m) o = o
 took_of n _ o = refl
 
-pub skipped_of : (n : ℕ) (e : Event) → is_of n e ≡ false → is_skipped n e ≡ false
+pub skipped_of : (n : ℕ) (e : Event) → is_of n e ≡ false → skips n e ≡ false
 skipped_of n (event.Skipped m) o = o
 skipped_of n _ o = refl
 
-pub begun_of : (n : ℕ) (e : Event) → is_of n e ≡ false → is_begun n e ≡ false
+pub begun_of : (n : ℕ) (e : Event) → is_of n e ≡ false → begins n e ≡ false
 begun_of n (event.Begun m) o = o
 begun_of n _ o = refl
 
-pub started_of : (n : ℕ) (e : Event) → is_of n e ≡ false → is_started n e ≡ false
+pub started_of : (n : ℕ) (e : Event) → is_of n e ≡ false → starts n e ≡ false
 started_of n (event.Started m i c) o = o
 started_of n _ o = refl
 
-pub ended_of : (n : ℕ) (e : Event) → is_of n e ≡ false → is_ended n e ≡ false
+pub ended_of : (n : ℕ) (e : Event) → is_of n e ≡ false → ends n e ≡ false
 ended_of n (event.Ended m i c t) o = o
 ended_of n _ o = refl
 
-pub done_of : (n : ℕ) (e : Event) → is_of n e ≡ false → is_done n e ≡ false
+pub done_of : (n : ℕ) (e : Event) → is_of n e ≡ false → concludes n e ≡ false
 done_of n (event.Done m r) o = o
 done_of n _ o = refl
 
-pub well_of : (n : ℕ) (e : Event) → is_of n e ≡ false → is_well n e ≡ false
+pub well_of : (n : ℕ) (e : Event) → is_of n e ≡ false → concludes_well n e ≡ false
 well_of n (event.Done m outcome.Well) o = o
 well_of n (event.Done m (outcome.Failed r)) o = refl
 well_of n _ o = refl
 
-pub failure_of : (n : ℕ) (e : Event) → is_of n e ≡ false → is_failure n e ≡ false
+pub failure_of : (n : ℕ) (e : Event) → is_of n e ≡ false → fails n e ≡ false
 failure_of n (event.Done m outcome.Well) o = refl
 failure_of n (event.Done m (outcome.Failed r)) o = o
 failure_of n _ o = refl
 
-pub gave_of : (n : ℕ) (e : Event) → is_of n e ≡ false → is_gave n e ≡ false
+pub gave_of : (n : ℕ) (e : Event) → is_of n e ≡ false → gives n e ≡ false
 gave_of n (event.Gave m) o = o
 gave_of n _ o = refl
 
@@ -338,17 +338,17 @@ others_stay h e n o = record {
   in_body = in_body_stays h e n (took_of n e o) (gave_of n e o) (skipped_of n e o) (done_of n e o);
   is_open = is_open_stays h e n (took_of n e o) (gave_of n e o);
   running = running_stays h e n (started_of n e o) (ended_of n e o) (done_of n e o);
-  took = any_none (is_took n) h e (took_of n e o);
-  gave = any_none (is_gave n) h e (gave_of n e o);
-  begun = any_none (is_begun n) h e (begun_of n e o);
-  skipped = any_none (is_skipped n) h e (skipped_of n e o);
-  done = any_none (is_done n) h e (done_of n e o);
-  asked = any_none (is_asked n) h e (asked_of n e o);
-  answered = λ w. any_none (is_answer w n) h e (answer_of w n e o);
-  over_well = any_none (λ x. is_skipped n x || is_well n x) h e (ap₂ (λ a b. a || b) (skipped_of n e o) (well_of n e o));
-  failed = any_none (is_failure n) h e (failure_of n e o);
-  starts = count_none (is_started n) h e (started_of n e o);
-  ends = count_none (is_ended n) h e (ended_of n e o);
+  took = any_none (takes n) h e (took_of n e o);
+  gave = any_none (gives n) h e (gave_of n e o);
+  begun = any_none (begins n) h e (begun_of n e o);
+  skipped = any_none (skips n) h e (skipped_of n e o);
+  done = any_none (concludes n) h e (done_of n e o);
+  asked = any_none (asks n) h e (asked_of n e o);
+  answered = λ w. any_none (answers w n) h e (answer_of w n e o);
+  over_well = any_none (λ x. skips n x || concludes_well n x) h e (ap₂ (λ a b. a || b) (skipped_of n e o) (well_of n e o));
+  failed = any_none (fails n) h e (failure_of n e o);
+  starts = count_none (starts n) h e (started_of n e o);
+  ends = count_none (ends n) h e (ended_of n e o);
   statuses = statuses_stay h e n (statuses_of n e o);
   last_start = last_start_stays h e n (starts_of n e o);
   reason_of = reason_stays h e n (reasons_of n e o);

@@ -3,6 +3,7 @@ pub mod Causes
 pub mod Complete
 pub mod Ended
 pub mod Keeps
+pub mod Laws
 pub mod PlanLaws
 pub mod Plans
 pub mod Sane

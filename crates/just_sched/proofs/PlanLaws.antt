@@ -14,7 +14,7 @@ use Rattle.just_lang.specs.WellFormed.{IsWellFormed, round_at}
 use Rattle.just_sched.specs.declared.plan_node.PlanNode.{PlanNode}
 use Rattle.just_sched.specs.Nodes.{subsequents_at, subsequents_in, priors_at, priors_in, prompt_in}
 use Rattle.just_sched.specs.declared.event.Event.{Event}
-use Rattle.just_sched.specs.State.{confirmed, is_answer}
+use Rattle.just_sched.specs.State.{is_confirmed, answers}
 
 -- the nodes of a plan without their work
 abbrev pub shapes : List PlanNode → List Node
@@ -88,9 +88,9 @@ module _ (nodes : List PlanNode) (invocations : List ℕ) (well : IsWellFormed (
       ] refl
 
 -- where no node has a prompt, each is confirmed
-pub confirmed_all : (nodes : List PlanNode) (h : List Event) (n : ℕ) → ∥ All (λ (x : PlanNode). is_none x.prompt ≡ true) nodes ∥₁ → confirmed nodes h n ≡ true
+pub confirmed_all : (nodes : List PlanNode) (h : List Event) (n : ℕ) → ∥ All (λ (x : PlanNode). is_none x.prompt ≡ true) nodes ∥₁ → is_confirmed nodes h n ≡ true
 confirmed_all nodes h n unprompted =
-    elim (slice_get nodes n) as (λ o. slice_get nodes n ≡ o → (is_none (prompt_in o) || list_any (is_answer true n) h) ≡ true) [
+    elim (slice_get nodes n) as (λ o. slice_get nodes n ≡ o → (is_none (prompt_in o) || list_any (answers true n) h) ≡ true) [
       | Some x ↦ λ found.
           let none : is_none x.prompt ≡ true =
           ∥∥₁_elim unprompted (Bool-set _ _) (λ all. subst (λ (y : PlanNode). is_none y.prompt ≡ true) (get_or_from_slice_get nodes n x x found) (all n x (slice_get_within nodes n x found))) in

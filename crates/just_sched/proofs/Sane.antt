@@ -18,7 +18,7 @@ use Rattle.just_sched.specs.declared.work.Step.{Step}
 use Rattle.just_sched.specs.declared.work.Step.TheVariants as step
 use Rattle.just_sched.specs.Works.{commands_of, ends_body, goes_on, start_or_well, judged, after, WentOn}
 use Rattle.just_sched.specs.Nodes.{work_at, command_at}
-use Rattle.just_sched.specs.State.{is_asked, is_took, is_skipped, is_begun, is_started, is_ended, is_done, is_well, is_gave, is_caught, status_of, start_of, took, gave, begun, skipped, done, over_well, confirmed, is_open, starts, ends, running, statuses, last_start, caught, next_step, ToAsk, Ready}
+use Rattle.just_sched.specs.State.{asks, takes, skips, begins, starts, ends, concludes, concludes_well, gives, catches, status_of, start_of, has_taken, has_given, is_begun, is_skipped, is_done, is_over_well, is_confirmed, is_open, start_count, end_count, is_running, statuses, last_start, has_caught, next_step, IsToAsk, IsReady}
 use Rattle.just_sched.specs.Legal.{Run, Due, Asked, Looked, Begun, Started, Ended, Saved, in_body, IsDue, MayMiss, MayFail, MayEnd, MayFailBy, May, IsLegal}
 use Rattle.just_sched.proofs.Keeps.{both, all_both, neither, not_true, any_none, any_kept, count_none, count_now, legal_holds, last_started, statuses_ended, statuses_stay, last_start_stays, confirmed_kept, statuses_of, starts_of}
 
@@ -27,43 +27,43 @@ use Rattle.just_sched.proofs.Keeps.{both, all_both, neither, not_true, any_none,
 -- a node in its body, part by part
 pub record InBody (h : List Event) (n : ℕ) : Type 0 where
   pub is_open : is_open h n ≡ true
-  pub took : took h n ≡ true
-  pub not_given : gave h n ≡ false
-  pub not_skipped : skipped h n ≡ false
-  pub not_done : done h n ≡ false
+  pub took : has_taken h n ≡ true
+  pub not_given : has_given h n ≡ false
+  pub not_skipped : is_skipped h n ≡ false
+  pub not_done : is_done h n ≡ false
 
 pub inside : (h : List Event) (n : ℕ) → in_body h n ≡ true → InBody h n
 inside h n e =
-    let a = both (is_open h n && not (skipped h n)) (not (done h n)) e in
-    let b = both (is_open h n) (not (skipped h n)) a.0 in
-    let c = both (took h n) (not (gave h n)) b.0 in
-    record { is_open = b.0; took = c.0; not_given = not_true (gave h n) c.1; not_skipped = not_true (skipped h n) b.1; not_done = not_true (done h n) a.1 }
+    let a = both (is_open h n && not (is_skipped h n)) (not (is_done h n)) e in
+    let b = both (is_open h n) (not (is_skipped h n)) a.0 in
+    let c = both (has_taken h n) (not (has_given h n)) b.0 in
+    record { is_open = b.0; took = c.0; not_given = not_true (has_given h n) c.1; not_skipped = not_true (is_skipped h n) b.1; not_done = not_true (is_done h n) a.1 }
 
-pub opened : (h : List Event) (n : ℕ) → is_open h n ≡ true → (took h n ≡ true) × (gave h n ≡ false)
-opened h n e = let c = both (took h n) (not (gave h n)) e in (c.0, not_true (gave h n) c.1)
+pub opened : (h : List Event) (n : ℕ) → is_open h n ≡ true → (has_taken h n ≡ true) × (has_given h n ≡ false)
+opened h n e = let c = both (has_taken h n) (not (has_given h n)) e in (c.0, not_true (has_given h n) c.1)
 
-pub is_opened : (h : List Event) (n : ℕ) → took h n ≡ true → gave h n ≡ false → is_open h n ≡ true
-is_opened h n t g = all_both (took h n) (not (gave h n)) t (ap not g)
+pub is_opened : (h : List Event) (n : ℕ) → has_taken h n ≡ true → has_given h n ≡ false → is_open h n ≡ true
+is_opened h n t g = all_both (has_taken h n) (not (has_given h n)) t (ap not g)
 
-pub is_inside : (h : List Event) (n : ℕ) → is_open h n ≡ true → skipped h n ≡ false → done h n ≡ false → in_body h n ≡ true
-is_inside h n o k d = all_both (is_open h n && not (skipped h n)) (not (done h n)) (all_both (is_open h n) (not (skipped h n)) o (ap not k)) (ap not d)
+pub is_inside : (h : List Event) (n : ℕ) → is_open h n ≡ true → is_skipped h n ≡ false → is_done h n ≡ false → in_body h n ≡ true
+is_inside h n o k d = all_both (is_open h n && not (is_skipped h n)) (not (is_done h n)) (all_both (is_open h n) (not (is_skipped h n)) o (ap not k)) (ap not d)
 
-pub runs : (h : List Event) (n : ℕ) → running h n ≡ true → (ends h n < starts h n) × (done h n ≡ false)
-runs h n e = let c = both (nat_lt (ends h n) (starts h n)) (not (done h n)) e in (ltb-true (ends h n) (starts h n) c.0, not_true (done h n) c.1)
+pub runs : (h : List Event) (n : ℕ) → is_running h n ≡ true → (end_count h n < start_count h n) × (is_done h n ≡ false)
+runs h n e = let c = both (nat_lt (end_count h n) (start_count h n)) (not (is_done h n)) e in (ltb-true (end_count h n) (start_count h n) c.0, not_true (is_done h n) c.1)
 
-pub is_running : (h : List Event) (n : ℕ) → ends h n < starts h n → done h n ≡ false → running h n ≡ true
-is_running h n lt d = all_both (nat_lt (ends h n) (starts h n)) (not (done h n)) (lt-ltb (ends h n) (starts h n) lt) (ap not d)
+pub running_by : (h : List Event) (n : ℕ) → end_count h n < start_count h n → is_done h n ≡ false → is_running h n ≡ true
+running_by h n lt d = all_both (nat_lt (end_count h n) (start_count h n)) (not (is_done h n)) (lt-ltb (end_count h n) (start_count h n) lt) (ap not d)
 
 rests_at : (b d : Bool) → (b && not d) ≡ false → d ≡ false → b ≡ false
 rests_at true d r e = absurd (cc (ap not e))
 rests_at false d r e = refl
 
-pub rests : (h : List Event) (n : ℕ) → running h n ≡ false → done h n ≡ false → starts h n ≤ ends h n
-rests h n r d = ltb-false (ends h n) (starts h n) (rests_at (nat_lt (ends h n) (starts h n)) (done h n) r d)
+pub rests : (h : List Event) (n : ℕ) → is_running h n ≡ false → is_done h n ≡ false → start_count h n ≤ end_count h n
+rests h n r d = ltb-false (end_count h n) (start_count h n) (rests_at (nat_lt (end_count h n) (start_count h n)) (is_done h n) r d)
 
 -- ---- what each kind of event needs
 
-pub due_not_done : (s : Run) (h : List Event) (n : ℕ) (d : Due) → IsDue s h n d → done h n ≡ false
+pub due_not_done : (s : Run) (h : List Event) (n : ℕ) (d : Due) → IsDue s h n d → is_done h n ≡ false
 due_not_done s h n Asked e = e.not_done
 due_not_done s h n Looked e = absurd e
 due_not_done s h n Begun e = (inside h n e.0).not_done
@@ -86,7 +86,7 @@ fail_due s h n call.Start m = (Started m.0, m.1)
 fail_due s h n call.Wait m = (Ended, m)
 fail_due s h n _ m = absurd m
 
-by_not_done : (s : Run) (h : List Event) (n : ℕ) (r : Reason) → MayFailBy s h n r → done h n ≡ false
+by_not_done : (s : Run) (h : List Event) (n : ℕ) (r : Reason) → MayFailBy s h n r → is_done h n ≡ false
 by_not_done s h n reason.Status m = m.2
 by_not_done s h n reason.NotConfirmed m = m.1
 by_not_done s h n (reason.Input j x) m = absurd m
@@ -96,44 +96,44 @@ by_not_done s h n (reason.Fault c) m = let d = fail_due s h n c m in due_not_don
 by_not_done s h n reason.Interrupted m = due_not_done s h n (Started m.0.0) m.0.1
 by_not_done s h n reason.NoMemory m = due_not_done s h n m.0 m.1
 
-end_not_done : (s : Run) (h : List Event) (n : ℕ) (o : Outcome) → May s h (event.Done n o) → done h n ≡ false
+end_not_done : (s : Run) (h : List Event) (n : ℕ) (o : Outcome) → May s h (event.Done n o) → is_done h n ≡ false
 end_not_done s h n outcome.Well m = m.2
 end_not_done s h n (outcome.Failed r) m = by_not_done s h n r m
 
-pub asked_due : (s : Run) (h : List Event) (n : ℕ) (e : Event) → May s h e → is_asked n e ≡ true → ToAsk s.nodes s.invocations h n
-asked_due s h n (event.Asked m y) may q = subst (λ k. ToAsk s.nodes s.invocations h k) (eqb-true m n q) may.0
+pub asked_due : (s : Run) (h : List Event) (n : ℕ) (e : Event) → May s h e → asks n e ≡ true → IsToAsk s.nodes s.invocations h n
+asked_due s h n (event.Asked m y) may q = subst (λ k. IsToAsk s.nodes s.invocations h k) (eqb-true m n q) may.0
 asked_due s h n _ may q = absurd (cc)
 
-pub took_ready : (s : Run) (h : List Event) (n : ℕ) (e : Event) → May s h e → is_took n e ≡ true → Ready s.nodes s.invocations h n
-took_ready s h n (event.Took m) may q = subst (λ k. Ready s.nodes s.invocations h k) (eqb-true m n q) may.0
+pub took_ready : (s : Run) (h : List Event) (n : ℕ) (e : Event) → May s h e → takes n e ≡ true → IsReady s.nodes s.invocations h n
+took_ready s h n (event.Took m) may q = subst (λ k. IsReady s.nodes s.invocations h k) (eqb-true m n q) may.0
 took_ready s h n _ may q = absurd (cc)
 
-pub begun_due : (s : Run) (h : List Event) (n : ℕ) (e : Event) → May s h e → is_begun n e ≡ true → IsDue s h n Begun
+pub begun_due : (s : Run) (h : List Event) (n : ℕ) (e : Event) → May s h e → begins n e ≡ true → IsDue s h n Begun
 begun_due s h n (event.Begun m) may q = subst (λ k. IsDue s h k Begun) (eqb-true m n q) may
 begun_due s h n _ may q = absurd (cc)
 
-pub started_due : (s : Run) (h : List Event) (n : ℕ) (e : Event) → May s h e → is_started n e ≡ true → (i : ℕ) × IsDue s h n (Started i)
+pub started_due : (s : Run) (h : List Event) (n : ℕ) (e : Event) → May s h e → starts n e ≡ true → (i : ℕ) × IsDue s h n (Started i)
 started_due s h n (event.Started m i c) may q = (i, subst (λ k. IsDue s h k (Started i)) (eqb-true m n q) may.0)
 started_due s h n _ may q = absurd (cc)
 
-pub ended_due : (s : Run) (h : List Event) (n : ℕ) (e : Event) → May s h e → is_ended n e ≡ true → IsDue s h n Ended
+pub ended_due : (s : Run) (h : List Event) (n : ℕ) (e : Event) → May s h e → ends n e ≡ true → IsDue s h n Ended
 ended_due s h n (event.Ended m i c t) may q = subst (λ k. IsDue s h k Ended) (eqb-true m n q) may.0
 ended_due s h n _ may q = absurd (cc)
 
-pub done_once : (s : Run) (h : List Event) (n : ℕ) (e : Event) → May s h e → is_done n e ≡ true → done h n ≡ false
-done_once s h n (event.Done m o) may q = subst (λ k. done h k ≡ false) (eqb-true m n q) (end_not_done s h m o may)
+pub done_once : (s : Run) (h : List Event) (n : ℕ) (e : Event) → May s h e → concludes n e ≡ true → is_done h n ≡ false
+done_once s h n (event.Done m o) may q = subst (λ k. is_done h k ≡ false) (eqb-true m n q) (end_not_done s h m o may)
 done_once s h n _ may q = absurd (cc)
 
-pub well_due : (s : Run) (h : List Event) (n : ℕ) (e : Event) → May s h e → is_well n e ≡ true → MayEnd s h n true
+pub well_due : (s : Run) (h : List Event) (n : ℕ) (e : Event) → May s h e → concludes_well n e ≡ true → MayEnd s h n true
 well_due s h n (event.Done m outcome.Well) may q = subst (λ k. MayEnd s h k true) (eqb-true m n q) may
 well_due s h n (event.Done m (outcome.Failed r)) may q = absurd (cc)
 well_due s h n _ may q = absurd (cc)
 
-pub gave_due : (s : Run) (h : List Event) (n : ℕ) (e : Event) → May s h e → is_gave n e ≡ true → (is_open h n ≡ true) × ((skipped h n || done h n) ≡ true)
-gave_due s h n (event.Gave m) may q = subst (λ k. (is_open h k ≡ true) × ((skipped h k || done h k) ≡ true)) (eqb-true m n q) may
+pub gave_due : (s : Run) (h : List Event) (n : ℕ) (e : Event) → May s h e → gives n e ≡ true → (is_open h n ≡ true) × ((is_skipped h n || is_done h n) ≡ true)
+gave_due s h n (event.Gave m) may q = subst (λ k. (is_open h k ≡ true) × ((is_skipped h k || is_done h k) ≡ true)) (eqb-true m n q) may
 gave_due s h n _ may q = absurd (cc)
 
-no_skip : (s : Run) (h : List Event) (n : ℕ) (e : Event) → May s h e → is_skipped n e ≡ true → ⊥
+no_skip : (s : Run) (h : List Event) (n : ℕ) (e : Event) → May s h e → skips n e ≡ true → ⊥
 no_skip s h n (event.Skipped m) may q = may
 no_skip s h n _ may q = absurd (cc)
 
@@ -176,34 +176,34 @@ once s p free h l = legal_holds s (λ k. count_by p k ≤ 1) (omega arith) (λ k
 
 -- ---- which comes before which
 
-pub skipped_none : (s : Run) (h : List Event) (n : ℕ) → IsLegal s h → skipped h n ≡ false
-skipped_none s h n l = never s (is_skipped n) (λ k e legal m q. no_skip s k n e m q) h l
+pub skipped_none : (s : Run) (h : List Event) (n : ℕ) → IsLegal s h → is_skipped h n ≡ false
+skipped_none s h n l = never s (skips n) (λ k e legal m q. no_skip s k n e m q) h l
 
-pub begun_took : (s : Run) (h : List Event) (n : ℕ) → IsLegal s h → begun h n ≡ true → took h n ≡ true
-begun_took s h n l = earlier s (is_begun n) (is_took n) (λ k e legal m q. (inside k n (begun_due s k n e m q).0).took) h l
+pub begun_took : (s : Run) (h : List Event) (n : ℕ) → IsLegal s h → is_begun h n ≡ true → has_taken h n ≡ true
+begun_took s h n l = earlier s (begins n) (takes n) (λ k e legal m q. (inside k n (begun_due s k n e m q).0).took) h l
 
-pub gave_took : (s : Run) (h : List Event) (n : ℕ) → IsLegal s h → gave h n ≡ true → took h n ≡ true
-gave_took s h n l = earlier s (is_gave n) (is_took n) (λ k e legal m q. (opened k n (gave_due s k n e m q).0).0) h l
+pub gave_took : (s : Run) (h : List Event) (n : ℕ) → IsLegal s h → has_given h n ≡ true → has_taken h n ≡ true
+gave_took s h n l = earlier s (gives n) (takes n) (λ k e legal m q. (opened k n (gave_due s k n e m q).0).0) h l
 
-pub gave_done : (s : Run) (h : List Event) (n : ℕ) → IsLegal s h → gave h n ≡ true → done h n ≡ true
+pub gave_done : (s : Run) (h : List Event) (n : ℕ) → IsLegal s h → has_given h n ≡ true → is_done h n ≡ true
 gave_done s h n l =
-    earlier s (is_gave n) (is_done n) (λ k e legal m q. subst (λ b. (b || done k n) ≡ true) (skipped_none s k n legal) (gave_due s k n e m q).1) h l
+    earlier s (gives n) (concludes n) (λ k e legal m q. subst (λ b. (b || is_done k n) ≡ true) (skipped_none s k n legal) (gave_due s k n e m q).1) h l
 
-pub started_begun : (s : Run) (h : List Event) (n : ℕ) → IsLegal s h → list_any (is_started n) h ≡ true → begun h n ≡ true
-started_begun s h n l = earlier s (is_started n) (is_begun n) (λ k e legal m q. (started_due s k n e m q).1.1) h l
+pub started_begun : (s : Run) (h : List Event) (n : ℕ) → IsLegal s h → list_any (starts n) h ≡ true → is_begun h n ≡ true
+started_begun s h n l = earlier s (starts n) (begins n) (λ k e legal m q. (started_due s k n e m q).1.1) h l
 
-well_begun_at : (s : Run) (h : List Event) (n : ℕ) (e : Event) → May s h e → (b : Bool) → is_skipped n e ≡ b → (b || is_well n e) ≡ true → begun h n ≡ true
+well_begun_at : (s : Run) (h : List Event) (n : ℕ) (e : Event) → May s h e → (b : Bool) → skips n e ≡ b → (b || concludes_well n e) ≡ true → is_begun h n ≡ true
 well_begun_at s h n e m true k q = absurd (no_skip s h n e m k)
 well_begun_at s h n e m false k q = (well_due s h n e m q).0
 
-pub well_begun : (s : Run) (h : List Event) (n : ℕ) → IsLegal s h → over_well h n ≡ true → begun h n ≡ true
+pub well_begun : (s : Run) (h : List Event) (n : ℕ) → IsLegal s h → is_over_well h n ≡ true → is_begun h n ≡ true
 well_begun s h n l =
-    earlier s (λ e. is_skipped n e || is_well n e) (is_begun n) (λ k e legal m q. well_begun_at s k n e m (is_skipped n e) refl q) h l
+    earlier s (λ e. skips n e || concludes_well n e) (begins n) (λ k e legal m q. well_begun_at s k n e m (skips n e) refl q) h l
 
 -- a node took its job when it was confirmed
-pub took_confirmed : (s : Run) (h : List Event) (n : ℕ) → IsLegal s h → took h n ≡ true → confirmed s.nodes h n ≡ true
+pub took_confirmed : (s : Run) (h : List Event) (n : ℕ) → IsLegal s h → has_taken h n ≡ true → is_confirmed s.nodes h n ≡ true
 took_confirmed s h n l =
-    since s (is_took n) (λ k. confirmed s.nodes k n ≡ true) (λ k e c. confirmed_kept s.nodes k e n c) (λ k e legal m q. confirmed_kept s.nodes k e n (took_ready s k n e m q).confirmed) h l
+    since s (takes n) (λ k. is_confirmed s.nodes k n ≡ true) (λ k e c. confirmed_kept s.nodes k e n c) (λ k e legal m q. confirmed_kept s.nodes k e n (took_ready s k n e m q).confirmed) h l
 
 -- ---- bodies
 
@@ -284,7 +284,7 @@ pub record SaneBy (w : Work) (started ended : ℕ) (ts : List Status) (last : Op
   pub child : ended < started → (c : ℕ) × (last ≡ Some (length ts, c))
 
 abbrev pub Sane : Run → List Event → ℕ → Type 0
-Sane s h n = SaneBy (work_at s.nodes n) (starts h n) (ends h n) (statuses h n) (last_start h n)
+Sane s h n = SaneBy (work_at s.nodes n) (start_count h n) (end_count h n) (statuses h n) (last_start h n)
 
 sane_none : (w : Work) → SaneBy w 0 0 [] None
 sane_none w = record { low = omega arith; high = omega arith; fits = omega arith; told = refl; went = tt; next = λ lt. absurd (omega arith); child = λ lt. absurd (omega arith) }
@@ -318,21 +318,21 @@ sane_same : (w : Work) (a b a' b' : ℕ) (ts ts' : List Status) (l l' : Option (
 sane_same w a b a' b' ts ts' l l' p q r t sane =
     subst (λ x. SaneBy w x b' ts' l') (sym p) (subst (λ x. SaneBy w a x ts' l') (sym q) (subst (λ x. SaneBy w a b x l') (sym r) (subst (λ x. SaneBy w a b ts x) (sym t) sane)))
 
-sane_other : (s : Run) (h : List Event) (n : ℕ) (e : Event) → is_started n e ≡ false → is_ended n e ≡ false → status_of n e ≡ None → start_of n e ≡ None → Sane s h n → Sane s (h ++ e ∷ []) n
+sane_other : (s : Run) (h : List Event) (n : ℕ) (e : Event) → starts n e ≡ false → ends n e ≡ false → status_of n e ≡ None → start_of n e ≡ None → Sane s h n → Sane s (h ++ e ∷ []) n
 sane_other s h n e p q r t sane =
-    sane_same (work_at s.nodes n) _ _ _ _ _ _ _ _ (count_none (is_started n) h e p) (count_none (is_ended n) h e q) (statuses_stay h e n r) (last_start_stays h e n t) sane
+    sane_same (work_at s.nodes n) _ _ _ _ _ _ _ _ (count_none (starts n) h e p) (count_none (ends n) h e q) (statuses_stay h e n r) (last_start_stays h e n t) sane
 
 sane_started : (s : Run) (h : List Event) (n i c : ℕ) → IsDue s h n (Started i) → Sane s h n → Sane s (h ++ event.Started n i c ∷ []) n
 sane_started s h n i c due sane =
     let e = event.Started n i c in
-    sane_same (work_at s.nodes n) _ _ _ _ _ _ _ _ (count_now (is_started n) h e (eq-eqb n n refl)) (count_none (is_ended n) h e refl) (statuses_stay h e n refl) (last_started h n i c)
-    (sane_start (work_at s.nodes n) (starts h n) (ends h n) (statuses h n) (last_start h n) i c sane (rests h n due.2 (inside h n due.0).not_done) due.3)
+    sane_same (work_at s.nodes n) _ _ _ _ _ _ _ _ (count_now (starts n) h e (eq-eqb n n refl)) (count_none (ends n) h e refl) (statuses_stay h e n refl) (last_started h n i c)
+    (sane_start (work_at s.nodes n) (start_count h n) (end_count h n) (statuses h n) (last_start h n) i c sane (rests h n due.2 (inside h n due.0).not_done) due.3)
 
 sane_ended : (s : Run) (h : List Event) (n i c : ℕ) (t : Status) → IsDue s h n Ended → Sane s h n → Sane s (h ++ event.Ended n i c t ∷ []) n
 sane_ended s h n i c t due sane =
     let e = event.Ended n i c t in
-    sane_same (work_at s.nodes n) _ _ _ _ _ _ _ _ (count_none (is_started n) h e refl) (count_now (is_ended n) h e (eq-eqb n n refl)) (statuses_ended h n i c t) (last_start_stays h e n refl)
-    (sane_end (work_at s.nodes n) (starts h n) (ends h n) (statuses h n) (last_start h n) t sane (runs h n due.1).0)
+    sane_same (work_at s.nodes n) _ _ _ _ _ _ _ _ (count_none (starts n) h e refl) (count_now (ends n) h e (eq-eqb n n refl)) (statuses_ended h n i c t) (last_start_stays h e n refl)
+    (sane_end (work_at s.nodes n) (start_count h n) (end_count h n) (statuses h n) (last_start h n) t sane (runs h n due.1).0)
 
 sane_start_by : (s : Run) (h : List Event) (n m i c : ℕ) (b : Bool) → (m == n) ≡ b → IsDue s h m (Started i) → Sane s h n → Sane s (h ++ event.Started m i c ∷ []) n
 sane_start_by s h n m i c true q due sane =
@@ -354,39 +354,39 @@ sane s h n l = legal_holds s (λ k. Sane s k n) (sane_none (work_at s.nodes n)) 
 
 -- ---- what follows for a node
 
-pub asked_once : (s : Run) (h : List Event) (n : ℕ) → IsLegal s h → count_by (is_asked n) h ≤ 1
-asked_once s h n l = once s (is_asked n) (λ k e legal m q. (asked_due s k n e m q).not_asked) h l
+pub asked_once : (s : Run) (h : List Event) (n : ℕ) → IsLegal s h → count_by (asks n) h ≤ 1
+asked_once s h n l = once s (asks n) (λ k e legal m q. (asked_due s k n e m q).not_asked) h l
 
-pub took_once : (s : Run) (h : List Event) (n : ℕ) → IsLegal s h → count_by (is_took n) h ≤ 1
-took_once s h n l = once s (is_took n) (λ k e legal m q. (took_ready s k n e m q).not_taken) h l
+pub took_once : (s : Run) (h : List Event) (n : ℕ) → IsLegal s h → count_by (takes n) h ≤ 1
+took_once s h n l = once s (takes n) (λ k e legal m q. (took_ready s k n e m q).not_taken) h l
 
-pub begun_once : (s : Run) (h : List Event) (n : ℕ) → IsLegal s h → count_by (is_begun n) h ≤ 1
-begun_once s h n l = once s (is_begun n) (λ k e legal m q. (begun_due s k n e m q).1) h l
+pub begun_once : (s : Run) (h : List Event) (n : ℕ) → IsLegal s h → count_by (begins n) h ≤ 1
+begun_once s h n l = once s (begins n) (λ k e legal m q. (begun_due s k n e m q).1) h l
 
-pub ended_once : (s : Run) (h : List Event) (n : ℕ) → IsLegal s h → count_by (is_done n) h ≤ 1
-ended_once s h n l = once s (is_done n) (λ k e legal m q. done_once s k n e m q) h l
+pub ended_once : (s : Run) (h : List Event) (n : ℕ) → IsLegal s h → count_by (concludes n) h ≤ 1
+ended_once s h n l = once s (concludes n) (λ k e legal m q. done_once s k n e m q) h l
 
-pub gave_once : (s : Run) (h : List Event) (n : ℕ) → IsLegal s h → count_by (is_gave n) h ≤ 1
-gave_once s h n l = once s (is_gave n) (λ k e legal m q. (opened k n (gave_due s k n e m q).0).1) h l
+pub gave_once : (s : Run) (h : List Event) (n : ℕ) → IsLegal s h → count_by (gives n) h ≤ 1
+gave_once s h n l = once s (gives n) (λ k e legal m q. (opened k n (gave_due s k n e m q).0).1) h l
 
-caught_due : (s : Run) (h : List Event) (e : Event) → May s h e → is_caught e ≡ true → caught h ≡ false
+caught_due : (s : Run) (h : List Event) (e : Event) → May s h e → catches e ≡ true → has_caught h ≡ false
 caught_due s h (event.Caught g) may q = may
 caught_due s h _ may q = absurd (cc)
 
-pub caught_once : (s : Run) (h : List Event) → IsLegal s h → count_by is_caught h ≤ 1
-caught_once s h l = once s is_caught (λ k e legal m q. caught_due s k e m q) h l
+pub caught_once : (s : Run) (h : List Event) → IsLegal s h → count_by catches h ≤ 1
+caught_once s h l = once s catches (λ k e legal m q. caught_due s k e m q) h l
 
 -- a node that took no job has nothing else of a body
 pub record IsUntaken (h : List Event) (n : ℕ) : Type 0 where
-  pub begun : begun h n ≡ false
-  pub gave : gave h n ≡ false
+  pub begun : is_begun h n ≡ false
+  pub gave : has_given h n ≡ false
   pub is_open : is_open h n ≡ false
-  pub over_well : over_well h n ≡ false
-  pub no_start : list_any (is_started n) h ≡ false
-  pub starts : starts h n ≡ 0
-  pub ends : ends h n ≡ 0
+  pub over_well : is_over_well h n ≡ false
+  pub no_start : list_any (starts n) h ≡ false
+  pub starts : start_count h n ≡ 0
+  pub ends : end_count h n ≡ 0
   pub statuses : statuses h n ≡ []
-  pub running : running h n ≡ false
+  pub running : is_running h n ≡ false
 
 -- the converse of an implication between tests
 pub unless : (a b : Bool) → (a ≡ true → b ≡ true) → b ≡ false → a ≡ false
@@ -397,23 +397,23 @@ empty : {A : Type 0} (xs : List A) → length xs ≡ 0 → xs ≡ []
 empty [] e = refl
 empty (x ∷ xs) e = absurd (omega arith)
 
-pub untaken : (s : Run) (h : List Event) (n : ℕ) → IsLegal s h → took h n ≡ false → IsUntaken h n
+pub untaken : (s : Run) (h : List Event) (n : ℕ) → IsLegal s h → has_taken h n ≡ false → IsUntaken h n
 untaken s h n l t =
-    let b = unless (begun h n) (took h n) (begun_took s h n l) t in
-    let none = unless (list_any (is_started n) h) (begun h n) (started_begun s h n l) b in
-    let z = none_zero (is_started n) h none in
+    let b = unless (is_begun h n) (has_taken h n) (begun_took s h n l) t in
+    let none = unless (list_any (starts n) h) (is_begun h n) (started_begun s h n l) b in
+    let z = none_zero (starts n) h none in
     let k = sane s h n l in
-    let y : ends h n ≡ 0 = omega (arith, z, k.low) in
+    let y : end_count h n ≡ 0 = omega (arith, z, k.low) in
     record {
       begun = b;
-      gave = unless (gave h n) (took h n) (gave_took s h n l) t;
-      is_open = ap (λ x. x && not (gave h n)) t;
-      over_well = unless (over_well h n) (begun h n) (well_begun s h n l) b;
+      gave = unless (has_given h n) (has_taken h n) (gave_took s h n l) t;
+      is_open = ap (λ x. x && not (has_given h n)) t;
+      over_well = unless (is_over_well h n) (is_begun h n) (well_begun s h n l) b;
       no_start = none;
       starts = z;
       ends = y;
       statuses = empty (statuses h n) (omega (arith, k.told, y));
-      running = ap (λ x. x && not (done h n)) (le-ltb (ends h n) (starts h n) (omega (arith, z)));
+      running = ap (λ x. x && not (is_done h n)) (le-ltb (end_count h n) (start_count h n) (omega (arith, z)));
     }
 
 -- the command that a node is due to start is there, and stands behind those that ended
@@ -422,7 +422,7 @@ due_start s h n i due =
     let a = after_start (work_at s.nodes n) (statuses h n) i due.3 in
     (a.0, omega (arith, a.0, a.1))
 
-pub due_place : (s : Run) (h : List Event) (n i : ℕ) → IsLegal s h → IsDue s h n (Started i) → i ≡ ends h n
+pub due_place : (s : Run) (h : List Event) (n i : ℕ) → IsLegal s h → IsDue s h n (Started i) → i ≡ end_count h n
 due_place s h n i l due = (due_start s h n i due).0 ∙ (sane s h n l).told
 
 pub due_command : (s : Run) (h : List Event) (n i : ℕ) → IsDue s h n (Started i) → (c : Command) × (command_at s.nodes n i ≡ Some c)
@@ -434,16 +434,16 @@ went_on s h n l = (sane s h n l).went
 pub went_on_all : (s : Run) (h : List Event) (n i : ℕ) → IsLegal s h → next_step s.nodes h n ≡ step.Start i → AllGoOn (commands_of (work_at s.nodes n)) (statuses h n)
 went_on_all s h n i l e = all_went (work_at s.nodes n) (statuses h n) i (went_on s h n l) e
 
-pub ends_told : (s : Run) (h : List Event) (n : ℕ) → IsLegal s h → length (statuses h n) ≡ ends h n
+pub ends_told : (s : Run) (h : List Event) (n : ℕ) → IsLegal s h → length (statuses h n) ≡ end_count h n
 ends_told s h n l = (sane s h n l).told
 
 -- a body that was begun and isn't done is in its body
-pub begun_inside : (s : Run) (h : List Event) (n : ℕ) → IsLegal s h → begun h n ≡ true → done h n ≡ false → in_body h n ≡ true
+pub begun_inside : (s : Run) (h : List Event) (n : ℕ) → IsLegal s h → is_begun h n ≡ true → is_done h n ≡ false → in_body h n ≡ true
 begun_inside s h n l b d =
-    is_inside h n (is_opened h n (begun_took s h n l b) (unless (gave h n) (done h n) (gave_done s h n l) d)) (skipped_none s h n l) d
+    is_inside h n (is_opened h n (begun_took s h n l b) (unless (has_given h n) (is_done h n) (gave_done s h n l) d)) (skipped_none s h n l) d
 
 -- an open body that isn't done is in its body
-pub open_inside : (s : Run) (h : List Event) (n : ℕ) → IsLegal s h → is_open h n ≡ true → done h n ≡ false → in_body h n ≡ true
+pub open_inside : (s : Run) (h : List Event) (n : ℕ) → IsLegal s h → is_open h n ≡ true → is_done h n ≡ false → in_body h n ≡ true
 open_inside s h n l o d = is_inside h n o (skipped_none s h n l) d
 
 any_counted : {A : Type 0} (p : A → Bool) (h : List A) (b : Bool) → list_any p h ≡ b → 0 < count_by p h → list_any p h ≡ true
@@ -453,17 +453,17 @@ any_counted p h false q lt = absurd (omega (arith, none_zero p h q, lt))
 pub some_counted : {A : Type 0} (p : A → Bool) (h : List A) → 0 < count_by p h → list_any p h ≡ true
 some_counted p h lt = any_counted p h (list_any p h) refl lt
 
-pub running_begun : (s : Run) (h : List Event) (n : ℕ) → IsLegal s h → running h n ≡ true → begun h n ≡ true
-running_begun s h n l r = started_begun s h n l (some_counted (is_started n) h (omega (arith, (runs h n r).0)))
+pub running_begun : (s : Run) (h : List Event) (n : ℕ) → IsLegal s h → is_running h n ≡ true → is_begun h n ≡ true
+running_begun s h n l r = started_begun s h n l (some_counted (starts n) h (omega (arith, (runs h n r).0)))
 
 -- a node that runs is in its body, and has a last start
-pub running_inside : (s : Run) (h : List Event) (n : ℕ) → IsLegal s h → running h n ≡ true → in_body h n ≡ true
+pub running_inside : (s : Run) (h : List Event) (n : ℕ) → IsLegal s h → is_running h n ≡ true → in_body h n ≡ true
 running_inside s h n l r = begun_inside s h n l (running_begun s h n l r) (runs h n r).1
 
-pub running_due : (s : Run) (h : List Event) (n : ℕ) → IsLegal s h → running h n ≡ true → IsDue s h n Ended
+pub running_due : (s : Run) (h : List Event) (n : ℕ) → IsLegal s h → is_running h n ≡ true → IsDue s h n Ended
 running_due s h n l r = (running_inside s h n l r, r)
 
-pub running_has : (s : Run) (h : List Event) (n : ℕ) → IsLegal s h → running h n ≡ true → (i c : ℕ) × (last_start h n ≡ Some (i, c)) × (in_body h n ≡ true)
+pub running_has : (s : Run) (h : List Event) (n : ℕ) → IsLegal s h → is_running h n ≡ true → (i c : ℕ) × (last_start h n ≡ Some (i, c)) × (in_body h n ≡ true)
 running_has s h n l r =
     let c = (sane s h n l).child (runs h n r).0 in
     (length (statuses h n), c.0, c.1, running_inside s h n l r)
@@ -473,7 +473,7 @@ place_in (Some x) = x.0
 place_in None = 0
 
 -- the place of the command that runs
-pub running_place : (s : Run) (h : List Event) (n i c : ℕ) → IsLegal s h → running h n ≡ true → last_start h n ≡ Some (i, c) → (i ≡ length (statuses h n)) × (i < length (commands_of (work_at s.nodes n)))
+pub running_place : (s : Run) (h : List Event) (n i c : ℕ) → IsLegal s h → is_running h n ≡ true → last_start h n ≡ Some (i, c) → (i ≡ length (statuses h n)) × (i < length (commands_of (work_at s.nodes n)))
 running_place s h n i c l r q =
     let k = sane s h n l in
     let d = k.child (runs h n r).0 in

@@ -14,7 +14,7 @@ use Rattle.just_sched.specs.declared.event.Event.{Event}
 use Rattle.just_sched.specs.declared.plan_node.PlanNode.{PlanNode}
 use Rattle.just_sched.specs.Nodes.{subsequents_at}
 use Rattle.just_sched.specs.declared.event.Event.TheVariants as event
-use Rattle.just_sched.specs.State.{over_well, Finished, finished, caught, caught_signal}
+use Rattle.just_sched.specs.State.{is_over_well, IsFinished, finished, has_caught, caught_signal}
 use Rattle.just_sched.specs.Tables.{flag}
 
 or_exchange : (a b c d : Bool) → ((a || b) || (c || d)) ≡ ((a || c) || (b || d))
@@ -30,35 +30,35 @@ any_or p q [] = refl
 any_or p q (x ∷ xs) = rw (any_or p q xs) (or_exchange (p x) (q x) (list_any p xs) (list_any q xs))
 
 -- what a node that is finished is
-pub finished_over : (nodes : List PlanNode) (h : List Event) (n : ℕ) → Finished nodes h n → over_well h n ≡ true
+pub finished_over : (nodes : List PlanNode) (h : List Event) (n : ℕ) → IsFinished nodes h n → is_over_well h n ≡ true
 finished_over nodes h n (finished m over behind) = over
 
-pub finished_behind : (nodes : List PlanNode) (h : List Event) (n q : ℕ) → Finished nodes h n → Contains (subsequents_at nodes n) q → Finished nodes h q
+pub finished_behind : (nodes : List PlanNode) (h : List Event) (n q : ℕ) → IsFinished nodes h n → Contains (subsequents_at nodes n) q → IsFinished nodes h q
 finished_behind nodes h n q (finished m over behind) c = behind q c
 
 -- from m on a flag says whether its node is finished, and before m whether it is over well
 pub record Sweep (nodes : List PlanNode) (h : List Event) (flags : List Bool) (m : ℕ) : Type 0 where
-  pub low : (k : ℕ) → k < m → k < length nodes → flag flags k ≡ over_well h k
-  pub high : (k : ℕ) → m ≤ k → k < length nodes → (flag flags k ≡ true → Finished nodes h k) × (flag flags k ≡ false → Finished nodes h k → ⊥)
+  pub low : (k : ℕ) → k < m → k < length nodes → flag flags k ≡ is_over_well h k
+  pub high : (k : ℕ) → m ≤ k → k < length nodes → (flag flags k ≡ true → IsFinished nodes h k) × (flag flags k ≡ false → IsFinished nodes h k → ⊥)
 
 module _ (nodes : List PlanNode) (h : List Event) (flags : List Bool) (m : ℕ) (b : Bool) (sized : length flags ≡ length nodes) (within : m < length nodes)
     (swept : Sweep nodes h flags (m + 1))
     (behind : (q : ℕ) → Contains (subsequents_at nodes m) q → (m < q) × (q < length nodes))
-    (yes_is : b ≡ true → (over_well h m ≡ true) × ((q : ℕ) → Contains (subsequents_at nodes m) q → flag flags q ≡ true))
-    (no_is : b ≡ false → (over_well h m ≡ false) ⊎ ((q : ℕ) × Contains (subsequents_at nodes m) q × (flag flags q ≡ false))) where
+    (yes_is : b ≡ true → (is_over_well h m ≡ true) × ((q : ℕ) → Contains (subsequents_at nodes m) q → flag flags q ≡ true))
+    (no_is : b ≡ false → (is_over_well h m ≡ false) ⊎ ((q : ℕ) × Contains (subsequents_at nodes m) q × (flag flags q ≡ false))) where
   here : flag (set flags m b) m ≡ b
   here = let lt : m < length flags = omega arith in rw get_or-set_same
 
   there : (k : ℕ) → k ≢ m → flag (set flags m b) k ≡ flag flags k
   there k ne = rw get_or-set_other
 
-  is_finished : b ≡ true → Finished nodes h m
+  is_finished : b ≡ true → IsFinished nodes h m
   is_finished e = finished m (yes_is e).0 (λ q c. (swept.high q (omega (arith, (behind q c).0)) (behind q c).1).0 ((yes_is e).1 q c))
 
-  not_finished : b ≡ false → Finished nodes h m → ⊥
+  not_finished : b ≡ false → IsFinished nodes h m → ⊥
   not_finished e f =
       ⊎_elim
-      (λ (over : over_well h m ≡ false). let same : true ≡ false = sym (finished_over nodes h m f) ∙ over in cc)
+      (λ (over : is_over_well h m ≡ false). let same : true ≡ false = sym (finished_over nodes h m f) ∙ over in cc)
       (λ (s : (q : ℕ) × Contains (subsequents_at nodes m) q × (flag flags q ≡ false)).
       (swept.high s.0 (omega (arith, (behind s.0 s.1).0)) (behind s.0 s.1).1).1 s.2 (finished_behind nodes h m s.0 f s.1))
       (no_is e)
@@ -98,7 +98,7 @@ swept_on nodes invocations h flags back at b subsequents well sized lt is_at are
     (no_is e)))
 
 -- no signal was caught where there is no first one
-pub not_caught : (h : List Event) → caught_signal h ≡ None → caught h ≡ false
+pub not_caught : (h : List Event) → caught_signal h ≡ None → has_caught h ≡ false
 not_caught [] e = refl
 not_caught (event.Caught s ∷ es) e = absurd (let never : Some s ≡ None = e in cc)
 not_caught (_ ∷ es) e = not_caught es e

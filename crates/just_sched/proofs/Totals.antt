@@ -23,10 +23,10 @@ use Rattle.just_sched.specs.declared.plan_node.PlanNode.{PlanNode}
 use Rattle.just_sched.specs.declared.work.Command.{Command}
 use Rattle.just_sched.specs.Works.{commands_of}
 use Rattle.just_sched.specs.Nodes.{prompt_at, banner_at, command_at, priors_in, priors_at, subsequents_in, subsequents_at, work_in, work_at}
-use Rattle.just_sched.specs.State.{is_answer, is_asked, is_took, is_begun, is_started, is_ended, is_done, is_gave, is_caught, took, done, asked, is_open, starts, ends, running, reason_in, reason_of, ToAsk, Ready, Wanted, invoked, prior, subsequent}
+use Rattle.just_sched.specs.State.{answers, asks, takes, begins, starts, ends, concludes, gives, catches, has_taken, is_done, is_asked, is_open, start_count, end_count, is_running, reason_in, reason_of, IsToAsk, IsReady, IsWanted, invoked, prior, subsequent}
 use Rattle.just_sched.specs.Legal.{Run, Due, Asked, Looked, Begun, Started, Ended, Saved, IsDue, May, IsLegal, open_bodies, all_starts, is_start, IsClosed}
-use Rattle.just_sched.specs.Match.{printed, is_yes, started_entries, BehindEcho, DueEntries, FailureStands, FaultStands, MissStands, Stands, MatchesFrom, Matches}
-use Rattle.just_sched.specs.Room.{slots, total_commands, is_settled, settles}
+use Rattle.just_sched.specs.Match.{printed, is_yes, started_entries, BehindEcho, DueEntries, FailureStandsFor, FaultStandsFor, MissStandsFor, StandsFor, MatchesFrom, Matches}
+use Rattle.just_sched.specs.Room.{slots, total_commands, settles, settle_count}
 use Rattle.just_sched.proofs.Keeps.{legal_more, legal_holds, any_none, any_kept, any_now, count_more, count_none, count_now, reason_new, reason_kept, is_of, apart, both, all_both, not_true, or_true, others_stay, is_open_stays}
 use Rattle.just_sched.proofs.Sane.{inside, opened, runs, miss_due, fail_due, asked_due, took_ready, since, begun_took, sane, asked_once, took_once, begun_once, ended_once, gave_once, caught_once, untaken, unless, none_zero, running_inside, is_opened}
 
@@ -96,23 +96,23 @@ invocation_is s f k lt =
 
 -- ---- nodes of the plan
 
-pub wanted_there : (s : Run) (h : List Event) (n : ℕ) → Formed s → Wanted s.nodes s.invocations h n → n < length s.nodes
+pub wanted_there : (s : Run) (h : List Event) (n : ℕ) → Formed s → IsWanted s.nodes s.invocations h n → n < length s.nodes
 wanted_there s h n f (invoked k l) = subst (λ q. q < length s.nodes) l.2 (invocation_is s f l.0 l.1).there
 wanted_there s h n f (prior m k w c l) = subst (λ q. q < length s.nodes) l.2 (prior_is s f m l.0 l.1).there
 wanted_there s h n f (subsequent m k w l) = subst (λ q. q < length s.nodes) l.2 (subsequent_is s f m l.0 l.1).there
 
-pub ready_there : (s : Run) (h : List Event) (n : ℕ) → Formed s → Ready s.nodes s.invocations h n → n < length s.nodes
+pub ready_there : (s : Run) (h : List Event) (n : ℕ) → Formed s → IsReady s.nodes s.invocations h n → n < length s.nodes
 ready_there s h n f r = wanted_there s h n f r.wanted
 
-pub to_ask_there : (s : Run) (h : List Event) (n : ℕ) → Formed s → ToAsk s.nodes s.invocations h n → n < length s.nodes
+pub to_ask_there : (s : Run) (h : List Event) (n : ℕ) → Formed s → IsToAsk s.nodes s.invocations h n → n < length s.nodes
 to_ask_there s h n f r = wanted_there s h n f r.wanted
 
 -- a node that took a job, or was asked, is one of the plan
-pub in_range : (s : Run) (h : List Event) (n : ℕ) → Formed s → IsLegal s h → took h n ≡ true → n < length s.nodes
-in_range s h n f l = since s (is_took n) (λ k. n < length s.nodes) (λ k e lt. lt) (λ k e legal m q. ready_there s k n f (took_ready s k n e m q)) h l
+pub in_range : (s : Run) (h : List Event) (n : ℕ) → Formed s → IsLegal s h → has_taken h n ≡ true → n < length s.nodes
+in_range s h n f l = since s (takes n) (λ k. n < length s.nodes) (λ k e lt. lt) (λ k e legal m q. ready_there s k n f (took_ready s k n e m q)) h l
 
-pub asked_range : (s : Run) (h : List Event) (n : ℕ) → Formed s → IsLegal s h → asked h n ≡ true → n < length s.nodes
-asked_range s h n f l = since s (is_asked n) (λ k. n < length s.nodes) (λ k e lt. lt) (λ k e legal m q. to_ask_there s k n f (asked_due s k n e m q)) h l
+pub asked_range : (s : Run) (h : List Event) (n : ℕ) → Formed s → IsLegal s h → is_asked h n ≡ true → n < length s.nodes
+asked_range s h n f l = since s (asks n) (λ k. n < length s.nodes) (λ k e lt. lt) (λ k e legal m q. to_ask_there s k n f (asked_due s k n e m q)) h l
 
 pub due_range : (s : Run) (h : List Event) (n : ℕ) (d : Due) → Formed s → IsLegal s h → IsDue s h n d → n < length s.nodes
 due_range s h n Asked f l e = to_ask_there s h n f e
@@ -131,13 +131,13 @@ pub any_weaker : {A : Type 0} (p q : A → Bool) → ((x : A) → p x ≡ true �
 any_weaker p q weaker [] a = absurd (cc)
 any_weaker p q weaker (x ∷ xs) a = any_weaker_at (p x) (list_any p xs) (q x) (list_any q xs) (weaker x) (any_weaker p q weaker xs) a
 
-answer_asks : (w : Bool) (n : ℕ) (e : Event) → is_answer w n e ≡ true → is_asked n e ≡ true
+answer_asks : (w : Bool) (n : ℕ) (e : Event) → answers w n e ≡ true → asks n e ≡ true
 answer_asks w n (event.Asked m y) q = (both (m == n) (if w then y else not y) q).0
 answer_asks w n _ q = absurd (cc)
 
 -- an answer is an asking
-pub answered_asked : (w : Bool) (h : List Event) (n : ℕ) → list_any (is_answer w n) h ≡ true → asked h n ≡ true
-answered_asked w h n q = any_weaker (is_answer w n) (is_asked n) (answer_asks w n) h q
+pub answered_asked : (w : Bool) (h : List Event) (n : ℕ) → list_any (answers w n) h ≡ true → is_asked h n ≡ true
+answered_asked w h n q = any_weaker (answers w n) (asks n) (answer_asks w n) h q
 
 failure_range : (s : Run) (h : List Event) (n : ℕ) (r : Reason) → Formed s → IsLegal s h → May s h (event.Done n (outcome.Failed r)) → n < length s.nodes
 failure_range s h n reason.Status f l m = in_range s h n f l (begun_took s h n l m.0)
@@ -164,7 +164,7 @@ node_of (event.Gave m) = m
 node_of (event.Caught g) = 0
 
 -- an event that may come is one of a node of the plan, or a caught signal
-pub event_range : (s : Run) (h : List Event) (e : Event) → Formed s → IsLegal s h → May s h e → is_caught e ≡ false → node_of e < length s.nodes
+pub event_range : (s : Run) (h : List Event) (e : Event) → Formed s → IsLegal s h → May s h e → catches e ≡ false → node_of e < length s.nodes
 event_range s h (event.Asked m y) f l may q = to_ask_there s h m f may.0
 event_range s h (event.Took m) f l may q = ready_there s h m f may.0
 event_range s h (event.Looked m sums look) f l may q = absurd may
@@ -236,7 +236,7 @@ sum_zero (suc n) a = sum_by-cons (λ (k : ℕ). 0) a (range_with_len (a + 1) n) 
 
 -- ---- events by their nodes
 
-of_node : (n : ℕ) (e : Event) → is_caught e ≡ false → is_of n e ≡ (node_of e == n)
+of_node : (n : ℕ) (e : Event) → catches e ≡ false → is_of n e ≡ (node_of e == n)
 of_node n (event.Caught g) q = absurd (cc)
 of_node n _ q = refl
 
@@ -244,7 +244,7 @@ of_node n _ q = refl
 abbrev pub own : (Event → Bool) → ℕ → Event → Bool
 own f n e = f e && is_of n e
 
-split_step : (f : Event → Bool) (count : ℕ) (h : List Event) (e : Event) (b : Bool) → f e ≡ b → (f e ≡ true → is_caught e ≡ false) → (is_caught e ≡ false → node_of e < count) → count_by f h ≡ sum_by (λ n. count_by (own f n) h) (range_with_len 0 count) → count_by f (h ++ e ∷ []) ≡ sum_by (λ n. count_by (own f n) (h ++ e ∷ [])) (range_with_len 0 count)
+split_step : (f : Event → Bool) (count : ℕ) (h : List Event) (e : Event) (b : Bool) → f e ≡ b → (f e ≡ true → catches e ≡ false) → (catches e ≡ false → node_of e < count) → count_by f h ≡ sum_by (λ n. count_by (own f n) h) (range_with_len 0 count) → count_by f (h ++ e ∷ []) ≡ sum_by (λ n. count_by (own f n) (h ++ e ∷ [])) (range_with_len 0 count)
 split_step f count h e true q plain there old =
     let free = plain q in
     let each : (k : ℕ) → 0 ≤ k → k < 0 + count → count_by (own f k) (h ++ e ∷ []) ≡ count_by (own f k) h + cond (node_of e == k) 1 0 =
@@ -259,7 +259,7 @@ split_step f count h e false q plain there old =
     ∙ sym (sum_same (λ n. count_by (own f n) (h ++ e ∷ [])) (λ n. count_by (own f n) h) 0 count (λ k low high. count_none (own f k) h e (ap (λ x. x && is_of k e) q)))
 
 -- events that are no caught signals are counted by nodes
-pub split : (s : Run) (f : Event → Bool) → ((e : Event) → f e ≡ true → is_caught e ≡ false) → (h : List Event) → Formed s → IsLegal s h → count_by f h ≡ sum_by (λ n. count_by (own f n) h) (range_with_len 0 (length s.nodes))
+pub split : (s : Run) (f : Event → Bool) → ((e : Event) → f e ≡ true → catches e ≡ false) → (h : List Event) → Formed s → IsLegal s h → count_by f h ≡ sum_by (λ n. count_by (own f n) h) (range_with_len 0 (length s.nodes))
 split s f plain h formed l =
     legal_holds s (λ k. count_by f k ≡ sum_by (λ n. count_by (own f n) k) (range_with_len 0 (length s.nodes)))
     (sym (sum_zero (length s.nodes) 0))
@@ -269,7 +269,7 @@ split s f plain h formed l =
 -- ---- room for each event
 
 abbrev pub is_plain : Event → Bool
-is_plain e = not (is_caught e)
+is_plain e = not (catches e)
 
 either_one : (b : Bool) → cond b 1 0 + cond (not b) 1 0 ≡ 1
 either_one true = refl
@@ -280,7 +280,7 @@ either_count p [] = refl
 either_count p (x ∷ h) =
     omega (arith, sum_by-cons (λ y. cond (p y) 1 0) x h, sum_by-cons (λ y. cond (not (p y)) 1 0) x h, either_count p h, either_one (p x))
 
-kind_one : (s : Run) (h : List Event) (n : ℕ) (e : Event) → May s h e → cond (own is_plain n e) 1 0 ≤ cond (is_asked n e) 1 0 + cond (is_took n e) 1 0 + cond (is_begun n e) 1 0 + cond (is_started n e) 1 0 + cond (is_ended n e) 1 0 + cond (is_done n e) 1 0 + cond (is_gave n e) 1 0
+kind_one : (s : Run) (h : List Event) (n : ℕ) (e : Event) → May s h e → cond (own is_plain n e) 1 0 ≤ cond (asks n e) 1 0 + cond (takes n e) 1 0 + cond (begins n e) 1 0 + cond (starts n e) 1 0 + cond (ends n e) 1 0 + cond (concludes n e) 1 0 + cond (gives n e) 1 0
 kind_one s h n (event.Looked m sums look) may = absurd may
 kind_one s h n (event.Skipped m) may = absurd may
 kind_one s h n (event.Saved m) may = absurd may
@@ -293,11 +293,11 @@ kind_one s h n (event.Done m o) may = omega arith
 kind_one s h n (event.Gave m) may = omega arith
 kind_one s h n (event.Caught g) may = omega arith
 
-kinds : (s : Run) (h : List Event) (n : ℕ) → IsLegal s h → count_by (own is_plain n) h ≤ count_by (is_asked n) h + count_by (is_took n) h + count_by (is_begun n) h + starts h n + ends h n + count_by (is_done n) h + count_by (is_gave n) h
+kinds : (s : Run) (h : List Event) (n : ℕ) → IsLegal s h → count_by (own is_plain n) h ≤ count_by (asks n) h + count_by (takes n) h + count_by (begins n) h + start_count h n + end_count h n + count_by (concludes n) h + count_by (gives n) h
 kinds s h n l =
-    legal_holds s (λ k. count_by (own is_plain n) k ≤ count_by (is_asked n) k + count_by (is_took n) k + count_by (is_begun n) k + starts k n + ends k n + count_by (is_done n) k + count_by (is_gave n) k)
+    legal_holds s (λ k. count_by (own is_plain n) k ≤ count_by (asks n) k + count_by (takes n) k + count_by (begins n) k + start_count k n + end_count k n + count_by (concludes n) k + count_by (gives n) k)
     (omega arith)
-    (λ k e legal old m. omega (arith, kind_one s k n e m, old, count_more (own is_plain n) k e, count_more (is_asked n) k e, count_more (is_took n) k e, count_more (is_begun n) k e, count_more (is_started n) k e, count_more (is_ended n) k e, count_more (is_done n) k e, count_more (is_gave n) k e))
+    (λ k e legal old m. omega (arith, kind_one s k n e m, old, count_more (own is_plain n) k e, count_more (asks n) k e, count_more (takes n) k e, count_more (begins n) k e, count_more (starts n) k e, count_more (ends n) k e, count_more (concludes n) k e, count_more (gives n) k e))
     h l
 
 -- how many events a node can have
@@ -311,8 +311,8 @@ unfolding slots
 length_bound s h f l =
     let each = sum_le (λ n. count_by (own is_plain n) h) (λ n. 8 + 2 * length (commands_of (work_at s.nodes n))) 0 (length s.nodes) (λ k low high. node_bound s h k l) in
     let all = sum_nodes (λ x. 8 + 2 * length (commands_of x.work)) (λ n. 8 + 2 * length (commands_of (work_at s.nodes n))) s.nodes 0 (λ k x q. subst (λ j. 8 + 2 * length (commands_of (work_at s.nodes j)) ≡ 8 + 2 * length (commands_of x.work)) (omega arith) (ap (λ o. 8 + 2 * length (commands_of (work_in o))) q)) in
-    let cut = split s is_plain (λ e q. not_true (is_caught e) q) h f l in
-    omega (arith, either_count is_caught h, caught_once s h l, each, all, cut)
+    let cut = split s is_plain (λ e q. not_true (catches e) q) h f l in
+    omega (arith, either_count catches h, caught_once s h l, each, all, cut)
 
 -- there is room for each event that may come
 pub room : (s : Run) (h : List Event) (e : Event) → Formed s → IsLegal s h → May s h e → length h < slots s.nodes
@@ -325,31 +325,31 @@ abbrev pub SettledBy : ℕ → ℕ → ℕ → Bool → Type 0
 SettledBy settled started ended is_over = (settled ≤ started) × (is_over ≡ false → settled ≡ ended)
 
 abbrev pub Settled : Run → List Event → ℕ → Type 0
-Settled s h n = SettledBy (count_by (own is_settled n) h) (starts h n) (ends h n) (done h n)
+Settled s h n = SettledBy (count_by (own settles n) h) (start_count h n) (end_count h n) (is_done h n)
 
 settled_same : (a b c a' b' c' : ℕ) (d d' : Bool) → a' ≡ a → b ≤ b' → c' ≡ c → (d' ≡ false → d ≡ false) → SettledBy a b c d → SettledBy a' b' c' d'
 settled_same a b c a' b' c' d d' p q r over old = (omega (arith, p, q, old.0), λ e. omega (arith, p, r, old.1 (over e)))
 
-not_later : (h : List Event) (n : ℕ) (e : Event) → done (h ++ e ∷ []) n ≡ false → done h n ≡ false
-not_later h n e q = unless (done h n) (done (h ++ e ∷ []) n) (any_kept (is_done n) h e) q
+not_later : (h : List Event) (n : ℕ) (e : Event) → is_done (h ++ e ∷ []) n ≡ false → is_done h n ≡ false
+not_later h n e q = unless (is_done h n) (is_done (h ++ e ∷ []) n) (any_kept (concludes n) h e) q
 
-settled_other : (s : Run) (h : List Event) (n : ℕ) (e : Event) → own is_settled n e ≡ false → is_ended n e ≡ false → Settled s h n → Settled s (h ++ e ∷ []) n
+settled_other : (s : Run) (h : List Event) (n : ℕ) (e : Event) → own settles n e ≡ false → ends n e ≡ false → Settled s h n → Settled s (h ++ e ∷ []) n
 settled_other s h n e p q old =
-    settled_same (count_by (own is_settled n) h) (starts h n) (ends h n) (count_by (own is_settled n) (h ++ e ∷ [])) (starts (h ++ e ∷ []) n) (ends (h ++ e ∷ []) n) (done h n) (done (h ++ e ∷ []) n)
-    (count_none (own is_settled n) h e p) (omega (arith, count_more (is_started n) h e)) (count_none (is_ended n) h e q) (not_later h n e) old
+    settled_same (count_by (own settles n) h) (start_count h n) (end_count h n) (count_by (own settles n) (h ++ e ∷ [])) (start_count (h ++ e ∷ []) n) (end_count (h ++ e ∷ []) n) (is_done h n) (is_done (h ++ e ∷ []) n)
+    (count_none (own settles n) h e p) (omega (arith, count_more (starts n) h e)) (count_none (ends n) h e q) (not_later h n e) old
 
 settled_end : (s : Run) (h : List Event) (n m i c : ℕ) (t : Status) (b : Bool) → (m == n) ≡ b → IsDue s h m Ended → Settled s h n → Settled s (h ++ event.Ended m i c t ∷ []) n
 settled_end s h n m i c t true q due old =
     let e = event.Ended m i c t in
-    let r = runs h n (subst (λ k. running h k ≡ true) (eqb-true m n q) due.1) in
-    (omega (arith, count_now (own is_settled n) h e q, count_none (is_started n) h e refl, old.1 r.1, r.0), λ d. omega (arith, count_now (own is_settled n) h e q, count_now (is_ended n) h e q, old.1 r.1))
+    let r = runs h n (subst (λ k. is_running h k ≡ true) (eqb-true m n q) due.1) in
+    (omega (arith, count_now (own settles n) h e q, count_none (starts n) h e refl, old.1 r.1, r.0), λ d. omega (arith, count_now (own settles n) h e q, count_now (ends n) h e q, old.1 r.1))
 settled_end s h n m i c t false q due old = settled_other s h n (event.Ended m i c t) q q old
 
 settled_wait : (s : Run) (h : List Event) (n m : ℕ) (b : Bool) → (m == n) ≡ b → IsDue s h m Ended → Settled s h n → Settled s (h ++ event.Done m (outcome.Failed (reason.Fault call.Wait)) ∷ []) n
 settled_wait s h n m true q due old =
     let e = event.Done m (outcome.Failed (reason.Fault call.Wait)) in
-    let r = runs h n (subst (λ k. running h k ≡ true) (eqb-true m n q) due.1) in
-    (omega (arith, count_now (own is_settled n) h e q, count_none (is_started n) h e refl, old.1 r.1, r.0), λ d. absurd (cc (d, any_now (is_done n) h e q)))
+    let r = runs h n (subst (λ k. is_running h k ≡ true) (eqb-true m n q) due.1) in
+    (omega (arith, count_now (own settles n) h e q, count_none (starts n) h e refl, old.1 r.1, r.0), λ d. absurd (cc (d, any_now (concludes n) h e q)))
 settled_wait s h n m false q due old = settled_other s h n (event.Done m (outcome.Failed (reason.Fault call.Wait))) q refl old
 
 settled_fault : (s : Run) (h : List Event) (n m : ℕ) (c : Call) → May s h (event.Done m (outcome.Failed (reason.Fault c))) → Settled s h n → Settled s (h ++ event.Done m (outcome.Failed (reason.Fault c)) ∷ []) n
@@ -364,7 +364,7 @@ settled_step s n h e may old = settled_other s h n e refl refl old
 pub settled : (s : Run) (h : List Event) (n : ℕ) → IsLegal s h → Settled s h n
 settled s h n l = legal_holds s (λ k. Settled s k n) (omega arith, λ d. refl) (λ k e legal old m. settled_step s n k e m old) h l
 
-settle_plain : (e : Event) → is_settled e ≡ true → is_caught e ≡ false
+settle_plain : (e : Event) → settles e ≡ true → catches e ≡ false
 settle_plain (event.Caught g) q = absurd (cc)
 settle_plain _ q = refl
 
@@ -373,23 +373,23 @@ unfolding total_commands
 total_is nodes =
     sum_nodes (λ x. length (commands_of x.work)) (λ n. length (commands_of (work_at nodes n))) nodes 0 (λ k x q. subst (λ j. length (commands_of (work_at nodes j)) ≡ length (commands_of x.work)) (omega arith) (ap (λ o. length (commands_of (work_in o))) q))
 
-settled_fits : (s : Run) (h : List Event) (n : ℕ) → IsLegal s h → count_by (own is_settled n) h ≤ length (commands_of (work_at s.nodes n))
+settled_fits : (s : Run) (h : List Event) (n : ℕ) → IsLegal s h → count_by (own settles n) h ≤ length (commands_of (work_at s.nodes n))
 settled_fits s h n l = omega (arith, (settled s h n l).0, (sane s h n l).fits)
 
 -- while a node runs, fewer children were settled than there are commands
-pub settle_room : (s : Run) (h : List Event) (n : ℕ) → Formed s → IsLegal s h → running h n ≡ true → settles h < total_commands s.nodes
+pub settle_room : (s : Run) (h : List Event) (n : ℕ) → Formed s → IsLegal s h → is_running h n ≡ true → settle_count h < total_commands s.nodes
 settle_room s h n f l r =
     let within = in_range s h n f l (inside h n (running_inside s h n l r)).took in
     let here = runs h n r in
-    let less : count_by (own is_settled n) h < length (commands_of (work_at s.nodes n)) = omega (arith, (settled s h n l).1 here.1, here.0, (sane s h n l).fits) in
-    let all = sum_lt (λ k. count_by (own is_settled k) h) (λ k. length (commands_of (work_at s.nodes k))) n 0 (length s.nodes) (λ k low high. settled_fits s h k l) (omega arith) (omega (arith, within)) less in
-    omega (arith, all, split s is_settled settle_plain h f l, total_is s.nodes)
+    let less : count_by (own settles n) h < length (commands_of (work_at s.nodes n)) = omega (arith, (settled s h n l).1 here.1, here.0, (sane s h n l).fits) in
+    let all = sum_lt (λ k. count_by (own settles k) h) (λ k. length (commands_of (work_at s.nodes k))) n 0 (length s.nodes) (λ k low high. settled_fits s h k l) (omega arith) (omega (arith, within)) less in
+    omega (arith, all, split s settles settle_plain h f l, total_is s.nodes)
 
 -- no more children were settled than there are commands
-pub settle_bound : (s : Run) (h : List Event) → Formed s → IsLegal s h → settles h ≤ total_commands s.nodes
+pub settle_bound : (s : Run) (h : List Event) → Formed s → IsLegal s h → settle_count h ≤ total_commands s.nodes
 settle_bound s h f l =
-    let all = sum_le (λ k. count_by (own is_settled k) h) (λ k. length (commands_of (work_at s.nodes k))) 0 (length s.nodes) (λ k low high. settled_fits s h k l) in
-    omega (arith, all, split s is_settled settle_plain h f l, total_is s.nodes)
+    let all = sum_le (λ k. count_by (own settles k) h) (λ k. length (commands_of (work_at s.nodes k))) 0 (length s.nodes) (λ k low high. settled_fits s h k l) in
+    omega (arith, all, split s settles settle_plain h f l, total_is s.nodes)
 
 -- ---- open bodies
 
@@ -415,19 +415,19 @@ open_took s h n f l may =
     let e = event.Took n in
     let none = untaken s h n l may.0.not_taken in
     one_passes (λ k. is_open h k) (λ k. is_open (h ++ e ∷ []) k) n (length s.nodes) (ready_there s h n f may.0) none.is_open
-    (is_opened (h ++ e ∷ []) n (any_now (is_took n) h e (eq-eqb n n refl)) (any_none (is_gave n) h e refl ∙ none.gave))
+    (is_opened (h ++ e ∷ []) n (any_now (takes n) h e (eq-eqb n n refl)) (any_none (gives n) h e refl ∙ none.gave))
     (λ k ne. (others_stay h e k (apart n k ne)).is_open)
 
 pub open_gave : (s : Run) (h : List Event) (n : ℕ) → Formed s → IsLegal s h → May s h (event.Gave n) → open_bodies s (h ++ event.Gave n ∷ []) + 1 ≡ open_bodies s h
 open_gave s h n f l may =
     let e = event.Gave n in
     sym (one_passes (λ k. is_open (h ++ e ∷ []) k) (λ k. is_open h k) n (length s.nodes) (in_range s h n f l (opened h n may.0).0)
-    (ap₂ (λ a b. a && not b) refl (any_now (is_gave n) h e (eq-eqb n n refl)) ∙ and_false (took (h ++ e ∷ []) n))
+    (ap₂ (λ a b. a && not b) refl (any_now (gives n) h e (eq-eqb n n refl)) ∙ and_false (has_taken (h ++ e ∷ []) n))
     may.0
     (λ k ne. sym (others_stay h e k (apart n k ne)).is_open))
 
 -- an event that neither takes nor gives a job leaves the open bodies
-pub open_stays : (s : Run) (h : List Event) (e : Event) → ((n : ℕ) → is_took n e ≡ false) → ((n : ℕ) → is_gave n e ≡ false) → open_bodies s (h ++ e ∷ []) ≡ open_bodies s h
+pub open_stays : (s : Run) (h : List Event) (e : Event) → ((n : ℕ) → takes n e ≡ false) → ((n : ℕ) → gives n e ≡ false) → open_bodies s (h ++ e ∷ []) ≡ open_bodies s h
 open_stays s h e takes gives =
     sum_same (λ k. cond (is_open (h ++ e ∷ []) k) 1 0) (λ k. cond (is_open h k) 1 0) 0 (length s.nodes) (λ k low high. ap {B = ℕ} (λ b. cond b 1 0) (is_open_stays h e k (takes k) (gives k)))
 
@@ -447,7 +447,7 @@ zero_closed s h z = λ n lt. zero_closed_at s h n (is_open h n) refl lt z
 
 -- ---- a history and the entries that it matches
 
-matches_from : (s : Run) (P : List Event → List Entry → Type 0) → ((h : List Event) (e : Event) (es fs : List Entry) → P h es → Stands s h e fs → P (h ++ e ∷ []) (es ++ fs)) → (before h : List Event) (es fs : List Entry) → P before es → MatchesFrom s before h fs → P (before ++ h) (es ++ fs)
+matches_from : (s : Run) (P : List Event → List Entry → Type 0) → ((h : List Event) (e : Event) (es fs : List Entry) → P h es → StandsFor s h e fs → P (h ++ e ∷ []) (es ++ fs)) → (before h : List Event) (es fs : List Entry) → P before es → MatchesFrom s before h fs → P (before ++ h) (es ++ fs)
 matches_from s P step before [] es fs p m =
     subst (λ k. P k (es ++ fs)) (sym (append-nil before)) (subst (λ k. P before k) (sym (append-nil es) ∙ ap (λ k. es ++ k) (sym m)) p)
 matches_from s P step before (x ∷ h) es fs p m =
@@ -456,7 +456,7 @@ matches_from s P step before (x ∷ h) es fs p m =
     (matches_from s P step (before ++ x ∷ []) h (es ++ m.0) m.1 (step before x es m.0 p m.3) m.4))
 
 -- what holds of no events and no entries, and goes on by each event and what it stands for, holds of each match
-pub matches_holds : (s : Run) (P : List Event → List Entry → Type 0) → P [] [] → ((h : List Event) (e : Event) (es fs : List Entry) → P h es → Stands s h e fs → P (h ++ e ∷ []) (es ++ fs)) → (h : List Event) (es : List Entry) → Matches s h es → P h es
+pub matches_holds : (s : Run) (P : List Event → List Entry → Type 0) → P [] [] → ((h : List Event) (e : Event) (es fs : List Entry) → P h es → StandsFor s h e fs → P (h ++ e ∷ []) (es ++ fs)) → (h : List Event) (es : List Entry) → Matches s h es → P h es
 matches_holds s P none step h es m = matches_from s P step [] h [] es none m
 
 -- an entry that is printed
@@ -519,13 +519,13 @@ broke_behind p s h n made fs a b =
     record { before = printed c.0.echo; last = made c.0; is = c.1; printed = printed_is c.0.echo; passes = a c.0 }
 
 -- a call that was missed stands for its miss, behind what was printed
-pub miss_broke : (s : Run) (h : List Event) (n : ℕ) (c : Call) (m : Miss) (fs : List Entry) → MissStands s h n c m fs → Broke is_missed fs
+pub miss_broke : (s : Run) (h : List Event) (n : ℕ) (c : Call) (m : Miss) (fs : List Entry) → MissStandsFor s h n c m fs → Broke is_missed fs
 miss_broke s h n call.Ask m fs b = broke_alone is_missed fs (entry.Missed (codes "-") m) refl b
 miss_broke s h n call.Temp m fs b = broke_behind is_missed s h n (λ c. entry.Missed (script_folder c.spec) m) fs (λ c. refl) b
 miss_broke s h n _ m fs b = absurd b
 
 -- a call that failed stands for its failure, behind what was printed
-pub fault_broke : (s : Run) (h : List Event) (n : ℕ) (c : Call) (fs : List Entry) → FaultStands s h n c fs → Broke is_failed fs
+pub fault_broke : (s : Run) (h : List Event) (n : ℕ) (c : Call) (fs : List Entry) → FaultStandsFor s h n c fs → Broke is_failed fs
 fault_broke s h n call.Ask fs b = broke_alone is_failed fs (entry.Failed call.Ask) refl b
 fault_broke s h n call.Print fs b = broke_alone is_failed fs (entry.Failed call.Print) refl b.0
 fault_broke s h n call.Temp fs b = broke_behind is_failed s h n (λ c. entry.Failed call.Temp) fs (λ c. refl) b
@@ -563,7 +563,7 @@ failed_no_child : (x : Entry) → is_failed x ≡ true → is_child x ≡ false
 failed_no_child (entry.Started c spec) a = absurd (cc)
 failed_no_child _ a = refl
 
-failure_children : (s : Run) (h : List Event) (n : ℕ) (r : Reason) (fs : List Entry) → FailureStands s h n r fs → children fs ≡ 0
+failure_children : (s : Run) (h : List Event) (n : ℕ) (r : Reason) (fs : List Entry) → FailureStandsFor s h n r fs → children fs ≡ 0
 failure_children s h n reason.Status fs b = ap children b
 failure_children s h n reason.NotConfirmed fs b = ap children b
 failure_children s h n (reason.Input j m) fs b = absurd b
@@ -579,7 +579,7 @@ printed_children [] = refl
 printed_children (b ∷ bs) = refl
 
 -- an event starts a child where an entry that it stands for does
-pub stands_children : (s : Run) (h : List Event) (e : Event) (fs : List Entry) → Stands s h e fs → children fs ≡ cond (is_start e) 1 0
+pub stands_children : (s : Run) (h : List Event) (e : Event) (fs : List Entry) → StandsFor s h e fs → children fs ≡ cond (is_start e) 1 0
 stands_children s h (event.Asked n y) fs b =
     let p = option_there (λ p. (answer : List ℕ) × (is_yes answer ≡ y) × (fs ≡ entry.Asked p answer ∷ [])) (prompt_at s.nodes n) b in
     ap children p.1.2
@@ -626,19 +626,19 @@ reason_same true t r q = cc
 reason_same false t r q = absurd (cc)
 
 -- an event whose reason is that of the node is one that the reason came with
-reason_event : (s : Run) (h : List Event) (n : ℕ) (r : Reason) (e : Event) (fs : List Entry) → reason_in n e ≡ Some r → Stands s h e fs → (m : ℕ) × FailureStands s h m r fs
+reason_event : (s : Run) (h : List Event) (n : ℕ) (r : Reason) (e : Event) (fs : List Entry) → reason_in n e ≡ Some r → StandsFor s h e fs → (m : ℕ) × FailureStandsFor s h m r fs
 reason_event s h n r (event.Done m outcome.Well) fs q b = absurd (cc)
-reason_event s h n r (event.Done m (outcome.Failed t)) fs q b = (m, subst (λ k. FailureStands s h m k fs) (reason_same (m == n) t r q) b)
+reason_event s h n r (event.Done m (outcome.Failed t)) fs q b = (m, subst (λ k. FailureStandsFor s h m k fs) (reason_same (m == n) t r q) b)
 reason_event s h n r _ fs q b = absurd (cc)
 
-cause_step : (s : Run) (p : Entry → Bool) (r : Reason) (h : List Event) (n : ℕ) (e : Event) (es fs : List Entry) (o : Option Reason) → ((m : ℕ) → FailureStands s h m r fs → list_any p fs ≡ true) → reason_of h n ≡ o → (reason_of h n ≡ Some r → list_any p es ≡ true) → Stands s h e fs → reason_of (h ++ e ∷ []) n ≡ Some r → list_any p (es ++ fs) ≡ true
+cause_step : (s : Run) (p : Entry → Bool) (r : Reason) (h : List Event) (n : ℕ) (e : Event) (es fs : List Entry) (o : Option Reason) → ((m : ℕ) → FailureStandsFor s h m r fs → list_any p fs ≡ true) → reason_of h n ≡ o → (reason_of h n ≡ Some r → list_any p es ≡ true) → StandsFor s h e fs → reason_of (h ++ e ∷ []) n ≡ Some r → list_any p (es ++ fs) ≡ true
 cause_step s p r h n e es fs None shows q old b now =
     let c = reason_event s h n r e fs (sym (reason_new h e n q) ∙ now) b in
     any_second p es fs (shows c.0 c.1)
 cause_step s p r h n e es fs (Some t) shows q old b now = any_first p es fs (old (q ∙ sym (reason_kept h e n t q) ∙ now))
 
 -- a reason whose entries pass a test shows in the record
-cause : (s : Run) (p : Entry → Bool) (r : Reason) → ((h : List Event) (m : ℕ) (fs : List Entry) → FailureStands s h m r fs → list_any p fs ≡ true) → (h : List Event) (es : List Entry) (n : ℕ) → Matches s h es → reason_of h n ≡ Some r → list_any p es ≡ true
+cause : (s : Run) (p : Entry → Bool) (r : Reason) → ((h : List Event) (m : ℕ) (fs : List Entry) → FailureStandsFor s h m r fs → list_any p fs ≡ true) → (h : List Event) (es : List Entry) (n : ℕ) → Matches s h es → reason_of h n ≡ Some r → list_any p es ≡ true
 cause s p r shows h es n m =
     matches_holds s (λ k fs. reason_of k n ≡ Some r → list_any p fs ≡ true) (λ q. absurd (cc))
     (λ k e fs gs old b q. cause_step s p r k n e fs gs (reason_of k n) (λ j. shows k j gs) refl old b q)

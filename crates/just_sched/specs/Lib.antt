@@ -1,5 +1,7 @@
+pub mod Causes
 pub mod Codes
 pub mod Commands
+pub mod Driven
 pub mod Favourable
 pub mod Idle
 pub mod Legal

@@ -13,15 +13,15 @@ use Rattle.just_sched.specs.declared.event.Reason.TheVariants as reason
 use Rattle.just_sched.specs.declared.token.Next.{Next}
 use Rattle.just_sched.specs.declared.token.Next.TheVariants as next
 use Rattle.just_sched.specs.declared.work.Command.{Command}
-use Rattle.just_sched.specs.State.{is_open, running, last_start}
+use Rattle.just_sched.specs.State.{is_open, is_running, last_start}
 use Rattle.just_sched.specs.Match.{printed, started_entries}
 
 -- a history that grew, by which every node but that one is as it was
-pub record Grown (old new : List Event) (node : ℕ) : Type 0 where
+pub record GrowsBy (old new : List Event) (node : ℕ) : Type 0 where
   pub more : List Event
   pub grew : new ≡ old ++ more
   pub opens : (m : ℕ) → m ≢ node → is_open new m ≡ is_open old m
-  pub runs : (m : ℕ) → m ≢ node → running new m ≡ running old m
+  pub runs : (m : ℕ) → m ≢ node → is_running new m ≡ is_running old m
   pub starts : (m : ℕ) → m ≢ node → last_start new m ≡ last_start old m
 
 -- a history that gained events, by which every node is as open and as running as it was
@@ -30,19 +30,19 @@ pub record Settled (old new : List Event) : Type 0 where
   pub grew : new ≡ old ++ more
   pub longer : length old < length new
   pub opens : (m : ℕ) → is_open new m ≡ is_open old m
-  pub runs : (m : ℕ) → running new m ≡ running old m
+  pub runs : (m : ℕ) → is_running new m ≡ is_running old m
 
 -- the node's body is open, and runs with that child
 pub record RunsWith (h : List Event) (node child : ℕ) : Type 0 where
   pub opened : is_open h node ≡ true
-  pub runs : running h node ≡ true
+  pub runs : is_running h node ≡ true
   pub place : ℕ
   pub started : last_start h node ≡ Some (place, child)
 
 -- the node's body gave its job back, and nothing of it runs
 pub record Rests (h : List Event) (node : ℕ) : Type 0 where
   pub closed : is_open h node ≡ false
-  pub still : running h node ≡ false
+  pub still : is_running h node ≡ false
 
 -- a fact for each answer of a move: of the node and the child of a body, and of why there was no move
 abbrev pub MatchNext : {X C D : Type 0} {g : Host.Ghosts X C D} {p : PathHost.Ghosts X} → Next X C D g p → Type 0 → (ℕ → ℕ → Type 0) → (Idle → Type 0) → Type 0

@@ -6,12 +6,12 @@ abbrev pub flag : List Bool → ℕ → Bool
 flag flags n = slice_index_or flags n false
 
 -- each flag says this of its node
-abbrev pub Shows : List Bool → (ℕ → Bool) → Type 0
-Shows flags f = (k : ℕ) → k < length flags → flag flags k ≡ f k
+abbrev pub FlagsAre : List Bool → (ℕ → Bool) → Type 0
+FlagsAre flags f = (k : ℕ) → k < length flags → flag flags k ≡ f k
 
 -- each flag says whether this holds of its node
-abbrev pub Tells : List Bool → (ℕ → Type 0) → Type 0
-Tells flags P = (k : ℕ) → k < length flags → (flag flags k ≡ true → P k) × (flag flags k ≡ false → P k → ⊥)
+abbrev pub FlagsMean : List Bool → (ℕ → Type 0) → Type 0
+FlagsMean flags P = (k : ℕ) → k < length flags → (flag flags k ≡ true → P k) × (flag flags k ≡ false → P k → ⊥)
 
 -- the number is n
 abbrev pub names : Option ℕ → ℕ → Bool

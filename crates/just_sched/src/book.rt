@@ -5,14 +5,14 @@ ghost use Rattle.std.specs.Int.NonZero.{non_zero_u64_get};
 ghost use Rattle.std.proofs.Props.{props};
 ghost use Rattle.just_outside.specs.Record.{children};
 ghost use Rattle.just_sched.specs.Codes.{plan_code};
-ghost use Rattle.just_sched.specs.Start.{Kept, run_of};
-ghost use Rattle.just_sched.specs.Room.{slots, total_commands, settles};
-ghost use Rattle.just_sched.specs.State.{Ready, is_open, running, begun, done, caught, last_start as start_of, next_step as step_of};
+ghost use Rattle.just_sched.specs.Start.{IsKept, run_of};
+ghost use Rattle.just_sched.specs.Room.{slots, total_commands, settle_count};
+ghost use Rattle.just_sched.specs.State.{IsReady, is_open, is_running, is_begun, is_done as done_of, has_caught, last_start as start_of, next_step as step_of};
 ghost use Rattle.just_sched.specs.Legal.{Run, IsClosed, May, open_bodies, in_body};
-ghost use Rattle.just_sched.specs.Match.{Stands};
+ghost use Rattle.just_sched.specs.Match.{StandsFor};
 ghost use Rattle.just_sched.specs.Idle.{IsIdle, CanMove};
 ghost use Rattle.just_sched.specs.Verdict.{IsVerdict};
-ghost use Rattle.just_sched.specs.Moves.{Grown, Settled, RunsWith, Rests, MatchNext};
+ghost use Rattle.just_sched.specs.Moves.{GrowsBy, Settled, RunsWith, Rests, MatchNext};
 ghost use base.Stored.{Coded-set};
 
 use super::calls::{banner, planned, start_child, tell};
@@ -43,10 +43,10 @@ pub struct Book<H: Host + Drop, P: Naming> {
     of: PhantomData<P>,
     pub ghost plan_named: { plan ≡ P.start.plan } by { Coded-set plan_code plan P.start.plan },
     pub ghost jobs_named: { option_map non_zero_u64_get jobs ≡ P.start.jobs } by { Prim.hlevel props },
-    pub ghost kept: { ∥ Kept P.start history.items (H.entries host) (H.world host) ∥₁ },
-    pub ghost calm: { caught history.items ≡ false },
+    pub ghost kept: { ∥ IsKept P.start history.items (H.entries host) (H.world host) ∥₁ },
+    pub ghost calm: { has_caught history.items ≡ false },
     ghost roomy: { slots P.start.plan.nodes ≤ vec_capacity history },
-    ghost spared: { total_commands P.start.plan.nodes ≤ H.spare host + settles history.items },
+    ghost spared: { total_commands P.start.plan.nodes ≤ H.spare host + settle_count history.items },
     ghost counted: { taken ≡ open_bodies (run_of P.start) history.items },
     ghost bound: { MatchOption P.start.jobs (Unit {0}) (λ j. taken ≤ j) } by { Prim.hlevel props },
     ghost sized: { tables.size ≡ length P.start.plan.nodes },
@@ -133,7 +133,7 @@ impl<H: Host + Drop, P: Naming> Book<H, P> {
         ensures jobs { self.new.jobs ≡ self.old.jobs }
         ensures can { MatchNext result (CanMove (run_of P.start) self.old.history.items) (λ node child. CanMove (run_of P.start) self.old.history.items) (λ i. IsIdle (run_of P.start) self.old.history.items i) }
         ensures did { MatchNext result (Settled self.old.history.items self.new.history.items)
-            (λ node child. Grown self.old.history.items self.new.history.items node × (is_open self.old.history.items node ≡ false) × RunsWith self.new.history.items node child)
+            (λ node child. GrowsBy self.old.history.items self.new.history.items node × (is_open self.old.history.items node ≡ false) × RunsWith self.new.history.items node child)
             (λ i. (self.new.history.items ≡ self.old.history.items) × (H.entries self.new.host ≡ H.entries self.old.host)) }
     {
         let Some(node) = self.first_ready() else {
@@ -152,9 +152,9 @@ impl<H: Host + Drop, P: Naming> Book<H, P> {
         ensures plan { self.new.plan ≡ self.old.plan }
         ensures jobs { self.new.jobs ≡ self.old.jobs }
         ensures node { result.node ≡ body.node }
-        ensures grown { Grown self.old.history.items self.new.history.items body.node }
+        ensures grown { GrowsBy self.old.history.items self.new.history.items body.node }
         ensures opened { is_open self.new.history.items body.node ≡ true }
-        ensures still { running self.new.history.items body.node ≡ false }
+        ensures still { is_running self.new.history.items body.node ≡ false }
     {
         let (node, child, ended) = body.take_apart();
         self.settle(node, child, ended);
@@ -164,10 +164,10 @@ impl<H: Host + Drop, P: Naming> Book<H, P> {
     /// Goes on with a body that runs no child, until one runs or the job is given back.
     pub fn go_on(&mut self, body: HeldBody) -> Next<H>
         requires opened { is_open self.old.history.items body.node ≡ true }
-        requires still { running self.old.history.items body.node ≡ false }
+        requires still { is_running self.old.history.items body.node ≡ false }
         ensures plan { self.new.plan ≡ self.old.plan }
         ensures jobs { self.new.jobs ≡ self.old.jobs }
-        ensures grown { Grown self.old.history.items self.new.history.items body.node }
+        ensures grown { GrowsBy self.old.history.items self.new.history.items body.node }
         ensures did { MatchNext result (Rests self.new.history.items body.node)
             (λ node child. (node ≡ body.node) × RunsWith self.new.history.items node child)
             (λ i. ⊥) }
@@ -181,8 +181,8 @@ impl<H: Host + Drop, P: Naming> Book<H, P> {
         ensures host { result.host ≡ self.host }
         ensures plan { result.plan ≡ self.plan }
         ensures history { result.history ≡ self.history.items }
-        ensures kept { ∥ Kept P.start result.history (H.entries result.host) (H.world result.host) ∥₁ }
-        ensures calm { caught result.history ≡ false }
+        ensures kept { ∥ IsKept P.start result.history (H.entries result.host) (H.world result.host) ∥₁ }
+        ensures calm { has_caught result.history ≡ false }
         ensures verdict { IsVerdict (run_of P.start) result.history result.verdict }
     {
         let Book {
@@ -206,8 +206,8 @@ impl<H: Host + Drop, P: Naming> Book<H, P> {
     /// The first node that is ready.
     fn first_ready(&mut self) -> Option<u32>
         ensures same { (self.new.history ≡ self.old.history) × (self.new.plan ≡ self.old.plan) × (self.new.jobs ≡ self.old.jobs) × (self.new.host ≡ self.old.host) × (self.new.taken ≡ self.old.taken) }
-        ensures ready { IfSome result (λ n. (n < length P.start.plan.nodes) × Ready P.start.plan.nodes P.start.plan.invocations self.old.history.items n) }
-        ensures none { IfNone result ((n : ℕ) → n < length P.start.plan.nodes → Ready P.start.plan.nodes P.start.plan.invocations self.old.history.items n → ⊥) }
+        ensures ready { IfSome result (λ n. (n < length P.start.plan.nodes) × IsReady P.start.plan.nodes P.start.plan.invocations self.old.history.items n) }
+        ensures none { IfNone result ((n : ℕ) → n < length P.start.plan.nodes → IsReady P.start.plan.nodes P.start.plan.invocations self.old.history.items n → ⊥) }
     {
         let plan = &self.plan;
         let history = self.history.as_slice();
@@ -238,7 +238,7 @@ impl<H: Host + Drop, P: Naming> Book<H, P> {
 
     /// Whether the node's body was begun.
     fn is_begun(&self, node: u32) -> bool
-        ensures { result ≡ begun self.now.history.items node }
+        ensures { result ≡ is_begun self.now.history.items node }
     {
         self.history
             .iter()
@@ -255,16 +255,16 @@ impl<H: Host + Drop, P: Naming> Book<H, P> {
 
     /// The node's body takes a job.
     fn take(&mut self, node: u32)
-        requires ready { Ready P.start.plan.nodes P.start.plan.invocations self.old.history.items node }
+        requires ready { IsReady P.start.plan.nodes P.start.plan.invocations self.old.history.items node }
         requires range { node < length P.start.plan.nodes }
         requires free { MatchOption P.start.jobs (Unit {0}) (λ j. open_bodies (run_of P.start) self.old.history.items < j) }
         ensures plan { self.new.plan ≡ self.old.plan }
         ensures jobs { self.new.jobs ≡ self.old.jobs }
-        ensures grown { Grown self.old.history.items self.new.history.items node }
+        ensures grown { GrowsBy self.old.history.items self.new.history.items node }
         ensures longer { length self.old.history.items < length self.new.history.items }
-        ensures was { (is_open self.old.history.items node ≡ false) × (running self.old.history.items node ≡ false) }
+        ensures was { (is_open self.old.history.items node ≡ false) × (is_running self.old.history.items node ≡ false) }
         ensures opened { is_open self.new.history.items node ≡ true }
-        ensures still { running self.new.history.items node ≡ false }
+        ensures still { is_running self.new.history.items node ≡ false }
     {
         self.taken += 1;
         self.history.push_reserved(Event::Took(node));
@@ -273,10 +273,10 @@ impl<H: Host + Drop, P: Naming> Book<H, P> {
     /// The node's body gives its job back.
     fn give(&mut self, node: u32)
         requires opened { is_open self.old.history.items node ≡ true }
-        requires over { done self.old.history.items node ≡ true }
+        requires over { done_of self.old.history.items node ≡ true }
         ensures plan { self.new.plan ≡ self.old.plan }
         ensures jobs { self.new.jobs ≡ self.old.jobs }
-        ensures grown { Grown self.old.history.items self.new.history.items node }
+        ensures grown { GrowsBy self.old.history.items self.new.history.items node }
         ensures rests { Rests self.new.history.items node }
     {
         self.taken -= 1;
@@ -286,13 +286,13 @@ impl<H: Host + Drop, P: Naming> Book<H, P> {
     /// The node's body is done by its statuses.
     fn end(&mut self, node: u32, outcome: Outcome)
         requires may { May (run_of P.start) self.old.history.items (Event.Done node outcome) }
-        requires stands { Stands (run_of P.start) self.old.history.items (Event.Done node outcome) [] }
+        requires stands { StandsFor (run_of P.start) self.old.history.items (Event.Done node outcome) [] }
         requires opened { is_open self.old.history.items node ≡ true }
         ensures plan { self.new.plan ≡ self.old.plan }
         ensures jobs { self.new.jobs ≡ self.old.jobs }
-        ensures grown { Grown self.old.history.items self.new.history.items node }
+        ensures grown { GrowsBy self.old.history.items self.new.history.items node }
         ensures opened { is_open self.new.history.items node ≡ true }
-        ensures over { done self.new.history.items node ≡ true }
+        ensures over { done_of self.new.history.items node ≡ true }
     {
         self.history.push_reserved(Event::Done(node, outcome));
     }
@@ -300,15 +300,15 @@ impl<H: Host + Drop, P: Naming> Book<H, P> {
     /// Begins the node's body, and prints its banner; false where that failed, by which the body is done.
     fn begin(&mut self, node: u32) -> bool
         requires inside { in_body self.old.history.items node ≡ true }
-        requires fresh { begun self.old.history.items node ≡ false }
-        requires still { running self.old.history.items node ≡ false }
+        requires fresh { is_begun self.old.history.items node ≡ false }
+        requires still { is_running self.old.history.items node ≡ false }
         ensures plan { self.new.plan ≡ self.old.plan }
         ensures jobs { self.new.jobs ≡ self.old.jobs }
-        ensures grown { Grown self.old.history.items self.new.history.items node }
+        ensures grown { GrowsBy self.old.history.items self.new.history.items node }
         ensures opened { is_open self.new.history.items node ≡ true }
         ensures did { MatchBool result
-            ((in_body self.new.history.items node ≡ true) × (begun self.new.history.items node ≡ true) × (running self.new.history.items node ≡ false))
-            (done self.new.history.items node ≡ true) }
+            ((in_body self.new.history.items node ≡ true) × (is_begun self.new.history.items node ≡ true) × (is_running self.new.history.items node ≡ false))
+            (done_of self.new.history.items node ≡ true) }
     {
         let plan = &self.plan;
         match tell(&mut self.host, banner(plan, node)) {
@@ -327,14 +327,14 @@ impl<H: Host + Drop, P: Naming> Book<H, P> {
     /// Starts a command of the node; None where that failed, by which the body is done.
     fn start(&mut self, node: u32, place: usize) -> Option<OpenBody<H>>
         requires inside { in_body self.old.history.items node ≡ true }
-        requires begun { begun self.old.history.items node ≡ true }
-        requires still { running self.old.history.items node ≡ false }
+        requires begun { is_begun self.old.history.items node ≡ true }
+        requires still { is_running self.old.history.items node ≡ false }
         requires due { step_of P.start.plan.nodes self.old.history.items node ≡ Step.Start place }
         ensures plan { self.new.plan ≡ self.old.plan }
         ensures jobs { self.new.jobs ≡ self.old.jobs }
-        ensures grown { Grown self.old.history.items self.new.history.items node }
+        ensures grown { GrowsBy self.old.history.items self.new.history.items node }
         ensures did { MatchOption result
-            ((is_open self.new.history.items node ≡ true) × (done self.new.history.items node ≡ true))
+            ((is_open self.new.history.items node ≡ true) × (done_of self.new.history.items node ≡ true))
             (λ b. (b.node ≡ node) × RunsWith self.new.history.items node b.child) }
     {
         let plan = &self.plan;
@@ -362,9 +362,9 @@ impl<H: Host + Drop, P: Naming> Book<H, P> {
         requires own { H.done_number ended ≡ child }
         ensures plan { self.new.plan ≡ self.old.plan }
         ensures jobs { self.new.jobs ≡ self.old.jobs }
-        ensures grown { Grown self.old.history.items self.new.history.items node }
+        ensures grown { GrowsBy self.old.history.items self.new.history.items node }
         ensures opened { is_open self.new.history.items node ≡ true }
-        ensures still { running self.new.history.items node ≡ false }
+        ensures still { is_running self.new.history.items node ≡ false }
     {
         let place = self.place(node);
         match self.host.settle(child, ended) {
@@ -381,11 +381,11 @@ impl<H: Host + Drop, P: Naming> Book<H, P> {
     /// Starts the next command of a body that was begun, or ends it and gives its job back.
     fn step(&mut self, node: u32) -> Next<H>
         requires inside { in_body self.old.history.items node ≡ true }
-        requires begun { begun self.old.history.items node ≡ true }
-        requires still { running self.old.history.items node ≡ false }
+        requires begun { is_begun self.old.history.items node ≡ true }
+        requires still { is_running self.old.history.items node ≡ false }
         ensures plan { self.new.plan ≡ self.old.plan }
         ensures jobs { self.new.jobs ≡ self.old.jobs }
-        ensures grown { Grown self.old.history.items self.new.history.items node }
+        ensures grown { GrowsBy self.old.history.items self.new.history.items node }
         ensures did { MatchNext result (Rests self.new.history.items node)
             (λ n child. (n ≡ node) × RunsWith self.new.history.items n child)
             (λ i. ⊥) }
@@ -406,10 +406,10 @@ impl<H: Host + Drop, P: Naming> Book<H, P> {
     /// Goes on with an open body that runs no child: it is begun, where it wasn't, and then makes a step.
     fn advance(&mut self, node: u32) -> Next<H>
         requires opened { is_open self.old.history.items node ≡ true }
-        requires still { running self.old.history.items node ≡ false }
+        requires still { is_running self.old.history.items node ≡ false }
         ensures plan { self.new.plan ≡ self.old.plan }
         ensures jobs { self.new.jobs ≡ self.old.jobs }
-        ensures grown { Grown self.old.history.items self.new.history.items node }
+        ensures grown { GrowsBy self.old.history.items self.new.history.items node }
         ensures did { MatchNext result (Rests self.new.history.items node)
             (λ n child. (n ≡ node) × RunsWith self.new.history.items n child)
             (λ i. ⊥) }

@@ -1,8 +1,8 @@
 //! Which node a book takes next, and how a run went.
 
 ghost use Rattle.std.specs.Prelude.{◌≡◌, ◌<◌, ◌||◌, ◌&&◌, not, ℕ, List, true, false, length, vec_len, IfOk, IfSome, IfNone, Option, Some, None};
-ghost use Rattle.just_sched.specs.Tables.{Shows, Tells};
-ghost use Rattle.just_sched.specs.State.{took, done, is_open, Finished, Wanted, Ready, reason_of as failure_of};
+ghost use Rattle.just_sched.specs.Tables.{FlagsAre, FlagsMean};
+ghost use Rattle.just_sched.specs.State.{has_taken, is_done, is_open, IsFinished, IsWanted, IsReady, reason_of as failure_of};
 ghost use Rattle.just_sched.specs.Legal.{Run, IsComplete};
 ghost use Rattle.just_sched.specs.Verdict.{IsVerdict, decides as decisive};
 
@@ -26,11 +26,11 @@ fn is_ready(
     requires wanted_sized { length wanted.now ≡ length plan.now.nodes }
     requires taken_sized { length taken.now ≡ length plan.now.nodes }
     requires finished_sized { length finished.now ≡ length plan.now.nodes }
-    requires wanted { Tells wanted.now (Wanted plan.now.nodes plan.now.invocations history.now) }
-    requires taken { Shows taken.now (λ n. took history.now n || done history.now n) }
-    requires finished { Tells finished.now (Finished plan.now.nodes history.now) }
-    ensures is { result ≡ true → Ready plan.now.nodes plan.now.invocations history.now at }
-    ensures not_so { result ≡ false → Ready plan.now.nodes plan.now.invocations history.now at → ⊥ }
+    requires wanted { FlagsMean wanted.now (IsWanted plan.now.nodes plan.now.invocations history.now) }
+    requires taken { FlagsAre taken.now (λ n. has_taken history.now n || is_done history.now n) }
+    requires finished { FlagsMean finished.now (IsFinished plan.now.nodes history.now) }
+    ensures is { result ≡ true → IsReady plan.now.nodes plan.now.invocations history.now at }
+    ensures not_so { result ≡ false → IsReady plan.now.nodes plan.now.invocations history.now at → ⊥ }
 {
     let _events = history.len();
     if !wanted[at] || taken[at] {
@@ -51,11 +51,11 @@ fn first_by(
     requires wanted_sized { length wanted.now ≡ length plan.now.nodes }
     requires taken_sized { length taken.now ≡ length plan.now.nodes }
     requires finished_sized { length finished.now ≡ length plan.now.nodes }
-    requires wanted { Tells wanted.now (Wanted plan.now.nodes plan.now.invocations history.now) }
-    requires taken { Shows taken.now (λ n. took history.now n || done history.now n) }
-    requires finished { Tells finished.now (Finished plan.now.nodes history.now) }
-    ensures ready { IfSome result (λ n. (n < length plan.now.nodes) × Ready plan.now.nodes plan.now.invocations history.now n) }
-    ensures none { IfNone result ((n : ℕ) → n < length plan.now.nodes → Ready plan.now.nodes plan.now.invocations history.now n → ⊥) }
+    requires wanted { FlagsMean wanted.now (IsWanted plan.now.nodes plan.now.invocations history.now) }
+    requires taken { FlagsAre taken.now (λ n. has_taken history.now n || is_done history.now n) }
+    requires finished { FlagsMean finished.now (IsFinished plan.now.nodes history.now) }
+    ensures ready { IfSome result (λ n. (n < length plan.now.nodes) × IsReady plan.now.nodes plan.now.invocations history.now n) }
+    ensures none { IfNone result ((n : ℕ) → n < length plan.now.nodes → IsReady plan.now.nodes plan.now.invocations history.now n → ⊥) }
 {
     for at in 0..plan.nodes.len() {
         if is_ready(plan, history, at, wanted, taken, finished) {
@@ -101,8 +101,8 @@ impl Tables {
     pub(crate) fn first_ready(&mut self, plan: &Plan, history: &[Event]) -> Option<u32>
         requires { self.old.size ≡ length plan.now.nodes }
         ensures size { self.new.size ≡ self.old.size }
-        ensures ready { IfSome result (λ n. (n < length plan.now.nodes) × Ready plan.now.nodes plan.now.invocations history.now n) }
-        ensures none { IfNone result ((n : ℕ) → n < length plan.now.nodes → Ready plan.now.nodes plan.now.invocations history.now n → ⊥) }
+        ensures ready { IfSome result (λ n. (n < length plan.now.nodes) × IsReady plan.now.nodes plan.now.invocations history.now n) }
+        ensures none { IfNone result ((n : ℕ) → n < length plan.now.nodes → IsReady plan.now.nodes plan.now.invocations history.now n → ⊥) }
     {
         let over = self.over.as_mut_slice();
         let taken = self.taken.as_mut_slice();
@@ -152,7 +152,7 @@ fn is_settled(history: &[Event], node: u32, finished: bool) -> bool
 /// Whether each node is finished and none is open.
 fn is_complete(plan: &Plan, history: &[Event], finished: &[bool]) -> bool
     requires sized { length finished.now ≡ length plan.now.nodes }
-    requires finished { Tells finished.now (Finished plan.now.nodes history.now) }
+    requires finished { FlagsMean finished.now (IsFinished plan.now.nodes history.now) }
     ensures is { result ≡ true → (s : Run) → s.nodes ≡ plan.now.nodes → IsComplete s history.now }
     ensures not_so { result ≡ false → (s : Run) → s.nodes ≡ plan.now.nodes → IsComplete s history.now → ⊥ }
 {

@@ -4,7 +4,7 @@ ghost use Rattle.std.specs.Prelude.{◌≡◌, ◌-◌, ◌<◌, ◌≤◌, ◌^
 ghost use Rattle.std.specs.Option.{option_copied};
 ghost use Rattle.std.specs.List.{last_or};
 ghost use Rattle.just_sched.specs.Works.{commands_of, judged, start_or_well, is_code as code_is, after as step_after, WentOn};
-ghost use Rattle.just_sched.specs.State.{took, gave, done, last_start as start_of, next_step as step_of, reason_of as failure_of, is_open as open_of, caught_signal as signal_of, statuses};
+ghost use Rattle.just_sched.specs.State.{has_taken, has_given, is_done as done_of, last_start as start_of, next_step as step_of, reason_of as failure_of, is_open as open_of, caught_signal as signal_of, statuses};
 ghost use Rattle.just_sched.specs.Nodes.{work_at};
 
 use super::{Command, Event, Outcome, Plan, Reason, Step, Work};
@@ -70,7 +70,7 @@ pub fn after(work: &Work, statuses: &[Status]) -> Step
 
 /// Whether the node's body took a job.
 pub(crate) fn is_taken(history: &[Event], node: u32) -> bool
-    ensures { result ≡ took history.now node }
+    ensures { result ≡ has_taken history.now node }
 {
     history
         .iter()
@@ -79,7 +79,7 @@ pub(crate) fn is_taken(history: &[Event], node: u32) -> bool
 
 /// Whether the node's body is done.
 pub(crate) fn is_done(history: &[Event], node: u32) -> bool
-    ensures { result ≡ done history.now node }
+    ensures { result ≡ done_of history.now node }
 {
     history
         .iter()
@@ -135,7 +135,7 @@ pub fn reason_of(history: &[Event], node: u32) -> Option<Reason>
 
 /// Whether the node's body gave its job back.
 pub(crate) fn is_given_back(history: &[Event], node: u32) -> bool
-    ensures { result ≡ gave history.now node }
+    ensures { result ≡ has_given history.now node }
 {
     history
         .iter()

@@ -1,14 +1,14 @@
 //! Flags of nodes, made by one pass over the history or over the plan. Nothing here but `new` takes memory.
 
 ghost use Rattle.std.specs.Prelude.{◌≡◌, ◌||◌, ◌==◌, ◌&&◌, ◌<◌, ◌⊎◌, ℕ, Bool, true, false, Option, Some, None, length, IfOk, IfSome, IfNone, Contains, replicate, slice_index};
-ghost use Rattle.just_sched.specs.Tables.{flag, Shows, Tells, names, InRange};
-ghost use Rattle.just_sched.specs.State.{is_skipped, is_well, is_took, is_done, over_well, took, done, Finished, Leads};
+ghost use Rattle.just_sched.specs.Tables.{flag, FlagsAre, FlagsMean, names, InRange};
+ghost use Rattle.just_sched.specs.State.{skips, concludes_well, takes, concludes, is_over_well, has_taken, is_done, IsFinished, MayComeNext};
 
 use super::{Event, Outcome, Plan};
 
 /// The node that the event shows to be over well.
 fn over_by(event: &Event) -> Option<u32>
-    ensures { (n : ℕ) → names result n ≡ (is_skipped n event.now || is_well n event.now) }
+    ensures { (n : ℕ) → names result n ≡ (skips n event.now || concludes_well n event.now) }
 {
     match event {
         Event::Skipped(node) | Event::Done(node, Outcome::Well) => Some(*node),
@@ -18,7 +18,7 @@ fn over_by(event: &Event) -> Option<u32>
 
 /// The node that the event shows to be taken or done.
 fn taken_by(event: &Event) -> Option<u32>
-    ensures { (n : ℕ) → names result n ≡ (is_took n event.now || is_done n event.now) }
+    ensures { (n : ℕ) → names result n ≡ (takes n event.now || concludes n event.now) }
 {
     match event {
         Event::Took(node) | Event::Done(node, _) => Some(*node),
@@ -40,7 +40,7 @@ fn set(flags: &mut [bool], node: Option<u32>)
 
 /// Takes all flags down.
 pub(crate) fn clear(flags: &mut [bool])
-    ensures { Shows flags.new (λ _. false) }
+    ensures { FlagsAre flags.new (λ _. false) }
 {
     for flag in flags.iter_mut() {
         *flag = false;
@@ -49,7 +49,7 @@ pub(crate) fn clear(flags: &mut [bool])
 
 /// Flags the nodes that are over well.
 pub(crate) fn mark_over(history: &[Event], flags: &mut [bool])
-    ensures { Shows flags.new (over_well history.now) }
+    ensures { FlagsAre flags.new (is_over_well history.now) }
 {
     clear(flags);
     for event in history {
@@ -59,7 +59,7 @@ pub(crate) fn mark_over(history: &[Event], flags: &mut [bool])
 
 /// Flags the nodes that took a job or are done.
 pub(crate) fn mark_taken(history: &[Event], flags: &mut [bool])
-    ensures { Shows flags.new (λ n. took history.now n || done history.now n) }
+    ensures { FlagsAre flags.new (λ n. has_taken history.now n || is_done history.now n) }
 {
     clear(flags);
     for event in history {
@@ -93,7 +93,7 @@ fn stays(nodes: &[u32], own: bool, flags: &[bool]) -> bool
 /// Flags the nodes that are finished: over well, with all their subsequents finished.
 pub(crate) fn mark_finished(plan: &Plan, history: &[Event], flags: &mut [bool])
     requires { length flags.old ≡ length plan.now.nodes }
-    ensures { Tells flags.new (Finished plan.now.nodes history.now) }
+    ensures { FlagsMean flags.new (IsFinished plan.now.nodes history.now) }
 {
     mark_over(history, flags);
     let nodes = plan.nodes.as_slice();
@@ -110,8 +110,8 @@ pub(crate) fn lead(nodes: &[u32], together: bool, finished: &[bool], flags: &mut
     requires within { InRange nodes.now flags.old }
     requires alike { length finished.now ≡ length flags.old }
     ensures keeps { (k : ℕ) → flag flags.old k ≡ true → flag flags.new k ≡ true }
-    ensures marks { (k : ℕ) → Leads (λ q. flag finished.now q ≡ true) together nodes.now k → flag flags.new k ≡ true }
-    ensures only { (k : ℕ) → flag flags.new k ≡ true → (flag flags.old k ≡ true) ⊎ Leads (λ q. flag finished.now q ≡ true) together nodes.now k }
+    ensures marks { (k : ℕ) → MayComeNext (λ q. flag finished.now q ≡ true) together nodes.now k → flag flags.new k ≡ true }
+    ensures only { (k : ℕ) → flag flags.new k ≡ true → (flag flags.old k ≡ true) ⊎ MayComeNext (λ q. flag finished.now q ≡ true) together nodes.now k }
 {
     for node in nodes {
         flags[*node as usize] = true;

@@ -1,5 +1,5 @@
 use Rattle.std.proofs.Common.{refl, ap, ◌∙◌, subst}
-use Rattle.just_sched.specs.State.{running}
+use Rattle.just_sched.specs.State.{is_running}
 use Rattle.just_sched.specs.Moves.{Rests}
 use Rattle.just_sched.proofs.Books.{grown_none, grown_turn}
 use Rattle.just_sched.proofs.driving.finish.Goals as goal
@@ -8,7 +8,7 @@ pub steps-init : goal.steps-init
 steps-init g c = record { runs = c.requires; same = refl; grown = grown_none c.args.book.now.history.items c.args.first.node; plan = refl }
 
 pub go_on-requires-clause-still : goal.go_on-requires-clause-still
-go_on-requires-clause-still g c _ _ = ap (λ n. running c.note_end-held.new.self.history.items n) c.note_end-held.ensures.node ∙ c.note_end-held.ensures.still
+go_on-requires-clause-still g c _ _ = ap (λ n. is_running c.note_end-held.new.self.history.items n) c.note_end-held.ensures.node ∙ c.note_end-held.ensures.still
 
 pub steps-preserved : goal.steps-preserved
 steps-preserved g c =

@@ -1,5 +1,5 @@
 use Rattle.std.proofs.Common.{ap, sym, ◌∙◌}
-use Rattle.just_sched.specs.State.{done}
+use Rattle.just_sched.specs.State.{is_done}
 use Rattle.just_sched.specs.Legal.{in_body}
 use Rattle.just_sched.proofs.Books.{inside_open, grown_none, grown_two, grown_on}
 use Rattle.just_sched.proofs.book.Book.advance.Goals as goal
@@ -8,7 +8,7 @@ use Rattle.just_sched.proofs.book.Book.advance.Goals.{else-not-is_begun-via-then
 pub begin-requires-clause-inside : goal.begin-requires-clause-inside
 begin-requires-clause-inside g c _ _ =
     let s = c.args.self.now in
-    inside_open g.P.Naming.start s.history.items _ _ c.args.node s.kept c.requires.opened (ap (λ h. done h c.args.node) (sym c.as_slice.ensures.value) ∙ sym c.if-is_done.ensures)
+    inside_open g.P.Naming.start s.history.items _ _ c.args.node s.kept c.requires.opened (ap (λ h. is_done h c.args.node) (sym c.as_slice.ensures.value) ∙ sym c.if-is_done.ensures)
 
 pub returns-then-not-begin-clause-grown : goal.returns-then-not-begin-clause-grown
 returns-then-not-begin-clause-grown g c = grown_two c.args.self.now.history.items _ _ c.args.node c.begin.ensures.grown c.give-then-not-begin.ensures.grown
@@ -18,7 +18,7 @@ step-requires-clause-inside g c _ _ =
     let s = c.args.self.now in
     elim c.else-not-is_begun.branch [
       | else-not-is_begun-via-then-not-is_begun+else-not-begin w ↦ ap (λ b. in_body b.history.items c.args.node) w.self-is ∙ w.if-not-begin.ensures.did.0
-      | else-not-is_begun-via-else-not-is_begun w ↦ ap (λ b. in_body b.history.items c.args.node) w.self-is ∙ inside_open g.P.Naming.start s.history.items _ _ c.args.node s.kept c.requires.opened (ap (λ h. done h c.args.node) (sym c.as_slice.ensures.value) ∙ sym c.if-is_done.ensures)
+      | else-not-is_begun-via-else-not-is_begun w ↦ ap (λ b. in_body b.history.items c.args.node) w.self-is ∙ inside_open g.P.Naming.start s.history.items _ _ c.args.node s.kept c.requires.opened (ap (λ h. is_done h c.args.node) (sym c.as_slice.ensures.value) ∙ sym c.if-is_done.ensures)
     ]
 
 pub returns-clause-grown : goal.returns-clause-grown

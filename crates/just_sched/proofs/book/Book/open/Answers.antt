@@ -1,6 +1,6 @@
 use Rattle.std.proofs.Common.{arith, ap, ◌∙◌, length}
 use Rattle.just_sched.specs.Start.{run_of}
-use Rattle.just_sched.specs.State.{caught}
+use Rattle.just_sched.specs.State.{has_caught}
 use Rattle.just_sched.specs.Room.{slots, total_commands}
 use Rattle.just_sched.proofs.Books.{kept_none, counted_none, bound_none}
 use Rattle.just_sched.proofs.book.Book.open.Goals as goal
@@ -9,7 +9,7 @@ pub invariant_of-result-clause-kept : goal.invariant_of-result-clause-kept
 invariant_of-result-clause-kept g c = kept_none g.P.Naming.start c.in-Ok.field-0.history.items _ _ c.in-Ok.ensures.empty (c.in-Ok.ensures.entries ∙ c.requires.entries) (c.in-Ok.ensures.world ∙ c.requires.world)
 
 pub invariant_of-result-clause-calm : goal.invariant_of-result-clause-calm
-invariant_of-result-clause-calm g c = ap caught c.in-Ok.ensures.empty
+invariant_of-result-clause-calm g c = ap has_caught c.in-Ok.ensures.empty
 
 pub invariant_of-result-clause-roomy : goal.invariant_of-result-clause-roomy
 invariant_of-result-clause-roomy g c = omega (arith, c.in-Ok.ensures.room, ap (λ p. slots p.nodes) c.args.plan.named)
