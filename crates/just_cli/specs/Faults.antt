@@ -24,9 +24,12 @@ io_error path (fault.Missed m) = error.FilesystemIo path (fault.Missed m)
 io_error path (fault.Failed c) = error.FilesystemIo path (fault.Failed c)
 io_error path fault.NoMemory = error.NoMemory
 
--- what a refusal before the run leaves in the record: the entry of the call that was refused
+-- the entry of the refused call that an error tells, if it tells one
 abbrev pub entries_of : Error → List Entry
 entries_of (error.FilesystemIo path io) = refused path io
+entries_of (error.ShellIo recipe shell io) = refused [] io
+entries_of (error.TempdirIo recipe io) = refused [] io
+entries_of (error.StdoutIo io) = refused [] io
 entries_of _ = []
 
 -- a fault is the call's own, and a miss is the one that is shown, where something is

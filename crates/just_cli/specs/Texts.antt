@@ -52,12 +52,18 @@ failed_text recipe line = recipe_text recipe ++ (codes " failed" ++ line_text li
 abbrev pub terminated_text : List ℕ → Option ℕ → List ℕ
 terminated_text recipe line = recipe_text recipe ++ (codes " was terminated" ++ line_text line)
 
--- a recipe's shell, or the file of its script, had a fault
+-- a recipe that had an I/O error: of its shell, or of the file of its script
+abbrev pub lost_text : List ℕ → List ℕ
+lost_text recipe = codes "error: recipe `" ++ (recipe ++ codes "` could not be run because of an IO error")
+
 abbrev pub shell_text : List ℕ → List ℕ → HostFault → List ℕ
-shell_text recipe shell io = recipe_text recipe ++ (codes " could not be run because of an IO error while launching the shell " ++ (ticked shell ++ (codes ": " ++ fault_text io)))
+shell_text recipe shell io = lost_text recipe ++ (codes " while launching the shell `" ++ (shell ++ (codes "`: " ++ fault_text io)))
+
+abbrev pub write_text : HostFault → List ℕ
+write_text io = codes " or write a file to that directory: " ++ fault_text io
 
 abbrev pub folder_text : List ℕ → HostFault → List ℕ
-folder_text recipe io = recipe_text recipe ++ (codes " could not be run because of an IO error while trying to create a temporary directory or write a file to that directory: " ++ fault_text io)
+folder_text recipe io = lost_text recipe ++ (codes " while trying to create a temporary directory" ++ write_text io)
 
 -- what an error is printed as
 abbrev pub error_text : Error → List ℕ

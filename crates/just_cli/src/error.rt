@@ -3,7 +3,7 @@
 ghost use Rattle.std.specs.Prelude.{◌≡◌, ◌++◌, codes, Some, IfOk, string_bytes};
 ghost use Rattle.std.specs.Fmt.{DisplaysOnOk, signed_decimal};
 ghost use Rattle.just_cli.specs.declared.error.Error.{Error};
-ghost use Rattle.just_cli.specs.Texts.{error_text, code_of, prints, miss_text, fault_text, kind_text, usage_text, line_text, failed_text, terminated_text, shell_text, folder_text};
+ghost use Rattle.just_cli.specs.Texts.{error_text, code_of, prints, miss_text, fault_text, kind_text, usage_text, line_text, failed_text, terminated_text, lost_text, shell_text, write_text, folder_text};
 
 use just_host::{HostFault, Signal};
 use just_lang::{CompileError, CompileKind, Usage, UsageKind};
@@ -181,6 +181,12 @@ fn tell_compile<W: fmt::Write>(error: &CompileError, f: &mut fmt::Formatter<W>) 
     )
 }
 
+fn tell_lost<W: fmt::Write>(recipe: &str, f: &mut fmt::Formatter<W>) -> fmt::Result
+    ensures { DisplaysOnOk W.write_str_gives f.old result (Some (lost_text recipe.now)) f.new }
+{
+    write!(f, "error: recipe `{recipe}` could not be run because of an IO error")
+}
+
 fn tell_shell<W: fmt::Write>(
     recipe: &str,
     shell: &str,
@@ -189,11 +195,21 @@ fn tell_shell<W: fmt::Write>(
 ) -> fmt::Result
     ensures { DisplaysOnOk W.write_str_gives f.old result (Some (shell_text recipe.now shell.now io.now)) f.new }
 {
-    write!(
-        f,
-        "error: recipe `{recipe}` could not be run because of an IO error while launching the shell `{shell}`: {}",
-        fault_text(*io)
-    )
+    tell_lost(recipe, f)?;
+    write!(f, " while launching the shell `{shell}`: {}", fault_text(*io))
+}
+
+fn tell_write<W: fmt::Write>(io: &HostFault, f: &mut fmt::Formatter<W>) -> fmt::Result
+    ensures { DisplaysOnOk W.write_str_gives f.old result (Some (write_text io.now)) f.new }
+{
+    write!(f, " or write a file to that directory: {}", fault_text(*io))
+}
+
+fn tell_attempt<W: fmt::Write>(io: &HostFault, f: &mut fmt::Formatter<W>) -> fmt::Result
+    ensures { DisplaysOnOk W.write_str_gives f.old result (Some (codes " while trying to create a temporary directory" ++ write_text io.now)) f.new }
+{
+    f.write_str(" while trying to create a temporary directory")?;
+    tell_write(io, f)
 }
 
 fn tell_folder<W: fmt::Write>(
@@ -203,11 +219,8 @@ fn tell_folder<W: fmt::Write>(
 ) -> fmt::Result
     ensures { DisplaysOnOk W.write_str_gives f.old result (Some (folder_text recipe.now io.now)) f.new }
 {
-    write!(
-        f,
-        "error: recipe `{recipe}` could not be run because of an IO error while trying to create a temporary directory or write a file to that directory: {}",
-        fault_text(*io)
-    )
+    tell_lost(recipe, f)?;
+    tell_attempt(io, f)
 }
 
 impl fmt::Display for Error {
