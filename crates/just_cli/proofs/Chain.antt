@@ -1,11 +1,11 @@
 -- The chain of a request over a host, from what its calls answered.
-use Rattle.std.proofs.Common.{◌≡◌, inl, inr, ℕ, List, [], Option, option_map, Result, Ok, Err, IfErr, IfOk, refl, sym, ◌∙◌, subst}
+use Rattle.std.proofs.Common.{◌≡◌, inl, inr, ℕ, List, [], Option, option_map, Result, Ok, Err, refl, subst}
 use Rattle.just_outside.specs.declared.entry.Call.TheVariants as call
 use Rattle.just_outside.specs.World.{World}
 use Rattle.just_lang.specs.declared.ast.Source.{Source}
 use Rattle.just_cli.specs.declared.error.Error.{Error}
 use Rattle.just_cli.specs.Faults.{CallGives}
-use Rattle.just_cli.specs.Request.{FolderRequest, Outline, Plans, folder_shown, source_in, HostReads, AsksOver, OrMemory}
+use Rattle.just_cli.specs.Request.{Outline, Plans, folder_shown, source_in, HostReads, AsksOver, OrMemory}
 use Rattle.just_cli.specs.Steps.{stops, goes_on}
 use Rattle.just_cli.specs.Words.{ReadsWords}
 use Rattle.just_cli.proofs.Planned.{source_request}
@@ -22,7 +22,6 @@ no_words words told e (inr breaks) = inr (stops e breaks refl)
 -- the current folder isn't found
 pub no_folder : (words : List (List ℕ)) (name : List ℕ) (told : Option World) (e : Error) → ReadsWords words (Ok name) → CallGives call.Current [] (option_map folder_shown told) (Err e) → RefusesOver words told e
 no_folder words name told e asks lost = inr (goes_on name asks (stops e lost refl))
-
 
 -- its justfile isn't read
 pub no_source : (words : List (List ℕ)) (name folder : List ℕ) (told now : Option World) (e : Error) → ReadsWords words (Ok name) → CallGives call.Current [] (option_map folder_shown told) (Ok folder) → now ≡ told → HostReads now folder (Err e) → RefusesOver words told e

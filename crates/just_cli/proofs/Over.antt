@@ -1,7 +1,6 @@
 -- What words ask for over a host: what they ask for in its world, or a call of the host has no answer.
-use Rattle.std.proofs.Common.{◌≡◌, ◌⊎◌, inl, inr, ◌≤◌, ℕ, true, List, [], length, Option, Some, None, option_map, Result, Ok, Err, refl, sym, ◌∙◌, ap, subst}
+use Rattle.std.proofs.Common.{◌≡◌, ◌⊎◌, inl, inr, ℕ, List, [], Option, Some, None, option_map, Ok, Err, refl, sym, ◌∙◌, ap, subst}
 use Rattle.just_path.specs.declared.host.Miss.{Miss}
-use Rattle.just_outside.specs.declared.entry.Call.{Call}
 use Rattle.just_outside.specs.declared.entry.Call.TheVariants as call
 use Rattle.just_outside.specs.declared.entry.HostFault.{HostFault}
 use Rattle.just_outside.specs.declared.entry.HostFault.TheVariants as fault
@@ -11,7 +10,7 @@ use Rattle.just_cli.specs.declared.error.Error.{Error}
 use Rattle.just_cli.specs.declared.error.Error.TheVariants as error
 use Rattle.just_cli.specs.Faults.{io_error, FaultFits}
 use Rattle.just_cli.specs.Steps.{stops, goes_on}
-use Rattle.just_cli.specs.Request.{FolderRequest, Outline, outline_of, justfile_in, folder_shown, text_shown, Asks, AsksOver, InWorld, IsAsked, HostRefuses, call_failed, call_missed, RefusedFor, by_request, by_host, no_memory, OrMemory}
+use Rattle.just_cli.specs.Request.{Outline, outline_of, justfile_in, folder_shown, text_shown, Asks, AsksOver, InWorld, IsAsked, HostRefuses, call_failed, call_missed, RefusedFor, by_request, by_host, no_memory, OrMemory}
 use Rattle.just_cli.proofs.Worlds.{world_of, reads_in}
 
 -- what holds in each world holds in the host's

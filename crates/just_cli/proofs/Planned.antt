@@ -1,8 +1,7 @@
 -- The steps from a source to its plan, from what the calls of just_lang ensure.
-use Rattle.std.proofs.Common.{◌≡◌, ◌≢◌, ◌≤◌, ◌<◌, inl, inr, ℕ, List, [], ◌∷◌, length, Option, None, Result, Ok, Err, IfOk, IfErr, refl, sym, ◌∙◌, ap, subst, arith}
+use Rattle.std.proofs.Common.{◌≡◌, ◌≢◌, ◌≤◌, inl, inr, ℕ, List, [], ◌∷◌, length, Option, None, Result, Ok, Err, IfOk, IfErr, refl, sym, ◌∙◌, ap, subst, arith}
 use Rattle.std.specs.Prelude.{All, is_some, true}
 use Rattle.std.specs.Result.{IsErrAnd}
-use Rattle.std.proofs.lemmas.Result.{IfErr-weaker}
 use Rattle.just_lang.specs.declared.TheConstants.{CLOSURE_LIMIT}
 use Rattle.just_lang.specs.declared.ast.Recipe.{Recipe}
 use Rattle.just_lang.specs.declared.ast.Source.{Source}
@@ -22,7 +21,7 @@ use Rattle.just_sched.specs.declared.plan.Plan.{Plan}
 use Rattle.just_sched.specs.Planning.{plan_nodes}
 use Rattle.just_cli.specs.declared.error.Error.{Error}
 use Rattle.just_cli.specs.declared.error.Error.TheVariants as error
-use Rattle.just_cli.specs.Request.{SourceRequest, JustfileRequest, KeyRequest, ClosureRequest, Outline, outline_of, Plans, ReadsJustfile, NamesKeys, error_of_lang, OrMemory}
+use Rattle.just_cli.specs.Request.{SourceRequest, JustfileRequest, KeyRequest, Outline, outline_of, Plans, ReadsJustfile, NamesKeys, error_of_lang, OrMemory}
 use Rattle.just_cli.specs.Steps.{Then, stops, goes_on}
 
 abbrev pub source_request : List ℕ → Source → SourceRequest

@@ -1,11 +1,9 @@
 -- Each step of a request gives one answer at most, and so does the request.
-use Rattle.std.proofs.Common.{◌≡◌, ◌≤◌, ◌<◌, ℕ, List, [], ◌∷◌, length, Result, Ok, Err, refl, sym, ◌∙◌, ap, subst, arith}
+use Rattle.std.proofs.Common.{◌≡◌, ℕ, List, [], ◌∷◌, Result, Ok, Err, sym, ◌∙◌, ap, subst, arith}
 use Rattle.just_path.specs.declared.host.Miss.{Miss}
 use Rattle.just_outside.specs.declared.entry.HostFault.TheVariants as fault
 use Rattle.just_outside.specs.World.{World}
 use Rattle.just_lang.specs.declared.ast.AstItem.{AstItem}
-use Rattle.just_lang.specs.declared.ast.Recipe.{Recipe}
-use Rattle.just_lang.specs.declared.error.CompileError.{CompileError}
 use Rattle.just_lang.specs.declared.error.LangError.{LangError}
 use Rattle.just_lang.specs.declared.error.LangError.TheVariants as lang
 use Rattle.just_lang.specs.declared.usage.UsageKind.TheVariants as usage
@@ -15,7 +13,7 @@ use Rattle.just_cli.specs.declared.error.Error.{Error}
 use Rattle.just_cli.specs.declared.error.Error.TheVariants as error
 use Rattle.just_cli.specs.Faults.{ShowsAt}
 use Rattle.just_cli.specs.Words.{AsksFor, BreaksForm, no_word, no_name, one_more, ReadsWords}
-use Rattle.just_cli.specs.Request.{FolderRequest, JustfileRequest, Outline, source_in, justfile_in, FindsFolder, ReadsSource, ReadsJustfile, NamesKeys, ClosesKeys, MakesPlan, Plans, Steps, folder_shown, text_shown, Asks}
+use Rattle.just_cli.specs.Request.{FolderRequest, JustfileRequest, Outline, source_in, justfile_in, FindsFolder, ReadsSource, ReadsJustfile, NamesKeys, ClosesKeys, MakesPlan, Plans, folder_shown, text_shown, Asks}
 use Rattle.just_cli.proofs.Steps.{GivesOne, same_refusal, refused_or_found, same_found, then_one}
 
 -- ---- the words

@@ -1,6 +1,6 @@
 -- A run keeps its promise: from what its steps, its drive and the telling of its error ensure.
-use Rattle.std.proofs.Common.{◌≡◌, ◌⊎◌, ◌++◌, inl, inr, true, List, [], ◌∷◌, Option, Some, None, Result, Ok, Err, refl, sym, ◌∙◌, ap, subst, append_assoc, append-nil}
-use Rattle.std.specs.Prelude.{ℕ, IfErr, MatchOption}
+use Rattle.std.proofs.Common.{◌≡◌, ◌⊎◌, ◌++◌, true, List, [], Option, Some, None, Result, Ok, Err, refl, sym, ◌∙◌, ap, subst, append_assoc, append-nil}
+use Rattle.std.specs.Prelude.{ℕ}
 use Rattle.std.proofs.Math.Logic.{∥∥₁_map}
 use Rattle.just_outside.specs.World.{World}
 use Rattle.just_outside.specs.declared.entry.Entry.{Entry}
@@ -12,7 +12,7 @@ use Rattle.just_sched.specs.declared.plan_node.PlanNode.{PlanNode}
 use Rattle.just_sched.specs.Driven.{IsDriven}
 use Rattle.just_sched.specs.Idle.{HasWork}
 use Rattle.just_sched.specs.Legal.{Run, IsComplete}
-use Rattle.just_sched.specs.Start.{IsKept, run_of, run_over, start_with}
+use Rattle.just_sched.specs.Start.{IsKept, run_over, start_with}
 use Rattle.just_sched.specs.State.{has_caught}
 use Rattle.just_sched.specs.Verdict.{IsVerdict, NoneDecides}
 use Rattle.just_cli.specs.declared.ended.Failure.{Failure}
@@ -20,8 +20,8 @@ use Rattle.just_cli.specs.declared.ended.Report.{Report}
 use Rattle.just_cli.specs.declared.error.Error.{Error}
 use Rattle.just_cli.specs.Faults.{entries_of}
 use Rattle.just_cli.specs.Outcome.{IsErrorFor}
-use Rattle.just_cli.specs.Record.{Stretches, IsBook, IsTold, EndsWell, EndsIll, EndsBefore}
-use Rattle.just_cli.specs.Request.{outline_of, AsksOver, IsAsked, RefusedFor, OrMemory}
+use Rattle.just_cli.specs.Record.{IsBook, IsTold, EndsWell, EndsIll, EndsBefore}
+use Rattle.just_cli.specs.Request.{outline_of, AsksOver, RefusedFor, OrMemory}
 use Rattle.just_cli.specs.Run.{IsRun, jobs_for}
 use Rattle.just_cli.specs.Texts.{exit_code}
 use Rattle.just_cli.proofs.Answered.{answered}
@@ -95,19 +95,19 @@ module _ (plan : Plan) (jobs : Option ℕ) (entered : List Entry) (w : Option Wo
 
   ends_ill : (e : Error) (new : List Entry) → IsErrorFor plan.nodes h v (Some e) → IsToldBehind e now new → ∥ EndsIll plan jobs h e entered new ∥₁
   ends_ill e new decided told = ∥∥₁_map d.kept (λ k.
-    let cause = caused (run_over plan jobs entered) h k.gained k.legal k.matches v e d.verdict decided in
-    record {
-      stretches = record { pre = []; mid = k.gained; post = told.0; grew = told.1 ∙ (ap (λ es. es ++ told.0) k.grew ∙ append_assoc entered k.gained told.0) };
-      prepared = refl;
-      book = the_book k;
-      verdict = v;
-      judged = here (λ s. IsVerdict s h v) d.verdict;
-      decided = decided;
-      nothing_left = here (λ s. (has_caught h ≡ true) ⊎ (HasWork s h → ⊥)) d.nothing_left;
-      caused = cause;
-      favoured = memory_left plan.nodes h e k.gained cause;
-      told = told.2;
-    })
+      let cause = caused (run_over plan jobs entered) h k.gained k.legal k.matches v e d.verdict decided in
+      record {
+        stretches = record { pre = []; mid = k.gained; post = told.0; grew = told.1 ∙ (ap (λ es. es ++ told.0) k.grew ∙ append_assoc entered k.gained told.0) };
+        prepared = refl;
+        book = the_book k;
+        verdict = v;
+        judged = here (λ s. IsVerdict s h v) d.verdict;
+        decided = decided;
+        nothing_left = here (λ s. (has_caught h ≡ true) ⊎ (HasWork s h → ⊥)) d.nothing_left;
+        caused = cause;
+        favoured = memory_left plan.nodes h e k.gained cause;
+        told = told.2;
+      })
 
 -- a run without an error went well
 went_well : (nodes : List PlanNode) (shown : List Event) (v : Verdict) → IsErrorFor nodes shown v None → v ≡ verdict.Well

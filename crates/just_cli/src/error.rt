@@ -184,7 +184,10 @@ fn tell_compile<W: fmt::Write>(error: &CompileError, f: &mut fmt::Formatter<W>) 
 fn tell_lost<W: fmt::Write>(recipe: &str, f: &mut fmt::Formatter<W>) -> fmt::Result
     ensures { DisplaysOnOk W.write_str_gives f.old result (Some (lost_text recipe.now)) f.new }
 {
-    write!(f, "error: recipe `{recipe}` could not be run because of an IO error")
+    write!(
+        f,
+        "error: recipe `{recipe}` could not be run because of an IO error"
+    )
 }
 
 fn tell_shell<W: fmt::Write>(
@@ -196,7 +199,11 @@ fn tell_shell<W: fmt::Write>(
     ensures { DisplaysOnOk W.write_str_gives f.old result (Some (shell_text recipe.now shell.now io.now)) f.new }
 {
     tell_lost(recipe, f)?;
-    write!(f, " while launching the shell `{shell}`: {}", fault_text(*io))
+    write!(
+        f,
+        " while launching the shell `{shell}`: {}",
+        fault_text(*io)
+    )
 }
 
 fn tell_write<W: fmt::Write>(io: &HostFault, f: &mut fmt::Formatter<W>) -> fmt::Result

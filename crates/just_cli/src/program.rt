@@ -25,7 +25,11 @@ const NO_MEMORY: u8 = 125;
 fn status_of_code(code: i32) -> u8
     ensures { result ≡ status_for code }
 {
-    if 0 < code && code < 256 { code as u8 } else { 1 }
+    if 0 < code && code < 256 {
+        code as u8
+    } else {
+        1
+    }
 }
 
 /// The exit status of a run: 0 where it went well, else its failure's code. A failure never has the status 0.

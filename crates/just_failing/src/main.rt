@@ -4,10 +4,9 @@
 
 use just_cli::{Ended, exit_status, run};
 use just_host::{Entry, Stream};
-use std::env;
-use std::io;
 use std::io::ErrorKind;
 use std::process::ExitCode;
+use std::{env, io};
 
 /// Shows each text that the record has as printed to standard error.
 fn show(rt: &HostRuntime, entries: &[Entry]) -> io::Result<()> {
