@@ -28,9 +28,9 @@ none_decides s h nodes shown (verdict.Failed n) (inr e) is = absurd (cc)
 none_decides s h nodes shown (verdict.Interrupted signal) e is = absurd (cc)
 none_decides s h nodes shown verdict.NoMemory e is = absurd (cc)
 
-module _ (p driven : Plan) (h : List Event) (old now : List Entry) (w v : Option World) (verdict : Verdict)
-    (d : IsDriven (start_with p None old w) driven h verdict now v) where
-  ran_over : verdict ≡ verdict.Well → NoneDecides (run_over p None old) h → ∥ Ran p h old now ∥₁
+module _ (p driven : Plan) (h : List Event) (old now : List Entry) (w u : Option World) (v : Verdict)
+    (d : IsDriven (start_with p None old w) driven h v now u) where
+  ran_over : v ≡ verdict.Well → NoneDecides (run_over p None old) h → ∥ Ran p h old now ∥₁
   ran_over is well = ∥∥₁_map d.kept (λ k. record {
     mid = k.gained;
     grew = k.grew;
@@ -39,18 +39,18 @@ module _ (p driven : Plan) (h : List Event) (old now : List Entry) (w v : Option
     complete = d.complete is;
   })
 
-  fell_over : (e : Error) (new : List Entry) → IsErrorFor p.nodes h verdict (Some e) → (es : List Entry) × (new ≡ now ++ es) × IsTold e es → ∥ Fell p h e old new ∥₁
+  fell_over : (e : Error) (new : List Entry) → IsErrorFor p.nodes h v (Some e) → (es : List Entry) × (new ≡ now ++ es) × IsTold e es → ∥ Fell p h e old new ∥₁
   fell_over e new decided told = ∥∥₁_map d.kept (λ k. record {
     mid = k.gained;
     post = told.0;
     grew = told.1 ∙ (ap (λ es. es ++ told.0) k.grew ∙ append_assoc old k.gained told.0);
     kept = record { legal = k.legal; closed = d.closed; matches = k.matches };
-    verdict = verdict;
+    verdict = v;
     judged = d.verdict;
     decided = decided;
     nothing_left = d.nothing_left;
-    caused = caused (run_over p None old) h k.gained k.legal k.matches verdict e decided;
-    favoured = memory_left p.nodes h e k.gained (caused (run_over p None old) h k.gained k.legal k.matches verdict e decided);
+    caused = caused (run_over p None old) h k.gained k.legal k.matches v e decided;
+    favoured = memory_left p.nodes h e k.gained (caused (run_over p None old) h k.gained k.legal k.matches v e decided);
     told = told.2;
   })
 

@@ -11,19 +11,19 @@ use Rattle.just_cli.proofs.runner.run_with.Goals as goal
 
 pub returns-in-None-clause-ran : goal.returns-in-None-clause-ran
 returns-in-None-clause-ran g c =
-    ran_well _ c.in-Ok.plan _ _ _ _ _ _ _ _ _ c.in-Ok.ensures.grew c.in-Ok-drive.ensures c.in-None.ensures
+    ran_well _ c.in-Ok.plan _ _ _ _ _ _ _ _ _ c.in-Ok.ensures.grew c.in-Ok-drive.ensures.driven c.in-None.ensures
 
 pub returns-in-None-clause-untouched : goal.returns-in-None-clause-untouched
 returns-in-None-clause-untouched g c = λ es grew quiet.
     let entries = g.H.Host.entries in
     let host = c.prepare.new.host in
     world_left (start_with c.in-Ok.plan None (entries host) (g.H.Host.world host)) c.in-Ok-drive.field-0.history (entries c.in-Ok-drive.field-0.host) (entries c.in-Ok-drive.field-0.host) (g.H.Host.world c.in-Ok-drive.field-0.host) [] es
-    c.in-Ok-drive.ensures.kept (sym (append-nil (entries c.in-Ok-drive.field-0.host))) (grew ∙ ap (λ xs. xs ++ es) (sym c.in-Ok.ensures.grew)) quiet
+    c.in-Ok-drive.ensures.driven.kept (sym (append-nil (entries c.in-Ok-drive.field-0.host))) (grew ∙ ap (λ xs. xs ++ es) (sym c.in-Ok.ensures.grew)) quiet
     ∙ c.prepare.ensures.world
 
 pub returns-in-Some-clause-failed : goal.returns-in-Some-clause-failed
 returns-in-Some-clause-failed g c =
-    fell_ill _ _ _ c.in-Ok.plan _ _ _ _ _ _ _ _ _ _ c.fail-in-Some.ensures.failed c.in-Ok.ensures.grew c.in-Ok-drive.ensures c.in-Some.ensures c.as_slice.ensures c.fail-in-Some.ensures.told
+    fell_ill _ _ _ c.in-Ok.plan _ _ _ _ _ _ _ _ _ _ c.fail-in-Some.ensures.failed c.in-Ok.ensures.grew c.in-Ok-drive.ensures.driven c.in-Some.ensures c.as_slice.ensures c.fail-in-Some.ensures.told
 
 pub returns-in-Err-drive-clause-refused : goal.returns-in-Err-drive-clause-refused
 returns-in-Err-drive-clause-refused g c = wants_memory _ _ _ _ _ c.fail-in-Err-drive.ensures.failed
@@ -48,7 +48,7 @@ returns-in-Some-clause-complete g c = served _ _ _ _ _ (returns-in-Some-clause-a
 
 pub returns-in-Err-drive-clause-complete : goal.returns-in-Err-drive-clause-complete
 returns-in-Err-drive-clause-complete g c = served _ _ _ _ _ (returns-in-Err-drive-clause-answered g c)
-    (refused_ill _ _ _ _ _ _ _ c.fail-in-Err-drive.ensures.failed (c.in-Err-drive.ensures.0 ∙ c.in-Ok.ensures.grew ∙ sym (append-nil _)) c.fail-in-Err-drive.ensures.told)
+    (refused_ill _ _ _ _ _ _ _ c.fail-in-Err-drive.ensures.failed (c.in-Err-drive.ensures.back.0 ∙ c.in-Ok.ensures.grew ∙ sym (append-nil _)) c.fail-in-Err-drive.ensures.told)
 
 pub returns-in-Err-clause-complete : goal.returns-in-Err-clause-complete
 returns-in-Err-clause-complete g c = served _ _ _ _ _ (returns-in-Err-clause-answered g c) (refused_ill _ _ _ _ _ _ _ c.fail.ensures.failed c.in-Err.ensures.grew c.fail.ensures.told)
@@ -73,5 +73,5 @@ returns-in-Some-clause-untouched g c = λ es grew quiet.
     let told = c.fail-in-Some.ensures.told in
     c.fail-in-Some.ensures.world
     ∙ (world_left (start_with c.in-Ok.plan None (entries host) (g.H.Host.world host)) c.in-Ok-drive.field-0.history (entries c.in-Ok-drive.field-0.host) (entries c.fail-in-Some.result.host) (g.H.Host.world c.in-Ok-drive.field-0.host) told.0 es
-    c.in-Ok-drive.ensures.kept told.1 (grew ∙ ap (λ xs. xs ++ es) (sym c.in-Ok.ensures.grew)) quiet
+    c.in-Ok-drive.ensures.driven.kept told.1 (grew ∙ ap (λ xs. xs ++ es) (sym c.in-Ok.ensures.grew)) quiet
     ∙ c.prepare.ensures.world)
