@@ -25,7 +25,7 @@ use Rattle.just_sched.specs.Nodes.{command_at}
 use Rattle.just_sched.specs.Works.{commands_of, ends_body, goes_on, is_code, start_or_well, judged, after}
 use Rattle.just_sched.specs.State.{status_of, reason_in, signal_in, is_done, statuses, last_start, reason_of, caught_signal, next_step}
 use Rattle.just_sched.specs.Legal.{Run, Ended, IsDue, May, LegalFrom, IsLegal}
-use Rattle.just_sched.specs.Match.{StandsFor, FaultStandsFor, MissStandsFor, FailureStandsFor, BehindEcho, MatchesFrom, Matches, printed}
+use Rattle.just_sched.specs.Match.{StandsFor, FaultStandsFor, MissStandsFor, FailureStandsFor, BehindEcho, MatchesFrom, Matches, printed_entries}
 use Rattle.just_sched.proofs.AfterLaws.{after_judged}
 use Rattle.just_sched.proofs.Keeps.{neither, legal_more, legal_holds, last_push, last_started, last_start_stays, statuses_ended, statuses_stay, statuses_of, starts_of, reason_kept, reason_new, signal_kept, signal_new, next_step_stays}
 use Rattle.just_sched.proofs.Sane.{inside, running_place}
@@ -146,7 +146,7 @@ quiet_done s h n e may over = refl
 status_by : (s : Run) (h : List Event) (n : ℕ) (e : Event) (o : Option Reason) → reason_of h n ≡ o → (reason_of h n ≡ Some reason.Status → next_step s.nodes h n ≡ step.Failed) → May s h e → reason_of (h ++ e ∷ []) n ≡ Some reason.Status → next_step s.nodes (h ++ e ∷ []) n ≡ step.Failed
 status_by s h n e None q old may now =
     let is = sym (reason_new h e n q) ∙ now in
-    next_step_stays s.nodes h e n (quiet_reason n e reason.Status is) ∙ (reason_due s h n reason.Status e may is).3
+    next_step_stays s.nodes h e n (quiet_reason n e reason.Status is) ∙ (reason_due s h n reason.Status e may is).next
 status_by s h n e (Some r) q old may now =
     let same : reason_of h n ≡ Some reason.Status = q ∙ sym (reason_kept h e n r q) ∙ now in
     next_step_stays s.nodes h e n (quiet_done s h n e may (reason_done h n r q)) ∙ old same
@@ -211,8 +211,8 @@ the_part s h es n r m =
 
 behind : (s : Run) (h : List Event) (n : ℕ) (made : Command → Entry) (fs : List Entry) → BehindEcho s h n (λ c. made c ∷ []) fs → (c : Command) × Contains fs (made c)
 behind s h n made fs b =
-    let c = option_there (λ c. fs ≡ printed c.echo ++ made c ∷ []) (command_at s.nodes n b.0) b.2 in
-    (c.0, subst (λ k. Contains k (made c.0)) (sym c.1) (pushed (printed c.0.echo) (made c.0)))
+    let c = option_there (λ c. fs ≡ printed_entries c.echo ++ made c ∷ []) (command_at s.nodes n b.0) b.2 in
+    (c.0, subst (λ k. Contains k (made c.0)) (sym c.1) (pushed (printed_entries c.0.echo) (made c.0)))
 
 fault_shown : (s : Run) (h : List Event) (n : ℕ) (c : Call) (fs : List Entry) → FaultStandsFor s h n c fs → ShowsFailure c fs
 fault_shown s h n call.Ask fs b = inl (alone fs (entry.Failed call.Ask) b)

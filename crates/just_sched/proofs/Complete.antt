@@ -14,13 +14,13 @@ use Rattle.just_sched.specs.declared.event.Reason.TheVariants as reason
 use Rattle.just_sched.specs.declared.event.Idle.TheVariants as idle
 use Rattle.just_sched.specs.declared.plan_node.PlanNode.{PlanNode}
 use Rattle.just_sched.specs.Nodes.{prompt_in, prompt_at, priors_in, priors_at, subsequents_in, subsequents_at}
-use Rattle.just_sched.specs.State.{answers, asks, catches, takes, skips, concludes, concludes_well, reason_in, has_taken, has_given, is_done, is_asked, is_over_well, is_confirmed, first, reason_of, has_caught, IsFinished, finished, IsWanted, invoked, prior, subsequent}
+use Rattle.just_sched.specs.State.{answers, asks, catches, takes, skips, concludes, concludes_well, reason_in, is_skipped, has_taken, has_given, is_done, is_asked, is_over_well, is_confirmed, first, reason_of, has_caught, IsFinished, finished, IsWanted, invoked, prior, subsequent}
 use Rattle.just_sched.specs.Legal.{Run, May, MayFailBy, IsLegal, IsClosed, IsComplete, open_bodies}
 use Rattle.just_sched.specs.Idle.{HasWork, NoneToAsk, IsIdle}
 use Rattle.just_sched.specs.Verdict.{decides, NoneDecides}
 use Rattle.just_sched.proofs.Keeps.{or_true, any_kept, legal_holds, reason_new, reason_kept}
-use Rattle.just_sched.proofs.Sane.{item_there, since, never, asked_due, took_ready, begun_took, gave_done, well_begun, took_confirmed}
-use Rattle.just_sched.proofs.Totals.{Formed, round_in, round_of, node_at, IsPrior, IsSubsequent, prior_is, subsequent_is, invocation_is, answered_asked, closed_zero}
+use Rattle.just_sched.proofs.Sane.{item_there, since, never, asked_due, took_ready, gave_over, over_took, took_confirmed}
+use Rattle.just_sched.proofs.Totals.{Formed, round_in, round_of, node_at, IsPrior, IsSubsequent, prior_is, subsequent_is, invocation_is, any_weaker, answered_asked, closed_zero}
 
 -- ---- states that stay
 
@@ -116,7 +116,7 @@ node_there nodes m x e = node_there_at nodes m x (slice_get nodes m) refl (sym (
 -- ---- the end of a run
 
 -- a closed history in which no node failed, with nothing left to do
-pub record IsSettled (s : Run) (h : List Event) : Type 0 where
+pub record HasNothingLeft (s : Run) (h : List Event) : Type 0 where
   pub formed : Formed s
   pub legal : IsLegal s h
   pub closed : IsClosed s h
@@ -124,12 +124,12 @@ pub record IsSettled (s : Run) (h : List Event) : Type 0 where
   pub answered : (n : ℕ) → list_any (answers false n) h ≡ true → is_done h n ≡ true
   pub no_work : HasWork s h → ⊥
 
-module _ (s : Run) (h : List Event) (e : IsSettled s h) where
+module _ (s : Run) (h : List Event) (e : HasNothingLeft s h) where
   done_over : (n : ℕ) → n < length s.nodes → is_done h n ≡ true → is_over_well h n ≡ true
   done_over n lt d = done_well h n d (e.no_reason n lt)
 
   done_confirmed : (n : ℕ) → n < length s.nodes → is_done h n ≡ true → is_confirmed s.nodes h n ≡ true
-  done_confirmed n lt d = took_confirmed s h n e.legal (begun_took s h n e.legal (well_begun s h n e.legal (done_over n lt d)))
+  done_confirmed n lt d = took_confirmed s h n e.legal (over_took s h n e.legal (done_over n lt d))
 
   confirmed_by : (n : ℕ) → n < length s.nodes → (o : Option (List ℕ)) → prompt_at s.nodes n ≡ o → (list_any (answers true n) h ≡ true) ⊎ (list_any (answers false n) h ≡ true) → is_confirmed s.nodes h n ≡ true
   confirmed_by n lt o q (inl said) = ap (λ b. is_none (prompt_at s.nodes n) || b) said ∙ or_true (is_none (prompt_at s.nodes n))
@@ -148,8 +148,12 @@ module _ (s : Run) (h : List Event) (e : IsSettled s h) where
   given true q = refl
   given false q = absurd (cc)
 
+  over_by : (n : ℕ) → n < length s.nodes → (b : Bool) → is_skipped h n ≡ b → (b || is_done h n) ≡ true → is_over_well h n ≡ true
+  over_by n lt true k v = any_weaker (skips n) (λ x. skips n x || concludes_well n x) (λ x q. ap (λ c. c || concludes_well n x) q) h k
+  over_by n lt false k v = done_over n lt v
+
   took_over : (n : ℕ) → n < length s.nodes → has_taken h n ≡ true → is_over_well h n ≡ true
-  took_over n lt t = done_over n lt (gave_done s h n e.legal (given (has_given h n) (subst (λ b. (b && not (has_given h n)) ≡ false) t (e.closed n lt))))
+  took_over n lt t = over_by n lt (is_skipped h n) refl (gave_over s h n e.legal (given (has_given h n) (subst (λ b. (b && not (has_given h n)) ≡ false) t (e.closed n lt))))
 
   over_at : (n : ℕ) → n < length s.nodes → IsWanted s.nodes s.invocations h n → ((q : ℕ) → Contains (priors_at s.nodes n) q → IsFinished s.nodes h q) → (t d : Bool) → has_taken h n ≡ t → is_done h n ≡ d → is_over_well h n ≡ true
   over_at n lt w priors t true qt qd = done_over n lt qd
@@ -184,7 +188,7 @@ module _ (s : Run) (h : List Event) (e : IsSettled s h) where
       in_turn (IsFinished s.nodes h) s.invocations (λ j at before. wanted_finished (slice_index s.invocations j) (invocation_is s e.formed j at).there (invoked (slice_index s.invocations j) (j, at, refl, inr before))) k lt
 
   prior_finished : (m n : ℕ) → IsFinished s.nodes h m → Contains (priors_at s.nodes m) n → IsFinished s.nodes h n
-  prior_finished m n f c = took_priors s h m e.legal (begun_took s h m e.legal (well_begun s h m e.legal (finished_over s.nodes h m f))) n c
+  prior_finished m n f c = took_priors s h m e.legal (over_took s h m e.legal (finished_over s.nodes h m f)) n c
 
   used_done : (a : ℕ) → ((q : ℕ) → q < length s.nodes → rank (round_of s q) < a → IsFinished s.nodes h q) → (n : ℕ) → rank (round_of s n) < suc a → ((m : ℕ) → n < m → m < length s.nodes → round_of s n ≡ round_of s m → IsFinished s.nodes h m) → Used (map (λ x. x.node) s.nodes) s.invocations n → IsFinished s.nodes h n
   used_done a outer n low later (used_invoked c) = of_contained (IsFinished s.nodes h) s.invocations invocations_finished n c
@@ -209,12 +213,12 @@ module _ (s : Run) (h : List Event) (e : IsSettled s h) where
   all zero n lt low = absurd (omega (arith, low))
   all (suc a) n lt low = all_in a (λ q lt_q low_q. all a q lt_q low_q) (length s.nodes) n (omega arith) lt low
 
-  pub settled_complete : IsComplete s h
-  settled_complete = record { closed = e.closed; all_finished = λ n lt. all (suc n) n lt (omega (arith, rank_below s e.formed n)) }
+  pub at_end_complete : IsComplete s h
+  at_end_complete = record { closed = e.closed; all_finished = λ n lt. all (suc n) n lt (omega (arith, rank_below s e.formed n)) }
 
 -- a closed history in which no node failed and each no was answered to, with nothing left to do, is complete
 pub complete : (s : Run) (h : List Event) → Formed s → IsLegal s h → IsClosed s h → ((n : ℕ) → n < length s.nodes → reason_of h n ≡ None) → ((n : ℕ) → list_any (answers false n) h ≡ true → is_done h n ≡ true) → has_caught h ≡ false → (HasWork s h → ⊥) → IsComplete s h
-complete s h f l c r a _ w = settled_complete s h (record { formed = f; legal = l; closed = c; no_reason = r; answered = a; no_work = w })
+complete s h f l c r a _ w = at_end_complete s h (record { formed = f; legal = l; closed = c; no_reason = r; answered = a; no_work = w })
 
 -- with nothing open, a limit of one job or more is not reached
 pub jobs_absurd : (s : Run) (h : List Event) (j : ℕ) → IsClosed s h → s.jobs ≡ Some j → 0 < j → IsIdle s h idle.Jobs → ⊥

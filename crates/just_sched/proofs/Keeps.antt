@@ -2,6 +2,7 @@
 use Rattle.std.proofs.Common.{◌≡◌, ℕ, ◌+◌, ◌==◌, ◌&&◌, ◌||◌, not, nat_lt, Bool, true, false, cond, if◌then◌else◌, List, [], ◌∷◌, ◌++◌, Option, Some, None, is_none, filter_map, count_by, refl, ap, ap₂, sym, ◌∙◌, subst, append_assoc, append-nil, arith, eq-eqb, ne_eqb}
 use Rattle.std.specs.List.{list_any, last_or, cons_option}
 use Rattle.std.proofs.lemmas.List.Elements.{filter_map-append}
+use Rattle.std.proofs.lemmas.List.Folds.{list_any-append}
 use Rattle.std.proofs.lemmas.List.Sums.{sum_by_push}
 use Rattle.just_outside.specs.declared.entry.Entry.{Entry}
 use Rattle.just_outside.specs.declared.entry.Status.{Status}
@@ -13,7 +14,7 @@ use Rattle.just_sched.specs.declared.event.Reason.{Reason}
 use Rattle.just_sched.specs.declared.plan_node.PlanNode.{PlanNode}
 use Rattle.just_sched.specs.Works.{after}
 use Rattle.just_sched.specs.Nodes.{prompt_at, work_at}
-use Rattle.just_sched.specs.State.{answers, asks, takes, skips, begins, starts, ends, concludes, concludes_well, fails, gives, catches, status_of, start_of, reason_in, signal_in, has_taken, has_given, is_begun, is_skipped, is_done, is_asked, is_over_well, has_failed, is_confirmed, is_open, start_count, end_count, is_running, statuses, last_start, first, reason_of, has_caught, caught_signal, next_step}
+use Rattle.just_sched.specs.State.{is_of, is_over, answers, asks, takes, skips, begins, starts, ends, concludes, concludes_well, fails, gives, catches, status_of, start_of, reason_in, signal_in, has_taken, has_given, is_begun, is_skipped, is_done, is_asked, is_over_well, has_failed, is_confirmed, is_open, start_count, end_count, is_running, statuses, last_start, first, reason_of, has_caught, caught_signal, next_step}
 use Rattle.just_sched.specs.Legal.{Run, May, LegalFrom, IsLegal, in_body, all_starts, is_start}
 use Rattle.just_sched.specs.Match.{StandsFor, MatchesFrom, Matches}
 use Rattle.just_sched.specs.Room.{settle_count, settles}
@@ -69,6 +70,21 @@ all_both false b p q = p
 pub neither : (a b : Bool) → (a || b) ≡ false → (a ≡ false) × (b ≡ false)
 neither true b h = absurd (cc)
 neither false b h = (refl, h)
+
+-- one part of a disjunction by another
+pub either_way : (a b c d : Bool) → (a ≡ true → c ≡ true) → (b ≡ true → d ≡ true) → (a || b) ≡ true → (c || d) ≡ true
+either_way true b c d f g q = ap (λ x. x || d) (f refl)
+either_way false b c d f g q = ap (λ x. c || x) (g q) ∙ or_true c
+
+-- the converse of an implication between tests
+pub unless : (a b : Bool) → (a ≡ true → b ≡ true) → b ≡ false → a ≡ false
+unless true b h q = absurd (cc (h refl))
+unless false b h q = refl
+
+-- a test that another one excludes fails where that one passes
+pub excluded : (a b : Bool) → (a ≡ true → b ≡ false) → b ≡ true → a ≡ false
+excluded true b h q = absurd (cc (h refl))
+excluded false b h q = refl
 
 pub not_true : (b : Bool) → not b ≡ true → b ≡ false
 not_true true h = sym h
@@ -148,6 +164,14 @@ skipped_more h e n = any_more (skips n) h e
 pub done_more : (h : List Event) (e : Event) (n : ℕ) → is_done (h ++ e ∷ []) n ≡ (is_done h n || concludes n e)
 done_more h e n = any_more (concludes n) h e
 
+-- a node that took a job has taken one
+pub taken_on : (old new more : List Event) (n : ℕ) → new ≡ old ++ more → has_taken old n ≡ true → has_taken new n ≡ true
+taken_on old new more n grew t = ap (λ h. has_taken h n) grew ∙ list_any-append (takes n) old more ∙ ap (λ b. b || list_any (takes n) more) t
+
+-- a body that is over stays over
+pub over_kept : (h : List Event) (e : Event) (n : ℕ) → is_over h n ≡ true → is_over (h ++ e ∷ []) n ≡ true
+over_kept h e n o = either_way (is_skipped h n) (is_done h n) (is_skipped (h ++ e ∷ []) n) (is_done (h ++ e ∷ []) n) (any_kept (skips n) h e) (any_kept (concludes n) h e) o
+
 pub asked_more : (h : List Event) (e : Event) (n : ℕ) → is_asked (h ++ e ∷ []) n ≡ (is_asked h n || asks n e)
 asked_more h e n = any_more (asks n) h e
 
@@ -192,7 +216,7 @@ is_open_stays h e n p q = ap₂ (λ a b. a && not b) (any_none (takes n) h e p) 
 
 pub in_body_stays : (h : List Event) (e : Event) (n : ℕ) → takes n e ≡ false → gives n e ≡ false → skips n e ≡ false → concludes n e ≡ false → in_body (h ++ e ∷ []) n ≡ in_body h n
 in_body_stays h e n p q r t =
-    ap₂ (λ a b. a && not b) (ap₂ (λ a b. a && not b) (is_open_stays h e n p q) (any_none (skips n) h e r)) (any_none (concludes n) h e t)
+    ap₂ (λ a b. a && not b) (is_open_stays h e n p q) (ap₂ (λ a b. a || b) (any_none (skips n) h e r) (any_none (concludes n) h e t))
 
 pub running_stays : (h : List Event) (e : Event) (n : ℕ) → starts n e ≡ false → ends n e ≡ false → concludes n e ≡ false → is_running (h ++ e ∷ []) n ≡ is_running h n
 running_stays h e n p q r =
@@ -235,20 +259,6 @@ pub signal_stays : (h : List Event) (e : Event) → signal_in e ≡ None → cau
 signal_stays h e q = ap first (list_none signal_in h e q)
 
 -- ---- the other nodes
-
--- whether the event is one of the node
-abbrev pub is_of : ℕ → Event → Bool
-is_of n (event.Asked m y) = m == n
-is_of n (event.Took m) = m == n
-is_of n (event.Looked m sums look) = m == n
-is_of n (event.Skipped m) = m == n
-is_of n (event.Begun m) = m == n
-is_of n (event.Started m i c) = m == n
-is_of n (event.Ended m i c t) = m == n
-is_of n (event.Saved m) = m == n
-is_of n (event.Done m o) = m == n
-is_of n (event.Gave m) = m == n
-is_of n (event.Caught g) = false
 
 pub apart : (m n : ℕ) → (m ≡ n → ⊥) → (m == n) ≡ false
 apart m n ne = ne_eqb m n ne

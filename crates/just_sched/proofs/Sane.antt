@@ -1,5 +1,5 @@
 -- What holds of one node over a legal history.
-use Rattle.std.proofs.Common.{◌≡◌, ℕ, zero, suc, ◌+◌, ◌-◌, ◌<◌, ◌≤◌, ◌==◌, inl, inr, ◌&&◌, ◌||◌, not, nat_lt, Bool, true, false, cond, if◌then◌else◌, List, [], ◌∷◌, ◌++◌, length, slice_get, Option, Some, None, is_some, count_by, refl, ap, ap₂, sym, ◌∙◌, subst, arith, eqb-true, eq-eqb, ltb-true, ltb-false, lt-ltb, le-ltb, length-append}
+use Rattle.std.proofs.Common.{◌≡◌, ℕ, zero, suc, ◌+◌, ◌-◌, ◌<◌, ◌≤◌, ◌==◌, inl, inr, ◌&&◌, ◌||◌, not, nat_lt, Bool, true, false, cond, if◌then◌else◌, List, [], ◌∷◌, ◌++◌, length, slice_get, Option, Some, None, is_some, count_by, refl, ap, ap₂, sym, ◌∙◌, subst, arith, true≢false, eqb-true, eq-eqb, ltb-true, ltb-false, lt-ltb, le-ltb, length-append}
 use Rattle.std.specs.List.{list_any}
 use Rattle.std.proofs.lemmas.List.Sums.{sum_by-cons}
 use Rattle.std.proofs.lemmas.Option.{slice_get_within}
@@ -18,9 +18,9 @@ use Rattle.just_sched.specs.declared.work.Step.{Step}
 use Rattle.just_sched.specs.declared.work.Step.TheVariants as step
 use Rattle.just_sched.specs.Works.{commands_of, ends_body, goes_on, start_or_well, judged, after, WentOn}
 use Rattle.just_sched.specs.Nodes.{work_at, command_at}
-use Rattle.just_sched.specs.State.{asks, takes, skips, begins, starts, ends, concludes, concludes_well, gives, catches, status_of, start_of, has_taken, has_given, is_begun, is_skipped, is_done, is_over_well, is_confirmed, is_open, start_count, end_count, is_running, statuses, last_start, has_caught, next_step, IsToAsk, IsReady}
-use Rattle.just_sched.specs.Legal.{Run, Due, Asked, Looked, Begun, Started, Ended, Saved, in_body, IsDue, MayMiss, MayFail, MayEnd, MayFailBy, May, IsLegal}
-use Rattle.just_sched.proofs.Keeps.{both, all_both, neither, not_true, any_none, any_kept, count_none, count_now, legal_holds, last_started, statuses_ended, statuses_stay, last_start_stays, confirmed_kept, statuses_of, starts_of}
+use Rattle.just_sched.specs.State.{is_over, asks, takes, skips, begins, starts, ends, concludes, concludes_well, gives, catches, status_of, start_of, has_taken, has_given, is_begun, is_skipped, is_done, is_over_well, is_confirmed, is_open, start_count, end_count, is_running, statuses, last_start, has_caught, next_step, IsToAsk, IsReady}
+use Rattle.just_sched.specs.Legal.{Run, Due, Asked, Looked, Begun, Started, Ended, Saved, in_body, IsDue, MayMiss, MayFail, IsAtEnd, MayFailBy, May, IsLegal}
+use Rattle.just_sched.proofs.Keeps.{over_kept, excluded, unless, both, all_both, neither, not_true, any_none, any_kept, count_none, count_now, legal_holds, last_started, statuses_ended, statuses_stay, last_start_stays, confirmed_kept, statuses_of, starts_of}
 
 -- ---- what is in a state
 
@@ -34,10 +34,10 @@ pub record InBody (h : List Event) (n : ℕ) : Type 0 where
 
 pub inside : (h : List Event) (n : ℕ) → in_body h n ≡ true → InBody h n
 inside h n e =
-    let a = both (is_open h n && not (is_skipped h n)) (not (is_done h n)) e in
-    let b = both (is_open h n) (not (is_skipped h n)) a.0 in
-    let c = both (has_taken h n) (not (has_given h n)) b.0 in
-    record { is_open = b.0; took = c.0; not_given = not_true (has_given h n) c.1; not_skipped = not_true (is_skipped h n) b.1; not_done = not_true (is_done h n) a.1 }
+    let a = both (is_open h n) (not (is_over h n)) e in
+    let b = neither (is_skipped h n) (is_done h n) (not_true (is_over h n) a.1) in
+    let c = both (has_taken h n) (not (has_given h n)) a.0 in
+    record { is_open = a.0; took = c.0; not_given = not_true (has_given h n) c.1; not_skipped = b.0; not_done = b.1 }
 
 pub opened : (h : List Event) (n : ℕ) → is_open h n ≡ true → (has_taken h n ≡ true) × (has_given h n ≡ false)
 opened h n e = let c = both (has_taken h n) (not (has_given h n)) e in (c.0, not_true (has_given h n) c.1)
@@ -45,8 +45,9 @@ opened h n e = let c = both (has_taken h n) (not (has_given h n)) e in (c.0, not
 pub is_opened : (h : List Event) (n : ℕ) → has_taken h n ≡ true → has_given h n ≡ false → is_open h n ≡ true
 is_opened h n t g = all_both (has_taken h n) (not (has_given h n)) t (ap not g)
 
-pub is_inside : (h : List Event) (n : ℕ) → is_open h n ≡ true → is_skipped h n ≡ false → is_done h n ≡ false → in_body h n ≡ true
-is_inside h n o k d = all_both (is_open h n && not (is_skipped h n)) (not (is_done h n)) (all_both (is_open h n) (not (is_skipped h n)) o (ap not k)) (ap not d)
+-- an open body that isn't over is in its body
+pub is_inside : (h : List Event) (n : ℕ) → is_open h n ≡ true → is_over h n ≡ false → in_body h n ≡ true
+is_inside h n o v = all_both (is_open h n) (not (is_over h n)) o (ap not v)
 
 pub runs : (h : List Event) (n : ℕ) → is_running h n ≡ true → (end_count h n < start_count h n) × (is_done h n ≡ false)
 runs h n e = let c = both (nat_lt (end_count h n) (start_count h n)) (not (is_done h n)) e in (ltb-true (end_count h n) (start_count h n) c.0, not_true (is_done h n) c.1)
@@ -87,7 +88,7 @@ fail_due s h n call.Wait m = (Ended, m)
 fail_due s h n _ m = absurd m
 
 by_not_done : (s : Run) (h : List Event) (n : ℕ) (r : Reason) → MayFailBy s h n r → is_done h n ≡ false
-by_not_done s h n reason.Status m = m.2
+by_not_done s h n reason.Status m = m.not_done
 by_not_done s h n reason.NotConfirmed m = m.1
 by_not_done s h n (reason.Input j x) m = absurd m
 by_not_done s h n (reason.Output j) m = absurd m
@@ -97,7 +98,7 @@ by_not_done s h n reason.Interrupted m = due_not_done s h n (Started m.0.0) m.0.
 by_not_done s h n reason.NoMemory m = due_not_done s h n m.0 m.1
 
 end_not_done : (s : Run) (h : List Event) (n : ℕ) (o : Outcome) → May s h (event.Done n o) → is_done h n ≡ false
-end_not_done s h n outcome.Well m = m.2
+end_not_done s h n outcome.Well m = m.not_done
 end_not_done s h n (outcome.Failed r) m = by_not_done s h n r m
 
 pub asked_due : (s : Run) (h : List Event) (n : ℕ) (e : Event) → May s h e → asks n e ≡ true → IsToAsk s.nodes s.invocations h n
@@ -124,18 +125,19 @@ pub done_once : (s : Run) (h : List Event) (n : ℕ) (e : Event) → May s h e �
 done_once s h n (event.Done m o) may q = subst (λ k. is_done h k ≡ false) (eqb-true m n q) (end_not_done s h m o may)
 done_once s h n _ may q = absurd (cc)
 
-pub well_due : (s : Run) (h : List Event) (n : ℕ) (e : Event) → May s h e → concludes_well n e ≡ true → MayEnd s h n true
-well_due s h n (event.Done m outcome.Well) may q = subst (λ k. MayEnd s h k true) (eqb-true m n q) may
+pub well_due : (s : Run) (h : List Event) (n : ℕ) (e : Event) → May s h e → concludes_well n e ≡ true → IsAtEnd s h n step.Well
+well_due s h n (event.Done m outcome.Well) may q = subst (λ k. IsAtEnd s h k step.Well) (eqb-true m n q) may
 well_due s h n (event.Done m (outcome.Failed r)) may q = absurd (cc)
 well_due s h n _ may q = absurd (cc)
 
-pub gave_due : (s : Run) (h : List Event) (n : ℕ) (e : Event) → May s h e → gives n e ≡ true → (is_open h n ≡ true) × ((is_skipped h n || is_done h n) ≡ true)
-gave_due s h n (event.Gave m) may q = subst (λ k. (is_open h k ≡ true) × ((is_skipped h k || is_done h k) ≡ true)) (eqb-true m n q) may
+pub gave_due : (s : Run) (h : List Event) (n : ℕ) (e : Event) → May s h e → gives n e ≡ true → (is_open h n ≡ true) × (is_over h n ≡ true)
+gave_due s h n (event.Gave m) may q = subst (λ k. (is_open h k ≡ true) × (is_over h k ≡ true)) (eqb-true m n q) may
 gave_due s h n _ may q = absurd (cc)
 
-no_skip : (s : Run) (h : List Event) (n : ℕ) (e : Event) → May s h e → skips n e ≡ true → ⊥
-no_skip s h n (event.Skipped m) may q = may
-no_skip s h n _ may q = absurd (cc)
+-- a node that is skipped is in its body, which isn't begun
+pub skip_due : (s : Run) (h : List Event) (n : ℕ) (e : Event) → May s h e → skips n e ≡ true → (in_body h n ≡ true) × (is_begun h n ≡ false)
+skip_due s h n (event.Skipped m) may q = absurd may
+skip_due s h n _ may q = absurd (cc)
 
 -- ---- tests over a legal history
 
@@ -176,29 +178,48 @@ once s p free h l = legal_holds s (λ k. count_by p k ≤ 1) (omega arith) (λ k
 
 -- ---- which comes before which
 
-pub skipped_none : (s : Run) (h : List Event) (n : ℕ) → IsLegal s h → is_skipped h n ≡ false
-skipped_none s h n l = never s (skips n) (λ k e legal m q. no_skip s k n e m q) h l
-
 pub begun_took : (s : Run) (h : List Event) (n : ℕ) → IsLegal s h → is_begun h n ≡ true → has_taken h n ≡ true
 begun_took s h n l = earlier s (begins n) (takes n) (λ k e legal m q. (inside k n (begun_due s k n e m q).0).took) h l
 
 pub gave_took : (s : Run) (h : List Event) (n : ℕ) → IsLegal s h → has_given h n ≡ true → has_taken h n ≡ true
 gave_took s h n l = earlier s (gives n) (takes n) (λ k e legal m q. (opened k n (gave_due s k n e m q).0).0) h l
 
-pub gave_done : (s : Run) (h : List Event) (n : ℕ) → IsLegal s h → has_given h n ≡ true → is_done h n ≡ true
-gave_done s h n l =
-    earlier s (gives n) (concludes n) (λ k e legal m q. subst (λ b. (b || is_done k n) ≡ true) (skipped_none s k n legal) (gave_due s k n e m q).1) h l
+-- a job is given back by a body that is over
+pub gave_over : (s : Run) (h : List Event) (n : ℕ) → IsLegal s h → has_given h n ≡ true → is_over h n ≡ true
+gave_over s h n l = since s (gives n) (λ k. is_over k n ≡ true) (λ k e o. over_kept k e n o) (λ k e legal m q. over_kept k e n (gave_due s k n e m q).1) h l
 
 pub started_begun : (s : Run) (h : List Event) (n : ℕ) → IsLegal s h → list_any (starts n) h ≡ true → is_begun h n ≡ true
 started_begun s h n l = earlier s (starts n) (begins n) (λ k e legal m q. (started_due s k n e m q).1.1) h l
 
-well_begun_at : (s : Run) (h : List Event) (n : ℕ) (e : Event) → May s h e → (b : Bool) → skips n e ≡ b → (b || concludes_well n e) ≡ true → is_begun h n ≡ true
-well_begun_at s h n e m true k q = absurd (no_skip s h n e m k)
-well_begun_at s h n e m false k q = (well_due s h n e m q).0
+skip_no_begin : (n : ℕ) (e : Event) → skips n e ≡ true → begins n e ≡ false
+skip_no_begin n (event.Skipped m) q = refl
+skip_no_begin n _ q = absurd (cc)
 
-pub well_begun : (s : Run) (h : List Event) (n : ℕ) → IsLegal s h → is_over_well h n ≡ true → is_begun h n ≡ true
-well_begun s h n l =
-    earlier s (λ e. skips n e || concludes_well n e) (begins n) (λ k e legal m q. well_begun_at s k n e m (skips n e) refl q) h l
+unbegun_at : (s : Run) (h : List Event) (n : ℕ) (e : Event) → May s h e → is_skipped h n ≡ true → (b : Bool) → begins n e ≡ b → begins n e ≡ false
+unbegun_at s h n e may k true q = absurd (true≢false (sym k ∙ (inside h n (begun_due s h n e may q).0).not_skipped))
+unbegun_at s h n e may k false q = q
+
+unbegun_by : (s : Run) (h : List Event) (n : ℕ) (e : Event) → May s h e → (is_skipped h n ≡ true → is_begun h n ≡ false) → (b : Bool) → skips n e ≡ b → is_skipped (h ++ e ∷ []) n ≡ true → is_begun (h ++ e ∷ []) n ≡ false
+unbegun_by s h n e may old true q k = any_none (begins n) h e (skip_no_begin n e q) ∙ (skip_due s h n e may q).1
+unbegun_by s h n e may old false q k =
+    let was = sym (any_none (skips n) h e q) ∙ k in
+    any_none (begins n) h e (unbegun_at s h n e may was (begins n e) refl) ∙ old was
+
+-- a node that was skipped isn't begun
+pub skipped_unbegun : (s : Run) (h : List Event) (n : ℕ) → IsLegal s h → is_skipped h n ≡ true → is_begun h n ≡ false
+skipped_unbegun s h n l = legal_holds s (λ k. is_skipped k n ≡ true → is_begun k n ≡ false) (λ q. refl) (λ k e legal old m. unbegun_by s k n e m old (skips n e) refl) h l
+
+pub begun_unskipped : (s : Run) (h : List Event) (n : ℕ) → IsLegal s h → is_begun h n ≡ true → is_skipped h n ≡ false
+begun_unskipped s h n l b = excluded (is_skipped h n) (is_begun h n) (skipped_unbegun s h n l) b
+
+over_took_at : (s : Run) (h : List Event) (n : ℕ) (e : Event) → IsLegal s h → May s h e → (b : Bool) → skips n e ≡ b → (b || concludes_well n e) ≡ true → has_taken h n ≡ true
+over_took_at s h n e l m true k q = (inside h n (skip_due s h n e m k).0).took
+over_took_at s h n e l m false k q = begun_took s h n l (well_due s h n e m q).begun
+
+-- a node that is over well took a job
+pub over_took : (s : Run) (h : List Event) (n : ℕ) → IsLegal s h → is_over_well h n ≡ true → has_taken h n ≡ true
+over_took s h n l =
+    earlier s (λ e. skips n e || concludes_well n e) (takes n) (λ k e legal m q. over_took_at s k n e legal m (skips n e) refl q) h l
 
 -- a node took its job when it was confirmed
 pub took_confirmed : (s : Run) (h : List Event) (n : ℕ) → IsLegal s h → has_taken h n ≡ true → is_confirmed s.nodes h n ≡ true
@@ -366,6 +387,9 @@ begun_once s h n l = once s (begins n) (λ k e legal m q. (begun_due s k n e m q
 pub ended_once : (s : Run) (h : List Event) (n : ℕ) → IsLegal s h → count_by (concludes n) h ≤ 1
 ended_once s h n l = once s (concludes n) (λ k e legal m q. done_once s k n e m q) h l
 
+pub skipped_once : (s : Run) (h : List Event) (n : ℕ) → IsLegal s h → count_by (skips n) h ≤ 1
+skipped_once s h n l = once s (skips n) (λ k e legal m q. (inside k n (skip_due s k n e m q).0).not_skipped) h l
+
 pub gave_once : (s : Run) (h : List Event) (n : ℕ) → IsLegal s h → count_by (gives n) h ≤ 1
 gave_once s h n l = once s (gives n) (λ k e legal m q. (opened k n (gave_due s k n e m q).0).1) h l
 
@@ -388,11 +412,6 @@ pub record IsUntaken (h : List Event) (n : ℕ) : Type 0 where
   pub statuses : statuses h n ≡ []
   pub running : is_running h n ≡ false
 
--- the converse of an implication between tests
-pub unless : (a b : Bool) → (a ≡ true → b ≡ true) → b ≡ false → a ≡ false
-unless true b h q = absurd (cc (h refl))
-unless false b h q = refl
-
 empty : {A : Type 0} (xs : List A) → length xs ≡ 0 → xs ≡ []
 empty [] e = refl
 empty (x ∷ xs) e = absurd (omega arith)
@@ -408,7 +427,7 @@ untaken s h n l t =
       begun = b;
       gave = unless (has_given h n) (has_taken h n) (gave_took s h n l) t;
       is_open = ap (λ x. x && not (has_given h n)) t;
-      over_well = unless (is_over_well h n) (is_begun h n) (well_begun s h n l) b;
+      over_well = unless (is_over_well h n) (has_taken h n) (over_took s h n l) t;
       no_start = none;
       starts = z;
       ends = y;
@@ -440,11 +459,8 @@ ends_told s h n l = (sane s h n l).told
 -- a body that was begun and isn't done is in its body
 pub begun_inside : (s : Run) (h : List Event) (n : ℕ) → IsLegal s h → is_begun h n ≡ true → is_done h n ≡ false → in_body h n ≡ true
 begun_inside s h n l b d =
-    is_inside h n (is_opened h n (begun_took s h n l b) (unless (has_given h n) (is_done h n) (gave_done s h n l) d)) (skipped_none s h n l) d
-
--- an open body that isn't done is in its body
-pub open_inside : (s : Run) (h : List Event) (n : ℕ) → IsLegal s h → is_open h n ≡ true → is_done h n ≡ false → in_body h n ≡ true
-open_inside s h n l o d = is_inside h n o (skipped_none s h n l) d
+    let not_over : is_over h n ≡ false = ap₂ (λ x y. x || y) (begun_unskipped s h n l b) d in
+    is_inside h n (is_opened h n (begun_took s h n l b) (unless (has_given h n) (is_over h n) (gave_over s h n l) not_over)) not_over
 
 any_counted : {A : Type 0} (p : A → Bool) (h : List A) (b : Bool) → list_any p h ≡ b → 0 < count_by p h → list_any p h ≡ true
 any_counted p h true q lt = q
@@ -479,3 +495,13 @@ running_place s h n i c l r q =
     let d = k.child (runs h n r).0 in
     let same : i ≡ length (statuses h n) = ap place_in (sym q ∙ d.1) in
     (same, omega (arith, same, k.told, k.fits, (runs h n r).0))
+
+over_still_at : (s : Run) (h : List Event) (n : ℕ) → IsLegal s h → is_over h n ≡ true → (b : Bool) → is_running h n ≡ b → is_running h n ≡ false
+over_still_at s h n l o true r =
+    let x = inside h n (running_inside s h n l r) in
+    absurd (true≢false (sym o ∙ ap₂ (λ a b. a || b) x.not_skipped x.not_done))
+over_still_at s h n l o false r = r
+
+-- a body that is over runs no command
+pub over_still : (s : Run) (h : List Event) (n : ℕ) → IsLegal s h → is_over h n ≡ true → is_running h n ≡ false
+over_still s h n l o = over_still_at s h n l o (is_running h n) refl

@@ -1,21 +1,22 @@
 -- Laws of the flags of nodes.
-use Rattle.std.proofs.Common.{◌≡◌, ℕ, Bool, true, false, ◌||◌, List, [], ◌∷◌, refl}
+use Rattle.std.proofs.Common.{◌≡◌, ℕ, Bool, true, false, ◌||◌, List, [], ◌∷◌, ◌++◌, ap, refl}
 use Rattle.std.proofs.Common.{◌+◌, ◌-◌, ◌<◌, ◌≤◌, ◌≢◌, ◌⊎◌, inl, inr, ⊎_elim, set, length, arith, sym, ◌∙◌, get_or-set_other, get_or-set_same}
-use Rattle.std.specs.Prelude.{Contains, Some, None}
+use Rattle.std.specs.Prelude.{Contains, Option, Some, None, is_some, filter_map}
 use Rattle.std.proofs.Math.Decide.{dec_lt}
 use Rattle.std.proofs.Math.Logic.{∥∥₁_elim}
 use Rattle.std.proofs.Math.Bridge.{le_prop}
 use Rattle.std.specs.Coded.{×_prop}
 use Rattle.std.specs.Prelude.{slice_index}
 use Rattle.just_sched.proofs.PlanLaws.{shapes, subsequent_behind, contains_at}
-use Rattle.std.specs.List.{list_any}
+use Rattle.std.specs.List.{list_any, cons_option}
+use Rattle.std.proofs.lemmas.List.Elements.{filter_map-append}
 use Rattle.just_lang.specs.WellFormed.{IsWellFormed}
 use Rattle.just_sched.specs.declared.event.Event.{Event}
 use Rattle.just_sched.specs.declared.plan_node.PlanNode.{PlanNode}
 use Rattle.just_sched.specs.Nodes.{subsequents_at}
 use Rattle.just_sched.specs.declared.event.Event.TheVariants as event
-use Rattle.just_sched.specs.State.{is_over_well, IsFinished, finished, has_caught, caught_signal}
-use Rattle.just_sched.specs.Tables.{flag}
+use Rattle.just_sched.specs.State.{is_over_well, IsFinished, finished, first, has_caught, caught_signal}
+use Rattle.just_sched.specs.Tables.{flag, or_first}
 
 or_exchange : (a b c d : Bool) → ((a || b) || (c || d)) ≡ ((a || c) || (b || d))
 or_exchange true b c d = refl
@@ -102,3 +103,26 @@ pub not_caught : (h : List Event) → caught_signal h ≡ None → has_caught h 
 not_caught [] e = refl
 not_caught (event.Caught s ∷ es) e = absurd (let never : Some s ≡ None = e in cc)
 not_caught (_ ∷ es) e = not_caught es e
+
+-- a signal was caught where there is a first one
+pub caught_some : (h : List Event) → is_some (caught_signal h) ≡ has_caught h
+caught_some [] = refl
+caught_some (event.Caught s ∷ es) = refl
+caught_some (_ ∷ es) = caught_some es
+
+first_or : {A : Type 0} (o : Option A) (xs : List A) → first (cons_option o xs) ≡ or_first o (first xs)
+first_or None xs = refl
+first_or (Some x) xs = refl
+
+first_both : {A : Type 0} (xs ys : List A) → first (xs ++ ys) ≡ or_first (first xs) (first ys)
+first_both [] ys = refl
+first_both (x ∷ xs) ys = refl
+
+first_alone : {A : Type 0} (o : Option A) → or_first o None ≡ o
+first_alone None = refl
+first_alone (Some x) = refl
+
+-- the first of what a list with one item more gives
+pub first_push : {A B : Type 0} (f : A → Option B) (xs : List A) (x : A) → first (filter_map f (xs ++ x ∷ [])) ≡ or_first (first (filter_map f xs)) (f x)
+first_push f xs x =
+    ap first (filter_map-append f xs (x ∷ [])) ∙ first_both (filter_map f xs) (filter_map f (x ∷ [])) ∙ ap (or_first (first (filter_map f xs))) (first_or (f x) [] ∙ first_alone (f x))

@@ -23,12 +23,12 @@ use Rattle.just_sched.specs.declared.plan_node.PlanNode.{PlanNode}
 use Rattle.just_sched.specs.declared.work.Command.{Command}
 use Rattle.just_sched.specs.Works.{commands_of}
 use Rattle.just_sched.specs.Nodes.{prompt_at, banner_at, command_at, priors_in, priors_at, subsequents_in, subsequents_at, work_in, work_at}
-use Rattle.just_sched.specs.State.{answers, asks, takes, begins, starts, ends, concludes, gives, catches, has_taken, is_done, is_asked, is_open, start_count, end_count, is_running, reason_in, reason_of, IsToAsk, IsReady, IsWanted, invoked, prior, subsequent}
+use Rattle.just_sched.specs.State.{is_of, answers, asks, takes, skips, begins, starts, ends, concludes, gives, catches, has_taken, is_done, is_asked, is_open, start_count, end_count, is_running, reason_in, reason_of, IsToAsk, IsReady, IsWanted, invoked, prior, subsequent}
 use Rattle.just_sched.specs.Legal.{Run, Due, Asked, Looked, Begun, Started, Ended, Saved, IsDue, May, IsLegal, open_bodies, all_starts, is_start, IsClosed}
-use Rattle.just_sched.specs.Match.{printed, is_yes, started_entries, BehindEcho, DueEntries, FailureStandsFor, FaultStandsFor, MissStandsFor, StandsFor, MatchesFrom, Matches}
+use Rattle.just_sched.specs.Match.{printed_entries, is_yes, started_entries, BehindEcho, DueEntries, FailureStandsFor, FaultStandsFor, MissStandsFor, StandsFor, MatchesFrom, Matches}
 use Rattle.just_sched.specs.Room.{slots, total_commands, settles, settle_count}
-use Rattle.just_sched.proofs.Keeps.{legal_more, legal_holds, any_none, any_kept, any_now, count_more, count_none, count_now, reason_new, reason_kept, is_of, apart, both, all_both, not_true, or_true, others_stay, is_open_stays}
-use Rattle.just_sched.proofs.Sane.{inside, opened, runs, miss_due, fail_due, asked_due, took_ready, since, begun_took, sane, asked_once, took_once, begun_once, ended_once, gave_once, caught_once, untaken, unless, none_zero, running_inside, is_opened}
+use Rattle.just_sched.proofs.Keeps.{legal_more, legal_holds, any_none, any_kept, any_now, count_more, count_none, count_now, reason_new, reason_kept, apart, both, all_both, not_true, or_true, either_way, unless, others_stay, is_open_stays}
+use Rattle.just_sched.proofs.Sane.{inside, opened, runs, skip_due, miss_due, fail_due, asked_due, took_ready, since, begun_took, sane, asked_once, took_once, skipped_once, begun_once, ended_once, gave_once, caught_once, untaken, none_zero, running_inside, is_opened}
 
 -- ---- a well formed plan
 
@@ -122,14 +122,10 @@ due_range s h n (Started i) f l e = in_range s h n f l (inside h n e.0).took
 due_range s h n Ended f l e = in_range s h n f l (inside h n e.0).took
 due_range s h n Saved f l e = absurd e
 
-any_weaker_at : (a b c d : Bool) → (a ≡ true → c ≡ true) → (b ≡ true → d ≡ true) → (a || b) ≡ true → (c || d) ≡ true
-any_weaker_at true b c d f g q = ap (λ x. x || d) (f refl)
-any_weaker_at false b c d f g q = ap (λ x. c || x) (g q) ∙ or_true c
-
 -- a weaker test passes too
 pub any_weaker : {A : Type 0} (p q : A → Bool) → ((x : A) → p x ≡ true → q x ≡ true) → (xs : List A) → list_any p xs ≡ true → list_any q xs ≡ true
 any_weaker p q weaker [] a = absurd (cc)
-any_weaker p q weaker (x ∷ xs) a = any_weaker_at (p x) (list_any p xs) (q x) (list_any q xs) (weaker x) (any_weaker p q weaker xs) a
+any_weaker p q weaker (x ∷ xs) a = either_way (p x) (list_any p xs) (q x) (list_any q xs) (weaker x) (any_weaker p q weaker xs) a
 
 answer_asks : (w : Bool) (n : ℕ) (e : Event) → answers w n e ≡ true → asks n e ≡ true
 answer_asks w n (event.Asked m y) q = (both (m == n) (if w then y else not y) q).0
@@ -140,7 +136,7 @@ pub answered_asked : (w : Bool) (h : List Event) (n : ℕ) → list_any (answers
 answered_asked w h n q = any_weaker (answers w n) (asks n) (answer_asks w n) h q
 
 failure_range : (s : Run) (h : List Event) (n : ℕ) (r : Reason) → Formed s → IsLegal s h → May s h (event.Done n (outcome.Failed r)) → n < length s.nodes
-failure_range s h n reason.Status f l m = in_range s h n f l (begun_took s h n l m.0)
+failure_range s h n reason.Status f l m = in_range s h n f l (begun_took s h n l m.begun)
 failure_range s h n reason.NotConfirmed f l m = asked_range s h n f l (answered_asked false h n m.0)
 failure_range s h n (reason.Input j x) f l m = absurd m
 failure_range s h n (reason.Output j) f l m = absurd m
@@ -149,31 +145,31 @@ failure_range s h n (reason.Fault c) f l m = let d = fail_due s h n c m in due_r
 failure_range s h n reason.Interrupted f l m = due_range s h n (Started m.0.0) f l m.0.1
 failure_range s h n reason.NoMemory f l m = due_range s h n m.0 f l m.1
 
--- the node of an event; that of a caught signal isn't looked at
-abbrev pub node_of : Event → ℕ
-node_of (event.Asked m y) = m
-node_of (event.Took m) = m
-node_of (event.Looked m sums look) = m
-node_of (event.Skipped m) = m
-node_of (event.Begun m) = m
-node_of (event.Started m i c) = m
-node_of (event.Ended m i c t) = m
-node_of (event.Saved m) = m
-node_of (event.Done m o) = m
-node_of (event.Gave m) = m
-node_of (event.Caught g) = 0
+-- the number of the node of an event; that of a caught signal isn't looked at
+abbrev pub number_of : Event → ℕ
+number_of (event.Asked m y) = m
+number_of (event.Took m) = m
+number_of (event.Looked m sums look) = m
+number_of (event.Skipped m) = m
+number_of (event.Begun m) = m
+number_of (event.Started m i c) = m
+number_of (event.Ended m i c t) = m
+number_of (event.Saved m) = m
+number_of (event.Done m o) = m
+number_of (event.Gave m) = m
+number_of (event.Caught g) = 0
 
 -- an event that may come is one of a node of the plan, or a caught signal
-pub event_range : (s : Run) (h : List Event) (e : Event) → Formed s → IsLegal s h → May s h e → catches e ≡ false → node_of e < length s.nodes
+pub event_range : (s : Run) (h : List Event) (e : Event) → Formed s → IsLegal s h → May s h e → catches e ≡ false → number_of e < length s.nodes
 event_range s h (event.Asked m y) f l may q = to_ask_there s h m f may.0
 event_range s h (event.Took m) f l may q = ready_there s h m f may.0
 event_range s h (event.Looked m sums look) f l may q = absurd may
-event_range s h (event.Skipped m) f l may q = absurd may
+event_range s h (event.Skipped m) f l may q = in_range s h m f l (inside h m (skip_due s h m (event.Skipped m) may (eq-eqb m m refl)).0).took
 event_range s h (event.Begun m) f l may q = due_range s h m Begun f l may
 event_range s h (event.Started m i c) f l may q = due_range s h m (Started i) f l may.0
 event_range s h (event.Ended m i c t) f l may q = due_range s h m Ended f l may.0
 event_range s h (event.Saved m) f l may q = absurd may
-event_range s h (event.Done m outcome.Well) f l may q = in_range s h m f l (begun_took s h m l may.0)
+event_range s h (event.Done m outcome.Well) f l may q = in_range s h m f l (begun_took s h m l may.begun)
 event_range s h (event.Done m (outcome.Failed r)) f l may q = failure_range s h m r f l may
 event_range s h (event.Gave m) f l may q = in_range s h m f l (opened h m may.0).0
 event_range s h (event.Caught g) f l may q = absurd (cc)
@@ -236,7 +232,7 @@ sum_zero (suc n) a = sum_by-cons (λ (k : ℕ). 0) a (range_with_len (a + 1) n) 
 
 -- ---- events by their nodes
 
-of_node : (n : ℕ) (e : Event) → catches e ≡ false → is_of n e ≡ (node_of e == n)
+of_node : (n : ℕ) (e : Event) → catches e ≡ false → is_of n e ≡ (number_of e == n)
 of_node n (event.Caught g) q = absurd (cc)
 of_node n _ q = refl
 
@@ -244,15 +240,15 @@ of_node n _ q = refl
 abbrev pub own : (Event → Bool) → ℕ → Event → Bool
 own f n e = f e && is_of n e
 
-split_step : (f : Event → Bool) (count : ℕ) (h : List Event) (e : Event) (b : Bool) → f e ≡ b → (f e ≡ true → catches e ≡ false) → (catches e ≡ false → node_of e < count) → count_by f h ≡ sum_by (λ n. count_by (own f n) h) (range_with_len 0 count) → count_by f (h ++ e ∷ []) ≡ sum_by (λ n. count_by (own f n) (h ++ e ∷ [])) (range_with_len 0 count)
+split_step : (f : Event → Bool) (count : ℕ) (h : List Event) (e : Event) (b : Bool) → f e ≡ b → (f e ≡ true → catches e ≡ false) → (catches e ≡ false → number_of e < count) → count_by f h ≡ sum_by (λ n. count_by (own f n) h) (range_with_len 0 count) → count_by f (h ++ e ∷ []) ≡ sum_by (λ n. count_by (own f n) (h ++ e ∷ [])) (range_with_len 0 count)
 split_step f count h e true q plain there old =
     let free = plain q in
-    let each : (k : ℕ) → 0 ≤ k → k < 0 + count → count_by (own f k) (h ++ e ∷ []) ≡ count_by (own f k) h + cond (node_of e == k) 1 0 =
+    let each : (k : ℕ) → 0 ≤ k → k < 0 + count → count_by (own f k) (h ++ e ∷ []) ≡ count_by (own f k) h + cond (number_of e == k) 1 0 =
     λ k low high. count_more (own f k) h e ∙ ap₂ (λ x y. count_by (own f k) h + cond (x && y) 1 0) q (of_node k e free) in
     count_now f h e q
-    ∙ ap₂ (λ x y. x + y) old (sym (one_hot (node_of e) 0 count (omega arith) (omega (arith, there free))))
-    ∙ sym (sum_add (λ n. count_by (own f n) h) (λ k. cond (node_of e == k) 1 0) (range_with_len 0 count))
-    ∙ sym (sum_same (λ n. count_by (own f n) (h ++ e ∷ [])) (λ n. count_by (own f n) h + cond (node_of e == n) 1 0) 0 count each)
+    ∙ ap₂ (λ x y. x + y) old (sym (one_hot (number_of e) 0 count (omega arith) (omega (arith, there free))))
+    ∙ sym (sum_add (λ n. count_by (own f n) h) (λ k. cond (number_of e == k) 1 0) (range_with_len 0 count))
+    ∙ sym (sum_same (λ n. count_by (own f n) (h ++ e ∷ [])) (λ n. count_by (own f n) h + cond (number_of e == n) 1 0) 0 count each)
 split_step f count h e false q plain there old =
     count_none f h e q
     ∙ old
@@ -268,6 +264,14 @@ split s f plain h formed l =
 
 -- ---- room for each event
 
+-- the room for events, by the number of nodes and of commands
+pub slots_are : (nodes : List PlanNode) → slots nodes ≡ 8 * length nodes + 2 * total_commands nodes + 1
+unfolding slots total_commands
+slots_are [] = refl
+slots_are (x ∷ nodes) =
+    let e = slots_are nodes in
+    omega (arith, e, sum_by-cons (λ y. 8 + 2 * length (commands_of y.work)) x nodes, sum_by-cons (λ y. length (commands_of y.work)) x nodes)
+
 abbrev pub is_plain : Event → Bool
 is_plain e = not (catches e)
 
@@ -280,9 +284,9 @@ either_count p [] = refl
 either_count p (x ∷ h) =
     omega (arith, sum_by-cons (λ y. cond (p y) 1 0) x h, sum_by-cons (λ y. cond (not (p y)) 1 0) x h, either_count p h, either_one (p x))
 
-kind_one : (s : Run) (h : List Event) (n : ℕ) (e : Event) → May s h e → cond (own is_plain n e) 1 0 ≤ cond (asks n e) 1 0 + cond (takes n e) 1 0 + cond (begins n e) 1 0 + cond (starts n e) 1 0 + cond (ends n e) 1 0 + cond (concludes n e) 1 0 + cond (gives n e) 1 0
+kind_one : (s : Run) (h : List Event) (n : ℕ) (e : Event) → May s h e → cond (own is_plain n e) 1 0 ≤ cond (asks n e) 1 0 + cond (takes n e) 1 0 + cond (skips n e) 1 0 + cond (begins n e) 1 0 + cond (starts n e) 1 0 + cond (ends n e) 1 0 + cond (concludes n e) 1 0 + cond (gives n e) 1 0
 kind_one s h n (event.Looked m sums look) may = absurd may
-kind_one s h n (event.Skipped m) may = absurd may
+kind_one s h n (event.Skipped m) may = omega arith
 kind_one s h n (event.Saved m) may = absurd may
 kind_one s h n (event.Asked m y) may = omega arith
 kind_one s h n (event.Took m) may = omega arith
@@ -293,18 +297,18 @@ kind_one s h n (event.Done m o) may = omega arith
 kind_one s h n (event.Gave m) may = omega arith
 kind_one s h n (event.Caught g) may = omega arith
 
-kinds : (s : Run) (h : List Event) (n : ℕ) → IsLegal s h → count_by (own is_plain n) h ≤ count_by (asks n) h + count_by (takes n) h + count_by (begins n) h + start_count h n + end_count h n + count_by (concludes n) h + count_by (gives n) h
+kinds : (s : Run) (h : List Event) (n : ℕ) → IsLegal s h → count_by (own is_plain n) h ≤ count_by (asks n) h + count_by (takes n) h + count_by (skips n) h + count_by (begins n) h + start_count h n + end_count h n + count_by (concludes n) h + count_by (gives n) h
 kinds s h n l =
-    legal_holds s (λ k. count_by (own is_plain n) k ≤ count_by (asks n) k + count_by (takes n) k + count_by (begins n) k + start_count k n + end_count k n + count_by (concludes n) k + count_by (gives n) k)
+    legal_holds s (λ k. count_by (own is_plain n) k ≤ count_by (asks n) k + count_by (takes n) k + count_by (skips n) k + count_by (begins n) k + start_count k n + end_count k n + count_by (concludes n) k + count_by (gives n) k)
     (omega arith)
-    (λ k e legal old m. omega (arith, kind_one s k n e m, old, count_more (own is_plain n) k e, count_more (asks n) k e, count_more (takes n) k e, count_more (begins n) k e, count_more (starts n) k e, count_more (ends n) k e, count_more (concludes n) k e, count_more (gives n) k e))
+    (λ k e legal old m. omega (arith, kind_one s k n e m, old, count_more (own is_plain n) k e, count_more (asks n) k e, count_more (takes n) k e, count_more (skips n) k e, count_more (begins n) k e, count_more (starts n) k e, count_more (ends n) k e, count_more (concludes n) k e, count_more (gives n) k e))
     h l
 
 -- how many events a node can have
 node_bound : (s : Run) (h : List Event) (n : ℕ) → IsLegal s h → count_by (own is_plain n) h ≤ 8 + 2 * length (commands_of (work_at s.nodes n))
 node_bound s h n l =
     let k = sane s h n l in
-    omega (arith, kinds s h n l, asked_once s h n l, took_once s h n l, begun_once s h n l, ended_once s h n l, gave_once s h n l, k.low, k.fits)
+    omega (arith, kinds s h n l, asked_once s h n l, took_once s h n l, skipped_once s h n l, begun_once s h n l, ended_once s h n l, gave_once s h n l, k.low, k.fits)
 
 pub length_bound : (s : Run) (h : List Event) → Formed s → IsLegal s h → length h ≤ slots s.nodes
 unfolding slots
@@ -464,7 +468,7 @@ abbrev pub is_printed : Entry → Bool
 is_printed (entry.Printed to text) = true
 is_printed _ = false
 
-printed_is : (text : List ℕ) → list_all is_printed (printed text) ≡ true
+printed_is : (text : List ℕ) → list_all is_printed (printed_entries text) ≡ true
 printed_is [] = refl
 printed_is (b ∷ bs) = refl
 
@@ -515,8 +519,8 @@ broke_alone p fs x a e = record { before = []; last = x; is = e; printed = refl;
 
 broke_behind : (p : Entry → Bool) (s : Run) (h : List Event) (n : ℕ) (made : Command → Entry) (fs : List Entry) → ((c : Command) → p (made c) ≡ true) → BehindEcho s h n (λ c. made c ∷ []) fs → Broke p fs
 broke_behind p s h n made fs a b =
-    let c = option_there (λ c. fs ≡ printed c.echo ++ made c ∷ []) (command_at s.nodes n b.0) b.2 in
-    record { before = printed c.0.echo; last = made c.0; is = c.1; printed = printed_is c.0.echo; passes = a c.0 }
+    let c = option_there (λ c. fs ≡ printed_entries c.echo ++ made c ∷ []) (command_at s.nodes n b.0) b.2 in
+    record { before = printed_entries c.0.echo; last = made c.0; is = c.1; printed = printed_is c.0.echo; passes = a c.0 }
 
 -- a call that was missed stands for its miss, behind what was printed
 pub miss_broke : (s : Run) (h : List Event) (n : ℕ) (c : Call) (m : Miss) (fs : List Entry) → MissStandsFor s h n c m fs → Broke is_missed fs
@@ -534,7 +538,7 @@ fault_broke s h n call.Wait fs (inl b) = broke_alone is_failed fs (entry.Failed 
 fault_broke s h n call.Wait fs (inr b) = broke_alone is_failed fs (entry.Strayed b.1 b.2) refl b.5
 fault_broke s h n _ fs b = absurd b
 
-memory_banner : (text : List ℕ) (fs rest : List Entry) → printed text ≡ fs ++ rest → (rest ≡ [] → ⊥) → list_all is_printed fs ≡ true
+memory_banner : (text : List ℕ) (fs rest : List Entry) → printed_entries text ≡ fs ++ rest → (rest ≡ [] → ⊥) → list_all is_printed fs ≡ true
 memory_banner [] fs rest e some = absurd (some (nothing_behind fs rest e))
 memory_banner (b ∷ bs) fs rest e some = front_printed [] (entry.Printed stream.Err (b ∷ bs)) fs rest refl e some
 
@@ -547,7 +551,7 @@ memory_printed s n Looked fs rest all due e some = absurd due
 memory_printed s n Begun fs rest all due e some = memory_banner (banner_at s.nodes n) fs rest (sym due ∙ e) some
 memory_printed s n (Started i) fs rest all due e some =
     let c = option_there (λ c. (child : ℕ) × (all ≡ started_entries child c)) (command_at s.nodes n i) due in
-    front_printed (printed c.0.echo) (entry.Started c.1.0 c.0.spec) fs rest (printed_is c.0.echo) (sym c.1.1 ∙ e) some
+    front_printed (printed_entries c.0.echo) (entry.Started c.1.0 c.0.spec) fs rest (printed_is c.0.echo) (sym c.1.1 ∙ e) some
 memory_printed s n Ended fs rest all due e some = absurd due
 memory_printed s n Saved fs rest all due e some = absurd due
 
@@ -574,7 +578,7 @@ failure_children s h n reason.Interrupted fs b = ap children b
 failure_children s h n reason.NoMemory fs b =
     none_zero is_child fs (printed_passes_no is_child printed_no_child fs (memory_printed s n b.0 fs b.1 b.2 b.4 b.5 b.6))
 
-printed_children : (text : List ℕ) → children (printed text) ≡ 0
+printed_children : (text : List ℕ) → children (printed_entries text) ≡ 0
 printed_children [] = refl
 printed_children (b ∷ bs) = refl
 
@@ -589,7 +593,7 @@ stands_children s h (event.Skipped n) fs b = ap children b
 stands_children s h (event.Begun n) fs b = ap children b ∙ printed_children (banner_at s.nodes n)
 stands_children s h (event.Started n i child) fs b =
     let c = option_there (λ c. fs ≡ started_entries child c) (command_at s.nodes n i) b in
-    ap children c.1 ∙ count_now is_child (printed c.0.echo) (entry.Started child c.0.spec) refl ∙ ap (λ k. k + 1) (printed_children c.0.echo)
+    ap children c.1 ∙ count_now is_child (printed_entries c.0.echo) (entry.Started child c.0.spec) refl ∙ ap (λ k. k + 1) (printed_children c.0.echo)
 stands_children s h (event.Ended n i child t) fs b = ap children b
 stands_children s h (event.Saved n) fs b = absurd b
 stands_children s h (event.Done n outcome.Well) fs b = ap children b
@@ -611,48 +615,3 @@ fresh_start s h es gained m = sum_by-append (λ x. cond (is_child x) 1 0) es gai
 -- a matched record with no start is that of a history with none
 pub started : (s : Run) (h : List Event) (es : List Entry) → Matches s h es → list_any is_child es ≡ false → all_starts h ≡ 0
 started s h es m a = sym (matched_children s h es m) ∙ none_zero is_child es a
-
-any_first : (p : Entry → Bool) (es fs : List Entry) → list_any p es ≡ true → list_any p (es ++ fs) ≡ true
-any_first p es fs a = list_any-append p es fs ∙ ap (λ b. b || list_any p fs) a
-
-any_second : (p : Entry → Bool) (es fs : List Entry) → list_any p fs ≡ true → list_any p (es ++ fs) ≡ true
-any_second p es fs a = list_any-append p es fs ∙ ap (λ b. list_any p es || b) a ∙ or_true (list_any p es)
-
-broke_any : (p : Entry → Bool) (fs : List Entry) → Broke p fs → list_any p fs ≡ true
-broke_any p fs b = ap (λ k. list_any p k) b.is ∙ any_now p b.before b.last b.passes
-
-reason_same : (b : Bool) (t r : Reason) → (if b then Some t else None) ≡ Some r → t ≡ r
-reason_same true t r q = cc
-reason_same false t r q = absurd (cc)
-
--- an event whose reason is that of the node is one that the reason came with
-reason_event : (s : Run) (h : List Event) (n : ℕ) (r : Reason) (e : Event) (fs : List Entry) → reason_in n e ≡ Some r → StandsFor s h e fs → (m : ℕ) × FailureStandsFor s h m r fs
-reason_event s h n r (event.Done m outcome.Well) fs q b = absurd (cc)
-reason_event s h n r (event.Done m (outcome.Failed t)) fs q b = (m, subst (λ k. FailureStandsFor s h m k fs) (reason_same (m == n) t r q) b)
-reason_event s h n r _ fs q b = absurd (cc)
-
-cause_step : (s : Run) (p : Entry → Bool) (r : Reason) (h : List Event) (n : ℕ) (e : Event) (es fs : List Entry) (o : Option Reason) → ((m : ℕ) → FailureStandsFor s h m r fs → list_any p fs ≡ true) → reason_of h n ≡ o → (reason_of h n ≡ Some r → list_any p es ≡ true) → StandsFor s h e fs → reason_of (h ++ e ∷ []) n ≡ Some r → list_any p (es ++ fs) ≡ true
-cause_step s p r h n e es fs None shows q old b now =
-    let c = reason_event s h n r e fs (sym (reason_new h e n q) ∙ now) b in
-    any_second p es fs (shows c.0 c.1)
-cause_step s p r h n e es fs (Some t) shows q old b now = any_first p es fs (old (q ∙ sym (reason_kept h e n t q) ∙ now))
-
--- a reason whose entries pass a test shows in the record
-cause : (s : Run) (p : Entry → Bool) (r : Reason) → ((h : List Event) (m : ℕ) (fs : List Entry) → FailureStandsFor s h m r fs → list_any p fs ≡ true) → (h : List Event) (es : List Entry) (n : ℕ) → Matches s h es → reason_of h n ≡ Some r → list_any p es ≡ true
-cause s p r shows h es n m =
-    matches_holds s (λ k fs. reason_of k n ≡ Some r → list_any p fs ≡ true) (λ q. absurd (cc))
-    (λ k e fs gs old b q. cause_step s p r k n e fs gs (reason_of k n) (λ j. shows k j gs) refl old b q)
-    h es m
-
--- a node that failed by a failed call shows in the record, and so does one that failed by a miss
-pub fault_shows : (s : Run) (h : List Event) (es : List Entry) (n : ℕ) (c : Call) → Matches s h es → reason_of h n ≡ Some (reason.Fault c) → list_any is_failed es ≡ true
-fault_shows s h es n c m q = cause s is_failed (reason.Fault c) (λ k j fs b. broke_any is_failed fs (fault_broke s k j c fs b)) h es n m q
-
-pub miss_shows : (s : Run) (h : List Event) (es : List Entry) (n : ℕ) (c : Call) (x : Miss) → Matches s h es → reason_of h n ≡ Some (reason.Place c x) → list_any is_missed es ≡ true
-miss_shows s h es n c x m q = cause s is_missed (reason.Place c x) (λ k j fs b. broke_any is_missed fs (miss_broke s k j c x fs b)) h es n m q
-
-pub calm : (s : Run) (h : List Event) (es : List Entry) (n : ℕ) (c : Call) → Matches s h es → list_any is_failed es ≡ false → reason_of h n ≡ Some (reason.Fault c) → ⊥
-calm s h es n c m a q = true≢false (sym (fault_shows s h es n c m q) ∙ a)
-
-pub missed : (s : Run) (h : List Event) (es : List Entry) (n : ℕ) (c : Call) (x : Miss) → Matches s h es → list_any is_missed es ≡ false → reason_of h n ≡ Some (reason.Place c x) → ⊥
-missed s h es n c x m a q = true≢false (sym (miss_shows s h es n c x m q) ∙ a)

@@ -1,8 +1,10 @@
+pub mod Account
 pub mod Causes
 pub mod Codes
 pub mod Commands
 pub mod Driven
 pub mod Favourable
+pub mod Gains
 pub mod Idle
 pub mod Legal
 pub mod Match

@@ -19,9 +19,9 @@ use Rattle.just_sched.specs.State.{is_running, last_start}
 use Rattle.just_sched.specs.Legal.{Run, Due, Asked, Looked, Begun, Started, Ended, Saved, IsDue}
 
 -- the entry of a text that is printed to standard error; none for the empty text
-abbrev pub printed : List ℕ → List Entry
-printed [] = []
-printed (b ∷ bs) = entry.Printed stream.Err (b ∷ bs) ∷ []
+abbrev pub printed_entries : List ℕ → List Entry
+printed_entries [] = []
+printed_entries (b ∷ bs) = entry.Printed stream.Err (b ∷ bs) ∷ []
 
 -- whether an answer confirms: trimmed, and in ASCII lower case, it is `y` or `yes`
 abbrev pub is_yes : List ℕ → Bool
@@ -29,13 +29,13 @@ is_yes answer = bytes_eq (str_to_ascii_lowercase (trim answer)) (codes "y") || b
 
 -- the echo of a command as an entry, and then the start of its child
 abbrev pub started_entries : ℕ → Command → List Entry
-started_entries child c = printed c.echo ++ entry.Started child c.spec ∷ []
+started_entries child c = printed_entries c.echo ++ entry.Started child c.spec ∷ []
 
 -- the entries that an event which is due will stand for
 abbrev pub DueEntries : Run → ℕ → Due → List Entry → Type 0
 DueEntries s n Asked es = MatchOption (prompt_at s.nodes n) ⊥ (λ p. (answer : List ℕ) × (es ≡ entry.Asked p answer ∷ []))
 DueEntries s n Looked es = ⊥
-DueEntries s n Begun es = es ≡ printed (banner_at s.nodes n)
+DueEntries s n Begun es = es ≡ printed_entries (banner_at s.nodes n)
 DueEntries s n (Started i) es = MatchOption (command_at s.nodes n i) ⊥ (λ c. (child : ℕ) × (es ≡ started_entries child c))
 DueEntries s n Ended es = ⊥
 DueEntries s n Saved es = ⊥
@@ -46,13 +46,13 @@ IsStranger h child = (n i : ℕ) → is_running h n ≡ true → last_start h n 
 
 -- a command that is due to start, whose echo was printed before these entries
 abbrev pub BehindEcho : Run → List Event → ℕ → (Command → List Entry) → List Entry → Type 0
-BehindEcho s h n made es = (i : ℕ) × IsDue s h n (Started i) × MatchOption (command_at s.nodes n i) ⊥ (λ c. es ≡ printed c.echo ++ made c)
+BehindEcho s h n made es = (i : ℕ) × IsDue s h n (Started i) × MatchOption (command_at s.nodes n i) ⊥ (λ c. es ≡ printed_entries c.echo ++ made c)
 
 -- what stands behind a text that failed to be printed: the banner as the body begins, or the echo of a command
 abbrev pub PrintFails : Run → List Event → ℕ → List Entry → Type 0
 PrintFails s h n es =
     (es ≡ entry.Failed call.Print ∷ [])
-    × ((IsDue s h n Begun × (printed (banner_at s.nodes n) ≢ [])) ⊎ ((i : ℕ) × IsDue s h n (Started i) × MatchOption (command_at s.nodes n i) ⊥ (λ c. printed c.echo ≢ [])))
+    × ((IsDue s h n Begun × (printed_entries (banner_at s.nodes n) ≢ [])) ⊎ ((i : ℕ) × IsDue s h n (Started i) × MatchOption (command_at s.nodes n i) ⊥ (λ c. printed_entries c.echo ≢ [])))
 
 -- the entries of a body that a failed call ended: what its due event had made before, and then the failure
 abbrev pub FaultStandsFor : Run → List Event → ℕ → Call → List Entry → Type 0
@@ -88,7 +88,7 @@ StandsFor s h (event.Asked n y) es = MatchOption (prompt_at s.nodes n) ⊥ (λ p
 StandsFor s h (event.Took n) es = es ≡ []
 StandsFor s h (event.Looked n sums look) es = ⊥
 StandsFor s h (event.Skipped n) es = es ≡ []
-StandsFor s h (event.Begun n) es = es ≡ printed (banner_at s.nodes n)
+StandsFor s h (event.Begun n) es = es ≡ printed_entries (banner_at s.nodes n)
 StandsFor s h (event.Started n i child) es = MatchOption (command_at s.nodes n i) ⊥ (λ c. es ≡ started_entries child c)
 StandsFor s h (event.Ended n i child status) es = es ≡ entry.Ended child status ∷ []
 StandsFor s h (event.Saved n) es = ⊥

@@ -12,6 +12,31 @@ use Rattle.just_sched.specs.declared.work.Step.{Step}
 use Rattle.just_sched.specs.Works.{after}
 use Rattle.just_sched.specs.Nodes.{priors_at, subsequents_at, parallel_at, prompt_at, work_at}
 
+-- ---- the node of an event
+
+-- the node that the event is one of; none for a caught signal
+abbrev pub node_of : Event → Option ℕ
+node_of (event.Asked n y) = Some n
+node_of (event.Took n) = Some n
+node_of (event.Looked n sums look) = Some n
+node_of (event.Skipped n) = Some n
+node_of (event.Begun n) = Some n
+node_of (event.Started n i c) = Some n
+node_of (event.Ended n i c s) = Some n
+node_of (event.Saved n) = Some n
+node_of (event.Done n o) = Some n
+node_of (event.Gave n) = Some n
+node_of (event.Caught s) = None
+
+-- the number is n
+abbrev pub names : Option ℕ → ℕ → Bool
+names None n = false
+names (Some m) n = m == n
+
+-- the event is one of the node
+abbrev pub is_of : ℕ → Event → Bool
+is_of n e = names (node_of e) n
+
 -- ---- tests of one event, for the node n
 
 abbrev pub answers : Bool → ℕ → Event → Bool
@@ -99,6 +124,10 @@ is_skipped h n = list_any (skips n) h
 
 abbrev pub is_done : List Event → ℕ → Bool
 is_done h n = list_any (concludes n) h
+
+-- its body was skipped, or is done
+abbrev pub is_over : List Event → ℕ → Bool
+is_over h n = is_skipped h n || is_done h n
 
 abbrev pub is_asked : List Event → ℕ → Bool
 is_asked h n = list_any (asks n) h

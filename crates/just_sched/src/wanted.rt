@@ -5,7 +5,7 @@ ghost use Rattle.just_sched.specs.Tables.{flag, FlagsAre, FlagsMean};
 ghost use Rattle.just_sched.specs.Nodes.{parallel_at, subsequents_at, priors_at};
 ghost use Rattle.just_sched.specs.State.{is_over_well, IsFinished, IsWanted, MayComeNext};
 
-use super::tables::{clear, lead};
+use super::flags::{clear, lead};
 use super::{Event, Plan};
 
 /// Flags the subsequents of a node that have their turn, where the node counts.

@@ -1,5 +1,5 @@
 use Rattle.std.proofs.Common.{arith}
-use Rattle.just_sched.proofs.Books.{slots_are}
+use Rattle.just_sched.proofs.Totals.{slots_are}
 use Rattle.just_sched.proofs.room.event_count.Goals as goal
 
 pub returns : goal.returns

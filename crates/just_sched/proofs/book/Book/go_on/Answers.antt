@@ -1,3 +1,4 @@
+-- The body that was held goes on.
 use Rattle.std.proofs.Common.{ap, ◌∙◌}
 use Rattle.just_sched.specs.State.{is_running}
 use Rattle.just_sched.proofs.book.Book.go_on.Goals as goal

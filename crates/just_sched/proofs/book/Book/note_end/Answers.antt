@@ -1,3 +1,4 @@
+-- The body rests once its child is settled.
 use Rattle.std.proofs.Common.{ap, sym, ◌∙◌}
 use Rattle.just_sched.specs.State.{is_running}
 use Rattle.just_sched.proofs.book.Book.note_end.Goals as goal
