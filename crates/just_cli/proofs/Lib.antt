@@ -4,6 +4,7 @@ pub mod Breaks
 pub mod Caused
 pub mod Chain
 pub mod Falls
+pub mod OneFile
 pub mod Over
 pub mod Planned
 pub mod Requests

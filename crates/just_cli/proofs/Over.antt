@@ -11,7 +11,7 @@ use Rattle.just_cli.specs.declared.error.Error.TheVariants as error
 use Rattle.just_cli.specs.Faults.{io_error, FaultFits}
 use Rattle.just_cli.specs.Steps.{stops, goes_on}
 use Rattle.just_cli.specs.Request.{Outline, outline_of, justfile_in, folder_shown, text_shown, Asks, AsksOver, InWorld, IsAsked, HostRefuses, call_failed, call_missed, RefusedFor, by_request, by_host, no_memory, OrMemory}
-use Rattle.just_cli.proofs.Worlds.{world_of, reads_in}
+use Rattle.just_cli.proofs.OneFile.{world_of, reads_in}
 
 -- what holds in each world holds in the host's
 in_each : (told : Option World) (holds : World → Type 0) → ((w : World) → holds w) → InWorld told holds

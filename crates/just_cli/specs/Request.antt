@@ -123,7 +123,7 @@ abbrev pub folder_shown : World → Result (List ℕ) Miss
 folder_shown w = Ok w.current
 
 abbrev pub text_shown : List ℕ → World → Result (List ℕ) Miss
-text_shown folder w = told_read w.tree (justfile_in folder)
+text_shown folder w = told_read w (justfile_in folder)
 
 -- In this world the words ask for that: the plan of a run, or a refusal.
 abbrev pub Asks : List (List ℕ) → World → Result Outline Error → Type 0

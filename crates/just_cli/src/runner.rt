@@ -1,6 +1,7 @@
 //! The top calls: words and a host become a run and its end.
 
 ghost use Rattle.std.specs.Prelude.{[], None, map, IfOk};
+ghost use Rattle.just_host.specs.Real.{record_of};
 ghost use Rattle.just_cli.specs.Run.{IsRun};
 
 use super::failure::fail;
@@ -65,7 +66,7 @@ where
     R::Dir: Send,
     R::Reader: Send,
     R::A: Send,
-    ensures { IfOk result (λ d. IsRun (map (λ x. x.now) words.now) None None [] d.host.log.entries.items d.result) }
+    ensures { IfOk result (λ d. IsRun (map (λ x. x.now) words.now) None None [] (record_of d.host) d.result) }
 {
     let host = RealHost::new(rt, alloc)?;
     Ok(run_with(rt, alloc, words, host))

@@ -1,5 +1,5 @@
 -- What the proofs of crates above rest on: laws of justfiles, of their closures, and of lists.
-use Rattle.std.proofs.Common.{◌≡◌, ℕ, ◌<◌, ◌≤◌, Bool, true, List, length, find, Option, Some, ap, sym, ◌∙◌, arith}
+use Rattle.std.proofs.Common.{◌≡◌, ℕ, ◌<◌, ◌≤◌, Bool, true, List, length, find, Some, ap, sym, ◌∙◌, arith}
 use Rattle.std.specs.List.{All, Contains}
 use Rattle.std.specs.Str.Lines.{lines}
 use Rattle.just_lang.specs.declared.TheConstants.{CLOSURE_LIMIT}

@@ -20,12 +20,15 @@ use Rattle.just_lang.proofs.Misnamed.{Between, misfits, no_fault}
 abbrev pub AreKnown : ℕ → List (List ℕ) → Type 0
 AreKnown n ls = (a : Above) → (ks : List Kind) × AreKinds n a ls ks
 
+-- a line with a kind, in front of lines with kinds
 put_line : (n : ℕ) (a : Above) (l : List ℕ) (ls : List (List ℕ)) (x : Kind) → HasKind n a l x → ((ks : List Kind) × AreKinds (n + 1) (below a l x) ls ks) → (ks : List Kind) × AreKinds n a (l ∷ ls) ks
 put_line n a l ls x is h = (x ∷ h.0, (is, h.1))
 
+-- the number of the line behind a front
 shift : (n : ℕ) (l : List ℕ) (front : List (List ℕ)) → n + length (l ∷ front) ≡ n + 1 + length front
 shift n l front = omega arith
 
+-- the lines of a body have kinds
 tail_known : (g : List ℕ) (n : ℕ) (front rest : List (List ℕ)) (bs : List Line) → IsGap g → AreBodyLines g n front bs → AreKnown (n + length front) rest → (ks : List Kind) × AreKinds n (body g) (front ++ rest) ks
 tail_known g n [] rest [] gap h go = let here : n + length {A = List ℕ} [] ≡ n = omega arith in (subst (λ (j : ℕ). AreKnown j rest) here go) (body g)
 tail_known g n [] rest (b ∷ bs) gap h go = absurd h
@@ -35,6 +38,7 @@ tail_known g n (l ∷ front) rest (b ∷ bs) gap (empty_line blank more e, h) go
 tail_known g n (l ∷ front) rest (b ∷ bs) gap (full_line t full e plain f, h) go =
     put_line n (body g) l (front ++ rest) (k.Body t) (e, gap, full, plain) (tail_known g (n + 1) front rest bs gap h (subst (λ (j : ℕ). AreKnown j rest) (shift n l front) go))
 
+-- a body has kinds
 body_known : (n : ℕ) (front rest : List (List ℕ)) (bs : List Line) → IsBody n front bs → AreKnown (n + length front) rest → (ks : List Kind) × AreKinds n header (front ++ rest) ks
 body_known n front rest bs (no_line e f) go =
     let here : n + length front ≡ n = ap (λ (ys : List (List ℕ)). n + length ys) e ∙ omega arith in
@@ -46,6 +50,7 @@ body_known n front rest bs (some_lines g t more cs e gap first f h) go =
     (put_line n header (g ++ t) (more ++ rest) (k.Body t) (g, refl, gap, first)
     (subst (λ (a : Above). (ks : List Kind) × AreKinds (n + 1) a (more ++ rest) ks) (sym same) (tail_known g (n + 1) more rest cs gap h next)))
 
+-- an item has kinds
 item_known : (n : ℕ) (front rest : List (List ℕ)) (x : AstItem) → IsItem n front x → AreKnown (n + length front) rest → AreKnown n (front ++ rest)
 item_known n front rest x (blank_item l e b f) go a =
     let next : AreKnown (n + 1) rest = subst (λ (j : ℕ). AreKnown j rest) (ap (λ (ys : List (List ℕ)). n + length ys) e ∙ omega arith) go in
@@ -63,6 +68,7 @@ pub items_known : (n : ℕ) (ls : List (List ℕ)) (xs : List AstItem) → AreIt
 items_known n ls [] h = subst (λ (ys : List (List ℕ)). AreKnown n ys) (sym h) (λ a. ([], tt))
 items_known n ls (x ∷ xs) (front, rest, e, is, h) = subst (λ (ys : List (List ℕ)). AreKnown n ys) (sym e) (item_known n front rest x is (items_known (n + length front) rest xs h))
 
+-- a text is the form of one list of items
 pub one_reading : (text : List ℕ) (xs ys : List AstItem) → IsJustfile text xs → IsJustfile text ys → xs ≡ ys
 one_reading text xs ys h g =
     let ks = items_known 1 (lines text) xs h.0 nothing in
@@ -78,6 +84,7 @@ none_behind n (k.Header h) ks e = e
 none_behind n (k.Body t) ks e = e
 none_behind n k.Outside ks e = absurd (let no : ⊥ = cc in no)
 
+-- what is outside is so by its own kind
 none_with : (n : ℕ) (x : Kind) (ks js : List Kind) → first_outside n (x ∷ ks) ≡ None → first_outside (n + 1) js ≡ None → first_outside n (x ∷ js) ≡ None
 none_with n k.Blank ks js e f = f
 none_with n (k.Comment t) ks js e f = f
@@ -140,6 +147,7 @@ record Cuts (xs : List (List ℕ)) (x : List ℕ) (rest ys : List (List ℕ)) (y
   front : ys ≡ xs ++ x ∷ more
   behind : rest ≡ more ++ y ∷ tail
 
+-- of two cuts of some lines the shorter one is a cut of the front of the longer one
 cut_twice : (xs : List (List ℕ)) (x : List ℕ) (rest ys : List (List ℕ)) (y : List ℕ) (tail : List (List ℕ)) → xs ++ x ∷ rest ≡ ys ++ y ∷ tail → length xs < length ys → Cuts xs x rest ys y tail
 cut_twice xs x rest [] y tail e lt = absurd (omega arith)
 cut_twice [] x rest (v ∷ ys) y tail e lt =

@@ -5,7 +5,7 @@ use Rattle.std.specs.List.{list_any, cons_option}
 use Rattle.std.proofs.lemmas.Grind.{get_or_default_zero}
 use Rattle.std.proofs.lemmas.Option.{get_or_from_slice_get, slice_get_within, slice_get-map}
 use Rattle.just_lang.specs.declared.node.Node.{Node}
-use Rattle.just_lang.specs.WellFormed.{Used, invoked as used_invoked, prior as used_prior, subsequent as used_subsequent}
+use Rattle.just_lang.specs.WellFormed.{IsUsed, invoked as used_invoked, prior as used_prior, subsequent as used_subsequent}
 use Rattle.just_sched.specs.declared.event.Event.{Event}
 use Rattle.just_sched.specs.declared.event.Event.TheVariants as event
 use Rattle.just_sched.specs.declared.event.Outcome.TheVariants as outcome
@@ -190,7 +190,7 @@ module _ (s : Run) (h : List Event) (e : HasNothingLeft s h) where
   prior_finished : (m n : ℕ) → IsFinished s.nodes h m → Contains (priors_at s.nodes m) n → IsFinished s.nodes h n
   prior_finished m n f c = took_priors s h m e.legal (over_took s h m e.legal (finished_over s.nodes h m f)) n c
 
-  used_done : (a : ℕ) → ((q : ℕ) → q < length s.nodes → rank (round_of s q) < a → IsFinished s.nodes h q) → (n : ℕ) → rank (round_of s n) < suc a → ((m : ℕ) → n < m → m < length s.nodes → round_of s n ≡ round_of s m → IsFinished s.nodes h m) → Used (map (λ x. x.node) s.nodes) s.invocations n → IsFinished s.nodes h n
+  used_done : (a : ℕ) → ((q : ℕ) → q < length s.nodes → rank (round_of s q) < a → IsFinished s.nodes h q) → (n : ℕ) → rank (round_of s n) < suc a → ((m : ℕ) → n < m → m < length s.nodes → round_of s n ≡ round_of s m → IsFinished s.nodes h m) → IsUsed (map (λ x. x.node) s.nodes) s.invocations n → IsFinished s.nodes h n
   used_done a outer n low later (used_invoked c) = of_contained (IsFinished s.nodes h) s.invocations invocations_finished n c
   used_done a outer n low later (used_prior m x q c) =
       let there = node_there s.nodes m x q in
