@@ -3,21 +3,17 @@
 
 use just_cli::{no_arguments, run_arguments};
 use std::env;
-use std::io::ErrorKind;
+use std::io;
 use std::process::ExitCode;
 
-/// The arguments of the process, the first of which is the program's name.
-fn arguments(rt: &HostRuntime) -> std::io::Result<Vec<String>> {
-    let alloc = rt.alloc();
-    match env::args(rt)?.collect(alloc) {
-        Ok(all) => Ok(all),
-        Err(_) => Err(ErrorKind::OutOfMemory.into()),
-    }
+/// The arguments, the first of which is the program's name.
+fn arguments(rt: &HostRuntime) -> io::Result<Vec<String>> {
+    Ok(env::args(rt)?.collect(rt.alloc())?)
 }
 
 fn main(rt: HostRuntime) -> ExitCode {
-    match arguments(&rt) {
-        Ok(all) => ExitCode::from(run_arguments(&rt, rt.alloc(), all.as_slice())),
-        Err(error) => ExitCode::from(no_arguments(&rt, &error)),
-    }
+    ExitCode::from(match arguments(&rt) {
+        Ok(all) => run_arguments(&rt, rt.alloc(), all.as_slice()),
+        Err(error) => no_arguments(&rt, &error),
+    })
 }

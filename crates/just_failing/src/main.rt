@@ -4,9 +4,12 @@
 
 use just_cli::{Ended, exit_status, run};
 use just_host::{Entry, Stream};
-use std::io::ErrorKind;
+use std::env;
+use std::io;
 use std::process::ExitCode;
-use std::{env, io};
+
+/// The exit status where the run couldn't be shown.
+const NOT_SHOWN: u8 = 99;
 
 /// Shows each text that the record has as printed to standard error.
 fn show(rt: &HostRuntime, entries: &[Entry]) -> io::Result<()> {
@@ -18,25 +21,29 @@ fn show(rt: &HostRuntime, entries: &[Entry]) -> io::Result<()> {
     Ok(())
 }
 
-fn run_and_show(rt: &HostRuntime) -> io::Result<u8> {
-    let alloc = rt.alloc();
-    let all: Vec<String> = env::args(rt)?.collect(alloc)?;
-    let mut words = Vec::new(alloc);
-    for word in all.iter().skip(1) {
-        words.push(word.as_str())?;
-    }
-    match run(rt, alloc, words.as_slice()) {
-        Ok(Ended { host, result }) => {
-            show(rt, host.entries())?;
-            Ok(exit_status(&result))
-        }
-        Err(_) => Err(ErrorKind::OutOfMemory.into()),
-    }
+/// The arguments, the first of which is the program's name.
+fn arguments(rt: &HostRuntime) -> io::Result<Vec<String>> {
+    Ok(env::args(rt)?.collect(rt.alloc())?)
 }
 
 fn main(rt: HostRuntime) -> ExitCode {
-    match run_and_show(&rt) {
-        Ok(status) => ExitCode::from(status),
-        Err(_) => ExitCode::from(99),
+    let alloc = rt.alloc();
+    let Ok(all) = arguments(&rt) else {
+        return ExitCode::from(NOT_SHOWN);
+    };
+    let Ok(words) = all
+        .iter()
+        .skip(1)
+        .map(|word| word.as_str())
+        .collect::<Vec<&str>>(alloc)
+    else {
+        return ExitCode::from(NOT_SHOWN);
+    };
+    match run(&rt, alloc, words.as_slice()) {
+        Ok(Ended { host, result }) => match show(&rt, host.entries()) {
+            Ok(()) => ExitCode::from(exit_status(&result)),
+            Err(_) => ExitCode::from(NOT_SHOWN),
+        },
+        Err(_) => ExitCode::from(NOT_SHOWN),
     }
 }
