@@ -2,3 +2,4 @@ pub mod Things
 pub mod Lookups
 pub mod Places
 pub mod Behind
+pub mod Limits

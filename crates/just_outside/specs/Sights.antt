@@ -1,5 +1,5 @@
 -- A tree of files, and what its places show.
-use Rattle.std.specs.Prelude.{List, length, map, false}
+use Rattle.std.specs.Prelude.{length, map, false}
 use Rattle.std.specs.Ordering.{nat_cmp}
 use Rattle.std.specs.Cmp.Lexicographic.{slice_cmp}
 use Rattle.std.specs.FinMap.{FinMap, from_entries, entries}
