@@ -1,22 +1,27 @@
 //! The hosts: `MemHost` in memory, and `RealHost` over the system. What a host is stands in `just_outside`.
 #![tactic(auto)]
 
+mod child;
 mod command;
 mod files;
 mod items;
 mod memory;
+mod place;
 mod plot;
 mod real;
 mod sights;
 mod system;
+mod text;
 
 pub use files::Tree;
 pub use just_outside::{
     Call, Entry, Host, HostFault, Look, MAX_BYTES, Script, Signal, Spec, Status, Stream, Thing,
 };
 pub use memory::{MemChild, MemDone, MemHost};
+use place::Place;
 pub use plot::{Ending, Plot};
-pub use real::{RealChild, RealDone, RealHost};
+pub use child::{RealChild, RealDone};
+pub use real::RealHost;
 
 #[cfg(test)]
 mod path_tests;

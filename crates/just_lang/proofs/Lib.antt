@@ -10,11 +10,13 @@ pub mod Grown
 pub mod Items
 pub mod ItemsOnly
 pub mod ItemsRead
+pub mod Laws
 pub mod Lists
 pub mod Marks
 pub mod Misnamed
 pub mod NamesRead
 pub mod OneKind
 pub mod Priors
+pub mod Readings
 pub mod Recipes
 pub mod Visited

@@ -13,3 +13,4 @@ pub mod Made
 pub mod Parents
 pub mod Lossies
 pub mod Mixtures
+pub mod Laws

@@ -1,6 +1,7 @@
 -- Clean paths: three rewrites of component lists, and the list that they lead to.
-use Rattle.std.specs.Prelude.{◌≡◌, ℕ, Bool, true, false, List, [], ◌∷◌, ◌++◌, map, fold}
-use Rattle.just_path.specs.Path.{pushed}
+use Rattle.std.specs.Prelude.{◌≡◌, ℕ, Bool, true, false, ◌&&◌, List, [], ◌∷◌, ◌++◌, map, fold}
+use Rattle.std.specs.Str.{bytes_eq}
+use Rattle.just_path.specs.Path.{is_absolute, pushed}
 use Rattle.just_path.specs.Comps.{Comp, prefix, root, current, parent, normal, comp_text, comps}
 
 -- one rewrite: a `.` goes; a name goes with the `..` directly behind it; a `..` directly behind the root goes
@@ -62,6 +63,10 @@ path_from cs = fold pushed [] (map comp_text cs)
 -- a clean path
 unfoldable pub cleaned : List ℕ → List ℕ
 cleaned t = path_from (or_current (reduced (comps t)))
+
+-- whether a text is absolute and its own clean form
+abbrev pub is_clean_absolute : List ℕ → Bool
+is_clean_absolute t = is_absolute t && bytes_eq (cleaned t) t
 
 -- a path is made of a normal form of the text's components
 abbrev pub IsCleanOf : List ℕ → List ℕ → Type 0

@@ -1,7 +1,7 @@
 ghost use Rattle.std.specs.Prelude.{◌≡◌, IfOk, string_bytes};
 ghost use Rattle.just_path.specs.Path.{text_of};
 
-use super::{NoMemory, Utf8Path};
+use super::{NoMemory, TryClone, Utf8Path};
 use std::marker::Model;
 
 /// An owned path, which contracts see as the list of its text's bytes.
@@ -54,5 +54,11 @@ impl Utf8PathBuf {
     {
         let text = self.text.clone()?;
         Ok(Utf8PathBuf { text })
+    }
+}
+
+impl TryClone for Utf8PathBuf {
+    fn try_clone(&self) -> Result<Utf8PathBuf, NoMemory> {
+        Utf8PathBuf::try_clone(self)
     }
 }

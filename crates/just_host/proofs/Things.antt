@@ -1,5 +1,5 @@
--- Looking a path up in a tree, one thing after another.
-use Rattle.std.proofs.Common.{◌≡◌, ℕ, zero, suc, ◌+◌, ◌<◌, ◌≤◌, ◌||◌, Bool, refl, arith, zero-add, List, [], ◌∷◌, ◌++◌, length, get_or, drop, cond, not, true, false, Option, Some, None, ap, sym, ◌∙◌}
+-- Looking a place up among things, one after another, and what taking out and putting in makes of their map.
+use Rattle.std.proofs.Common.{◌≡◌, ℕ, zero, suc, ◌+◌, ◌<◌, ◌≤◌, ◌||◌, Bool, refl, arith, zero-add, List, [], ◌∷◌, ◌++◌, length, get_or, drop, map, cond, not, true, false, Option, Some, None, ap, sym, subst, ◌∙◌}
 use Rattle.std.proofs.lemmas.List.{at_drop_more}
 use Rattle.std.proofs.lemmas.Map.Text.{is_eq-slice_cmp}
 use Rattle.std.specs.Ordering.{nat_cmp, eq_by_cmp}
@@ -11,7 +11,13 @@ use Rattle.std.proofs.lemmas.Cmp.{nat_list_cmp_total}
 use Rattle.std.proofs.lemmas.Slice.Eq.{bytes_eq-Decides}
 use Rattle.std.proofs.lemmas.List.FromFn.{length-range_with_len, get_or-range_with_len}
 use Rattle.std.proofs.lemmas.List.Folds.{list_any_at}
+use Rattle.std.proofs.lemmas.List.{length-map, get_or-map, map-append}
+use Rattle.just_path.specs.View.{place_under}
 use Rattle.just_outside.specs.declared.tree.Thing.{Thing}
+use Rattle.just_outside.specs.Sights.{Tree}
+use Rattle.just_host.specs.declared.place.Place.{Place}
+use Rattle.just_host.specs.Files.{by_text, files_in}
+use Rattle.just_host.specs.Playing.{ArePlacesOf, changed, after_effects, after_changes}
 
 -- the next thing is the one that is found, or is passed
 pub find_more : (path : List ℕ) (es : List (List ℕ × Thing)) (i : ℕ) (d : List ℕ × Thing) → i < length es → find (slice_cmp nat_cmp) path (drop i es) ≡ cond (bytes_eq path (get_or es i d).0) (Some (get_or es i d).1) (find (slice_cmp nat_cmp) path (drop (i + 1) es))
@@ -30,6 +36,23 @@ find_pass path key es i e h is named other =
     let passed : bytes_eq path (get_or es i e).0 ≡ false = cc in
     find_more path es i e h ∙ ap (λ b. cond b (Some (get_or es i e).1) (find (slice_cmp nat_cmp) path (drop (i + 1) es))) passed
 
+-- a thing of a list, by the text of its place
+pub item_at : (things : List (Place × Thing)) (i : ℕ) (e : Place × Thing) → i < length things → e ≡ get_or things i e → by_text e ≡ get_or (map by_text things) i (by_text e)
+item_at things i e inside is = ap by_text is ∙ sym (get_or-map by_text things i e (by_text e) inside)
+
+pub within : (things : List (Place × Thing)) (i : ℕ) → i < length things → i < length (map by_text things)
+within things i inside = subst (λ n. i < n) (sym (length-map things by_text)) inside
+
+-- the next thing is found
+pub thing_hit : (place key : List ℕ) (things : List (Place × Thing)) (i : ℕ) (e : Place × Thing) → i < length things → e ≡ get_or things i e → key ≡ e.0.path → bytes_eq place key ≡ true → find (slice_cmp nat_cmp) place (drop i (map by_text things)) ≡ Some e.1
+thing_hit place key things i e inside is named same =
+    find_hit place key (map by_text things) i (by_text e) (within things i inside) (item_at things i e inside is) named same
+
+-- the next thing is passed
+pub thing_missed : (place key : List ℕ) (things : List (Place × Thing)) (i : ℕ) (e : Place × Thing) → i < length things → e ≡ get_or things i e → key ≡ e.0.path → bytes_eq place key ≡ false → find (slice_cmp nat_cmp) place (drop i (map by_text things)) ≡ find (slice_cmp nat_cmp) place (drop (i + 1) (map by_text things))
+thing_missed place key things i e inside is named other =
+    find_pass place key (map by_text things) i (by_text e) (within things i inside) (item_at things i e inside is) named other
+
 -- a test that holds at a number below n, and one that holds at none
 pub any_below : (p : ℕ → Bool) (n k : ℕ) → k < n → p k ≡ true → list_any p (range_with_len 0 n) ≡ true
 any_below p n k h holds =
@@ -44,7 +67,8 @@ none_from p a (suc n) h =
 pub none_below : (p : ℕ → Bool) (n : ℕ) → ((j : ℕ) → j < n → p j ≡ false) → list_any p (range_with_len 0 n) ≡ false
 none_below p n h = none_from p 0 n (λ j low high. h j (omega arith))
 
-same_text : (x y : List ℕ) → eq_by_cmp (slice_cmp nat_cmp) x y ≡ true → x ≡ y
+-- texts that compare equal are equal
+pub same_text : (x y : List ℕ) → eq_by_cmp (slice_cmp nat_cmp) x y ≡ true → x ≡ y
 same_text x y h = (bytes_eq-Decides x y).0 (sym (is_eq-slice_cmp x y) ∙ h)
 
 same_itself : (x : List ℕ) → eq_by_cmp (slice_cmp nat_cmp) x x ≡ true
@@ -105,3 +129,33 @@ from_entries-replaced path v es m is =
     ∙ ap (λ o. cond (eq_by_cmp (slice_cmp nat_cmp) q path) (Some v) o) (get-remove nat_list_cmp_total m path q)
     ∙ put_again (eq_by_cmp (slice_cmp nat_cmp) q path) v (get m q)
     ∙ sym (get-insert nat_list_cmp_total m path v q))
+
+filter_case : (b : Bool) (x : Place × Thing) (rest : List (Place × Thing)) → map by_text (cond b (x ∷ rest) rest) ≡ cond b (by_text x ∷ map by_text rest) (map by_text rest)
+filter_case true x rest = refl
+filter_case false x rest = refl
+
+filtered_texts : (place : List ℕ) (things : List (Place × Thing)) → map by_text (filter (λ e. not (bytes_eq e.0.path place)) things) ≡ filter (λ e. not (bytes_eq e.0 place)) (map by_text things)
+filtered_texts place [] = refl
+filtered_texts place (e ∷ es) =
+    filter_case (not (bytes_eq e.0.path place)) e (filter (λ x. not (bytes_eq x.0.path place)) es)
+    ∙ ap (λ xs. cond (not (bytes_eq e.0.path place)) (by_text e ∷ xs) xs) (filtered_texts place es)
+
+-- to drop the things of a place is to take it out of the map
+pub files_in-without : (place : List ℕ) (things : List (Place × Thing)) → files_in (filter (λ e. not (bytes_eq e.0.path place)) things) ≡ remove (files_in things) place
+files_in-without place things = ap (from_entries {R = slice_cmp nat_cmp}) (filtered_texts place things) ∙ from_entries-without place (map by_text things)
+
+-- to push a thing where its place was taken out is to put it there
+pub files_in-replaced : (place : Place) (v : Thing) (things : List (Place × Thing)) (m : FinMap (slice_cmp nat_cmp) Thing) → files_in things ≡ remove m place.path → files_in (things ++ (place, v) ∷ []) ≡ insert m place.path v
+files_in-replaced place v things m is =
+    ap (from_entries {R = slice_cmp nat_cmp}) (map-append by_text things ((place, v) ∷ []))
+    ∙ from_entries-replaced place.path v (map by_text things) m is
+
+-- places of effects lead where the effects' paths do
+pub after_changes-places : (folder : List ℕ) (places : List Place) (effects : List (List ℕ × Option Thing)) (tree : Tree) → ArePlacesOf folder places effects → after_changes tree places effects ≡ after_effects folder tree effects
+after_changes-places folder [] [] tree h = refl
+after_changes-places folder [] (e ∷ es) tree h = absurd cc
+after_changes-places folder (p ∷ ps) [] tree h = refl
+after_changes-places folder (p ∷ ps) (e ∷ es) tree h =
+    let first : p.path ≡ place_under folder e.0 = cc in
+    let rest : ArePlacesOf folder ps es = cc in
+    ap (λ q. after_changes (changed tree q e.1) ps es) first ∙ after_changes-places folder ps es (changed tree (place_under folder e.0) e.1) rest

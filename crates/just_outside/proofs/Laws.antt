@@ -1,4 +1,4 @@
--- Faults and misses are counted over the record, so they rise with its entries.
+-- Laws of records for the crates above: faults and misses are counted over a record, so they rise with its entries.
 use Rattle.std.proofs.Common.{◌≡◌, ◌+◌, List, [], ◌++◌, cond, ap, arith}
 use Rattle.std.proofs.lemmas.List.Sums.{sum_by-append}
 use Rattle.just_path.specs.Host.{Counts}
