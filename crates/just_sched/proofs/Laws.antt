@@ -1,5 +1,5 @@
 -- What just_sched offers to the proofs of the crates above: laws of histories, of records that they match, and of runs.
-use Rattle.std.proofs.Common.{◌≡◌, ◌≢◌, ℕ, false, Contains, List, Some, ℤ, pos}
+use Rattle.std.proofs.Common.{◌≡◌, ◌≢◌, ℕ, false, Contains, List, Some, None, ℤ, pos}
 use Rattle.std.specs.List.{list_any, last_or}
 use Rattle.just_path.specs.declared.host.Miss.{Miss}
 use Rattle.just_outside.specs.declared.entry.Call.{Call}

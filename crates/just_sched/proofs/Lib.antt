@@ -15,7 +15,6 @@ pub mod Gained
 pub mod Grows
 pub mod Histories
 pub mod Laws
-pub mod Nothing
 pub mod OneMore
 pub mod OpenBodies
 pub mod Order

@@ -1,8 +1,29 @@
 -- The run of nothing, over a host with no record.
-use Rattle.std.specs.Prelude.{[], None}
-use Rattle.std.proofs.Common.{lit<}
-use Rattle.just_sched.proofs.Nothing.{nothing_formed, nothing_short, nothing_asked}
+use Rattle.std.specs.Prelude.{◌≡◌, ◌<◌, ◌^◌, All, is_none, true, [], length, None}
+use Rattle.std.proofs.Common.{arith, lit<}
+use Rattle.just_lang.specs.WellFormed.{IsWellFormed}
+use Rattle.just_sched.specs.declared.plan_node.PlanNode.{PlanNode}
+use Rattle.just_sched.specs.Works.{commands_of}
 use Rattle.just_sched.specs.Start.{Start}
+
+-- no nodes and no invocations are well formed
+pub nothing_formed : IsWellFormed [] []
+nothing_formed = record {
+  invocations_are = λ k d h. absurd (omega arith);
+  priors_are = λ n x e. absurd (cc);
+  subsequents_are = λ n x e. absurd (cc);
+  rounds_are = λ n m x e. absurd (cc);
+  used = λ n x e. absurd (cc);
+  distinct = λ n m x y e. absurd (cc);
+}
+
+-- no node has too many commands
+pub nothing_short : All (λ (x : PlanNode). length (commands_of x.work) < 2 ^ 32) []
+nothing_short = λ k d h. absurd (omega arith)
+
+-- no node has a prompt
+pub nothing_asked : All (λ (x : PlanNode). is_none x.prompt ≡ true) []
+nothing_asked = λ k d h. absurd (omega arith)
 
 -- where the name begins that no run has
 abbrev pub nowhere : Start
