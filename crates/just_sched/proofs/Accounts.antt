@@ -23,16 +23,24 @@ use Rattle.just_sched.specs.Match.{StandsFor}
 use Rattle.just_sched.specs.Room.{slots, settles, settle_count, total_commands}
 use Rattle.just_sched.specs.Start.{Start, IsKept, run_of}
 use Rattle.just_sched.specs.State.{signal_in, has_taken, has_given, is_over, is_open, is_running, has_caught, caught_signal}
-use Rattle.just_sched.proofs.Keeps.{legal_more, matches_more, neither, all_starts_more, settles_more, signal_stays}
-use Rattle.just_sched.proofs.Sane.{untaken, opened, running_inside, over_still}
-use Rattle.just_sched.proofs.TableLaws.{not_caught}
-use Rattle.just_sched.proofs.Totals.{Formed, room, settle_room, open_took, open_gave, open_stays, in_range, fresh_start}
+use Rattle.just_sched.proofs.Counts.{over_still, running_inside, untaken}
+use Rattle.just_sched.proofs.Due.{opened}
+use Rattle.just_sched.proofs.EventRoom.{room, settle_room}
+use Rattle.just_sched.proofs.Histories.{legal_more, matches_more}
+use Rattle.just_sched.proofs.OneMore.{all_starts_more, settles_more, signal_stays}
+use Rattle.just_sched.proofs.OpenBodies.{open_gave, open_stays, open_took}
+use Rattle.just_sched.proofs.PlanShape.{IsFormed}
+use Rattle.just_sched.proofs.Range.{in_range}
+use Rattle.just_sched.proofs.Stretch.{fresh_start}
+use Rattle.just_sched.proofs.Tests.{neither}
 
 -- ---- one event more
 
+-- where nothing in two stretches failed, nothing in either did
 none_failed : (es fs : List Entry) → list_any is_failed (es ++ fs) ≡ false → (list_any is_failed es ≡ false) × (list_any is_failed fs ≡ false)
 none_failed es fs e = neither (list_any is_failed es) (list_any is_failed fs) (sym (list_any-append is_failed es fs) ∙ e)
 
+-- a history that starts nothing started nothing before its last event
 none_started : (h : List Event) (e : Event) → all_starts (h ++ e ∷ []) ≡ 0 → all_starts h ≡ 0
 none_started h e z = omega (arith, all_starts_more h e)
 
@@ -49,15 +57,17 @@ kept_more s h now fs new w v e k gained may stands same = record {
 }
 
 -- how many bodies are open behind an event
-open_behind : (s : Run) (h : List Event) (e : Event) → Formed s → IsLegal s h → May s h e → open_bodies s (h ++ e ∷ []) ≡ taken_behind e (open_bodies s h)
+open_behind : (s : Run) (h : List Event) (e : Event) → IsFormed s → IsLegal s h → May s h e → open_bodies s (h ++ e ∷ []) ≡ taken_behind e (open_bodies s h)
 open_behind s h (event.Took n) f l may = open_took s h n f l may
 open_behind s h (event.Gave n) f l may = omega (arith, open_gave s h n f l may)
 open_behind s h e f l may = open_stays s h e (λ n. refl) (λ n. refl)
 
+-- a job is free, so one body more keeps the limit
 one_more : (jobs : Option ℕ) (taken bodies : ℕ) → taken ≡ bodies → MatchOption jobs (Unit {0}) (λ j. bodies < j) → MatchOption jobs (Unit {0}) (λ j. taken + 1 ≤ j)
 one_more None taken bodies e free = tt
 one_more (Some j) taken bodies e free = omega arith
 
+-- one body less keeps the limit
 one_less : (jobs : Option ℕ) (taken : ℕ) → MatchOption jobs (Unit {0}) (λ j. taken ≤ j) → MatchOption jobs (Unit {0}) (λ j. taken - 1 ≤ j)
 one_less None taken bound = tt
 one_less (Some j) taken bound = omega arith
@@ -68,9 +78,11 @@ bound_behind s h (event.Took n) taken counted may bound = one_more s.jobs taken 
 bound_behind s h (event.Gave n) taken counted may bound = one_less s.jobs taken bound
 bound_behind s h e taken counted may bound = bound
 
+-- fewer bodies are open than a number of 32 bits holds
 bodies_few : (s : Start) (h : List Event) → open_bodies (run_of s) h < 2 ^ 32
 bodies_few s h = omega (arith, count_by-le-length (λ n. is_open h n) (range_with_len 0 (length s.plan.nodes)), length-range_with_len 0 (length s.plan.nodes), s.plan.few)
 
+-- two proofs that two signals are equal are one
 signals_set : IsSet (Option Signal)
 signals_set = Coded-set (coded_option signal_contract.the_row.coded)
 
@@ -96,9 +108,6 @@ module _ {s : Start} {h : List Event} {now : List Entry} {w : Option World} {spa
   pub signalled_of : caught ≡ caught_signal h
   signalled_of = ∥∥₁_elim account (signals_set _ _) (λ a. a.signalled)
 
-  pub none_caught : caught ≡ None → has_caught h ≡ false
-  none_caught none = not_caught h (sym signalled_of ∙ none)
-
   -- there is room for an event that may come
   pub room_for : (e : Event) → May (run_of s) h e → length h < slots s.plan.nodes
   room_for e may = ∥∥₁_elim s.plan.well le_prop (λ f. ∥∥₁_elim account le_prop (λ a. room (run_of s) h e f a.kept.legal may))
@@ -110,10 +119,6 @@ module _ {s : Start} {h : List Event} {now : List Entry} {w : Option World} {spa
   -- an open node is one of the plan
   pub node_in : (n : ℕ) → is_open h n ≡ true → n < length s.plan.nodes
   node_in n o = ∥∥₁_elim s.plan.well le_prop (λ f. ∥∥₁_elim account le_prop (λ a. in_range (run_of s) h n f a.kept.legal (opened h n o).0))
-
-  -- a node that took no job isn't open, gave none back, and runs nothing
-  pub not_open : (n : ℕ) → has_taken h n ≡ false → is_open h n ≡ false
-  not_open n t = ∥∥₁_elim account (Bool-set _ _) (λ a. (untaken (run_of s) h n a.kept.legal t).is_open)
 
   pub not_given : (n : ℕ) → has_taken h n ≡ false → has_given h n ≡ false
   not_given n t = ∥∥₁_elim account (Bool-set _ _) (λ a. (untaken (run_of s) h n a.kept.legal t).gave)
@@ -153,20 +158,14 @@ module _ {s : Start} {h : List Event} {now : List Entry} {w : Option World} {spa
   pub some_taken : (n : ℕ) → May (run_of s) h (event.Gave n) → 1 ≤ taken
   some_taken n may = ∥∥₁_elim s.plan.well le_prop (λ f. ∥∥₁_elim account le_prop (λ a. omega (arith, a.counted, open_gave (run_of s) h n f a.kept.legal may)))
 
-  -- each job is taken, or one is free
-  pub full_or_free : (jobs : Option ℕ) → jobs ≡ s.jobs → MatchOption jobs (Unit {0}) (λ j. taken ≤ j)
-  full_or_free jobs same = ∥∥₁_elim account (bound_prop jobs) (λ a. subst (λ k. MatchOption k (Unit {0}) (λ j. taken ≤ j)) (sym same) a.bound)
-    where
-    bound_prop : (k : Option ℕ) → IsProp (MatchOption k (Unit {0}) (λ j. taken ≤ j))
-    bound_prop None = λ x y. refl
-    bound_prop (Some j) = le_prop
-
 -- ---- a book that was just opened
 
+-- in no history is nothing open
 none_open : (xs : List ℕ) → count_by (λ n. is_open [] n) xs ≡ 0
 none_open [] = refl
 none_open (x ∷ xs) = omega (arith, sum_by-cons (λ n. cond (is_open [] n) 1 0) x xs, none_open xs)
 
+-- no open body keeps each limit
 no_bound : (jobs : Option ℕ) → MatchOption jobs (Unit {0}) (λ j. 0 ≤ j)
 no_bound None = tt
 no_bound (Some j) = omega arith

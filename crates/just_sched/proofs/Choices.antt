@@ -16,38 +16,35 @@ use Rattle.just_sched.specs.Nodes.{prompt_in}
 use Rattle.just_sched.specs.Start.{Start, run_of}
 use Rattle.just_sched.specs.State.{has_taken, has_caught, IsReady, IsToAsk}
 use Rattle.just_sched.proofs.Grows.{grows_two}
-use Rattle.just_sched.proofs.Keeps.{taken_on}
-use Rattle.just_sched.proofs.Totals.{ready_there}
+use Rattle.just_sched.proofs.OneMore.{taken_on}
+use Rattle.just_sched.proofs.Range.{ready_there}
+use Rattle.just_sched.proofs.Reasons.{none_to_ask}
 
 -- ---- no node is to be asked
 
-no_prompt : (o : Option (List ℕ)) → is_none o ≡ true → is_some o ≡ true → ⊥
-no_prompt None a b = absurd (cc)
-no_prompt (Some x) a b = absurd (cc)
-
-prompted_at : (nodes : List PlanNode) (n : ℕ) (o : Option PlanNode) → slice_get nodes n ≡ o → All (λ x. is_none x.prompt ≡ true) nodes → is_some (prompt_in o) ≡ true → ⊥
-prompted_at nodes n None q all e = absurd (cc)
-prompted_at nodes n (Some x) q all e =
-    no_prompt x.prompt (subst (λ (y : PlanNode). is_none y.prompt ≡ true) (get_or_from_slice_get nodes n x x q) (all n x (slice_get_within nodes n x q))) e
-
+-- no node of a plan without prompts is to be asked
 pub none_asked : (s : Start) (h : List Event) (n : ℕ) → IsToAsk s.plan.nodes s.plan.invocations h n → ⊥
-none_asked s h n asked = ∥∥₁_elim s.plan.unprompted (λ x. absurd x) (λ all. prompted_at s.plan.nodes n (slice_get s.plan.nodes n) refl all asked.prompted)
+none_asked s h n asked = ∥∥₁_elim s.plan.unprompted (λ x. absurd x) (λ all. none_to_ask (run_of s) h all n asked)
 
 -- ---- answers of a move
 
+-- what follows for each answer of a move follows for the move
 pub match_next : {X C D : Type 0} {g : Host.Ghosts X C D} {p : PathHost.Ghosts X} (r : Next X C D g p) (A A' : Type 0) (B B' : ℕ → ℕ → Type 0) (K K' : Idle → Type 0) → (A → A') → ((n c : ℕ) → B n c → B' n c) → ((i : Idle) → K i → K' i) → MatchNext r A B K → MatchNext r A' B' K'
 match_next next.Moved A A' B B' K K' a b k m = a m
 match_next (next.Body body) A A' B B' K K' a b k m = b body.node body.child m
 match_next (next.Idle i) A A' B B' K K' a b k m = k i m
 
+-- where no node of the plan is ready, there is no work
 pub nothing_ready : (s : Start) (h : List Event) → ((n : ℕ) → n < length s.plan.nodes → IsReady s.plan.nodes s.plan.invocations h n → ⊥) → HasWork (run_of s) h → ⊥
 nothing_ready s h none (n, inl ready) = ∥∥₁_elim s.plan.well (λ x. absurd x) (λ f. none n (ready_there (run_of s) h n f ready) ready)
 nothing_ready s h none (n, inr is_asked) = none_asked s h n is_asked
 
+-- a free job isn't a full limit
 not_full : (jobs : Option ℕ) (count : ℕ) → MatchOption jobs (Unit {0}) (λ j. count < j) → jobs ≡ Some count → ⊥
 not_full None count free e = absurd (cc)
 not_full (Some j) count free e = let same : j ≡ count = cc in omega arith
 
+-- a ready node can be moved where a job is free
 pub can_move : (s : Start) (h : List Event) (n : ℕ) → has_caught h ≡ false → IsReady s.plan.nodes s.plan.invocations h n → MatchOption s.jobs (Unit {0}) (λ j. open_bodies (run_of s) h < j) → CanMove (run_of s) h
 can_move s h n calm ready free = (calm, (n, inl ready), λ none full. not_full s.jobs (open_bodies (run_of s) h) free full)
 

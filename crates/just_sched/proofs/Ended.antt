@@ -16,17 +16,20 @@ use Rattle.just_sched.specs.Legal.{Run, IsLegal, IsClosed, IsComplete}
 use Rattle.just_sched.specs.Start.{Start, IsKept, run_of}
 use Rattle.just_sched.specs.State.{has_caught}
 use Rattle.just_sched.specs.Verdict.{IsVerdict, NoneDecides}
-use Rattle.just_sched.proofs.Totals.{Formed}
-use Rattle.just_sched.proofs.Complete.{Unprompted, complete, complete_prop, jobs_absurd, no_reason, unprompted_answered}
+use Rattle.just_sched.proofs.Complete.{complete, complete_prop, jobs_absurd}
+use Rattle.just_sched.proofs.PlanShape.{IsFormed}
+use Rattle.just_sched.proofs.Reasons.{HasNoPrompts, no_reason, unprompted_answered}
 
 -- a job limit, where there is one, is one job or more
 abbrev pub AllowsJobs : Option ℕ → Type 0
 AllowsJobs jobs = MatchOption jobs (Unit {0}) (λ j. 0 < j)
 
+-- a limit that is given as a number is one job or more
 allows : (jobs : Option NonZeroU64) → AllowsJobs (option_map non_zero_u64_get jobs)
 allows (Some n) = n.ok
 allows None = tt
 
+-- no limit is reached where no body is open
 limit_absurd : (s : Run) (h : List Event) (jobs : Option ℕ) → s.jobs ≡ jobs → AllowsJobs jobs → IsClosed s h → IsIdle s h idle.Jobs → ⊥
 limit_absurd s h (Some j) same some closed is = jobs_absurd s h j closed same some is
 limit_absurd s h None same some closed is = absurd (cc (sym same ∙ is.3))
@@ -43,7 +46,7 @@ pub nothing_left_by : (s : Run) (h : List Event) (i : Idle) (jobs : Option NonZe
 nothing_left_by s h i jobs are closed is = nothing_left s h i (subst AllowsJobs are (allows jobs)) closed is
 
 -- where no node failed and nothing can be done, all is done
-pub all_done : (s : Run) (h : List Event) → ∥ Formed s ∥₁ → ∥ Unprompted s ∥₁ → IsLegal s h → IsClosed s h → has_caught h ≡ false → NoneDecides s h → (HasWork s h → ⊥) → IsComplete s h
+pub all_done : (s : Run) (h : List Event) → ∥ IsFormed s ∥₁ → ∥ HasNoPrompts s ∥₁ → IsLegal s h → IsClosed s h → has_caught h ≡ false → NoneDecides s h → (HasWork s h → ⊥) → IsComplete s h
 all_done s h formed unprompted legal closed calm well nothing =
     ∥∥₁_elim formed (complete_prop s h) (λ f. ∥∥₁_elim unprompted (complete_prop s h) (λ u.
     complete s h f legal closed (no_reason s h legal well calm) (unprompted_answered s h u legal) calm nothing))
@@ -59,6 +62,7 @@ pub well_complete : (s : Start) (h : List Event) (now : List Entry) (w : Option 
     → ∥ IsKept s h now w ∥₁ → IsClosed (run_of s) h → (has_caught h ≡ true) ⊎ (HasWork (run_of s) h → ⊥) → IsVerdict (run_of s) h v → v ≡ verdict.Well → IsComplete (run_of s) h
 well_complete s h now w v kept closed left judged well = well_by (subst (λ x. IsVerdict (run_of s) h x) well judged)
   where
+  -- a run that went well is complete, by what its verdict says
   well_by : IsVerdict (run_of s) h verdict.Well → IsComplete (run_of s) h
   well_by (none, inl calm) = ended_complete s h now w kept closed none calm left
   well_by (none, inr complete) = complete

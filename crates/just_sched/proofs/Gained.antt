@@ -14,7 +14,7 @@ use Rattle.just_sched.specs.Gains.{TellGains, StartGains}
 use Rattle.just_sched.specs.Legal.{Run, Begun, Started, IsDue, May, all_starts}
 use Rattle.just_sched.specs.Match.{StandsFor, printed_entries, started_entries}
 use Rattle.just_sched.specs.Nodes.{banner_at, command_at}
-use Rattle.just_sched.proofs.Keeps.{all_starts_more}
+use Rattle.just_sched.proofs.OneMore.{all_starts_more}
 
 -- a banner that couldn't be printed ends the body so
 pub begin_fails : (A : Type 0) (s : Run) (h : List Event) (n : ℕ) (r : Reason) (es : List Entry) → IsDue s h n Begun → TellGains {A = A} (banner_at s.nodes n) (Err r) es → May s h (event.Done n (outcome.Failed r)) × StandsFor s h (event.Done n (outcome.Failed r)) es
@@ -22,16 +22,20 @@ begin_fails A s h n (reason.Fault call.Print) es due g = (inl due, (g.1, inl (du
 begin_fails A s h n reason.NoMemory es due g = ((Begun, due, λ e. cc), (Begun, printed_entries (banner_at s.nodes n), printed_entries (banner_at s.nodes n), due, refl, ap (λ x. x ++ printed_entries (banner_at s.nodes n)) (sym g.1), g.0))
 begin_fails A s h n _ es due g = absurd g
 
+-- a list with a last item isn't empty
 some_pushed : {A : Type 0} (xs : List A) (y : A) → xs ++ y ∷ [] ≢ []
 some_pushed [] y e = cc
 some_pushed (x ∷ xs) y e = cc
 
+-- what holds of the command holds of the command at its place
 at_command : (P : Command → Type 0) (o : Option Command) (c : Command) → o ≡ Some c → P c → MatchOption o ⊥ P
 at_command P o c q p = subst (λ k. MatchOption k ⊥ P) (sym q) p
 
+-- a started child stands for its entries
 pub start_stands : (s : Run) (h : List Event) (n i child : ℕ) (c : Command) (es : List Entry) → command_at s.nodes n i ≡ Some c → es ≡ started_entries child c → StandsFor s h (event.Started n i child) es
 start_stands s h n i child c es q e = at_command (λ d. es ≡ started_entries child d) (command_at s.nodes n i) c q e
 
+-- a start that broke ends the body so
 pub start_fails : {C : Type 0} (number : C → ℕ) (s : Run) (h : List Event) (n i : ℕ) (c : Command) (r : Reason) (es : List Entry) → IsDue s h n (Started i) → command_at s.nodes n i ≡ Some c → StartGains number c (Err r) es → May s h (event.Done n (outcome.Failed r)) × StandsFor s h (event.Done n (outcome.Failed r)) es
 start_fails number s h n i c (reason.Fault call.Print) es due q g =
     (inr (i, due), (g.1, inr (i, due, at_command (λ d. printed_entries d.echo ≢ []) (command_at s.nodes n i) c q g.0)))
@@ -49,5 +53,6 @@ start_fails number s h n i c reason.NoMemory es due q (inr g) =
     ((Started i, due, λ e. cc), (Started i, entry.Started 0 c.spec ∷ [], started_entries 0 c, due, all, ap (λ x. x ++ entry.Started 0 c.spec ∷ []) (sym g), λ e. cc))
 start_fails number s h n i c _ es due q g = absurd g
 
+-- a history with a start has one
 pub started_not_none : (h : List Event) (n i child : ℕ) → all_starts (h ++ event.Started n i child ∷ []) ≡ 0 → ⊥
 started_not_none h n i child z = omega (arith, all_starts_more h (event.Started n i child))

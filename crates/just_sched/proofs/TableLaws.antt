@@ -17,7 +17,9 @@ use Rattle.just_sched.specs.Nodes.{subsequents_at}
 use Rattle.just_sched.specs.declared.event.Event.TheVariants as event
 use Rattle.just_sched.specs.State.{is_over_well, IsFinished, finished, first, has_caught, caught_signal}
 use Rattle.just_sched.specs.Tables.{flag, or_first}
+use Rattle.just_sched.proofs.Finish.{finished_behind, finished_over}
 
+-- four tests, in either order
 or_exchange : (a b c d : Bool) → ((a || b) || (c || d)) ≡ ((a || c) || (b || d))
 or_exchange true b c d = refl
 or_exchange false true true d = refl
@@ -30,13 +32,6 @@ pub any_or : {A : Type 0} (p q : A → Bool) (xs : List A) → list_any (λ x. p
 any_or p q [] = refl
 any_or p q (x ∷ xs) = rw (any_or p q xs) (or_exchange (p x) (q x) (list_any p xs) (list_any q xs))
 
--- what a node that is finished is
-pub finished_over : (nodes : List PlanNode) (h : List Event) (n : ℕ) → IsFinished nodes h n → is_over_well h n ≡ true
-finished_over nodes h n (finished m over behind) = over
-
-pub finished_behind : (nodes : List PlanNode) (h : List Event) (n q : ℕ) → IsFinished nodes h n → Contains (subsequents_at nodes n) q → IsFinished nodes h q
-finished_behind nodes h n q (finished m over behind) c = behind q c
-
 -- from m on a flag says whether its node is finished, and before m whether it is over well
 pub record Sweep (nodes : List PlanNode) (h : List Event) (flags : List Bool) (m : ℕ) : Type 0 where
   pub low : (k : ℕ) → k < m → k < length nodes → flag flags k ≡ is_over_well h k
@@ -47,15 +42,19 @@ module _ (nodes : List PlanNode) (h : List Event) (flags : List Bool) (m : ℕ) 
     (behind : (q : ℕ) → Contains (subsequents_at nodes m) q → (m < q) × (q < length nodes))
     (yes_is : b ≡ true → (is_over_well h m ≡ true) × ((q : ℕ) → Contains (subsequents_at nodes m) q → flag flags q ≡ true))
     (no_is : b ≡ false → (is_over_well h m ≡ false) ⊎ ((q : ℕ) × Contains (subsequents_at nodes m) q × (flag flags q ≡ false))) where
+  -- the flag that was set is the one
   here : flag (set flags m b) m ≡ b
   here = let lt : m < length flags = omega arith in rw get_or-set_same
 
+  -- every other flag stays
   there : (k : ℕ) → k ≢ m → flag (set flags m b) k ≡ flag flags k
   there k ne = rw get_or-set_other
 
+  -- a node whose flag stays up is finished
   is_finished : b ≡ true → IsFinished nodes h m
   is_finished e = finished m (yes_is e).0 (λ q c. (swept.high q (omega (arith, (behind q c).0)) (behind q c).1).0 ((yes_is e).1 q c))
 
+  -- one whose flag doesn't isn't
   not_finished : b ≡ false → IsFinished nodes h m → ⊥
   not_finished e f =
       ⊎_elim
@@ -110,14 +109,17 @@ caught_some [] = refl
 caught_some (event.Caught s ∷ es) = refl
 caught_some (_ ∷ es) = caught_some es
 
+-- the first of what an item gives, or of the rest
 first_or : {A : Type 0} (o : Option A) (xs : List A) → first (cons_option o xs) ≡ or_first o (first xs)
 first_or None xs = refl
 first_or (Some x) xs = refl
 
+-- the first of two lists
 first_both : {A : Type 0} (xs ys : List A) → first (xs ++ ys) ≡ or_first (first xs) (first ys)
 first_both [] ys = refl
 first_both (x ∷ xs) ys = refl
 
+-- a value or nothing is the value
 first_alone : {A : Type 0} (o : Option A) → or_first o None ≡ o
 first_alone None = refl
 first_alone (Some x) = refl

@@ -22,6 +22,7 @@ pub leads_weaker : (F G : ℕ → Type 0) (together : Bool) (xs : List ℕ) (k :
 leads_weaker F G together xs k weaker leads =
     (leads.0, leads.1, leads.2, ⊎_elim (λ (t : together ≡ true). inl t) (λ (each : (j : ℕ) → j < leads.0 → F (slice_index xs j)). inr (λ j lt. weaker j (omega (arith, leads.1)) (each j lt))) leads.3)
 
+-- what the code reads of a node is what the plan says of it
 pub parallel_read : (nodes read : List PlanNode) (at : ℕ) (d : PlanNode) → read ≡ nodes → at < length nodes → (get_or read at d).parallel ≡ parallel_at nodes at
 parallel_read nodes read at d same lt = rw same (ap parallel_in (sym (slice_get-get_or nodes at d lt)))
 

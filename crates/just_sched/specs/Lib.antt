@@ -1,3 +1,4 @@
+-- The definitions that the contracts cite.
 pub mod Account
 pub mod Causes
 pub mod Codes

@@ -2,7 +2,7 @@
 
 ghost use Rattle.std.specs.Prelude.{◌≡◌, ◌-◌, ◌^◌, ℕ, Option, length, slice_get};
 ghost use Rattle.std.specs.Option.{option_copied};
-ghost use Rattle.just_sched.specs.Works.{commands_of, judged, start_or_well, is_code as code_is, after as step_after, WentOn};
+ghost use Rattle.just_sched.specs.Works.{commands_of, step_behind, start_or_well, is_code as code_is, after as step_after, EachWentOn};
 
 use super::{Command, Step, Work};
 use just_outside::Status;
@@ -41,7 +41,7 @@ fn start_or_end(work: &Work, at: usize) -> Step
 
 /// The step of a body after `count` statuses, the last of which is this.
 pub(crate) fn judge(work: &Work, count: usize, last: Option<Status>) -> Step
-    ensures { result ≡ judged work.now count (slice_get (commands_of work.now) (count - 1)) last }
+    ensures { result ≡ step_behind work.now count (slice_get (commands_of work.now) (count - 1)) last }
 {
     match (command(work, count.saturating_sub(1)), last) {
         (Some(c), Some(status)) => {
@@ -59,7 +59,7 @@ pub(crate) fn judge(work: &Work, count: usize, last: Option<Status>) -> Step
 
 /// What a body does after these statuses. It takes no memory.
 pub fn after(work: &Work, statuses: &[Status]) -> Step
-    requires { WentOn (commands_of work.now) statuses.now }
+    requires { EachWentOn (commands_of work.now) statuses.now }
     ensures { result ≡ step_after work.now statuses.now }
 {
     judge(work, statuses.len(), statuses.last().copied())

@@ -1,3 +1,4 @@
+-- A node is ready where its flags say so.
 use Rattle.std.proofs.Common.{◌≡◌, ℕ, ◌<◌, ◌||◌, Bool, true, false, List, arith, subst, sym, ap, ◌∙◌, refl}
 use Rattle.std.specs.Prelude.{slice_index, Contains}
 use Rattle.just_sched.specs.Nodes.{priors_at}

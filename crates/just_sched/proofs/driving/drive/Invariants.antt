@@ -1,3 +1,4 @@
+-- The name under which a run is driven: it begins at the plan, the limit and the host as they are.
 use Rattle.std.proofs.Common.{option_map}
 use Rattle.std.specs.Int.NonZero.{non_zero_u64_get}
 use Rattle.just_sched.specs.Start.{start_with}

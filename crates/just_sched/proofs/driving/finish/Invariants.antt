@@ -1,3 +1,4 @@
+-- The body runs, and the history grew by events of its node.
 use Rattle.std.proofs.Common.{◌≡◌}
 use Rattle.just_sched.specs.Moves.{GrowsBy, RunsWith}
 use Rattle.just_sched.proofs.driving.finish.Given as goal

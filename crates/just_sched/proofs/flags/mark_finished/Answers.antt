@@ -1,3 +1,4 @@
+-- One node more is looked at, from the last one on.
 use Rattle.std.proofs.Common.{◌-◌, ◌<◌, ℕ, length, arith, ap, subst}
 use Rattle.std.proofs.Math.Logic.{∥∥₁_elim}
 use Rattle.std.proofs.Math.Bridge.{le_prop}

@@ -1,3 +1,4 @@
+-- A node is flagged that took a job or is done.
 use Rattle.std.proofs.Common.{◌∙◌, arith}
 use Rattle.std.proofs.lemmas.List.{take_all}
 use Rattle.just_sched.specs.State.{takes, concludes}

@@ -3,7 +3,7 @@ use Rattle.std.proofs.Common.{ap, sym, ◌∙◌}
 use Rattle.just_sched.specs.State.{is_over}
 use Rattle.just_sched.specs.Legal.{in_body}
 use Rattle.just_sched.proofs.Grows.{grows_none, grows_two, grows_on}
-use Rattle.just_sched.proofs.Sane.{is_inside}
+use Rattle.just_sched.proofs.Due.{is_inside}
 use Rattle.just_sched.proofs.book.Book.advance.Goals.{else-not-is_begun-via-then-not-is_begun+else-not-begin, else-not-is_begun-via-else-not-is_begun}
 use Rattle.just_sched.proofs.book.Book.advance.Goals as goal
 

@@ -7,10 +7,10 @@ use Rattle.just_sched.specs.Start.{run_of}
 use Rattle.just_sched.specs.declared.event.Event.TheVariants as event
 use Rattle.just_sched.specs.declared.event.Outcome.TheVariants as outcome
 use Rattle.just_sched.proofs.Accounts.{node_in, room_for, noted}
-use Rattle.just_sched.proofs.Behind.{over_now}
 use Rattle.just_sched.proofs.Gained.{begin_fails}
 use Rattle.just_sched.proofs.Grows.{grows_one}
-use Rattle.just_sched.proofs.Sane.{inside}
+use Rattle.just_sched.proofs.Behind.{over_now}
+use Rattle.just_sched.proofs.Due.{inside}
 use Rattle.just_sched.proofs.book.Book.begin.Goals as goal
 
 pub banner-requires : goal.banner-requires

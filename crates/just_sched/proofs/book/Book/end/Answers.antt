@@ -2,8 +2,8 @@
 use Rattle.std.proofs.Common.{arith, refl, ◌∙◌, eq-eqb}
 use Rattle.just_sched.specs.declared.event.Event.TheVariants as event
 use Rattle.just_sched.proofs.Accounts.{room_for, noted_alone}
-use Rattle.just_sched.proofs.Behind.{open_as, over_now}
 use Rattle.just_sched.proofs.Grows.{grows_one}
+use Rattle.just_sched.proofs.Behind.{open_as, over_now}
 use Rattle.just_sched.proofs.book.Book.end.Goals as goal
 
 pub push_reserved-requires : goal.push_reserved-requires

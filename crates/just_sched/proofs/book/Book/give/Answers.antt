@@ -2,8 +2,8 @@
 use Rattle.std.proofs.Common.{arith, refl, ◌∙◌, eq-eqb}
 use Rattle.just_sched.specs.declared.event.Event.TheVariants as event
 use Rattle.just_sched.proofs.Accounts.{some_taken, room_for, noted_alone, over_rests}
-use Rattle.just_sched.proofs.Behind.{gave_closes, running_as}
 use Rattle.just_sched.proofs.Grows.{grows_one}
+use Rattle.just_sched.proofs.Behind.{gave_closes, running_as}
 use Rattle.just_sched.proofs.book.Book.give.Goals as goal
 
 pub overflow_sub-self : goal.overflow_sub-self

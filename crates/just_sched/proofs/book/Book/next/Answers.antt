@@ -5,7 +5,7 @@ use Rattle.just_sched.specs.Idle.{IsIdle, CanMove}
 use Rattle.just_sched.specs.Legal.{open_bodies}
 use Rattle.just_sched.specs.Moves.{RunsWith, Rests}
 use Rattle.just_sched.specs.Start.{run_of}
-use Rattle.just_sched.proofs.Choices.{nothing_ready, none_asked, can_move, match_next, did_next}
+use Rattle.just_sched.proofs.Choices.{can_move, did_next, match_next, none_asked, nothing_ready}
 use Rattle.just_sched.proofs.book.Book.next.Goals as goal
 
 pub returns-in_default-clause-can : goal.returns-in_default-clause-can

@@ -5,9 +5,9 @@ use Rattle.just_sched.specs.declared.event.Event.TheVariants as event
 use Rattle.just_sched.specs.declared.event.Outcome.TheVariants as outcome
 use Rattle.just_sched.specs.declared.event.Reason.TheVariants as reason
 use Rattle.just_sched.proofs.Accounts.{inside_running, room_for, settle_room_for, spared_of, noted}
-use Rattle.just_sched.proofs.Behind.{running_started, ended_rests, done_now, done_rests}
 use Rattle.just_sched.proofs.Grows.{grows_one}
 use Rattle.just_sched.proofs.Settling.{settled_ok, settled_err}
+use Rattle.just_sched.proofs.Behind.{done_now, done_rests, ended_rests, running_started}
 use Rattle.just_sched.proofs.book.Book.settle.Goals as goal
 
 pub settle-requires : goal.settle-requires

@@ -7,10 +7,10 @@ use Rattle.just_sched.specs.Start.{run_of}
 use Rattle.just_sched.specs.declared.event.Event.TheVariants as event
 use Rattle.just_sched.specs.declared.event.Outcome.TheVariants as outcome
 use Rattle.just_sched.proofs.Accounts.{fresh_child, room_for, noted}
-use Rattle.just_sched.proofs.Behind.{open_as, over_now, place_fits, started_runs}
 use Rattle.just_sched.proofs.Gained.{start_stands, start_fails, started_not_none}
 use Rattle.just_sched.proofs.Grows.{grows_one}
-use Rattle.just_sched.proofs.Sane.{inside}
+use Rattle.just_sched.proofs.Behind.{open_as, over_now, place_fits, started_runs}
+use Rattle.just_sched.proofs.Due.{inside}
 use Rattle.just_sched.proofs.book.Book.start.Goals as goal
 
 pub overflow_cast-place : goal.overflow_cast-place

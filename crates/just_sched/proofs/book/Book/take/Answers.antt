@@ -3,9 +3,9 @@ use Rattle.std.proofs.Common.{arith, refl, ap, ◌∙◌, eq-eqb}
 use Rattle.just_sched.specs.State.{takes, has_taken}
 use Rattle.just_sched.specs.declared.event.Event.TheVariants as event
 use Rattle.just_sched.proofs.Accounts.{counted_few, room_for, noted_alone, not_given, not_running}
-use Rattle.just_sched.proofs.Behind.{took_opens, running_as}
 use Rattle.just_sched.proofs.Grows.{grows_one}
-use Rattle.just_sched.proofs.Keeps.{any_now}
+use Rattle.just_sched.proofs.Behind.{running_as, took_opens}
+use Rattle.just_sched.proofs.Tests.{any_now}
 use Rattle.just_sched.proofs.book.Book.take.Goals as goal
 
 pub overflow_add-self : goal.overflow_add-self
