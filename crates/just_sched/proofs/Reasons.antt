@@ -5,7 +5,7 @@ use Rattle.std.specs.List.{list_any, cons_option}
 use Rattle.std.proofs.lemmas.Grind.{get_or_default_zero}
 use Rattle.std.proofs.lemmas.Option.{get_or_from_slice_get, slice_get_within, slice_get-map}
 use Rattle.just_lang.specs.declared.node.Node.{Node}
-use Rattle.just_lang.specs.WellFormed.{Used, invoked as used_invoked, prior as used_prior, subsequent as used_subsequent}
+use Rattle.just_lang.specs.WellFormed.{IsUsed, invoked as used_invoked, prior as used_prior, subsequent as used_subsequent}
 use Rattle.just_sched.specs.declared.event.Event.{Event}
 use Rattle.just_sched.specs.declared.event.Event.TheVariants as event
 use Rattle.just_sched.specs.declared.event.Outcome.TheVariants as outcome
