@@ -7,7 +7,7 @@ use just_expand::{
 };
 use just_lang::{Key, Modulepath, Value};
 use just_outside::{Call, Entry, Log, Stream, copy_pairs};
-use just_path::{Environ, Miss, NoMemory, PathCall, PathFault, Seq, Text, Utf8Path};
+use just_path::{Environ, Miss, NoMemory, PathCall, PathFault, Seq, Text, TryClone, Utf8Path};
 use just_read::{Boxed, Class, Cursor};
 use std::alloc::Global;
 use std::borrow::CowStr;
@@ -76,16 +76,16 @@ fn copies_of_keys_answer(rt: HostRuntime) -> Result<(), Fail> {
         elements: one_text(alloc, "v")?,
     };
     let mut arguments = Vec::new(alloc);
-    arguments.push(value.try_clone(alloc)?)?;
+    arguments.push(value.try_clone()?)?;
     let key = Key {
         recipe: Modulepath {
             components: one_text(alloc, "b")?,
         },
         arguments: Seq::from(arguments),
     };
-    let copy = key.try_clone(alloc)?;
+    let copy = key.try_clone()?;
     assert!(rt; copy.same(&key));
-    assert!(rt; key.recipe.try_clone(alloc)?.same(&copy.recipe));
+    assert!(rt; key.recipe.try_clone()?.same(&copy.recipe));
     match copy.arguments.as_slice() {
         [argument] => assert!(rt; argument.same(&value)),
         _ => assert!(rt; false),
