@@ -11,6 +11,3 @@ mod value;
 
 pub use error::DotenvError;
 pub use file::read;
-
-#[cfg(test)]
-mod tests;

@@ -10,6 +10,3 @@ pub use boxed::Boxed;
 pub use class::Class;
 pub use cursor::Cursor;
 pub use error::ReadError;
-
-#[cfg(test)]
-mod tests;

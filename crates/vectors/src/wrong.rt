@@ -1,8 +1,10 @@
+//! Why a row isn't compared.
+
 use just_path::NoMemory;
 use std::alloc::{AllocError, AllocFailed};
 
 /// Why a row wasn't compared.
-#[derive(Clone, Copy, Debug)]
+#[derive(Clone, Copy, Debug, PartialEq, Eq)]
 pub enum Wrong {
     /// It isn't of the form of its kind.
     Form,
