@@ -17,8 +17,3 @@ pub use just_outside::{
 pub use memory::{MemChild, MemDone, MemHost};
 pub use plot::{Ending, Plot};
 pub use real::{RealChild, RealDone, RealHost};
-
-#[cfg(test)]
-mod path_tests;
-#[cfg(test)]
-mod tests;
