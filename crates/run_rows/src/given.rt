@@ -117,9 +117,9 @@ fn status(value: &Value) -> Result<Status, Wrong> {
 }
 
 /// What a child does to the files: the text of each path, or nothing where the file goes.
-fn effects(alloc: Global, files: &Value) -> Result<Vec<(Text, Option<Thing>)>, Wrong> {
+fn effects(alloc: Global, files: Option<&Value>) -> Result<Vec<(Text, Option<Thing>)>, Wrong> {
     let mut effects = Vec::new(alloc);
-    if let Value::Object(files) = files {
+    if let Some(Value::Object(files)) = files {
         for (path, text) in files {
             let thing = match text {
                 Value::String(text) => Some(file(alloc, text.as_str())?),
@@ -131,16 +131,13 @@ fn effects(alloc: Global, files: &Value) -> Result<Vec<(Text, Option<Thing>)>, W
     Ok(effects)
 }
 
-/// How the child of a word ends, as a row writes it.
-fn ending(alloc: Global, parts: &Value) -> Result<Ending, Wrong> {
-    let Value::Array(parts) = parts else {
-        return Err(Wrong::Form);
-    };
-    let (word, ended, files) = match parts.as_slice() {
-        [word, ended] => (word, ended, &Value::Null),
-        [word, ended, files] => (word, ended, files),
-        _ => return Err(Wrong::Form),
-    };
+/// The ending of a child's word.
+fn ending(
+    alloc: Global,
+    word: &Value,
+    ended: &Value,
+    files: Option<&Value>,
+) -> Result<Ending, Wrong> {
     Ok(Ending {
         word: Text::from_str(alloc, as_text(word)?)?,
         status: status(ended)?,
@@ -149,12 +146,24 @@ fn ending(alloc: Global, parts: &Value) -> Result<Ending, Wrong> {
     })
 }
 
+/// The endings of a row.
+fn endings(alloc: Global, row: &Value) -> Result<Vec<Ending>, Wrong> {
+    let mut endings = Vec::new(alloc);
+    for parts in items(row, "endings") {
+        let ending = match parts.as_array().map(|parts| parts.as_slice()) {
+            Some([word, ended]) => ending(alloc, word, ended, None)?,
+            Some([word, ended, files]) => ending(alloc, word, ended, Some(files))?,
+            _ => return Err(Wrong::Form),
+        };
+        endings.push(ending)?;
+    }
+    Ok(endings)
+}
+
 /// What is to happen in a row.
 fn plot(alloc: Global, row: &Value) -> Result<Plot, Wrong> {
     let mut plot = Plot::new(alloc);
-    for pair in items(row, "endings") {
-        plot.endings.push(ending(alloc, pair)?)?;
-    }
+    plot.endings = endings(alloc, row)?;
     let mut answers = Vec::new(alloc);
     for answer in items(row, "answers") {
         answers.push(Text::from_str(alloc, as_text(answer)?)?)?;
