@@ -24,14 +24,14 @@ fn item_count(alloc: Global, text: &str) -> Result<usize, LangError> {
     Ok(parse(alloc, &source)?.items.len())
 }
 
-/// How many priors each recipe of a text has that the words ask for.
-fn prior_counts(alloc: Global, text: &str, words: &[&str]) -> Result<Vec<usize>, LangError> {
+/// How many priors a recipe of a text has.
+fn prior_counts(alloc: Global, text: &str, recipe: &str) -> Result<Vec<usize>, LangError> {
     let sources = [source(alloc, text)?];
     let environ = Environ {
         pairs: Seq::new(alloc),
     };
     let justfile = assemble(alloc, &sources, &environ)?;
-    let keys = invocations(alloc, &justfile, words)?;
+    let keys = invocations(alloc, &justfile, &[recipe])?;
     let mut counts = Vec::new(alloc);
     for key in keys.as_slice() {
         counts.push(dependencies(alloc, &justfile, key)?.0.len())?;
@@ -44,15 +44,15 @@ fn is_copied(alloc: Global, key: &Key) -> Result<bool, NoMemory> {
     Ok(key.try_clone(alloc)?.same(key))
 }
 
-/// How many recipe keys of a text's closure are copied as they are.
-fn copied_count(alloc: Global, text: &str, words: &[&str]) -> Result<usize, LangError> {
+/// How many of the keys of a recipe are copied as they are.
+fn copied_count(alloc: Global, text: &str, recipe: &str) -> Result<usize, LangError> {
     let sources = [source(alloc, text)?];
     let environ = Environ {
         pairs: Seq::new(alloc),
     };
     let justfile = assemble(alloc, &sources, &environ)?;
     let mut count: usize = 0;
-    for key in invocations(alloc, &justfile, words)?.as_slice() {
+    for key in invocations(alloc, &justfile, &[recipe])?.as_slice() {
         if is_copied(alloc, key)? {
             count = count.saturating_add(1);
         }
@@ -77,10 +77,10 @@ fn every_call_answers(rt: HostRuntime) -> Result<(), Fail> {
     let text = "b: a\n\techo b\na:\n";
     assert_eq!(rt; item_count(alloc, text)?, 2);
     assert_eq!(rt;
-        prior_counts(alloc, text, &["b"])?.as_slice(),
+        prior_counts(alloc, text, "b")?.as_slice(),
         [1usize].as_slice()
     );
-    assert_eq!(rt; copied_count(alloc, text, &["b"])?, 1);
+    assert_eq!(rt; copied_count(alloc, text, "b")?, 1);
     assert_eq!(rt; home(alloc)?.as_str(), "/h");
     Ok(())
 }
