@@ -5,7 +5,7 @@
 
 use crate::hosts::memory;
 use just_host::{Host, HostFault};
-use just_lang::{Key, LangError, Source, assemble, dependencies, invocations, parse};
+use just_lang::{LangError, Source, assemble, dependencies, invocations, parse};
 use just_path::{Environ, NoMemory, Seq, Text, Utf8Path};
 use std::alloc::Global;
 use std::test::Fail;
@@ -24,40 +24,22 @@ fn item_count(alloc: Global, text: &str) -> Result<usize, LangError> {
     Ok(parse(alloc, &source)?.items.len())
 }
 
-/// How many priors a recipe of a text has.
-fn prior_counts(alloc: Global, text: &str, recipe: &str) -> Result<Vec<usize>, LangError> {
+/// How many priors a recipe of a text has, and how many of its keys are copied as they are.
+fn counts(alloc: Global, text: &str, recipe: &str) -> Result<(usize, usize), LangError> {
     let sources = [source(alloc, text)?];
     let environ = Environ {
         pairs: Seq::new(alloc),
     };
     let justfile = assemble(alloc, &sources, &environ)?;
-    let keys = invocations(alloc, &justfile, &[recipe])?;
-    let mut counts = Vec::new(alloc);
-    for key in keys.as_slice() {
-        counts.push(dependencies(alloc, &justfile, key)?.0.len())?;
-    }
-    Ok(counts)
-}
-
-/// Whether a key's copy is the key.
-fn is_copied(alloc: Global, key: &Key) -> Result<bool, NoMemory> {
-    Ok(key.try_clone(alloc)?.same(key))
-}
-
-/// How many of the keys of a recipe are copied as they are.
-fn copied_count(alloc: Global, text: &str, recipe: &str) -> Result<usize, LangError> {
-    let sources = [source(alloc, text)?];
-    let environ = Environ {
-        pairs: Seq::new(alloc),
-    };
-    let justfile = assemble(alloc, &sources, &environ)?;
-    let mut count: usize = 0;
+    let mut priors: usize = 0;
+    let mut copied: usize = 0;
     for key in invocations(alloc, &justfile, &[recipe])?.as_slice() {
-        if is_copied(alloc, key)? {
-            count = count.saturating_add(1);
+        priors = priors.saturating_add(dependencies(alloc, &justfile, key)?.0.len());
+        if key.try_clone(alloc)?.same(key) {
+            copied = copied.saturating_add(1);
         }
     }
-    Ok(count)
+    Ok((priors, copied))
 }
 
 /// The home folder of a host's environment.
@@ -76,11 +58,7 @@ fn every_call_answers(rt: HostRuntime) -> Result<(), Fail> {
     let alloc = rt.alloc();
     let text = "b: a\n\techo b\na:\n";
     assert_eq!(rt; item_count(alloc, text)?, 2);
-    assert_eq!(rt;
-        prior_counts(alloc, text, "b")?.as_slice(),
-        [1usize].as_slice()
-    );
-    assert_eq!(rt; copied_count(alloc, text, "b")?, 1);
+    assert!(rt; counts(alloc, text, "b")? == (1, 1));
     assert_eq!(rt; home(alloc)?.as_str(), "/h");
     Ok(())
 }
