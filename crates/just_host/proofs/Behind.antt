@@ -14,11 +14,10 @@ use Rattle.just_path.specs.View.{named, is_name, meta_of, sight, AreItemsOf}
 use Rattle.just_path.specs.declared.meta.Item.{Item}
 use Rattle.just_path.specs.declared.meta.Kind.{Kind}
 use Rattle.just_outside.specs.declared.tree.Thing.{Thing}
-use Rattle.just_outside.specs.Sights.{sight_of, seen}
-use Rattle.just_outside.specs.World.{Tree}
+use Rattle.just_outside.specs.Sights.{Tree, sight_of, seen}
 use Rattle.just_host.specs.Items.{kind_behind, AreItemsBehind}
 use Rattle.just_host.proofs.Lookups.{sight_seen}
-use Rattle.just_host.proofs.Trees.{find_hit, find_pass}
+use Rattle.just_host.proofs.Things.{find_hit, find_pass}
 
 not_slash : (a b : Bool) → not (a || b) ≡ true → a ≡ false
 not_slash true b h = cc

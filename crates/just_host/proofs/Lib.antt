@@ -1,4 +1,5 @@
-pub mod Trees
+pub mod Things
 pub mod Lookups
 pub mod Places
 pub mod Behind
+pub mod Limits

@@ -1,9 +1,10 @@
 -- What a child's command is to say, and what its end is to mean.
-use Rattle.std.specs.Prelude.{ℕ, ◌≡◌, if◌then◌else◌, false, List, [], ◌∷◌, Option, Some, None, ℤ}
+use Rattle.std.specs.Prelude.{ℕ, ◌≡◌, if◌then◌else◌, false, List, [], ◌∷◌, Option, Some, None, option_map, ℤ}
 use Rattle.std.specs.Str.{bytes_eq}
-use Rattle.std.specs.Process.{command_program, command_args, command_dir, command_var, clears_env}
+use Rattle.std.specs.Process.{command_program, command_args, command_dir, command_var, clears_env, exit_code, exit_signal}
 use Rattle.std.specs.declared.alloc.Global.{Global}
 use Rattle.std.specs.declared.process.Command.{Command}
+use Rattle.std.specs.declared.process.ExitStatus.{ExitStatus}
 use Rattle.just_outside.specs.declared.entry.Spec.{Spec}
 use Rattle.just_outside.specs.declared.entry.Status.{Status}
 use Rattle.just_outside.specs.declared.entry.Status.TheVariants.{Code, Signal, Unknown}
@@ -27,3 +28,7 @@ abbrev pub status_told : Option ℤ → Option ℤ → Status
 status_told (Some code) signal = Code code
 status_told None (Some signal) = Signal signal
 status_told None None = Unknown
+
+-- it is the end that the system told of a child
+abbrev pub IsToldOf : Option ExitStatus → Status → Type 0
+IsToldOf told status = option_map (λ e. status_told (exit_code e) (exit_signal e)) told ≡ Some status

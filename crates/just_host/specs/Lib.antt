@@ -1,4 +1,8 @@
+pub mod Files
+pub mod Trees
+pub mod Texts
 pub mod Items
 pub mod Playing
 pub mod Mem
 pub mod Commands
+pub mod Real

@@ -1,27 +1,57 @@
 -- What a host in memory tells, and which of its calls fail.
-use Rattle.std.specs.Prelude.{◌≡◌, ◌==◌, ◌++◌, Bool, true, false, Option, Some, None, Result, Ok, Err}
+use Rattle.std.specs.Prelude.{ℕ, ◌≡◌, ◌==◌, ◌++◌, Bool, true, false, List, Option, Some, None, Result, Ok, Err}
 use Rattle.std.specs.List.{list_any}
 use Rattle.just_path.specs.declared.host.PathFault.{PathFault}
 use Rattle.just_path.specs.declared.host.PathFault.TheVariants as path_fault
 use Rattle.just_path.specs.declared.host.PathNote.{PathNote}
+use Rattle.just_outside.specs.declared.entry.Entry.{Entry}
 use Rattle.just_outside.specs.declared.entry.HostFault.{HostFault}
 use Rattle.just_outside.specs.declared.entry.HostFault.TheVariants as fault
 use Rattle.just_host.specs.declared.memory.MemHost.{MemHost}
 use Rattle.just_host.specs.declared.plot.Faults.{Faults}
 use Rattle.just_outside.specs.declared.entry.Status.{Status}
-use Rattle.just_outside.specs.Record.{noted}
-use Rattle.just_host.specs.Playing.{next_call}
+use Rattle.just_outside.specs.Record.{noted, IsMissOf}
+use Rattle.just_host.specs.declared.sights.TreeFault.{TreeFault}
+use Rattle.just_host.specs.declared.sights.TreeFault.TheVariants as tree_fault
+use Rattle.just_host.specs.Playing.{ending_of, others, tree_after, next_call}
+use Rattle.just_host.specs.Trees.{files_of}
+use Rattle.just_outside.specs.Logs.{entries_of, spare_of}
 use Rattle.just_outside.specs.World.{World}
+
+-- the record of a host in memory
+abbrev pub record_of : MemHost → List Entry
+record_of h = entries_of h.log
 
 -- the world of a host in memory is what it holds
 abbrev pub world_of : MemHost → World
-world_of h = record { tree = h.tree; current = h.folder; environ = h.environ.pairs; input = h.input }
+world_of h = record { tree = files_of h.tree; current = h.folder.path; environ = h.environ.pairs; input = h.input }
 
 -- a call of a path host appends what its note stands for, and leaves the rest
 pub record Went (a b : MemHost) (n : PathNote) : Type 0 where
-  pub entries : b.log.entries.items ≡ a.log.entries.items ++ noted n
+  pub entries : record_of b ≡ record_of a ++ noted n
   pub world : Some (world_of b) ≡ Some (world_of a)
-  pub spare : b.log.spare ≡ a.log.spare
+  pub spare : spare_of b.log ≡ spare_of a.log
+
+-- a call leaves all but the record and what is spare, and the count of calls is this
+pub record OnlyNotes (a b : MemHost) (count : ℕ) : Type 0 where
+  pub world : world_of b ≡ world_of a
+  pub endings : b.endings.items ≡ a.endings.items
+  pub answers : b.answers ≡ a.answers
+  pub signals : b.signals ≡ a.signals
+  pub planned : b.faults.numbers ≡ a.faults.numbers
+  pub calls : b.faults.calls ≡ count
+
+-- a child is started: its effects happen, and its ending is used; two calls were counted, its own and that of its end
+pub record Plays (a b : MemHost) (word : List ℕ) : Type 0 where
+  pub effects : files_of b.tree ≡ tree_after a.folder.path (files_of a.tree) (ending_of word a.endings.items)
+  pub endings : b.endings.items ≡ others word a.endings.items
+  pub folder : b.folder.path ≡ a.folder.path
+  pub environ : b.environ.pairs ≡ a.environ.pairs
+  pub input : b.input ≡ a.input
+  pub answers : b.answers ≡ a.answers
+  pub signals : b.signals ≡ a.signals
+  pub planned : b.faults.numbers ≡ a.faults.numbers
+  pub calls : b.faults.calls ≡ next_call (next_call a.faults.calls)
 
 -- whether the next call that can fail does
 abbrev pub is_struck : Faults → Bool
@@ -35,10 +65,6 @@ is_wait_struck faults = list_any (λ n. n == next_call faults.calls) faults.numb
 abbrev pub waited_for : Bool → Status → Option Status
 waited_for true status = None
 waited_for false status = Some status
-
--- one call is counted
-abbrev pub IsCounted : Faults → Faults → Type 0
-IsCounted old new = (new.calls ≡ next_call old.calls) × (new.numbers ≡ old.numbers)
 
 abbrev pub IsStruckFault : Bool → HostFault → Type 0
 IsStruckFault struck (fault.Missed m) = struck ≡ false
@@ -59,3 +85,8 @@ IsStruckPathFault struck path_fault.NoMemory = Unit {0}
 abbrev pub PathFailsIf : {A : Type 0} → Bool → Result A PathFault → Type 0
 PathFailsIf struck (Ok x) = struck ≡ false
 PathFailsIf struck (Err e) = IsStruckPathFault struck e
+
+-- the refusal of a path that a tree has no answer for: its miss, or want of memory
+abbrev pub IsFaultOf : TreeFault → PathFault → Type 0
+IsFaultOf (tree_fault.Missed m) fault = IsMissOf m fault
+IsFaultOf tree_fault.NoMemory fault = fault ≡ path_fault.NoMemory

@@ -1,23 +1,17 @@
 -- How a child over a host in memory is played: its word, its ending, and what its effects make of the files.
-use Rattle.std.specs.Prelude.{ℕ, ◌+◌, ◌≡◌, ◌++◌, nat_lt, if◌then◌else◌, List, [], ◌∷◌, Option, Some, None, Result, Ok, Err, pos, string_bytes}
+use Rattle.std.specs.Prelude.{ℕ, ◌+◌, ◌≡◌, ◌++◌, nat_lt, if◌then◌else◌, List, [], ◌∷◌, map, Option, Some, None, pos}
 use Rattle.std.specs.List.{find, flat_map, remove, position_or_len}
-use Rattle.std.specs.FinMap as map
+use Rattle.std.specs.FinMap as maps
 use Rattle.std.specs.Str.{bytes_eq}
-use Rattle.std.specs.declared.string.String.{String}
-use Rattle.std.specs.declared.alloc.Global.{Global}
-use Rattle.just_path.specs.declared.host.Miss.{Miss}
 use Rattle.just_outside.specs.declared.entry.Script.{Script}
 use Rattle.just_outside.specs.declared.entry.Spec.{Spec}
 use Rattle.just_outside.specs.declared.entry.Status.{Status}
 use Rattle.just_outside.specs.declared.entry.Status.TheVariants.{Code}
 use Rattle.just_host.specs.declared.plot.Ending.{Ending}
 use Rattle.just_outside.specs.declared.tree.Thing.{Thing}
-use Rattle.just_outside.specs.World.{Tree}
-
--- a text, or a miss, as it is told
-abbrev pub Tells : Result (List ℕ) Miss → Result (String Global) Miss → Type 0
-Tells told (Ok s) = told ≡ Ok (string_bytes s)
-Tells told (Err m) = told ≡ Err m
+use Rattle.just_path.specs.View.{place_under}
+use Rattle.just_outside.specs.Sights.{Tree}
+use Rattle.just_host.specs.declared.place.Place.{Place}
 
 -- the texts, with one blank between two of them
 abbrev pub joined : List (List ℕ) → List ℕ
@@ -45,17 +39,27 @@ status_of (Some e) = e.status
 status_of None = Code (pos 0)
 
 abbrev pub changed : Tree → List ℕ → Option Thing → Tree
-changed tree path (Some thing) = map.insert tree path thing
-changed tree path None = map.remove tree path
+changed tree place (Some thing) = maps.insert tree place thing
+changed tree place None = maps.remove tree place
 
--- a tree after these effects, one after the other
-abbrev pub after_effects : Tree → List (List ℕ × Option Thing) → Tree
-after_effects tree [] = tree
-after_effects tree (e ∷ es) = after_effects (changed tree e.0 e.1) es
+-- a tree after these effects, one after the other, at the places of their paths under a folder
+abbrev pub after_effects : List ℕ → Tree → List (List ℕ × Option Thing) → Tree
+after_effects folder tree [] = tree
+after_effects folder tree (e ∷ es) = after_effects folder (changed tree (place_under folder e.0) e.1) es
 
-abbrev pub tree_after : Tree → Option Ending → Tree
-tree_after tree (Some e) = after_effects tree e.effects.items
-tree_after tree None = tree
+abbrev pub tree_after : List ℕ → Tree → Option Ending → Tree
+tree_after folder tree (Some e) = after_effects folder tree e.effects.items
+tree_after folder tree None = tree
+
+-- the places are those of the effects' paths under a folder
+abbrev pub ArePlacesOf : List ℕ → List Place → List (List ℕ × Option Thing) → Type 0
+ArePlacesOf folder places effects = map (λ p. p.path) places ≡ map (λ e. place_under folder e.0) effects
+
+-- a tree after these effects at these places
+abbrev pub after_changes : Tree → List Place → List (List ℕ × Option Thing) → Tree
+after_changes tree [] effects = tree
+after_changes tree (p ∷ ps) [] = tree
+after_changes tree (p ∷ ps) (e ∷ es) = after_changes (changed tree p.path e.1) ps es
 
 -- the number of the call behind that one; counting ends at the greatest number
 abbrev pub next_call : ℕ → ℕ

@@ -1,24 +1,29 @@
+//! A host in memory, which does what its plot says.
 ghost use Rattle.std.specs.Prelude.{◌≡◌, ◌+◌, ◌<◌, ◌≤◌, ℕ, List, [], ◌∷◌, ◌++◌, Option, Some, Ok, refl, option_map, IfOk, OnOk, OnErr, MatchOption, MatchResult, length, string_bytes};
 ghost use Rattle.std.specs.FinMap as map;
 ghost use Rattle.just_path.specs.Path.{text_of};
-ghost use Rattle.just_path.specs.Host.{note_of};
-ghost use Rattle.just_path.specs.View.{AreInOrder, Told, TellsItems, meta_told, canonical_told, link_told};
+ghost use Rattle.just_path.specs.Comps.{slash};
+ghost use Rattle.just_path.specs.Host.{note_of, note_of_fault};
+ghost use Rattle.just_path.specs.View.{place_under, AreInOrder, Told, TellsItems, meta_told, canonical_told, link_told};
 ghost use Rattle.just_path.specs.declared.host.PathCall.{PathCall};
 ghost use Rattle.just_outside.specs.declared.entry.Entry.{Entry};
 ghost use Rattle.just_outside.specs.declared.entry.Status.{Status};
 ghost use Rattle.just_outside.specs.declared.outside.TheConstants.{MAX_BYTES};
-ghost use Rattle.just_outside.specs.Record.{gained, IsOwn, NeverMissed, children, faults_of, misses_of, settled_entry, settled_answer, script_folder, IsStartFault};
-ghost use Rattle.just_outside.specs.World.{World, ReadTells, Touched, Leaves};
-ghost use Rattle.just_outside.specs.Sights.{seen, view_of};
-ghost use Rattle.just_host.specs.Mem.{world_of, Went, is_struck, is_wait_struck, waited_for, IsCounted, FailsIf, PathFailsIf};
-ghost use Rattle.just_host.specs.Playing.{next_call, word_of, ending_of, status_of, tree_after, others};
-ghost use Rattle.just_outside.specs.Counts.{counts_noted};
+ghost use Rattle.just_outside.specs.Record.{noted, gained, IsOwn, NeverMissed, children, faults_of, misses_of, settled_entry, settled_answer, script_folder, IsStartFault};
+ghost use Rattle.just_outside.specs.Logs.{entries_of, spare_of};
+ghost use Rattle.just_outside.specs.World.{World, view_of, ReadTells, Touched, Leaves};
+ghost use Rattle.just_host.specs.Trees.{files_of};
+ghost use Rattle.just_host.specs.Mem.{record_of, world_of, Went, OnlyNotes, Plays, IsFaultOf, is_struck, is_wait_struck, waited_for, FailsIf, PathFailsIf};
+ghost use Rattle.just_host.specs.Playing.{next_call, word_of, ending_of, status_of};
+ghost use Rattle.just_outside.proofs.Laws.{counts_noted};
 
 use super::plot::{Faults, word_of};
-use super::{Ending, Plot, Tree};
-use just_outside::{Call, Entry, Host, HostFault, Log, Signal, Spec, Status, Stream, copy_pairs};
+use super::sights::TreeFault;
+use super::{Ending, Place, Plot, Tree};
+use just_outside::{Call, Entry, Host, HostFault, Log, Signal, Spec, Status, Stream};
 use just_path::{
-    Environ, Item, Meta, NoMemory, PathCall, PathFault, PathHost, Seq, Text, Utf8Path, Utf8PathBuf,
+    Environ, Item, Meta, NoMemory, PathCall, PathFault, PathHost, Seq, Text, TryClone, Utf8Path,
+    Utf8PathBuf,
 };
 use std::alloc::Global;
 
@@ -28,7 +33,7 @@ pub struct MemHost {
     alloc: Global,
     log: Log,
     tree: Tree,
-    folder: Utf8PathBuf,
+    folder: Place,
     environ: Environ,
     input: Seq<u8>,
     endings: Vec<Ending>,
@@ -52,7 +57,7 @@ pub struct MemDone {
 }
 
 impl MemHost {
-    /// A host over these files, in this folder and environment, with an empty record.
+    /// A host over these files, in the folder at that place under the root and this environment, with an empty record.
     pub fn new(
         alloc: Global,
         tree: Tree,
@@ -60,13 +65,14 @@ impl MemHost {
         environ: Environ,
         plot: Plot,
     ) -> Result<MemHost, NoMemory>
-        ensures entries { IfOk result (λ h. h.log.entries.items ≡ []) }
-        ensures spare { IfOk result (λ h. h.log.spare ≡ 0) }
-        ensures world { IfOk result (λ h. world_of h ≡ record { tree = tree; current = current; environ = environ.pairs; input = plot.input }) }
+        ensures entries { IfOk result (λ h. record_of h ≡ []) }
+        ensures spare { IfOk result (λ h. spare_of h.log ≡ 0) }
+        ensures world { IfOk result (λ h. world_of h ≡ record { tree = files_of tree; current = place_under slash current; environ = environ.pairs; input = plot.input }) }
         ensures endings { IfOk result (λ h. h.endings.items ≡ plot.endings.items) }
         ensures fails { IfOk result (λ h. h.faults.numbers ≡ plot.fails) }
         ensures calls { IfOk result (λ h. h.faults.calls ≡ 0) }
     {
+        let folder = Place::new(alloc, current.as_path())?;
         let Plot {
             endings,
             answers,
@@ -78,7 +84,7 @@ impl MemHost {
             alloc,
             log: Log::new(alloc),
             tree,
-            folder: current,
+            folder,
             environ,
             input,
             endings,
@@ -90,14 +96,14 @@ impl MemHost {
 
     /// The record: what was asked of this host, and what it answered.
     pub fn entries(&self) -> &[Entry]
-        ensures { result.now ≡ self.now.log.entries.items }
+        ensures { result.now ≡ record_of self.now }
     {
         self.log.entries()
     }
 
     /// The files, as they are now.
     pub fn tree(&self) -> &Tree
-        ensures { result.now ≡ self.now.tree }
+        ensures { files_of result.now ≡ files_of self.now.tree }
     {
         &self.tree
     }
@@ -113,10 +119,22 @@ fn copied(alloc: Global, text: &str) -> Result<Utf8PathBuf, PathFault>
     }
 }
 
-impl PathHost for MemHost {
-    ghost faults = { λ h. faults_of h.log.entries.items };
+/// Notes that a tree has no answer for a path, and answers why.
+fn refuse(log: &mut Log, alloc: Global, path: Utf8Path<'_>, fault: TreeFault) -> PathFault
+    ensures entries { (call : PathCall) → entries_of log.new ≡ entries_of log.old ++ noted (note_of_fault call (text_of path.entry) result) }
+    ensures kind { IsFaultOf fault result }
+    ensures spare { spare_of log.new ≡ spare_of log.old }
+{
+    match fault {
+        TreeFault::Missed(miss) => log.path_miss(alloc, path, miss),
+        TreeFault::NoMemory => PathFault::NoMemory,
+    }
+}
 
-    ghost misses = { λ h. misses_of h.log.entries.items };
+impl PathHost for MemHost {
+    ghost faults = { λ h. faults_of (record_of h) };
+
+    ghost misses = { λ h. misses_of (record_of h) };
 
     ghost view = { λ h. Some (view_of (world_of h)) };
 
@@ -124,16 +142,16 @@ impl PathHost for MemHost {
 
     fn meta(&mut self, path: Utf8Path<'_>, follow: bool) -> Result<Meta, PathFault>
         ensures went { Went self.old self.new (note_of PathCall.Meta (text_of path.entry) result) }
-        ensures told { Told (meta_told (text_of path.entry) follow (seen self.old.tree)) result }
+        ensures told { Told (meta_told (text_of path.entry) follow (view_of (world_of self.old))) result }
         ensures fails { PathFailsIf (is_struck self.old.faults) result }
-        ensures counted { IsCounted self.old.faults self.new.faults }
+        ensures stays { OnlyNotes self.old self.new (next_call self.old.faults.calls) }
     {
         if self.faults.strike() {
             return Err(self.log.path_failure(PathCall::Meta));
         }
-        match self.tree.meta(path.as_str(), follow) {
+        match self.tree.meta(self.alloc, &self.folder, path, follow) {
             Ok(meta) => Ok(meta),
-            Err(miss) => Err(self.log.path_miss(self.alloc, path, miss)),
+            Err(fault) => Err(refuse(&mut self.log, self.alloc, path, fault)),
         }
     }
 
@@ -142,66 +160,65 @@ impl PathHost for MemHost {
         ensures order { IfOk result (λ items. AreInOrder items.items) }
         ensures told { TellsItems (Some (view_of (world_of self.old))) (text_of path.entry) result }
         ensures fails { PathFailsIf (is_struck self.old.faults) result }
-        ensures counted { IsCounted self.old.faults self.new.faults }
+        ensures stays { OnlyNotes self.old self.new (next_call self.old.faults.calls) }
     {
         if self.faults.strike() {
             return Err(self.log.path_failure(PathCall::List));
         }
-        match self.tree.folder(path.as_str()) {
-            Ok(folder) => match self.tree.items(self.alloc, folder) {
+        match self.tree.folder(self.alloc, &self.folder, path) {
+            Ok(folder) => match self.tree.items(self.alloc, &folder) {
                 Ok(items) => Ok(items),
                 Err(NoMemory) => Err(PathFault::NoMemory),
             },
-            Err(miss) => Err(self.log.path_miss(self.alloc, path, miss)),
+            Err(fault) => Err(refuse(&mut self.log, self.alloc, path, fault)),
         }
     }
 
     fn canonical(&mut self, path: Utf8Path<'_>) -> Result<Utf8PathBuf, PathFault>
         ensures went { Went self.old self.new (note_of PathCall.Canonical (text_of path.entry) result) }
-        ensures told { Told (canonical_told (text_of path.entry) (seen self.old.tree)) result }
+        ensures told { Told (canonical_told (text_of path.entry) (view_of (world_of self.old))) result }
         ensures fails { PathFailsIf (is_struck self.old.faults) result }
-        ensures counted { IsCounted self.old.faults self.new.faults }
+        ensures stays { OnlyNotes self.old self.new (next_call self.old.faults.calls) }
     {
         if self.faults.strike() {
             return Err(self.log.path_failure(PathCall::Canonical));
         }
-        match self.tree.canonical(path.as_str()) {
-            Ok(found) => copied(self.alloc, found),
-            Err(miss) => Err(self.log.path_miss(self.alloc, path, miss)),
+        match self.tree.place(self.alloc, &self.folder, path, true) {
+            Ok(place) => Ok(place.into_path()),
+            Err(fault) => Err(refuse(&mut self.log, self.alloc, path, fault)),
         }
     }
 
     fn link(&mut self, path: Utf8Path<'_>) -> Result<Utf8PathBuf, PathFault>
         ensures went { Went self.old self.new (note_of PathCall.Link (text_of path.entry) result) }
-        ensures told { Told (link_told (text_of path.entry) (seen self.old.tree)) result }
+        ensures told { Told (link_told (text_of path.entry) (view_of (world_of self.old))) result }
         ensures fails { PathFailsIf (is_struck self.old.faults) result }
-        ensures counted { IsCounted self.old.faults self.new.faults }
+        ensures stays { OnlyNotes self.old self.new (next_call self.old.faults.calls) }
     {
         if self.faults.strike() {
             return Err(self.log.path_failure(PathCall::Link));
         }
-        match self.tree.link(path.as_str()) {
-            Ok(target) => copied(self.alloc, target),
-            Err(miss) => Err(self.log.path_miss(self.alloc, path, miss)),
+        match self.tree.link(self.alloc, &self.folder, path) {
+            Ok(target) => copied(self.alloc, target.as_str()),
+            Err(fault) => Err(refuse(&mut self.log, self.alloc, path, fault)),
         }
     }
 
     fn current(&mut self) -> Result<Utf8PathBuf, PathFault>
         ensures went { Went self.old self.new (note_of PathCall.Current [] result) }
-        ensures told { Told (Ok self.old.folder) result }
+        ensures told { Told (Ok self.old.folder.path) result }
         ensures fails { PathFailsIf (is_struck self.old.faults) result }
-        ensures counted { IsCounted self.old.faults self.new.faults }
+        ensures stays { OnlyNotes self.old self.new (next_call self.old.faults.calls) }
     {
         if self.faults.strike() {
             return Err(self.log.path_failure(PathCall::Current));
         }
-        match self.folder.try_clone() {
-            Ok(folder) => Ok(folder),
-            Err(NoMemory) => Err(PathFault::NoMemory),
-        }
+        copied(self.alloc, self.folder.as_str())
     }
 
-    ghost counts = { λ a b n w. counts_noted a.log.entries.items b.log.entries.items n w.entries };
+    ghost counts = { λ a b n w. counts_noted (record_of a) (record_of b) n w.entries };
+
+    ghost view_clean = { λ h. record { current = h.folder.clean; places = h.tree.clean } };
 
     ghost went_view = { λ a b n w. λ i. option_map view_of (w.world i) };
 }
@@ -211,9 +228,9 @@ impl Host for MemHost {
 
     type Done = MemDone;
 
-    ghost entries = { λ h. h.log.entries.items };
+    ghost entries = { λ h. record_of h };
 
-    ghost spare = { λ h. h.log.spare };
+    ghost spare = { λ h. spare_of h.log };
 
     ghost world = { λ h. Some (world_of h) };
 
@@ -224,54 +241,55 @@ impl Host for MemHost {
     ghost waited = { λ d. d.status };
 
     fn read(&mut self, path: Utf8Path<'_>) -> Result<String, HostFault>
-        ensures entries { self.new.log.entries.items ≡ self.old.log.entries.items ++ gained (text_of path.entry) (λ _. []) result }
+        ensures entries { record_of self.new ≡ record_of self.old ++ gained (text_of path.entry) (λ _. []) result }
         ensures own { IsOwn Call.Read result }
         ensures limit { IfOk result (λ s. length (string_bytes s) ≤ MAX_BYTES) }
         ensures told { ReadTells (Some (world_of self.old)) (text_of path.entry) result }
         ensures world { world_of self.new ≡ world_of self.old }
-        ensures spare { self.new.log.spare ≡ self.old.log.spare }
+        ensures spare { spare_of self.new.log ≡ spare_of self.old.log }
         ensures fails { FailsIf (is_struck self.old.faults) result }
-        ensures counted { IsCounted self.old.faults self.new.faults }
+        ensures stays { OnlyNotes self.old self.new (next_call self.old.faults.calls) }
     {
         if self.faults.strike() {
             self.log.failure(Call::Read)?;
             return Err(HostFault::Failed(Call::Read));
         }
-        match self.tree.text(self.alloc, path.as_str())? {
+        match self.tree.text(self.alloc, &self.folder, path) {
             Ok(text) => Ok(text),
-            Err(miss) => {
+            Err(TreeFault::Missed(miss)) => {
                 self.log.miss(self.alloc, path, miss)?;
                 Err(HostFault::Missed(miss))
             }
+            Err(TreeFault::NoMemory) => Err(HostFault::NoMemory),
         }
     }
 
     fn environ(&mut self) -> Result<Environ, HostFault>
-        ensures entries { self.new.log.entries.items ≡ self.old.log.entries.items ++ gained [] (λ _. []) result }
+        ensures entries { record_of self.new ≡ record_of self.old ++ gained [] (λ _. []) result }
         ensures own { IsOwn Call.Environ result }
         ensures never_missed { NeverMissed result }
         ensures told { IfOk result (λ e. e.pairs ≡ self.old.environ.pairs) }
         ensures world { world_of self.new ≡ world_of self.old }
-        ensures spare { self.new.log.spare ≡ self.old.log.spare }
+        ensures spare { spare_of self.new.log ≡ spare_of self.old.log }
         ensures fails { FailsIf (is_struck self.old.faults) result }
-        ensures counted { IsCounted self.old.faults self.new.faults }
+        ensures stays { OnlyNotes self.old self.new (next_call self.old.faults.calls) }
     {
         if self.faults.strike() {
             self.log.failure(Call::Environ)?;
             return Err(HostFault::Failed(Call::Environ));
         }
-        let pairs = copy_pairs(self.alloc, &self.environ.pairs)?;
+        let pairs = self.environ.pairs.try_clone()?;
         Ok(Environ { pairs })
     }
 
     fn print(&mut self, stream: Stream, text: &str) -> Result<(), HostFault>
-        ensures entries { self.new.log.entries.items ≡ self.old.log.entries.items ++ gained [] (λ _. Entry.Printed stream text.now ∷ []) result }
+        ensures entries { record_of self.new ≡ record_of self.old ++ gained [] (λ _. Entry.Printed stream text.now ∷ []) result }
         ensures own { IsOwn Call.Print result }
         ensures never_missed { NeverMissed result }
         ensures world { world_of self.new ≡ world_of self.old }
-        ensures spare { self.new.log.spare ≡ self.old.log.spare }
+        ensures spare { spare_of self.new.log ≡ spare_of self.old.log }
         ensures fails { FailsIf (is_struck self.old.faults) result }
-        ensures counted { IsCounted self.old.faults self.new.faults }
+        ensures stays { OnlyNotes self.old self.new (next_call self.old.faults.calls) }
     {
         if self.faults.strike() {
             self.log.failure(Call::Print)?;
@@ -283,17 +301,16 @@ impl Host for MemHost {
     }
 
     fn start(&mut self, spec: &Spec) -> Result<MemChild, HostFault>
-        ensures entries { self.new.log.entries.items ≡ self.old.log.entries.items ++ gained (script_folder spec.now) (λ c. Entry.Started c.number spec.now ∷ []) result }
-        ensures number { IfOk result (λ c. c.number ≡ children self.old.log.entries.items) }
+        ensures entries { record_of self.new ≡ record_of self.old ++ gained (script_folder spec.now) (λ c. Entry.Started c.number spec.now ∷ []) result }
+        ensures number { IfOk result (λ c. c.number ≡ children (record_of self.old)) }
         ensures fault { IsStartFault spec.now result }
         ensures leaves { Leaves (Some (world_of self.old)) (Some (world_of self.new)) result }
-        ensures spare { self.new.log.spare ≡ self.old.log.spare }
+        ensures spare { spare_of self.new.log ≡ spare_of self.old.log }
         ensures fails { FailsIf (is_struck self.old.faults) result }
-        ensures counted { IfOk result (λ _. self.new.faults.calls ≡ next_call (next_call self.old.faults.calls)) }
-        ensures planned { self.new.faults.numbers ≡ self.old.faults.numbers }
         ensures status { IfOk result (λ c. c.status ≡ waited_for (is_wait_struck self.old.faults) (status_of (ending_of (word_of spec.now) self.old.endings.items))) }
-        ensures effects { IfOk result (λ _. self.new.tree ≡ tree_after self.old.tree (ending_of (word_of spec.now) self.old.endings.items)) }
-        ensures used { IfOk result (λ _. self.new.endings.items ≡ others (word_of spec.now) self.old.endings.items) }
+        ensures plays { OnOk result (Plays self.old self.new (word_of spec.now)) }
+        // one call was counted, that of the start
+        ensures refused { OnErr result (OnlyNotes self.old self.new (next_call self.old.faults.calls)) }
     {
         if self.faults.strike() {
             self.log.failure(Call::Start)?;
@@ -302,10 +319,12 @@ impl Host for MemHost {
         if !self.log.can_number() {
             return Err(HostFault::NoMemory);
         }
-        let copy = spec.try_clone(self.alloc)?;
+        let copy = spec.try_clone()?;
         let word = word_of(self.alloc, spec)?;
         self.log.ready()?;
-        let status = self.tree.play(&mut self.endings, word.as_str())?;
+        let status = self
+            .tree
+            .play(self.alloc, &self.folder, &mut self.endings, word.as_str())?;
         let number = self.log.start(copy);
         let fails = self.faults.strike();
         let status = if fails { None } else { Some(status) };
@@ -328,11 +347,25 @@ impl Host for MemHost {
         }
     }
 
-    fn settle(&mut self, child: u32, done: MemDone) -> Result<Status, HostFault> {
+    fn settle(&mut self, child: u32, done: MemDone) -> Result<Status, HostFault>
+        requires { 0 < spare_of self.old.log }
+        ensures entries { record_of self.new ≡ record_of self.old ++ settled_entry child done.number done.status ∷ [] }
+        ensures answer { result ≡ settled_answer child done.number done.status }
+        ensures touched { Touched (Some (world_of self.old)) (Some (world_of self.new)) }
+        ensures spare { spare_of self.new.log + 1 ≡ spare_of self.old.log }
+        ensures stays { OnlyNotes self.old self.new self.old.faults.calls }
+    {
         self.log.settle(child, done.number, done.status)
     }
 
-    fn room(&mut self, n: usize) -> Result<(), NoMemory> {
+    fn room(&mut self, n: usize) -> Result<(), NoMemory>
+        ensures entries { record_of self.new ≡ record_of self.old }
+        ensures world { Some (world_of self.new) ≡ Some (world_of self.old) }
+        ensures ok { OnOk result (n ≤ spare_of self.new.log) }
+        ensures kept { spare_of self.old.log ≤ spare_of self.new.log }
+        ensures err { OnErr result (spare_of self.new.log ≡ spare_of self.old.log) }
+        ensures stays { OnlyNotes self.old self.new self.old.faults.calls }
+    {
         self.log.room(n)
     }
 

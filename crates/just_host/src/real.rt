@@ -1,55 +1,43 @@
-ghost use Rattle.std.specs.Prelude.{◌≡◌, ◌++◌, ◌≤◌, [], Some, None, IfOk, IfSome, option_map, length, refl, string_bytes};
-ghost use Rattle.std.specs.Process.{child_status, exit_code, exit_signal};
+//! The host of this process, over the system.
+ghost use Rattle.std.specs.Prelude.{◌≡◌, ◌++◌, ◌<◌, [], ◌∷◌, Ok, None, IfOk, OnOk, refl};
 ghost use Rattle.just_path.specs.Path.{text_of};
-ghost use Rattle.just_outside.specs.declared.outside.TheConstants.{MAX_BYTES};
-ghost use Rattle.just_path.specs.Host.{note_of_fault};
-ghost use Rattle.just_outside.specs.Record.{noted, refused, IsOwnFault, faults_of, misses_of};
-ghost use Rattle.just_host.specs.Commands.{status_told};
-ghost use Rattle.just_outside.specs.Went.{LogWent};
-ghost use Rattle.just_outside.specs.Counts.{counts_noted};
+ghost use Rattle.just_path.specs.Host.{note_of, note_of_fault};
+ghost use Rattle.just_outside.specs.declared.entry.Entry.{Entry};
+ghost use Rattle.just_outside.specs.Record.{noted, gained, refused, IsOwn, IsOwnFault, NeverMissed, IsStartFault, script_folder, children, faults_of, misses_of};
+ghost use Rattle.just_outside.specs.Logs.{entries_of, spare_of, started_of, HasRoom, LogWent};
+ghost use Rattle.just_outside.proofs.Laws.{counts_noted};
+ghost use Rattle.just_host.specs.Commands.{IsCommandOf};
+ghost use Rattle.just_host.specs.Real.{record_of};
 
-use super::command::{command_of, status_of};
-use super::system::{canonical, list, look, pairs, target};
-use just_outside::{Call, Entry, Host, HostFault, Log, MAX_BYTES, Spec, Status, Stream};
+use super::child::{RealChild, RealDone};
+use super::command::command_of;
+use super::system::{canonical, here, list, look, pairs, read, show, target};
+use just_outside::{Call, Entry, Host, HostFault, Log, Spec, Status, Stream};
 use just_path::{
-    Environ, Item, Meta, Miss, NoMemory, PathCall, PathFault, PathHost, Text, Utf8Path, Utf8PathBuf,
+    Environ, Item, Meta, Miss, NoMemory, PathCall, PathFault, PathHost, Text, TryClone, Utf8Path,
+    Utf8PathBuf,
 };
 use std::alloc::Global;
-use std::io::{self, ErrorKind, Read};
-use std::process::{Child, Processes, SystemProcess};
+use std::io::{self, ErrorKind};
+use std::process::{Child, Command, Processes, SystemProcess};
 use std::rt::Runtime;
-use std::{env, fs};
 
 /// The host of this process: its files, its environment and its children. It tells no world.
 ///
-/// A path that the system can't take, such as one with a NUL, isn't found. It starts no child with a script yet:
-/// such a start fails as that of a temporary file.
+/// A path that the system can't take, such as one with a NUL, isn't found. What is neither a file nor a folder isn't
+/// read. It starts no child with a script yet: such a start fails as that of a temporary file.
 #[derive(Drop)]
-pub struct RealHost<R: Runtime + Processes<Started = SystemProcess>> {
+pub struct RealHost<R> {
     rt: R,
     alloc: Global,
     log: Log,
 }
 
-/// A child of this process.
-#[derive(Drop)]
-pub struct RealChild {
-    number: u32,
-    process: Child<SystemProcess>,
-}
-
-/// A child of this process that was waited for.
-#[derive(Debug, Drop)]
-pub struct RealDone {
-    number: u32,
-    status: Option<Status>,
-}
-
-impl<R: Runtime + Processes<Started = SystemProcess>> RealHost<R> {
+impl<R: Runtime> RealHost<R> {
     /// A host over a copy of the runtime, with an empty record.
     pub fn new(rt: &R, alloc: Global) -> Result<RealHost<R>, NoMemory>
-        ensures entries { IfOk result (λ h. h.log.entries.items ≡ []) }
-        ensures spare { IfOk result (λ h. h.log.spare ≡ 0) }
+        ensures entries { IfOk result (λ h. record_of h ≡ []) }
+        ensures spare { IfOk result (λ h. spare_of h.log ≡ 0) }
     {
         let rt = rt.clone()?;
         Ok(RealHost {
@@ -58,41 +46,14 @@ impl<R: Runtime + Processes<Started = SystemProcess>> RealHost<R> {
             log: Log::new(alloc),
         })
     }
+}
 
+impl<R> RealHost<R> {
     /// The record: what was asked of this host, and what it answered.
     pub fn entries(&self) -> &[Entry]
-        ensures { result.now ≡ self.now.log.entries.items }
+        ensures { result.now ≡ record_of self.now }
     {
         self.log.entries()
-    }
-
-    fn here(&self) -> io::Result<String> {
-        let pair = (&self.rt, self.alloc);
-        let path = env::current_dir(&pair)?;
-        Ok(path.into_string())
-    }
-
-    /// The text of a file, or why its bytes are none that can be read.
-    fn text(&self, path: &str) -> io::Result<Result<String, Miss>>
-        ensures { IfOk result (λ r. IfOk r (λ s. length (string_bytes s) ≤ MAX_BYTES)) }
-    {
-        let file = fs::open(&self.rt, path)?;
-        let mut bytes = Vec::new(self.alloc);
-        file.take(MAX_BYTES as u64 + 1).read_to_end(&mut bytes)?;
-        if bytes.len() > MAX_BYTES {
-            return Ok(Err(Miss::TooLarge));
-        }
-        match String::from_utf8(bytes) {
-            Ok(text) => Ok(Ok(text)),
-            Err(_) => Ok(Err(Miss::NotUtf8)),
-        }
-    }
-
-    fn show(&self, stream: Stream, text: &str) -> io::Result<()> {
-        match stream {
-            Stream::Out => self.rt.print(text),
-            Stream::Err => self.rt.eprint(text),
-        }
     }
 }
 
@@ -113,16 +74,6 @@ fn miss_of(error: &io::Error) -> Option<Miss> {
     }
 }
 
-/// Waits for a child, and tells how it ended, where waiting didn't fail.
-fn ending(process: &mut Child<SystemProcess>) -> Option<Status>
-    ensures { IfSome result (λ s. option_map (λ e. status_told (exit_code e) (exit_signal e)) (child_status process.new) ≡ Some s) }
-{
-    match process.wait() {
-        Ok(status) => Some(status_of(&status)),
-        Err(_) => None,
-    }
-}
-
 /// Notes that the system refused a call on a path, and answers how.
 fn refuse(
     log: &mut Log,
@@ -131,9 +82,9 @@ fn refuse(
     path: Utf8Path<'_>,
     error: &io::Error,
 ) -> HostFault
-    ensures entries { log.new.entries.items ≡ log.old.entries.items ++ refused (text_of path.entry) result }
+    ensures entries { entries_of log.new ≡ entries_of log.old ++ refused (text_of path.entry) result }
     ensures own { IsOwnFault call result }
-    ensures spare { log.new.spare ≡ log.old.spare }
+    ensures spare { spare_of log.new ≡ spare_of log.old }
 {
     if error.kind() == ErrorKind::OutOfMemory {
         return HostFault::NoMemory;
@@ -158,8 +109,8 @@ fn refuse_path(
     path: Utf8Path<'_>,
     error: &io::Error,
 ) -> PathFault
-    ensures entries { log.new.entries.items ≡ log.old.entries.items ++ noted (note_of_fault call (text_of path.entry) result) }
-    ensures spare { log.new.spare ≡ log.old.spare }
+    ensures entries { entries_of log.new ≡ entries_of log.old ++ noted (note_of_fault call (text_of path.entry) result) }
+    ensures spare { spare_of log.new ≡ spare_of log.old }
 {
     if error.kind() == ErrorKind::OutOfMemory {
         return PathFault::NoMemory;
@@ -170,63 +121,164 @@ fn refuse_path(
     }
 }
 
-impl<R: Runtime + Processes<Started = SystemProcess>> PathHost for RealHost<R> {
-    ghost faults = { λ h. faults_of h.log.entries.items };
+/// Hands on what the system answered to a call of a path host, and notes a refusal.
+fn answer_path<T>(
+    log: &mut Log,
+    alloc: Global,
+    call: PathCall,
+    path: Utf8Path<'_>,
+    told: io::Result<T>,
+) -> Result<T, PathFault>
+    ensures went { LogWent log.old log.new (note_of call (text_of path.entry) result) }
+    ensures answer { IfOk result (λ x. told ≡ Ok x) }
+{
+    match told {
+        Ok(answer) => Ok(answer),
+        Err(error) => Err(refuse_path(log, alloc, call, path, &error)),
+    }
+}
 
-    ghost misses = { λ h. misses_of h.log.entries.items };
+/// Hands on a text that was read, and notes a refusal.
+fn answer_read(
+    log: &mut Log,
+    alloc: Global,
+    path: Utf8Path<'_>,
+    told: io::Result<Result<String, Miss>>,
+) -> Result<String, HostFault>
+    ensures entries { entries_of log.new ≡ entries_of log.old ++ gained (text_of path.entry) (λ _. []) result }
+    ensures own { IsOwn Call.Read result }
+    ensures answer { IfOk result (λ s. told ≡ Ok (Ok s)) }
+    ensures spare { spare_of log.new ≡ spare_of log.old }
+{
+    match told {
+        Ok(Ok(text)) => Ok(text),
+        Ok(Err(miss)) => {
+            log.miss(alloc, path, miss)?;
+            Err(HostFault::Missed(miss))
+        }
+        Err(error) => Err(refuse(log, alloc, Call::Read, path, &error)),
+    }
+}
+
+/// Notes a print, or that it failed, where the log was made ready.
+fn answer_print(
+    log: &mut Log,
+    stream: Stream,
+    text: Text,
+    told: io::Result<()>,
+) -> Result<(), HostFault>
+    requires { HasRoom log.old }
+    ensures entries { entries_of log.new ≡ entries_of log.old ++ gained [] (λ _. Entry.Printed stream text ∷ []) result }
+    ensures own { IsOwn Call.Print result }
+    ensures never_missed { NeverMissed result }
+    ensures spare { spare_of log.new ≡ spare_of log.old }
+{
+    match told {
+        Ok(()) => {
+            log.append(Entry::Printed(stream, text));
+            Ok(())
+        }
+        Err(error) if error.kind() == ErrorKind::OutOfMemory => Err(HostFault::NoMemory),
+        Err(_) => {
+            log.append(Entry::Failed(Call::Print));
+            Err(HostFault::Failed(Call::Print))
+        }
+    }
+}
+
+/// Makes the log ready for the start of a child, and answers what it is started by. A child with a script is refused.
+fn prepare(log: &mut Log, alloc: Global, spec: &Spec) -> Result<(Spec, Command), HostFault>
+    ensures room { OnOk result (HasRoom log.new) }
+    ensures number { OnOk result (started_of log.new < u32.MAX) }
+    ensures copy { IfOk result (λ p. p.0 ≡ spec.now) }
+    ensures command { IfOk result (λ p. IsCommandOf spec.now p.1) }
+    ensures entries { entries_of log.new ≡ entries_of log.old ++ gained (script_folder spec.now) (λ _. []) result }
+    ensures fault { IsStartFault spec.now result }
+    ensures spare { spare_of log.new ≡ spare_of log.old }
+{
+    if spec.script.is_some() {
+        log.failure(Call::Temp)?;
+        return Err(HostFault::Failed(Call::Temp));
+    }
+    if !log.can_number() {
+        return Err(HostFault::NoMemory);
+    }
+    let copy = spec.try_clone()?;
+    let command = command_of(alloc, spec)?;
+    log.ready()?;
+    Ok((copy, command))
+}
+
+/// Notes the start of a child, or that it failed, where the log was made ready.
+fn answer_start(
+    log: &mut Log,
+    spec: Spec,
+    told: io::Result<Child<SystemProcess>>,
+) -> Result<RealChild, HostFault>
+    requires room { HasRoom log.old }
+    requires number { started_of log.old < u32.MAX }
+    ensures entries { entries_of log.new ≡ entries_of log.old ++ gained (script_folder spec) (λ c. Entry.Started c.number spec ∷ []) result }
+    ensures number { IfOk result (λ c. c.number ≡ children (entries_of log.old)) }
+    ensures process { IfOk result (λ c. told ≡ Ok c.process) }
+    ensures fault { IsStartFault spec result }
+    ensures spare { spare_of log.new ≡ spare_of log.old }
+{
+    match told {
+        Ok(process) => {
+            let number = log.start(spec);
+            Ok(RealChild { number, process })
+        }
+        Err(error) if error.kind() == ErrorKind::OutOfMemory => Err(HostFault::NoMemory),
+        Err(_) => {
+            log.append(Entry::Failed(Call::Start));
+            Err(HostFault::Failed(Call::Start))
+        }
+    }
+}
+
+impl<R: Runtime + Processes<Started = SystemProcess>> PathHost for RealHost<R> {
+    ghost faults = { λ h. faults_of (record_of h) };
+
+    ghost misses = { λ h. misses_of (record_of h) };
 
     ghost view = { λ h. None };
 
     ghost went = { λ a b n. LogWent a.log b.log n };
 
     fn meta(&mut self, path: Utf8Path<'_>, follow: bool) -> Result<Meta, PathFault> {
-        match look(&self.rt, path.as_str(), follow) {
-            Ok(meta) => Ok(meta),
-            Err(error) => Err(refuse_path(&mut self.log, self.alloc, PathCall::Meta, path, &error)),
-        }
+        let told = look(&self.rt, path.as_str(), follow);
+        answer_path(&mut self.log, self.alloc, PathCall::Meta, path, told)
     }
 
     fn list(&mut self, path: Utf8Path<'_>) -> Result<Vec<Item>, PathFault> {
-        match list(&self.rt, self.alloc, path.as_str()) {
-            Ok(items) => Ok(items),
-            Err(error) => Err(refuse_path(&mut self.log, self.alloc, PathCall::List, path, &error)),
-        }
+        let told = list(&self.rt, self.alloc, path.as_str());
+        answer_path(&mut self.log, self.alloc, PathCall::List, path, told)
     }
 
     fn canonical(&mut self, path: Utf8Path<'_>) -> Result<Utf8PathBuf, PathFault> {
-        match canonical(&self.rt, self.alloc, path.as_str()) {
-            Ok(text) => Ok(Utf8PathBuf::from(text)),
-            Err(error) => Err(refuse_path(
-                &mut self.log,
-                self.alloc,
-                PathCall::Canonical,
-                path,
-                &error,
-            )),
-        }
+        let told = canonical(&self.rt, self.alloc, path.as_str());
+        answer_path(&mut self.log, self.alloc, PathCall::Canonical, path, told)
     }
 
     fn link(&mut self, path: Utf8Path<'_>) -> Result<Utf8PathBuf, PathFault> {
-        match target(&self.rt, self.alloc, path.as_str()) {
-            Ok(text) => Ok(Utf8PathBuf::from(text)),
-            Err(error) => Err(refuse_path(&mut self.log, self.alloc, PathCall::Link, path, &error)),
-        }
+        let told = target(&self.rt, self.alloc, path.as_str());
+        answer_path(&mut self.log, self.alloc, PathCall::Link, path, told)
     }
 
     fn current(&mut self) -> Result<Utf8PathBuf, PathFault> {
-        match self.here() {
-            Ok(text) => Ok(Utf8PathBuf::from(text)),
-            Err(error) => Err(refuse_path(
-                &mut self.log,
-                self.alloc,
-                PathCall::Current,
-                Utf8Path::new(""),
-                &error,
-            )),
-        }
+        let told = here(&self.rt, self.alloc);
+        answer_path(
+            &mut self.log,
+            self.alloc,
+            PathCall::Current,
+            Utf8Path::new(""),
+            told,
+        )
     }
 
-    ghost counts = { λ a b n w. counts_noted a.log.entries.items b.log.entries.items n w.entries };
+    ghost counts = { λ a b n w. counts_noted (record_of a) (record_of b) n w.entries };
+
+    ghost view_clean = { λ h. tt };
 
     ghost went_view = { λ a b n w. refl };
 }
@@ -236,9 +288,9 @@ impl<R: Runtime + Processes<Started = SystemProcess>> Host for RealHost<R> {
 
     type Done = RealDone;
 
-    ghost entries = { λ h. h.log.entries.items };
+    ghost entries = { λ h. record_of h };
 
-    ghost spare = { λ h. h.log.spare };
+    ghost spare = { λ h. spare_of h.log };
 
     ghost world = { λ h. None };
 
@@ -249,14 +301,8 @@ impl<R: Runtime + Processes<Started = SystemProcess>> Host for RealHost<R> {
     ghost waited = { λ d. d.status };
 
     fn read(&mut self, path: Utf8Path<'_>) -> Result<String, HostFault> {
-        match self.text(path.as_str()) {
-            Ok(Ok(text)) => Ok(text),
-            Ok(Err(miss)) => {
-                self.log.miss(self.alloc, path, miss)?;
-                Err(HostFault::Missed(miss))
-            }
-            Err(error) => Err(refuse(&mut self.log, self.alloc, Call::Read, path, &error)),
-        }
+        let told = read(&self.rt, self.alloc, path.as_str());
+        answer_read(&mut self.log, self.alloc, path, told)
     }
 
     fn environ(&mut self) -> Result<Environ, HostFault> {
@@ -267,41 +313,14 @@ impl<R: Runtime + Processes<Started = SystemProcess>> Host for RealHost<R> {
     fn print(&mut self, stream: Stream, text: &str) -> Result<(), HostFault> {
         let copy = Text::from_str(self.alloc, text)?;
         self.log.ready()?;
-        match self.show(stream, text) {
-            Ok(()) => {
-                self.log.append(Entry::Printed(stream, copy));
-                Ok(())
-            }
-            Err(error) if error.kind() == ErrorKind::OutOfMemory => Err(HostFault::NoMemory),
-            Err(_) => {
-                self.log.append(Entry::Failed(Call::Print));
-                Err(HostFault::Failed(Call::Print))
-            }
-        }
+        let told = show(&self.rt, stream, text);
+        answer_print(&mut self.log, stream, copy, told)
     }
 
     fn start(&mut self, spec: &Spec) -> Result<RealChild, HostFault> {
-        if spec.script.is_some() {
-            self.log.failure(Call::Temp)?;
-            return Err(HostFault::Failed(Call::Temp));
-        }
-        if !self.log.can_number() {
-            return Err(HostFault::NoMemory);
-        }
-        let copy = spec.try_clone(self.alloc)?;
-        let mut command = command_of(self.alloc, spec)?;
-        self.log.ready()?;
-        match command.spawn(&self.rt) {
-            Ok(process) => {
-                let number = self.log.start(copy);
-                Ok(RealChild { number, process })
-            }
-            Err(error) if error.kind() == ErrorKind::OutOfMemory => Err(HostFault::NoMemory),
-            Err(_) => {
-                self.log.append(Entry::Failed(Call::Start));
-                Err(HostFault::Failed(Call::Start))
-            }
-        }
+        let (copy, mut command) = prepare(&mut self.log, self.alloc, spec)?;
+        let told = command.spawn(&self.rt);
+        answer_start(&mut self.log, copy, told)
     }
 
     fn number(child: &RealChild) -> u32 {
@@ -309,12 +328,7 @@ impl<R: Runtime + Processes<Started = SystemProcess>> Host for RealHost<R> {
     }
 
     fn wait(child: RealChild) -> RealDone {
-        let RealChild {
-            number,
-            mut process,
-        } = child;
-        let status = ending(&mut process);
-        RealDone { number, status }
+        RealDone::after(child)
     }
 
     fn settle(&mut self, child: u32, done: RealDone) -> Result<Status, HostFault> {

@@ -1,15 +1,21 @@
 //! What the system tells of paths and of the environment. An error that is a miss has the kind of one.
 //! Nothing is claimed of what the system answers, so most of these functions have no clause.
 
-ghost use Rattle.std.specs.Prelude.{IfOk};
+ghost use Rattle.std.specs.Prelude.{◌≤◌, IfOk, IfSome, length, string_bytes};
 ghost use Rattle.just_path.specs.View.{AreInOrder};
+ghost use Rattle.just_outside.specs.declared.outside.TheConstants.{MAX_BYTES};
+ghost use Rattle.just_outside.specs.World.{text_in};
+ghost use Rattle.just_host.specs.Texts.{Tells};
 
 use super::items::in_order;
-use just_path::{Item, Kind, Meta, NoMemory, Seq, Text};
+use super::text::text_of;
+use just_outside::{MAX_BYTES, Stream};
+use just_path::{Item, Kind, Meta, Miss, NoMemory, Seq, Text, Utf8PathBuf};
 use std::alloc::Global;
+use std::env;
 use std::env::FillError;
-use std::fs::{self, FileType};
-use std::io::{self, ErrorKind};
+use std::fs::{self, FileType, Files};
+use std::io::{self, ErrorKind, Read};
 use std::os::unix::fs::PermissionsExt;
 use std::rt::{Env, Runtime};
 
@@ -27,11 +33,11 @@ fn kind_of(file_type: &FileType) -> Kind {
 
 /// What stands at a path. The length of a folder is 0, as that of anything but files and links. It has no clause, since
 /// nothing is claimed of what the system answers.
-pub fn look<R: Runtime>(rt: &R, path: &str, follow: bool) -> io::Result<Meta> {
+pub fn look<F: Files>(files: &F, path: &str, follow: bool) -> io::Result<Meta> {
     let data = if follow {
-        fs::metadata(rt, path)?
+        fs::metadata(files, path)?
     } else {
-        fs::symlink_metadata(rt, path)?
+        fs::symlink_metadata(files, path)?
     };
     let kind = kind_of(&data.file_type());
     let len = match kind {
@@ -84,22 +90,61 @@ fn found<R: Runtime>(rt: &R, alloc: Global, path: &str) -> io::Result<Vec<Item>>
 }
 
 /// The path at which a path is found. It has no clause, since nothing is claimed of what the system answers.
-pub fn canonical<R: Runtime>(rt: &R, alloc: Global, path: &str) -> io::Result<String> {
+pub fn canonical<R: Runtime>(rt: &R, alloc: Global, path: &str) -> io::Result<Utf8PathBuf> {
     let pair = (rt, alloc);
     let found = fs::canonicalize(&pair, path)?;
-    Ok(found.into_string())
+    Ok(Utf8PathBuf::from(found.into_string()))
+}
+
+/// The current folder. It has no clause, since nothing is claimed of what the system answers.
+pub fn here<R: Runtime>(rt: &R, alloc: Global) -> io::Result<Utf8PathBuf> {
+    let pair = (rt, alloc);
+    let found = env::current_dir(&pair)?;
+    Ok(Utf8PathBuf::from(found.into_string()))
 }
 
 /// The target of a link. Where something else stands, no link is found. It has no clause, since nothing is claimed of what
 /// the system answers.
-pub fn target<R: Runtime>(rt: &R, alloc: Global, path: &str) -> io::Result<String> {
+pub fn target<R: Runtime>(rt: &R, alloc: Global, path: &str) -> io::Result<Utf8PathBuf> {
     let pair = (rt, alloc);
     match fs::read_link(&pair, path) {
-        Ok(found) => Ok(found.into_string()),
+        Ok(found) => Ok(Utf8PathBuf::from(found.into_string())),
         Err(error) if error.kind() == ErrorKind::InvalidInput => {
             Err(io::Error::from(ErrorKind::NotFound))
         }
         Err(error) => Err(error),
+    }
+}
+
+/// The text of a file, or why it is none that can be read. What is neither a file nor a folder isn't opened, so that
+/// nothing is waited for.
+pub fn read<F: Files>(files: &F, alloc: Global, path: &str) -> io::Result<Result<String, Miss>>
+    ensures { IfOk result (λ r. IfOk r (λ s. length (string_bytes s) ≤ MAX_BYTES)) }
+{
+    let kind = kind_of(&fs::metadata(files, path)?.file_type());
+    match kind {
+        Kind::File => read_text(alloc, fs::open(files, path)?),
+        Kind::Folder => Ok(Err(Miss::IsFolder)),
+        Kind::Link | Kind::Other => Err(io::Error::from(ErrorKind::Other)),
+    }
+}
+
+/// The text that a reader gives up to its end, or why it is none that can be read.
+fn read_text<F: Read + Drop>(alloc: Global, reader: F) -> io::Result<Result<String, Miss>>
+    ensures limit { IfOk result (λ r. IfOk r (λ s. length (string_bytes s) ≤ MAX_BYTES)) }
+    // where the reader's bytes are known, none is cut off
+    ensures told { IfOk result (λ r. IfSome (F.remaining reader) (λ bytes. Tells (text_in bytes) r)) }
+{
+    let mut bytes = Vec::new(alloc);
+    reader.take(MAX_BYTES as u64 + 1).read_to_end(&mut bytes)?;
+    Ok(text_of(bytes))
+}
+
+/// Prints a text. It has no clause, since nothing is claimed of what the system shows.
+pub fn show<R: Runtime>(rt: &R, stream: Stream, text: &str) -> io::Result<()> {
+    match stream {
+        Stream::Out => rt.print(text),
+        Stream::Err => rt.eprint(text),
     }
 }
 

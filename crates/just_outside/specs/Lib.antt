@@ -1,6 +1,5 @@
 pub mod Record
 pub mod World
 pub mod Sights
-pub mod Counts
-pub mod Went
+pub mod Logs
 pub mod Signals

@@ -1,3 +1,4 @@
+//! What a host is asked, what it answers, and the entries of its record.
 ghost use Rattle.std.specs.Prelude.{◌≡◌};
 ghost use Rattle.just_outside.specs.declared.entry.HostFault.{HostFault};
 

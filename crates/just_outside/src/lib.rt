@@ -8,7 +8,6 @@ mod outside;
 mod signal;
 mod tree;
 
-pub use copies::copy_pairs;
 pub use entry::{Call, Entry, HostFault, Look, Script, Spec, Status, Stream};
 pub use log::Log;
 pub use outside::{Host, MAX_BYTES};

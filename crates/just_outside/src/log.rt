@@ -1,3 +1,4 @@
+//! The log that a host keeps its record in.
 ghost use Rattle.std.specs.Prelude.{◌≡◌, ◌+◌, ◌-◌, ◌<◌, ◌≤◌, nat_lt, [], ◌∷◌, ◌++◌, false, OnOk, OnErr, IfOk, vec_len, vec_capacity};
 ghost use Rattle.just_path.specs.Path.{text_of};
 ghost use Rattle.just_outside.specs.declared.entry.Entry.{Entry};
@@ -22,9 +23,11 @@ pub struct Log {
 }
 
 impl Log {
+    ghost use Rattle.just_outside.specs.Logs.{entries_of, spare_of, started_of, HasRoom};
+
     pub fn new(alloc: Global) -> Log
-        ensures entries { result.entries.items ≡ [] }
-        ensures spare { result.spare ≡ 0 }
+        ensures entries { entries_of result ≡ [] }
+        ensures spare { spare_of result ≡ 0 }
     {
         Log {
             entries: Vec::new(alloc),
@@ -34,16 +37,17 @@ impl Log {
     }
 
     pub fn entries(&self) -> &[Entry]
-        ensures { result.now ≡ self.now.entries.items }
+        ensures { result.now ≡ entries_of self.now }
     {
         self.entries.as_slice()
     }
 
     /// Makes room for `n` entries of `settle`.
     pub fn room(&mut self, n: usize) -> Result<(), NoMemory>
-        ensures entries { self.new.entries.items ≡ self.old.entries.items }
-        ensures ok { OnOk result (n ≤ self.new.spare) }
-        ensures err { OnErr result (self.new.spare ≡ self.old.spare) }
+        ensures entries { entries_of self.new ≡ entries_of self.old }
+        ensures ok { OnOk result (n ≤ spare_of self.new) }
+        ensures kept { spare_of self.old ≤ spare_of self.new }
+        ensures err { OnErr result (spare_of self.new ≡ spare_of self.old) }
     {
         self.entries.reserve(n)?;
         if self.spare < n {
@@ -54,10 +58,10 @@ impl Log {
 
     /// Makes sure that there is memory for one entry beside the spare ones.
     pub fn ready(&mut self) -> Result<(), NoMemory>
-        ensures entries { self.new.entries.items ≡ self.old.entries.items }
-        ensures spare { self.new.spare ≡ self.old.spare }
-        ensures started { self.new.started ≡ self.old.started }
-        ensures ok { OnOk result (vec_len self.new.entries + self.new.spare < vec_capacity self.new.entries) }
+        ensures entries { entries_of self.new ≡ entries_of self.old }
+        ensures spare { spare_of self.new ≡ spare_of self.old }
+        ensures started { started_of self.new ≡ started_of self.old }
+        ensures ok { OnOk result (HasRoom self.new) }
     {
         let Some(wanted) = self.spare.checked_add(1) else {
             return Err(NoMemory);
@@ -68,11 +72,11 @@ impl Log {
 
     /// Appends an entry that starts no child, where `ready` made sure of its memory.
     pub fn append(&mut self, entry: Entry)
-        requires room { vec_len self.old.entries + self.old.spare < vec_capacity self.old.entries }
+        requires room { HasRoom self.old }
         requires other { is_started entry ≡ false }
-        ensures entries { self.new.entries.items ≡ self.old.entries.items ++ entry ∷ [] }
-        ensures spare { self.new.spare ≡ self.old.spare }
-        ensures started { self.new.started ≡ self.old.started }
+        ensures entries { entries_of self.new ≡ entries_of self.old ++ entry ∷ [] }
+        ensures spare { spare_of self.new ≡ spare_of self.old }
+        ensures started { started_of self.new ≡ started_of self.old }
     {
         self.entries.push_reserved(entry);
     }
@@ -80,9 +84,9 @@ impl Log {
     /// Appends an entry that starts no child.
     pub fn note(&mut self, entry: Entry) -> Result<(), NoMemory>
         requires { is_started entry ≡ false }
-        ensures ok { OnOk result (self.new.entries.items ≡ self.old.entries.items ++ entry ∷ []) }
-        ensures err { OnErr result (self.new.entries.items ≡ self.old.entries.items) }
-        ensures spare { self.new.spare ≡ self.old.spare }
+        ensures ok { OnOk result (entries_of self.new ≡ entries_of self.old ++ entry ∷ []) }
+        ensures err { OnErr result (entries_of self.new ≡ entries_of self.old) }
+        ensures spare { spare_of self.new ≡ spare_of self.old }
     {
         self.ready()?;
         self.append(entry);
@@ -91,9 +95,9 @@ impl Log {
 
     /// Appends the miss of a path.
     pub fn miss(&mut self, alloc: Global, path: Utf8Path<'_>, miss: Miss) -> Result<(), NoMemory>
-        ensures ok { OnOk result (self.new.entries.items ≡ self.old.entries.items ++ Entry.Missed (text_of path.entry) miss ∷ []) }
-        ensures err { OnErr result (self.new.entries.items ≡ self.old.entries.items) }
-        ensures spare { self.new.spare ≡ self.old.spare }
+        ensures ok { OnOk result (entries_of self.new ≡ entries_of self.old ++ Entry.Missed (text_of path.entry) miss ∷ []) }
+        ensures err { OnErr result (entries_of self.new ≡ entries_of self.old) }
+        ensures spare { spare_of self.new ≡ spare_of self.old }
     {
         let path = path.to_path_buf(alloc)?;
         self.note(Entry::Missed(path, miss))
@@ -101,18 +105,18 @@ impl Log {
 
     /// Appends the failure of a call.
     pub fn failure(&mut self, call: Call) -> Result<(), NoMemory>
-        ensures ok { OnOk result (self.new.entries.items ≡ self.old.entries.items ++ Entry.Failed call ∷ []) }
-        ensures err { OnErr result (self.new.entries.items ≡ self.old.entries.items) }
-        ensures spare { self.new.spare ≡ self.old.spare }
+        ensures ok { OnOk result (entries_of self.new ≡ entries_of self.old ++ Entry.Failed call ∷ []) }
+        ensures err { OnErr result (entries_of self.new ≡ entries_of self.old) }
+        ensures spare { spare_of self.new ≡ spare_of self.old }
     {
         self.note(Entry::Failed(call))
     }
 
     /// Appends the failure of a call of a path host, and answers it.
     pub fn path_failure(&mut self, call: PathCall) -> PathFault
-        ensures entries { self.new.entries.items ≡ self.old.entries.items ++ noted (note_of_fault call [] result) }
+        ensures entries { entries_of self.new ≡ entries_of self.old ++ noted (note_of_fault call [] result) }
         ensures kind { IsFailure result }
-        ensures spare { self.new.spare ≡ self.old.spare }
+        ensures spare { spare_of self.new ≡ spare_of self.old }
     {
         match self.failure(call_of(call)) {
             Ok(()) => PathFault::Failed,
@@ -122,9 +126,9 @@ impl Log {
 
     /// Appends the miss of a path, of a call of a path host, and answers it.
     pub fn path_miss(&mut self, alloc: Global, path: Utf8Path<'_>, miss: Miss) -> PathFault
-        ensures entries { (call : PathCall) → self.new.entries.items ≡ self.old.entries.items ++ noted (note_of_fault call (text_of path.entry) result) }
+        ensures entries { (call : PathCall) → entries_of self.new ≡ entries_of self.old ++ noted (note_of_fault call (text_of path.entry) result) }
         ensures kind { IsMissOf miss result }
-        ensures spare { self.new.spare ≡ self.old.spare }
+        ensures spare { spare_of self.new ≡ spare_of self.old }
     {
         match self.miss(alloc, path, miss) {
             Ok(()) => PathFault::Missed(miss),
@@ -134,18 +138,18 @@ impl Log {
 
     /// Whether one more child can have a number of its own.
     pub fn can_number(&self) -> bool
-        ensures { result ≡ nat_lt self.now.started u32.MAX }
+        ensures { result ≡ nat_lt (started_of self.now) u32.MAX }
     {
         self.started < u32::MAX
     }
 
     /// Appends the start of a child, and answers its number.
     pub fn start(&mut self, spec: Spec) -> u32
-        requires room { vec_len self.old.entries + self.old.spare < vec_capacity self.old.entries }
-        requires number { self.old.started < u32.MAX }
-        ensures entries { self.new.entries.items ≡ self.old.entries.items ++ Entry.Started result spec ∷ [] }
-        ensures number { result ≡ children self.old.entries.items }
-        ensures spare { self.new.spare ≡ self.old.spare }
+        requires room { HasRoom self.old }
+        requires number { started_of self.old < u32.MAX }
+        ensures entries { entries_of self.new ≡ entries_of self.old ++ Entry.Started result spec ∷ [] }
+        ensures number { result ≡ children (entries_of self.old) }
+        ensures spare { spare_of self.new ≡ spare_of self.old }
     {
         let number = self.started;
         self.started = number + 1;
@@ -161,10 +165,10 @@ impl Log {
         number: u32,
         waited: Option<Status>,
     ) -> Result<Status, HostFault>
-        requires { 0 < self.old.spare }
-        ensures entries { self.new.entries.items ≡ self.old.entries.items ++ settled_entry child number waited ∷ [] }
+        requires { 0 < spare_of self.old }
+        ensures entries { entries_of self.new ≡ entries_of self.old ++ settled_entry child number waited ∷ [] }
         ensures answer { result ≡ settled_answer child number waited }
-        ensures spare { self.new.spare + 1 ≡ self.old.spare }
+        ensures spare { spare_of self.new + 1 ≡ spare_of self.old }
     {
         self.spare -= 1;
         if number != child {

@@ -1,3 +1,4 @@
+//! The trait of hosts.
 ghost use Rattle.std.specs.Prelude.{◌≡◌, ◌+◌, ◌<◌, ◌≤◌, ℕ, List, [], ◌∷◌, ◌++◌, length, Option, Result, option_map, IfOk, MatchOption, OnOk, OnErr, string_bytes};
 ghost use Rattle.just_path.specs.Path.{text_of};
 ghost use Rattle.just_path.specs.declared.host.PathNote.{PathNote};
@@ -5,8 +6,7 @@ ghost use Rattle.just_outside.specs.declared.entry.Entry.{Entry};
 ghost use Rattle.just_outside.specs.declared.entry.Status.{Status};
 ghost use Rattle.just_outside.specs.declared.outside.TheConstants.{MAX_BYTES};
 ghost use Rattle.just_outside.specs.Record.{gained, IsOwn, NeverMissed, noted, children, faults_of, misses_of, settled_entry, settled_answer, script_folder, IsStartFault};
-ghost use Rattle.just_outside.specs.World.{World, ReadTells, Touched, Leaves};
-ghost use Rattle.just_outside.specs.Sights.{view_of};
+ghost use Rattle.just_outside.specs.World.{World, view_of, ReadTells, Touched, Leaves};
 
 use super::{Call, Entry, HostFault, Spec, Status, Stream};
 use just_path::{Environ, NoMemory, PathHost, Utf8Path};
@@ -92,6 +92,7 @@ pub trait Host: PathHost {
         ensures entries { entries self.new ≡ entries self.old }
         ensures world { world self.new ≡ world self.old }
         ensures ok { OnOk result (n ≤ spare self.new) }
+        ensures kept { spare self.old ≤ spare self.new }
         ensures err { OnErr result (spare self.new ≡ spare self.old) };
 
     ghost faults_are: { (h : Self) → Self.faults h ≡ faults_of (entries h) };

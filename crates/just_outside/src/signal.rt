@@ -1,3 +1,4 @@
+//! Signals that end a run.
 ghost use Rattle.std.specs.Prelude.{◌≡◌, ◌+◌, ℕ, List, Some, true, pos, ok_or, IfOk};
 ghost use Rattle.just_outside.specs.declared.signal.Signal.{Signal};
 ghost use Rattle.just_outside.specs.Signals.{number_of, name_of, all, named, numbered};

@@ -1,3 +1,4 @@
+//! What stands in a tree of files.
 use just_path::{Seq, Text};
 
 /// What stands at a path of a tree of files.

@@ -14,7 +14,7 @@ use Rattle.just_path.specs.declared.meta.Meta.{Meta}
 pub record Decides {H A : Type 0} (went : H → H → PathNote → Type 0) (view : H → Option View) (path : List ℕ) (follow : Bool) (makes : Result Meta PathFault → A → Type 0) (old new : H) (result : A) : Type 0 where
   pub answer : Result Meta PathFault
   pub goes : went old new (note_of path_call.Meta path answer)
-  pub told : Tells (view old) (λ v. meta_told path follow v.tree) answer
+  pub told : Tells (view old) (meta_told path follow) answer
   pub made : makes answer result
 
 -- whether a test holds of what was answered: not where the host refused; want of memory is passed on

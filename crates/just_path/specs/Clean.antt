@@ -1,6 +1,7 @@
 -- Clean paths: three rewrites of component lists, and the list that they lead to.
-use Rattle.std.specs.Prelude.{◌≡◌, ℕ, Bool, true, false, List, [], ◌∷◌, ◌++◌, map, fold}
-use Rattle.just_path.specs.Path.{pushed}
+use Rattle.std.specs.Prelude.{◌≡◌, ℕ, Bool, true, false, ◌&&◌, List, [], ◌∷◌, ◌++◌, map, fold}
+use Rattle.std.specs.Str.{bytes_eq}
+use Rattle.just_path.specs.Path.{is_absolute, pushed}
 use Rattle.just_path.specs.Comps.{Comp, prefix, root, current, parent, normal, comp_text, comps}
 
 -- one rewrite: a `.` goes; a name goes with the `..` directly behind it; a `..` directly behind the root goes
@@ -10,9 +11,9 @@ pub data Rewrites (c d : List Comp) : Type 0 where
   parent_goes : (xs ys : List Comp) → c ≡ xs ++ root ∷ parent ∷ ys → d ≡ xs ++ root ∷ ys → Rewrites c d
 
 -- any number of rewrites
-pub data Leads (d : List Comp) : List Comp → Type 0 where
-  stays : Leads d d
-  goes : (c e : List Comp) → Rewrites c e → Leads d e → Leads d c
+pub data RewritesTo (d : List Comp) : List Comp → Type 0 where
+  stays : RewritesTo d d
+  goes : (c e : List Comp) → Rewrites c e → RewritesTo d e → RewritesTo d c
 
 -- no rewrite applies
 abbrev pub IsNormal : List Comp → Type 0
@@ -20,7 +21,7 @@ IsNormal c = (d : List Comp) → Rewrites c d → ⊥
 
 -- the second list is a normal form of the first
 abbrev pub IsNormalForm : List Comp → List Comp → Type 0
-IsNormalForm c n = Leads n c × IsNormal n
+IsNormalForm c n = RewritesTo n c × IsNormal n
 
 -- the normal form, from the last component on: what a component makes of the normal form of those behind it
 abbrev pub without_parents : List Comp → List Comp
@@ -31,6 +32,7 @@ without_parents (current ∷ cs) = current ∷ cs
 without_parents (parent ∷ cs) = without_parents cs
 without_parents (normal n ∷ cs) = normal n ∷ cs
 
+-- a name in front of a normal form: it goes with a `..` directly behind it
 abbrev pub after_name : List ℕ → List Comp → List Comp
 after_name n [] = normal n ∷ []
 after_name n (prefix t ∷ cs) = normal n ∷ prefix t ∷ cs
@@ -39,16 +41,18 @@ after_name n (current ∷ cs) = normal n ∷ current ∷ cs
 after_name n (parent ∷ cs) = cs
 after_name n (normal m ∷ cs) = normal n ∷ normal m ∷ cs
 
-abbrev pub put : Comp → List Comp → List Comp
-put (prefix t) cs = prefix t ∷ cs
-put root cs = root ∷ without_parents cs
-put current cs = cs
-put parent cs = parent ∷ cs
-put (normal n) cs = after_name n cs
+-- any component in front of a normal form
+abbrev pub normal_form_with : Comp → List Comp → List Comp
+normal_form_with (prefix t) cs = prefix t ∷ cs
+normal_form_with root cs = root ∷ without_parents cs
+normal_form_with current cs = cs
+normal_form_with parent cs = parent ∷ cs
+normal_form_with (normal n) cs = after_name n cs
 
-abbrev pub reduced : List Comp → List Comp
-reduced [] = []
-reduced (c ∷ cs) = put c (reduced cs)
+-- the normal form of a list
+abbrev pub normal_form : List Comp → List Comp
+normal_form [] = []
+normal_form (c ∷ cs) = normal_form_with c (normal_form cs)
 
 -- an empty list becomes `.`
 abbrev pub or_current : List Comp → List Comp
@@ -61,7 +65,11 @@ path_from cs = fold pushed [] (map comp_text cs)
 
 -- a clean path
 unfoldable pub cleaned : List ℕ → List ℕ
-cleaned t = path_from (or_current (reduced (comps t)))
+cleaned t = path_from (or_current (normal_form (comps t)))
+
+-- whether a text is absolute and its own clean form
+abbrev pub is_clean_absolute : List ℕ → Bool
+is_clean_absolute t = is_absolute t && bytes_eq (cleaned t) t
 
 -- a path is made of a normal form of the text's components
 abbrev pub IsCleanOf : List ℕ → List ℕ → Type 0

@@ -1,12 +1,13 @@
 -- What a value of the program is as a component.
-use Rattle.std.specs.Prelude.{◌≡◌, List, [], ◌∷◌, ◌++◌, Option, Some, None, MatchOption}
+use Rattle.std.specs.Prelude.{List, [], ◌∷◌, Option, Some, None}
 use Rattle.just_path.specs.Comps.{Comp, prefix, root, current, parent, normal}
+use Rattle.just_path.specs.Prefix.{prefix_text}
 use Rattle.just_path.specs.declared.component.Utf8Component.{Utf8Component}
 use Rattle.just_path.specs.declared.component.Utf8Component.TheVariants as c
 
 -- the component that a value stands for
 abbrev pub comp_of : Utf8Component → Comp
-comp_of (c.Prefix p) = prefix p.raw.now
+comp_of (c.Prefix p) = prefix (prefix_text p)
 comp_of c.RootDir = root
 comp_of c.CurDir = current
 comp_of c.ParentDir = parent
@@ -16,11 +17,3 @@ comp_of (c.Normal name) = normal name.now
 abbrev pub one_of : Option Utf8Component → List Comp
 one_of None = []
 one_of (Some x) = comp_of x ∷ []
-
--- the first component was taken and these are left; none is taken only where none was left, and then none is left
-abbrev pub TakesFirst : List Comp → Option Utf8Component → List Comp → Type 0
-TakesFirst before r after = MatchOption r ((before ≡ []) × (after ≡ [])) (λ x. before ≡ comp_of x ∷ after)
-
--- the same of the last component
-abbrev pub TakesLast : List Comp → Option Utf8Component → List Comp → Type 0
-TakesLast before r after = MatchOption r ((before ≡ []) × (after ≡ [])) (λ x. before ≡ after ++ comp_of x ∷ [])

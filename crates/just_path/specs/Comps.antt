@@ -12,13 +12,15 @@ pub data Comp : Type 0 where
   parent : Comp
   normal : List ℕ → Comp
 
--- the texts `.`, `..` and `/`
+-- the text `.`
 abbrev pub dot : List ℕ
 dot = 46 ∷ []
 
+-- the text `..`
 abbrev pub dots : List ℕ
 dots = 46 ∷ 46 ∷ []
 
+-- the text `/`
 abbrev pub slash : List ℕ
 slash = 47 ∷ []
 
@@ -36,22 +38,22 @@ is_empty [] = true
 is_empty (x ∷ xs) = false
 
 -- pieces, with a byte put in front of the first
-abbrev pub glued : ℕ → List (List ℕ) → List (List ℕ)
-glued b [] = (b ∷ []) ∷ []
-glued b (p ∷ ps) = (b ∷ p) ∷ ps
+abbrev pub with_first_byte : ℕ → List (List ℕ) → List (List ℕ)
+with_first_byte b [] = (b ∷ []) ∷ []
+with_first_byte b (p ∷ ps) = (b ∷ p) ∷ ps
 
 -- the pieces of a text, split at each `/`: one more than it has slashes, some of them empty
 abbrev pub pieces : List ℕ → List (List ℕ)
 pieces [] = [] ∷ []
-pieces (b ∷ bs) = if b == 47 then [] ∷ pieces bs else glued b (pieces bs)
+pieces (b ∷ bs) = if b == 47 then [] ∷ pieces bs else with_first_byte b (pieces bs)
 
 -- the component that a piece gives, if it gives one: an empty piece and `.` give none
-abbrev pub named : List ℕ → List Comp
-named p = if (is_empty p || bytes_eq p dot) then [] else (if bytes_eq p dots then parent ∷ [] else normal p ∷ [])
+abbrev pub comps_of_piece : List ℕ → List Comp
+comps_of_piece p = if (is_empty p || bytes_eq p dot) then [] else (if bytes_eq p dots then parent ∷ [] else normal p ∷ [])
 
 -- the components that the pieces of a text give
 unfoldable pub names : List ℕ → List Comp
-names t = flat_map named (pieces t)
+names t = flat_map comps_of_piece (pieces t)
 
 -- whether the first piece is `.`
 abbrev pub is_dot_first : List (List ℕ) → Bool
@@ -59,12 +61,12 @@ is_dot_first [] = false
 is_dot_first (p ∷ ps) = bytes_eq p dot
 
 -- what stands in front of them: the root of an absolute text, or the `.` that a relative one begins with
-unfoldable pub leading : List ℕ → List Comp
-leading t = if is_absolute t then root ∷ [] else (if is_dot_first (pieces t) then current ∷ [] else [])
+unfoldable pub lead_of : List ℕ → List Comp
+lead_of t = if is_absolute t then root ∷ [] else (if is_dot_first (pieces t) then current ∷ [] else [])
 
 -- the components of a path's text
 unfoldable pub comps : List ℕ → List Comp
-comps t = leading t ++ names t
+comps t = lead_of t ++ names t
 
 -- whether a component is a prefix
 abbrev pub has_prefix : List Comp → Bool
@@ -74,3 +76,11 @@ has_prefix (root ∷ cs) = has_prefix cs
 has_prefix (current ∷ cs) = has_prefix cs
 has_prefix (parent ∷ cs) = has_prefix cs
 has_prefix (normal t ∷ cs) = has_prefix cs
+
+-- the components of a path with another pushed: those of both, one behind the other, but an absolute path replaces what it is
+-- pushed on, and a `.` in front of it stays only where it is pushed on nothing
+abbrev pub join_comps : List Comp → List Comp → List Comp
+join_comps [] ds = ds
+join_comps (c ∷ cs) (root ∷ ds) = root ∷ ds
+join_comps (c ∷ cs) (current ∷ ds) = (c ∷ cs) ++ ds
+join_comps (c ∷ cs) ds = (c ∷ cs) ++ ds

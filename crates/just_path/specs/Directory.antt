@@ -18,7 +18,7 @@ entries_left d = reverse d.rest.items
 -- the entries are those of the items that the host listed, which are those that a told view shows
 abbrev pub TellsEntries : Option View → List ℕ → List Item → Type 0
 TellsEntries None path items = Unit {0}
-TellsEntries (Some v) path items = (folder : List ℕ) × (folder_told path v.tree ≡ Ok folder) × AreItemsOf folder v.tree items
+TellsEntries (Some v) path items = (folder : List ℕ) × (folder_told path v ≡ Ok folder) × AreItemsOf folder v.tree items
 
 pub record Lists (view : Option View) (path : List ℕ) (d : ReadDirUtf8) : Type 0 where
   pub items : List Item
@@ -29,4 +29,4 @@ pub record Lists (view : Option View) (path : List ℕ) (d : ReadDirUtf8) : Type
 -- a miss is the one that a told view shows
 abbrev pub TellsNoFolder : Option View → List ℕ → PathFault → Type 0
 TellsNoFolder None path f = Unit {0}
-TellsNoFolder (Some v) path f = ToldFault (folder_told path v.tree) f
+TellsNoFolder (Some v) path f = ToldFault (folder_told path v) f

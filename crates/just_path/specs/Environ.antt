@@ -13,11 +13,11 @@ value_of name [] = None
 value_of name (p ∷ ps) = or_else (value_of name ps) (if bytes_eq p.0 name then Some p.1 else None)
 
 -- a text that isn't empty
-abbrev pub filled : Option (List ℕ) → Option (List ℕ)
-filled None = None
-filled (Some []) = None
-filled (Some (b ∷ bs)) = Some (b ∷ bs)
+abbrev pub unless_empty : Option (List ℕ) → Option (List ℕ)
+unless_empty None = None
+unless_empty (Some []) = None
+unless_empty (Some (b ∷ bs)) = Some (b ∷ bs)
 
 -- the home folder: the value of `HOME`, where it isn't empty
 abbrev pub home_of : List (List ℕ × List ℕ) → Option (List ℕ)
-home_of pairs = filled (value_of (codes "HOME") pairs)
+home_of pairs = unless_empty (value_of (codes "HOME") pairs)

@@ -1,3 +1,4 @@
+-- The definitions that the contracts here cite.
 pub mod formers
 pub mod Path
 pub mod Environ
@@ -16,7 +17,8 @@ pub mod Names
 pub mod Order
 pub mod Ancestors
 pub mod Clean
-pub mod Settled
-pub mod OrderLaws
+pub mod Reduced
 pub mod Utf8
 pub mod Mixture
+pub mod OrderLaws
+pub mod Errors

@@ -43,5 +43,6 @@ ends_with cs ds = begins_with (reverse cs) (reverse ds)
 abbrev pub comp_hash : Comp → HashWrites
 comp_hash c = fed.u8 (rank c) ++ fed.str (comp_text c)
 
+-- what a path writes to one: what its components do, in order
 abbrev pub path_hash : List ℕ → HashWrites
 path_hash t = flat_map comp_hash (comps t)

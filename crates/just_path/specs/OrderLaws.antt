@@ -13,12 +13,15 @@ use Rattle.std.proofs.lemmas.Slice.Eq.{bytes_eq-Decides}
 use Rattle.just_path.specs.Comps.{Comp, prefix, root, current, parent, normal, comp_text, comps}
 use Rattle.just_path.specs.Order.{rank, comp_cmp, path_cmp, comp_hash, path_hash}
 
+-- the order of components is total
 comp_cmp_total : IsTotalOrder comp_cmp
 comp_cmp_total = then_total (on_total rank nat_cmp_total) (on_total comp_text nat_list_cmp_total)
 
+-- so is the order of what has components
 pub left_cmp_total : {P : Type 0} (list : P → List Comp) → IsTotalOrder (λ x y. slice_cmp comp_cmp (list x) (list y))
 left_cmp_total list = on_total list (lists_total comp_cmp_total)
 
+-- so is that of paths
 pub path_cmp_total : {P : Type 0} (text : P → List ℕ) → IsTotalOrder (λ x y. path_cmp (text x) (text y))
 path_cmp_total text = on_total (λ p. comps (text p)) (lists_total comp_cmp_total)
 
@@ -28,9 +31,11 @@ then_first Less p h = cc
 then_first Equal p h = (refl, h)
 then_first Greater p h = cc
 
+-- texts that tie are the same
 texts_tied : (t u : List ℕ) → slice_cmp nat_cmp t u ≡ Equal → t ≡ u
 texts_tied t u h = (bytes_eq-Decides t u).0 (sym (is_eq-slice_cmp t u) ∙ ap is_eq h)
 
+-- components that tie are the same
 comps_tied : (c d : Comp) → comp_cmp c d ≡ Equal → c ≡ d
 comps_tied (prefix t) (prefix u) h = ap prefix (texts_tied t u h)
 comps_tied root root h = refl
@@ -39,6 +44,7 @@ comps_tied parent parent h = refl
 comps_tied (normal t) (normal u) h = ap normal (texts_tied t u h)
 comps_tied c d h = cc
 
+-- lists of components that tie are the same
 lists_tied : (cs ds : List Comp) → slice_cmp comp_cmp cs ds ≡ Equal → cs ≡ ds
 lists_tied [] [] h = refl
 lists_tied [] (d ∷ ds) h = cc
@@ -47,6 +53,7 @@ lists_tied (c ∷ cs) (d ∷ ds) h =
     let (a, b) = then_first (comp_cmp c d) (slice_cmp comp_cmp cs ds) h in
     ap (λ x. x ∷ cs) (comps_tied c d a) ∙ ap (λ xs. d ∷ xs) (lists_tied cs ds b)
 
+-- an order that counts as equal is `Equal`
 is_equal : (o : Ordering) → is_eq o ≡ true → o ≡ Equal
 is_equal Less h = cc
 is_equal Equal h = refl
@@ -60,6 +67,7 @@ equal_is_same t u h = lists_tied (comps t) (comps u) (is_equal (path_cmp t u) h)
 pub same_compares_equal : (t u : List ℕ) → comps t ≡ comps u → path_cmp t u ≡ Equal
 same_compares_equal t u h = ap (λ cs. slice_cmp comp_cmp cs (comps u)) h ∙ tied_itself (lists_total comp_cmp_total) (comps u)
 
+-- so `==` of paths decides whether they have the same components
 pub same_is_equal : (t u : List ℕ) (r : Bool) → r ≡ is_eq (path_cmp t u) → IsTrue r ↔ (comps t ≡ comps u)
 same_is_equal t u r e = (λ h. equal_is_same t u (sym e ∙ h), λ h. e ∙ ap is_eq (same_compares_equal t u h))
 

@@ -1,13 +1,15 @@
--- What a path host may tell: the current folder, and what stands at each path; and what its calls show of that.
-use Rattle.std.specs.Prelude.{ℕ, ◌≡◌, ◌==◌, ◌&&◌, Bool, true, false, not, T, if◌then◌else◌, List, take, map, length, slice_index, Option, Some, None, option_map, Result, Ok, Err}
-use Rattle.std.specs.List.{list_any, range_with_len}
+-- What a path host may tell: the current folder, and what stands at each place; and what its calls show of that.
+use Rattle.std.specs.Prelude.{ℕ, ◌≡◌, ◌==◌, ◌&&◌, ◌||◌, nat_eq, Bool, true, false, not, T, if◌then◌else◌, List, ◌∷◌, take, map, length, slice_index, Option, Some, None, option_map, is_some, ok_or, Result, Ok, Err}
+use Rattle.std.specs.List.{list_any, range_with_len, ends_with}
+use Rattle.std.specs.Str.{bytes_eq}
 use Rattle.std.specs.Ordering.{nat_cmp}
 use Rattle.std.specs.Cmp.Lexicographic.{slice_cmp}
 use Rattle.std.specs.FinMap.{FinMap, get, find, is_sorted}
 use Rattle.std.specs.declared.alloc.Global.{Global}
 use Rattle.std.specs.declared.vec.Vec.{Vec}
 use Rattle.just_path.specs.Path.{pushed}
-use Rattle.just_path.specs.Comps.{is_empty}
+use Rattle.just_path.specs.Comps.{is_empty, dot, dots, slash}
+use Rattle.just_path.specs.Clean.{cleaned, is_clean_absolute}
 use Rattle.just_path.specs.declared.host.Miss.{Miss}
 use Rattle.just_path.specs.declared.host.Miss.TheVariants as miss
 use Rattle.just_path.specs.declared.host.PathFault.{PathFault}
@@ -17,12 +19,12 @@ use Rattle.just_path.specs.declared.meta.Kind.{Kind}
 use Rattle.just_path.specs.declared.meta.Kind.TheVariants as kind
 use Rattle.just_path.specs.declared.meta.Meta.{Meta}
 
--- what stands at a path: a link with its target, or another thing
+-- what stands at a place: a link with its target, or another thing
 pub data Sight : Type 0 where
   thing : Meta → Sight
   link : Meta → List ℕ → Sight
 
--- what stands at each path. The paths are clean and absolute
+-- what stands at each place: a clean absolute path
 abbrev pub Sights : Type 0
 Sights = FinMap (slice_cmp nat_cmp) Sight
 
@@ -30,8 +32,22 @@ pub record View : Type 0 where
   pub current : List ℕ
   pub tree : Sights
 
+-- all places are clean and absolute
+abbrev pub HasCleanPlaces : Sights → Type 0
+HasCleanPlaces tree = (place : List ℕ) (s : Sight) → get tree place ≡ Some s → is_clean_absolute place ≡ true
+
+-- the current folder is too
+pub record IsCleanView (v : View) : Type 0 where
+  pub current : is_clean_absolute v.current ≡ true
+  pub places : HasCleanPlaces v.tree
+
+-- a view, where one is told, is clean
+abbrev pub IsCleanlyTold : Option View → Type 0
+IsCleanlyTold None = Unit {0}
+IsCleanlyTold (Some v) = IsCleanView v
+
 abbrev pub sight : List ℕ → Sights → Option Sight
-sight path tree = get tree path
+sight place tree = get tree place
 
 abbrev pub meta_of : Sight → Meta
 meta_of (thing m) = m
@@ -49,68 +65,110 @@ abbrev pub is_link : Kind → Bool
 is_link kind.Link = true
 is_link _ = false
 
-abbrev pub sees_file : Option Sight → Bool
+-- what is known of what stands at a place
+abbrev pub meta_seen : List ℕ → Sights → Option Meta
+meta_seen place tree = option_map meta_of (sight place tree)
+
+-- a link's target
+abbrev pub target_of : Option Sight → Option (List ℕ)
+target_of None = None
+target_of (Some (thing m)) = None
+target_of (Some (link m target)) = Some target
+
+-- the target of the link at a place, if one stands there
+abbrev pub target_seen : List ℕ → Sights → Option (List ℕ)
+target_seen place tree = target_of (sight place tree)
+
+abbrev pub sees_file : Option Meta → Bool
 sees_file None = false
-sees_file (Some s) = is_file (meta_of s).kind
+sees_file (Some m) = is_file m.kind
 
--- whether the text before one of the path's slashes is a file
+abbrev pub sees_folder : Option Meta → Bool
+sees_folder None = false
+sees_folder (Some m) = is_folder m.kind
+
+-- the place of a path under a folder: its clean form there
+abbrev pub place_under : List ℕ → List ℕ → List ℕ
+place_under folder path = cleaned (pushed folder path)
+
+-- whether only a folder is found by a path: it ends in `/`, or in the component `.` or `..`
+abbrev pub asks_folder : List ℕ → Bool
+asks_folder path =
+    bytes_eq path dot || bytes_eq path dots || ends_with nat_eq path slash || ends_with nat_eq path (47 ∷ dot) || ends_with nat_eq path (47 ∷ dots)
+
+-- whether the text before one of the place's slashes is a file
 abbrev pub goes_through_file : List ℕ → Sights → Bool
-goes_through_file path tree =
-    list_any (λ k. (slice_index path k == 47) && sees_file (sight (take k path) tree)) (range_with_len 0 (length path))
+goes_through_file place tree =
+    list_any (λ k. (slice_index place k == 47) && sees_file (meta_seen (take k place) tree)) (range_with_len 0 (length place))
 
--- the miss of a path at which nothing stands
+-- the miss of a place at which nothing stands
 abbrev pub absence : List ℕ → Sights → Miss
-absence path tree = if goes_through_file path tree then miss.NotFolder else miss.NotFound
+absence place tree = if goes_through_file place tree then miss.NotFolder else miss.NotFound
 
--- what a link points at; a link to a link is not followed
-abbrev pub behind_link : Option Sight → Result Meta Miss
-behind_link (Some (thing m)) = Ok m
-behind_link (Some (link m target)) = Err miss.NotFound
-behind_link None = Err miss.NotFound
+-- a place, if something stands there
+abbrev pub filled_place : List ℕ → Sights → Result (List ℕ) Miss
+filled_place place tree = if is_some (meta_seen place tree) then Ok place else Err (absence place tree)
 
-abbrev pub followed : List ℕ → Sights → Option Sight → Result Meta Miss
-followed path tree (Some (thing m)) = Ok m
-followed path tree (Some (link m target)) = behind_link (sight target tree)
-followed path tree None = Err (absence path tree)
+-- the place of a path under a folder, if something stands there; the empty path has none
+abbrev pub named_place : List ℕ → List ℕ → Sights → Result (List ℕ) Miss
+named_place folder path tree = if is_empty path then Err miss.NotFound else filled_place (place_under folder path) tree
 
-abbrev pub standing : List ℕ → Sights → Option Sight → Result Meta Miss
-standing path tree (Some s) = Ok (meta_of s)
-standing path tree None = Err (absence path tree)
+-- a place that was found, if a folder stands there
+abbrev pub folder_place : Sights → Result (List ℕ) Miss → Result (List ℕ) Miss
+folder_place tree (Ok place) = if sees_folder (meta_seen place tree) then Ok place else Err miss.NotFolder
+folder_place tree (Err m) = Err m
 
--- what stands at a path, behind the link if it is one and is followed. A path is looked up as it is given
-abbrev pub meta_told : List ℕ → Bool → Sights → Result Meta Miss
-meta_told path follow tree = if follow then followed path tree (sight path tree) else standing path tree (sight path tree)
+-- the same where the path asks for a folder
+abbrev pub asked_place : List ℕ → Sights → Result (List ℕ) Miss → Result (List ℕ) Miss
+asked_place path tree (Ok place) = if asks_folder path then folder_place tree (Ok place) else Ok place
+asked_place path tree (Err m) = Err m
 
--- where a link leads that stands at a path, else the path
-abbrev pub led : List ℕ → Option Sight → List ℕ
-led path (Some (link m target)) = target
-led path (Some (thing m)) = path
-led path None = path
+-- a place that was found, if no link stands there: a link is followed once
+abbrev pub last_place : Sights → Result (List ℕ) Miss → Result (List ℕ) Miss
+last_place tree (Ok place) = if is_some (target_seen place tree) then Err miss.NotFound else Ok place
+last_place tree (Err m) = Err m
 
--- the path at which a path is found
-abbrev pub found : {A : Type 0} → List ℕ → Result A Miss → Result (List ℕ) Miss
-found path (Ok x) = Ok path
-found path (Err m) = Err m
+-- the place behind a link at a place, with that target: a path under the link's own folder
+abbrev pub target_place : List ℕ → List ℕ → Sights → Result (List ℕ) Miss
+target_place place target tree = asked_place target tree (last_place tree (named_place (pushed place dots) target tree))
 
-abbrev pub canonical_told : List ℕ → Sights → Result (List ℕ) Miss
-canonical_told path tree = found (led path (sight path tree)) (meta_told path true tree)
+abbrev pub place_behind : List ℕ → Sights → Option (List ℕ) → Result (List ℕ) Miss
+place_behind place tree None = Ok place
+place_behind place tree (Some target) = target_place place target tree
 
--- the same of a path that is to be a folder
-abbrev pub folder_found : List ℕ → Result Meta Miss → Result (List ℕ) Miss
-folder_found path (Ok m) = if is_folder m.kind then Ok path else Err miss.NotFolder
-folder_found path (Err m) = Err m
+-- where it is to be followed, the place behind the link that stands at a place that was found, else that place
+abbrev pub followed_place : Bool → Sights → Result (List ℕ) Miss → Result (List ℕ) Miss
+followed_place follow tree (Ok place) = if follow then place_behind place tree (target_seen place tree) else Ok place
+followed_place follow tree (Err m) = Err m
 
-abbrev pub folder_told : List ℕ → Sights → Result (List ℕ) Miss
-folder_told path tree = folder_found (led path (sight path tree)) (meta_told path true tree)
+-- the place that a path leads to under the current folder. A path that asks for a folder always follows
+abbrev pub place_told : List ℕ → Bool → View → Result (List ℕ) Miss
+place_told path follow v =
+    asked_place path v.tree (followed_place (follow || asks_folder path) v.tree (named_place v.current path v.tree))
 
--- the target of a link; where another thing stands no link is found
-abbrev pub target_of : List ℕ → Sights → Option Sight → Result (List ℕ) Miss
-target_of path tree (Some (link m target)) = Ok target
-target_of path tree (Some (thing m)) = Err miss.NotFound
-target_of path tree None = Err (absence path tree)
+abbrev pub meta_at : Sights → Result (List ℕ) Miss → Result Meta Miss
+meta_at tree (Ok place) = ok_or (meta_seen place tree) miss.NotFound
+meta_at tree (Err m) = Err m
 
-abbrev pub link_told : List ℕ → Sights → Result (List ℕ) Miss
-link_told path tree = target_of path tree (sight path tree)
+-- what stands where a path leads
+abbrev pub meta_told : List ℕ → Bool → View → Result Meta Miss
+meta_told path follow v = meta_at v.tree (place_told path follow v)
+
+-- where a path leads, behind the link
+abbrev pub canonical_told : List ℕ → View → Result (List ℕ) Miss
+canonical_told path v = place_told path true v
+
+-- the same of a path that is to lead to a folder
+abbrev pub folder_told : List ℕ → View → Result (List ℕ) Miss
+folder_told path v = folder_place v.tree (place_told path true v)
+
+abbrev pub target_at : Sights → Result (List ℕ) Miss → Result (List ℕ) Miss
+target_at tree (Ok place) = ok_or (target_seen place tree) miss.NotFound
+target_at tree (Err m) = Err m
+
+-- the target of the link where a path leads; where another thing stands no link is found
+abbrev pub link_told : List ℕ → View → Result (List ℕ) Miss
+link_told path v = target_at v.tree (place_told path false v)
 
 abbrev pub current_told : View → Result (List ℕ) Miss
 current_told v = Ok v.current
@@ -153,5 +211,5 @@ Tells (Some v) shown r = Told (shown v) r
 -- the same of a list: its items are those of the folder that the path shows
 abbrev pub TellsItems : Option View → List ℕ → Result (Vec Item Global) PathFault → Type 0
 TellsItems None path r = Unit {0}
-TellsItems (Some v) path (Ok items) = (folder : List ℕ) × (folder_told path v.tree ≡ Ok folder) × AreItemsOf folder v.tree items.items
-TellsItems (Some v) path (Err e) = ToldFault (folder_told path v.tree) e
+TellsItems (Some v) path (Ok items) = (folder : List ℕ) × (folder_told path v ≡ Ok folder) × AreItemsOf folder v.tree items.items
+TellsItems (Some v) path (Err e) = ToldFault (folder_told path v) e

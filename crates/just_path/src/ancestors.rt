@@ -1,8 +1,8 @@
-ghost use Rattle.std.specs.Prelude.{◌≡◌, Some, option_map, option_and_then};
+//! A path with its parents, one behind the other.
+ghost use Rattle.std.specs.Prelude.{◌≡◌, [], ◌∷◌, MatchOption};
 ghost use Rattle.std.specs.Iterator.{at_most};
 ghost use Rattle.just_path.specs.Path.{text_of};
-ghost use Rattle.just_path.specs.Parts.{parent_of};
-ghost use Rattle.just_path.specs.Ancestors.{ancestor_next, ancestors_bound};
+ghost use Rattle.just_path.specs.Ancestors.{ancestors_of, ancestors_left, ancestors_bound};
 
 use super::Utf8Path;
 use std::iter::FusedIterator;
@@ -15,7 +15,7 @@ pub struct Utf8Ancestors<'a> {
 
 impl<'a> Utf8Ancestors<'a> {
     pub(crate) fn new(path: Utf8Path<'a>) -> Utf8Ancestors<'a>
-        ensures { ancestor_next result ≡ Some (text_of path.entry) }
+        ensures { ancestors_left result ≡ ancestors_of (text_of path.entry) }
     {
         Utf8Ancestors { next: Some(path) }
     }
@@ -24,10 +24,11 @@ impl<'a> Utf8Ancestors<'a> {
 impl<'a> Iterator for Utf8Ancestors<'a> {
     type Item = Utf8Path<'a>;
 
-    ghost next_gives = { λ s r t. (option_map text_of r ≡ ancestor_next s) × (ancestor_next t ≡ option_and_then parent_of (ancestor_next s)) };
+    ghost next_gives = { λ s r t. MatchOption r ((ancestors_left s ≡ []) × (ancestors_left t ≡ [])) (λ p. ancestors_left s ≡ text_of p ∷ ancestors_left t) };
 
     ghost remaining = { λ s. at_most (ancestors_bound s) };
 
+    #[tactic(auto, using(crate::proofs::AncestorLists::ancestors_step))]
     fn next(&mut self) -> Option<Utf8Path<'a>> {
         match self.next {
             Some(path) => {

@@ -1,3 +1,4 @@
+//! Bytes that may not be UTF-8: where they break, and their text with U+FFFD for each broken sequence.
 ghost use Rattle.std.specs.Prelude.{◌≡◌, MatchResult, IfErr, IfOk, IsUtf8};
 ghost use Rattle.std.specs.Fmt.{WritesOnOk};
 ghost use Rattle.std.specs.Str.Lossy.{utf8_lossy};

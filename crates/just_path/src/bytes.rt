@@ -1,6 +1,8 @@
+//! Paths of bytes: what is UTF-8 is a path, and what isn't is refused with where it breaks.
 ghost use Rattle.std.specs.Prelude.{◌≡◌, MatchOption, MatchResult, IsUtf8};
 ghost use Rattle.just_path.specs.Path.{text_of};
 ghost use Rattle.just_path.specs.Utf8.{Breaks};
+ghost use Rattle.just_path.specs.Errors.{BreaksAt, path_place, os_str_place, path_buf_bytes, path_buf_place, os_string_bytes, os_string_place, boxed_path_bytes, boxed_path_place};
 
 use super::broken::{Broken, text_of_bytes};
 use super::{
@@ -10,6 +12,10 @@ use super::{
 
 impl<'a> Utf8Path<'a> {
     /// The path of these bytes; none exactly where they aren't UTF-8.
+    ///
+    /// ```
+    /// assert!(Utf8Path::from_path(b"foo\xfe").is_none());
+    /// ```
     pub fn from_path(bytes: &'a [u8]) -> Option<Utf8Path<'a>>
         ensures { MatchOption result (IsUtf8 bytes.now → ⊥) (λ p. text_of p ≡ bytes.now) }
     {
@@ -20,6 +26,10 @@ impl<'a> Utf8Path<'a> {
     }
 
     /// The path of these bytes; none exactly where they aren't UTF-8.
+    ///
+    /// ```
+    /// assert!(Utf8Path::from_os_str(b"foo").is_some());
+    /// ```
     pub fn from_os_str(bytes: &'a [u8]) -> Option<Utf8Path<'a>>
         ensures { MatchOption result (IsUtf8 bytes.now → ⊥) (λ p. text_of p ≡ bytes.now) }
     {
@@ -27,8 +37,12 @@ impl<'a> Utf8Path<'a> {
     }
 
     /// The path of these bytes; exactly where they aren't UTF-8, where they break.
+    ///
+    /// ```
+    /// assert!(Utf8Path::try_from_path(b"foo\xfe").is_err_and(|error| error.valid_up_to() == 3));
+    /// ```
     pub fn try_from_path(bytes: &'a [u8]) -> Result<Utf8Path<'a>, FromPathError>
-        ensures { MatchResult result (λ p. text_of p ≡ bytes.now) (λ e. Breaks bytes.now e.cause.up_to e.cause.len) }
+        ensures { MatchResult result (λ p. text_of p ≡ bytes.now) (λ e. BreaksAt bytes.now (path_place e)) }
     {
         match text_of_bytes(bytes) {
             Ok(text) => Ok(Utf8Path::new(text)),
@@ -37,8 +51,12 @@ impl<'a> Utf8Path<'a> {
     }
 
     /// The path of these bytes; exactly where they aren't UTF-8, where they break.
+    ///
+    /// ```
+    /// assert!(Utf8Path::try_from_os_str(b"foo\xfe").is_err_and(|error| error.error_len() == Some(1)));
+    /// ```
     pub fn try_from_os_str(bytes: &'a [u8]) -> Result<Utf8Path<'a>, FromOsStrError>
-        ensures { MatchResult result (λ p. text_of p ≡ bytes.now) (λ e. Breaks bytes.now e.cause.up_to e.cause.len) }
+        ensures { MatchResult result (λ p. text_of p ≡ bytes.now) (λ e. BreaksAt bytes.now (os_str_place e)) }
     {
         match text_of_bytes(bytes) {
             Ok(text) => Ok(Utf8Path::new(text)),
@@ -62,6 +80,10 @@ fn path_of_bytes(bytes: Vec<u8>) -> Result<Utf8PathBuf, (Vec<u8>, Broken)>
 
 impl Utf8PathBuf {
     /// The path of these bytes, or, exactly where they aren't UTF-8, the same bytes.
+    ///
+    /// ```
+    /// assert!(Utf8PathBuf::from_path_buf(vec![in alloc; b'a']?).is_ok());
+    /// ```
     pub fn from_path_buf(bytes: Vec<u8>) -> Result<Utf8PathBuf, Vec<u8>>
         ensures { MatchResult result (λ p. p ≡ bytes.items) (λ b. (b ≡ bytes) × (IsUtf8 bytes.items → ⊥)) }
     {
@@ -72,6 +94,10 @@ impl Utf8PathBuf {
     }
 
     /// The path of these bytes, or, exactly where they aren't UTF-8, the same bytes.
+    ///
+    /// ```
+    /// assert!(Utf8PathBuf::from_os_string(vec![in alloc; 255]?).is_err());
+    /// ```
     pub fn from_os_string(bytes: Vec<u8>) -> Result<Utf8PathBuf, Vec<u8>>
         ensures { MatchResult result (λ p. p ≡ bytes.items) (λ b. (b ≡ bytes) × (IsUtf8 bytes.items → ⊥)) }
     {
@@ -79,6 +105,10 @@ impl Utf8PathBuf {
     }
 
     /// The path of these bytes, or, exactly where they aren't UTF-8, the same bytes.
+    ///
+    /// ```
+    /// assert!(Utf8PathBuf::from_boxed_path(vec![in alloc; b'a']?).is_ok());
+    /// ```
     pub fn from_boxed_path(bytes: Vec<u8>) -> Result<Utf8PathBuf, Vec<u8>>
         ensures { MatchResult result (λ p. p ≡ bytes.items) (λ b. (b ≡ bytes) × (IsUtf8 bytes.items → ⊥)) }
     {
@@ -86,8 +116,12 @@ impl Utf8PathBuf {
     }
 
     /// The path of these bytes; exactly where they aren't UTF-8, the error, which keeps them.
+    ///
+    /// ```
+    /// assert!(Utf8PathBuf::try_from_path_buf(vec![in alloc; 255]?).is_err());
+    /// ```
     pub fn try_from_path_buf(bytes: Vec<u8>) -> Result<Utf8PathBuf, FromPathBufError>
-        ensures { MatchResult result (λ p. p ≡ bytes.items) (λ e. (e.bytes ≡ bytes) × Breaks bytes.items e.cause.up_to e.cause.len) }
+        ensures { MatchResult result (λ p. p ≡ bytes.items) (λ e. (path_buf_bytes e ≡ bytes) × BreaksAt bytes.items (path_buf_place e)) }
     {
         match path_of_bytes(bytes) {
             Ok(path) => Ok(path),
@@ -96,8 +130,12 @@ impl Utf8PathBuf {
     }
 
     /// The path of these bytes; exactly where they aren't UTF-8, the error, which keeps them.
+    ///
+    /// ```
+    /// assert!(Utf8PathBuf::try_from_os_string(vec![in alloc; 255]?).is_err());
+    /// ```
     pub fn try_from_os_string(bytes: Vec<u8>) -> Result<Utf8PathBuf, FromOsStringError>
-        ensures { MatchResult result (λ p. p ≡ bytes.items) (λ e. (e.bytes ≡ bytes) × Breaks bytes.items e.cause.up_to e.cause.len) }
+        ensures { MatchResult result (λ p. p ≡ bytes.items) (λ e. (os_string_bytes e ≡ bytes) × BreaksAt bytes.items (os_string_place e)) }
     {
         match path_of_bytes(bytes) {
             Ok(path) => Ok(path),
@@ -106,8 +144,12 @@ impl Utf8PathBuf {
     }
 
     /// The path of these bytes; exactly where they aren't UTF-8, the error, which keeps them.
+    ///
+    /// ```
+    /// assert!(Utf8PathBuf::try_from_boxed_path(vec![in alloc; 255]?).is_err());
+    /// ```
     pub fn try_from_boxed_path(bytes: Vec<u8>) -> Result<Utf8PathBuf, FromBoxedPathError>
-        ensures { MatchResult result (λ p. p ≡ bytes.items) (λ e. (e.bytes ≡ bytes) × Breaks bytes.items e.cause.up_to e.cause.len) }
+        ensures { MatchResult result (λ p. p ≡ bytes.items) (λ e. (boxed_path_bytes e ≡ bytes) × BreaksAt bytes.items (boxed_path_place e)) }
     {
         match path_of_bytes(bytes) {
             Ok(path) => Ok(path),
@@ -116,6 +158,10 @@ impl Utf8PathBuf {
     }
 
     /// The text's bytes; it takes no memory.
+    ///
+    /// ```
+    /// let bytes = path.into_std_path_buf();
+    /// ```
     pub fn into_std_path_buf(self) -> Vec<u8>
         ensures { result.items ≡ self }
     {
@@ -123,6 +169,10 @@ impl Utf8PathBuf {
     }
 
     /// The text's bytes; it takes no memory.
+    ///
+    /// ```
+    /// let bytes = path.into_os_string();
+    /// ```
     pub fn into_os_string(self) -> Vec<u8>
         ensures { result.items ≡ self }
     {

@@ -1,21 +1,29 @@
+//! The clean form of a path, made on a stack of the components that stay.
 ghost use Rattle.std.specs.Prelude.{◌≡◌, ◌++◌, ◌∷◌, [], List, true, fold, IfOk, OnOk};
 ghost use Rattle.just_path.specs.Path.{text_of, pushed};
 ghost use Rattle.just_path.specs.Comps.{Comp, parent, comp_text, comps};
 ghost use Rattle.just_path.specs.Component.{comp_of};
-ghost use Rattle.just_path.specs.Clean.{reduced, cleaned, IsCleanOf, parents_first};
-ghost use Rattle.just_path.specs.Settled.{follows, settled, comps_of};
-ghost use Rattle.just_path.specs.Walk.{left};
+ghost use Rattle.just_path.specs.Clean.{normal_form, or_current, cleaned, IsNormalForm, IsCleanOf, parents_first};
+ghost use Rattle.just_path.specs.Reduced.{may_precede, is_reduced, comps_of};
+ghost use Rattle.just_path.specs.Walk.{comps_left};
 
 use super::{NoMemory, Utf8Component, Utf8Components, Utf8Path, Utf8PathBuf};
 use std::alloc::Global;
 
 impl<'a> Utf8Path<'a> {
-    /// The path without each `.`, each name with the `..` directly behind it, and each `..` directly behind the
-    /// root. Where nothing is left it is `.`.
+    /// The path without each `.`, each name with the `..` directly behind it, and each `..` directly behind the root. Where
+    /// nothing is left it is `.`. The files aren't asked, so where a name is a link the clean path may lead elsewhere.
+    ///
+    /// ```
+    /// assert!(Utf8Path::new("/../a/./b/..").clean(alloc)?.as_str() == "/a");
+    /// assert!(Utf8Path::new("a/..").clean(alloc)?.as_str() == ".");
+    /// ```
     pub fn clean(&self, alloc: Global) -> Result<Utf8PathBuf, NoMemory>
         ensures clean { IfOk result (λ p. p ≡ cleaned (text_of self.now)) }
-        // The components are the one normal form of the path's under the rewrites, or `.` where that is empty.
+        // It is made of a normal form of the path's components under the rewrites, or of `.` where that is empty.
         ensures normal { IfOk result (λ p. IsCleanOf (text_of self.now) p) }
+        // Each normal form of the path's components is this one.
+        ensures only { IfOk result (λ p. (n : List Comp) → IsNormalForm (comps (text_of self.now)) n → comps p ≡ or_current n) }
         // What is clean stays as it is.
         ensures again { IfOk result (λ p. cleaned p ≡ p) }
         // `..` stands only in front, and not at all behind the root.
@@ -45,28 +53,25 @@ fn kept_of<'a>(
     alloc: Global,
     components: Utf8Components<'a>,
 ) -> Result<Vec<Utf8Component<'a>>, NoMemory>
-    ensures { IfOk result (λ v. comps_of v.items ≡ reduced (left components.entry)) }
+    ensures { IfOk result (λ v. comps_of v.items ≡ normal_form (comps_left components.entry)) }
 {
     let mut left = components;
     let mut kept = Vec::new(alloc);
     'components: while let Some(component) = left.take_first() {
-        settle(&mut kept, component)?;
+        put(&mut kept, component)?;
     }
     Ok(kept)
 }
 
 /// Puts a component behind those that stay, as far as the rewrites leave it there.
-fn settle<'a>(
-    kept: &mut Vec<Utf8Component<'a>>,
-    component: Utf8Component<'a>,
-) -> Result<(), NoMemory>
-    requires { settled (comps_of kept.old.items) ≡ true }
-    ensures settled { OnOk result (settled (comps_of kept.new.items) ≡ true) }
-    ensures same { OnOk result ((rest : List Comp) → reduced (comps_of kept.new.items ++ rest) ≡ reduced (comps_of kept.old.items ++ comp_of component.entry ∷ rest)) }
+fn put<'a>(kept: &mut Vec<Utf8Component<'a>>, component: Utf8Component<'a>) -> Result<(), NoMemory>
+    requires { is_reduced (comps_of kept.old.items) ≡ true }
+    ensures reduced { OnOk result (is_reduced (comps_of kept.new.items) ≡ true) }
+    ensures same { OnOk result ((rest : List Comp) → normal_form (comps_of kept.new.items ++ rest) ≡ normal_form (comps_of kept.old.items ++ comp_of component.entry ∷ rest)) }
 {
     match component {
         Utf8Component::CurDir => Ok(()),
-        Utf8Component::ParentDir => settle_parent(kept),
+        Utf8Component::ParentDir => put_parent(kept),
         Utf8Component::Prefix(_) => Ok(kept.push(component)?),
         Utf8Component::RootDir => Ok(kept.push(component)?),
         Utf8Component::Normal(_) => Ok(kept.push(component)?),
@@ -74,10 +79,10 @@ fn settle<'a>(
 }
 
 /// Puts a `..` behind those that stay.
-fn settle_parent(kept: &mut Vec<Utf8Component<'_>>) -> Result<(), NoMemory>
-    requires { settled (comps_of kept.old.items) ≡ true }
-    ensures settled { OnOk result (settled (comps_of kept.new.items) ≡ true) }
-    ensures same { OnOk result ((rest : List Comp) → reduced (comps_of kept.new.items ++ rest) ≡ reduced (comps_of kept.old.items ++ parent ∷ rest)) }
+fn put_parent(kept: &mut Vec<Utf8Component<'_>>) -> Result<(), NoMemory>
+    requires { is_reduced (comps_of kept.old.items) ≡ true }
+    ensures reduced { OnOk result (is_reduced (comps_of kept.new.items) ≡ true) }
+    ensures same { OnOk result ((rest : List Comp) → normal_form (comps_of kept.new.items ++ rest) ≡ normal_form (comps_of kept.old.items ++ parent ∷ rest)) }
 {
     let last = match kept.pop() {
         Some(last) => last,
@@ -86,21 +91,18 @@ fn settle_parent(kept: &mut Vec<Utf8Component<'_>>) -> Result<(), NoMemory>
     match last {
         Utf8Component::Normal(_) => Ok(()),
         Utf8Component::RootDir => Ok(kept.push(last)?),
-        Utf8Component::Prefix(_) => put_parent(kept, last),
-        Utf8Component::CurDir => put_parent(kept, last),
-        Utf8Component::ParentDir => put_parent(kept, last),
+        Utf8Component::Prefix(_) => put_back(kept, last),
+        Utf8Component::CurDir => put_back(kept, last),
+        Utf8Component::ParentDir => put_back(kept, last),
     }
 }
 
 /// Puts a component back, and a `..` behind it.
-fn put_parent<'a>(
-    kept: &mut Vec<Utf8Component<'a>>,
-    last: Utf8Component<'a>,
-) -> Result<(), NoMemory>
-    requires settled { settled (comps_of kept.old.items ++ comp_of last ∷ []) ≡ true }
-    requires fits { follows (comp_of last) (parent ∷ []) ≡ true }
-    ensures settled { OnOk result (settled (comps_of kept.new.items) ≡ true) }
-    ensures same { OnOk result ((rest : List Comp) → reduced (comps_of kept.new.items ++ rest) ≡ reduced ((comps_of kept.old.items ++ comp_of last.entry ∷ []) ++ parent ∷ rest)) }
+fn put_back<'a>(kept: &mut Vec<Utf8Component<'a>>, last: Utf8Component<'a>) -> Result<(), NoMemory>
+    requires reduced { is_reduced (comps_of kept.old.items ++ comp_of last ∷ []) ≡ true }
+    requires fits { may_precede (comp_of last) (parent ∷ []) ≡ true }
+    ensures reduced { OnOk result (is_reduced (comps_of kept.new.items) ≡ true) }
+    ensures same { OnOk result ((rest : List Comp) → normal_form (comps_of kept.new.items ++ rest) ≡ normal_form ((comps_of kept.old.items ++ comp_of last.entry ∷ []) ++ parent ∷ rest)) }
 {
     kept.push(last)?;
     kept.push(Utf8Component::ParentDir)?;

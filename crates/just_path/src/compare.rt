@@ -1,3 +1,4 @@
+//! Equality, order and hash of paths, which speak of their components alone.
 ghost use Rattle.std.specs.Prelude.{◌≡◌, ◌↔◌, IsTrue, Some, fold};
 ghost use Rattle.std.proofs.Common.{rules};
 ghost use Rattle.std.specs.Ordering.{is_eq};
@@ -7,7 +8,7 @@ ghost use Rattle.std.specs.Cmp.Rules.{comparing};
 ghost use Rattle.just_path.specs.Path.{text_of};
 ghost use Rattle.just_path.specs.Comps.{comps};
 ghost use Rattle.just_path.specs.Order.{comp_cmp, path_cmp, path_hash};
-ghost use Rattle.just_path.specs.Walk.{left};
+ghost use Rattle.just_path.specs.Walk.{comps_left};
 ghost use Rattle.std.specs.Cmp.Lexicographic.{slice_cmp};
 ghost use Rattle.just_path.specs.OrderLaws.{path_cmp_total, left_cmp_total, path_hash_respects};
 
@@ -18,6 +19,10 @@ use std::hash::{Hash, Hasher};
 
 impl<'a> Utf8Path<'a> {
     /// Whether the text, read as a path, has the same components.
+    ///
+    /// ```
+    /// assert!(Utf8Path::new("a//b").eq_str("a/b/"));
+    /// ```
     #[tactic(auto, using(crate::specs::OrderLaws::same_is_equal))]
     pub fn eq_str(&self, other: &str) -> bool
         ensures order { result ≡ is_eq (path_cmp (text_of self.now) other.now) }
@@ -27,6 +32,10 @@ impl<'a> Utf8Path<'a> {
     }
 
     /// The order of this path and the text, read as a path.
+    ///
+    /// ```
+    /// assert!(Utf8Path::new("a/b").cmp_str("a/c") == Ordering::Less);
+    /// ```
     pub fn cmp_str(&self, other: &str) -> Ordering
         ensures { result ≡ path_cmp (text_of self.now) other.now }
     {
@@ -36,6 +45,10 @@ impl<'a> Utf8Path<'a> {
 
 impl Utf8PathBuf {
     /// Whether the text, read as a path, has the same components.
+    ///
+    /// ```
+    /// assert!(path.eq_str(path.as_str()));
+    /// ```
     #[tactic(auto, using(crate::specs::OrderLaws::same_is_equal))]
     pub fn eq_str(&self, other: &str) -> bool
         ensures order { result ≡ is_eq (path_cmp self.now other.now) }
@@ -45,6 +58,10 @@ impl Utf8PathBuf {
     }
 
     /// The order of this path and the text, read as a path.
+    ///
+    /// ```
+    /// assert!(path.cmp_str(path.as_str()) == Ordering::Equal);
+    /// ```
     pub fn cmp_str(&self, other: &str) -> Ordering
         ensures { result ≡ path_cmp self.now other.now }
     {
@@ -150,9 +167,9 @@ impl Hash for Utf8PathBuf {
 
 // Iterators are compared by what is left of them.
 impl<'a> PartialEq for Utf8Components<'a> {
-    ghost eq = { λ x y. is_eq (slice_cmp comp_cmp (left x) (left y)) };
+    ghost eq = { λ x y. is_eq (slice_cmp comp_cmp (comps_left x) (comps_left y)) };
 
-    ghost laws = { Cmp.partial_equiv_from_equiv (eq_by_cmp_equiv (left_cmp_total left)) };
+    ghost laws = { Cmp.partial_equiv_from_equiv (eq_by_cmp_equiv (left_cmp_total comps_left)) };
 
     fn eq(&self, other: &Utf8Components<'a>) -> bool {
         compare_left(self.copied(), other.copied()).is_eq()
@@ -160,13 +177,13 @@ impl<'a> PartialEq for Utf8Components<'a> {
 }
 
 impl<'a> Eq for Utf8Components<'a> {
-    ghost laws = { eq_by_cmp_equiv (left_cmp_total left) };
+    ghost laws = { eq_by_cmp_equiv (left_cmp_total comps_left) };
 }
 
 impl<'a> PartialOrd for Utf8Components<'a> {
-    ghost partial_cmp = { λ x y. Some (slice_cmp comp_cmp (left x) (left y)) };
+    ghost partial_cmp = { λ x y. Some (slice_cmp comp_cmp (comps_left x) (comps_left y)) };
 
-    ghost laws = { partial_order_from_total (left_cmp_total left) };
+    ghost laws = { partial_order_from_total (left_cmp_total comps_left) };
 
     fn partial_cmp(&self, other: &Utf8Components<'a>) -> Option<Ordering> {
         Some(compare_left(self.copied(), other.copied()))
@@ -174,9 +191,9 @@ impl<'a> PartialOrd for Utf8Components<'a> {
 }
 
 impl<'a> Ord for Utf8Components<'a> {
-    ghost cmp = { λ x y. slice_cmp comp_cmp (left x) (left y) };
+    ghost cmp = { λ x y. slice_cmp comp_cmp (comps_left x) (comps_left y) };
 
-    ghost total = { left_cmp_total left };
+    ghost total = { left_cmp_total comps_left };
 
     ghost matches_partial_cmp = { Prim.search (comparing, rules) };
 

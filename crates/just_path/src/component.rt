@@ -1,5 +1,6 @@
+//! A component of a path.
 ghost use Rattle.std.specs.Prelude.{◌≡◌};
-ghost use Rattle.just_path.specs.Comps.{comp_text, named};
+ghost use Rattle.just_path.specs.Comps.{comp_text, comps_of_piece};
 ghost use Rattle.std.specs.Option.{option_copied};
 ghost use Rattle.just_path.specs.Names.{name_of};
 ghost use Rattle.just_path.specs.Component.{comp_of, one_of};
@@ -22,6 +23,11 @@ pub enum Utf8Component<'a> {
 }
 
 impl<'a> Utf8Component<'a> {
+    /// The text of the component: `/`, `.`, `..` or the name.
+    ///
+    /// ```
+    /// assert!(Utf8Component::ParentDir.as_str() == "..");
+    /// ```
     pub fn as_str(&self) -> &'a str
         ensures { result.now ≡ comp_text (comp_of self.now) }
     {
@@ -48,6 +54,10 @@ impl<'a> Utf8Component<'a> {
     }
 
     /// The text's bytes.
+    ///
+    /// ```
+    /// assert!(Utf8Component::Normal("a").as_os_str() == b"a".as_slice());
+    /// ```
     pub fn as_os_str(&self) -> &'a [u8]
         ensures { result.now ≡ comp_text (comp_of self.now) }
     {
@@ -57,7 +67,7 @@ impl<'a> Utf8Component<'a> {
 
 /// The component that a piece between slashes gives, if it gives one.
 pub(crate) fn component_of(piece: &str) -> Option<Utf8Component<'_>>
-    ensures { one_of result ≡ named piece.now }
+    ensures { one_of result ≡ comps_of_piece piece.now }
 {
     match piece {
         "" => None,

@@ -1,10 +1,12 @@
-ghost use Rattle.std.specs.Prelude.{◌≡◌, ◌<◌, ℕ, suc, length, OnSome, IfSome};
+//! The iterator over a path's components, from both ends.
+ghost use Rattle.std.specs.Prelude.{◌≡◌, ◌<◌, ℕ, [], length, OnSome, option_map};
 ghost use Rattle.std.specs.Iterator.{at_most};
 ghost use Rattle.just_path.specs.Path.{text_of};
 ghost use Rattle.just_path.specs.Comps.{names, comps};
-ghost use Rattle.just_path.specs.Parts.{rest};
-ghost use Rattle.just_path.specs.Component.{TakesFirst, TakesLast};
-ghost use Rattle.just_path.specs.Walk.{left, slice, slice_left, left_bound};
+ghost use Rattle.just_path.specs.Parts.{name_slice, slice};
+ghost use Rattle.just_path.specs.Component.{comp_of};
+ghost use Rattle.just_path.specs.Mixture.{front, back, Takes, Shortens, Moves};
+ghost use Rattle.just_path.specs.Walk.{comps_left, slice_left, left_bound};
 
 use super::scan::leading;
 use super::walk::{first_name, last_name, trim_back, trim_front};
@@ -20,8 +22,8 @@ pub struct Utf8Components<'a> {
 
 impl<'a> Utf8Components<'a> {
     pub(crate) fn new(text: &'a str) -> Utf8Components<'a>
-        ensures left { left result ≡ comps text.now }
-        ensures slice { (n : ℕ) → slice_left result n ≡ slice n text.now }
+        ensures left { comps_left result ≡ comps text.now }
+        ensures slice { (n k : ℕ) → slice_left result n k ≡ slice n k text.now }
     {
         Utf8Components {
             text,
@@ -31,7 +33,7 @@ impl<'a> Utf8Components<'a> {
 
     /// Another of the same components.
     pub(crate) fn copied(&self) -> Utf8Components<'a>
-        ensures { left result ≡ left self.now }
+        ensures { comps_left result ≡ comps_left self.now }
     {
         Utf8Components {
             text: self.text,
@@ -39,10 +41,19 @@ impl<'a> Utf8Components<'a> {
         }
     }
 
-    /// The slice from the first to the last of the components that are left.
+    /// The slice of the path from the first to the last of the components that are left, whichever were taken from the front
+    /// and the back.
+    ///
+    /// ```
+    /// let mut components = Utf8Path::new("//a/./b/c").components();
+    /// let _last = components.next_back();
+    /// assert!(components.as_path().as_str() == "//a/./b");
+    /// let _root = components.next();
+    /// assert!(components.as_path().as_str() == "a/./b");
+    /// ```
     pub fn as_path(&self) -> Utf8Path<'a>
-        ensures slice { text_of result ≡ slice_left self.now 0 }
-        ensures left { comps (text_of result) ≡ left self.now }
+        ensures slice { text_of result ≡ slice_left self.now 0 0 }
+        ensures left { comps (text_of result) ≡ comps_left self.now }
     {
         if self.started {
             Utf8Path::new(trim_back(trim_front(self.text)))
@@ -52,10 +63,9 @@ impl<'a> Utf8Components<'a> {
     }
 
     /// The first component that is left.
-    #[tactic(auto, using(crate::proofs::Ends::comps_led, crate::proofs::Ends::comps_unled))]
+    #[tactic(auto, using(crate::proofs::IteratorMoves::comps_led, crate::proofs::IteratorMoves::comps_unled, crate::proofs::IteratorMoves::slices_led, crate::proofs::IteratorMoves::first_unled))]
     pub(crate) fn take_first(&mut self) -> Option<Utf8Component<'a>>
-        ensures step { TakesFirst (left self.old) result (left self.new) }
-        ensures slice { IfSome result (λ c. (n : ℕ) → slice_left self.old (suc n) ≡ slice_left self.new n) }
+        ensures step { Moves comps_left slice_left self.old (front (option_map comp_of result)) self.new }
         ensures progress { OnSome result (left_bound self.new < left_bound self.old) }
     {
         if self.started {
@@ -69,11 +79,11 @@ impl<'a> Utf8Components<'a> {
     }
 
     /// The first name that is left.
-    #[tactic(auto, using(crate::proofs::Ends::no_names))]
+    #[tactic(auto, using(crate::proofs::IteratorMoves::no_names, crate::proofs::IteratorMoves::rests_over))]
     fn take_name(&mut self) -> Option<Utf8Component<'a>>
-        ensures step { TakesFirst (names self.old.text.now) result (names self.new.text.now) }
+        ensures takes { Takes (names self.old.text.now) (front (option_map comp_of result)) (names self.new.text.now) }
+        ensures shortens { Shortens (λ n k. name_slice n k self.old.text.now) (front (option_map comp_of result)) (λ n k. name_slice n k self.new.text.now) }
         ensures started { self.new.started ≡ self.old.started }
-        ensures slice { IfSome result (λ c. (n : ℕ) → rest (suc n) self.old.text.now ≡ rest n self.new.text.now) }
         ensures progress { OnSome result (length self.new.text.now < length self.old.text.now) }
     {
         match first_name(self.text) {
@@ -89,16 +99,26 @@ impl<'a> Utf8Components<'a> {
     }
 
     /// The last component that is left.
-    #[tactic(auto, using(crate::proofs::Ends::no_names, crate::proofs::Ends::last_left, crate::proofs::Ends::comps_led, crate::proofs::Ends::comps_unled))]
+    #[tactic(auto, using(crate::proofs::IteratorMoves::last_left, crate::proofs::IteratorMoves::slices_last))]
     pub(crate) fn take_last(&mut self) -> Option<Utf8Component<'a>>
-        ensures step { TakesLast (left self.old) result (left self.new) }
+        ensures step { Moves comps_left slice_left self.old (back (option_map comp_of result)) self.new }
         ensures progress { OnSome result (left_bound self.new < left_bound self.old) }
     {
-        let text = self.text;
-        if let Some((before, name)) = last_name(text) {
+        if let Some((before, name)) = last_name(self.text) {
             self.text = before;
             return Some(name);
         }
+        self.take_lead()
+    }
+
+    /// What stands in front, where no name is left behind it.
+    #[tactic(auto, using(crate::proofs::IteratorMoves::no_names, crate::proofs::IteratorMoves::comps_led, crate::proofs::IteratorMoves::comps_unled, crate::proofs::IteratorMoves::slices_behind))]
+    fn take_lead(&mut self) -> Option<Utf8Component<'a>>
+        requires { names self.old.text.now ≡ [] }
+        ensures step { Moves comps_left slice_left self.old (back (option_map comp_of result)) self.new }
+        ensures progress { OnSome result (left_bound self.new < left_bound self.old) }
+    {
+        let text = self.text;
         self.text = "";
         if self.started {
             return None;
@@ -114,7 +134,7 @@ impl<'a> Utf8Components<'a> {
 impl<'a> Iterator for Utf8Components<'a> {
     type Item = Utf8Component<'a>;
 
-    ghost next_gives = { λ s r t. TakesFirst (left s) r (left t) × IfSome r (λ c. (n : ℕ) → slice_left s (suc n) ≡ slice_left t n) };
+    ghost next_gives = { λ s r t. Moves comps_left slice_left s (front (option_map comp_of r)) t };
 
     ghost remaining = { λ s. at_most (left_bound s) };
 
@@ -124,7 +144,7 @@ impl<'a> Iterator for Utf8Components<'a> {
 }
 
 impl<'a> DoubleEndedIterator for Utf8Components<'a> {
-    ghost next_back_gives = { λ s r t. TakesLast (left s) r (left t) };
+    ghost next_back_gives = { λ s r t. Moves comps_left slice_left s (back (option_map comp_of r)) t };
 
     fn next_back(&mut self) -> Option<Utf8Component<'a>> {
         self.take_last()

@@ -29,7 +29,7 @@ impl Utf8DirEntry {
     /// What stands at the path itself. A link isn't followed.
     pub fn metadata<H: PathHost>(&self, host: &mut H) -> Result<Meta, PathFault>
         ensures went { H.went host.old host.new (note_of PathCall.Meta self.now.path result) }
-        ensures told { Tells (H.view host.old) (λ v. meta_told self.now.path false v.tree) result }
+        ensures told { Tells (H.view host.old) (meta_told self.now.path false) result }
     {
         host.meta(self.path.as_path(), false)
     }

@@ -1,3 +1,4 @@
+//! An environment as a list of pairs.
 ghost use Rattle.std.specs.Prelude.{◌≡◌};
 ghost use Rattle.std.specs.Option.{option_copied};
 ghost use Rattle.just_path.specs.Environ.{value_of, home_of};
@@ -11,7 +12,12 @@ pub struct Environ {
 }
 
 impl Environ {
-    /// The value of the last pair of that name.
+    /// The value of the last pair of that name; none exactly where there is no such pair.
+    ///
+    /// ```
+    /// // of A=1, A=2
+    /// assert!(environ.get("A") == Some("2"));
+    /// ```
     pub fn get(&self, name: &str) -> Option<&str>
         ensures { option_copied result ≡ value_of name.now self.now.pairs }
     {
@@ -25,6 +31,10 @@ impl Environ {
     }
 
     /// `HOME`, where it isn't empty.
+    ///
+    /// ```
+    /// assert!(environ.home() == environ.get("HOME").filter(|home| !home.is_empty()));
+    /// ```
     pub fn home(&self) -> Option<&str>
         ensures { option_copied result ≡ home_of self.now.pairs }
     {

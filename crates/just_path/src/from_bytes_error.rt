@@ -1,4 +1,6 @@
+//! The errors of borrowed bytes that aren't UTF-8.
 ghost use Rattle.std.specs.Prelude.{◌≡◌, Some, codes};
+ghost use Rattle.just_path.specs.Errors.{path_place, os_str_place};
 ghost use Rattle.just_path.specs.declared.broken.Broken.{Broken};
 
 use super::broken::Broken;
@@ -14,26 +16,26 @@ pub struct FromPathError {
 
 impl FromPathError {
     pub(crate) fn new(cause: Broken) -> FromPathError
-        ensures { result.cause ≡ cause }
+        ensures { path_place result ≡ cause }
     {
         FromPathError { cause }
     }
 
-    /// How many bytes in front are UTF-8.
+    /// How many bytes in front are UTF-8: of `foo\xfe` it is 3.
     pub fn valid_up_to(&self) -> usize
-        ensures { result ≡ self.now.cause.up_to }
+        ensures { result ≡ (path_place self.now).up_to }
     {
         self.cause.up_to
     }
 
-    /// How many bytes the broken sequence behind them has; none where the bytes end inside it.
+    /// How many bytes the broken sequence behind them has: of `foo\xfe` it is 1; none where the bytes end inside it.
     pub fn error_len(&self) -> Option<u8>
-        ensures { result ≡ self.now.cause.len }
+        ensures { result ≡ (path_place self.now).len }
     {
         self.cause.len
     }
 
-    /// The same as a fault of a host.
+    /// The same as a fault of a host: `Missed(NotUtf8)`.
     pub fn into_io_error(self) -> PathFault
         ensures { result ≡ PathFault.Missed Miss.NotUtf8 }
     {
@@ -59,26 +61,26 @@ pub struct FromOsStrError {
 
 impl FromOsStrError {
     pub(crate) fn new(cause: Broken) -> FromOsStrError
-        ensures { result.cause ≡ cause }
+        ensures { os_str_place result ≡ cause }
     {
         FromOsStrError { cause }
     }
 
-    /// How many bytes in front are UTF-8.
+    /// How many bytes in front are UTF-8: of `foo\xfe` it is 3.
     pub fn valid_up_to(&self) -> usize
-        ensures { result ≡ self.now.cause.up_to }
+        ensures { result ≡ (os_str_place self.now).up_to }
     {
         self.cause.up_to
     }
 
-    /// How many bytes the broken sequence behind them has; none where the bytes end inside it.
+    /// How many bytes the broken sequence behind them has: of `foo\xfe` it is 1; none where the bytes end inside it.
     pub fn error_len(&self) -> Option<u8>
-        ensures { result ≡ self.now.cause.len }
+        ensures { result ≡ (os_str_place self.now).len }
     {
         self.cause.len
     }
 
-    /// The same as a fault of a host.
+    /// The same as a fault of a host: `Missed(NotUtf8)`.
     pub fn into_io_error(self) -> PathFault
         ensures { result ≡ PathFault.Missed Miss.NotUtf8 }
     {

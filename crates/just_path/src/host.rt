@@ -2,7 +2,7 @@ ghost use Rattle.std.specs.Prelude.{◌≡◌, ℕ, [], Option, IfOk};
 ghost use Rattle.just_path.specs.Path.{text_of};
 ghost use Rattle.just_path.specs.declared.host.PathNote.{PathNote};
 ghost use Rattle.just_path.specs.Host.{note_of, Counts};
-ghost use Rattle.just_path.specs.View.{View, Tells, TellsItems, AreInOrder, meta_told, canonical_told, link_told, current_told};
+ghost use Rattle.just_path.specs.View.{View, IsCleanlyTold, Tells, TellsItems, AreInOrder, meta_told, canonical_told, link_told, current_told};
 
 use super::{Item, Meta, Utf8Path, Utf8PathBuf};
 
@@ -58,7 +58,7 @@ pub trait PathHost {
     /// What stands at a path: behind the link, if it is one and is to be followed.
     fn meta(&mut self, path: Utf8Path<'_>, follow: bool) -> Result<Meta, PathFault>
         ensures went { went self.old self.new (note_of PathCall.Meta (text_of path.entry) result) }
-        ensures told { Tells (view self.old) (λ v. meta_told (text_of path.entry) follow v.tree) result };
+        ensures told { Tells (view self.old) (meta_told (text_of path.entry) follow) result };
 
     /// What stands in a folder, by rising names.
     fn list(&mut self, path: Utf8Path<'_>) -> Result<Vec<Item>, PathFault>
@@ -69,12 +69,12 @@ pub trait PathHost {
     /// The path at which a path is found, with no link on the way.
     fn canonical(&mut self, path: Utf8Path<'_>) -> Result<Utf8PathBuf, PathFault>
         ensures went { went self.old self.new (note_of PathCall.Canonical (text_of path.entry) result) }
-        ensures told { Tells (view self.old) (λ v. canonical_told (text_of path.entry) v.tree) result };
+        ensures told { Tells (view self.old) (canonical_told (text_of path.entry)) result };
 
     /// The target of a link. Where something else stands, no link is found.
     fn link(&mut self, path: Utf8Path<'_>) -> Result<Utf8PathBuf, PathFault>
         ensures went { went self.old self.new (note_of PathCall.Link (text_of path.entry) result) }
-        ensures told { Tells (view self.old) (λ v. link_told (text_of path.entry) v.tree) result };
+        ensures told { Tells (view self.old) (link_told (text_of path.entry)) result };
 
     /// The current folder. Where it is a miss, its path is empty.
     fn current(&mut self) -> Result<Utf8PathBuf, PathFault>
@@ -82,6 +82,9 @@ pub trait PathHost {
         ensures told { Tells (view self.old) current_told result };
 
     ghost counts: { (a b : Self) (n : PathNote) → Self.went a b n → Counts n (faults a) (faults b) (misses a) (misses b) };
+
+    // what a view tells stands at clean absolute paths
+    ghost view_clean: { (h : Self) → IsCleanlyTold (view h) };
 
     ghost went_view: { (a b : Self) (n : PathNote) → Self.went a b n → view b ≡ view a };
 }

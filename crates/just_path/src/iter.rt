@@ -1,8 +1,11 @@
-ghost use Rattle.std.specs.Prelude.{◌≡◌, ℕ, [], ◌∷◌, ◌++◌, MatchOption, None, Some, option_map, option_and_then};
+//! The iterator over the texts of a path's components, from both ends.
+ghost use Rattle.std.specs.Prelude.{◌≡◌, ℕ, map};
 ghost use Rattle.std.specs.Iterator.{at_most};
 ghost use Rattle.just_path.specs.Path.{text_of};
 ghost use Rattle.just_path.specs.Comps.{comps, comp_text};
-ghost use Rattle.just_path.specs.Walk.{left, slice_left, left_bound, texts_left};
+ghost use Rattle.std.specs.Option.{option_copied};
+ghost use Rattle.just_path.specs.Mixture.{front, back, Moves};
+ghost use Rattle.just_path.specs.Walk.{comps_left, slice_left, texts_left, texts_slice_left, texts_bound};
 
 use super::{Utf8Components, Utf8Path};
 use std::iter::FusedIterator;
@@ -15,16 +18,22 @@ pub struct Iter<'a> {
 
 impl<'a> Iter<'a> {
     pub(crate) fn new(inner: Utf8Components<'a>) -> Iter<'a>
-        ensures left { left result.inner ≡ left inner.entry }
-        ensures slice { (n : ℕ) → slice_left result.inner n ≡ slice_left inner.entry n }
+        ensures left { texts_left result ≡ map comp_text (comps_left inner.entry) }
+        ensures slice { (n k : ℕ) → texts_slice_left result n k ≡ slice_left inner.entry n k }
     {
         Iter { inner }
     }
 
-    /// The slice from the first to the last of the components that are left.
+    /// The slice of the path from the first to the last of the components that are left.
+    ///
+    /// ```
+    /// let mut texts = Utf8Path::new("a//b/c").iter();
+    /// let _last = texts.next_back();
+    /// assert!(texts.as_path().as_str() == "a//b");
+    /// ```
     pub fn as_path(&self) -> Utf8Path<'a>
-        ensures slice { text_of result ≡ slice_left self.now.inner 0 }
-        ensures left { comps (text_of result) ≡ left self.now.inner }
+        ensures slice { text_of result ≡ texts_slice_left self.now 0 0 }
+        ensures left { map comp_text (comps (text_of result)) ≡ texts_left self.now }
     {
         self.inner.as_path()
     }
@@ -33,9 +42,9 @@ impl<'a> Iter<'a> {
 impl<'a> Iterator for Iter<'a> {
     type Item = &'a str;
 
-    ghost next_gives = { λ s r t. MatchOption r ((texts_left s ≡ []) × (texts_left t ≡ [])) (λ x. texts_left s ≡ x.now ∷ texts_left t) };
+    ghost next_gives = { λ s r t. Moves texts_left texts_slice_left s (front (option_copied r)) t };
 
-    ghost remaining = { λ s. at_most (left_bound s.inner) };
+    ghost remaining = { λ s. at_most (texts_bound s) };
 
     fn next(&mut self) -> Option<&'a str> {
         match self.inner.take_first() {
@@ -46,7 +55,7 @@ impl<'a> Iterator for Iter<'a> {
 }
 
 impl<'a> DoubleEndedIterator for Iter<'a> {
-    ghost next_back_gives = { λ s r t. MatchOption r ((texts_left s ≡ []) × (texts_left t ≡ [])) (λ x. texts_left s ≡ texts_left t ++ x.now ∷ []) };
+    ghost next_back_gives = { λ s r t. Moves texts_left texts_slice_left s (back (option_copied r)) t };
 
     fn next_back(&mut self) -> Option<&'a str> {
         match self.inner.take_last() {

@@ -1,4 +1,31 @@
-//! Paths, and the small types that all crates here share.
+//! Paths that are text, and the small types that all crates here share.
+//!
+//! A path is a text that is read as Unix paths are: it is split at each `/`, and what stands between gives its
+//! components. A leading `/` gives the root, once; an empty piece gives nothing; `.` gives nothing but in front of a
+//! relative path, where it is the current folder; `..` is the parent; all else is a name.
+//!
+//! ```
+//! // "/a/./b//.."  is  RootDir, Normal("a"), Normal("b"), ParentDir
+//! // "./a"         is  CurDir, Normal("a")
+//! ```
+//!
+//! Equality, order and hash speak of the components alone, so `a/b`, `a/b/`, `a//b` and `a/./b` are equal, while `./a/b`
+//! and `a/b` differ, and `a/../b` is not `b`. The text stays as it was given, and is what is printed. [`Utf8Path::clean`]
+//! takes out each `.` and each name with the `..` behind it.
+//!
+//! The calls are those of the crate `camino` 1.2.6, with these differences:
+//! - `Utf8Path` is a sized and copied value round a `&str`, and what converts from `Path` and `OsStr` there converts from
+//!   bytes here.
+//! - What takes memory answers a `Result`, whose error is [`NoMemory`] where nothing else is refused; `Utf8PathBuf` has `new`
+//!   with the allocator in place of `Default`, and `try_clone` in place of `Clone`.
+//! - `set_extension` and `add_extension`, which panic there where the extension holds a `/`, have that as their condition.
+//! - Comparisons with text are `eq_str` and `cmp_str`; the refusal of `strip_prefix` is [`StripPrefix`].
+//! - What asks the files asks a [`PathHost`]; a listing is refused whole, comes in byte order of names, and keeps the
+//!   kinds.
+//!
+//! [`Text`] and [`Seq`] are a `String` and a `Vec` that contracts see as the list of bytes and the list of items, compared,
+//! ordered, hashed and copied as these lists; [`TryClone`] is the one way to copy what holds them. [`Environ`] is an
+//! environment.
 #![tactic(auto)]
 
 mod absolute;
@@ -9,6 +36,7 @@ mod clean;
 mod compare;
 mod component;
 mod components;
+mod copies;
 mod directory;
 mod edit;
 mod environ;
@@ -39,6 +67,7 @@ pub use absolute::absolute_utf8;
 pub use ancestors::Utf8Ancestors;
 pub use component::Utf8Component;
 pub use components::Utf8Components;
+pub use copies::TryClone;
 pub use directory::{ReadDirUtf8, Utf8DirEntry};
 pub use environ::Environ;
 pub use from_bytes_error::{FromOsStrError, FromPathError};

@@ -1,3 +1,4 @@
+//! The answer where memory is wanting.
 ghost use Rattle.std.specs.Prelude.{Some, codes};
 
 use std::alloc::{AllocError, AllocFailed};

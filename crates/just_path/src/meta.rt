@@ -1,3 +1,4 @@
+//! What is known of a thing at a path.
 use super::Text;
 
 /// What stands at a path.

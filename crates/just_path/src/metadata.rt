@@ -64,7 +64,7 @@ impl<'a> Utf8Path<'a> {
     /// What stands at the path. A link is followed.
     pub fn metadata<H: PathHost>(&self, host: &mut H) -> Result<Meta, PathFault>
         ensures went { H.went host.old host.new (note_of PathCall.Meta (text_of self.now) result) }
-        ensures told { Tells (H.view host.old) (λ v. meta_told (text_of self.now) true v.tree) result }
+        ensures told { Tells (H.view host.old) (meta_told (text_of self.now) true) result }
     {
         host.meta(*self, true)
     }
@@ -72,7 +72,7 @@ impl<'a> Utf8Path<'a> {
     /// What stands at the path itself. A link isn't followed.
     pub fn symlink_metadata<H: PathHost>(&self, host: &mut H) -> Result<Meta, PathFault>
         ensures went { H.went host.old host.new (note_of PathCall.Meta (text_of self.now) result) }
-        ensures told { Tells (H.view host.old) (λ v. meta_told (text_of self.now) false v.tree) result }
+        ensures told { Tells (H.view host.old) (meta_told (text_of self.now) false) result }
     {
         host.meta(*self, false)
     }
@@ -80,7 +80,7 @@ impl<'a> Utf8Path<'a> {
     /// The path at which the path is found, with no link on the way.
     pub fn canonicalize_utf8<H: PathHost>(&self, host: &mut H) -> Result<Utf8PathBuf, PathFault>
         ensures went { H.went host.old host.new (note_of PathCall.Canonical (text_of self.now) result) }
-        ensures told { Tells (H.view host.old) (λ v. canonical_told (text_of self.now) v.tree) result }
+        ensures told { Tells (H.view host.old) (canonical_told (text_of self.now)) result }
     {
         host.canonical(*self)
     }
@@ -88,7 +88,7 @@ impl<'a> Utf8Path<'a> {
     /// The target of the link at the path.
     pub fn read_link_utf8<H: PathHost>(&self, host: &mut H) -> Result<Utf8PathBuf, PathFault>
         ensures went { H.went host.old host.new (note_of PathCall.Link (text_of self.now) result) }
-        ensures told { Tells (H.view host.old) (λ v. link_told (text_of self.now) v.tree) result }
+        ensures told { Tells (H.view host.old) (link_told (text_of self.now)) result }
     {
         host.link(*self)
     }

@@ -1,6 +1,7 @@
+//! The parts of a file name: stem, prefix and extension.
 ghost use Rattle.std.specs.Prelude.{◌≡◌, ◌≢◌, ◌<◌, ℕ, length, slice_index, MatchOption, option_map, IsUtf8};
 ghost use Rattle.std.specs.Option.{option_copied};
-ghost use Rattle.just_path.specs.Names.{parted, stem_of, extension_of, prefix_of};
+ghost use Rattle.just_path.specs.Names.{name_parts, stem_of, extension_of, prefix_of};
 
 /// The place of the last dot that isn't in front.
 fn last_dot(name: &str) -> Option<usize>
@@ -34,7 +35,7 @@ fn first_dot(name: &str) -> Option<usize>
 
 /// The stem and the extension of a name, where a dot parts them.
 fn parted(name: &str) -> Option<(&str, &str)>
-    ensures { option_map (λ s. (s.0.now, s.1.now)) result ≡ parted name.now }
+    ensures { option_map (λ s. (s.0.now, s.1.now)) result ≡ name_parts name.now }
 {
     match last_dot(name) {
         Some(at) => Some((&name[..at], &name[at + 1..])),

@@ -1,9 +1,10 @@
+//! Components, one behind the other: compared, matched from either end, and hashed.
 ghost use Rattle.std.specs.Prelude.{◌≡◌, fold};
 ghost use Rattle.just_path.specs.Comps.{comps};
 ghost use Rattle.just_path.specs.Component.{comp_of};
 ghost use Rattle.just_path.specs.Order.{rank, comp_cmp, comp_eq, path_cmp, begins_with, ends_with};
 ghost use Rattle.just_path.specs.Order.{path_hash};
-ghost use Rattle.just_path.specs.Walk.{left};
+ghost use Rattle.just_path.specs.Walk.{comps_left};
 ghost use Rattle.std.specs.Cmp.Lexicographic.{slice_cmp};
 
 use super::{Utf8Component, Utf8Components};
@@ -46,7 +47,7 @@ pub(crate) fn compare(a: &str, b: &str) -> Ordering
 
 /// The order of what is left of two paths.
 pub(crate) fn compare_left(a: Utf8Components<'_>, b: Utf8Components<'_>) -> Ordering
-    ensures { result ≡ slice_cmp comp_cmp (left a.entry) (left b.entry) }
+    ensures { result ≡ slice_cmp comp_cmp (comps_left a.entry) (comps_left b.entry) }
 {
     let mut left = a;
     let mut right = b;

@@ -1,7 +1,8 @@
+//! Owned paths: what they are made of, and what is seen of them.
 ghost use Rattle.std.specs.Prelude.{◌≡◌, IfOk, string_bytes};
 ghost use Rattle.just_path.specs.Path.{text_of};
 
-use super::{NoMemory, Utf8Path};
+use super::{NoMemory, TryClone, Utf8Path};
 use std::marker::Model;
 
 /// An owned path, which contracts see as the list of its text's bytes.
@@ -29,18 +30,33 @@ impl From<String> for Utf8PathBuf {
 }
 
 impl Utf8PathBuf {
+    /// The path, borrowed.
+    ///
+    /// ```
+    /// assert!(path.as_path().as_str() == path.as_str());
+    /// ```
     pub fn as_path(&self) -> Utf8Path<'_>
         ensures { text_of result ≡ self.now }
     {
         Utf8Path::new(self.text.as_str())
     }
 
+    /// The text.
+    ///
+    /// ```
+    /// assert!(Utf8PathBuf::from_str(alloc, "a/b")?.as_str() == "a/b");
+    /// ```
     pub fn as_str(&self) -> &str
         ensures { result.now ≡ self.now }
     {
         self.text.as_str()
     }
 
+    /// The string that holds the text, without taking memory.
+    ///
+    /// ```
+    /// let string = path.into_string();
+    /// ```
     pub fn into_string(self) -> String
         ensures { string_bytes result ≡ self }
     {
@@ -48,11 +64,21 @@ impl Utf8PathBuf {
         text
     }
 
-    /// A copy on the same allocator.
+    /// A copy on the same allocator, of the same text.
+    ///
+    /// ```
+    /// assert!(path.try_clone()?.as_str() == path.as_str());
+    /// ```
     pub fn try_clone(&self) -> Result<Utf8PathBuf, NoMemory>
         ensures { IfOk result (λ p. p ≡ self.now) }
     {
         let text = self.text.clone()?;
         Ok(Utf8PathBuf { text })
+    }
+}
+
+impl TryClone for Utf8PathBuf {
+    fn try_clone(&self) -> Result<Utf8PathBuf, NoMemory> {
+        Utf8PathBuf::try_clone(self)
     }
 }

@@ -1,5 +1,6 @@
+//! The prefixes that a path has on Windows, kept since their types are public; no path here gives one.
 ghost use Rattle.std.specs.Prelude.{◌≡◌, Bool};
-ghost use Rattle.just_path.specs.Prefix.{is_verbatim};
+ghost use Rattle.just_path.specs.Prefix.{is_verbatim, prefix_text, prefix_kind};
 
 /// The prefixes that a path has on Windows. No Unix path gives one.
 #[derive(Clone, Copy, PartialEq, Eq, PartialOrd, Ord, Hash)]
@@ -20,6 +21,10 @@ pub enum Utf8Prefix<'a> {
 
 impl<'a> Utf8Prefix<'a> {
     /// Whether the prefix begins with `\\?\`.
+    ///
+    /// ```
+    /// assert!(!Utf8Prefix::Disk(b'C').is_verbatim());
+    /// ```
     pub fn is_verbatim(&self) -> bool
         ensures { result ≡ is_verbatim self.now }
     {
@@ -45,21 +50,34 @@ pub struct Utf8PrefixComponent<'a> {
 
 impl<'a> Utf8PrefixComponent<'a> {
     /// The parsed prefix.
+    ///
+    /// ```
+    /// let kind = prefix.kind();
+    /// ```
     pub fn kind(&self) -> Utf8Prefix<'a>
-        ensures { result ≡ self.now.parsed }
+        ensures { result ≡ prefix_kind self.now }
     {
         self.parsed
     }
 
+    /// The text, as it stood.
+    ///
+    /// ```
+    /// let text = prefix.as_str();
+    /// ```
     pub fn as_str(&self) -> &'a str
-        ensures { result.now ≡ self.now.raw.now }
+        ensures { result.now ≡ prefix_text self.now }
     {
         self.raw
     }
 
     /// The text's bytes.
+    ///
+    /// ```
+    /// let bytes = prefix.as_os_str();
+    /// ```
     pub fn as_os_str(&self) -> &'a [u8]
-        ensures { result.now ≡ self.now.raw.now }
+        ensures { result.now ≡ prefix_text self.now }
     {
         self.raw.as_bytes()
     }

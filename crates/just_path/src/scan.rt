@@ -1,5 +1,6 @@
+//! The first and the last piece of a text, found at a slash.
 ghost use Rattle.std.specs.Prelude.{◌≡◌, ◌≢◌, ◌<◌, ◌≤◌, ◌+◌, ◌++◌, ℕ, List, [], ◌∷◌, length, slice_index, take, drop, MatchOption, IfSome, IsUtf8};
-ghost use Rattle.just_path.specs.Comps.{Comp, named, names, leading};
+ghost use Rattle.just_path.specs.Comps.{Comp, comps_of_piece, names, lead_of};
 ghost use Rattle.just_path.specs.Component.{one_of};
 ghost use Rattle.just_path.specs.Scan.{IsFirstPiece, IsLastPiece};
 
@@ -49,7 +50,7 @@ pub(crate) fn first_piece(text: &str) -> (&str, &str)
 
 /// The last piece of a text from `low` on, and what stands before its slash.
 pub(crate) fn last_piece(text: &str, low: usize) -> (&str, &str)
-    requires low { low ≡ length (leading text.now) }
+    requires low { low ≡ length (lead_of text.now) }
     requires behind { low < length text.now }
     ensures piece { IsLastPiece low text.now result.0.now result.1.now }
     ensures utf8 { IsUtf8 result.0.now }
@@ -62,7 +63,7 @@ pub(crate) fn last_piece(text: &str, low: usize) -> (&str, &str)
 
 /// The root or the `.` in front of a path.
 pub(crate) fn leading(text: &str) -> Option<Utf8Component<'_>>
-    ensures { one_of result ≡ leading text.now }
+    ensures { one_of result ≡ lead_of text.now }
 {
     let bytes = text.as_bytes();
     if bytes.is_empty() {
@@ -85,7 +86,7 @@ pub(crate) fn leading(text: &str) -> Option<Utf8Component<'_>>
 
 /// How many bytes it takes.
 pub(crate) fn leading_len(text: &str) -> usize
-    ensures { result ≡ length (leading text.now) }
+    ensures { result ≡ length (lead_of text.now) }
 {
     match leading(text) {
         Some(_) => 1,

@@ -1,4 +1,4 @@
-// A path is written to a format, and read from one, as its text.
+//! A path is written to a format, and read from one, as its text.
 ghost use Rattle.std.specs.Prelude.{OnOk, IfOk};
 ghost use Rattle.serde.specs.Event.{Logs, text};
 ghost use Rattle.serde.specs.Steps.{Gives};

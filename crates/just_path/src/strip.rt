@@ -1,3 +1,4 @@
+//! The refusal of a base that a path doesn't begin with.
 ghost use Rattle.std.specs.Prelude.{Some, codes};
 
 use std::error::Error;

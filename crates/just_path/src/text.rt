@@ -1,10 +1,26 @@
-ghost use Rattle.std.specs.Prelude.{◌≡◌, IfOk, string_bytes, IsUtf8};
+//! Owned texts: a `String` that contracts see as the list of its bytes.
+ghost use Rattle.std.specs.Prelude.{◌≡◌, ◌↔◌, IsTrue, IfOk, Some, string_bytes, IsUtf8};
+ghost use Rattle.std.specs.Str.{bytes_eq};
+ghost use Rattle.std.specs.Ordering.{nat_cmp};
+ghost use Rattle.std.specs.Cmp;
+ghost use Rattle.std.specs.Cmp.Lexicographic.{slice_cmp, nat_list_eq_equiv, nat_list_cmp_total, texts_ties, texts_po};
+ghost use Rattle.std.specs.Cmp.Rules.{hashing};
+ghost use Rattle.std.specs.Hash as fed;
+ghost use Rattle.std.proofs.Common.{refl, rules};
 
-use super::NoMemory;
+use super::{NoMemory, TryClone};
 use std::alloc::Global;
+use std::cmp::Ordering;
+use std::hash::{Hash, Hasher};
 use std::marker::Model;
 
-/// An owned text that contracts see as the list of its bytes.
+/// An owned text that contracts see as the list of its bytes. Texts are compared, ordered and hashed as these lists.
+///
+/// ```
+/// let some = Text::from_str(alloc, "a")?;
+/// let other = some.try_clone()?;
+/// assert!(some == other && some.as_str() == "a");
+/// ```
 #[derive(Debug, Drop)]
 pub struct Text {
     string: String,
@@ -21,6 +37,7 @@ impl Model for Text {
 impl From<String> for Text {
     ghost from_gives = { λ s t. t ≡ string_bytes s };
 
+    /// The text of a string, without taking memory.
     fn from(string: String) -> Text
         ensures { result ≡ string_bytes string }
     {
@@ -30,6 +47,10 @@ impl From<String> for Text {
 
 impl Text {
     /// A copy of a borrowed text.
+    ///
+    /// ```
+    /// assert!(Text::from_str(alloc, "a")?.as_str() == "a");
+    /// ```
     pub fn from_str(alloc: Global, text: &str) -> Result<Text, NoMemory>
         ensures { IfOk result (λ t. t ≡ text.now) }
     {
@@ -37,13 +58,22 @@ impl Text {
         Ok(Text { string })
     }
 
+    /// The text, borrowed.
+    ///
+    /// ```
+    /// assert!(Text::from_str(alloc, "a")?.as_str() == "a");
+    /// ```
     pub fn as_str(&self) -> &str
         ensures { result.now ≡ self.now }
     {
         self.string.as_str()
     }
 
-    /// A copy on the same allocator.
+    /// A copy on the same allocator; it is equal to this text.
+    ///
+    /// ```
+    /// assert!(text.try_clone()? == text);
+    /// ```
     pub fn try_clone(&self) -> Result<Text, NoMemory>
         ensures { IfOk result (λ t. t ≡ self.now) }
     {
@@ -51,10 +81,74 @@ impl Text {
         Ok(Text { string })
     }
 
+    /// The string that holds the text, without taking memory.
+    ///
+    /// ```
+    /// let string = text.into_string();
+    /// ```
     pub fn into_string(self) -> String
         ensures { string_bytes result ≡ self }
     {
         let Text { string } = self;
         string
+    }
+}
+
+impl TryClone for Text {
+    fn try_clone(&self) -> Result<Text, NoMemory> {
+        Text::try_clone(self)
+    }
+}
+
+impl PartialEq for Text {
+    ghost eq = { bytes_eq };
+
+    ghost laws = { Cmp.partial_equiv_from_equiv nat_list_eq_equiv };
+
+    /// Whether both are the same text.
+    fn eq(&self, other: &Text) -> bool
+        ensures eq { result ≡ bytes_eq self.now other.now }
+        ensures same { IsTrue result ↔ (self.now ≡ other.now) }
+    {
+        self.as_str() == other.as_str()
+    }
+}
+
+impl Eq for Text {
+    ghost laws = { nat_list_eq_equiv };
+}
+
+impl PartialOrd for Text {
+    ghost partial_cmp = { λ x y. Some (slice_cmp nat_cmp x y) };
+
+    ghost laws = { texts_po };
+
+    fn partial_cmp(&self, other: &Text) -> Option<Ordering> {
+        Some(self.as_str().cmp(other.as_str()))
+    }
+}
+
+impl Ord for Text {
+    ghost cmp = { slice_cmp nat_cmp };
+
+    ghost total = { nat_list_cmp_total };
+
+    ghost matches_partial_cmp = { λ x y. refl };
+
+    ghost matches_eq = { λ x y. texts_ties x y };
+
+    /// The order of the bytes.
+    fn cmp(&self, other: &Text) -> Ordering {
+        self.as_str().cmp(other.as_str())
+    }
+}
+
+impl Hash for Text {
+    ghost hash_input = { λ t. fed.str t };
+
+    ghost respects_eq = { Prim.search (hashing, rules) };
+
+    fn hash<H: Hasher>(&self, state: &mut H) {
+        self.as_str().hash(state);
     }
 }

@@ -1,7 +1,8 @@
+//! The first and the last name of a text, found piece by piece.
 ghost use Rattle.std.specs.Prelude.{◌≡◌, ◌≤◌, [], length, MatchOption};
 ghost use Rattle.just_path.specs.Comps.{names, comps};
 ghost use Rattle.just_path.specs.Component.{comp_of};
-ghost use Rattle.just_path.specs.Parts.{cut, rest};
+ghost use Rattle.just_path.specs.Parts.{text_upto, name_slice};
 ghost use Rattle.just_path.specs.Scan.{HasFirst, HasLast};
 
 use super::Utf8Component;
@@ -41,7 +42,7 @@ pub(crate) fn last_name(text: &str) -> Option<(&str, Utf8Component<'_>)>
 
 /// A text from its first name on.
 pub(crate) fn trim_front(text: &str) -> &str
-    ensures slice { cut 0 result.now ≡ rest 0 text.now }
+    ensures slice { text_upto 0 result.now ≡ name_slice 0 0 text.now }
     ensures comps { comps result.now ≡ names text.now }
 {
     let mut left = text;
@@ -57,7 +58,7 @@ pub(crate) fn trim_front(text: &str) -> &str
 
 /// A text up to its last component.
 pub(crate) fn trim_back(text: &str) -> &str
-    ensures slice { result.now ≡ cut 0 text.now }
+    ensures slice { result.now ≡ text_upto 0 text.now }
     ensures comps { comps result.now ≡ comps text.now }
     ensures no_longer { length result.now ≤ length text.now }
 {

@@ -8,4 +8,8 @@ mod hosts;
 #[cfg(test)]
 mod real;
 #[cfg(test)]
+mod real_edges;
+#[cfg(test)]
 mod sights;
+#[cfg(test)]
+mod trees;

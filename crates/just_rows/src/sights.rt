@@ -1,8 +1,7 @@
-//! What a host shows of a folder with a file `justfile` of three bytes, a link `link` to it, and a link `far` that leads
-//! nowhere: the host in memory and the real one show the same.
+//! What the real host shows of a folder with a file `justfile` of three bytes, a link `link` to it, and a link `far` that
+//! leads nowhere, by each call of a path over a host.
 
-use crate::hosts::memory;
-use just_host::{Host, RealHost};
+use just_host::RealHost;
 use just_path::{Kind, Miss, NoMemory, PathFault, PathHost, Utf8Path, absolute_utf8};
 use std::alloc::Global;
 use std::fs;
@@ -73,22 +72,6 @@ fn listed<H: PathHost>(alloc: Global, host: &mut H, folder: &str) -> Result<Stri
 fn push(alloc: Global, all: &mut String, name: &str, kind: Kind) -> Result<(), NoMemory> {
     let line = format!(in alloc; "{name} {kind:?}; ")?;
     all.push_str(line.as_str())?;
-    Ok(())
-}
-
-#[test]
-fn sights_of_memory(rt: HostRuntime) -> Result<(), Fail> {
-    let alloc = rt.alloc();
-    let mut host = memory(alloc, "a:\n")?;
-    assert!(rt; shows_things(alloc, &mut host, "/p")?);
-    assert!(rt; answers_kinds(alloc, &mut host, "/p")?);
-    assert!(rt; misses(alloc, &mut host, "/p")?);
-    assert_eq!(rt;
-        listed(alloc, &mut host, "/p")?.as_str(),
-        "far Link; justfile File; link Link; "
-    );
-    let whole = absolute_utf8(alloc, Utf8Path::new("./x/../y/"), &mut host)?;
-    assert_eq!(rt; whole.as_str(), "/p/x/../y/");
     Ok(())
 }
 

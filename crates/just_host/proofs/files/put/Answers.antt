@@ -1,11 +1,11 @@
+-- A thing is put where its place was taken out.
 use Rattle.std.proofs.Common.{ap, ◌∙◌}
-use Rattle.std.specs.Ordering.{nat_cmp}
-use Rattle.std.specs.Cmp.Lexicographic.{slice_cmp}
-use Rattle.std.specs.FinMap.{from_entries, remove}
-use Rattle.just_host.proofs.Trees.{from_entries-replaced}
+use Rattle.std.specs.FinMap.{remove}
+use Rattle.just_host.specs.Files.{files_in}
+use Rattle.just_host.proofs.Things.{files_in-replaced}
 use Rattle.just_host.proofs.files.put.Goals as goal
 
 pub returns-clause-tree : goal.returns-clause-tree
 returns-clause-tree c =
-    ap (from_entries {R = slice_cmp nat_cmp}) c.push_reserved.ensures.items
-    ∙ from_entries-replaced c.args.path c.args.thing c.take_out.new.things.items (from_entries c.args.things.now.items) (c.take_out.ensures.tree ∙ ap (remove (from_entries c.args.things.now.items)) c.as_str.ensures)
+    ap files_in c.push_reserved.ensures.items
+    ∙ files_in-replaced c.args.place c.args.thing c.take_out.new.things.items (files_in c.args.things.now.items) (c.take_out.ensures.tree ∙ ap (remove (files_in c.args.things.now.items)) c.as_str.ensures)

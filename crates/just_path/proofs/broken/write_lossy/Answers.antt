@@ -6,7 +6,7 @@ use Rattle.std.proofs.Output.{has_written_append, has_written_of_eq}
 use Rattle.std.specs.Str.Lossy.{utf8_lossy}
 use Rattle.std.specs.Str.Chunks.{utf8_chunks_rest, utf8_chunk_valid, utf8_chunk_invalid}
 use Rattle.just_path.specs.Utf8.{chunk_shown}
-use Rattle.just_path.proofs.Lossies.{lossy_parts}
+use Rattle.just_path.proofs.LossyTexts.{lossy_parts}
 use Rattle.just_path.proofs.broken.write_lossy.Goals as goal
 
 pub loop-chunk-preserved : goal.loop-chunk-preserved

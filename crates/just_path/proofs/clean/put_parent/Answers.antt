@@ -1,21 +1,41 @@
--- Two components more.
-use Rattle.std.proofs.Common.{◌≡◌, ◌∙◌, ap, refl, List, [], ◌∷◌, ◌++◌, true, append_assoc}
+-- By the last component that stays.
+use Rattle.std.proofs.Common.{◌≡◌, ◌∙◌, sym, ap, refl, List, [], ◌∷◌, ◌++◌, false, append_assoc}
 use Rattle.std.proofs.lemmas.List.{map_push}
-use Rattle.just_path.specs.Comps.{parent}
+use Rattle.just_path.specs.Comps.{Comp, parent, root, current, normal}
 use Rattle.just_path.specs.Component.{comp_of}
 use Rattle.just_path.specs.declared.component.Utf8Component.{Utf8Component}
-use Rattle.just_path.specs.Clean.{reduced}
-use Rattle.just_path.specs.Settled.{follows, settled, comps_of}
-use Rattle.just_path.proofs.Cleans.{settled_push, and_both}
+use Rattle.just_path.specs.Clean.{normal_form}
+use Rattle.just_path.specs.Reduced.{is_reduced, comps_of}
+use Rattle.just_path.proofs.NormalForms.{reduced_init, not_reduced_front, drops_pair, drops_parent}
 use Rattle.just_path.proofs.clean.put_parent.Goals as goal
 
-two_more : (old mid new : List Utf8Component) (x y : Utf8Component) → mid ≡ old ++ x ∷ [] → new ≡ mid ++ y ∷ [] → comps_of new ≡ (comps_of old ++ comp_of x ∷ []) ++ comp_of y ∷ []
-two_more old mid new x y e f = ap comps_of f ∙ map_push comp_of mid y ∙ ap (λ cs. cs ++ comp_of y ∷ []) (ap comps_of e ∙ map_push comp_of old x)
+one_more : (old new : List Utf8Component) (x : Utf8Component) → new ≡ old ++ x ∷ [] → comps_of new ≡ comps_of old ++ comp_of x ∷ []
+one_more old new x e = ap comps_of e ∙ map_push comp_of old x
 
-pub returns : goal.returns
-returns c =
-    let t = two_more c.args.kept.now.items c.push.new.self.items c.push-2.new.self.items c.args.last _ c.in_ok-push.ensures.items c.in_ok-push-2.ensures.items in
-    record {
-      settled = ap settled t ∙ settled_push (comps_of c.args.kept.now.items) (comp_of c.args.last) parent c.requires.settled (and_both (follows (comp_of c.args.last) (parent ∷ [])) true c.requires.fits refl);
-      same = λ rest. ap (λ cs. reduced (cs ++ rest)) t ∙ ap reduced (append_assoc (comps_of c.args.kept.now.items ++ comp_of c.args.last ∷ []) (parent ∷ []) rest);
-    }
+pub returns-in-Normal-clause-reduced : goal.returns-in-Normal-clause-reduced
+returns-in-Normal-clause-reduced c =
+    let t = one_more c.pop.new.self.items c.args.kept.now.items c.in-Some.last c.in-Some.ensures.items in
+    reduced_init (comps_of c.pop.new.self.items) (comp_of c.in-Some.last) (ap is_reduced (sym t) ∙ c.requires)
+
+pub returns-in-Normal-clause-same : goal.returns-in-Normal-clause-same
+returns-in-Normal-clause-same c = λ rest.
+    let ks : List Comp = comps_of c.pop.new.self.items in
+    let t = one_more c.pop.new.self.items c.args.kept.now.items c.in-Some.last c.in-Some.ensures.items in
+    sym (ap (λ cs. normal_form (cs ++ parent ∷ rest)) (t ∙ ap (λ x. ks ++ comp_of x ∷ []) c.in-Normal.is) ∙ ap normal_form (append_assoc ks (normal c.in-Normal.field-0.now ∷ []) (parent ∷ rest))
+    ∙ drops_pair ks rest c.in-Normal.field-0.now)
+
+pub returns-in_ok-push-in-RootDir-clause-same : goal.returns-in_ok-push-in-RootDir-clause-same
+returns-in_ok-push-in-RootDir-clause-same c = λ rest.
+    let ks : List Comp = comps_of c.pop.new.self.items in
+    let t = one_more c.pop.new.self.items c.args.kept.now.items c.in-Some.last c.in-Some.ensures.items in
+    let u = one_more c.pop.new.self.items c.push-in-RootDir.new.self.items c.in-Some.last c.in_ok-push-in-RootDir.ensures.items in
+    let r : ks ++ comp_of c.in-Some.last ∷ [] ≡ ks ++ root ∷ [] = ap (λ x. ks ++ comp_of x ∷ []) c.in-RootDir.is in
+    ap (λ cs. normal_form (cs ++ rest)) (u ∙ r) ∙ ap normal_form (append_assoc ks (root ∷ []) rest) ∙ sym (drops_parent ks rest)
+    ∙ sym (ap (λ cs. normal_form (cs ++ parent ∷ rest)) (t ∙ r) ∙ ap normal_form (append_assoc ks (root ∷ []) (parent ∷ rest)))
+
+pub put_back-requires-in-CurDir-clause-fits : goal.put_back-requires-in-CurDir-clause-fits
+put_back-requires-in-CurDir-clause-fits c =
+    let t = one_more c.pop.new.self.items c.args.kept.now.items c.in-Some.last c.in-Some.ensures.items in
+    let stuck : is_reduced (comps_of c.args.kept.now.items) ≡ false =
+    ap is_reduced (t ∙ ap (λ x. comps_of c.pop.new.self.items ++ comp_of x ∷ []) c.in-CurDir.is) ∙ not_reduced_front (comps_of c.pop.new.self.items) (current ∷ []) refl in
+    cc (stuck, c.requires)

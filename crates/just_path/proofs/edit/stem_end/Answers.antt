@@ -2,7 +2,7 @@
 use Rattle.std.proofs.Common.{◌≡◌, ◌∙◌, sym, ap, subst, List, ℕ, ◌++◌}
 use Rattle.std.specs.Str.{IsUtf8}
 use Rattle.std.proofs.lemmas.Str.{IsUtf8-append}
-use Rattle.just_path.proofs.Fronts.{name_text, stem_cut, text_before}
+use Rattle.just_path.proofs.TextFronts.{name_text, stem_cut, text_before}
 use Rattle.just_path.proofs.edit.stem_end.Goals as goal
 
 pub overflow_sub-result : goal.overflow_sub-result

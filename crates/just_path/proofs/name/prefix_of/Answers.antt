@@ -2,7 +2,7 @@
 use Rattle.std.proofs.Common.{◌≡◌, arith, ◌∙◌, take}
 use Rattle.std.proofs.lemmas.Slice.{between_from_start}
 use Rattle.std.proofs.lemmas.Grind.{common_steps}
-use Rattle.just_path.proofs.Dots.{prefix_at, prefix_none}
+use Rattle.just_path.proofs.NameParts.{prefix_at, prefix_none}
 use Rattle.just_path.proofs.name.prefix_of.Goals as goal
 
 pub returns-in-Some : goal.returns-in-Some

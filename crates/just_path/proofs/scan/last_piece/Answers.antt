@@ -6,7 +6,7 @@ use Rattle.std.proofs.lemmas.Slice.{between_to_end, between_from_start}
 use Rattle.just_path.specs.Scan.{IsLastPiece}
 use Rattle.std.proofs.lemmas.Grind.{common_steps}
 use Rattle.just_path.proofs.Scans.{last_at, last_none}
-use Rattle.just_path.proofs.Leading.{boundary}
+use Rattle.just_path.proofs.Leads.{boundary}
 use Rattle.just_path.proofs.scan.last_piece.Goals as goal
 
 pub range_from-requires : goal.range_from-requires

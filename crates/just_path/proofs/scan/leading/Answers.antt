@@ -1,6 +1,6 @@
 -- By the length and the first two bytes.
 use Rattle.std.proofs.Common.{sym, arith}
-use Rattle.just_path.proofs.Leading.{when_nil, when_root, when_other, when_dot, when_dot_slash, when_dot_other}
+use Rattle.just_path.proofs.Leads.{when_nil, when_root, when_other, when_dot, when_dot_slash, when_dot_other}
 use Rattle.just_path.proofs.scan.leading.Goals as goal
 
 pub returns-then-is_empty : goal.returns-then-is_empty

@@ -1,7 +1,7 @@
 -- A piece with no name is passed over; the last with one ends the walk.
 use Rattle.std.proofs.Common.{arith, sym}
 use Rattle.just_path.specs.Component.{comp_of}
-use Rattle.just_path.proofs.Leading.{no_longer}
+use Rattle.just_path.proofs.Leads.{no_longer}
 use Rattle.just_path.proofs.Walks.{keeps_last, last_skips, last_found, last_over}
 use Rattle.just_path.proofs.walk.trim_back.Goals as goal
 

@@ -23,6 +23,7 @@ use Rattle.just_path.specs.contracts.seq.Seq.TheInside as inner
 abbrev pub the_former : Former {0} → Former {0}
 the_former item = list item
 
+-- the weight of a list is that of its items
 abbrev pub the_weighed : {item : Former {0}} → Weighed item → Weighed (the_former item)
 the_weighed weight = w_list weight
 
@@ -30,9 +31,11 @@ the_weighed weight = w_list weight
 pub the_empty : List ⊥
 the_empty = []
 
+-- the items of a sequence are those of its list
 abbrev pub the_items : (X : Type 0) → List X → List X
 the_items X items = items
 
+-- listed one by one, they are the list
 pub the_items_listed : (X : Type 0) (items : List X) → listed _ (children (the_former this) X items) ≡ the_items X items
 the_items_listed X items = list-listed X items
 

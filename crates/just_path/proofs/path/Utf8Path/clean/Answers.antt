@@ -3,7 +3,7 @@ use Rattle.std.proofs.Common.{◌≡◌, ◌∙◌, sym, ap, subst, List, ℕ}
 use Rattle.just_path.specs.Path.{text_of}
 use Rattle.just_path.specs.Comps.{comps}
 use Rattle.just_path.specs.Clean.{IsCleanOf, cleaned, parents_first}
-use Rattle.just_path.proofs.Made.{clean_is_normal, clean_again, clean_ups}
+use Rattle.just_path.proofs.CleanPaths.{clean_is_normal, clean_only, clean_again, clean_ups}
 use Rattle.just_path.proofs.path.Utf8Path.clean.Goals as goal
 
 pub returns : goal.returns
@@ -13,6 +13,7 @@ returns c =
     record {
       clean = e;
       normal = subst (λ (p : List ℕ). IsCleanOf t p) (sym e) (clean_is_normal t);
+      only = λ n h. ap comps e ∙ clean_only t n h;
       again = ap cleaned e ∙ clean_again t ∙ sym e;
       ups = ap (λ p. parents_first (comps p)) e ∙ clean_ups t;
     }

@@ -1,6 +1,0 @@
--- The copies so far are the texts so far.
-use Rattle.std.proofs.Common.{◌≡◌, take}
-use Rattle.just_outside.proofs.copies.copy_texts.Given as goal
-
-abbrev pub invariant-loop-text : goal.invariant-loop-text
-invariant-loop-text l = l.copies.items ≡ take l.text-index l.texts
