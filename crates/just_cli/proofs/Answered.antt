@@ -4,41 +4,51 @@ use Rattle.std.specs.Prelude.{MatchResult}
 use Rattle.std.proofs.Math.Logic.{∥∥₁_map, ∥∥₁_elim}
 use Rattle.just_outside.specs.World.{World}
 use Rattle.just_sched.specs.declared.plan.Plan.{Plan}
-use Rattle.just_sched.specs.declared.plan_node.PlanNode.{PlanNode}
 use Rattle.just_cli.specs.declared.ended.Failure.{Failure}
 use Rattle.just_cli.specs.declared.ended.Report.{Report}
 use Rattle.just_cli.specs.declared.error.Error.{Error}
-use Rattle.just_cli.specs.Request.{AsksRun, IsAsked, Refuses, RefusedFor, by_request, by_host, no_memory}
-use Rattle.just_cli.specs.Answered.{HasNodes, IsBeside, IsAnswered}
-use Rattle.just_cli.proofs.Requests.{not_refused, one_run, one_refusal}
+use Rattle.just_cli.specs.Request.{Outline, outline_of, Asks, IsAsked, RefusedFor, by_request, by_host, no_memory}
+use Rattle.just_cli.specs.Answered.{IsBeside, Fits, IsAnswered}
+use Rattle.just_cli.proofs.Requests.{one_answer}
+use Rattle.just_cli.proofs.Steps.{same_found, refused_or_found}
 
-beside : (words : List (List ℕ)) (w : World) (nodes : List PlanNode) (invocations : List ℕ) (e : Error) → AsksRun words w nodes invocations → RefusedFor words (Some w) e → IsBeside words (Some w) e
-beside words w nodes invocations e a (by_request f is) = absurd (not_refused words w nodes invocations f a is)
-beside words w nodes invocations e a (by_host f is) = inl is
-beside words w nodes invocations e a no_memory = inr refl
+-- the plan of a run is the one that is asked for
+own_plan : (words : List (List ℕ)) (w : World) (p : Plan) (q : Outline) → Asks words w (Ok q) → IsAsked words (Some w) p → ∥ outline_of p ≡ q ∥₁
+own_plan words w p q asks asked = ∥∥₁_map asked (λ k. same_found (outline_of p) q (one_answer words w (Ok (outline_of p)) (Ok q) k asks))
 
-own_error : (words : List (List ℕ)) (w : World) (e f : Error) → Refuses words w e → RefusedFor words (Some w) f → (f ≡ e) ⊎ IsBeside words (Some w) f
-own_error words w e f r (by_request g is) = inl (one_refusal words w g e is r)
-own_error words w e f r (by_host g is) = inr (inl is)
-own_error words w e f r no_memory = inr (inr refl)
+-- a request that is a refusal has no plan
+no_plan : (words : List (List ℕ)) (w : World) (e : Error) (p : Plan) → Asks words w (Err e) → IsAsked words (Some w) p → ⊥
+no_plan words w e p asks asked = ∥∥₁_elim asked (λ x y. absurd x) (λ k. refused_or_found e (outline_of p) (one_answer words w (Err e) (Ok (outline_of p)) asks k))
 
-own_plan : (words : List (List ℕ)) (w : World) (nodes : List PlanNode) (invocations : List ℕ) (p : Plan) → AsksRun words w nodes invocations → IsAsked words (Some w) p → HasNodes nodes invocations p
-own_plan words w nodes invocations p a asked = ∥∥₁_map asked (λ k. one_run words w p.nodes nodes p.invocations invocations k a)
+-- a request that is a run is refused by the host alone, or by want of memory
+beside : (words : List (List ℕ)) (w : World) (q : Outline) (e : Error) → Asks words w (Ok q) → RefusedFor words (Some w) e → IsBeside words (Some w) e
+beside words w q e asks (by_request is) = absurd (refused_or_found e q (one_answer words w (Err e) (Ok q) is asks))
+beside words w q e asks (by_host is) = inl is
+beside words w q e asks (no_memory is) = inr is
 
-no_plan : (words : List (List ℕ)) (w : World) (e : Error) (p : Plan) → Refuses words w e → IsAsked words (Some w) p → ⊥
-no_plan words w e p r asked = ∥∥₁_elim asked (λ x y. absurd x) (λ k. not_refused words w p.nodes p.invocations e k r)
+-- a request that is a refusal is refused by its own error, or so
+own_error : (words : List (List ℕ)) (w : World) (e f : Error) → Asks words w (Err e) → RefusedFor words (Some w) f → (f ≡ e) ⊎ IsBeside words (Some w) f
+own_error words w e f asks (by_request is) = let both = one_answer words w (Err f) (Err e) is asks in let same : f ≡ e = cc in inl same
+own_error words w e f asks (by_host is) = inr (inl is)
+own_error words w e f asks (no_memory is) = inr (inr is)
 
-granted_ill : (words : List (List ℕ)) (w : World) (nodes : List PlanNode) (invocations : List ℕ) (plan : Option Plan) (e : Error) → AsksRun words w nodes invocations → MatchOption plan (Unit {0}) (λ p. IsAsked words (Some w) p) → (plan ≡ None → ∥ RefusedFor words (Some w) e ∥₁) → MatchOption plan (∥ IsBeside words (Some w) e ∥₁) (λ p. HasNodes nodes invocations p)
-granted_ill words w nodes invocations None e a asked refused = ∥∥₁_map (refused refl) (λ k. beside words w nodes invocations e a k)
-granted_ill words w nodes invocations (Some p) e a asked refused = own_plan words w nodes invocations p a asked
+granted : (words : List (List ℕ)) (w : World) (q : Outline) (plan : Option Plan) (e : Error) → Asks words w (Ok q) → MatchOption plan (Unit {0}) (λ p. IsAsked words (Some w) p) → (plan ≡ None → ∥ RefusedFor words (Some w) e ∥₁) → MatchOption plan (∥ IsBeside words (Some w) e ∥₁) (λ p. ∥ outline_of p ≡ q ∥₁)
+granted words w q None e asks asked refused = ∥∥₁_map (refused refl) (λ k. beside words w q e asks k)
+granted words w q (Some p) e asks asked refused = own_plan words w p q asks asked
 
-denied_ill : (words : List (List ℕ)) (w : World) (e : Error) (plan : Option Plan) (f : Error) → Refuses words w e → MatchOption plan (Unit {0}) (λ p. IsAsked words (Some w) p) → (plan ≡ None → ∥ RefusedFor words (Some w) f ∥₁) → (plan ≡ None) × ∥ (f ≡ e) ⊎ IsBeside words (Some w) f ∥₁
-denied_ill words w e None f r asked refused = (refl, ∥∥₁_map (refused refl) (λ k. own_error words w e f r k))
-denied_ill words w e (Some p) f r asked refused = absurd (no_plan words w e p r asked)
+denied : (words : List (List ℕ)) (w : World) (e : Error) (plan : Option Plan) (f : Error) → Asks words w (Err e) → MatchOption plan (Unit {0}) (λ p. IsAsked words (Some w) p) → (plan ≡ None → ∥ RefusedFor words (Some w) f ∥₁) → (plan ≡ None) × ∥ (f ≡ e) ⊎ IsBeside words (Some w) f ∥₁
+denied words w e None f asks asked refused = (refl, ∥∥₁_map (refused refl) (λ k. own_error words w e f asks k))
+denied words w e (Some p) f asks asked refused = absurd (no_plan words w e p asks asked)
 
+fits : (words : List (List ℕ)) (w : World) (answer : Result Report Failure) (r : Result Outline Error) → Asks words w r
+    → MatchResult answer (λ r. IsAsked words (Some w) r.plan) (λ f. MatchOption f.plan (Unit {0}) (λ p. IsAsked words (Some w) p)) → IfErr answer (λ f. f.plan ≡ None → ∥ RefusedFor words (Some w) f.error ∥₁) → Fits words (Some w) answer r
+fits words w (Ok report) (Ok q) asks asked refused = own_plan words w report.plan q asks asked
+fits words w (Ok report) (Err e) asks asked refused = no_plan words w e report.plan asks asked
+fits words w (Err f) (Ok q) asks asked refused = granted words w q f.plan f.error asks asked refused
+fits words w (Err f) (Err e) asks asked refused = denied words w e f.plan f.error asks asked refused
+
+-- a result whose plan is asked for, and whose refusals have their reasons, fits the request
 pub answered : (words : List (List ℕ)) (told : Option World) (answer : Result Report Failure)
     → MatchResult answer (λ r. IsAsked words told r.plan) (λ f. MatchOption f.plan (Unit {0}) (λ p. IsAsked words told p)) → IfErr answer (λ f. f.plan ≡ None → ∥ RefusedFor words told f.error ∥₁) → IsAnswered words told answer
-answered words None answer asked refused = record { granted = tt; denied = tt }
-answered words (Some w) (Ok r) asked refused = record { granted = λ nodes invocations a. own_plan words w nodes invocations r.plan a asked; denied = λ e is. no_plan words w e r.plan is asked }
-answered words (Some w) (Err f) asked refused =
-    record { granted = λ nodes invocations a. granted_ill words w nodes invocations f.plan f.error a asked refused; denied = λ e is. denied_ill words w e f.plan f.error is asked refused }
+answered words None answer asked refused = tt
+answered words (Some w) answer asked refused = λ r asks. fits words w answer r asks asked refused

@@ -1,14 +1,19 @@
 -- That a record shows the error of a run that failed.
-use Rattle.std.proofs.Common.{◌≡◌, ℕ, ◌-◌, inl, inr, true, List, length, slice_get, Contains, Option, Some, None, pos, true≢false, refl, ap, sym, subst, arith}
+use Rattle.std.proofs.Common.{◌≡◌, ℕ, suc, ◌-◌, inl, inr, true, List, [], ◌∷◌, length, slice_get, Contains, Option, Some, None, pos, true≢false, refl, ap, sym, subst, arith}
 use Rattle.std.specs.List.{last_or}
 use Rattle.std.specs.Cmp.{signed_Decides}
 use Rattle.std.proofs.lemmas.List.Elements.{All-contains}
+use Rattle.just_path.specs.declared.host.Miss.{Miss}
+use Rattle.just_outside.specs.declared.entry.Call.{Call}
+use Rattle.just_outside.specs.declared.entry.Call.TheVariants as call
 use Rattle.just_outside.specs.declared.entry.Entry.{Entry}
 use Rattle.just_outside.specs.declared.entry.Entry.TheVariants as entry
 use Rattle.just_outside.specs.declared.entry.HostFault.TheVariants as fault
 use Rattle.just_outside.specs.declared.entry.Status.{Status}
 use Rattle.just_outside.specs.declared.entry.Status.TheVariants as status
+use Rattle.just_outside.specs.declared.signal.Signal.{Signal}
 use Rattle.just_sched.specs.declared.event.Event.{Event}
+use Rattle.just_sched.specs.declared.event.Event.TheVariants as event
 use Rattle.just_sched.specs.declared.event.Reason.{Reason}
 use Rattle.just_sched.specs.declared.event.Reason.TheVariants as reason
 use Rattle.just_sched.specs.declared.event.Verdict.{Verdict}
@@ -20,17 +25,25 @@ use Rattle.just_sched.specs.Nodes.{work_in}
 use Rattle.just_sched.specs.Works.{commands_of, after}
 use Rattle.just_sched.specs.Legal.{Run, IsLegal}
 use Rattle.just_sched.specs.Match.{Matches}
-use Rattle.just_sched.specs.State.{statuses, reason_of, next_step}
-use Rattle.just_sched.proofs.Causes.{last_end, status_failed, failed_code, fault_caused, miss_caused}
+use Rattle.just_sched.specs.State.{statuses, reason_of, caught_signal, next_step}
+use Rattle.just_sched.specs.Verdict.{IsVerdict}
+use Rattle.just_sched.specs.Causes.{ShowsFailure, ShowsMiss}
+use Rattle.just_sched.proofs.Laws.{last_status_shown, failed_by_statuses, failing_code, failed_call_shown, missed_call_shown, caught_signal_shown}
 use Rattle.just_cli.specs.declared.error.Error.{Error}
 use Rattle.just_cli.specs.declared.error.Error.TheVariants as error
-use Rattle.just_cli.specs.Caused.{IsCaused, ShowsEnd}
-use Rattle.just_cli.specs.Outcome.{name_of, line_of, failure_error, last_error, error_in, node_error, IsErrorFor}
+use Rattle.just_cli.specs.Caused.{IsCaused, ShowsEnd, HasFailed}
+use Rattle.just_cli.specs.Outcome.{name_of, line_of, miss_error, fault_error, failure_error, last_error, error_in, node_error, IsErrorFor}
+
+-- the signal that was caught first has its event
+caught_there : (h : List Event) (g : Signal) → caught_signal h ≡ Some g → Contains h (event.Caught g)
+caught_there [] g q = absurd (cc)
+caught_there (event.Caught x ∷ h) g q = let same : x ≡ g = cc in (0, omega arith, ap (λ k. event.Caught k) same)
+caught_there (e ∷ h) g q = let c = caught_there h g q in (suc c.0, omega (arith, c.1), c.2)
 
 module _ (s : Run) (h : List Event) (es : List Entry) (legal : IsLegal s h) (matches : Matches s h es) where
   the_end : (n : ℕ) (x : PlanNode) (t : Status) → slice_get s.nodes n ≡ Some x → next_step s.nodes h n ≡ step.Failed → last_or None (statuses h n) ≡ Some t → ShowsEnd s.nodes h es (name_of x) (line_of (slice_get (commands_of x.work) (length (statuses h n) - 1))) t
   the_end n x t is fails q =
-      let last = last_end s h es n t legal matches q in
+      let last = last_status_shown s h es n t legal matches q in
       let place : length (statuses h n) - 1 ≡ last.place = omega (arith, last.is_last) in
       record {
         number = n;
@@ -47,40 +60,77 @@ module _ (s : Run) (h : List Event) (es : List Entry) (legal : IsLegal s h) (mat
 
   by_status : (n : ℕ) (x : PlanNode) (o : Option Status) → slice_get s.nodes n ≡ Some x → next_step s.nodes h n ≡ step.Failed → last_or None (statuses h n) ≡ o → IsCaused s.nodes h (last_error x (statuses h n) o) es
   by_status n x (Some (status.Code z)) is fails q =
-      (failed_code x.work (statuses h n) z (subst (λ o. after (work_in o) (statuses h n) ≡ step.Failed) is fails) q, the_end n x (status.Code z) is fails q)
+      (failing_code x.work (statuses h n) z (subst (λ o. after (work_in o) (statuses h n) ≡ step.Failed) is fails) q, the_end n x (status.Code z) is fails q)
   by_status n x (Some (status.Signal z)) is fails q = the_end n x (status.Signal z) is fails q
   by_status n x (Some status.Unknown) is fails q = the_end n x status.Unknown is fails q
   by_status n x None is fails q = tt
 
+  -- a node that failed for that reason
+  abbrev has_failed : (n : ℕ) (x : PlanNode) (r : Reason) → slice_get s.nodes n ≡ Some x → reason_of h n ≡ Some r → HasFailed s.nodes h (name_of x) r
+  has_failed n x r is q = record { number = n; node = x; is_node = is; recipe_is = refl; reason_is = q }
+
+  by_miss : (n : ℕ) (x : PlanNode) (c : Call) (m : Miss) → slice_get s.nodes n ≡ Some x → reason_of h n ≡ Some (reason.Place c m) → IsCaused s.nodes h (miss_error x c m) es
+  by_miss n x call.Temp m is q = (has_failed n x (reason.Place call.Temp m) is q, missed_call_shown s h es n call.Temp m matches q)
+  by_miss n x c m is q = missed_call_shown s h es n c m matches q
+
+  by_fault : (n : ℕ) (x : PlanNode) (c : Call) → slice_get s.nodes n ≡ Some x → reason_of h n ≡ Some (reason.Fault c) → IsCaused s.nodes h (fault_error x (statuses h n) c) es
+  by_fault n x call.Print is q = (refl, failed_call_shown s h es n call.Print matches q)
+  by_fault n x call.Temp is q = (refl, has_failed n x (reason.Fault call.Temp) is q, failed_call_shown s h es n call.Temp matches q)
+  by_fault n x call.Start is q = (record { failed = has_failed n x (reason.Fault call.Start) is q; shell_is = refl; call_is = inl refl }, failed_call_shown s h es n call.Start matches q)
+  by_fault n x call.Wait is q = (record { failed = has_failed n x (reason.Fault call.Wait) is q; shell_is = refl; call_is = inr refl }, failed_call_shown s h es n call.Wait matches q)
+  by_fault n x c is q = failed_call_shown s h es n c matches q
+
   by_reason : (n : ℕ) (x : PlanNode) (o : Option Reason) → slice_get s.nodes n ≡ Some x → reason_of h n ≡ o → IsCaused s.nodes h (failure_error x (statuses h n) o) es
-  by_reason n x (Some reason.Status) is q = by_status n x (last_or None (statuses h n)) is (status_failed s h n legal q) refl
-  by_reason n x (Some (reason.Place c m)) is q = miss_caused s h es n c m matches q
-  by_reason n x (Some (reason.Fault c)) is q = fault_caused s h es n c matches q
+  by_reason n x (Some reason.Status) is q = by_status n x (last_or None (statuses h n)) is (failed_by_statuses s h n legal q) refl
+  by_reason n x (Some (reason.Place c m)) is q = by_miss n x c m is q
+  by_reason n x (Some (reason.Fault c)) is q = by_fault n x c is q
   by_reason n x _ is q = tt
 
   by_node : (n : ℕ) (o : Option PlanNode) → slice_get s.nodes n ≡ o → IsCaused s.nodes h (error_in o h n) es
   by_node n (Some x) is = by_reason n x (reason_of h n) is refl
   by_node n None is = tt
 
-  same_cause : (e f : Error) → Some e ≡ Some f → IsCaused s.nodes h f es → IsCaused s.nodes h e es
-  same_cause e f q c = let same : f ≡ e = cc in subst (λ k. IsCaused s.nodes h k es) same c
+  same_cause : (e f : Error) → e ≡ f → IsCaused s.nodes h f es → IsCaused s.nodes h e es
+  same_cause e f same c = subst (λ k. IsCaused s.nodes h k es) (sym same) c
 
-  -- the error of a verdict is shown
-  pub caused : (v : Verdict) (e : Error) → IsErrorFor s.nodes h v (Some e) → IsCaused s.nodes h e es
-  caused verdict.Well e is = absurd (cc)
-  caused (verdict.Failed n) e (inl is) = same_cause e (node_error s.nodes h n) is (by_node n (slice_get s.nodes n) refl)
-  caused (verdict.Failed n) e (inr is) = same_cause e error.NoMemory is tt
-  caused (verdict.Interrupted signal) e is = same_cause e error.NoMemory is tt
-  caused verdict.NoMemory e is = same_cause e error.NoMemory is tt
+  -- the error of a history's verdict is shown
+  pub caused : (v : Verdict) (e : Error) → IsVerdict s h v → IsErrorFor s.nodes h v (Some e) → IsCaused s.nodes h e es
+  caused verdict.Well e judged is = absurd (cc)
+  caused (verdict.Failed n) e judged (inl is) = same_cause e (node_error s.nodes h n) is (by_node n (slice_get s.nodes n) refl)
+  caused (verdict.Failed n) e judged (inr is) = same_cause e error.NoMemory is.1 tt
+  caused (verdict.Interrupted signal) e judged is =
+      let same : e ≡ error.Interrupted signal = cc in
+      same_cause e (error.Interrupted signal) same (caught_there h signal judged.1, caught_signal_shown s h es signal matches judged.1)
+  caused verdict.NoMemory e judged is = let same : e ≡ error.NoMemory = cc in same_cause e error.NoMemory same tt
 
 -- ---- favourable records
 
+-- entries each of which is favourable
+abbrev AreFine : List Entry → Type 0
+AreFine es = (x : Entry) → Contains es x → is_favourable x ≡ true
+
+no_failure : (c : Call) (es : List Entry) → ShowsFailure c es → AreFine es → ⊥
+no_failure c es (inl a) all = true≢false (sym (all (entry.Failed c) a))
+no_failure c es (inr b) all = true≢false (sym (all (entry.Strayed b.1 b.2) b.3))
+
+no_miss : (m : Miss) (es : List Entry) → ShowsMiss m es → AreFine es → ⊥
+no_miss m es a all = true≢false (sym (all (entry.Missed a.0 m) a.1))
+
 -- a record in which nothing stood against the run shows no cause but want of memory
 pub memory_alone : (nodes : List PlanNode) (h : List Event) (e : Error) (es : List Entry) → IsCaused nodes h e es → ((x : Entry) → Contains es x → is_favourable x ≡ true) → e ≡ error.NoMemory
-memory_alone nodes h (error.FilesystemIo path (fault.Failed c)) es (inl a) all = absurd (true≢false (sym (all (entry.Failed c) a)))
-memory_alone nodes h (error.FilesystemIo path (fault.Failed c)) es (inr b) all = absurd (true≢false (sym (all (entry.Strayed b.1 b.2) b.3)))
-memory_alone nodes h (error.FilesystemIo path (fault.Missed m)) es c all = absurd (true≢false (sym (all (entry.Missed c.0 m) c.1)))
-memory_alone nodes h (error.FilesystemIo path fault.NoMemory) es c all = absurd c
+memory_alone nodes h (error.FilesystemIo path (fault.Failed c)) es a all = absurd (no_failure c es a all)
+memory_alone nodes h (error.FilesystemIo path (fault.Missed m)) es a all = absurd (no_miss m es a all)
+memory_alone nodes h (error.FilesystemIo path fault.NoMemory) es a all = absurd a
+memory_alone nodes h (error.ShellIo recipe shell (fault.Failed c)) es a all = absurd (no_failure c es a.1 all)
+memory_alone nodes h (error.ShellIo recipe shell (fault.Missed m)) es a all = absurd a
+memory_alone nodes h (error.ShellIo recipe shell fault.NoMemory) es a all = absurd a
+memory_alone nodes h (error.TempdirIo recipe (fault.Failed c)) es a all = absurd (no_failure call.Temp es a.2 all)
+memory_alone nodes h (error.TempdirIo recipe (fault.Missed m)) es a all = absurd (no_miss m es a.1 all)
+memory_alone nodes h (error.TempdirIo recipe fault.NoMemory) es a all = absurd a
+memory_alone nodes h (error.StdoutIo (fault.Failed c)) es a all = absurd (no_failure call.Print es a.1 all)
+memory_alone nodes h (error.StdoutIo (fault.Missed m)) es a all = absurd a
+memory_alone nodes h (error.StdoutIo fault.NoMemory) es a all = absurd a
+memory_alone nodes h (error.Interrupted signal) es a all = absurd (true≢false (sym (all (entry.Signalled signal) a.1)))
 memory_alone nodes h (error.Code recipe line code message) es c all = absurd (c.0 ((signed_Decides code (pos 0)).0 (all (entry.Ended c.1.child (status.Code code)) c.1.ended_so)))
 memory_alone nodes h (error.Signal recipe line signal) es c all = absurd (true≢false (sym (all (entry.Ended c.child (status.Signal signal)) c.ended_so)))
 memory_alone nodes h (error.Unknown recipe line) es c all = absurd (true≢false (sym (all (entry.Ended c.child status.Unknown) c.ended_so)))

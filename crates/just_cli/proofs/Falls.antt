@@ -1,38 +1,41 @@
 -- What follows for a run that failed, or came to its end, from what it left.
-use Rattle.std.proofs.Common.{◌≡◌, ℕ, zero, suc, ◌<◌, ◌++◌, inl, inr, Bool, true, false, cond, List, [], ◌∷◌, count_by, Contains, Option, Some, None, Result, Ok, Err, IfErr, MatchOption, refl, ap, sym, ◌∙◌, subst, append_assoc, arith}
+use Rattle.std.proofs.Common.{◌≡◌, ℕ, zero, suc, ◌+◌, ◌<◌, ◌++◌, ◌||◌, inl, inr, Bool, true, false, cond, List, [], ◌∷◌, count_by, Contains, Option, Some, None, Result, Ok, Err, IfErr, MatchOption, refl, ap, sym, ◌∙◌, subst, append_assoc, arith}
 use Rattle.std.specs.List.{list_any}
 use Rattle.std.proofs.Math.Bridge.{le_prop}
 use Rattle.std.proofs.Math.Logic.{∥∥₁_elim}
 use Rattle.std.proofs.lemmas.List.{append_cancel_left}
-use Rattle.std.proofs.lemmas.List.Elements.{All-contains, Contains-append_left}
+use Rattle.std.proofs.lemmas.List.Elements.{All-contains, Contains-append_left, Contains-append_right}
 use Rattle.std.proofs.lemmas.List.Folds.{list_any-append}
 use Rattle.std.proofs.lemmas.List.Sums.{sum_by-append, sum_by-cons}
 use Rattle.just_outside.specs.World.{World}
-use Rattle.just_outside.specs.Record.{faults_of, misses_of, is_failed, is_missed, is_started}
+use Rattle.just_outside.specs.Record.{refused, faults_of, misses_of, is_failed, is_missed, is_started}
+use Rattle.just_path.specs.declared.host.Miss.{Miss}
+use Rattle.just_outside.specs.declared.entry.Call.{Call}
+use Rattle.just_outside.specs.declared.entry.Call.TheVariants as call
 use Rattle.just_outside.specs.declared.entry.Entry.{Entry}
 use Rattle.just_outside.specs.declared.entry.Entry.TheVariants as entry
+use Rattle.just_outside.specs.declared.entry.HostFault.{HostFault}
 use Rattle.just_outside.specs.declared.entry.HostFault.TheVariants as fault
 use Rattle.just_sched.specs.declared.event.Event.{Event}
 use Rattle.just_sched.specs.declared.plan.Plan.{Plan}
 use Rattle.just_sched.specs.declared.plan_node.PlanNode.{PlanNode}
+use Rattle.just_sched.specs.Causes.{ShowsFailure, ShowsMiss}
 use Rattle.just_sched.specs.Favourable.{is_favourable, IsFavourable}
-use Rattle.just_sched.specs.Start.{Start, run_of}
-use Rattle.just_sched.specs.Start.{Kept as IsKept}
-use Rattle.just_sched.proofs.Keeps.{neither}
-use Rattle.just_sched.proofs.Sane.{none_zero}
-use Rattle.just_sched.proofs.Totals.{matched_children}
+use Rattle.just_sched.specs.Start.{Start, IsKept, run_of}
+use Rattle.just_sched.proofs.Laws.{nothing_started}
 use Rattle.just_cli.specs.declared.ended.Failure.{Failure}
 use Rattle.just_cli.specs.declared.ended.Report.{Report}
 use Rattle.just_cli.specs.declared.error.Error.{Error}
 use Rattle.just_cli.specs.declared.error.Error.TheVariants as error
-use Rattle.just_cli.specs.Caused.{IsCaused, is_fault, is_miss}
+use Rattle.just_cli.specs.Caused.{IsCaused, is_failed_call, is_missed_call, is_fault, is_miss}
+use Rattle.just_cli.specs.Faults.{entries_of}
 use Rattle.just_cli.proofs.Caused.{memory_alone}
-use Rattle.just_cli.specs.Ran.{Fell, Refused, IsQuiet, entries_of}
+use Rattle.just_cli.specs.Record.{Stretches, EndsIll, EndsBefore, IsQuiet}
 use Rattle.just_cli.proofs.Worlds.{worlds_set, errors_set}
 
--- what is left where the result is a failure: with no plan, a refusal
-abbrev pub Failed : Result Report Failure → List Entry → List Entry → Type 0
-Failed r old new = IfErr r (λ f. MatchOption f.plan (∥ Refused f.error old new ∥₁) (λ p. ∥ Fell p f.history f.error old new ∥₁))
+-- what a failure leaves: with no plan, a refusal before the book
+abbrev pub Failed : Option ℕ → Result Report Failure → List Entry → List Entry → Type 0
+Failed jobs r old new = IfErr r (λ f. MatchOption f.plan (∥ EndsBefore f.error old new ∥₁) (λ p. ∥ EndsIll p jobs f.history f.error old new ∥₁))
 
 -- ---- counts
 
@@ -47,77 +50,123 @@ counted p (y ∷ es) x (zero, lt, is) q =
 counted p (y ∷ es) x (suc k, lt, is) q =
     omega (arith, sum_by-cons (λ e. cond (p e) 1 0) y es, counted p es x (k, omega (arith, lt), is) q)
 
-count_more : (p : Entry → Bool) (old mid post : List Entry) → 0 < count_by p mid → count_by p old < count_by p (old ++ (mid ++ post))
-count_more p old mid post some =
-    omega (arith, some, sum_by-append (λ x. cond (p x) 1 0) old (mid ++ post), sum_by-append (λ x. cond (p x) 1 0) mid post)
+counted_parts : (p : Entry → Bool) (old pre mid post : List Entry) → count_by p (old ++ (pre ++ (mid ++ post))) ≡ count_by p old + (count_by p pre + (count_by p mid + count_by p post))
+counted_parts p old pre mid post =
+    omega (arith, sum_by-append (λ x. cond (p x) 1 0) old (pre ++ (mid ++ post)), sum_by-append (λ x. cond (p x) 1 0) pre (mid ++ post), sum_by-append (λ x. cond (p x) 1 0) mid post)
+
+-- what is counted before the book, or while it is open, is more than was counted before
+more_before : (p : Entry → Bool) (old new : List Entry) (s : Stretches old new) → 0 < count_by p s.pre → count_by p old < count_by p new
+more_before p old new s some = omega (arith, some, ap (λ es. count_by p es) s.grew, counted_parts p old s.pre s.mid s.post)
+
+more_within : (p : Entry → Bool) (old new : List Entry) (s : Stretches old new) → 0 < count_by p s.mid → count_by p old < count_by p new
+more_within p old new s some = omega (arith, some, ap (λ es. count_by p es) s.grew, counted_parts p old s.pre s.mid s.post)
 
 -- a kind of entry that shows where a kind of error is told is counted
 module _ (p : Entry → Bool) (q : Error → Bool)
     (shown : (nodes : List PlanNode) (h : List Event) (e : Error) (es : List Entry) → IsCaused nodes h e es → q e ≡ true → 0 < count_by p es)
     (refusal : (e : Error) → q e ≡ true → 0 < count_by p (entries_of e)) where
-  rises : (o : Option Plan) (h : List Event) (e : Error) (old new : List Entry) → MatchOption o (∥ Refused e old new ∥₁) (λ plan. ∥ Fell plan h e old new ∥₁) → q e ≡ true → count_by p old < count_by p new
-  rises None h e old new failed is =
-      ∥∥₁_elim failed le_prop (λ k. subst (λ es. count_by p old < count_by p es) (sym k.grew) (count_more p old (entries_of e) k.post (refusal e is)))
-  rises (Some plan) h e old new failed is =
-      ∥∥₁_elim failed le_prop (λ k. subst (λ es. count_by p old < count_by p es) (sym k.grew) (count_more p old k.mid k.post (shown plan.nodes h e k.mid k.caused is)))
+  rises : (jobs : Option ℕ) (o : Option Plan) (h : List Event) (e : Error) (old new : List Entry) → MatchOption o (∥ EndsBefore e old new ∥₁) (λ plan. ∥ EndsIll plan jobs h e old new ∥₁) → q e ≡ true → count_by p old < count_by p new
+  rises jobs None h e old new failed is =
+      ∥∥₁_elim failed le_prop (λ k. more_before p old new k.stretches (subst (λ es. 0 < count_by p es) (sym k.prepared) (refusal e is)))
+  rises jobs (Some plan) h e old new failed is =
+      ∥∥₁_elim failed le_prop (λ k. more_within p old new k.stretches (shown plan.nodes h e k.stretches.mid k.caused is))
+
+failure_counted : (c : Call) (es : List Entry) → ShowsFailure c es → 0 < faults_of es
+failure_counted c es (inl a) = counted is_failed es (entry.Failed c) a refl
+failure_counted c es (inr b) = counted is_failed es (entry.Strayed b.1 b.2) b.3 refl
+
+miss_counted : (m : Miss) (es : List Entry) → ShowsMiss m es → 0 < misses_of es
+miss_counted m es c = counted is_missed es (entry.Missed c.0 m) c.1 refl
 
 fault_shown : (nodes : List PlanNode) (h : List Event) (e : Error) (es : List Entry) → IsCaused nodes h e es → is_fault e ≡ true → 0 < faults_of es
-fault_shown nodes h (error.FilesystemIo path (fault.Failed c)) es (inl a) is = counted is_failed es (entry.Failed c) a refl
-fault_shown nodes h (error.FilesystemIo path (fault.Failed c)) es (inr b) is = counted is_failed es (entry.Strayed b.1 b.2) b.3 refl
-fault_shown nodes h (error.FilesystemIo path (fault.Missed m)) es c is = absurd (cc)
-fault_shown nodes h (error.FilesystemIo path fault.NoMemory) es c is = absurd (cc)
-fault_shown nodes h _ es c is = absurd (cc)
-
-fault_refused : (e : Error) → is_fault e ≡ true → 0 < faults_of (entries_of e)
-fault_refused (error.FilesystemIo path (fault.Failed c)) is = omega arith
-fault_refused (error.FilesystemIo path (fault.Missed m)) is = absurd (cc)
-fault_refused (error.FilesystemIo path fault.NoMemory) is = absurd (cc)
-fault_refused _ is = absurd (cc)
+fault_shown nodes h (error.FilesystemIo path (fault.Failed c)) es a is = failure_counted c es a
+fault_shown nodes h (error.FilesystemIo path (fault.Missed m)) es a is = absurd (cc)
+fault_shown nodes h (error.FilesystemIo path fault.NoMemory) es a is = absurd (cc)
+fault_shown nodes h (error.ShellIo recipe shell (fault.Failed c)) es a is = failure_counted c es a.1
+fault_shown nodes h (error.ShellIo recipe shell (fault.Missed m)) es a is = absurd (cc)
+fault_shown nodes h (error.ShellIo recipe shell fault.NoMemory) es a is = absurd (cc)
+fault_shown nodes h (error.TempdirIo recipe (fault.Failed c)) es a is = failure_counted call.Temp es a.2
+fault_shown nodes h (error.TempdirIo recipe (fault.Missed m)) es a is = absurd (cc)
+fault_shown nodes h (error.TempdirIo recipe fault.NoMemory) es a is = absurd (cc)
+fault_shown nodes h (error.StdoutIo (fault.Failed c)) es a is = failure_counted call.Print es a.1
+fault_shown nodes h (error.StdoutIo (fault.Missed m)) es a is = absurd (cc)
+fault_shown nodes h (error.StdoutIo fault.NoMemory) es a is = absurd (cc)
+fault_shown nodes h _ es a is = absurd (cc)
 
 miss_shown : (nodes : List PlanNode) (h : List Event) (e : Error) (es : List Entry) → IsCaused nodes h e es → is_miss e ≡ true → 0 < misses_of es
-miss_shown nodes h (error.FilesystemIo path (fault.Missed m)) es c is = counted is_missed es (entry.Missed c.0 m) c.1 refl
-miss_shown nodes h (error.FilesystemIo path (fault.Failed m)) es c is = absurd (cc)
-miss_shown nodes h (error.FilesystemIo path fault.NoMemory) es c is = absurd (cc)
-miss_shown nodes h _ es c is = absurd (cc)
+miss_shown nodes h (error.FilesystemIo path (fault.Missed m)) es a is = miss_counted m es a
+miss_shown nodes h (error.FilesystemIo path (fault.Failed c)) es a is = absurd (cc)
+miss_shown nodes h (error.FilesystemIo path fault.NoMemory) es a is = absurd (cc)
+miss_shown nodes h (error.ShellIo recipe shell (fault.Failed c)) es a is = absurd (cc)
+miss_shown nodes h (error.ShellIo recipe shell (fault.Missed m)) es a is = absurd a
+miss_shown nodes h (error.ShellIo recipe shell fault.NoMemory) es a is = absurd (cc)
+miss_shown nodes h (error.TempdirIo recipe (fault.Missed m)) es a is = miss_counted m es a.1
+miss_shown nodes h (error.TempdirIo recipe (fault.Failed c)) es a is = absurd (cc)
+miss_shown nodes h (error.TempdirIo recipe fault.NoMemory) es a is = absurd (cc)
+miss_shown nodes h (error.StdoutIo (fault.Failed c)) es a is = absurd (cc)
+miss_shown nodes h (error.StdoutIo (fault.Missed m)) es a is = absurd a
+miss_shown nodes h (error.StdoutIo fault.NoMemory) es a is = absurd (cc)
+miss_shown nodes h _ es a is = absurd (cc)
+
+-- the entry of a refused call is counted
+failed_counted : (path : List ℕ) (io : HostFault) → is_failed_call (Some io) ≡ true → 0 < faults_of (refused path io)
+failed_counted path (fault.Failed c) is = omega arith
+failed_counted path (fault.Missed m) is = absurd (cc)
+failed_counted path fault.NoMemory is = absurd (cc)
+
+missed_counted : (path : List ℕ) (io : HostFault) → is_missed_call (Some io) ≡ true → 0 < misses_of (refused path io)
+missed_counted path (fault.Missed m) is = omega arith
+missed_counted path (fault.Failed c) is = absurd (cc)
+missed_counted path fault.NoMemory is = absurd (cc)
+
+fault_refused : (e : Error) → is_fault e ≡ true → 0 < faults_of (entries_of e)
+fault_refused (error.FilesystemIo path io) is = failed_counted path io is
+fault_refused (error.ShellIo recipe shell io) is = failed_counted [] io is
+fault_refused (error.TempdirIo recipe io) is = failed_counted [] io is
+fault_refused (error.StdoutIo io) is = failed_counted [] io is
+fault_refused _ is = absurd (cc)
 
 miss_refused : (e : Error) → is_miss e ≡ true → 0 < misses_of (entries_of e)
-miss_refused (error.FilesystemIo path (fault.Missed m)) is = omega arith
-miss_refused (error.FilesystemIo path (fault.Failed c)) is = absurd (cc)
-miss_refused (error.FilesystemIo path fault.NoMemory) is = absurd (cc)
+miss_refused (error.FilesystemIo path io) is = missed_counted path io is
+miss_refused (error.ShellIo recipe shell io) is = missed_counted [] io is
+miss_refused (error.TempdirIo recipe io) is = missed_counted [] io is
+miss_refused (error.StdoutIo io) is = missed_counted [] io is
 miss_refused _ is = absurd (cc)
 
--- the error of a failed call raised the host's count of faults
-pub faults_rise : (r : Result Report Failure) (old new : List Entry) (before after : ℕ) → Failed r old new → before ≡ faults_of old → after ≡ faults_of new → IfErr r (λ f. is_fault f.error ≡ true → before < after)
-faults_rise (Ok x) old new before after failed b a = tt
-faults_rise (Err f) old new before after failed b a = λ is. omega (arith, b, a, rises is_failed is_fault fault_shown fault_refused f.plan f.history f.error old new failed is)
+-- the failure of a call whose error is told is counted in the record
+pub faults_rise : (jobs : Option ℕ) (r : Result Report Failure) (old new : List Entry) → Failed jobs r old new → IfErr r (λ f. is_fault f.error ≡ true → faults_of old < faults_of new)
+faults_rise jobs (Ok x) old new failed = tt
+faults_rise jobs (Err f) old new failed = λ is. rises is_failed is_fault fault_shown fault_refused jobs f.plan f.history f.error old new failed is
 
-pub misses_rise : (r : Result Report Failure) (old new : List Entry) (before after : ℕ) → Failed r old new → before ≡ misses_of old → after ≡ misses_of new → IfErr r (λ f. is_miss f.error ≡ true → before < after)
-misses_rise (Ok x) old new before after failed b a = tt
-misses_rise (Err f) old new before after failed b a = λ is. omega (arith, b, a, rises is_missed is_miss miss_shown miss_refused f.plan f.history f.error old new failed is)
+pub misses_rise : (jobs : Option ℕ) (r : Result Report Failure) (old new : List Entry) → Failed jobs r old new → IfErr r (λ f. is_miss f.error ≡ true → misses_of old < misses_of new)
+misses_rise jobs (Ok x) old new failed = tt
+misses_rise jobs (Err f) old new failed = λ is. rises is_missed is_miss miss_shown miss_refused jobs f.plan f.history f.error old new failed is
 
 -- ---- favourable records
 
-memory_by : (o : Option Plan) (h : List Event) (e : Error) (old new : List Entry) → MatchOption o (∥ Refused e old new ∥₁) (λ plan. ∥ Fell plan h e old new ∥₁) → (p : Plan) → o ≡ Some p → (es : List Entry) → new ≡ old ++ es → IsFavourable es → e ≡ error.NoMemory
-memory_by None h e old new failed p is es grew good = absurd (cc)
-memory_by (Some plan) h e old new failed p is es grew good =
+memory_by : (jobs : Option ℕ) (o : Option Plan) (h : List Event) (e : Error) (old new : List Entry) → MatchOption o (∥ EndsBefore e old new ∥₁) (λ plan. ∥ EndsIll plan jobs h e old new ∥₁) → (p : Plan) → o ≡ Some p → (es : List Entry) → new ≡ old ++ es → IsFavourable es → e ≡ error.NoMemory
+memory_by jobs None h e old new failed p is es grew good = absurd (cc)
+memory_by jobs (Some plan) h e old new failed p is es grew good =
     ∥∥₁_elim failed (errors_set _ _) (λ k.
-    let same : k.mid ++ k.post ≡ es = append_cancel_left old (k.mid ++ k.post) es (sym k.grew ∙ grew) in
-    memory_alone plan.nodes h e k.mid k.caused (λ x c. All-contains (λ y. is_favourable y ≡ true) es x good (subst (λ ys. Contains ys x) same (Contains-append_left k.mid k.post x c))))
+    let s = k.stretches in
+    let same : s.pre ++ (s.mid ++ s.post) ≡ es = append_cancel_left old (s.pre ++ (s.mid ++ s.post)) es (sym s.grew ∙ grew) in
+    memory_alone plan.nodes h e s.mid k.caused (λ x c. All-contains (λ y. is_favourable y ≡ true) es x good
+    (subst (λ ys. Contains ys x) same (Contains-append_right s.pre (s.mid ++ s.post) x (Contains-append_left s.mid s.post x c)))))
 
 -- a run that failed over a favourable record wanted memory
-pub memory_wanted : (r : Result Report Failure) (old new : List Entry) → Failed r old new → IfErr r (λ f. (p : Plan) → f.plan ≡ Some p → (es : List Entry) → new ≡ old ++ es → IsFavourable es → f.error ≡ error.NoMemory)
-memory_wanted (Ok x) old new failed = tt
-memory_wanted (Err f) old new failed = memory_by f.plan f.history f.error old new failed
-
--- over a host that had no record before
-pub own_record : (r : Result Report Failure) (old new : List Entry) → old ≡ [] → IfErr r (λ f. (p : Plan) → f.plan ≡ Some p → (es : List Entry) → new ≡ old ++ es → IsFavourable es → f.error ≡ error.NoMemory) → IfErr r (λ f. (p : Plan) → f.plan ≡ Some p → IsFavourable new → f.error ≡ error.NoMemory)
-own_record (Ok x) old new none all = tt
-own_record (Err f) old new none all = λ p is good. all p is new (sym (ap (λ xs. xs ++ new) none)) good
+pub memory_wanted : (jobs : Option ℕ) (r : Result Report Failure) (old new : List Entry) → Failed jobs r old new → IfErr r (λ f. (p : Plan) → f.plan ≡ Some p → (es : List Entry) → new ≡ old ++ es → IsFavourable es → f.error ≡ error.NoMemory)
+memory_wanted jobs (Ok x) old new failed = tt
+memory_wanted jobs (Err f) old new failed = memory_by jobs f.plan f.history f.error old new failed
 
 -- ---- the world
 
+first_of : (a b : Bool) → (a || b) ≡ false → a ≡ false
+first_of true b e = absurd (cc)
+first_of false b e = refl
+
+-- what no entry of a list passes, none of its first part does
 quiet_front : (p : Entry → Bool) (mid post es : List Entry) → es ≡ mid ++ post → list_any p es ≡ false → list_any p mid ≡ false
-quiet_front p mid post es is none = (neither (list_any p mid) (list_any p post) (sym (list_any-append p mid post) ∙ (ap (λ xs. list_any p xs) (sym is) ∙ none))).0
+quiet_front p mid post es is none = first_of (list_any p mid) (list_any p post) (sym (list_any-append p mid post) ∙ (ap (λ xs. list_any p xs) (sym is) ∙ none))
 
 -- where no child was started and nothing failed, a drive leaves the world
 pub world_left : (s : Start) (h : List Event) (now new : List Entry) (v : Option World) (post es : List Entry) → ∥ IsKept s h now v ∥₁ → new ≡ now ++ post → new ≡ s.entries ++ es → IsQuiet es → v ≡ s.world
@@ -125,4 +174,4 @@ world_left s h now new v post es kept told grew quiet =
     ∥∥₁_elim kept (worlds_set _ _) (λ k.
     let same : es ≡ k.gained ++ post = append_cancel_left s.entries es (k.gained ++ post) (sym grew ∙ (told ∙ (ap (λ x. x ++ post) k.grew ∙ append_assoc s.entries k.gained post))) in
     let child = quiet_front is_started k.gained post es same quiet.no_child in
-    k.untouched (sym (matched_children (run_of s) h k.gained k.matches) ∙ none_zero is_started k.gained child) (quiet_front is_failed k.gained post es same quiet.no_failure))
+    k.untouched (nothing_started (run_of s) h k.gained k.matches child) (quiet_front is_failed k.gained post es same quiet.no_failure))

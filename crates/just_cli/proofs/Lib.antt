@@ -1,11 +1,14 @@
+-- The lemmas of the top calls.
 pub mod Answered
 pub mod Breaks
 pub mod Caused
+pub mod Chain
 pub mod Falls
-pub mod Plans
-pub mod Readings
-pub mod Refusals
+pub mod OneFile
+pub mod Over
+pub mod Planned
 pub mod Requests
 pub mod Runs
-pub mod Worlds
 pub mod Served
+pub mod Steps
+pub mod Worlds

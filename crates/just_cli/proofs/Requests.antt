@@ -1,27 +1,25 @@
--- A request is one: a run of one plan, or a refusal with one error.
-use Rattle.std.proofs.Common.{◌≡◌, ◌≤◌, ◌<◌, ℕ, List, [], ◌∷◌, length, Result, Ok, Err, refl, sym, ◌∙◌, ap, subst, arith}
+-- Each step of a request gives one answer at most, and so does the request.
+use Rattle.std.proofs.Common.{◌≡◌, ℕ, List, [], ◌∷◌, Result, Ok, Err, sym, ◌∙◌, ap, subst, arith}
 use Rattle.just_path.specs.declared.host.Miss.{Miss}
 use Rattle.just_outside.specs.declared.entry.HostFault.TheVariants as fault
-use Rattle.just_outside.specs.World.{World, told_read}
+use Rattle.just_outside.specs.World.{World}
 use Rattle.just_lang.specs.declared.ast.AstItem.{AstItem}
-use Rattle.just_lang.specs.declared.error.CompileError.{CompileError}
+use Rattle.just_lang.specs.declared.error.LangError.{LangError}
 use Rattle.just_lang.specs.declared.error.LangError.TheVariants as lang
 use Rattle.just_lang.specs.declared.usage.UsageKind.TheVariants as usage
-use Rattle.just_lang.specs.declared.TheConstants.{CLOSURE_LIMIT}
-use Rattle.just_lang.specs.Asked.{NamesRecipe, key_named}
-use Rattle.just_lang.specs.Form.{IsName, IsJustfile, recipes_of}
-use Rattle.just_lang.specs.Outside.{IsUnsupported}
-use Rattle.just_lang.specs.Walk.{walk, closure_of}
-use Rattle.just_sched.specs.declared.plan_node.PlanNode.{PlanNode}
-use Rattle.just_sched.specs.Planning.{plan_nodes}
+use Rattle.just_lang.specs.Form.{IsName, recipes_of}
+use Rattle.just_lang.proofs.Laws.{one_reading, never_both, one_fault}
 use Rattle.just_cli.specs.declared.error.Error.{Error}
 use Rattle.just_cli.specs.declared.error.Error.TheVariants as error
-use Rattle.just_cli.specs.Words.{AsksFor, BreaksForm, no_word, no_name, one_more}
-use Rattle.just_cli.specs.Request.{justfile_in, source_in, Reads, AsksRun, Refuses, not_built, unread, unsupported, unknown, too_long}
-use Rattle.just_cli.proofs.Readings.{one_reading, not_both, one_first}
+use Rattle.just_cli.specs.Faults.{ShowsAt}
+use Rattle.just_cli.specs.Words.{AsksFor, BreaksForm, no_word, no_name, one_more, ReadsWords}
+use Rattle.just_cli.specs.Request.{FolderRequest, JustfileRequest, Outline, source_in, justfile_in, FindsFolder, ReadsSource, ReadsJustfile, NamesKeys, ClosesKeys, MakesPlan, Plans, folder_shown, text_shown, Asks}
+use Rattle.just_cli.proofs.Steps.{GivesOne, same_refusal, refused_or_found, same_found, then_one}
+
+-- ---- the words
 
 -- words that ask for a recipe don't break their form
-pub form_kept : (words : List (List ℕ)) (name word : List ℕ) → AsksFor words name → BreaksForm words word → ⊥
+form_kept : (words : List (List ℕ)) (name word : List ℕ) → AsksFor words name → BreaksForm words word → ⊥
 form_kept words name word asks (no_word none e) = let is = asks.0 in let no : ⊥ = cc in no
 form_kept words name word asks (no_name others is breaks) =
     let both : name ∷ [] ≡ word ∷ others = sym asks.0 ∙ is in
@@ -31,6 +29,7 @@ form_kept words name word asks (one_more first others is named) =
     let both : name ∷ [] ≡ first ∷ word ∷ others = sym asks.0 ∙ is in
     let no : ⊥ = cc in no
 
+-- the first word that breaks the form is one
 one_word : (words : List (List ℕ)) (u v : List ℕ) → BreaksForm words u → BreaksForm words v → u ≡ v
 one_word words u v (no_word none e) (no_word none' f) = e ∙ sym f
 one_word words u v (no_word none e) (no_name others is breaks) = absurd (let no : ⊥ = cc in no)
@@ -42,102 +41,94 @@ one_word words u v (one_more first others is named) (no_word none e) = absurd (l
 one_word words u v (one_more first others is named) (no_name more at broken) = let same : first ≡ v = cc in absurd (broken (subst IsName same named))
 one_word words u v (one_more first others is named) (one_more other more at named') = cc
 
--- two readings of the words' justfile are one
-record AreOne (name other text more : List ℕ) : Type 0 where
-  names : name ≡ other
-  texts : text ≡ more
+-- the words are read in one way
+words_one : GivesOne ReadsWords
+words_one words (Ok a) (Ok b) p q =
+    let both : a ∷ [] ≡ b ∷ [] = sym p.0 ∙ q.0 in
+    let same : a ≡ b = cc in
+    ap (λ x. Ok x) same
+words_one words (Ok a) (Err f) p q = absurd (form_kept words a q.0 p q.1)
+words_one words (Err e) (Ok b) p q = absurd (form_kept words b p.0 q p.1)
+words_one words (Err e) (Err f) p q =
+    ap (λ x. Err x) (p.2 ∙ ap (λ t. error.Usage (record { kind = usage.NotBuilt; word = t })) (one_word words p.0 q.0 p.1 q.1) ∙ sym q.2)
 
-one_read : (words : List (List ℕ)) (w : World) (name other text more : List ℕ) → Reads words w name text → Reads words w other more → AreOne name other text more
-one_read words w name other text more a b =
-    let words_are : name ∷ [] ≡ other ∷ [] = sym a.asks.0 ∙ b.asks.0 in
-    let reads : ◌≡◌ {A = Result (List ℕ) Miss} (Ok text) (Ok more) = sym a.read ∙ b.read in
-    record { names = (let same : name ≡ other = cc in same); texts = (let same : text ≡ more = cc in same) }
+-- ---- the folder and its justfile
 
--- a text that is read is no miss
-read_there : (words : List (List ℕ)) (w : World) (name text : List ℕ) (m : Miss) → Reads words w name text → told_read w.tree (justfile_in w.current) ≡ Err m → ⊥
-read_there words w name text m a missed = let read = a.read in let no : ⊥ = cc in no
+-- what is shown at a path is one answer
+shown_one : (path : List ℕ) (shown : Result (List ℕ) Miss) (r s : Result (List ℕ) Error) → ShowsAt path shown r → ShowsAt path shown s → r ≡ s
+shown_one path shown (Ok x) (Ok y) p q =
+    let both : ◌≡◌ {A = Result (List ℕ) Miss} (Ok x) (Ok y) = sym p ∙ q in
+    let same : x ≡ y = cc in
+    ap (λ z. Ok z) same
+shown_one path shown (Ok x) (Err f) p q = let both : ◌≡◌ {A = Result (List ℕ) Miss} (Ok x) (Err q.0) = sym p ∙ q.1 in absurd (let no : ⊥ = cc in no)
+shown_one path shown (Err e) (Ok y) p q = let both : ◌≡◌ {A = Result (List ℕ) Miss} (Ok y) (Err p.0) = sym q ∙ p.1 in absurd (let no : ⊥ = cc in no)
+shown_one path shown (Err e) (Err f) p q =
+    let both : ◌≡◌ {A = Result (List ℕ) Miss} (Err p.0) (Err q.0) = sym p.1 ∙ q.1 in
+    let same : p.0 ≡ q.0 = cc in
+    ap (λ x. Err x) (p.2 ∙ ap (λ m. error.FilesystemIo path (fault.Missed m)) same ∙ sym q.2)
 
--- nor is it outside the form where it has items
-no_fault_in : (words : List (List ℕ)) (w : World) (name other text more : List ℕ) (e : CompileError) (xs : List AstItem) → Reads words w name text → Reads words w other more → IsJustfile text xs → IsUnsupported (source_in w.current more) (lang.Compile e) → ⊥
-no_fault_in words w name other text more e xs a b is out =
-    let one = one_read words w name other text more a b in
-    not_both more xs e.line (subst (λ t. IsJustfile t xs) one.texts is) out.3
+-- a folder that is given in one way is found in one way
+folder_one : (current : Result (List ℕ) Error → Type 0) → ((r s : Result (List ℕ) Error) → current r → current s → r ≡ s) → GivesOne (FindsFolder current)
+folder_one current one name (Ok a) (Ok b) p q =
+    ap (λ x. Ok x)
+    (ap (λ n. let k : FolderRequest = record { name = n; folder = a.folder } in k) (p.0 ∙ sym q.0)
+    ∙ ap (λ f. let k : FolderRequest = record { name = b.name; folder = f } in k) (same_found a.folder b.folder (one (Ok a.folder) (Ok b.folder) p.1 q.1)))
+folder_one current one name (Ok a) (Err f) p q = absurd (refused_or_found f a.folder (one (Err f) (Ok a.folder) q p.1))
+folder_one current one name (Err e) (Ok b) p q = absurd (refused_or_found e b.folder (one (Err e) (Ok b.folder) p q.1))
+folder_one current one name (Err e) (Err f) p q = same_refusal e f (one (Err e) (Err f) p q)
 
-one_items : (words : List (List ℕ)) (w : World) (name other text more : List ℕ) (xs ys : List AstItem) → Reads words w name text → Reads words w other more → IsJustfile text xs → IsJustfile more ys → xs ≡ ys
-one_items words w name other text more xs ys a b is at =
-    let one = one_read words w name other text more a b in
-    one_reading more xs ys (subst (λ t. IsJustfile t xs) one.texts is) at
+-- a justfile that is read in one way is one source
+source_one : (read : List ℕ → Result (List ℕ) Error → Type 0) → ((folder : List ℕ) (r s : Result (List ℕ) Error) → read folder r → read folder s → r ≡ s) → GivesOne (ReadsSource read)
+source_one read one k (Ok a) (Ok b) p q =
+    ap (λ x. Ok x) (p.2 ∙ ap (λ t. record { name = k.name; source = source_in k.folder t }) (same_found p.0 q.0 (one k.folder (Ok p.0) (Ok q.0) p.1 q.1)) ∙ sym q.2)
+source_one read one k (Ok a) (Err f) p q = absurd (refused_or_found f p.0 (one k.folder (Err f) (Ok p.0) q p.1))
+source_one read one k (Err e) (Ok b) p q = absurd (refused_or_found e q.0 (one k.folder (Err e) (Ok q.0) p q.1))
+source_one read one k (Err e) (Err f) p q = same_refusal e f (one k.folder (Err e) (Err f) p q)
 
--- a recipe that is there isn't lacking
-known_there : (words : List (List ℕ)) (w : World) (name other text more : List ℕ) (xs ys : List AstItem) → Reads words w name text → Reads words w other more → IsJustfile text xs → IsJustfile more ys → NamesRecipe (recipes_of xs) (key_named name) → (NamesRecipe (recipes_of ys) (key_named other) → ⊥) → ⊥
-known_there words w name other text more xs ys a b is at known lost =
-    let one = one_read words w name other text more a b in
-    lost (subst (λ n. NamesRecipe (recipes_of ys) (key_named n)) one.names (subst (λ zs. NamesRecipe (recipes_of zs) (key_named name)) (one_items words w name other text more xs ys a b is at) known))
+-- ---- the steps behind
 
--- a closure within the limit isn't over it
-few_there : (words : List (List ℕ)) (w : World) (name other text more : List ℕ) (xs ys : List AstItem) → Reads words w name text → Reads words w other more → IsJustfile text xs → IsJustfile more ys → length (walk (recipes_of xs) (key_named name ∷ [])) ≤ CLOSURE_LIMIT → CLOSURE_LIMIT < length (walk (recipes_of ys) (key_named other ∷ [])) → ⊥
-few_there words w name other text more xs ys a b is at few many =
-    let one = one_read words w name other text more a b in
-    let count : length (walk (recipes_of xs) (key_named name ∷ [])) ≡ length (walk (recipes_of ys) (key_named other ∷ [])) =
-    ap (λ zs. length (walk (recipes_of zs) (key_named name ∷ []))) (one_items words w name other text more xs ys a b is at) ∙ ap (λ n. length (walk (recipes_of ys) (key_named n ∷ []))) one.names in
-    omega (arith, few, many, count)
+-- a source is read as one justfile, or is outside the form by one error
+justfile_one : GivesOne ReadsJustfile
+justfile_one s (Ok a) (Ok b) p q =
+    ap (λ x. Ok x) (p.2 ∙ ap (λ (xs : List AstItem). let j : JustfileRequest = record { name = s.name; root = s.source.root; recipes = recipes_of xs } in j) (one_reading s.source.text p.0 q.0 p.1 q.1) ∙ sym q.2)
+justfile_one s (Ok a) (Err f) p q = absurd (never_both s.source p.0 (lang.Compile q.0) p.1 q.1)
+justfile_one s (Err e) (Ok b) p q = absurd (never_both s.source q.0 (lang.Compile p.0) q.1 p.1)
+justfile_one s (Err e) (Err f) p q =
+    let both : ◌≡◌ {A = LangError} (lang.Compile p.0) (lang.Compile q.0) = one_fault s.source (lang.Compile p.0) (lang.Compile q.0) p.1 q.1 in
+    let same : p.0 ≡ q.0 = cc in
+    ap (λ x. Err x) (p.2 ∙ ap (λ c. error.Compile c) same ∙ sym q.2)
 
--- a request that is a run is no refusal
-pub not_refused : (words : List (List ℕ)) (w : World) (nodes : List PlanNode) (invocations : List ℕ) (e : Error) → AsksRun words w nodes invocations → Refuses words w e → ⊥
-not_refused words w nodes invocations e a (not_built word breaks) = form_kept words a.name word a.reads.asks breaks
-not_refused words w nodes invocations e a (unread name m asks missed) = read_there words w a.name a.text m a.reads missed
-not_refused words w nodes invocations e a (unsupported name text c reads out) = no_fault_in words w a.name name a.text text c a.plan.items a.reads reads a.plan.justfile out
-not_refused words w nodes invocations e a (unknown name text reads lacks) = known_there words w a.name name a.text text a.plan.items lacks.items a.reads reads a.plan.justfile lacks.justfile a.plan.known lacks.unknown
-not_refused words w nodes invocations e a (too_long name text reads long) = few_there words w a.name name a.text text a.plan.items long.items a.reads reads a.plan.justfile long.justfile a.plan.few long.many
+-- a name has its keys, or names no recipe
+keys_one : GivesOne NamesKeys
+keys_one j (Ok a) (Ok b) p q = ap (λ x. Ok x) (p.1 ∙ sym q.1)
+keys_one j (Ok a) (Err f) p q = absurd (q.0 p.0)
+keys_one j (Err e) (Ok b) p q = absurd (p.0 q.0)
+keys_one j (Err e) (Err f) p q = ap (λ x. Err x) (p.1 ∙ sym q.1)
 
--- it is a run of one plan
-pub one_run : (words : List (List ℕ)) (w : World) (nodes others : List PlanNode) (invocations more : List ℕ) → AsksRun words w nodes invocations → AsksRun words w others more → (nodes ≡ others) × (invocations ≡ more)
-one_run words w nodes others invocations more a b =
-    let names = (one_read words w a.name b.name a.text b.text a.reads b.reads).names in
-    let items = one_items words w a.name b.name a.text b.text a.plan.items b.plan.items a.reads b.reads a.plan.justfile b.plan.justfile in
-    let nodes_of : List AstItem → List ℕ → List PlanNode = λ xs n. plan_nodes (recipes_of xs) w.current (closure_of (recipes_of xs) (key_named n ∷ [])).nodes in
-    let numbers_of : List AstItem → List ℕ → List ℕ = λ xs n. (closure_of (recipes_of xs) (key_named n ∷ [])).invocations in (
-      a.plan.nodes_are ∙ (ap (λ xs. nodes_of xs a.name) items ∙ (ap (λ n. nodes_of b.plan.items n) names ∙ sym b.plan.nodes_are)),
-      a.plan.invocations_are ∙ (ap (λ xs. numbers_of xs a.name) items ∙ (ap (λ n. numbers_of b.plan.items n) names ∙ sym b.plan.invocations_are)),
-    )
+-- keys have their closure, or one that is too long
+closure_one : GivesOne ClosesKeys
+closure_one k (Ok a) (Ok b) p q = ap (λ x. Ok x) (p.1 ∙ sym q.1)
+closure_one k (Ok a) (Err f) p q = let within = p.0 in let over = q.0 in absurd (omega (arith, within, over))
+closure_one k (Err e) (Ok b) p q = let within = q.0 in let over = p.0 in absurd (omega (arith, within, over))
+closure_one k (Err e) (Err f) p q = ap (λ x. Err x) (p.1 ∙ sym q.1)
 
-compile_same : (c d : CompileError) → c.kind ≡ d.kind → c.path ≡ d.path → c.line ≡ d.line → c.column ≡ d.column → c ≡ d
-compile_same c d kind path line column =
-    ap (λ k. let x : CompileError = record { kind = k; path = c.path; line = c.line; column = c.column } in x) kind
-    ∙ ap (λ p. let x : CompileError = record { kind = d.kind; path = p; line = c.line; column = c.column } in x) path
-    ∙ ap (λ n. let x : CompileError = record { kind = d.kind; path = d.path; line = n; column = c.column } in x) line
-    ∙ ap (λ n. let x : CompileError = record { kind = d.kind; path = d.path; line = d.line; column = n } in x) column
+-- a closure has its plan
+plan_one : GivesOne MakesPlan
+plan_one c (Ok a) (Ok b) p q = ap (λ x. Ok x) (p ∙ sym q)
+plan_one c (Ok a) (Err f) p q = absurd q
+plan_one c (Err e) s p q = absurd p
 
--- a refusal has one error
-pub one_refusal : (words : List (List ℕ)) (w : World) (e f : Error) → Refuses words w e → Refuses words w f → e ≡ f
-one_refusal words w e f (not_built u breaks) (not_built v broken) = ap (λ t. error.Usage (record { kind = usage.NotBuilt; word = t })) (one_word words u v breaks broken)
-one_refusal words w e f (not_built u breaks) (unread name m asks missed) = absurd (form_kept words name u asks breaks)
-one_refusal words w e f (not_built u breaks) (unsupported name text c reads out) = absurd (form_kept words name u reads.asks breaks)
-one_refusal words w e f (not_built u breaks) (unknown name text reads lacks) = absurd (form_kept words name u reads.asks breaks)
-one_refusal words w e f (not_built u breaks) (too_long name text reads long) = absurd (form_kept words name u reads.asks breaks)
-one_refusal words w e f (unread name m asks missed) (not_built v broken) = absurd (form_kept words name v asks broken)
-one_refusal words w e f (unread name m asks missed) (unread name' m' asks' missed') =
-    let both : ◌≡◌ {A = Result (List ℕ) Miss} (Err m) (Err m') = sym missed ∙ missed' in
-    let same : m ≡ m' = cc in
-    ap (λ x. error.FilesystemIo (justfile_in w.current) (fault.Missed x)) same
-one_refusal words w e f (unread name m asks missed) (unsupported other text c reads out) = absurd (read_there words w other text m reads missed)
-one_refusal words w e f (unread name m asks missed) (unknown other text reads lacks) = absurd (read_there words w other text m reads missed)
-one_refusal words w e f (unread name m asks missed) (too_long other text reads long) = absurd (read_there words w other text m reads missed)
-one_refusal words w e f (unsupported name text c reads out) (not_built v broken) = absurd (form_kept words name v reads.asks broken)
-one_refusal words w e f (unsupported name text c reads out) (unread other m asks missed) = absurd (read_there words w name text m reads missed)
-one_refusal words w e f (unsupported name text c reads out) (unsupported other more d reads' out') =
-    let one = one_read words w name other text more reads reads' in
-    let first = subst (λ t. IsUnsupported (source_in w.current t) (lang.Compile c)) one.texts out in
-    ap (λ x. error.Compile x) (compile_same c d (first.0 ∙ sym out'.0) (first.1 ∙ sym out'.1) (one_first _ c.line d.line first.3 out'.3) (first.2 ∙ sym out'.2))
-one_refusal words w e f (unsupported name text c reads out) (unknown other more reads' lacks) = absurd (no_fault_in words w other name more text c lacks.items reads' reads lacks.justfile out)
-one_refusal words w e f (unsupported name text c reads out) (too_long other more reads' long) = absurd (no_fault_in words w other name more text c long.items reads' reads long.justfile out)
-one_refusal words w e f (unknown name text reads lacks) (not_built v broken) = absurd (form_kept words name v reads.asks broken)
-one_refusal words w e f (unknown name text reads lacks) (unread other m asks missed) = absurd (read_there words w name text m reads missed)
-one_refusal words w e f (unknown name text reads lacks) (unsupported other more d reads' out) = absurd (no_fault_in words w name other text more d lacks.items reads reads' lacks.justfile out)
-one_refusal words w e f (unknown name text reads lacks) (unknown other more reads' lacks') = ap (λ n. error.UnknownRecipe n) (one_read words w name other text more reads reads').names
-one_refusal words w e f (unknown name text reads lacks) (too_long other more reads' long) = absurd (known_there words w other name more text long.items lacks.items reads' reads long.justfile lacks.justfile long.known lacks.unknown)
-one_refusal words w e f (too_long name text reads long) (not_built v broken) = absurd (form_kept words name v reads.asks broken)
-one_refusal words w e f (too_long name text reads long) (unread other m asks missed) = absurd (read_there words w name text m reads missed)
-one_refusal words w e f (too_long name text reads long) (unsupported other more d reads' out) = absurd (no_fault_in words w name other text more d long.items reads reads' long.justfile out)
-one_refusal words w e f (too_long name text reads long) (unknown other more reads' lacks) = absurd (known_there words w name other text more long.items lacks.items reads reads' long.justfile lacks.justfile long.known lacks.unknown)
-one_refusal words w e f (too_long name text reads long) (too_long other more reads' long') = refl
+-- ---- the chain
+
+-- a source has one plan of a recipe, or one refusal
+plans_one : GivesOne Plans
+plans_one = then_one ReadsJustfile _ justfile_one (then_one NamesKeys _ keys_one (then_one ClosesKeys MakesPlan closure_one plan_one))
+
+-- in a world words ask for one thing: a run of one plan, or a refusal with one error
+pub one_answer : (words : List (List ℕ)) (w : World) (r s : Result Outline Error) → Asks words w r → Asks words w s → r ≡ s
+one_answer words w =
+    let current = ShowsAt [] (folder_shown w) in
+    let read : List ℕ → Result (List ℕ) Error → Type 0 = λ folder. ShowsAt (justfile_in folder) (text_shown folder w) in
+    then_one ReadsWords _ words_one
+    (then_one (FindsFolder current) _ (folder_one current (shown_one [] (folder_shown w)))
+    (then_one (ReadsSource read) Plans (source_one read (λ folder. shown_one (justfile_in folder) (text_shown folder w))) plans_one)) words

@@ -1,88 +1,173 @@
--- What a run leaves, from what its drive kept.
-use Rattle.std.proofs.Common.{◌≡◌, ◌++◌, inl, inr, false, ℤ, List, Option, Some, None, Result, Err, sym, ◌∙◌, ap, subst, append_assoc}
-use Rattle.std.specs.Prelude.{IfErr, MatchOption}
+-- A run keeps its promise: from what its steps, its drive and the telling of its error ensure.
+use Rattle.std.proofs.Common.{◌≡◌, ◌⊎◌, ◌++◌, true, List, [], Option, Some, None, Result, Ok, Err, refl, sym, ◌∙◌, ap, subst, append_assoc, append-nil}
+use Rattle.std.specs.Prelude.{ℕ}
 use Rattle.std.proofs.Math.Logic.{∥∥₁_map}
 use Rattle.just_outside.specs.World.{World}
 use Rattle.just_outside.specs.declared.entry.Entry.{Entry}
 use Rattle.just_sched.specs.declared.event.Event.{Event}
-use Rattle.just_sched.specs.declared.plan.Plan.{Plan}
-use Rattle.just_sched.specs.declared.event.Idle.{Idle}
 use Rattle.just_sched.specs.declared.event.Verdict.{Verdict}
 use Rattle.just_sched.specs.declared.event.Verdict.TheVariants as verdict
+use Rattle.just_sched.specs.declared.plan.Plan.{Plan}
 use Rattle.just_sched.specs.declared.plan_node.PlanNode.{PlanNode}
-use Rattle.just_sched.specs.Idle.{IsIdle}
-use Rattle.just_sched.specs.Legal.{Run, IsClosed}
-use Rattle.just_sched.specs.State.{caught}
+use Rattle.just_sched.specs.Driven.{IsDriven}
+use Rattle.just_sched.specs.Idle.{HasWork}
+use Rattle.just_sched.specs.Legal.{Run, IsComplete}
+use Rattle.just_sched.specs.Start.{IsKept, run_over, start_with}
+use Rattle.just_sched.specs.State.{has_caught}
 use Rattle.just_sched.specs.Verdict.{IsVerdict, NoneDecides}
-use Rattle.just_sched.proofs.Ended.{all_done, no_work}
-use Rattle.just_cli.specs.Outcome.{IsErrorFor}
-use Rattle.just_sched.specs.Start.{begins, run_of}
-use Rattle.just_sched.specs.Start.{Kept as IsKept}
 use Rattle.just_cli.specs.declared.ended.Failure.{Failure}
 use Rattle.just_cli.specs.declared.ended.Report.{Report}
 use Rattle.just_cli.specs.declared.error.Error.{Error}
-use Rattle.just_cli.specs.Ran.{Ran, Fell, Refused, IsTold, entries_of, run_over}
+use Rattle.just_cli.specs.Faults.{entries_of}
+use Rattle.just_cli.specs.Outcome.{IsErrorFor}
+use Rattle.just_cli.specs.Record.{IsBook, IsTold, EndsWell, EndsIll, EndsBefore}
+use Rattle.just_cli.specs.Request.{outline_of, AsksOver, RefusedFor, OrMemory}
+use Rattle.just_cli.specs.Run.{IsRun, jobs_for}
+use Rattle.just_cli.specs.Texts.{exit_code}
+use Rattle.just_cli.proofs.Answered.{answered}
 use Rattle.just_cli.proofs.Caused.{caused, memory_left}
+use Rattle.just_cli.proofs.Falls.{faults_rise, misses_rise, memory_wanted, world_left}
+use Rattle.just_cli.proofs.Over.{asked_over, refused_over}
+use Rattle.just_cli.proofs.Served.{served}
 
--- where there is no error, no node's failure decides
-none_decides : (s : Run) (h : List Event) (nodes : List PlanNode) (shown : List Event) (verdict : Verdict) → IsErrorFor nodes shown verdict None → IsVerdict s h verdict → NoneDecides s h
-none_decides s h nodes shown verdict.Well e is = is.0
-none_decides s h nodes shown (verdict.Failed n) (inl e) is = absurd (cc)
-none_decides s h nodes shown (verdict.Failed n) (inr e) is = absurd (cc)
-none_decides s h nodes shown (verdict.Interrupted signal) e is = absurd (cc)
-none_decides s h nodes shown verdict.NoMemory e is = absurd (cc)
+-- what was told behind some stretch
+abbrev IsToldBehind : Error → List Entry → List Entry → Type 0
+IsToldBehind e now new = (es : List Entry) × (new ≡ now ++ es) × IsTold e es
 
-module _ (driven : Plan) (h : List Event) (old now : List Entry) (w v : Option World)
-    (kept : ∥ IsKept (begins driven None old w) h now v ∥₁) (closed : IsClosed (run_of (begins driven None old w)) h) where
-  ran_over : caught h ≡ false → (i : Idle) × IsIdle (run_over driven old) h i → NoneDecides (run_over driven old) h → ∥ Ran driven h old now ∥₁
-  ran_over calm idle well = ∥∥₁_map kept (λ k. record {
-    mid = k.gained;
-    grew = k.grew;
-    kept = record { legal = k.legal; closed = closed; matches = k.matches };
-    well = well;
-    complete = all_done (run_over driven old) h driven.well driven.unprompted k.legal closed calm well (no_work (run_over driven old) h idle.0 tt closed calm idle.1);
+-- ---- without a plan
+
+-- a refusal before the book
+pub ends_before : (e : Error) (old now new : List Entry) → now ≡ old ++ entries_of e → IsToldBehind e now new → EndsBefore e old new
+ends_before e old now new grew told = record {
+  stretches = record { pre = entries_of e; mid = []; post = told.0; grew = told.1 ∙ (ap (λ es. es ++ told.0) grew ∙ append_assoc old (entries_of e) told.0) };
+  prepared = refl;
+  unopened = refl;
+  told = told.2;
+}
+
+pub run_before : (words : List (List ℕ)) (told after : Option World) (old now new : List Entry) (r : Result Report Failure) (e : Error) (h : List Event)
+    → r ≡ Err (record { error = e; plan = None; history = h; code = exit_code e }) → h ≡ [] → OrMemory (λ f. AsksOver words told (Err f)) e
+    → now ≡ old ++ entries_of e → IsToldBehind e now new → after ≡ told → IsRun words told after old new r
+run_before words told after old now new r e h is no_history why grew tells world =
+    let f : Failure = record { error = e; plan = None; history = h; code = exit_code e } in
+    let jobs = jobs_for words in
+    let refused : f.plan ≡ None → ∥ RefusedFor words told e ∥₁ = λ _. refused_over words told e why in
+    let left : ∥ EndsBefore e old new ∥₁ = ∣ ends_before e old now new grew tells ∣₁ in
+    let fits = answered words told (Err f) tt refused in
+    subst (λ q. IsRun words told after old new q) (sym is) (record {
+      ran = tt;
+      asked = tt;
+      refused = refused;
+      answered = fits;
+      failed = left;
+      complete = served words told jobs (Err f) old new fits left;
+      unplanned = λ _. no_history;
+      code = refl;
+      favoured = memory_wanted jobs (Err f) old new left;
+      faults = faults_rise jobs (Err f) old new left;
+      misses = misses_rise jobs (Err f) old new left;
+      untouched = λ es grown quiet. world;
+    })
+
+-- ---- with a plan
+
+-- the run over a record with an empty stretch behind it is the run over the record
+same_run : (plan : Plan) (jobs : Option ℕ) (entered : List Entry) → run_over plan jobs (entered ++ []) ≡ run_over plan jobs entered
+same_run plan jobs entered = ap (λ es. run_over plan jobs es) (append-nil entered)
+
+module _ (plan : Plan) (jobs : Option ℕ) (entered : List Entry) (w : Option World) (h : List Event) (v : Verdict) (now : List Entry) (seen : Option World)
+    (d : IsDriven (start_with plan jobs entered w) plan h v now seen) where
+  here : (holds : Run → Type 0) → holds (run_over plan jobs entered) → holds (run_over plan jobs (entered ++ []))
+  here holds a = subst holds (sym (same_run plan jobs entered)) a
+
+  the_book : (k : IsKept (start_with plan jobs entered w) h now seen) → IsBook (run_over plan jobs (entered ++ [])) h k.gained
+  the_book k = here (λ s. IsBook s h k.gained) (record { legal = k.legal; closed = d.closed; matches = k.matches })
+
+  ends_well : v ≡ verdict.Well → ∥ EndsWell plan jobs h entered now ∥₁
+  ends_well well = ∥∥₁_map d.kept (λ k. record {
+    stretches = record { pre = []; mid = k.gained; post = []; grew = k.grew ∙ ap (λ es. entered ++ es) (sym (append-nil k.gained)) };
+    prepared = refl;
+    book = the_book k;
+    well = here (λ s. NoneDecides s h) (subst (λ x. IsVerdict (run_over plan jobs entered) h x) well d.verdict).0;
+    complete = here (λ s. IsComplete s h) (d.complete well);
+    silent = refl;
   })
 
-  fell_over : (e : Error) (v : Verdict) (new : List Entry) → caught h ≡ false → (i : Idle) × IsIdle (run_over driven old) h i → IsVerdict (run_over driven old) h v → IsErrorFor driven.nodes h v (Some e) → (es : List Entry) × (new ≡ now ++ es) × IsTold e es → ∥ Fell driven h e old new ∥₁
-  fell_over e v new calm idle judged decided told = ∥∥₁_map kept (λ k. record {
-    mid = k.gained;
-    post = told.0;
-    grew = told.1 ∙ (ap (λ es. es ++ told.0) k.grew ∙ append_assoc old k.gained told.0);
-    kept = record { legal = k.legal; closed = closed; matches = k.matches };
-    verdict = v;
-    judged = judged;
-    decided = decided;
-    nothing_left = no_work (run_over driven old) h idle.0 tt closed calm idle.1;
-    caused = caused (run_over driven old) h k.gained k.legal k.matches v e decided;
-    favoured = memory_left driven.nodes h e k.gained (caused (run_over driven old) h k.gained k.legal k.matches v e decided);
-    told = told.2;
-  })
+  ends_ill : (e : Error) (new : List Entry) → IsErrorFor plan.nodes h v (Some e) → IsToldBehind e now new → ∥ EndsIll plan jobs h e entered new ∥₁
+  ends_ill e new decided told = ∥∥₁_map d.kept (λ k.
+      let cause = caused (run_over plan jobs entered) h k.gained k.legal k.matches v e d.verdict decided in
+      record {
+        stretches = record { pre = []; mid = k.gained; post = told.0; grew = told.1 ∙ (ap (λ es. es ++ told.0) k.grew ∙ append_assoc entered k.gained told.0) };
+        prepared = refl;
+        book = the_book k;
+        verdict = v;
+        judged = here (λ s. IsVerdict s h v) d.verdict;
+        decided = decided;
+        nothing_left = here (λ s. (has_caught h ≡ true) ⊎ (HasWork s h → ⊥)) d.nothing_left;
+        caused = cause;
+        favoured = memory_left plan.nodes h e k.gained cause;
+        told = told.2;
+      })
 
--- a run whose plan and record are those of its drive
-pub ran_well : (plan driven : Plan) (h : List Event) (first old now : List Entry) (w v : Option World) (nodes : List PlanNode) (shown : List Event) (verdict : Verdict)
-    → plan ≡ driven → old ≡ first → ∥ IsKept (begins driven None old w) h now v ∥₁ → IsClosed (run_of (begins driven None old w)) h
-    → caught h ≡ false → (i : Idle) × IsIdle (run_over driven old) h i → IsVerdict (run_over driven old) h verdict → IsErrorFor nodes shown verdict None
-    → ∥ Ran plan h first now ∥₁
-ran_well plan driven h first old now w v nodes shown verdict plan_is old_is kept closed calm idle judged no_error =
-    subst (λ p. ∥ Ran p h first now ∥₁) (sym plan_is) (subst (λ es. ∥ Ran driven h es now ∥₁) old_is
-    (ran_over driven h old now w v kept closed calm idle (none_decides (run_over driven old) h nodes shown verdict no_error judged)))
+-- a run without an error went well
+went_well : (nodes : List PlanNode) (shown : List Event) (v : Verdict) → IsErrorFor nodes shown v None → v ≡ verdict.Well
+went_well nodes shown verdict.Well is = refl
+went_well nodes shown (verdict.Failed n) is = absurd is
+went_well nodes shown (verdict.Interrupted signal) is = absurd (let no : ⊥ = cc in no)
+went_well nodes shown verdict.NoMemory is = absurd (let no : ⊥ = cc in no)
 
-pub fell_ill : (r : Result Report Failure) (e : Error) (plan driven : Plan) (h shown : List Event) (code : ℤ) (first old now new : List Entry) (w v : Option World) (verdict : Verdict)
-    → r ≡ Err (record { error = e; plan = Some plan; history = h; code = code })
-    → plan ≡ driven → old ≡ first → ∥ IsKept (begins driven None old w) h now v ∥₁ → IsClosed (run_of (begins driven None old w)) h
-    → caught h ≡ false → (i : Idle) × IsIdle (run_over driven old) h i → IsVerdict (run_over driven old) h verdict → IsErrorFor plan.nodes shown verdict (Some e) → shown ≡ h
-    → (es : List Entry) × (new ≡ now ++ es) × IsTold e es
-    → IfErr r (λ f. MatchOption f.plan (∥ Refused f.error first new ∥₁) (λ p. ∥ Fell p f.history f.error first new ∥₁))
-fell_ill r e plan driven h shown code first old now new w v verdict is plan_is old_is kept closed calm idle judged decided shown_is told =
-    let decided_here = subst (λ k. IsErrorFor driven.nodes k verdict (Some e)) shown_is (subst (λ p. IsErrorFor p.nodes shown verdict (Some e)) plan_is decided) in
-    subst (λ q. IfErr q (λ f. MatchOption f.plan (∥ Refused f.error first new ∥₁) (λ p. ∥ Fell p f.history f.error first new ∥₁))) (sym is)
-    (subst (λ p. ∥ Fell p h e first new ∥₁) (sym plan_is) (subst (λ es. ∥ Fell driven h e es new ∥₁) old_is (fell_over driven h old now w v kept closed e verdict new calm idle judged decided_here told)))
+some_none : {A : Type 0} (x : A) → Some x ≡ None → ⊥
+some_none x is = let no : ⊥ = cc in no
 
--- a refusal before the run leaves the entry of the refused call, and the error told behind it
-pub refused_ill : (r : Result Report Failure) (e : Error) (h : List Event) (code : ℤ) (old now new : List Entry)
-    → r ≡ Err (record { error = e; plan = None; history = h; code = code })
-    → now ≡ old ++ entries_of e → (es : List Entry) × (new ≡ now ++ es) × IsTold e es
-    → IfErr r (λ f. MatchOption f.plan (∥ Refused f.error old new ∥₁) (λ p. ∥ Fell p f.history f.error old new ∥₁))
-refused_ill r e h code old now new is grew told =
-    subst (λ q. IfErr q (λ f. MatchOption f.plan (∥ Refused f.error old new ∥₁) (λ p. ∥ Fell p f.history f.error old new ∥₁))) (sym is)
-    ∣ record { post = told.0; grew = told.1 ∙ (ap (λ es. es ++ told.0) grew ∙ append_assoc old (entries_of e) told.0); told = told.2 } ∣₁
+pub run_well : (words : List (List ℕ)) (told after : Option World) (old entered now : List Entry) (w seen : Option World) (plan driven : Plan) (h : List Event) (v : Verdict) (r : Result Report Failure) (nodes : List PlanNode) (shown : List Event)
+    → r ≡ Ok (record { plan = driven; history = h }) → IsDriven (start_with plan (jobs_for words) entered w) driven h v now seen → AsksOver words told (Ok (outline_of plan))
+    → entered ≡ old → w ≡ told → after ≡ seen → IsErrorFor nodes shown v None → IsRun words told after old now r
+run_well words told after old entered now w seen plan driven h v r nodes shown is driven_so asks entered_is w_is after_is no_error =
+    let jobs = jobs_for words in
+    let d : IsDriven (start_with plan jobs entered w) plan h v now seen = subst (λ p. IsDriven (start_with plan jobs entered w) p h v now seen) driven_so.plan driven_so in
+    let report : Report = record { plan = plan; history = h } in
+    let same : r ≡ Ok report = is ∙ ap (λ p. let x : Report = record { plan = p; history = h } in Ok x) driven_so.plan in
+    let asked = asked_over words told plan asks in
+    let fits = answered words told (Ok report) asked tt in
+    subst (λ q. IsRun words told after old now q) (sym same) (subst (λ o. IsRun words told after o now (Ok report)) entered_is (record {
+      ran = ends_well plan jobs entered w h v now seen d (went_well nodes shown v no_error);
+      asked = asked;
+      refused = tt;
+      answered = fits;
+      failed = tt;
+      complete = served words told jobs (Ok report) entered now fits tt;
+      unplanned = tt;
+      code = tt;
+      favoured = tt;
+      faults = tt;
+      misses = tt;
+      untouched = λ es grown quiet. after_is ∙ (world_left (start_with plan jobs entered w) h now now seen [] es d.kept (sym (append-nil now)) grown quiet ∙ w_is);
+    }))
+
+pub run_ill : (words : List (List ℕ)) (told after : Option World) (old entered now new : List Entry) (w seen : Option World) (plan driven : Plan) (h shown : List Event) (v : Verdict) (e : Error) (r : Result Report Failure)
+    → r ≡ Err (record { error = e; plan = Some driven; history = h; code = exit_code e }) → IsDriven (start_with plan (jobs_for words) entered w) driven h v now seen → AsksOver words told (Ok (outline_of plan))
+    → entered ≡ old → w ≡ told → after ≡ seen → IsErrorFor driven.nodes shown v (Some e) → shown ≡ h → IsToldBehind e now new → IsRun words told after old new r
+run_ill words told after old entered now new w seen plan driven h shown v e r is driven_so asks entered_is w_is after_is error_is shown_is tells =
+    let jobs = jobs_for words in
+    let d : IsDriven (start_with plan jobs entered w) plan h v now seen = subst (λ p. IsDriven (start_with plan jobs entered w) p h v now seen) driven_so.plan driven_so in
+    let f : Failure = record { error = e; plan = Some plan; history = h; code = exit_code e } in
+    let same : r ≡ Err f = is ∙ ap (λ p. let x : Failure = record { error = e; plan = Some p; history = h; code = exit_code e } in Err x) driven_so.plan in
+    let decided : IsErrorFor plan.nodes h v (Some e) = subst (λ k. IsErrorFor plan.nodes k v (Some e)) shown_is (subst (λ p. IsErrorFor p.nodes shown v (Some e)) driven_so.plan error_is) in
+    let asked = asked_over words told plan asks in
+    let refused : f.plan ≡ None → ∥ RefusedFor words told e ∥₁ = λ none. absurd (some_none plan none) in
+    let left = ends_ill plan jobs entered w h v now seen d e new decided tells in
+    let fits = answered words told (Err f) asked refused in
+    subst (λ q. IsRun words told after old new q) (sym same) (subst (λ o. IsRun words told after o new (Err f)) entered_is (record {
+      ran = tt;
+      asked = asked;
+      refused = refused;
+      answered = fits;
+      failed = left;
+      complete = served words told jobs (Err f) entered new fits left;
+      unplanned = λ none. absurd (some_none plan none);
+      code = refl;
+      favoured = memory_wanted jobs (Err f) entered new left;
+      faults = faults_rise jobs (Err f) entered new left;
+      misses = misses_rise jobs (Err f) entered new left;
+      untouched = λ es grown quiet. after_is ∙ (world_left (start_with plan jobs entered w) h now new seen tells.0 es d.kept tells.1 grown quiet ∙ w_is);
+    }))

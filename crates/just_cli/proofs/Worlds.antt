@@ -3,7 +3,8 @@ use Rattle.std.proofs.Common.{ℕ, refl, List, Option}
 use Rattle.std.specs.Coded.{Coded, Coded-set, coded_ℕ, coded_list, coded×, coded_option, code_by}
 use Rattle.std.specs.FinMap as map
 use Rattle.just_outside.specs.contracts.tree.Thing as thing_contract
-use Rattle.just_outside.specs.World.{Tree, World}
+use Rattle.just_outside.specs.Sights.{Tree}
+use Rattle.just_outside.specs.World.{World}
 use Rattle.just_cli.specs.contracts.error.Error as error_contract
 use Rattle.just_cli.specs.declared.error.Error.{Error}
 

@@ -1,7 +1,12 @@
-pub mod Words
-pub mod Texts
-pub mod Request
+-- The definitions that the contracts of the top calls cite.
 pub mod Answered
-pub mod Ran
-pub mod Outcome
 pub mod Caused
+pub mod Exit
+pub mod Faults
+pub mod Outcome
+pub mod Record
+pub mod Request
+pub mod Run
+pub mod Steps
+pub mod Texts
+pub mod Words

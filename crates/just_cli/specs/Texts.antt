@@ -1,8 +1,9 @@
 -- The texts of errors, and the exit codes that they stand for.
-use Rattle.std.specs.Prelude.{ℕ, ◌++◌, ◌+ℤ◌, ℤ, pos, Bool, true, List, [], Option, Some, None, codes, decimal, if◌then◌else◌, int_le}
+use Rattle.std.specs.Prelude.{ℕ, ◌+◌, ◌++◌, ◌+ℤ◌, ℤ, pos, Bool, true, List, [], Option, Some, None, codes, decimal, if◌then◌else◌, int_le}
 use Rattle.std.specs.Fmt.{signed_decimal}
 use Rattle.just_path.specs.declared.host.Miss.{Miss}
 use Rattle.just_path.specs.declared.host.Miss.TheVariants as miss
+use Rattle.just_outside.specs.Signals.{number_of, name_of}
 use Rattle.just_outside.specs.declared.entry.HostFault.{HostFault}
 use Rattle.just_outside.specs.declared.entry.HostFault.TheVariants as fault
 use Rattle.just_lang.specs.declared.error.CompileKind.{CompileKind}
@@ -51,6 +52,19 @@ failed_text recipe line = recipe_text recipe ++ (codes " failed" ++ line_text li
 abbrev pub terminated_text : List ℕ → Option ℕ → List ℕ
 terminated_text recipe line = recipe_text recipe ++ (codes " was terminated" ++ line_text line)
 
+-- a recipe that had an I/O error: of its shell, or of the file of its script
+abbrev pub lost_text : List ℕ → List ℕ
+lost_text recipe = codes "error: recipe `" ++ (recipe ++ codes "` could not be run because of an IO error")
+
+abbrev pub shell_text : List ℕ → List ℕ → HostFault → List ℕ
+shell_text recipe shell io = lost_text recipe ++ (codes " while launching the shell `" ++ (shell ++ (codes "`: " ++ fault_text io)))
+
+abbrev pub write_text : HostFault → List ℕ
+write_text io = codes " or write a file to that directory: " ++ fault_text io
+
+abbrev pub folder_text : List ℕ → HostFault → List ℕ
+folder_text recipe io = lost_text recipe ++ (codes " while trying to create a temporary directory" ++ write_text io)
+
 -- what an error is printed as
 abbrev pub error_text : Error → List ℕ
 error_text (error.Usage u) = codes "error: usage: " ++ (usage_text u.kind ++ (codes " " ++ ticked u.word))
@@ -60,12 +74,17 @@ error_text (error.UnknownRecipe recipe) = codes "error: justfile does not contai
 error_text error.ClosureLimit = codes "error: request needs more than 1000000 recipes"
 error_text (error.Code recipe line code message) = failed_text recipe line ++ (codes " with exit code " ++ signed_decimal code)
 error_text (error.Signal recipe line signal) = terminated_text recipe line ++ (codes " by signal " ++ signed_decimal signal)
+error_text (error.ShellIo recipe shell io) = shell_text recipe shell io
+error_text (error.TempdirIo recipe io) = folder_text recipe io
+error_text (error.StdoutIo io) = codes "error: I/O error writing to stdout: " ++ fault_text io
+error_text (error.Interrupted signal) = codes "error: interrupted by " ++ name_of signal
 error_text (error.Unknown recipe line) = failed_text recipe line ++ codes " for an unknown reason"
 error_text error.NoMemory = codes "error: out of memory"
 
 -- the exit code that an error stands for: a recipe's own, and 128 and the number of a signal, where that is a code
 abbrev pub code_of : Error → Option ℤ
 code_of (error.Code recipe line code message) = Some code
+code_of (error.Interrupted signal) = Some (pos (128 + number_of signal))
 code_of (error.Signal recipe line signal) = if int_le (signal +ℤ pos 128) (pos 2147483647) then Some (signal +ℤ pos 128) else None
 code_of _ = None
 

@@ -1,3 +1,5 @@
+//! How a run ends: its host, and a report or a failure.
+
 use super::Error;
 use just_path::Seq;
 use just_sched::{Event, Plan};

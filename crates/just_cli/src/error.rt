@@ -1,9 +1,11 @@
+//! Why a request is refused or a run failed, and what is told of it.
+
 ghost use Rattle.std.specs.Prelude.{◌≡◌, ◌++◌, codes, Some, IfOk, string_bytes};
 ghost use Rattle.std.specs.Fmt.{DisplaysOnOk, signed_decimal};
 ghost use Rattle.just_cli.specs.declared.error.Error.{Error};
-ghost use Rattle.just_cli.specs.Texts.{error_text, code_of, prints, miss_text, fault_text, kind_text, usage_text, line_text, failed_text, terminated_text};
+ghost use Rattle.just_cli.specs.Texts.{error_text, code_of, prints, miss_text, fault_text, kind_text, usage_text, line_text, failed_text, terminated_text, lost_text, shell_text, write_text, folder_text};
 
-use just_host::HostFault;
+use just_host::{HostFault, Signal};
 use just_lang::{CompileError, CompileKind, Usage, UsageKind};
 use just_path::{Miss, NoMemory, Text, Utf8PathBuf};
 use std::alloc::Global;
@@ -43,6 +45,23 @@ pub enum Error {
         recipe: Text,
         line: Option<usize>,
     },
+    /// The shell of a recipe's command couldn't be started or waited for.
+    ShellIo {
+        recipe: Text,
+        shell: Text,
+        io: HostFault,
+    },
+    /// The temporary file of a recipe's script couldn't be made.
+    TempdirIo {
+        recipe: Text,
+        io: HostFault,
+    },
+    /// A text of a recipe couldn't be printed.
+    StdoutIo {
+        io: HostFault,
+    },
+    /// A signal was caught before all recipes were done.
+    Interrupted(Signal),
     NoMemory,
 }
 
@@ -162,6 +181,55 @@ fn tell_compile<W: fmt::Write>(error: &CompileError, f: &mut fmt::Formatter<W>) 
     )
 }
 
+fn tell_lost<W: fmt::Write>(recipe: &str, f: &mut fmt::Formatter<W>) -> fmt::Result
+    ensures { DisplaysOnOk W.write_str_gives f.old result (Some (lost_text recipe.now)) f.new }
+{
+    write!(
+        f,
+        "error: recipe `{recipe}` could not be run because of an IO error"
+    )
+}
+
+fn tell_shell<W: fmt::Write>(
+    recipe: &str,
+    shell: &str,
+    io: &HostFault,
+    f: &mut fmt::Formatter<W>,
+) -> fmt::Result
+    ensures { DisplaysOnOk W.write_str_gives f.old result (Some (shell_text recipe.now shell.now io.now)) f.new }
+{
+    tell_lost(recipe, f)?;
+    write!(
+        f,
+        " while launching the shell `{shell}`: {}",
+        fault_text(*io)
+    )
+}
+
+fn tell_write<W: fmt::Write>(io: &HostFault, f: &mut fmt::Formatter<W>) -> fmt::Result
+    ensures { DisplaysOnOk W.write_str_gives f.old result (Some (write_text io.now)) f.new }
+{
+    write!(f, " or write a file to that directory: {}", fault_text(*io))
+}
+
+fn tell_attempt<W: fmt::Write>(io: &HostFault, f: &mut fmt::Formatter<W>) -> fmt::Result
+    ensures { DisplaysOnOk W.write_str_gives f.old result (Some (codes " while trying to create a temporary directory" ++ write_text io.now)) f.new }
+{
+    f.write_str(" while trying to create a temporary directory")?;
+    tell_write(io, f)
+}
+
+fn tell_folder<W: fmt::Write>(
+    recipe: &str,
+    io: &HostFault,
+    f: &mut fmt::Formatter<W>,
+) -> fmt::Result
+    ensures { DisplaysOnOk W.write_str_gives f.old result (Some (folder_text recipe.now io.now)) f.new }
+{
+    tell_lost(recipe, f)?;
+    tell_attempt(io, f)
+}
+
 impl fmt::Display for Error {
     ghost output = { λ e. Some (error_text e) };
 
@@ -197,6 +265,14 @@ impl fmt::Display for Error {
                 tell_failed(recipe.as_str(), line, f)?;
                 f.write_str(" for an unknown reason")
             }
+            Error::ShellIo { recipe, shell, io } => {
+                tell_shell(recipe.as_str(), shell.as_str(), io, f)
+            }
+            Error::TempdirIo { recipe, io } => tell_folder(recipe.as_str(), io, f),
+            Error::StdoutIo { io } => {
+                write!(f, "error: I/O error writing to stdout: {}", fault_text(*io))
+            }
+            Error::Interrupted(signal) => write!(f, "error: interrupted by {signal}"),
             Error::NoMemory => f.write_str("error: out of memory"),
         }
     }
@@ -219,6 +295,7 @@ impl Error {
         match self {
             Error::Code { code, .. } => Some(*code),
             Error::Signal { signal, .. } => signal.checked_add(128),
+            Error::Interrupted(signal) => Some(signal.code()),
             _ => None,
         }
     }

@@ -3,7 +3,7 @@
 ghost use Rattle.std.specs.Prelude.{◌≡◌, ◌++◌, ◌∷◌, [], List, Option, Some, None, IfOk, string_bytes};
 ghost use Rattle.just_outside.specs.declared.entry.Entry.{Entry};
 ghost use Rattle.just_cli.specs.Texts.{error_text, exit_code as code_for};
-ghost use Rattle.just_cli.specs.Ran.{IsTold};
+ghost use Rattle.just_cli.specs.Record.{IsTold};
 
 use super::{Ended, Error, Failure};
 use just_host::{Host, Stream};

@@ -6,9 +6,11 @@ mod error;
 mod failure;
 mod outcome;
 mod prepare;
+mod program;
 mod runner;
 mod words;
 
 pub use ended::{Ended, Failure, Report};
 pub use error::Error;
+pub use program::{exit_status, no_arguments, run_arguments};
 pub use runner::{run, run_with};

@@ -1,15 +1,15 @@
 //! The error of a node that failed.
 
-ghost use Rattle.std.specs.Prelude.{◌≡◌, ◌⊎◌, ◌<◌, List, Option, Some, None, length, IfOk};
+ghost use Rattle.std.specs.Prelude.{◌≡◌, ◌<◌, true, [], Option, Some, None, length, IfOk, IfErr};
 ghost use Rattle.std.specs.Option.{option_copied};
 ghost use Rattle.std.specs.List.{last_or};
 ghost use Rattle.just_outside.specs.Record.{text_or_empty};
-ghost use Rattle.just_cli.specs.Outcome.{name_of as recipe_name, status_error as error_of_status, last_error as error_of_last, node_error, NamesNode, IsErrorFor};
+ghost use Rattle.just_cli.specs.Outcome.{name_of as recipe_name, status_error as error_of_status, last_error as error_of_last, shell_of as node_shell, miss_error as error_of_miss, fault_error as error_of_fault, failure_error as error_of_failure, node_error, names_recipe, IsToldAs, NamesNode, IsErrorFor};
 ghost use Rattle.just_sched.specs.State.{statuses, reason_of as failure_of};
 
 use super::Error;
-use just_host::{HostFault, Status};
-use just_path::{NoMemory, Text, Utf8PathBuf};
+use just_host::{Call, HostFault, Status};
+use just_path::{Miss, NoMemory, Text, Utf8PathBuf};
 use just_sched::{
     Event, Plan, PlanNode, Reason, Verdict, command, last_status, reason_of, status_count,
 };
@@ -53,10 +53,11 @@ fn last_error(
     history: &[Event],
     number: u32,
 ) -> Result<Error, NoMemory>
-    ensures { IfOk result (λ e. e ≡ error_of_last node.now (statuses history.now number) (last_or None (statuses history.now number))) }
+    ensures error { IfOk result (λ e. e ≡ error_of_last node.now (statuses history.now number) (last_or None (statuses history.now number))) }
+    ensures wanting { IfErr result (λ _. names_recipe (error_of_last node.now (statuses history.now number) (last_or None (statuses history.now number))) ≡ true) }
 {
     let Some(status) = last_status(history, number) else {
-        return Err(NoMemory);
+        return Ok(Error::NoMemory);
     };
     let recipe = name_of(alloc, node)?;
     let line = match command(&node.work, status_count(history, number).saturating_sub(1)) {
@@ -66,26 +67,101 @@ fn last_error(
     Ok(status_error(recipe, line, status))
 }
 
+/// The program of the command of the node that was to start, or that ran.
+fn shell_of(
+    alloc: Global,
+    node: &PlanNode,
+    history: &[Event],
+    number: u32,
+) -> Result<Text, NoMemory>
+    ensures { IfOk result (λ t. t ≡ node_shell node.now (statuses history.now number)) }
+{
+    match command(&node.work, status_count(history, number)) {
+        Some(command) => command.spec.program.try_clone(),
+        None => Text::from_str(alloc, ""),
+    }
+}
+
+/// The error of a refused call that no text of a recipe is told of.
+fn file_error(alloc: Global, io: HostFault) -> Error
+    ensures { result ≡ Error.FilesystemIo [] io }
+{
+    Error::FilesystemIo {
+        path: Utf8PathBuf::from(String::new(alloc)),
+        io,
+    }
+}
+
+/// The error of a node's body that a miss of that call ended.
+fn miss_error(alloc: Global, node: &PlanNode, call: Call, miss: Miss) -> Result<Error, NoMemory>
+    ensures error { IfOk result (λ e. e ≡ error_of_miss node.now call miss) }
+    ensures wanting { IfErr result (λ _. names_recipe (error_of_miss node.now call miss) ≡ true) }
+{
+    match call {
+        Call::Temp => Ok(Error::TempdirIo {
+            recipe: name_of(alloc, node)?,
+            io: HostFault::Missed(miss),
+        }),
+        _ => Ok(file_error(alloc, HostFault::Missed(miss))),
+    }
+}
+
+/// The error of the node's body that a failure of that call ended.
+fn fault_error(
+    alloc: Global,
+    node: &PlanNode,
+    history: &[Event],
+    number: u32,
+    call: Call,
+) -> Result<Error, NoMemory>
+    ensures error { IfOk result (λ e. e ≡ error_of_fault node.now (statuses history.now number) call) }
+    ensures wanting { IfErr result (λ _. names_recipe (error_of_fault node.now (statuses history.now number) call) ≡ true) }
+{
+    let io = HostFault::Failed(call);
+    match call {
+        Call::Print => Ok(Error::StdoutIo { io }),
+        Call::Temp => Ok(Error::TempdirIo {
+            recipe: name_of(alloc, node)?,
+            io,
+        }),
+        Call::Start | Call::Wait => {
+            let recipe = name_of(alloc, node)?;
+            let shell = shell_of(alloc, node, history, number)?;
+            Ok(Error::ShellIo { recipe, shell, io })
+        }
+        _ => Ok(file_error(alloc, io)),
+    }
+}
+
+/// The error of the node that failed for that reason.
+fn failure_error(
+    alloc: Global,
+    node: &PlanNode,
+    history: &[Event],
+    number: u32,
+    reason: Option<Reason>,
+) -> Result<Error, NoMemory>
+    ensures error { IfOk result (λ e. e ≡ error_of_failure node.now (statuses history.now number) reason) }
+    ensures wanting { IfErr result (λ _. names_recipe (error_of_failure node.now (statuses history.now number) reason) ≡ true) }
+{
+    match reason {
+        Some(Reason::Status) => last_error(alloc, node, history, number),
+        Some(Reason::Place(call, miss)) => miss_error(alloc, node, call, miss),
+        Some(Reason::Fault(call)) => fault_error(alloc, node, history, number, call),
+        _ => Ok(Error::NoMemory),
+    }
+}
+
 /// The error of the node of that number, which failed.
 pub(crate) fn error_of(alloc: Global, plan: &Plan, history: &[Event], number: u32) -> Error
     requires { number < length plan.now.nodes }
-    ensures { (result ≡ node_error plan.now.nodes history.now number) ⊎ (result ≡ Error.NoMemory) }
+    ensures { IsToldAs (node_error plan.now.nodes history.now number) result }
 {
     let node = &plan.nodes.as_slice()[number as usize];
-    match reason_of(history, number) {
-        Some(Reason::Status) => match last_error(alloc, node, history, number) {
-            Ok(error) => error,
-            Err(NoMemory) => Error::NoMemory,
-        },
-        Some(Reason::Place(_, miss)) => Error::FilesystemIo {
-            path: Utf8PathBuf::from(String::new(alloc)),
-            io: HostFault::Missed(miss),
-        },
-        Some(Reason::Fault(call)) => Error::FilesystemIo {
-            path: Utf8PathBuf::from(String::new(alloc)),
-            io: HostFault::Failed(call),
-        },
-        _ => Error::NoMemory,
+    let reason = reason_of(history, number);
+    match failure_error(alloc, node, history, number, reason) {
+        Ok(error) => error,
+        Err(NoMemory) => Error::NoMemory,
     }
 }
 
@@ -102,6 +178,7 @@ pub(crate) fn error_for(
     match verdict {
         Verdict::Well => None,
         Verdict::Failed(node) => Some(error_of(alloc, plan, history, node)),
-        Verdict::NoMemory | Verdict::Interrupted(_) => Some(Error::NoMemory),
+        Verdict::Interrupted(signal) => Some(Error::Interrupted(signal)),
+        Verdict::NoMemory => Some(Error::NoMemory),
     }
 }

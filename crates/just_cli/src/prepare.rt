@@ -1,24 +1,21 @@
 //! From the words to the plan: the steps of a request, in their order.
 
-ghost use Rattle.std.specs.Prelude.{◌≡◌, ◌≤◌, ◌++◌, [], ◌∷◌, true, length, map, IfOk, IfErr, MatchOption, MatchResult, Ok};
-ghost use Rattle.std.specs.Str.{is_utf8};
-ghost use Rattle.just_outside.specs.declared.outside.TheConstants.{MAX_BYTES};
-ghost use Rattle.just_outside.specs.World.{told_read};
-ghost use Rattle.just_lang.specs.Form.{IsName};
-ghost use Rattle.just_cli.specs.Ran.{entries_of};
-ghost use Rattle.just_cli.specs.Request.{IsAsked, IsPlanOf, RefusedFor, RefusesPlan, IsNotBuilt, IsFolderFault, IsReadFault, error_of_lang, justfile_in, io_error_of, fault_of_path, source_in};
+ghost use Rattle.std.specs.Prelude.{◌≡◌, ◌++◌, [], map, option_map, IfOk, IfErr, MatchResult, Some, Ok, Err, OnOk};
+ghost use Rattle.just_outside.specs.declared.entry.Call.{Call};
+ghost use Rattle.just_cli.specs.Faults.{CallGives, entries_of, fault_of_path as host_fault, io_error as told_error};
+ghost use Rattle.just_cli.specs.Request.{OrMemory, Plans, AsksOver, HostReads, folder_shown, source_in, outline_of, error_of_lang};
 
 use super::Error;
-use super::words::asked_recipe;
+use super::words::read_words;
 use just_host::{Call, Host, HostFault};
-use just_lang::{LangError, Source, Usage, UsageKind, assemble, closure, invocations};
+use just_lang::{LangError, Source, assemble, closure, invocations};
 use just_path::{Environ, NoMemory, PathFault, Seq, Text, Utf8Path, Utf8PathBuf};
 use just_sched::{Plan, plan_for};
 use std::alloc::Global;
 
 /// The fault of asking for the current folder, as a fault of a host.
 fn fault_of_path(fault: PathFault) -> HostFault
-    ensures { result ≡ fault_of_path fault }
+    ensures { result ≡ host_fault fault }
 {
     match fault {
         PathFault::Missed(miss) => HostFault::Missed(miss),
@@ -29,7 +26,7 @@ fn fault_of_path(fault: PathFault) -> HostFault
 
 /// The error of a refused call on that path.
 fn io_error(path: Utf8PathBuf, fault: HostFault) -> Error
-    ensures { result ≡ io_error_of path fault }
+    ensures { result ≡ told_error path fault }
 {
     match fault {
         HostFault::NoMemory => Error::NoMemory,
@@ -41,8 +38,7 @@ fn io_error(path: Utf8PathBuf, fault: HostFault) -> Error
 fn current_folder<H: Host>(alloc: Global, host: &mut H) -> Result<Utf8PathBuf, Error>
     ensures grew { MatchResult result (λ _. H.entries host.new ≡ H.entries host.old) (λ e. H.entries host.new ≡ H.entries host.old ++ entries_of e) }
     ensures world { H.world host.new ≡ H.world host.old }
-    ensures told { MatchOption (H.world host.old) (Unit {0}) (λ w. IfOk result (λ p. p ≡ w.current)) }
-    ensures refused { IfErr result (IsFolderFault (H.world host.old)) }
+    ensures gives { CallGives Call.Current [] (option_map folder_shown (H.world host.old)) result }
 {
     match host.current() {
         Ok(folder) => Ok(folder),
@@ -55,10 +51,8 @@ fn read_source<H: Host>(alloc: Global, host: &mut H, folder: Utf8PathBuf) -> Res
     ensures grew { MatchResult result (λ _. H.entries host.new ≡ H.entries host.old) (λ e. H.entries host.new ≡ H.entries host.old ++ entries_of e) }
     ensures world { H.world host.new ≡ H.world host.old }
     ensures source { IfOk result (λ s. s ≡ source_in folder s.text) }
-    ensures told { MatchOption (H.world host.old) (Unit {0}) (λ w. IfOk result (λ s. told_read w.tree (justfile_in folder) ≡ Ok s.text)) }
-    ensures limit { IfOk result (λ s. length s.text ≤ MAX_BYTES) }
-    ensures utf8 { IfOk result (λ s. is_utf8 s.text ≡ true) }
-    ensures refused { IfErr result (IsReadFault (H.world host.old) folder) }
+    ensures text { IfOk result (λ s. HostReads (H.world host.old) folder (Ok s.text)) }
+    ensures refused { IfErr result (λ e. HostReads (H.world host.old) folder (Err e)) }
 {
     let path = folder.as_path().join(alloc, Utf8Path::new("justfile"))?;
     let named = path.try_clone()?;
@@ -70,6 +64,21 @@ fn read_source<H: Host>(alloc: Global, host: &mut H, folder: Utf8PathBuf) -> Res
         }),
         Err(fault) => Err(io_error(named, fault)),
     }
+}
+
+/// The plan of a recipe of a source.
+fn plan_of(alloc: Global, source: Source, name: &str) -> Result<Plan, LangError>
+    ensures plan { IfOk result (λ p. Plans (record { name = name.now; source = source }) (Ok (outline_of p))) }
+    ensures refused { IfErr result (λ l. OrMemory (λ e. Plans (record { name = name.now; source = source }) (Err e)) (error_of_lang l)) }
+{
+    let environ = Environ {
+        pairs: Seq::new(alloc),
+    };
+    let sources = [source];
+    let justfile = assemble(alloc, &sources, &environ)?;
+    let keys = invocations(alloc, &justfile, &[name])?;
+    let closure = closure(alloc, &justfile, keys.as_slice())?;
+    plan_for(alloc, &justfile, sources[0].root.as_path(), closure)
 }
 
 /// The error of a refused justfile or request.
@@ -85,48 +94,25 @@ fn lang_error(error: LangError) -> Error
     }
 }
 
-/// The plan of a recipe of a source.
-fn plan_of(alloc: Global, source: Source, name: &str) -> Result<Plan, LangError>
-    ensures plan { IfOk result (λ p. IsPlanOf source name.now p.nodes p.invocations) }
-    ensures refused { IfErr result (RefusesPlan source name.now) }
-{
-    let environ = Environ {
-        pairs: Seq::new(alloc),
-    };
-    let sources = [source];
-    let justfile = assemble(alloc, &sources, &environ)?;
-    let keys = invocations(alloc, &justfile, &[name])?;
-    let closure = closure(alloc, &justfile, keys.as_slice())?;
-    plan_for(alloc, &justfile, sources[0].root.as_path(), closure)
-}
-
-/// The error of words that aren't read yet.
-fn not_built(alloc: Global, word: &str) -> Error
-    ensures error { IsNotBuilt word.now result }
-    ensures entries { entries_of result ≡ [] }
-{
-    match Text::from_str(alloc, word) {
-        Ok(word) => Error::Usage(Usage {
-            kind: UsageKind::NotBuilt,
-            word,
-        }),
-        Err(NoMemory) => Error::NoMemory,
-    }
-}
-
 /// The plan that the words ask for. The record gains the entry of the refused call, where one was refused.
 pub(crate) fn prepare<H: Host>(alloc: Global, words: &[&str], host: &mut H) -> Result<Plan, Error>
     ensures grew { MatchResult result (λ _. H.entries host.new ≡ H.entries host.old) (λ e. H.entries host.new ≡ H.entries host.old ++ entries_of e) }
     ensures world { H.world host.new ≡ H.world host.old }
-    ensures asked { IfOk result (λ p. IsAsked (map (λ x. x.now) words.now) (H.world host.old) p) }
-    ensures refused { IfErr result (λ e. ∥ RefusedFor (map (λ x. x.now) words.now) (H.world host.old) e ∥₁) }
+    ensures asked { IfOk result (λ p. AsksOver (map (λ x. x.now) words.now) (H.world host.old) (Ok (outline_of p))) }
+    ensures refused { IfErr result (OrMemory (λ e. AsksOver (map (λ x. x.now) words.now) (H.world host.old) (Err e))) }
 {
-    let name = match asked_recipe(words) {
+    let name = match read_words(alloc, words) {
         Ok(name) => name,
-        Err(word) => return Err(not_built(alloc, word)),
+        Err(error) => return Err(error),
     };
-    let folder = current_folder(alloc, host)?;
-    let source = read_source(alloc, host, folder)?;
+    let folder = match current_folder(alloc, host) {
+        Ok(folder) => folder,
+        Err(error) => return Err(error),
+    };
+    let source = match read_source(alloc, host, folder) {
+        Ok(source) => source,
+        Err(error) => return Err(error),
+    };
     match plan_of(alloc, source, name) {
         Ok(plan) => Ok(plan),
         Err(error) => Err(lang_error(error)),

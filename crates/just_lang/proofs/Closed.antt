@@ -8,42 +8,48 @@ use Rattle.just_lang.specs.declared.place.Place.{Place}
 use Rattle.just_lang.specs.Asked.{NamesRecipe}
 use Rattle.just_lang.specs.Keys.{priors_of, subsequents_of}
 use Rattle.just_lang.specs.Sound.{fits}
-use Rattle.just_lang.specs.Walk.{is_place, visited_each, walk, number_of, numbers_of, node_of, nodes_from, Member, IsClosure}
-use Rattle.just_lang.specs.WellFormed.{round_at, Used, IsWellFormed}
+use Rattle.just_lang.specs.Walk.{is_place, visits, walk, number_of, numbers_of, node_of, nodes_from, IsMember, IsClosure}
+use Rattle.just_lang.specs.WellFormed.{round_at, IsUsed, IsWellFormed}
 use Rattle.just_lang.proofs.Around.{fits_priors, fits_subsequents, priors_named, subsequents_named}
-use Rattle.just_lang.proofs.Grown.{At, Has, Fits, Made, Fresh, outer, inner, FromAny, from, grown_walk, reach_member, is_place_is, is_place_self, some_is, none_some, true_false}
+use Rattle.just_lang.proofs.Grown.{IsPlaced, IsFresh, outer, inner, grown_walk, none_some, true_false}
+use Rattle.just_lang.proofs.Places.{At, Has, is_place_is, is_place_self, some_is}
+use Rattle.just_lang.proofs.Reaches.{Fits, FromAny, from, reach_member}
 use Rattle.just_lang.proofs.Items.{all_in, In, in_all, in_map, map_in, in_contains, contains_in}
 use Rattle.just_lang.proofs.Visited.{place}
 
 -- ## The walk
 
+-- the chains from a key that fits fit
 pub fits_are : (rs : List Recipe) (n : ℕ) (k : Key) → fits rs n k ≡ true → Fits (priors_of rs) (subsequents_of rs) n k
 fits_are rs zero k fit = absurd (cc)
 fits_are rs (suc n) k fit = (λ q i. fits_are rs n q (fits_priors rs n k fit q i), λ q i. fits_are rs n q (fits_subsequents rs n k fit q i))
 
+-- one number is some number
 some_number : (x y : ℕ) → Some x ≡ Some y → x ≡ y
 some_number x y e = cc
 
-first_round : {Root : Key → Type 0} {n : ℕ} {x : Place} → Fresh None Root 0 n x → (m : ℕ) → x.round ≡ Some m → m < n
+-- on the command line a round is named by a place before it
+first_round : {Root : Key → Type 0} {n : ℕ} {x : Place} → IsFresh None Root 0 n x → (m : ℕ) → x.round ≡ Some m → m < n
 first_round (outer e root) m is = absurd (none_some m (sym e ∙ is))
 first_round (inner j e h lt) m is = let same : j ≡ m = some_number j m (sym e ∙ is) in omega (arith, same, lt)
 
 -- a key that is reached is a member
-root_member : (p s : Key → List Key) (keys : List Key) (list : List Place) (k : Key) → FromAny p keys k → Member p s keys list None k
-root_member p s keys list k (from q i reach) = reach_member p s keys list None q k (Member.invoked q (in_contains keys q i)) reach
+root_member : (p s : Key → List Key) (keys : List Key) (list : List Place) (k : Key) → FromAny p keys k → IsMember p s keys list None k
+root_member p s keys list k (from q i reach) = reach_member p s keys list None q k (IsMember.invoked q (in_contains keys q i)) reach
 
 -- a member is listed
-has_member : (p s : Key → List Key) (keys : List Key) (list : List Place) → ((q : Key) → In q keys → Has list None q) → ((n : ℕ) (x : Place) → At list n x → Made p s list n x) → (r : Option ℕ) (k : Key) → Member p s keys list r k → Has list r k
-has_member p s keys list first made r k (Member.invoked a c) = first a (contains_in keys a c)
-has_member p s keys list first made r k (Member.prior t a q member c) =
+has_member : (p s : Key → List Key) (keys : List Key) (list : List Place) → ((q : Key) → In q keys → Has list None q) → ((n : ℕ) (x : Place) → At list n x → IsPlaced p s list n x) → (r : Option ℕ) (k : Key) → IsMember p s keys list r k → Has list r k
+has_member p s keys list first made r k (IsMember.invoked a c) = first a (contains_in keys a c)
+has_member p s keys list first made r k (IsMember.prior t a q member c) =
     let n = has_member p s keys list first made t a member in
     let m = (made n.0 (place t a) n.1).priors q (contains_in (p a) q c) in (m.0, m.2)
-has_member p s keys list first made r k (Member.subsequent n t a q member stands c) =
+has_member p s keys list first made r k (IsMember.subsequent n t a q member stands c) =
     let m = (made n (place t a) stands).subsequents q (contains_in (s a) q c) in (m.0, m.2)
 
-pub is_closure : (p s : Key → List Key) (n : ℕ) (keys : List Key) → ((q : Key) → In q keys → Fits p s n q) → IsClosure p s keys (visited_each p s n [] None keys)
+-- the visits of keys whose chains fit list the closure
+pub is_closure : (p s : Key → List Key) (n : ℕ) (keys : List Key) → ((q : Key) → In q keys → Fits p s n q) → IsClosure p s keys (visits p s n [] None keys)
 is_closure p s n keys fit =
-    let list : List Place = visited_each p s n [] None keys in
+    let list : List Place = visits p s n [] None keys in
     let walked = grown_walk p s n keys fit in
     let grown = walked.0 in
     record {
@@ -55,28 +61,35 @@ is_closure p s n keys fit =
       rounds = λ i m x at e. first_round (grown.fresh i x (omega arith) at) m e;
     }
 
-pub walk_is : (rs : List Recipe) (keys : List Key) → walk rs keys ≡ visited_each (priors_of rs) (subsequents_of rs) (length rs) [] None keys
+-- the walk is the visits of the keys
+pub walk_is : (rs : List Recipe) (keys : List Key) → walk rs keys ≡ visits (priors_of rs) (subsequents_of rs) (length rs) [] None keys
 unfolding walk
 walk_is rs keys = refl
 
+-- the walk lists the closure
 pub walk_closure : (rs : List Recipe) (keys : List Key) → ((q : Key) → In q keys → fits rs (length rs) q ≡ true) → IsClosure (priors_of rs) (subsequents_of rs) keys (walk rs keys)
 walk_closure rs keys fit =
     subst (λ l. IsClosure (priors_of rs) (subsequents_of rs) keys l) (sym (walk_is rs keys)) (is_closure (priors_of rs) (subsequents_of rs) (length rs) keys (λ q i. fits_are rs (length rs) q (fit q i)))
 
 -- ## Numbers
 
+-- one more
 plus_one : (n : ℕ) → 1 + n ≡ suc n
 plus_one n = omega arith
 
+-- none more
 zero_plus : (n : ℕ) → 0 + n ≡ n
 zero_plus n = omega arith
 
+-- the number of the key at the front is 0
 number_true : (x : Place) (xs : List Place) (r : Option ℕ) (k : Key) → is_place r k x ≡ true → number_of (x ∷ xs) r k ≡ 0
 number_true x xs r k e = ap (λ b. cond (not b) (1 + number_of xs r k) 0) e
 
+-- the number of another key is one more behind the front
 number_false : (x : Place) (xs : List Place) (r : Option ℕ) (k : Key) → is_place r k x ≡ false → number_of (x ∷ xs) r k ≡ suc (number_of xs r k)
 number_false x xs r k e = ap (λ b. cond (not b) (1 + number_of xs r k) 0) e ∙ plus_one (number_of xs r k)
 
+-- the number of a key behind the front is the first of its places
 number_behind : (x : Place) (xs : List Place) (r : Option ℕ) (k : Key) (m : ℕ) → ((i : ℕ) → At xs i (place r k) → (number_of xs r k ≤ i) × At xs (number_of xs r k) (place r k)) → is_place r k x ≡ false → At (x ∷ xs) m (place r k) → (suc (number_of xs r k) ≤ m) × At xs (number_of xs r k) (place r k)
 number_behind x xs r k zero rest e h =
     absurd (true_false (sym (is_place_self r k) ∙ ap (λ y. is_place r k y) (sym (some_is x (place r k) h)) ∙ e))
@@ -93,10 +106,12 @@ number_at (x ∷ xs) r k m h =
 
 -- ## Nodes
 
+-- there is a node for each place
 pub nodes_length : (p s : Key → List Key) (list : List Place) (n : ℕ) (xs : List Place) → length (nodes_from p s list n xs) ≡ length xs
 nodes_length p s list n [] = refl
 nodes_length p s list n (x ∷ xs) = ap (λ i. suc i) (nodes_length p s list (suc n) xs)
 
+-- the node of a number is that of its place
 nodes_get : (p s : Key → List Key) (list : List Place) (n : ℕ) (xs : List Place) (i : ℕ) → slice_get (nodes_from p s list n xs) i ≡ option_map (node_of p s list (n + i)) (slice_get xs i)
 nodes_get p s list n [] i = refl
 nodes_get p s list n (x ∷ xs) zero = ap (λ m. Some (node_of p s list m x)) (omega arith)
@@ -106,33 +121,39 @@ nodes_get p s list n (x ∷ xs) (suc i) = nodes_get p s list (suc n) xs i ∙ ap
 pub node_there : (p s : Key → List Key) (list : List Place) (n : ℕ) (y : Place) → At list n y → slice_get (nodes_from p s list 0 list) n ≡ Some (node_of p s list n y)
 node_there p s list n y at = nodes_get p s list 0 list n ∙ ap (λ m. option_map (node_of p s list m) (slice_get list n)) (zero_plus n) ∙ ap (λ o. option_map (node_of p s list n) o) at
 
+-- nothing is no node
 nothing_is : (x : Node) → None ≡ Some x → ⊥
 nothing_is x e = absurd (cc)
 
+-- one node has a number
 node_is : (x y : Node) → Some x ≡ Some y → x ≡ y
 node_is x y e = cc
 
+-- each node is that of a place
 node_from : (p s : Key → List Key) (list : List Place) (n : ℕ) (x : Node) (o : Option Place) → slice_get list n ≡ o → slice_get (nodes_from p s list 0 list) n ≡ Some x → (y : Place) × At list n y × (x ≡ node_of p s list n y)
 node_from p s list n x None e h =
     absurd (nothing_is x (sym (nodes_get p s list 0 list n ∙ ap (λ o. option_map (node_of p s list (0 + n)) o) e) ∙ h))
 node_from p s list n x (Some y) e h = (y, e, node_is x (node_of p s list n y) (sym h ∙ node_there p s list n y e))
 
+-- the round of a node is that of its place
 pub round_there : (p s : Key → List Key) (list : List Place) (r : Option ℕ) (k : Key) (n : ℕ) → At list n (place r k) → round_at (nodes_from p s list 0 list) n ≡ Some r
 round_there p s list r k n at = ap (λ o. option_map (λ x. x.round) o) (node_there p s list n (place r k) at)
 
+-- the number of one of some keys is one of their numbers
 in_numbers : (list : List Place) (r : Option ℕ) (keys : List Key) (k : Key) (n : ℕ) → In k keys → number_of list r k ≡ n → Contains (numbers_of list r keys) n
 in_numbers list r keys k n i e = in_contains (numbers_of list r keys) n (map_in (λ q. number_of list r q) keys k n i e)
 
 -- each member is a node that something asks for
-used_by : (p s : Key → List Key) (keys : List Key) (list : List Place) → IsClosure p s keys list → (r : Option ℕ) (k : Key) → Member p s keys list r k → (n : ℕ) → At list n (place r k) → Used (nodes_from p s list 0 list) (numbers_of list None keys) n
-used_by p s keys list closed r k (Member.invoked a c) n at =
-    Used.invoked (in_numbers list None keys a n (contains_in keys a c) (closed.once n (number_of list None a) (place None a) at (number_at list None a n at).1))
-used_by p s keys list closed r k (Member.prior t a q member c) n at =
+used_by : (p s : Key → List Key) (keys : List Key) (list : List Place) → IsClosure p s keys list → (r : Option ℕ) (k : Key) → IsMember p s keys list r k → (n : ℕ) → At list n (place r k) → IsUsed (nodes_from p s list 0 list) (numbers_of list None keys) n
+used_by p s keys list closed r k (IsMember.invoked a c) n at =
+    IsUsed.invoked (in_numbers list None keys a n (contains_in keys a c) (closed.once n (number_of list None a) (place None a) at (number_at list None a n at).1))
+used_by p s keys list closed r k (IsMember.prior t a q member c) n at =
     let m = closed.all t a member in
-    Used.prior m.0 (node_of p s list m.0 (place t a)) (node_there p s list m.0 (place t a) m.1) (in_numbers list t (p a) q n (contains_in (p a) q c) (closed.once n (number_of list t q) (place t q) at (number_at list t q n at).1))
-used_by p s keys list closed r k (Member.subsequent m t a q member stands c) n at =
-    Used.subsequent m (node_of p s list m (place t a)) (node_there p s list m (place t a) stands) (in_numbers list (Some m) (s a) q n (contains_in (s a) q c) (closed.once n (number_of list (Some m) q) (place (Some m) q) at (number_at list (Some m) q n at).1))
+    IsUsed.prior m.0 (node_of p s list m.0 (place t a)) (node_there p s list m.0 (place t a) m.1) (in_numbers list t (p a) q n (contains_in (p a) q c) (closed.once n (number_of list t q) (place t q) at (number_at list t q n at).1))
+used_by p s keys list closed r k (IsMember.subsequent m t a q member stands c) n at =
+    IsUsed.subsequent m (node_of p s list m (place t a)) (node_there p s list m (place t a) stands) (in_numbers list (Some m) (s a) q n (contains_in (s a) q c) (closed.once n (number_of list (Some m) q) (place (Some m) q) at (number_at list (Some m) q n at).1))
 
+-- the priors of a node stand before it, in its round
 priors_stand : (p s : Key → List Key) (keys : List Key) (list : List Place) → IsClosure p s keys list → (n : ℕ) (y : Place) → At list n y → All (λ m. (m < n) × (round_at (nodes_from p s list 0 list) m ≡ Some y.round)) (numbers_of list y.round (p y.key))
 priors_stand p s keys list closed n y at =
     in_all (λ m. (m < n) × (round_at (nodes_from p s list 0 list) m ≡ Some y.round)) (numbers_of list y.round (p y.key)) (λ m i.
@@ -141,6 +162,7 @@ priors_stand p s keys list closed n y at =
     let first = number_at list y.round q.0 before.0 before.2 in
     subst (λ j. (j < n) × (round_at (nodes_from p s list 0 list) j ≡ Some y.round)) q.2 (omega (arith, first.0, before.1), round_there p s list y.round q.0 (number_of list y.round q.0) first.1))
 
+-- its subsequents stand behind it, in the round that it names
 subsequents_stand : (p s : Key → List Key) (keys : List Key) (list : List Place) → IsClosure p s keys list → (n : ℕ) (y : Place) → At list n y → All (λ m. (n < m) × (round_at (nodes_from p s list 0 list) m ≡ Some (Some n))) (numbers_of list (Some n) (s y.key))
 subsequents_stand p s keys list closed n y at =
     in_all (λ m. (n < m) × (round_at (nodes_from p s list 0 list) m ≡ Some (Some n))) (numbers_of list (Some n) (s y.key)) (λ m i.
@@ -149,13 +171,15 @@ subsequents_stand p s keys list closed n y at =
     let first = number_at list (Some n) q.0 behind.0 behind.2 in
     subst (λ j. (n < j) × (round_at (nodes_from p s list 0 list) j ≡ Some (Some n))) q.2 (closed.rounds (number_of list (Some n) q.0) n (place (Some n) q.0) first.1 refl, round_there p s list (Some n) q.0 (number_of list (Some n) q.0) first.1))
 
+-- the invocations are nodes of no round
 invoked_stand : (p s : Key → List Key) (keys : List Key) (list : List Place) → IsClosure p s keys list → All (λ m. round_at (nodes_from p s list 0 list) m ≡ Some None) (numbers_of list None keys)
 invoked_stand p s keys list closed =
     in_all (λ m. round_at (nodes_from p s list 0 list) m ≡ Some None) (numbers_of list None keys) (λ m i.
     let q = in_map (λ k. number_of list None k) keys m i in
-    let there = closed.all None q.0 (Member.invoked q.0 (in_contains keys q.0 q.1)) in
+    let there = closed.all None q.0 (IsMember.invoked q.0 (in_contains keys q.0 q.1)) in
     subst (λ j. round_at (nodes_from p s list 0 list) j ≡ Some None) q.2 (round_there p s list None q.0 (number_of list None q.0) (number_at list None q.0 there.0 there.1).1))
 
+-- the nodes of a closure are in order
 pub well_formed : (p s : Key → List Key) (keys : List Key) (list : List Place) → IsClosure p s keys list → IsWellFormed (nodes_from p s list 0 list) (numbers_of list None keys)
 well_formed p s keys list closed =
     let nodes : List Node = nodes_from p s list 0 list in
@@ -176,23 +200,27 @@ well_formed p s keys list closed =
 
 -- ## Each node's key names a recipe
 
-pub member_named : (rs : List Recipe) (n : ℕ) (keys : List Key) (list : List Place) → ((q : Key) → NamesRecipe rs q → fits rs n q ≡ true) → ((q : Key) → In q keys → NamesRecipe rs q) → (r : Option ℕ) (k : Key) → Member (priors_of rs) (subsequents_of rs) keys list r k → NamesRecipe rs k
-member_named rs n keys list fit named r k (Member.invoked a c) = named a (contains_in keys a c)
-member_named rs n keys list fit named r k (Member.prior t a q member c) =
+-- each member names a recipe
+pub member_named : (rs : List Recipe) (n : ℕ) (keys : List Key) (list : List Place) → ((q : Key) → NamesRecipe rs q → fits rs n q ≡ true) → ((q : Key) → In q keys → NamesRecipe rs q) → (r : Option ℕ) (k : Key) → IsMember (priors_of rs) (subsequents_of rs) keys list r k → NamesRecipe rs k
+member_named rs n keys list fit named r k (IsMember.invoked a c) = named a (contains_in keys a c)
+member_named rs n keys list fit named r k (IsMember.prior t a q member c) =
     all_in (NamesRecipe rs) (priors_of rs a) q (priors_named rs n a (fit a (member_named rs n keys list fit named t a member))) (contains_in (priors_of rs a) q c)
-member_named rs n keys list fit named r k (Member.subsequent m t a q member stands c) =
+member_named rs n keys list fit named r k (IsMember.subsequent m t a q member stands c) =
     all_in (NamesRecipe rs) (subsequents_of rs a) q (subsequents_named rs n a (fit a (member_named rs n keys list fit named t a member))) (contains_in (subsequents_of rs a) q c)
 
+-- what a list has stands at a place
 in_at : (list : List Place) (y : Place) → In y list → (n : ℕ) × At list n y
 in_at [] y i = absurd i
 in_at (x ∷ xs) y (inl e) = (0, ap (λ z. Some z) e)
 in_at (x ∷ xs) y (inr i) = let n = in_at xs y i in (suc n.0, n.1)
 
+-- what holds of the keys of all places holds of those of all nodes
 keys_named : (P : Key → Type 0) (p s : Key → List Key) (list : List Place) (n : ℕ) (xs : List Place) → ((y : Place) → In y xs → P y.key) → (x : Node) → In x (nodes_from p s list n xs) → P x.key
 keys_named P p s list n [] named x i = absurd i
 keys_named P p s list n (y ∷ ys) named x (inl e) = subst (λ z. P z.key) e (named y (inl refl))
 keys_named P p s list n (y ∷ ys) named x (inr i) = keys_named P p s list (suc n) ys (λ z j. named z (inr j)) x i
 
+-- each node names a recipe
 pub nodes_named : (rs : List Recipe) (n : ℕ) (keys : List Key) (list : List Place) → ((q : Key) → NamesRecipe rs q → fits rs n q ≡ true) → ((q : Key) → In q keys → NamesRecipe rs q) → IsClosure (priors_of rs) (subsequents_of rs) keys list → All (λ x. NamesRecipe rs x.key) (nodes_from (priors_of rs) (subsequents_of rs) list 0 list)
 nodes_named rs n keys list fit named closed =
     in_all (λ x. NamesRecipe rs x.key) (nodes_from (priors_of rs) (subsequents_of rs) list 0 list) (keys_named (λ k. NamesRecipe rs k) (priors_of rs) (subsequents_of rs) list 0 list (λ y i.

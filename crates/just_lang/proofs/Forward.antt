@@ -18,14 +18,17 @@ fits_from : (rs : List Recipe) (n : ℕ) (k : Key) → is_some (recipe_of rs k) 
 fits_from rs n k there priors subsequents =
     both_and (is_some (recipe_of rs k)) _ there (both_and (list_all (λ q. fits rs n q) (priors_of rs k)) (list_all (λ q. fits rs n q) (subsequents_of rs k)) (list_all-from_AllPass (λ q. fits rs n q) (priors_of rs k) (in_all (λ q. fits rs n q ≡ true) (priors_of rs k) priors)) (list_all-from_AllPass (λ q. fits rs n q) (subsequents_of rs k) (in_all (λ q. fits rs n q ≡ true) (subsequents_of rs k) subsequents)))
 
+-- a key that fits in n fits in one more
 fits_more : (rs : List Recipe) (n : ℕ) (k : Key) → fits rs n k ≡ true → fits rs (suc n) k ≡ true
 fits_more rs zero k fit = absurd (cc)
 fits_more rs (suc n) k fit =
     fits_from rs (suc n) k (fits_named rs (suc n) k fit) (λ q i. fits_more rs n q (fits_priors rs n k fit q i)) (λ q i. fits_more rs n q (fits_subsequents rs n k fit q i))
 
+-- lists of one item are equal by it
 head_is : (a b : List ℕ) → a ∷ [] ≡ b ∷ [] → a ≡ b
 head_is a b e = cc
 
+-- a path is that of one name
 one_name : (a b : List ℕ) → path_of a ≡ path_of b → a ≡ b
 one_name a b e = head_is a b (ap (λ p. p.components) e)
 
@@ -54,6 +57,7 @@ prior_key rs d q c e =
     let s = in_map (λ s. s.path) rs d.path (contains_in (map (λ s. s.path) rs) d.path c) in
     (s.0, s.1, ap (λ p. record { recipe = p; arguments = [] }) s.2 ∙ e)
 
+-- where each recipe is found, chains of dependencies go forward and end
 forward : (rs tail : List Recipe) → ((r : Recipe) → In r tail → recipe_of rs (key_of_recipe r) ≡ Some r) → NamesFit tail → All IsRootRecipe tail → (r : Recipe) → In r tail → fits rs (length tail) (key_of_recipe r) ≡ true
 forward rs [] first names roots r i = absurd i
 forward rs (x ∷ xs) first names roots r (inr i) =
@@ -67,6 +71,7 @@ forward rs (x ∷ xs) first names roots r (inl e) =
     subst (λ y. fits rs (length xs) y ≡ true) s.2 (forward rs xs (λ s j. first s (inr j)) names.2 (in_all IsRootRecipe xs (λ s j. all_in IsRootRecipe (x ∷ xs) s roots (inr j))) s.0 s.1)) (λ q i.
     absurd (subst (λ ds. In q (map key_of ds)) root.subsequents_are (subst (λ o. In q (subsequent_keys o)) found i))))
 
+-- where names fit, each chain of dependencies ends within the number of recipes
 pub forward_fits : (rs : List Recipe) → NamesFit rs → All IsRootRecipe rs → All (λ r. fits rs (length rs) (key_of_recipe r) ≡ true) rs
 forward_fits rs names roots =
     in_all (λ r. fits rs (length rs) (key_of_recipe r) ≡ true) rs (forward rs rs (finds rs names roots) names roots)

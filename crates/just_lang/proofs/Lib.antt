@@ -1,3 +1,4 @@
+-- The lemmas of justfiles and their closures; what crates above may rest on is in Laws.
 pub mod Around
 pub mod Bodies
 pub mod Builds
@@ -10,11 +11,15 @@ pub mod Grown
 pub mod Items
 pub mod ItemsOnly
 pub mod ItemsRead
+pub mod Laws
 pub mod Lists
 pub mod Marks
 pub mod Misnamed
 pub mod NamesRead
 pub mod OneKind
+pub mod Places
 pub mod Priors
+pub mod Reaches
+pub mod Readings
 pub mod Recipes
 pub mod Visited

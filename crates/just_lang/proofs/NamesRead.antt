@@ -4,6 +4,7 @@ use Rattle.std.specs.List.{All, Contains, list_all}
 use Rattle.std.proofs.lemmas.List.Elements.{All-cons}
 use Rattle.std.proofs.lemmas.List.Folds.{list_any-append}
 use Rattle.std.proofs.lemmas.Slice.Eq.{bytes_eq-Decides}
+use Rattle.std.specs.Cmp.Lexicographic.{pointwise}
 use Rattle.just_lang.specs.declared.ast.AstItem.{AstItem}
 use Rattle.just_lang.specs.declared.ast.Dependency.{Dependency}
 use Rattle.just_lang.specs.declared.ast.Line.{Line}
@@ -12,7 +13,7 @@ use Rattle.just_lang.specs.declared.ast.Recipe.{Recipe}
 use Rattle.just_lang.specs.declared.grammar.line.Header.{Header}
 use Rattle.just_lang.specs.declared.grammar.kind.Kind.{Kind}
 use Rattle.just_lang.specs.declared.grammar.kind.Kind.TheVariants as k
-use Rattle.just_lang.specs.Keys.{same_path, same_lists}
+use Rattle.just_lang.specs.Keys.{same_path}
 use Rattle.just_lang.specs.Names.{path_of, NamesFit}
 use Rattle.just_lang.specs.Form.{recipes_of}
 use Rattle.just_lang.specs.Kinds.{headers_of, build, join_blank, made, is_borne, is_known, fits_between, first_misfit, sooner}
@@ -85,7 +86,7 @@ pub borne_last : (h : Header) (above : List Header) → is_borne h.name (above +
 borne_last h [] = ap (λ (x : Bool). x || false) (bytes_self h.name)
 borne_last h (g ∷ above) = either (bytes_eq g.name h.name) (is_borne h.name (above ++ h ∷ [])) (borne_last h above)
 
-pub same_single : (cs : List (List ℕ)) (name : List ℕ) → same_lists bytes_eq cs (name ∷ []) ≡ true → (name ∷ []) ≡ cs
+pub same_single : (cs : List (List ℕ)) (name : List ℕ) → pointwise bytes_eq cs (name ∷ []) ≡ true → (name ∷ []) ≡ cs
 same_single [] name e = absurd (let no : ⊥ = cc in no)
 same_single (c ∷ []) name e = let parts = both_true (bytes_eq c name) true e in ap (λ (x : List ℕ). x ∷ []) (sym (bytes_same c name parts.0))
 same_single (c ∷ d ∷ cs) name e = let parts = both_true (bytes_eq c name) false e in absurd (let no : ⊥ = cc in no)

@@ -1,27 +1,23 @@
 -- Keys and the recipes that they name.
-use Rattle.std.specs.Prelude.{◌&&◌, Bool, true, false, List, [], ◌∷◌, map, Option, Some, None, bytes_eq, find}
+use Rattle.std.specs.Prelude.{◌&&◌, Bool, List, [], map, Option, Some, None, bytes_eq, find}
+use Rattle.std.specs.Cmp.Lexicographic.{pointwise}
 use Rattle.just_lang.specs.declared.ast.Modulepath.{Modulepath}
 use Rattle.just_lang.specs.declared.ast.Dependency.{Dependency}
 use Rattle.just_lang.specs.declared.ast.Recipe.{Recipe}
 use Rattle.just_lang.specs.declared.key.Key.{Key}
 use Rattle.just_lang.specs.declared.key.Value.{Value}
 
--- whether two lists are equal item by item
-abbrev pub same_lists : {A : Type 0} → (A → A → Bool) → List A → List A → Bool
-same_lists same [] [] = true
-same_lists same [] (y ∷ ys) = false
-same_lists same (x ∷ xs) [] = false
-same_lists same (x ∷ xs) (y ∷ ys) = same x y && same_lists same xs ys
-
+-- whether two paths lead to one recipe
 abbrev pub same_path : Modulepath → Modulepath → Bool
-same_path a b = same_lists bytes_eq a.components b.components
+same_path a b = pointwise bytes_eq a.components b.components
 
+-- whether two values have the same elements
 abbrev pub same_value : Value → Value → Bool
-same_value a b = same_lists bytes_eq a.elements b.elements
+same_value a b = pointwise bytes_eq a.elements b.elements
 
 -- whether two keys are equal: one recipe, with the same values
 abbrev pub same_key : Key → Key → Bool
-same_key a b = same_path a.recipe b.recipe && same_lists same_value a.arguments b.arguments
+same_key a b = same_path a.recipe b.recipe && pointwise same_value a.arguments b.arguments
 
 -- a recipe without arguments as a key
 abbrev pub key_of_recipe : Recipe → Key

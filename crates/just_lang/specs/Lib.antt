@@ -1,3 +1,4 @@
+-- The definitions that the contracts of justfiles and their closures cite.
 pub mod Asked
 pub mod Assembled
 pub mod BodyLines

@@ -22,8 +22,8 @@ same_round (Some n) (Some m) = n == m
 abbrev pub is_place : Option ℕ → Key → Place → Bool
 is_place r k x = same_round x.round r && same_key x.key k
 
-abbrev pub listed : List Place → Option ℕ → Key → Bool
-listed list r k = list_any (is_place r k) list
+abbrev pub is_listed : List Place → Option ℕ → Key → Bool
+is_listed list r k = list_any (is_place r k) list
 
 -- the number of a key in a round: its place in the list, and the list's length where it isn't listed
 abbrev pub number_of : List Place → Option ℕ → Key → ℕ
@@ -32,23 +32,23 @@ number_of list r k = position_or_len (is_place r k) list
 abbrev pub numbers_of : List Place → Option ℕ → List Key → List ℕ
 numbers_of list r keys = map (λ k. number_of list r k) keys
 
--- The list behind the visit of a key in a round, where p and s are the priors and the subsequents of a key. It stays as
--- it is where the key is listed in the round. Else the priors are visited in the round, the key gets the next place,
--- and the subsequents are visited in the round that this place names. No chain of dependencies has more than n members.
-unfoldable pub visited : (Key → List Key) → (Key → List Key) → ℕ → List Place → Option ℕ → Key → List Place
-visited p s zero list r k = list
-visited p s (suc n) list r k =
-    if listed list r k then list
-    else (let before : List Place = fold (λ l q. visited p s n l r q) list (p k) in
-    fold (λ l q. visited p s n l (Some (length before)) q) (before ++ record { round = r; key = k } ∷ []) (s k))
+-- The list behind the visit of a key in a round, by the priors and the subsequents of each key. It stays as it is where the
+-- key is listed in the round. Else the priors are visited in the round, the key gets the next place, and the subsequents
+-- are visited in the round that this place names. No chain of dependencies has more than `left` members.
+unfoldable pub visit : (Key → List Key) → (Key → List Key) → ℕ → List Place → Option ℕ → Key → List Place
+visit priors subsequents zero list round key = list
+visit priors subsequents (suc left) list round key =
+    if is_listed list round key then list
+    else (let before : List Place = fold (λ l q. visit priors subsequents left l round q) list (priors key) in
+    fold (λ l q. visit priors subsequents left l (Some (length before)) q) (before ++ record { round = round; key = key } ∷ []) (subsequents key))
 
--- the list behind the visits of some keys, one after the other
-abbrev pub visited_each : (Key → List Key) → (Key → List Key) → ℕ → List Place → Option ℕ → List Key → List Place
-visited_each p s n list r keys = fold (λ l q. visited p s n l r q) list keys
+-- the list behind the visits of some keys in a round, one after the other
+abbrev pub visits : (Key → List Key) → (Key → List Key) → ℕ → List Place → Option ℕ → List Key → List Place
+visits priors subsequents left list round keys = fold (λ l q. visit priors subsequents left l round q) list keys
 
 -- the visits of the keys that are asked for
 unfoldable pub walk : List Recipe → List Key → List Place
-walk recipes keys = visited_each (priors_of recipes) (subsequents_of recipes) (length recipes) [] None keys
+walk recipes keys = visits (priors_of recipes) (subsequents_of recipes) (length recipes) [] None keys
 
 -- the node at a place of the list
 abbrev pub node_of : (Key → List Key) → (Key → List Key) → List Place → ℕ → Place → Node
@@ -73,17 +73,17 @@ closure_of recipes keys = record {
 
 -- The least set that has each invocation in the round None; with each key its priors in the same round; and with the
 -- key at place n of the list its subsequents in the round that n names.
-pub data Member (p s : Key → List Key) (keys : List Key) (list : List Place) : Option ℕ → Key → Type 0 where
-  invoked : (k : Key) → Contains keys k → Member p s keys list None k
-  prior : (r : Option ℕ) (k q : Key) → Member p s keys list r k → Contains (p k) q → Member p s keys list r q
-  subsequent : (n : ℕ) (r : Option ℕ) (k q : Key) → Member p s keys list r k → slice_get list n ≡ Some (record { round = r; key = k }) → Contains (s k) q → Member p s keys list (Some n) q
+pub data IsMember (p s : Key → List Key) (keys : List Key) (list : List Place) : Option ℕ → Key → Type 0 where
+  invoked : (k : Key) → Contains keys k → IsMember p s keys list None k
+  prior : (r : Option ℕ) (k q : Key) → IsMember p s keys list r k → Contains (p k) q → IsMember p s keys list r q
+  subsequent : (n : ℕ) (r : Option ℕ) (k q : Key) → IsMember p s keys list r k → slice_get list n ≡ Some (record { round = r; key = k }) → Contains (s k) q → IsMember p s keys list (Some n) q
 
 -- The list has each member once, in the order of a run on one thread.
 pub record IsClosure (p s : Key → List Key) (keys : List Key) (list : List Place) : Type 0 where
   -- each member is listed
-  pub all : (r : Option ℕ) (k : Key) → Member p s keys list r k → (n : ℕ) × (slice_get list n ≡ Some (record { round = r; key = k }))
+  pub all : (r : Option ℕ) (k : Key) → IsMember p s keys list r k → (n : ℕ) × (slice_get list n ≡ Some (record { round = r; key = k }))
   -- nothing else is
-  pub only : (n : ℕ) (x : Place) → slice_get list n ≡ Some x → Member p s keys list x.round x.key
+  pub only : (n : ℕ) (x : Place) → slice_get list n ≡ Some x → IsMember p s keys list x.round x.key
   -- and nothing twice
   pub once : (n m : ℕ) (x : Place) → slice_get list n ≡ Some x → slice_get list m ≡ Some x → m ≡ n
   -- the priors of a key stand before it, in its round

@@ -7,10 +7,10 @@ abbrev pub round_at : List Node → ℕ → Option (Option ℕ)
 round_at nodes n = option_map (λ x. x.round) (slice_get nodes n)
 
 -- a node is an invocation, or a prior or a subsequent of some node
-pub data Used (nodes : List Node) (invocations : List ℕ) (n : ℕ) : Type 0 where
-  invoked : Contains invocations n → Used nodes invocations n
-  prior : (m : ℕ) (x : Node) → slice_get nodes m ≡ Some x → Contains x.priors n → Used nodes invocations n
-  subsequent : (m : ℕ) (x : Node) → slice_get nodes m ≡ Some x → Contains x.subsequents n → Used nodes invocations n
+pub data IsUsed (nodes : List Node) (invocations : List ℕ) (n : ℕ) : Type 0 where
+  invoked : Contains invocations n → IsUsed nodes invocations n
+  prior : (m : ℕ) (x : Node) → slice_get nodes m ≡ Some x → Contains x.priors n → IsUsed nodes invocations n
+  subsequent : (m : ℕ) (x : Node) → slice_get nodes m ≡ Some x → Contains x.subsequents n → IsUsed nodes invocations n
 
 -- A node's number is its place in the list.
 pub record IsWellFormed (nodes : List Node) (invocations : List ℕ) : Type 0 where
@@ -23,6 +23,6 @@ pub record IsWellFormed (nodes : List Node) (invocations : List ℕ) : Type 0 wh
   -- the node that names a node's round stands before it
   pub rounds_are : (n m : ℕ) (x : Node) → slice_get nodes n ≡ Some x → x.round ≡ Some m → m < n
   -- no node is there for nothing
-  pub used : (n : ℕ) (x : Node) → slice_get nodes n ≡ Some x → Used nodes invocations n
+  pub used : (n : ℕ) (x : Node) → slice_get nodes n ≡ Some x → IsUsed nodes invocations n
   -- within a round keys differ
   pub distinct : (n m : ℕ) (x y : Node) → slice_get nodes n ≡ Some x → slice_get nodes m ≡ Some y → x.round ≡ y.round → x.key ≡ y.key → n ≡ m

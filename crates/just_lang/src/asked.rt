@@ -1,10 +1,12 @@
+//! What is asked of a justfile: the keys that words name, and the keys around a key.
+
 ghost use Rattle.std.specs.Prelude.{◌≡◌, [], ◌∷◌, length, map, All, IfOk, IfErr};
 ghost use Rattle.std.specs.Option.{option_copied};
 ghost use Rattle.just_lang.specs.Asked.{NamesRecipe, key_named, RefusesWords};
 ghost use Rattle.just_lang.specs.Keys.{recipe_of, key_of, priors_of, subsequents_of};
 
 use super::{Dependency, Justfile, Key, LangError, Modulepath, Recipe};
-use just_path::{Seq, Text};
+use just_path::{Seq, Text, TryClone};
 use std::alloc::Global;
 
 /// The keys that words ask for.
@@ -88,7 +90,7 @@ fn keys_of(alloc: Global, dependencies: &[Dependency]) -> Result<Seq<Key>, LangE
 {
     let mut keys = Vec::new(alloc);
     for dependency in dependencies {
-        let recipe = dependency.path.try_clone(alloc)?;
+        let recipe = dependency.path.try_clone()?;
         keys.push(Key {
             recipe,
             arguments: Seq::new(alloc),

@@ -1,3 +1,5 @@
+//! The shape of a justfile.
+
 use just_path::{Seq, Text, Utf8PathBuf};
 
 /// The text of a justfile, with the path that it was read from and that path's parent (the path itself where it has

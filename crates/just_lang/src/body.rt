@@ -1,3 +1,5 @@
+//! The lines of a body as they are run.
+
 ghost use Rattle.std.specs.Prelude.{◌≡◌, true, IfOk, IfErr, is_some, map};
 ghost use Rattle.just_lang.specs.Keys.{recipe_of};
 ghost use Rattle.just_lang.specs.BodyLines.{text_of_fragments, plain_line, body_lines_of};

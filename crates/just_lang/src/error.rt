@@ -1,3 +1,5 @@
+//! Why a justfile, or a request of its recipes, is refused.
+
 ghost use Rattle.std.specs.Prelude.{◌≡◌};
 ghost use Rattle.just_lang.specs.declared.error.LangError.TheVariants.{NoMemory as OutOfMemory};
 

@@ -1,3 +1,5 @@
+//! A justfile whose recipes are sound.
+
 ghost use Rattle.std.specs.Prelude.{◌≡◌, ◌^◌, ◌<◌, ℕ, true, length, All};
 ghost use Rattle.just_lang.specs.Sound.{fits, key_of_recipe};
 

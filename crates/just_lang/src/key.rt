@@ -1,3 +1,5 @@
+//! Keys: recipes with the values of their parameters.
+
 use super::Modulepath;
 use just_path::{Seq, Text};
 

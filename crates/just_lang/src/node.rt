@@ -1,3 +1,5 @@
+//! The nodes of a closure, and the lines of a body.
+
 use super::Key;
 use just_path::{Seq, Text};
 

@@ -1,3 +1,5 @@
+//! A place of the walk: a key in a round.
+
 use super::Key;
 
 /// A key in a round of the one-thread closure. A list of places is the order of visits: a node's number is its place.

@@ -1,23 +1,23 @@
-ghost use Rattle.std.specs.Prelude.{◌≡◌, IfOk, bytes_eq};
-ghost use Rattle.just_lang.specs.Keys.{same_lists, same_path, same_value, same_key};
+//! Keys and their parts, compared and copied.
+ghost use Rattle.std.specs.Prelude.{◌≡◌};
+ghost use Rattle.std.specs.Cmp.Lexicographic.{pointwise};
+ghost use Rattle.just_lang.specs.Keys.{same_path, same_value, same_key};
 
 use super::{Key, Modulepath, Value};
-use just_path::{NoMemory, Seq, Text};
-use std::alloc::Global;
+use just_path::{NoMemory, TryClone};
 
 impl Modulepath {
     /// Whether both lead to one recipe.
     pub fn same(&self, other: &Modulepath) -> bool
         ensures { result ≡ same_path self.now other.now }
     {
-        same_texts(self.components.as_slice(), other.components.as_slice())
+        self.components == other.components
     }
+}
 
-    /// A copy.
-    pub fn try_clone(&self, alloc: Global) -> Result<Modulepath, NoMemory>
-        ensures { IfOk result (λ p. p ≡ self.now) }
-    {
-        let components = copy_texts(alloc, self.components.as_slice())?;
+impl TryClone for Modulepath {
+    fn try_clone(&self) -> Result<Modulepath, NoMemory> {
+        let components = self.components.try_clone()?;
         Ok(Modulepath { components })
     }
 }
@@ -27,14 +27,13 @@ impl Value {
     pub fn same(&self, other: &Value) -> bool
         ensures { result ≡ same_value self.now other.now }
     {
-        same_texts(self.elements.as_slice(), other.elements.as_slice())
+        self.elements == other.elements
     }
+}
 
-    /// A copy.
-    pub fn try_clone(&self, alloc: Global) -> Result<Value, NoMemory>
-        ensures { IfOk result (λ v. v ≡ self.now) }
-    {
-        let elements = copy_texts(alloc, self.elements.as_slice())?;
+impl TryClone for Value {
+    fn try_clone(&self) -> Result<Value, NoMemory> {
+        let elements = self.elements.try_clone()?;
         Ok(Value { elements })
     }
 }
@@ -47,33 +46,18 @@ impl Key {
         self.recipe.same(&other.recipe)
             && same_values(self.arguments.as_slice(), other.arguments.as_slice())
     }
+}
 
-    /// A copy.
-    pub fn try_clone(&self, alloc: Global) -> Result<Key, NoMemory>
-        ensures { IfOk result (λ k. k ≡ self.now) }
-    {
-        let recipe = self.recipe.try_clone(alloc)?;
-        let arguments = copy_values(alloc, self.arguments.as_slice())?;
+impl TryClone for Key {
+    fn try_clone(&self) -> Result<Key, NoMemory> {
+        let recipe = self.recipe.try_clone()?;
+        let arguments = self.arguments.try_clone()?;
         Ok(Key { recipe, arguments })
     }
 }
 
-fn same_texts(some: &[Text], others: &[Text]) -> bool
-    ensures { result ≡ same_lists bytes_eq some.now others.now }
-{
-    if some.len() != others.len() {
-        return false;
-    }
-    for at in 0..some.len() {
-        if some[at].as_str() != others[at].as_str() {
-            return false;
-        }
-    }
-    true
-}
-
 fn same_values(some: &[Value], others: &[Value]) -> bool
-    ensures { result ≡ same_lists same_value some.now others.now }
+    ensures { result ≡ pointwise same_value some.now others.now }
 {
     if some.len() != others.len() {
         return false;
@@ -84,24 +68,4 @@ fn same_values(some: &[Value], others: &[Value]) -> bool
         }
     }
     true
-}
-
-fn copy_texts(alloc: Global, texts: &[Text]) -> Result<Seq<Text>, NoMemory>
-    ensures { IfOk result (λ copies. copies ≡ texts.now) }
-{
-    let mut copies = Vec::new(alloc);
-    for text in texts {
-        copies.push(text.try_clone()?)?;
-    }
-    Ok(Seq::from(copies))
-}
-
-fn copy_values(alloc: Global, values: &[Value]) -> Result<Seq<Value>, NoMemory>
-    ensures { IfOk result (λ copies. copies ≡ values.now) }
-{
-    let mut copies = Vec::new(alloc);
-    for value in values {
-        copies.push(value.try_clone(alloc)?)?;
-    }
-    Ok(Seq::from(copies))
 }

@@ -1,3 +1,5 @@
+//! The justfile that sources make.
+
 ghost use Rattle.std.specs.Prelude.{◌≡◌, ◌≢◌, ◌^◌, ◌<◌, List, length, All, IfOk, IfErr, MatchResult};
 ghost use Rattle.just_lang.specs.Assembled.{IsAssembled, AreRead, AreUnsupported};
 ghost use Rattle.just_lang.specs.declared.ast.AstItem.{AstItem as Item};

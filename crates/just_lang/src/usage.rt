@@ -1,3 +1,5 @@
+//! Why the words of the command line are refused.
+
 use just_path::Text;
 
 /// Why the words of the command line are refused.

@@ -1,13 +1,15 @@
+//! The closure of some keys, by visiting them one after the other.
+
 ghost use Rattle.std.specs.Prelude.{◌≡◌, ◌+◌, ◌<◌, ◌≤◌, ◌++◌, [], ◌∷◌, length, true, All, IfOk, IfErr, OnOk};
 ghost use Rattle.just_lang.specs.Asked.{NamesRecipe};
 ghost use Rattle.just_lang.specs.Keys.{priors_of, subsequents_of};
 ghost use Rattle.just_lang.specs.Sound.{fits};
-ghost use Rattle.just_lang.specs.Walk.{same_round, is_place, listed, number_of, numbers_of, visited, visited_each, walk, node_of, nodes_from, closure_of, IsClosure, RefusesNodes};
+ghost use Rattle.just_lang.specs.Walk.{same_round, is_place, is_listed, number_of, numbers_of, visit, visits, walk, node_of, nodes_from, closure_of, IsClosure, RefusesNodes};
 ghost use Rattle.just_lang.specs.WellFormed.{IsWellFormed};
 
 use super::asked::keys_around;
 use super::{CLOSURE_LIMIT, Closure, Justfile, Key, LangError, Node, Place, Recipe};
-use just_path::Seq;
+use just_path::{Seq, TryClone};
 use std::alloc::Global;
 
 /// What a run of these keys on one thread does, in its order: each key that they need once in each round.
@@ -40,9 +42,9 @@ fn visit_each(
 ) -> Result<(), LangError>
     requires fit { All (λ q. fits recipes.now left q ≡ true) keys.now }
     requires short { length list.old.items ≤ CLOSURE_LIMIT }
-    ensures list { OnOk result (list.new.items ≡ visited_each (priors_of recipes.now) (subsequents_of recipes.now) left list.old.items round keys.now) }
+    ensures list { OnOk result (list.new.items ≡ visits (priors_of recipes.now) (subsequents_of recipes.now) left list.old.items round keys.now) }
     ensures short { OnOk result (length list.new.items ≤ CLOSURE_LIMIT) }
-    ensures refused { IfErr result (RefusesNodes (length (visited_each (priors_of recipes.now) (subsequents_of recipes.now) left list.old.items round keys.now))) }
+    ensures refused { IfErr result (RefusesNodes (length (visits (priors_of recipes.now) (subsequents_of recipes.now) left list.old.items round keys.now))) }
 {
     for key in keys {
         visit(alloc, recipes, list, round, key, left)?;
@@ -62,16 +64,16 @@ fn visit(
 ) -> Result<(), LangError>
     requires fit { fits recipes.now left key.now ≡ true }
     requires short { length list.old.items ≤ CLOSURE_LIMIT }
-    ensures list { OnOk result (list.new.items ≡ visited (priors_of recipes.now) (subsequents_of recipes.now) left list.old.items round key.now) }
+    ensures list { OnOk result (list.new.items ≡ visit (priors_of recipes.now) (subsequents_of recipes.now) left list.old.items round key.now) }
     ensures short { OnOk result (length list.new.items ≤ CLOSURE_LIMIT) }
-    ensures refused { IfErr result (RefusesNodes (length (visited (priors_of recipes.now) (subsequents_of recipes.now) left list.old.items round key.now))) }
+    ensures refused { IfErr result (RefusesNodes (length (visit (priors_of recipes.now) (subsequents_of recipes.now) left list.old.items round key.now))) }
 {
     if is_listed(list.as_slice(), round, key) {
         return Ok(());
     }
     let (priors, subsequents) = keys_around(alloc, recipes, key)?;
     visit_each(alloc, recipes, list, round, priors.as_slice(), left - 1)?;
-    let node = push_place(alloc, list, round, key)?;
+    let node = push_place(list, round, key)?;
     visit_each(
         alloc,
         recipes,
@@ -83,12 +85,7 @@ fn visit(
 }
 
 /// Gives a key the next place, and answers its number.
-fn push_place(
-    alloc: Global,
-    list: &mut Vec<Place>,
-    round: Option<u32>,
-    key: &Key,
-) -> Result<u32, LangError>
+fn push_place(list: &mut Vec<Place>, round: Option<u32>, key: &Key) -> Result<u32, LangError>
     requires { length list.old.items ≤ CLOSURE_LIMIT }
     ensures number { IfOk result (λ n. n ≡ length list.old.items) }
     ensures list { OnOk result (list.new.items ≡ list.old.items ++ record { round = round; key = key.now } ∷ []) }
@@ -99,7 +96,7 @@ fn push_place(
     if count >= CLOSURE_LIMIT {
         return Err(LangError::ClosureLimit);
     }
-    let key = key.try_clone(alloc)?;
+    let key = key.try_clone()?;
     list.push(Place { round, key })?;
     Ok(count as u32)
 }
@@ -128,7 +125,7 @@ fn make_node(
     ensures node { IfOk result (λ x. x ≡ node_of (priors_of recipes.now) (subsequents_of recipes.now) list.now number place.now) }
     ensures refused { IfErr result (λ e. e ≡ LangError.NoMemory) }
 {
-    let key = place.key.try_clone(alloc)?;
+    let key = place.key.try_clone()?;
     let (before, behind) = keys_around(alloc, recipes, &key)?;
     let priors = numbers(alloc, list, place.round, before.as_slice())?;
     let subsequents = numbers(alloc, list, Some(number), behind.as_slice())?;
@@ -172,7 +169,7 @@ fn number(list: &[Place], round: Option<u32>, key: &Key) -> usize
 }
 
 fn is_listed(list: &[Place], round: Option<u32>, key: &Key) -> bool
-    ensures { result ≡ listed list.now round key.now }
+    ensures { result ≡ is_listed list.now round key.now }
 {
     list.iter().any(|place| is_place(place, round, key))
 }

@@ -11,7 +11,7 @@ use Rattle.just_sched.specs.declared.event.Event.{Event}
 use Rattle.just_sched.specs.declared.plan_node.PlanNode.{PlanNode}
 use Rattle.just_sched.specs.Nodes.{work_in}
 use Rattle.just_sched.specs.State.{status_of, statuses, next_step}
-use Rattle.just_sched.specs.Works.{after, judged, commands_of, start_or_well}
+use Rattle.just_sched.specs.Works.{after, step_behind, commands_of, start_or_well}
 
 -- the last item by its place
 pub last_or-cons : {A : Type 0} (x : A) (xs : List A) → last_or (Some x) xs ≡ slice_get (x ∷ xs) (length xs)
@@ -19,17 +19,18 @@ last_or-cons x [] = refl
 last_or-cons x (y ∷ ys) = last_or-cons y ys
 
 -- with no command at a place, and at no status, the body goes on at that place
-judged-none : (w : Work) (n : ℕ) (c : Option Command) → judged w n c None ≡ start_or_well w n
+judged-none : (w : Work) (n : ℕ) (c : Option Command) → step_behind w n c None ≡ start_or_well w n
 judged-none w n (Some c) = refl
 judged-none w n None = refl
 
-pub after_judged : (w : Work) (ss : List Status) → judged w (length ss) (slice_get (commands_of w) (length ss - 1)) (last_or None ss) ≡ after w ss
+-- the step behind some statuses is that by their number and the last of them
+pub after_judged : (w : Work) (ss : List Status) → step_behind w (length ss) (slice_get (commands_of w) (length ss - 1)) (last_or None ss) ≡ after w ss
 after_judged w [] = judged-none w 0 (slice_get (commands_of w) 0)
 after_judged w (s ∷ ss) =
-    ap (λ o. judged w (suc (length ss)) (slice_get (commands_of w) (suc (length ss) - 1)) o) (last_or-cons s ss ∙ ap (λ n. slice_get (s ∷ ss) n) (sym (sub-one (suc (length ss)))))
+    ap (λ o. step_behind w (suc (length ss)) (slice_get (commands_of w) (suc (length ss) - 1)) o) (last_or-cons s ss ∙ ap (λ n. slice_get (s ∷ ss) n) (sym (sub-one (suc (length ss)))))
 
 -- the step of a node, from the count of its statuses, the last of them and its work
-pub judged_is : (w : Work) (ss : List Status) (n : ℕ) (last : Option Status) → n ≡ length ss → last ≡ last_or None ss → judged w n (slice_get (commands_of w) (n - 1)) last ≡ after w ss
+pub judged_is : (w : Work) (ss : List Status) (n : ℕ) (last : Option Status) → n ≡ length ss → last ≡ last_or None ss → step_behind w n (slice_get (commands_of w) (n - 1)) last ≡ after w ss
 judged_is w ss n last e f = rw (e, f) (after_judged w ss)
 
 -- the step of a node once the whole history was gone over
@@ -39,7 +40,7 @@ pub judged_node :
     → count + length (filter_map (status_of n) (drop i h)) ≡ length (statuses h n)
     → last_or last (filter_map (status_of n) (drop i h)) ≡ last_or None (statuses h n)
     → slice_get nodes n ≡ Some x
-    → judged x.work count (slice_get (commands_of x.work) (count - 1)) last ≡ next_step nodes h n
+    → step_behind x.work count (slice_get (commands_of x.work) (count - 1)) last ≡ next_step nodes h n
 judged_node nodes h n count i last x past counted last_is found =
     let rest = drop_all i h past in
     let number : count ≡ length (statuses h n) = simp unary_clauses at (rw rest at counted) in

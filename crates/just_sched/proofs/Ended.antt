@@ -1,5 +1,5 @@
 -- A run at its end: no work is left, and where no failure decides, all is done.
-use Rattle.std.proofs.Common.{◌≡◌, ◌<◌, ℕ, false, true≢false, refl, Option, Some, None, option_map, MatchOption, sym, ◌∙◌, ap, subst}
+use Rattle.std.proofs.Common.{◌≡◌, ◌<◌, ◌⊎◌, inl, inr, ℕ, true, false, true≢false, refl, Option, Some, None, option_map, MatchOption, sym, ◌∙◌, ap, subst}
 use Rattle.std.proofs.Math.Logic.{∥∥₁_elim}
 use Rattle.std.specs.Prelude.{List}
 use Rattle.std.specs.Int.NonZero.{non_zero_u64_get}
@@ -13,41 +13,56 @@ use Rattle.just_sched.specs.declared.event.Verdict.{Verdict}
 use Rattle.just_sched.specs.declared.event.Verdict.TheVariants as verdict
 use Rattle.just_sched.specs.Idle.{IsIdle, HasWork}
 use Rattle.just_sched.specs.Legal.{Run, IsLegal, IsClosed, IsComplete}
-use Rattle.just_sched.specs.Start.{Start, Kept, run_of}
-use Rattle.just_sched.specs.State.{caught}
+use Rattle.just_sched.specs.Start.{Start, IsKept, run_of}
+use Rattle.just_sched.specs.State.{has_caught}
 use Rattle.just_sched.specs.Verdict.{IsVerdict, NoneDecides}
-use Rattle.just_sched.proofs.Totals.{Formed}
-use Rattle.just_sched.proofs.Complete.{Unprompted, complete, complete_prop, jobs_absurd, no_reason, unprompted_answered}
+use Rattle.just_sched.proofs.Complete.{complete, complete_prop, jobs_absurd}
+use Rattle.just_sched.proofs.PlanShape.{IsFormed}
+use Rattle.just_sched.proofs.Reasons.{HasNoPrompts, no_reason, unprompted_answered}
 
 -- a job limit, where there is one, is one job or more
 abbrev pub AllowsJobs : Option ℕ → Type 0
 AllowsJobs jobs = MatchOption jobs (Unit {0}) (λ j. 0 < j)
 
+-- a limit that is given as a number is one job or more
 allows : (jobs : Option NonZeroU64) → AllowsJobs (option_map non_zero_u64_get jobs)
 allows (Some n) = n.ok
 allows None = tt
 
+-- no limit is reached where no body is open
 limit_absurd : (s : Run) (h : List Event) (jobs : Option ℕ) → s.jobs ≡ jobs → AllowsJobs jobs → IsClosed s h → IsIdle s h idle.Jobs → ⊥
 limit_absurd s h (Some j) same some closed is = jobs_absurd s h j closed same some is
 limit_absurd s h None same some closed is = absurd (cc (sym same ∙ is.3))
 
--- nothing can be done where a book with no body open is idle
-pub no_work : (s : Run) (h : List Event) (i : Idle) → AllowsJobs s.jobs → IsClosed s h → caught h ≡ false → IsIdle s h i → HasWork s h → ⊥
-no_work s h idle.Signal some closed calm is = absurd (true≢false (sym is ∙ calm))
-no_work s h idle.Nothing some closed calm is = is.1
-no_work s h idle.Jobs some closed calm is = λ work. limit_absurd s h s.jobs refl some closed is
-no_work s h idle.Class some closed calm is = absurd is
+-- where a book with no body open is idle, a signal was caught or nothing is left to do
+pub nothing_left : (s : Run) (h : List Event) (i : Idle) → AllowsJobs s.jobs → IsClosed s h → IsIdle s h i → (has_caught h ≡ true) ⊎ (HasWork s h → ⊥)
+nothing_left s h idle.Signal some closed is = inl is
+nothing_left s h idle.Nothing some closed is = inr is.1
+nothing_left s h idle.Jobs some closed is = inr (λ work. limit_absurd s h s.jobs refl some closed is)
+nothing_left s h idle.Class some closed is = absurd is
+
+-- the same of a limit that is given as a number
+pub nothing_left_by : (s : Run) (h : List Event) (i : Idle) (jobs : Option NonZeroU64) → option_map non_zero_u64_get jobs ≡ s.jobs → IsClosed s h → IsIdle s h i → (has_caught h ≡ true) ⊎ (HasWork s h → ⊥)
+nothing_left_by s h i jobs are closed is = nothing_left s h i (subst AllowsJobs are (allows jobs)) closed is
 
 -- where no node failed and nothing can be done, all is done
-pub all_done : (s : Run) (h : List Event) → ∥ Formed s ∥₁ → ∥ Unprompted s ∥₁ → IsLegal s h → IsClosed s h → caught h ≡ false → NoneDecides s h → (HasWork s h → ⊥) → IsComplete s h
+pub all_done : (s : Run) (h : List Event) → ∥ IsFormed s ∥₁ → ∥ HasNoPrompts s ∥₁ → IsLegal s h → IsClosed s h → has_caught h ≡ false → NoneDecides s h → (HasWork s h → ⊥) → IsComplete s h
 all_done s h formed unprompted legal closed calm well nothing =
     ∥∥₁_elim formed (complete_prop s h) (λ f. ∥∥₁_elim unprompted (complete_prop s h) (λ u.
     complete s h f legal closed (no_reason s h legal well calm) (unprompted_answered s h u legal) calm nothing))
 
--- a run that is driven to its end and went well is complete
-pub well_complete : (s : Start) (h : List Event) (now : List Entry) (w : Option World) (jobs : Option NonZeroU64) (v : Verdict)
-    → option_map non_zero_u64_get jobs ≡ s.jobs → ∥ Kept s h now w ∥₁ → caught h ≡ false → IsClosed (run_of s) h → (i : Idle) × IsIdle (run_of s) h i → IsVerdict (run_of s) h v → v ≡ verdict.Well → IsComplete (run_of s) h
-well_complete s h now w jobs v jobs_are kept calm closed i judged well =
-    let none : NoneDecides (run_of s) h = (subst (λ x. IsVerdict (run_of s) h x) well judged).0 in
-    ∥∥₁_elim kept (complete_prop (run_of s) h) (λ k.
-    all_done (run_of s) h s.plan.well s.plan.unprompted k.legal closed calm none (no_work (run_of s) h i.0 (subst AllowsJobs jobs_are (allows jobs)) closed calm i.1))
+-- a body's end without a failure that decides, where nothing is left to do, is the end of all
+ended_complete : (s : Start) (h : List Event) (now : List Entry) (w : Option World) → ∥ IsKept s h now w ∥₁ → IsClosed (run_of s) h → NoneDecides (run_of s) h → has_caught h ≡ false → (has_caught h ≡ true) ⊎ (HasWork (run_of s) h → ⊥) → IsComplete (run_of s) h
+ended_complete s h now w kept closed none calm (inl c) = absurd (true≢false (sym c ∙ calm))
+ended_complete s h now w kept closed none calm (inr nothing) =
+    ∥∥₁_elim kept (complete_prop (run_of s) h) (λ k. all_done (run_of s) h s.plan.well s.plan.unprompted k.legal closed calm none nothing)
+
+-- a run that went well, and in which nothing is left to do, is complete
+pub well_complete : (s : Start) (h : List Event) (now : List Entry) (w : Option World) (v : Verdict)
+    → ∥ IsKept s h now w ∥₁ → IsClosed (run_of s) h → (has_caught h ≡ true) ⊎ (HasWork (run_of s) h → ⊥) → IsVerdict (run_of s) h v → v ≡ verdict.Well → IsComplete (run_of s) h
+well_complete s h now w v kept closed left judged well = well_by (subst (λ x. IsVerdict (run_of s) h x) well judged)
+  where
+  -- a run that went well is complete, by what its verdict says
+  well_by : IsVerdict (run_of s) h verdict.Well → IsComplete (run_of s) h
+  well_by (none, inl calm) = ended_complete s h now w kept closed none calm left
+  well_by (none, inr complete) = complete

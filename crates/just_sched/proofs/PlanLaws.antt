@@ -14,15 +14,17 @@ use Rattle.just_lang.specs.WellFormed.{IsWellFormed, round_at}
 use Rattle.just_sched.specs.declared.plan_node.PlanNode.{PlanNode}
 use Rattle.just_sched.specs.Nodes.{subsequents_at, subsequents_in, priors_at, priors_in, prompt_in}
 use Rattle.just_sched.specs.declared.event.Event.{Event}
-use Rattle.just_sched.specs.State.{confirmed, is_answer}
+use Rattle.just_sched.specs.State.{is_confirmed, answers}
 
 -- the nodes of a plan without their work
 abbrev pub shapes : List PlanNode → List Node
 shapes nodes = map (λ x. x.node) nodes
 
+-- what holds of all items holds of a contained one
 pub contained : {A : Type 0} (P : A → Type 0) (xs : List A) (x : A) → All P xs → Contains xs x → P x
 contained P xs x all at = subst P at.2 (all at.0 x at.1)
 
+-- a list contains what stands at its places
 pub contains_at : (xs : List ℕ) (j : ℕ) → j < length xs → Contains xs (slice_index xs j)
 contains_at xs j lt = (j, lt, get_or_default_zero xs j (slice_index xs j) lt)
 
@@ -38,13 +40,16 @@ round_within nodes n r e =
 pub subsequents_read : (nodes read : List PlanNode) (at : ℕ) (d : PlanNode) (xs : List ℕ) → read ≡ nodes → at < length nodes → xs ≡ (get_or read at d).node.subsequents → xs ≡ subsequents_at nodes at
 subsequents_read nodes read at d xs same lt is = is ∙ (rw same (ap subsequents_in (sym (slice_get-get_or nodes at d lt))))
 
+-- the same of the priors
 pub priors_read : (nodes read : List PlanNode) (at : ℕ) (d : PlanNode) (xs : List ℕ) → read ≡ nodes → at < length nodes → xs ≡ (get_or read at d).node.priors → xs ≡ priors_at nodes at
 priors_read nodes read at d xs same lt is = is ∙ (rw same (ap priors_in (sym (slice_get-get_or nodes at d lt))))
 
 module _ (nodes : List PlanNode) (invocations : List ℕ) (well : IsWellFormed (shapes nodes) invocations) where
+  -- a node that is there has its shape
   node_found : (n : ℕ) (x : PlanNode) → slice_get nodes n ≡ Some x → slice_get (shapes nodes) n ≡ Some x.node
   node_found n x found = slice_get-map (λ (y : PlanNode). y.node) nodes n ∙ ap (option_map (λ (y : PlanNode). y.node)) found
 
+  -- there are as many shapes as nodes
   shapes_within : (n : ℕ) → n < length (shapes nodes) → n < length nodes
   shapes_within n h = let sized = length-map {A = PlanNode} {B = Node} in omega (arith, sized)
 
@@ -88,9 +93,9 @@ module _ (nodes : List PlanNode) (invocations : List ℕ) (well : IsWellFormed (
       ] refl
 
 -- where no node has a prompt, each is confirmed
-pub confirmed_all : (nodes : List PlanNode) (h : List Event) (n : ℕ) → ∥ All (λ (x : PlanNode). is_none x.prompt ≡ true) nodes ∥₁ → confirmed nodes h n ≡ true
+pub confirmed_all : (nodes : List PlanNode) (h : List Event) (n : ℕ) → ∥ All (λ (x : PlanNode). is_none x.prompt ≡ true) nodes ∥₁ → is_confirmed nodes h n ≡ true
 confirmed_all nodes h n unprompted =
-    elim (slice_get nodes n) as (λ o. slice_get nodes n ≡ o → (is_none (prompt_in o) || list_any (is_answer true n) h) ≡ true) [
+    elim (slice_get nodes n) as (λ o. slice_get nodes n ≡ o → (is_none (prompt_in o) || list_any (answers true n) h) ≡ true) [
       | Some x ↦ λ found.
           let none : is_none x.prompt ≡ true =
           ∥∥₁_elim unprompted (Bool-set _ _) (λ all. subst (λ (y : PlanNode). is_none y.prompt ≡ true) (get_or_from_slice_get nodes n x x found) (all n x (slice_get_within nodes n x found))) in

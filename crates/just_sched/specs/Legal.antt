@@ -1,5 +1,5 @@
 -- Legal, closed and complete histories of a run.
-use Rattle.std.specs.Prelude.{ℕ, ◌≡◌, ◌+◌, ◌<◌, ◌&&◌, not, Bool, true, false, List, [], ◌∷◌, ◌++◌, length, Option, Some, MatchOption, count_by, ◌⊎◌, ◌≢◌, ◌||◌}
+use Rattle.std.specs.Prelude.{ℕ, ◌≡◌, ◌+◌, ◌<◌, ◌&&◌, not, Bool, true, false, List, [], ◌∷◌, ◌++◌, length, Option, Some, MatchOption, count_by, ◌⊎◌, ◌≢◌}
 use Rattle.std.specs.List.{range_with_len}
 use Rattle.just_outside.specs.declared.entry.Call.{Call}
 use Rattle.just_outside.specs.declared.entry.Call.TheVariants as call
@@ -9,8 +9,9 @@ use Rattle.just_sched.specs.declared.event.Outcome.TheVariants as outcome
 use Rattle.just_sched.specs.declared.event.Reason.{Reason}
 use Rattle.just_sched.specs.declared.event.Reason.TheVariants as reason
 use Rattle.just_sched.specs.declared.plan_node.PlanNode.{PlanNode}
+use Rattle.just_sched.specs.declared.work.Step.{Step}
 use Rattle.just_sched.specs.declared.work.Step.TheVariants as step
-use Rattle.just_sched.specs.State.{begun, skipped, done, is_open, running, is_answer, last_start, caught, next_step, ToAsk, Ready, Finished}
+use Rattle.just_sched.specs.State.{is_begun, is_over, is_done, is_open, is_running, answers, last_start, has_caught, next_step, IsToAsk, IsReady, IsFinished}
 use Rattle.std.specs.List.{list_any}
 
 -- what a run is of: the nodes of its plan and those that were asked for, the job limit if there is one, and how many
@@ -32,15 +33,15 @@ pub data Due : Type 0 where
 
 -- the node is open, and neither skipped nor done
 abbrev pub in_body : List Event → ℕ → Bool
-in_body h n = is_open h n && not (skipped h n) && not (done h n)
+in_body h n = is_open h n && not (is_over h n)
 
 -- that event is the one that the node is due to have. Looked and Saved come with the cache, which no node has yet
 abbrev pub IsDue : Run → List Event → ℕ → Due → Type 0
-IsDue s h n Asked = ToAsk s.nodes s.invocations h n
+IsDue s h n Asked = IsToAsk s.nodes s.invocations h n
 IsDue s h n Looked = ⊥
-IsDue s h n Begun = (in_body h n ≡ true) × (begun h n ≡ false)
-IsDue s h n (Started i) = (in_body h n ≡ true) × (begun h n ≡ true) × (running h n ≡ false) × (next_step s.nodes h n ≡ step.Start i)
-IsDue s h n Ended = (in_body h n ≡ true) × (running h n ≡ true)
+IsDue s h n Begun = (in_body h n ≡ true) × (is_begun h n ≡ false)
+IsDue s h n (Started i) = (in_body h n ≡ true) × (is_begun h n ≡ true) × (is_running h n ≡ false) × (next_step s.nodes h n ≡ step.Start i)
+IsDue s h n Ended = (in_body h n ≡ true) × (is_running h n ≡ true)
 IsDue s h n Saved = ⊥
 
 -- how many bodies are open
@@ -77,36 +78,39 @@ MayFail s h n call.Check = IsDue s h n Saved
 MayFail s h n call.Save = IsDue s h n Saved
 MayFail s h n _ = ⊥
 
--- the node's body was begun, none of its commands runs, it isn't done, and its statuses say this of it
-abbrev pub MayEnd : Run → List Event → ℕ → Bool → Type 0
-MayEnd s h n true = (begun h n ≡ true) × (running h n ≡ false) × (done h n ≡ false) × (next_step s.nodes h n ≡ step.Well)
-MayEnd s h n false = (begun h n ≡ true) × (running h n ≡ false) × (done h n ≡ false) × (next_step s.nodes h n ≡ step.Failed)
+-- The node's body has come to its end, which is this by the statuses so far: it was begun, it is between two commands, it
+-- isn't done, and this is its next step.
+pub record IsAtEnd (s : Run) (h : List Event) (n : ℕ) (how : Step) : Type 0 where
+  pub begun : is_begun h n ≡ true
+  pub between_commands : is_running h n ≡ false
+  pub not_done : is_done h n ≡ false
+  pub next : next_step s.nodes h n ≡ how
 
 -- when a node's body may fail for that reason
 abbrev pub MayFailBy : Run → List Event → ℕ → Reason → Type 0
-MayFailBy s h n reason.Status = MayEnd s h n false
-MayFailBy s h n reason.NotConfirmed = (list_any (is_answer false n) h ≡ true) × (done h n ≡ false)
+MayFailBy s h n reason.Status = IsAtEnd s h n step.Failed
+MayFailBy s h n reason.NotConfirmed = (list_any (answers false n) h ≡ true) × (is_done h n ≡ false)
 MayFailBy s h n (reason.Input j m) = IsDue s h n Looked
 MayFailBy s h n (reason.Output j) = IsDue s h n Saved
 MayFailBy s h n (reason.Place c m) = MayMiss s h n c
 MayFailBy s h n (reason.Fault c) = MayFail s h n c
-MayFailBy s h n reason.Interrupted = ((i : ℕ) × IsDue s h n (Started i)) × (caught h ≡ true)
+MayFailBy s h n reason.Interrupted = ((i : ℕ) × IsDue s h n (Started i)) × (has_caught h ≡ true)
 MayFailBy s h n reason.NoMemory = (d : Due) × IsDue s h n d × (d ≢ Ended)
 
 -- each event has its condition on the history before it
 abbrev pub May : Run → List Event → Event → Type 0
-May s h (event.Asked n y) = IsDue s h n Asked × (caught h ≡ false)
-May s h (event.Took n) = Ready s.nodes s.invocations h n × (caught h ≡ false) × MatchOption s.jobs (Unit {0}) (λ j. open_bodies s h < j)
+May s h (event.Asked n y) = IsDue s h n Asked × (has_caught h ≡ false)
+May s h (event.Took n) = IsReady s.nodes s.invocations h n × (has_caught h ≡ false) × MatchOption s.jobs (Unit {0}) (λ j. open_bodies s h < j)
 May s h (event.Looked n sums look) = IsDue s h n Looked
 May s h (event.Skipped n) = ⊥
 May s h (event.Begun n) = IsDue s h n Begun
-May s h (event.Started n i c) = IsDue s h n (Started i) × (caught h ≡ false) × (c ≡ s.base + all_starts h)
+May s h (event.Started n i c) = IsDue s h n (Started i) × (has_caught h ≡ false) × (c ≡ s.base + all_starts h)
 May s h (event.Ended n i c status) = IsDue s h n Ended × (last_start h n ≡ Some (i, c))
 May s h (event.Saved n) = IsDue s h n Saved
-May s h (event.Done n outcome.Well) = MayEnd s h n true
+May s h (event.Done n outcome.Well) = IsAtEnd s h n step.Well
 May s h (event.Done n (outcome.Failed r)) = MayFailBy s h n r
-May s h (event.Gave n) = (is_open h n ≡ true) × ((skipped h n || done h n) ≡ true)
-May s h (event.Caught signal) = caught h ≡ false
+May s h (event.Gave n) = (is_open h n ≡ true) × (is_over h n ≡ true)
+May s h (event.Caught signal) = has_caught h ≡ false
 
 -- each of these events, behind those before, has its condition
 abbrev pub LegalFrom : Run → List Event → List Event → Type 0
@@ -124,4 +128,4 @@ IsClosed s h = (n : ℕ) → n < length s.nodes → is_open h n ≡ false
 -- closed, and every node of the plan is finished
 pub record IsComplete (s : Run) (h : List Event) : Type 0 where
   pub closed : IsClosed s h
-  pub all_finished : (n : ℕ) → n < length s.nodes → Finished s.nodes h n
+  pub all_finished : (n : ℕ) → n < length s.nodes → IsFinished s.nodes h n

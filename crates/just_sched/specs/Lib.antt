@@ -1,6 +1,11 @@
+-- The definitions that the contracts cite.
+pub mod Account
+pub mod Causes
 pub mod Codes
 pub mod Commands
+pub mod Driven
 pub mod Favourable
+pub mod Gains
 pub mod Idle
 pub mod Legal
 pub mod Match

@@ -15,13 +15,13 @@ use Rattle.just_sched.specs.declared.event.Reason.{Reason}
 use Rattle.just_sched.specs.declared.event.Reason.TheVariants as reason
 use Rattle.just_sched.specs.declared.work.Command.{Command}
 use Rattle.just_sched.specs.Nodes.{prompt_at, banner_at, command_at}
-use Rattle.just_sched.specs.State.{running, last_start}
+use Rattle.just_sched.specs.State.{is_running, last_start}
 use Rattle.just_sched.specs.Legal.{Run, Due, Asked, Looked, Begun, Started, Ended, Saved, IsDue}
 
 -- the entry of a text that is printed to standard error; none for the empty text
-abbrev pub printed : List ℕ → List Entry
-printed [] = []
-printed (b ∷ bs) = entry.Printed stream.Err (b ∷ bs) ∷ []
+abbrev pub printed_entries : List ℕ → List Entry
+printed_entries [] = []
+printed_entries (b ∷ bs) = entry.Printed stream.Err (b ∷ bs) ∷ []
 
 -- whether an answer confirms: trimmed, and in ASCII lower case, it is `y` or `yes`
 abbrev pub is_yes : List ℕ → Bool
@@ -29,77 +29,77 @@ is_yes answer = bytes_eq (str_to_ascii_lowercase (trim answer)) (codes "y") || b
 
 -- the echo of a command as an entry, and then the start of its child
 abbrev pub started_entries : ℕ → Command → List Entry
-started_entries child c = printed c.echo ++ entry.Started child c.spec ∷ []
+started_entries child c = printed_entries c.echo ++ entry.Started child c.spec ∷ []
 
 -- the entries that an event which is due will stand for
 abbrev pub DueEntries : Run → ℕ → Due → List Entry → Type 0
 DueEntries s n Asked es = MatchOption (prompt_at s.nodes n) ⊥ (λ p. (answer : List ℕ) × (es ≡ entry.Asked p answer ∷ []))
 DueEntries s n Looked es = ⊥
-DueEntries s n Begun es = es ≡ printed (banner_at s.nodes n)
+DueEntries s n Begun es = es ≡ printed_entries (banner_at s.nodes n)
 DueEntries s n (Started i) es = MatchOption (command_at s.nodes n i) ⊥ (λ c. (child : ℕ) × (es ≡ started_entries child c))
 DueEntries s n Ended es = ⊥
 DueEntries s n Saved es = ⊥
 
 -- no node runs with that child
 abbrev pub IsStranger : List Event → ℕ → Type 0
-IsStranger h child = (n i : ℕ) → running h n ≡ true → last_start h n ≡ Some (i, child) → ⊥
+IsStranger h child = (n i : ℕ) → is_running h n ≡ true → last_start h n ≡ Some (i, child) → ⊥
 
 -- a command that is due to start, whose echo was printed before these entries
 abbrev pub BehindEcho : Run → List Event → ℕ → (Command → List Entry) → List Entry → Type 0
-BehindEcho s h n made es = (i : ℕ) × IsDue s h n (Started i) × MatchOption (command_at s.nodes n i) ⊥ (λ c. es ≡ printed c.echo ++ made c)
+BehindEcho s h n made es = (i : ℕ) × IsDue s h n (Started i) × MatchOption (command_at s.nodes n i) ⊥ (λ c. es ≡ printed_entries c.echo ++ made c)
 
 -- what stands behind a text that failed to be printed: the banner as the body begins, or the echo of a command
 abbrev pub PrintFails : Run → List Event → ℕ → List Entry → Type 0
 PrintFails s h n es =
     (es ≡ entry.Failed call.Print ∷ [])
-    × ((IsDue s h n Begun × (printed (banner_at s.nodes n) ≢ [])) ⊎ ((i : ℕ) × IsDue s h n (Started i) × MatchOption (command_at s.nodes n i) ⊥ (λ c. printed c.echo ≢ [])))
+    × ((IsDue s h n Begun × (printed_entries (banner_at s.nodes n) ≢ [])) ⊎ ((i : ℕ) × IsDue s h n (Started i) × MatchOption (command_at s.nodes n i) ⊥ (λ c. printed_entries c.echo ≢ [])))
 
 -- the entries of a body that a failed call ended: what its due event had made before, and then the failure
-abbrev pub FaultStands : Run → List Event → ℕ → Call → List Entry → Type 0
-FaultStands s h n call.Ask es = es ≡ entry.Failed call.Ask ∷ []
-FaultStands s h n call.Print es = PrintFails s h n es
-FaultStands s h n call.Temp es = BehindEcho s h n (λ c. entry.Failed call.Temp ∷ []) es
-FaultStands s h n call.Start es = BehindEcho s h n (λ c. entry.Failed call.Start ∷ []) es
-FaultStands s h n call.Wait es =
+abbrev pub FaultStandsFor : Run → List Event → ℕ → Call → List Entry → Type 0
+FaultStandsFor s h n call.Ask es = es ≡ entry.Failed call.Ask ∷ []
+FaultStandsFor s h n call.Print es = PrintFails s h n es
+FaultStandsFor s h n call.Temp es = BehindEcho s h n (λ c. entry.Failed call.Temp ∷ []) es
+FaultStandsFor s h n call.Start es = BehindEcho s h n (λ c. entry.Failed call.Start ∷ []) es
+FaultStandsFor s h n call.Wait es =
     (es ≡ entry.Failed call.Wait ∷ [])
     ⊎ ((i child other : ℕ) × (last_start h n ≡ Some (i, child)) × IsStranger h other × (es ≡ entry.Strayed child other ∷ []))
-FaultStands s h n _ es = ⊥
+FaultStandsFor s h n _ es = ⊥
 
 -- the same for a miss, with the path that the call was made on
-abbrev pub MissStands : Run → List Event → ℕ → Call → Miss → List Entry → Type 0
-MissStands s h n call.Ask m es = es ≡ entry.Missed (codes "-") m ∷ []
-MissStands s h n call.Temp m es = BehindEcho s h n (λ c. entry.Missed (script_folder c.spec) m ∷ []) es
-MissStands s h n _ m es = ⊥
+abbrev pub MissStandsFor : Run → List Event → ℕ → Call → Miss → List Entry → Type 0
+MissStandsFor s h n call.Ask m es = es ≡ entry.Missed (codes "-") m ∷ []
+MissStandsFor s h n call.Temp m es = BehindEcho s h n (λ c. entry.Missed (script_folder c.spec) m ∷ []) es
+MissStandsFor s h n _ m es = ⊥
 
 -- the entries of a body that failed for that reason
-abbrev pub FailureStands : Run → List Event → ℕ → Reason → List Entry → Type 0
-FailureStands s h n reason.Status es = es ≡ []
-FailureStands s h n reason.NotConfirmed es = es ≡ []
-FailureStands s h n (reason.Input j m) es = ⊥
-FailureStands s h n (reason.Output j) es = ⊥
-FailureStands s h n (reason.Place c m) es = MissStands s h n c m es
-FailureStands s h n (reason.Fault c) es = FaultStands s h n c es
-FailureStands s h n reason.Interrupted es = es ≡ []
-FailureStands s h n reason.NoMemory es = (d : Due) × (rest all : List Entry) × IsDue s h n d × DueEntries s n d all × (all ≡ es ++ rest) × (rest ≢ [])
+abbrev pub FailureStandsFor : Run → List Event → ℕ → Reason → List Entry → Type 0
+FailureStandsFor s h n reason.Status es = es ≡ []
+FailureStandsFor s h n reason.NotConfirmed es = es ≡ []
+FailureStandsFor s h n (reason.Input j m) es = ⊥
+FailureStandsFor s h n (reason.Output j) es = ⊥
+FailureStandsFor s h n (reason.Place c m) es = MissStandsFor s h n c m es
+FailureStandsFor s h n (reason.Fault c) es = FaultStandsFor s h n c es
+FailureStandsFor s h n reason.Interrupted es = es ≡ []
+FailureStandsFor s h n reason.NoMemory es = (d : Due) × (rest all : List Entry) × IsDue s h n d × DueEntries s n d all × (all ≡ es ++ rest) × (rest ≢ [])
 
 -- the entries that an event stands for, behind the history h
-abbrev pub Stands : Run → List Event → Event → List Entry → Type 0
-Stands s h (event.Asked n y) es = MatchOption (prompt_at s.nodes n) ⊥ (λ p. (answer : List ℕ) × (is_yes answer ≡ y) × (es ≡ entry.Asked p answer ∷ []))
-Stands s h (event.Took n) es = es ≡ []
-Stands s h (event.Looked n sums look) es = ⊥
-Stands s h (event.Skipped n) es = es ≡ []
-Stands s h (event.Begun n) es = es ≡ printed (banner_at s.nodes n)
-Stands s h (event.Started n i child) es = MatchOption (command_at s.nodes n i) ⊥ (λ c. es ≡ started_entries child c)
-Stands s h (event.Ended n i child status) es = es ≡ entry.Ended child status ∷ []
-Stands s h (event.Saved n) es = ⊥
-Stands s h (event.Done n outcome.Well) es = es ≡ []
-Stands s h (event.Done n (outcome.Failed r)) es = FailureStands s h n r es
-Stands s h (event.Gave n) es = es ≡ []
-Stands s h (event.Caught signal) es = es ≡ entry.Signalled signal ∷ []
+abbrev pub StandsFor : Run → List Event → Event → List Entry → Type 0
+StandsFor s h (event.Asked n y) es = MatchOption (prompt_at s.nodes n) ⊥ (λ p. (answer : List ℕ) × (is_yes answer ≡ y) × (es ≡ entry.Asked p answer ∷ []))
+StandsFor s h (event.Took n) es = es ≡ []
+StandsFor s h (event.Looked n sums look) es = ⊥
+StandsFor s h (event.Skipped n) es = es ≡ []
+StandsFor s h (event.Begun n) es = es ≡ printed_entries (banner_at s.nodes n)
+StandsFor s h (event.Started n i child) es = MatchOption (command_at s.nodes n i) ⊥ (λ c. es ≡ started_entries child c)
+StandsFor s h (event.Ended n i child status) es = es ≡ entry.Ended child status ∷ []
+StandsFor s h (event.Saved n) es = ⊥
+StandsFor s h (event.Done n outcome.Well) es = es ≡ []
+StandsFor s h (event.Done n (outcome.Failed r)) es = FailureStandsFor s h n r es
+StandsFor s h (event.Gave n) es = es ≡ []
+StandsFor s h (event.Caught signal) es = es ≡ entry.Signalled signal ∷ []
 
 abbrev pub MatchesFrom : Run → List Event → List Event → List Entry → Type 0
 MatchesFrom s before [] es = es ≡ []
-MatchesFrom s before (e ∷ later) es = (first rest : List Entry) × (es ≡ first ++ rest) × Stands s before e first × MatchesFrom s (before ++ e ∷ []) later rest
+MatchesFrom s before (e ∷ later) es = (first rest : List Entry) × (es ≡ first ++ rest) × StandsFor s before e first × MatchesFrom s (before ++ e ∷ []) later rest
 
 -- these entries are the entries of the history's events, one behind the other
 abbrev pub Matches : Run → List Event → List Entry → Type 0

@@ -6,6 +6,7 @@ use Rattle.just_sched.specs.declared.plan_node.PlanNode.{PlanNode}
 use Rattle.just_sched.specs.Works.{commands_of}
 use Rattle.just_sched.specs.Start.{Start}
 
+-- no nodes and no invocations are well formed
 pub nothing_formed : IsWellFormed [] []
 nothing_formed = record {
   invocations_are = λ k d h. absurd (omega arith);
@@ -16,12 +17,15 @@ nothing_formed = record {
   distinct = λ n m x y e. absurd (cc);
 }
 
+-- no node has too many commands
 pub nothing_short : All (λ (x : PlanNode). length (commands_of x.work) < 2 ^ 32) []
 nothing_short = λ k d h. absurd (omega arith)
 
+-- no node has a prompt
 pub nothing_asked : All (λ (x : PlanNode). is_none x.prompt ≡ true) []
 nothing_asked = λ k d h. absurd (omega arith)
 
+-- where the name begins that no run has
 abbrev pub nowhere : Start
 nowhere = record {
   plan = record { nodes = []; invocations = []; well = ∣ nothing_formed ∣₁; few = lit< tt; short = ∣ nothing_short ∣₁; unprompted = ∣ nothing_asked ∣₁ };

@@ -18,11 +18,11 @@ unfoldable pub total_commands : List PlanNode → ℕ
 total_commands nodes = sum_by (λ x. length (commands_of x.work)) nodes
 
 -- whether the event settled a child: a command's end, or the failure to wait for it
-abbrev pub is_settled : Event → Bool
-is_settled (event.Ended n i c s) = true
-is_settled (event.Done n (outcome.Failed (reason.Fault call.Wait))) = true
-is_settled _ = false
+abbrev pub settles : Event → Bool
+settles (event.Ended n i c s) = true
+settles (event.Done n (outcome.Failed (reason.Fault call.Wait))) = true
+settles _ = false
 
 -- how many children were settled
-abbrev pub settles : List Event → ℕ
-settles h = count_by is_settled h
+abbrev pub settle_count : List Event → ℕ
+settle_count h = count_by settles h

@@ -16,13 +16,17 @@ pub record Start : Type 0 where
   pub entries : List Entry
   pub world : Option World
 
+-- the run of a plan with that job limit, if there is one, over a host with that record
+abbrev pub run_over : Plan → Option ℕ → List Entry → Run
+run_over plan jobs entries = record { nodes = plan.nodes; invocations = plan.invocations; jobs = jobs; base = children entries }
+
 -- the run that begins there
 abbrev pub run_of : Start → Run
-run_of s = record { nodes = s.plan.nodes; invocations = s.plan.invocations; jobs = s.jobs; base = children s.entries }
+run_of s = run_over s.plan s.jobs s.entries
 
 -- A history that was made since then, over a host whose record and told world are these now: the history is legal, it
 -- matches what the record gained, and the world is as it was where no child was started and no call failed.
-pub record Kept (s : Start) (h : List Event) (now : List Entry) (world : Option World) : Type 0 where
+pub record IsKept (s : Start) (h : List Event) (now : List Entry) (world : Option World) : Type 0 where
   pub legal : IsLegal (run_of s) h
   pub gained : List Entry
   pub grew : now ≡ s.entries ++ gained
@@ -30,5 +34,5 @@ pub record Kept (s : Start) (h : List Event) (now : List Entry) (world : Option 
   pub untouched : all_starts h ≡ 0 → list_any is_failed gained ≡ false → world ≡ s.world
 
 -- what a run is of that has this plan, this job limit and a host with this record and told world
-abbrev pub begins : Plan → Option ℕ → List Entry → Option World → Start
-begins plan jobs entries world = record { plan = plan; jobs = jobs; entries = entries; world = world }
+abbrev pub start_with : Plan → Option ℕ → List Entry → Option World → Start
+start_with plan jobs entries world = record { plan = plan; jobs = jobs; entries = entries; world = world }

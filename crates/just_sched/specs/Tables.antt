@@ -1,23 +1,28 @@
--- Flags of nodes: a list with one flag for each node of a plan.
-use Rattle.std.specs.Prelude.{ℕ, ◌≡◌, ◌<◌, ◌==◌, Bool, true, false, List, length, slice_index, slice_index_or, Option, Some, None}
+-- Tables of nodes: lists with one flag, or one reason, for each node of a plan.
+use Rattle.std.specs.Prelude.{ℕ, ◌≡◌, ◌<◌, Bool, true, false, List, length, slice_index, slice_index_or, Option, Some, None}
+use Rattle.just_sched.specs.declared.event.Reason.{Reason}
 
 -- the flag of a node; false past the last one
 abbrev pub flag : List Bool → ℕ → Bool
 flag flags n = slice_index_or flags n false
 
 -- each flag says this of its node
-abbrev pub Shows : List Bool → (ℕ → Bool) → Type 0
-Shows flags f = (k : ℕ) → k < length flags → flag flags k ≡ f k
+abbrev pub FlagsAre : List Bool → (ℕ → Bool) → Type 0
+FlagsAre flags f = (k : ℕ) → k < length flags → flag flags k ≡ f k
 
 -- each flag says whether this holds of its node
-abbrev pub Tells : List Bool → (ℕ → Type 0) → Type 0
-Tells flags P = (k : ℕ) → k < length flags → (flag flags k ≡ true → P k) × (flag flags k ≡ false → P k → ⊥)
-
--- the number is n
-abbrev pub names : Option ℕ → ℕ → Bool
-names None n = false
-names (Some m) n = m == n
+abbrev pub FlagsMean : List Bool → (ℕ → Type 0) → Type 0
+FlagsMean flags P = (k : ℕ) → k < length flags → (flag flags k ≡ true → P k) × (flag flags k ≡ false → P k → ⊥)
 
 -- each number of the list is that of a flag
 abbrev pub InRange : List ℕ → List Bool → Type 0
 InRange xs flags = (j : ℕ) → j < length xs → slice_index xs j < length flags
+
+-- the reason that is noted of a node; none past the last one
+abbrev pub reason_at : List (Option Reason) → ℕ → Option Reason
+reason_at reasons n = slice_index_or reasons n None
+
+-- the first of two, where there is one, else the second
+abbrev pub or_first : {A : Type 0} → Option A → Option A → Option A
+or_first (Some x) o = Some x
+or_first None o = o

@@ -5,7 +5,7 @@ use Rattle.just_sched.specs.declared.event.Reason.{Reason}
 use Rattle.just_sched.specs.declared.event.Reason.TheVariants as reason
 use Rattle.just_sched.specs.declared.event.Verdict.{Verdict}
 use Rattle.just_sched.specs.declared.event.Verdict.TheVariants as verdict
-use Rattle.just_sched.specs.State.{reason_of, caught, caught_signal}
+use Rattle.just_sched.specs.State.{reason_of, has_caught, caught_signal}
 use Rattle.just_sched.specs.Legal.{Run, IsComplete}
 
 -- the reason decides how the run went: it is one, and another than that of an interrupted body
@@ -27,7 +27,7 @@ NoneDecides s h = (n : ℕ) → n < length s.nodes → decides (reason_of h n) �
 -- the least failure that decides gives the verdict, want of memory where that is its reason; else the signal, where one
 -- was caught and the history isn't complete; else all went well
 abbrev pub IsVerdict : Run → List Event → Verdict → Type 0
-IsVerdict s h verdict.Well = NoneDecides s h × ((caught h ≡ false) ⊎ IsComplete s h)
+IsVerdict s h verdict.Well = NoneDecides s h × ((has_caught h ≡ false) ⊎ IsComplete s h)
 IsVerdict s h (verdict.Failed n) = IsLeast s h n × (reason_of h n ≡ Some reason.NoMemory → ⊥)
 IsVerdict s h (verdict.Interrupted signal) = NoneDecides s h × (caught_signal h ≡ Some signal) × (IsComplete s h → ⊥)
 IsVerdict s h verdict.NoMemory = (n : ℕ) × IsLeast s h n × (reason_of h n ≡ Some reason.NoMemory)

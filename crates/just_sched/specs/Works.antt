@@ -34,19 +34,19 @@ abbrev pub start_or_well : Work → ℕ → Step
 start_or_well w n = if is_some (slice_get (commands_of w) n) then step.Start n else step.Well
 
 -- the step behind command `n - 1`, which ended so
-abbrev pub judged : Work → ℕ → Option Command → Option Status → Step
-judged w n (Some c) (Some s) = if ends_body c s then step.Well else (if goes_on c s then start_or_well w n else step.Failed)
-judged w n (Some c) None = start_or_well w n
-judged w n None s = start_or_well w n
+abbrev pub step_behind : Work → ℕ → Option Command → Option Status → Step
+step_behind w n (Some c) (Some s) = if ends_body c s then step.Well else (if goes_on c s then start_or_well w n else step.Failed)
+step_behind w n (Some c) None = start_or_well w n
+step_behind w n None s = start_or_well w n
 
 -- the step after n statuses: failed or well where the last of them ends the body, else command n or the end
 abbrev pub after : Work → List Status → Step
 after w [] = start_or_well w 0
-after w (s ∷ ss) = judged w (length (s ∷ ss)) (slice_get (commands_of w) (length (s ∷ ss) - 1)) (slice_get (s ∷ ss) (length (s ∷ ss) - 1))
+after w (s ∷ ss) = step_behind w (length (s ∷ ss)) (slice_get (commands_of w) (length (s ∷ ss) - 1)) (slice_get (s ∷ ss) (length (s ∷ ss) - 1))
 
 -- each status but the last let the body go on, and there is a command for each
-abbrev pub WentOn : List Command → List Status → Type 0
-WentOn cs [] = Unit {0}
-WentOn [] (s ∷ ss) = ⊥
-WentOn (c ∷ cs) (s ∷ []) = Unit {0}
-WentOn (c ∷ cs) (s ∷ t ∷ ss) = (goes_on c s ≡ true) × (ends_body c s ≡ false) × WentOn cs (t ∷ ss)
+abbrev pub EachWentOn : List Command → List Status → Type 0
+EachWentOn cs [] = Unit {0}
+EachWentOn [] (s ∷ ss) = ⊥
+EachWentOn (c ∷ cs) (s ∷ []) = Unit {0}
+EachWentOn (c ∷ cs) (s ∷ t ∷ ss) = (goes_on c s ≡ true) × (ends_body c s ≡ false) × EachWentOn cs (t ∷ ss)

@@ -4,26 +4,27 @@ ghost use Rattle.std.specs.Prelude.{◌≡◌, ◌≢◌, ◌+◌, ◌<◌, ◌�
 ghost use Rattle.std.specs.Int.NonZero.{non_zero_u64_get};
 ghost use Rattle.std.proofs.Props.{props};
 ghost use Rattle.just_outside.specs.Record.{children};
+ghost use Rattle.just_sched.specs.Account.{IsAccount};
 ghost use Rattle.just_sched.specs.Codes.{plan_code};
-ghost use Rattle.just_sched.specs.Start.{Kept, run_of};
-ghost use Rattle.just_sched.specs.Room.{slots, total_commands, settles};
-ghost use Rattle.just_sched.specs.State.{Ready, is_open, running, begun, done, caught, last_start as start_of, next_step as step_of};
-ghost use Rattle.just_sched.specs.Legal.{Run, IsClosed, May, open_bodies, in_body};
-ghost use Rattle.just_sched.specs.Match.{Stands};
-ghost use Rattle.just_sched.specs.Idle.{IsIdle, CanMove};
+ghost use Rattle.just_sched.specs.Start.{IsKept, run_of};
+ghost use Rattle.just_sched.specs.Room.{slots, total_commands};
+ghost use Rattle.just_sched.specs.State.{IsReady, is_open, is_running, is_begun, is_over as over_of, has_taken, has_caught, caught_signal, last_start as start_of, next_step as step_of};
+ghost use Rattle.just_sched.specs.Legal.{Run, IsClosed, IsComplete, May, open_bodies, in_body};
+ghost use Rattle.just_sched.specs.Match.{StandsFor};
+ghost use Rattle.just_sched.specs.Idle.{IsIdle, CanMove, HasWork};
 ghost use Rattle.just_sched.specs.Verdict.{IsVerdict};
-ghost use Rattle.just_sched.specs.Moves.{Grown, Settled, RunsWith, Rests, MatchNext};
+ghost use Rattle.just_sched.specs.Moves.{GrowsBy, IsMove, RunsWith, Rests, MatchNext};
 ghost use base.Stored.{Coded-set};
 
 use super::calls::{banner, planned, start_child, tell};
-use super::choice::Tables;
-use super::look::{is_done, last_start, next_step};
+use super::look::{is_over, last_start, next_step};
 use super::room::{command_count, event_count};
+use super::tables::Tables;
 use super::{
     Driven, Event, HeldBody, Idle, Named, Naming, Next, OpenBody, Outcome, Plan, Reason, Step,
-    WaitedBody,
+    Verdict, WaitedBody,
 };
-use just_outside::{Call, Host};
+use just_outside::{Call, Host, Signal};
 use just_path::{NoMemory, Seq};
 use std::alloc::Global;
 use std::marker::PhantomData;
@@ -37,18 +38,16 @@ pub struct Book<H: Host + Drop, P: Naming> {
     pub jobs: Option<NonZeroU64>,
     pub host: H,
     pub history: Vec<Event>,
+    /// The signal that was caught first.
+    caught: Option<Signal>,
     /// How many bodies are open.
     taken: usize,
     tables: Tables,
     of: PhantomData<P>,
     pub ghost plan_named: { plan ≡ P.start.plan } by { Coded-set plan_code plan P.start.plan },
     pub ghost jobs_named: { option_map non_zero_u64_get jobs ≡ P.start.jobs } by { Prim.hlevel props },
-    pub ghost kept: { ∥ Kept P.start history.items (H.entries host) (H.world host) ∥₁ },
-    pub ghost calm: { caught history.items ≡ false },
+    ghost account: { ∥ IsAccount P.start history.items (H.entries host) (H.world host) (H.spare host) taken caught ∥₁ },
     ghost roomy: { slots P.start.plan.nodes ≤ vec_capacity history },
-    ghost spared: { total_commands P.start.plan.nodes ≤ H.spare host + settles history.items },
-    ghost counted: { taken ≡ open_bodies (run_of P.start) history.items },
-    ghost bound: { MatchOption P.start.jobs (Unit {0}) (λ j. taken ≤ j) } by { Prim.hlevel props },
     ghost sized: { tables.size ≡ length P.start.plan.nodes },
 }
 
@@ -105,6 +104,7 @@ impl<H: Host + Drop, P: Naming> Book<H, P> {
                 jobs,
                 host,
                 history,
+                caught: None,
                 taken: 0,
                 tables,
                 of: PhantomData,
@@ -120,22 +120,35 @@ impl<H: Host + Drop, P: Naming> Book<H, P> {
         self.taken
     }
 
+    /// The history so far. It is legal, and matches what the host's record gained.
     pub fn history(&self) -> &[Event]
-        ensures { result.now ≡ self.now.history.items }
+        ensures items { result.now ≡ self.now.history.items }
+        ensures kept { ∥ IsKept P.start result.now (H.entries self.now.host) (H.world self.now.host) ∥₁ }
     {
         self.history.as_slice()
     }
 
-    /// Makes one move, if there is one: the first node that is ready takes a job, and its body is begun and gone on with,
+    /// The signal that was caught first, if one was.
+    pub fn caught(&self) -> Option<Signal>
+        ensures { result ≡ caught_signal self.now.history.items }
+    {
+        self.caught
+    }
+
+    /// Makes one move, if there is one: the ready node of least number takes a job, and its body is begun and gone on with,
     /// until a child runs or the job is given back. It waits for no child.
     pub fn next(&mut self) -> Next<H>
         ensures plan { self.new.plan ≡ self.old.plan }
         ensures jobs { self.new.jobs ≡ self.old.jobs }
-        ensures can { MatchNext result (CanMove (run_of P.start) self.old.history.items) (λ node child. CanMove (run_of P.start) self.old.history.items) (λ i. IsIdle (run_of P.start) self.old.history.items i) }
-        ensures did { MatchNext result (Settled self.old.history.items self.new.history.items)
-            (λ node child. Grown self.old.history.items self.new.history.items node × (is_open self.old.history.items node ≡ false) × RunsWith self.new.history.items node child)
+        ensures can { MatchNext result (CanMove (run_of P.start) self.old.history.items) (λ node child. CanMove (run_of P.start) self.old.history.items) (λ i. IsIdle (run_of P.start) self.new.history.items i) }
+        ensures did { MatchNext result
+            ((n : ℕ) × IsMove (run_of P.start) self.old.history.items self.new.history.items n × Rests self.new.history.items n)
+            (λ node child. IsMove (run_of P.start) self.old.history.items self.new.history.items node × RunsWith self.new.history.items node child)
             (λ i. (self.new.history.items ≡ self.old.history.items) × (H.entries self.new.host ≡ H.entries self.old.host)) }
     {
+        if self.is_caught() {
+            return Next::Idle(Idle::Signal);
+        }
         let Some(node) = self.first_ready() else {
             return Next::Idle(Idle::Nothing);
         };
@@ -152,9 +165,9 @@ impl<H: Host + Drop, P: Naming> Book<H, P> {
         ensures plan { self.new.plan ≡ self.old.plan }
         ensures jobs { self.new.jobs ≡ self.old.jobs }
         ensures node { result.node ≡ body.node }
-        ensures grown { Grown self.old.history.items self.new.history.items body.node }
+        ensures grown { GrowsBy self.old.history.items self.new.history.items body.node }
         ensures opened { is_open self.new.history.items body.node ≡ true }
-        ensures still { running self.new.history.items body.node ≡ false }
+        ensures still { is_running self.new.history.items body.node ≡ false }
     {
         let (node, child, ended) = body.take_apart();
         self.settle(node, child, ended);
@@ -164,10 +177,10 @@ impl<H: Host + Drop, P: Naming> Book<H, P> {
     /// Goes on with a body that runs no child, until one runs or the job is given back.
     pub fn go_on(&mut self, body: HeldBody) -> Next<H>
         requires opened { is_open self.old.history.items body.node ≡ true }
-        requires still { running self.old.history.items body.node ≡ false }
+        requires still { is_running self.old.history.items body.node ≡ false }
         ensures plan { self.new.plan ≡ self.old.plan }
         ensures jobs { self.new.jobs ≡ self.old.jobs }
-        ensures grown { Grown self.old.history.items self.new.history.items body.node }
+        ensures grown { GrowsBy self.old.history.items self.new.history.items body.node }
         ensures did { MatchNext result (Rests self.new.history.items body.node)
             (λ node child. (node ≡ body.node) × RunsWith self.new.history.items node child)
             (λ i. ⊥) }
@@ -175,26 +188,27 @@ impl<H: Host + Drop, P: Naming> Book<H, P> {
         self.advance(body.into_node())
     }
 
-    /// Closes the book of a run in which no body is open.
+    /// Closes the book of a run in which no body is open. It takes no memory, and time for one pass over nodes and events.
     pub fn close(self) -> Driven<H>
         requires { IsClosed (run_of P.start) self.history.items }
         ensures host { result.host ≡ self.host }
         ensures plan { result.plan ≡ self.plan }
         ensures history { result.history ≡ self.history.items }
-        ensures kept { ∥ Kept P.start result.history (H.entries result.host) (H.world result.host) ∥₁ }
-        ensures calm { caught result.history ≡ false }
+        ensures kept { ∥ IsKept P.start result.history (H.entries result.host) (H.world result.host) ∥₁ }
         ensures verdict { IsVerdict (run_of P.start) result.history result.verdict }
+        ensures complete { result.verdict ≡ Verdict.Well → (HasWork (run_of P.start) result.history → ⊥) → IsComplete (run_of P.start) result.history }
     {
         let Book {
             plan,
             jobs: _,
             host,
             history,
+            caught,
             taken: _,
             mut tables,
             of: _,
         } = self;
-        let verdict = tables.verdict(&plan, history.as_slice());
+        let verdict = tables.verdict(&plan, history.as_slice(), caught);
         Driven {
             host,
             plan,
@@ -203,11 +217,19 @@ impl<H: Host + Drop, P: Naming> Book<H, P> {
         }
     }
 
-    /// The first node that is ready.
+    /// Whether a signal was caught.
+    fn is_caught(&self) -> bool
+        ensures { result ≡ has_caught self.now.history.items }
+    {
+        self.caught.is_some()
+    }
+
+    /// The ready node of least number.
     fn first_ready(&mut self) -> Option<u32>
-        ensures same { (self.new.history ≡ self.old.history) × (self.new.plan ≡ self.old.plan) × (self.new.jobs ≡ self.old.jobs) × (self.new.host ≡ self.old.host) × (self.new.taken ≡ self.old.taken) }
-        ensures ready { IfSome result (λ n. (n < length P.start.plan.nodes) × Ready P.start.plan.nodes P.start.plan.invocations self.old.history.items n) }
-        ensures none { IfNone result ((n : ℕ) → n < length P.start.plan.nodes → Ready P.start.plan.nodes P.start.plan.invocations self.old.history.items n → ⊥) }
+        ensures same { (self.new.history ≡ self.old.history) × (self.new.plan ≡ self.old.plan) × (self.new.jobs ≡ self.old.jobs) × (self.new.host ≡ self.old.host) × (self.new.taken ≡ self.old.taken) × (self.new.caught ≡ self.old.caught) }
+        ensures ready { IfSome result (λ n. (n < length P.start.plan.nodes) × IsReady P.start.plan.nodes P.start.plan.invocations self.old.history.items n) }
+        ensures least { IfSome result (λ n. (m : ℕ) → m < n → IsReady P.start.plan.nodes P.start.plan.invocations self.old.history.items m → ⊥) }
+        ensures none { IfNone result ((n : ℕ) → n < length P.start.plan.nodes → IsReady P.start.plan.nodes P.start.plan.invocations self.old.history.items n → ⊥) }
     {
         let plan = &self.plan;
         let history = self.history.as_slice();
@@ -238,7 +260,7 @@ impl<H: Host + Drop, P: Naming> Book<H, P> {
 
     /// Whether the node's body was begun.
     fn is_begun(&self, node: u32) -> bool
-        ensures { result ≡ begun self.now.history.items node }
+        ensures { result ≡ is_begun self.now.history.items node }
     {
         self.history
             .iter()
@@ -255,16 +277,16 @@ impl<H: Host + Drop, P: Naming> Book<H, P> {
 
     /// The node's body takes a job.
     fn take(&mut self, node: u32)
-        requires ready { Ready P.start.plan.nodes P.start.plan.invocations self.old.history.items node }
+        requires ready { IsReady P.start.plan.nodes P.start.plan.invocations self.old.history.items node }
         requires range { node < length P.start.plan.nodes }
+        requires calm { has_caught self.old.history.items ≡ false }
         requires free { MatchOption P.start.jobs (Unit {0}) (λ j. open_bodies (run_of P.start) self.old.history.items < j) }
         ensures plan { self.new.plan ≡ self.old.plan }
         ensures jobs { self.new.jobs ≡ self.old.jobs }
-        ensures grown { Grown self.old.history.items self.new.history.items node }
-        ensures longer { length self.old.history.items < length self.new.history.items }
-        ensures was { (is_open self.old.history.items node ≡ false) × (running self.old.history.items node ≡ false) }
+        ensures grown { GrowsBy self.old.history.items self.new.history.items node }
+        ensures taken { has_taken self.new.history.items node ≡ true }
         ensures opened { is_open self.new.history.items node ≡ true }
-        ensures still { running self.new.history.items node ≡ false }
+        ensures still { is_running self.new.history.items node ≡ false }
     {
         self.taken += 1;
         self.history.push_reserved(Event::Took(node));
@@ -273,26 +295,26 @@ impl<H: Host + Drop, P: Naming> Book<H, P> {
     /// The node's body gives its job back.
     fn give(&mut self, node: u32)
         requires opened { is_open self.old.history.items node ≡ true }
-        requires over { done self.old.history.items node ≡ true }
+        requires over { over_of self.old.history.items node ≡ true }
         ensures plan { self.new.plan ≡ self.old.plan }
         ensures jobs { self.new.jobs ≡ self.old.jobs }
-        ensures grown { Grown self.old.history.items self.new.history.items node }
+        ensures grown { GrowsBy self.old.history.items self.new.history.items node }
         ensures rests { Rests self.new.history.items node }
     {
         self.taken -= 1;
         self.history.push_reserved(Event::Gave(node));
     }
 
-    /// The node's body is done by its statuses.
+    /// The node's body is done with no entry of its own: by its statuses, or since a signal was caught.
     fn end(&mut self, node: u32, outcome: Outcome)
         requires may { May (run_of P.start) self.old.history.items (Event.Done node outcome) }
-        requires stands { Stands (run_of P.start) self.old.history.items (Event.Done node outcome) [] }
+        requires stands { StandsFor (run_of P.start) self.old.history.items (Event.Done node outcome) [] }
         requires opened { is_open self.old.history.items node ≡ true }
         ensures plan { self.new.plan ≡ self.old.plan }
         ensures jobs { self.new.jobs ≡ self.old.jobs }
-        ensures grown { Grown self.old.history.items self.new.history.items node }
+        ensures grown { GrowsBy self.old.history.items self.new.history.items node }
         ensures opened { is_open self.new.history.items node ≡ true }
-        ensures over { done self.new.history.items node ≡ true }
+        ensures over { over_of self.new.history.items node ≡ true }
     {
         self.history.push_reserved(Event::Done(node, outcome));
     }
@@ -300,15 +322,15 @@ impl<H: Host + Drop, P: Naming> Book<H, P> {
     /// Begins the node's body, and prints its banner; false where that failed, by which the body is done.
     fn begin(&mut self, node: u32) -> bool
         requires inside { in_body self.old.history.items node ≡ true }
-        requires fresh { begun self.old.history.items node ≡ false }
-        requires still { running self.old.history.items node ≡ false }
+        requires fresh { is_begun self.old.history.items node ≡ false }
+        requires still { is_running self.old.history.items node ≡ false }
         ensures plan { self.new.plan ≡ self.old.plan }
         ensures jobs { self.new.jobs ≡ self.old.jobs }
-        ensures grown { Grown self.old.history.items self.new.history.items node }
+        ensures grown { GrowsBy self.old.history.items self.new.history.items node }
         ensures opened { is_open self.new.history.items node ≡ true }
         ensures did { MatchBool result
-            ((in_body self.new.history.items node ≡ true) × (begun self.new.history.items node ≡ true) × (running self.new.history.items node ≡ false))
-            (done self.new.history.items node ≡ true) }
+            ((in_body self.new.history.items node ≡ true) × (is_begun self.new.history.items node ≡ true) × (is_running self.new.history.items node ≡ false))
+            (over_of self.new.history.items node ≡ true) }
     {
         let plan = &self.plan;
         match tell(&mut self.host, banner(plan, node)) {
@@ -327,14 +349,15 @@ impl<H: Host + Drop, P: Naming> Book<H, P> {
     /// Starts a command of the node; None where that failed, by which the body is done.
     fn start(&mut self, node: u32, place: usize) -> Option<OpenBody<H>>
         requires inside { in_body self.old.history.items node ≡ true }
-        requires begun { begun self.old.history.items node ≡ true }
-        requires still { running self.old.history.items node ≡ false }
+        requires begun { is_begun self.old.history.items node ≡ true }
+        requires still { is_running self.old.history.items node ≡ false }
         requires due { step_of P.start.plan.nodes self.old.history.items node ≡ Step.Start place }
+        requires calm { has_caught self.old.history.items ≡ false }
         ensures plan { self.new.plan ≡ self.old.plan }
         ensures jobs { self.new.jobs ≡ self.old.jobs }
-        ensures grown { Grown self.old.history.items self.new.history.items node }
+        ensures grown { GrowsBy self.old.history.items self.new.history.items node }
         ensures did { MatchOption result
-            ((is_open self.new.history.items node ≡ true) × (done self.new.history.items node ≡ true))
+            ((is_open self.new.history.items node ≡ true) × (over_of self.new.history.items node ≡ true))
             (λ b. (b.node ≡ node) × RunsWith self.new.history.items node b.child) }
     {
         let plan = &self.plan;
@@ -362,9 +385,9 @@ impl<H: Host + Drop, P: Naming> Book<H, P> {
         requires own { H.done_number ended ≡ child }
         ensures plan { self.new.plan ≡ self.old.plan }
         ensures jobs { self.new.jobs ≡ self.old.jobs }
-        ensures grown { Grown self.old.history.items self.new.history.items node }
+        ensures grown { GrowsBy self.old.history.items self.new.history.items node }
         ensures opened { is_open self.new.history.items node ≡ true }
-        ensures still { running self.new.history.items node ≡ false }
+        ensures still { is_running self.new.history.items node ≡ false }
     {
         let place = self.place(node);
         match self.host.settle(child, ended) {
@@ -378,21 +401,24 @@ impl<H: Host + Drop, P: Naming> Book<H, P> {
         }
     }
 
-    /// Starts the next command of a body that was begun, or ends it and gives its job back.
+    /// Starts the next command of a body that was begun, or ends it and gives its job back. Once a signal was caught, no
+    /// command is started.
     fn step(&mut self, node: u32) -> Next<H>
         requires inside { in_body self.old.history.items node ≡ true }
-        requires begun { begun self.old.history.items node ≡ true }
-        requires still { running self.old.history.items node ≡ false }
+        requires begun { is_begun self.old.history.items node ≡ true }
+        requires still { is_running self.old.history.items node ≡ false }
         ensures plan { self.new.plan ≡ self.old.plan }
         ensures jobs { self.new.jobs ≡ self.old.jobs }
-        ensures grown { Grown self.old.history.items self.new.history.items node }
+        ensures grown { GrowsBy self.old.history.items self.new.history.items node }
         ensures did { MatchNext result (Rests self.new.history.items node)
             (λ n child. (n ≡ node) × RunsWith self.new.history.items n child)
             (λ i. ⊥) }
     {
         match self.next_step(node) {
             Step::Start(place) => {
-                if let Some(body) = self.start(node, place) {
+                if self.is_caught() {
+                    self.end(node, Outcome::Failed(Reason::Interrupted));
+                } else if let Some(body) = self.start(node, place) {
                     return Next::Body(body);
                 }
             }
@@ -406,15 +432,15 @@ impl<H: Host + Drop, P: Naming> Book<H, P> {
     /// Goes on with an open body that runs no child: it is begun, where it wasn't, and then makes a step.
     fn advance(&mut self, node: u32) -> Next<H>
         requires opened { is_open self.old.history.items node ≡ true }
-        requires still { running self.old.history.items node ≡ false }
+        requires still { is_running self.old.history.items node ≡ false }
         ensures plan { self.new.plan ≡ self.old.plan }
         ensures jobs { self.new.jobs ≡ self.old.jobs }
-        ensures grown { Grown self.old.history.items self.new.history.items node }
+        ensures grown { GrowsBy self.old.history.items self.new.history.items node }
         ensures did { MatchNext result (Rests self.new.history.items node)
             (λ n child. (n ≡ node) × RunsWith self.new.history.items n child)
             (λ i. ⊥) }
     {
-        if is_done(self.history.as_slice(), node) {
+        if is_over(self.history.as_slice(), node) {
             self.give(node);
             return Next::Moved;
         }

@@ -6,9 +6,9 @@ ghost use Rattle.std.specs.Option.{option_copied};
 ghost use Rattle.just_outside.specs.declared.entry.Entry.{Entry};
 ghost use Rattle.just_outside.specs.Record.{children, is_failed};
 ghost use Rattle.just_sched.specs.Nodes.{banner_at, command_at};
-ghost use Rattle.just_sched.specs.Moves.{TellGains, StartGains, IfRefused};
+ghost use Rattle.just_sched.specs.Gains.{TellGains, StartGains, IfRefused};
 
-use super::look::command;
+use super::steps::command;
 use super::{Command, Plan, Reason};
 use just_outside::{Call, Host, HostFault, Stream};
 

@@ -1,3 +1,5 @@
+//! A run that has come to its end.
+
 use super::{Event, Plan, Verdict};
 use just_outside::Host;
 use just_path::Seq;

@@ -3,14 +3,13 @@
 ghost use Rattle.std.specs.Prelude.{◌≡◌, ℕ, Bool, false, option_map, IfOk, IfErr};
 ghost use Rattle.std.specs.Int.NonZero.{non_zero_u64_get};
 ghost use Rattle.just_sched.specs.declared.event.Idle.{Idle};
-ghost use Rattle.just_sched.specs.Start.{Kept, run_of, begins};
-ghost use Rattle.just_sched.specs.State.{is_open, caught};
-ghost use Rattle.just_sched.specs.Legal.{IsClosed, IsComplete};
+ghost use Rattle.just_sched.specs.Driven.{IsDriven};
 ghost use Rattle.just_sched.specs.Idle.{IsIdle};
-ghost use Rattle.just_sched.specs.Verdict.{IsVerdict};
-ghost use Rattle.just_sched.specs.Moves.{Grown, RunsWith, Rests};
+ghost use Rattle.just_sched.specs.Start.{run_of, start_with};
+ghost use Rattle.just_sched.specs.State.{is_open};
+ghost use Rattle.just_sched.specs.Moves.{GrowsBy, RunsWith, Rests};
 
-use super::{Book, Driven, Named, Naming, Next, OpenBody, Plan, Verdict};
+use super::{Book, Driven, Named, Naming, Next, OpenBody, Plan};
 use just_outside::Host;
 use std::alloc::Global;
 use std::marker::Brand;
@@ -22,7 +21,7 @@ use std::thread::Threads;
 fn finish<H: Host + Drop, P: Naming, R: Wait>(rt: &R, book: &mut Book<H, P>, first: OpenBody<H>)
     requires { RunsWith book.old.history.items first.node first.child }
     ensures plan { book.new.plan ≡ book.old.plan }
-    ensures grown { Grown book.old.history.items book.new.history.items first.node }
+    ensures grown { GrowsBy book.old.history.items book.new.history.items first.node }
     ensures rests { Rests book.new.history.items first.node }
 {
     let mut body = first;
@@ -66,13 +65,7 @@ fn drive_named<H: Host + Drop, P: Naming, R: Wait>(
     requires jobs { option_map non_zero_u64_get jobs ≡ P.start.jobs }
     requires entries { H.entries host ≡ P.start.entries }
     requires world { H.world host ≡ P.start.world }
-    ensures plan { IfOk result (λ d. d.plan ≡ plan) }
-    ensures kept { IfOk result (λ d. ∥ Kept P.start d.history (H.entries d.host) (H.world d.host) ∥₁) }
-    ensures calm { IfOk result (λ d. caught d.history ≡ false) }
-    ensures closed { IfOk result (λ d. IsClosed (run_of P.start) d.history) }
-    ensures idle { IfOk result (λ d. (i : Idle) × IsIdle (run_of P.start) d.history i) }
-    ensures verdict { IfOk result (λ d. IsVerdict (run_of P.start) d.history d.verdict) }
-    ensures complete { IfOk result (λ d. d.verdict ≡ Verdict.Well → IsComplete (run_of P.start) d.history) }
+    ensures driven { IfOk result (λ d. IsDriven P.start d.plan d.history d.verdict (H.entries d.host) (H.world d.host)) }
     ensures back { IfErr result (λ r. (H.entries r.0 ≡ H.entries host) × (H.world r.0 ≡ H.world host) × (r.1 ≡ plan)) }
 {
     let mut book = match Book::<H, P>::open(alloc, Named::new(plan), host, jobs) {
@@ -91,13 +84,7 @@ pub fn drive<R: Threads + Wait + Sync, H: Host + Send + Drop>(
     host: H,
     jobs: Option<NonZeroU64>,
 ) -> Result<Driven<H>, (H, Plan)>
-    ensures plan { IfOk result (λ d. d.plan ≡ plan) }
-    ensures kept { IfOk result (λ d. ∥ Kept (begins plan (option_map non_zero_u64_get jobs) (H.entries host) (H.world host)) d.history (H.entries d.host) (H.world d.host) ∥₁) }
-    ensures calm { IfOk result (λ d. caught d.history ≡ false) }
-    ensures closed { IfOk result (λ d. IsClosed (run_of (begins plan (option_map non_zero_u64_get jobs) (H.entries host) (H.world host))) d.history) }
-    ensures idle { IfOk result (λ d. (i : Idle) × IsIdle (run_of (begins plan (option_map non_zero_u64_get jobs) (H.entries host) (H.world host))) d.history i) }
-    ensures verdict { IfOk result (λ d. IsVerdict (run_of (begins plan (option_map non_zero_u64_get jobs) (H.entries host) (H.world host))) d.history d.verdict) }
-    ensures complete { IfOk result (λ d. d.verdict ≡ Verdict.Well → IsComplete (run_of (begins plan (option_map non_zero_u64_get jobs) (H.entries host) (H.world host))) d.history) }
+    ensures driven { IfOk result (λ d. IsDriven (start_with plan (option_map non_zero_u64_get jobs) (H.entries host) (H.world host)) d.plan d.history d.verdict (H.entries d.host) (H.world d.host)) }
     ensures back { IfErr result (λ r. (H.entries r.0 ≡ H.entries host) × (H.world r.0 ≡ H.world host) × (r.1 ≡ plan)) }
 {
     drive_named::<H, Brand, R>(rt, alloc, plan, host, jobs)

@@ -1,3 +1,5 @@
+//! The events of a run, and what is said of its end.
+
 use just_outside::{Call, Look, Signal, Status};
 use just_path::{Miss, Seq};
 

@@ -1,89 +1,40 @@
 //! What a history says of one node, read by going over it. Nothing here takes memory.
 
-ghost use Rattle.std.specs.Prelude.{◌≡◌, ◌-◌, ◌<◌, ◌≤◌, ◌^◌, ℕ, Option, Some, None, length, slice_get};
-ghost use Rattle.std.specs.Option.{option_copied};
-ghost use Rattle.std.specs.List.{last_or};
-ghost use Rattle.just_sched.specs.Works.{commands_of, judged, start_or_well, is_code as code_is, after as step_after, WentOn};
-ghost use Rattle.just_sched.specs.State.{took, gave, done, last_start as start_of, next_step as step_of, reason_of as failure_of, is_open as open_of, caught_signal as signal_of, statuses};
-ghost use Rattle.just_sched.specs.Nodes.{work_at};
+ghost use Rattle.std.specs.Prelude.{◌≡◌, ◌<◌, ◌||◌, ◌^◌, ℕ, Option, None, length};
+ghost use Rattle.std.specs.List.{list_any, last_or};
+ghost use Rattle.just_sched.specs.State.{skips, concludes, is_over as over_of, last_start as start_of, next_step as step_of, reason_of as failure_of, statuses};
 
-use super::{Command, Event, Outcome, Plan, Reason, Step, Work};
-use just_outside::{Signal, Status};
+use super::steps::judge;
+use super::{Event, Outcome, Plan, Reason, Step};
+use just_outside::Status;
 
-/// The command of a body at a place.
-pub fn command(work: &Work, at: usize) -> Option<&Command>
-    ensures { option_copied result ≡ slice_get (commands_of work.now) at }
+/// Whether the event skips the node, or says that its body is done.
+fn is_end(event: &Event, node: u32) -> bool
+    ensures { result ≡ (skips node event.now || concludes node event.now) }
 {
-    match work {
-        Work::Lines(commands) => commands.as_slice().get(at),
-        Work::Script(command) => { if at == 0 { Some(command) } else { None } }
-        Work::Empty => None,
+    match event {
+        Event::Skipped(n) | Event::Done(n, _) => *n == node,
+        _ => false,
     }
 }
 
-/// Whether the status is this code.
-fn is_code(code: i32, status: Status) -> bool
-    ensures { result ≡ code_is code status }
+/// Whether some event skips the node, or says that its body is done.
+fn has_end(history: &[Event], node: u32) -> bool
+    ensures { result ≡ list_any (λ e. skips node e || concludes node e) history.now }
 {
-    match status {
-        Status::Code(c) => c == code,
-        Status::Signal(_) | Status::Unknown => false,
-    }
-}
-
-/// The command at the place, or the end of the body.
-fn start_or_end(work: &Work, at: usize) -> Step
-    ensures { result ≡ start_or_well work.now at }
-{
-    if command(work, at).is_some() {
-        Step::Start(at)
-    } else {
-        Step::Well
-    }
-}
-
-/// The step of a body after `count` statuses, the last of which is this.
-fn judge(work: &Work, count: usize, last: Option<Status>) -> Step
-    ensures { result ≡ judged work.now count (slice_get (commands_of work.now) (count - 1)) last }
-{
-    match (command(work, count.saturating_sub(1)), last) {
-        (Some(c), Some(status)) => {
-            if c.guard && is_code(1, status) {
-                Step::Well
-            } else if is_code(0, status) || (c.forgiving && !c.guard) {
-                start_or_end(work, count)
-            } else {
-                Step::Failed
-            }
+    for event in history {
+        if is_end(event, node) {
+            return true;
         }
-        _ => start_or_end(work, count),
     }
+    false
 }
 
-/// What a body does after these statuses. It takes no memory.
-pub fn after(work: &Work, statuses: &[Status]) -> Step
-    requires { WentOn (commands_of work.now) statuses.now }
-    ensures { result ≡ step_after work.now statuses.now }
+/// Whether the node's body was skipped or is done.
+pub(crate) fn is_over(history: &[Event], node: u32) -> bool
+    ensures { result ≡ over_of history.now node }
 {
-    judge(work, statuses.len(), statuses.last().copied())
-}
-
-/// Whether the node's body took a job.
-pub(crate) fn is_taken(history: &[Event], node: u32) -> bool
-    ensures { result ≡ took history.now node }
-{
-    history
-        .iter()
-        .any(|e| matches!(e, Event::Took(n) if *n == node))
-}
-
-/// Whether the node's body is done.
-pub(crate) fn is_done(history: &[Event], node: u32) -> bool
-    ensures { result ≡ done history.now node }
-{
-    history
-        .iter()
-        .any(|e| matches!(e, Event::Done(n, _) if *n == node))
+    has_end(history, node)
 }
 
 /// What the node's body does next.
@@ -128,34 +79,6 @@ pub fn reason_of(history: &[Event], node: u32) -> Option<Reason>
             if *n == node {
                 return Some(*reason);
             }
-        }
-    }
-    None
-}
-
-/// Whether the node's body gave its job back.
-pub(crate) fn is_given_back(history: &[Event], node: u32) -> bool
-    ensures { result ≡ gave history.now node }
-{
-    history
-        .iter()
-        .any(|e| matches!(e, Event::Gave(n) if *n == node))
-}
-
-/// Whether the node's body took a job and hasn't given it back.
-pub(crate) fn is_open(history: &[Event], node: u32) -> bool
-    ensures { result ≡ open_of history.now node }
-{
-    is_taken(history, node) && !is_given_back(history, node)
-}
-
-/// The signal that was caught first.
-pub(crate) fn caught_signal(history: &[Event]) -> Option<Signal>
-    ensures { result ≡ signal_of history.now }
-{
-    for event in history {
-        if let Event::Caught(signal) = event {
-            return Some(*signal);
         }
     }
     None

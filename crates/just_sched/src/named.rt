@@ -1,3 +1,5 @@
+//! A plan under the name of its run.
+
 ghost use Rattle.std.specs.Prelude.{◌≡◌};
 ghost use Rattle.just_sched.specs.Codes.{plan_code};
 ghost use base.Stored.{Coded-set};

@@ -1,3 +1,5 @@
+//! The name of one run.
+
 ghost use Rattle.just_sched.specs.Start.{Start};
 ghost use Rattle.just_sched.specs.Nowhere.{nowhere};
 

@@ -1,3 +1,5 @@
+//! The plan of a run.
+
 ghost use Rattle.std.specs.Prelude.{◌≡◌, ◌^◌, ◌<◌, ◌≤◌, ℕ, length, map, All, is_none, true};
 ghost use Rattle.just_lang.specs.WellFormed.{IsWellFormed};
 ghost use Rattle.just_sched.specs.Works.{commands_of};

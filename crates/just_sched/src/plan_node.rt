@@ -1,3 +1,5 @@
+//! A node of a plan.
+
 use super::Work;
 use just_lang::Node;
 use just_path::Text;

@@ -1,122 +1,86 @@
-//! Flags of nodes, made by one pass over the history or over the plan. Nothing here but `new` takes memory.
+//! The tables of a book: room for what is noted of each node, taken once.
 
-ghost use Rattle.std.specs.Prelude.{◌≡◌, ◌||◌, ◌==◌, ◌&&◌, ◌<◌, ◌⊎◌, ℕ, Bool, true, false, Option, Some, None, length, IfOk, IfSome, IfNone, Contains, replicate, slice_index};
-ghost use Rattle.just_sched.specs.Tables.{flag, Shows, Tells, names, InRange};
-ghost use Rattle.just_sched.specs.State.{is_skipped, is_well, is_took, is_done, over_well, took, done, Finished, Leads};
+ghost use Rattle.std.specs.Prelude.{◌≡◌, ◌<◌, ℕ, false, length, vec_len, IfOk, IfSome, IfNone};
+ghost use Rattle.just_sched.specs.State.{is_open, caught_signal, IsReady};
+ghost use Rattle.just_sched.specs.Legal.{Run};
+ghost use Rattle.just_sched.specs.Verdict.{IsVerdict};
 
-use super::{Event, Outcome, Plan};
+use super::choice::first_by;
+use super::flags::{mark_finished, mark_over, mark_taken};
+use super::verdict::{mark_reasons, verdict_by};
+use super::wanted::mark_wanted;
+use super::{Event, Plan, Reason, Verdict};
+use just_outside::Signal;
+use just_path::NoMemory;
+use std::alloc::Global;
 
-/// The node that the event shows to be over well.
-fn over_by(event: &Event) -> Option<u32>
-    ensures { (n : ℕ) → names result n ≡ (is_skipped n event.now || is_well n event.now) }
-{
-    match event {
-        Event::Skipped(node) | Event::Done(node, Outcome::Well) => Some(*node),
-        _ => None,
+/// Room for what is noted of each node of a plan.
+#[derive(Debug, Drop)]
+pub(crate) struct Tables {
+    over: Vec<bool>,
+    taken: Vec<bool>,
+    finished: Vec<bool>,
+    wanted: Vec<bool>,
+    reasons: Vec<Option<Reason>>,
+    pub size: usize,
+    ghost over_sized: { vec_len over ≡ size },
+    ghost taken_sized: { vec_len taken ≡ size },
+    ghost finished_sized: { vec_len finished ≡ size },
+    ghost wanted_sized: { vec_len wanted ≡ size },
+    ghost reasons_sized: { vec_len reasons ≡ size },
+}
+
+impl Tables {
+    /// Room for so many nodes.
+    pub(crate) fn new(alloc: Global, count: usize) -> Result<Tables, NoMemory>
+        ensures { IfOk result (λ t. t.size ≡ count) }
+    {
+        let over = vec![in alloc; false; count]?;
+        let taken = vec![in alloc; false; count]?;
+        let finished = vec![in alloc; false; count]?;
+        let wanted = vec![in alloc; false; count]?;
+        let reasons = vec![in alloc; None; count]?;
+        Ok(Tables {
+            over,
+            taken,
+            finished,
+            wanted,
+            reasons,
+            size: count,
+        })
     }
-}
 
-/// The node that the event shows to be taken or done.
-fn taken_by(event: &Event) -> Option<u32>
-    ensures { (n : ℕ) → names result n ≡ (is_took n event.now || is_done n event.now) }
-{
-    match event {
-        Event::Took(node) | Event::Done(node, _) => Some(*node),
-        _ => None,
+    /// The ready node of least number. It takes no memory.
+    pub(crate) fn first_ready(&mut self, plan: &Plan, history: &[Event]) -> Option<u32>
+        requires { self.old.size ≡ length plan.now.nodes }
+        ensures size { self.new.size ≡ self.old.size }
+        ensures ready { IfSome result (λ n. (n < length plan.now.nodes) × IsReady plan.now.nodes plan.now.invocations history.now n) }
+        ensures least { IfSome result (λ n. (m : ℕ) → m < n → IsReady plan.now.nodes plan.now.invocations history.now m → ⊥) }
+        ensures none { IfNone result ((n : ℕ) → n < length plan.now.nodes → IsReady plan.now.nodes plan.now.invocations history.now n → ⊥) }
+    {
+        let over = self.over.as_mut_slice();
+        let taken = self.taken.as_mut_slice();
+        let finished = self.finished.as_mut_slice();
+        let wanted = self.wanted.as_mut_slice();
+        mark_over(history, over);
+        mark_taken(history, taken);
+        mark_finished(plan, history, finished);
+        mark_wanted(plan, history, over, finished, wanted);
+        first_by(plan, history, wanted, taken, finished)
     }
-}
 
-/// Sets the flag of a node, if it has one.
-fn set(flags: &mut [bool], node: Option<u32>)
-    ensures { (k : ℕ) → k < length flags.old → flag flags.new k ≡ (flag flags.old k || names node k) }
-{
-    if let Some(node) = node {
-        let at = node as usize;
-        if at < flags.len() {
-            flags[at] = true;
-        }
-    }
-}
-
-/// Takes all flags down.
-pub(crate) fn clear(flags: &mut [bool])
-    ensures { Shows flags.new (λ _. false) }
-{
-    for flag in flags.iter_mut() {
-        *flag = false;
-    }
-}
-
-/// Flags the nodes that are over well.
-pub(crate) fn mark_over(history: &[Event], flags: &mut [bool])
-    ensures { Shows flags.new (over_well history.now) }
-{
-    clear(flags);
-    for event in history {
-        set(flags, over_by(event));
-    }
-}
-
-/// Flags the nodes that took a job or are done.
-pub(crate) fn mark_taken(history: &[Event], flags: &mut [bool])
-    ensures { Shows flags.new (λ n. took history.now n || done history.now n) }
-{
-    clear(flags);
-    for event in history {
-        set(flags, taken_by(event));
-    }
-}
-
-/// Whether each node of the list is flagged.
-pub(crate) fn all_flagged(nodes: &[u32], flags: &[bool]) -> bool
-    requires { InRange nodes.now flags.now }
-    ensures yes { result ≡ true → (q : ℕ) → Contains nodes.now q → flag flags.now q ≡ true }
-    ensures not_all { result ≡ false → (j : ℕ) × (j < length nodes.now) × (flag flags.now (slice_index nodes.now j) ≡ false) }
-{
-    for node in nodes {
-        if !flags[*node as usize] {
-            return false;
-        }
-    }
-    true
-}
-
-/// Whether a flag stays up: it is up, and so is that of each node of the list.
-fn stays(nodes: &[u32], own: bool, flags: &[bool]) -> bool
-    requires { InRange nodes.now flags.now }
-    ensures yes { result ≡ true → (own ≡ true) × ((q : ℕ) → Contains nodes.now q → flag flags.now q ≡ true) }
-    ensures not_all { result ≡ false → (own ≡ false) ⊎ ((j : ℕ) × (j < length nodes.now) × (flag flags.now (slice_index nodes.now j) ≡ false)) }
-{
-    own && all_flagged(nodes, flags)
-}
-
-/// Flags the nodes that are finished: over well, with all their subsequents finished.
-pub(crate) fn mark_finished(plan: &Plan, history: &[Event], flags: &mut [bool])
-    requires { length flags.old ≡ length plan.now.nodes }
-    ensures { Tells flags.new (Finished plan.now.nodes history.now) }
-{
-    mark_over(history, flags);
-    let nodes = plan.nodes.as_slice();
-    for back in 0..nodes.len() {
-        let at = nodes.len() - 1 - back;
-        let finished = stays(nodes[at].node.subsequents.as_slice(), flags[at], flags);
-        flags[at] = finished;
-    }
-}
-
-/// Flags the members of a list that have their turn: each one where they go together, else those before which all are
-/// finished.
-pub(crate) fn lead(nodes: &[u32], together: bool, finished: &[bool], flags: &mut [bool])
-    requires within { InRange nodes.now flags.old }
-    requires alike { length finished.now ≡ length flags.old }
-    ensures keeps { (k : ℕ) → flag flags.old k ≡ true → flag flags.new k ≡ true }
-    ensures marks { (k : ℕ) → Leads (λ q. flag finished.now q ≡ true) together nodes.now k → flag flags.new k ≡ true }
-    ensures only { (k : ℕ) → flag flags.new k ≡ true → (flag flags.old k ≡ true) ⊎ Leads (λ q. flag finished.now q ≡ true) together nodes.now k }
-{
-    for node in nodes {
-        flags[*node as usize] = true;
-        if !together && !finished[*node as usize] {
-            return;
-        }
+    /// How the run of a closed history went. It takes no memory.
+    pub(crate) fn verdict(&mut self, plan: &Plan, history: &[Event], caught: Option<Signal>) -> Verdict
+        requires size { self.old.size ≡ length plan.now.nodes }
+        requires closed { (n : ℕ) → n < length plan.now.nodes → is_open history.now n ≡ false }
+        requires caught { caught ≡ caught_signal history.now }
+        ensures size { self.new.size ≡ self.old.size }
+        ensures verdict { (s : Run) → s.nodes ≡ plan.now.nodes → IsVerdict s history.now result }
+    {
+        let finished = self.finished.as_mut_slice();
+        let reasons = self.reasons.as_mut_slice();
+        mark_finished(plan, history, finished);
+        mark_reasons(history, reasons);
+        verdict_by(plan, history, finished, reasons, caught)
     }
 }

@@ -1,3 +1,5 @@
+//! The tokens of bodies that go on, and the answers of a move.
+
 ghost use Rattle.std.specs.Prelude.{◌≡◌};
 
 use super::Idle;

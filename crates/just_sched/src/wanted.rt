@@ -1,11 +1,11 @@
 //! The nodes that are wanted, by one pass over the plan in each direction.
 
 ghost use Rattle.std.specs.Prelude.{◌≡◌, ◌<◌, ◌⊎◌, ℕ, true, length};
-ghost use Rattle.just_sched.specs.Tables.{flag, Shows, Tells};
+ghost use Rattle.just_sched.specs.Tables.{flag, FlagsAre, FlagsMean};
 ghost use Rattle.just_sched.specs.Nodes.{parallel_at, subsequents_at, priors_at};
-ghost use Rattle.just_sched.specs.State.{over_well, Finished, Wanted, Leads};
+ghost use Rattle.just_sched.specs.State.{is_over_well, IsFinished, IsWanted, MayComeNext};
 
-use super::tables::{clear, lead};
+use super::flags::{clear, lead};
 use super::{Event, Plan};
 
 /// Flags the subsequents of a node that have their turn, where the node counts.
@@ -14,8 +14,8 @@ fn follow_one(plan: &Plan, at: usize, counts: bool, finished: &[bool], flags: &m
     requires sized { length flags.old ≡ length plan.now.nodes }
     requires finished { length finished.now ≡ length plan.now.nodes }
     ensures keeps { (k : ℕ) → flag flags.old k ≡ true → flag flags.new k ≡ true }
-    ensures marks { counts ≡ true → (k : ℕ) → Leads (λ q. flag finished.now q ≡ true) (parallel_at plan.now.nodes at) (subsequents_at plan.now.nodes at) k → flag flags.new k ≡ true }
-    ensures only { (k : ℕ) → flag flags.new k ≡ true → (flag flags.old k ≡ true) ⊎ ((counts ≡ true) × Leads (λ q. flag finished.now q ≡ true) (parallel_at plan.now.nodes at) (subsequents_at plan.now.nodes at) k) }
+    ensures marks { counts ≡ true → (k : ℕ) → MayComeNext (λ q. flag finished.now q ≡ true) (parallel_at plan.now.nodes at) (subsequents_at plan.now.nodes at) k → flag flags.new k ≡ true }
+    ensures only { (k : ℕ) → flag flags.new k ≡ true → (flag flags.old k ≡ true) ⊎ ((counts ≡ true) × MayComeNext (λ q. flag finished.now q ≡ true) (parallel_at plan.now.nodes at) (subsequents_at plan.now.nodes at) k) }
 {
     if counts {
         let node = &plan.nodes.as_slice()[at];
@@ -34,8 +34,8 @@ fn descend_one(plan: &Plan, at: usize, counts: bool, finished: &[bool], flags: &
     requires sized { length flags.old ≡ length plan.now.nodes }
     requires finished { length finished.now ≡ length plan.now.nodes }
     ensures keeps { (k : ℕ) → flag flags.old k ≡ true → flag flags.new k ≡ true }
-    ensures marks { counts ≡ true → (k : ℕ) → Leads (λ q. flag finished.now q ≡ true) (parallel_at plan.now.nodes at) (priors_at plan.now.nodes at) k → flag flags.new k ≡ true }
-    ensures only { (k : ℕ) → flag flags.new k ≡ true → (flag flags.old k ≡ true) ⊎ ((counts ≡ true) × Leads (λ q. flag finished.now q ≡ true) (parallel_at plan.now.nodes at) (priors_at plan.now.nodes at) k) }
+    ensures marks { counts ≡ true → (k : ℕ) → MayComeNext (λ q. flag finished.now q ≡ true) (parallel_at plan.now.nodes at) (priors_at plan.now.nodes at) k → flag flags.new k ≡ true }
+    ensures only { (k : ℕ) → flag flags.new k ≡ true → (flag flags.old k ≡ true) ⊎ ((counts ≡ true) × MayComeNext (λ q. flag finished.now q ≡ true) (parallel_at plan.now.nodes at) (priors_at plan.now.nodes at) k) }
 {
     if counts {
         let node = &plan.nodes.as_slice()[at];
@@ -49,8 +49,8 @@ fn follow(plan: &Plan, over: &[bool], finished: &[bool], flags: &mut [bool])
     requires over { length over.now ≡ length plan.now.nodes }
     requires finished { length finished.now ≡ length plan.now.nodes }
     ensures keeps { (k : ℕ) → flag flags.old k ≡ true → flag flags.new k ≡ true }
-    ensures marks { (m k : ℕ) → m < length plan.now.nodes → flag over.now m ≡ true → Leads (λ q. flag finished.now q ≡ true) (parallel_at plan.now.nodes m) (subsequents_at plan.now.nodes m) k → flag flags.new k ≡ true }
-    ensures only { (k : ℕ) → flag flags.new k ≡ true → (flag flags.old k ≡ true) ⊎ ((m : ℕ) × (m < length plan.now.nodes) × (flag over.now m ≡ true) × Leads (λ q. flag finished.now q ≡ true) (parallel_at plan.now.nodes m) (subsequents_at plan.now.nodes m) k) }
+    ensures marks { (m k : ℕ) → m < length plan.now.nodes → flag over.now m ≡ true → MayComeNext (λ q. flag finished.now q ≡ true) (parallel_at plan.now.nodes m) (subsequents_at plan.now.nodes m) k → flag flags.new k ≡ true }
+    ensures only { (k : ℕ) → flag flags.new k ≡ true → (flag flags.old k ≡ true) ⊎ ((m : ℕ) × (m < length plan.now.nodes) × (flag over.now m ≡ true) × MayComeNext (λ q. flag finished.now q ≡ true) (parallel_at plan.now.nodes m) (subsequents_at plan.now.nodes m) k) }
 {
     for at in 0..plan.nodes.len() {
         follow_one(plan, at, over[at], finished, flags);
@@ -62,8 +62,8 @@ fn descend(plan: &Plan, finished: &[bool], flags: &mut [bool])
     requires sized { length flags.old ≡ length plan.now.nodes }
     requires finished { length finished.now ≡ length plan.now.nodes }
     ensures keeps { (k : ℕ) → flag flags.old k ≡ true → flag flags.new k ≡ true }
-    ensures marks { (m k : ℕ) → m < length plan.now.nodes → flag flags.new m ≡ true → Leads (λ q. flag finished.now q ≡ true) (parallel_at plan.now.nodes m) (priors_at plan.now.nodes m) k → flag flags.new k ≡ true }
-    ensures only { (k : ℕ) → flag flags.new k ≡ true → (flag flags.old k ≡ true) ⊎ ((m : ℕ) × (m < length plan.now.nodes) × (flag flags.new m ≡ true) × Leads (λ q. flag finished.now q ≡ true) (parallel_at plan.now.nodes m) (priors_at plan.now.nodes m) k) }
+    ensures marks { (m k : ℕ) → m < length plan.now.nodes → flag flags.new m ≡ true → MayComeNext (λ q. flag finished.now q ≡ true) (parallel_at plan.now.nodes m) (priors_at plan.now.nodes m) k → flag flags.new k ≡ true }
+    ensures only { (k : ℕ) → flag flags.new k ≡ true → (flag flags.old k ≡ true) ⊎ ((m : ℕ) × (m < length plan.now.nodes) × (flag flags.new m ≡ true) × MayComeNext (λ q. flag finished.now q ≡ true) (parallel_at plan.now.nodes m) (priors_at plan.now.nodes m) k) }
 {
     let count = plan.nodes.len();
     for back in 0..count {
@@ -84,9 +84,9 @@ pub(crate) fn mark_wanted(
     requires sized { length flags.old ≡ length plan.now.nodes }
     requires over_sized { length over.now ≡ length plan.now.nodes }
     requires finished_sized { length finished.now ≡ length plan.now.nodes }
-    requires over { Shows over.now (over_well history.now) }
-    requires finished { Tells finished.now (Finished plan.now.nodes history.now) }
-    ensures { Tells flags.new (Wanted plan.now.nodes plan.now.invocations history.now) }
+    requires over { FlagsAre over.now (is_over_well history.now) }
+    requires finished { FlagsMean finished.now (IsFinished plan.now.nodes history.now) }
+    ensures { FlagsMean flags.new (IsWanted plan.now.nodes plan.now.invocations history.now) }
 {
     let _events = history.len();
     clear(flags);

@@ -1,3 +1,5 @@
+//! What a body has to run, and its next step.
+
 use just_outside::Spec;
 use just_path::{Seq, Text};
 

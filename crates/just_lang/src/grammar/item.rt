@@ -1,3 +1,5 @@
+//! The items that the kinds of lines make.
+
 ghost use Rattle.std.specs.Prelude.{◌≡◌, ◌+◌, [], IfOk, OnOk, reverse};
 ghost use Rattle.just_lang.specs.Form.{body_line, recipe};
 ghost use Rattle.just_lang.specs.Kinds.{build, join, made};

@@ -1,3 +1,5 @@
+//! The kind of each line, by what stands above it.
+
 ghost use Rattle.std.specs.Prelude.{◌≡◌, ℕ, List, IfOk, MatchOption, map};
 ghost use Rattle.just_lang.specs.Form.{IsBlank, IsGap, IsFirstText};
 ghost use Rattle.just_lang.specs.Kinds.{IsBodyText, AreKinds, IsOpen, IsStep, first_outside, open_above, nothing, header, body, below_blank, below_body};

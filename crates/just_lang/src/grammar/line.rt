@@ -1,3 +1,5 @@
+//! The parts of a line: its blanks, its name, and the recipe line that it may be.
+
 ghost use Rattle.std.specs.Prelude.{◌≡◌, ◌↔◌, ◌++◌, ◌∷◌, ◌||◌, [], false, ℕ, List, codes, nat_eq, true, IfOk, IsTrue, MatchOption, IsUtf8};
 ghost use Rattle.std.specs.List.{list_all, prefix_len, starts_with};
 ghost use Rattle.std.specs.Str.Iter.{HasSubslice};

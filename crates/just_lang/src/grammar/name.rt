@@ -1,3 +1,5 @@
+//! The rule on the names of recipe lines.
+
 ghost use Rattle.std.specs.Prelude.{◌≡◌, [], IfOk, map};
 ghost use Rattle.std.specs.List.{list_all};
 ghost use Rattle.just_lang.specs.Keys.{same_path};

@@ -1,3 +1,4 @@
+-- The first word that breaks the form, by the branch that found it.
 use Rattle.std.proofs.Common.{arith, refl, sym, true≢false}
 use Rattle.just_cli.proofs.Breaks.{first_breaks, second_breaks}
 use Rattle.just_cli.proofs.words.asked_recipe.Goals as goal

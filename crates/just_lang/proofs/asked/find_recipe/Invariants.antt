@@ -1,3 +1,4 @@
+-- No recipe so far has the path.
 use Rattle.std.proofs.Common.{◌≡◌, drop}
 use Rattle.just_lang.specs.Keys.{recipe_of}
 use Rattle.just_lang.proofs.asked.find_recipe.Given as goal

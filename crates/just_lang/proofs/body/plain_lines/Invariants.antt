@@ -1,3 +1,4 @@
+-- The lines so far are those of the body so far.
 use Rattle.std.proofs.Common.{◌≡◌, map, take}
 use Rattle.just_lang.specs.BodyLines.{plain_line}
 use Rattle.just_lang.proofs.body.plain_lines.Given as goal

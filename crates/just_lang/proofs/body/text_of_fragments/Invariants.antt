@@ -1,3 +1,4 @@
+-- The text so far is that of the fragments so far.
 use Rattle.std.proofs.Common.{◌≡◌, ◌++◌, drop, string_bytes}
 use Rattle.just_lang.specs.BodyLines.{text_of_fragments}
 use Rattle.just_lang.proofs.body.text_of_fragments.Given as goal

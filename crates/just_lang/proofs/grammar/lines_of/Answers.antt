@@ -1,3 +1,4 @@
+-- The lines are collected as they come.
 use Rattle.std.proofs.lemmas.Iterator.Consumers.{map_from_collect}
 use Rattle.std.proofs.lemmas.Iterator.Splits.{YieldsList-from_lines}
 use Rattle.just_lang.proofs.grammar.lines_of.Goals as goal

@@ -1,3 +1,4 @@
+-- The items of a text, or its first line outside the form.
 use Rattle.std.proofs.Common.{refl, ◌≡◌, ◌≤◌, List, [], ℕ, None, Some, sym, ap, ◌∙◌, subst, length, map, arith}
 use Rattle.std.proofs.lemmas.List.{length-map}
 use Rattle.std.specs.Str.Lines.{lines}

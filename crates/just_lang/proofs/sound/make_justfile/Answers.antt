@@ -1,3 +1,4 @@
+-- Recipes whose names fit are sound.
 use Rattle.just_lang.proofs.Forward.{forward_fits}
 use Rattle.just_lang.proofs.sound.make_justfile.Goals as goal
 

@@ -1,3 +1,4 @@
+-- The recipes so far are those among the items so far.
 use Rattle.std.proofs.Common.{◌≡◌}
 use Rattle.just_lang.specs.Form.{recipes_of}
 use Rattle.just_lang.proofs.sound.recipes_of.Given as goal

@@ -1,7 +1,8 @@
+-- Visits end, since each goes to keys with fewer members left; and those so far leave the list of the visits so far.
 use Rattle.std.proofs.Common.{◌≡◌, ◌+◌, ◌*◌, ◌≤◌, length, drop}
 use Rattle.just_lang.specs.declared.TheConstants.{CLOSURE_LIMIT}
 use Rattle.just_lang.specs.Keys.{priors_of, subsequents_of}
-use Rattle.just_lang.specs.Walk.{visited_each}
+use Rattle.just_lang.specs.Walk.{visits}
 use Rattle.just_lang.proofs.walk.+visit.Given as goal
 
 abbrev pub decreases-visit : goal.decreases-visit
@@ -12,6 +13,6 @@ decreases-visit_each l = 2 * l.left + 1
 
 abbrev pub invariant-visit_each-loop-key : goal.invariant-visit_each-loop-key
 invariant-visit_each-loop-key l = record {
-  list : visited_each (priors_of l.recipes) (subsequents_of l.recipes) l.left l.list.items l.round (drop l.key-index l.keys) ≡ visited_each (priors_of l.recipes) (subsequents_of l.recipes) l.left l.fn.list.items l.round l.keys;
+  list : visits (priors_of l.recipes) (subsequents_of l.recipes) l.left l.list.items l.round (drop l.key-index l.keys) ≡ visits (priors_of l.recipes) (subsequents_of l.recipes) l.left l.fn.list.items l.round l.keys;
   short : length l.list.items ≤ CLOSURE_LIMIT;
 }

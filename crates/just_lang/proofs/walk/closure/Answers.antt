@@ -12,7 +12,7 @@ use Rattle.just_lang.specs.declared.TheConstants.{CLOSURE_LIMIT}
 use Rattle.just_lang.specs.Asked.{NamesRecipe}
 use Rattle.just_lang.specs.Keys.{priors_of, subsequents_of}
 use Rattle.just_lang.specs.Sound.{fits}
-use Rattle.just_lang.specs.Walk.{visited_each, walk, numbers_of, nodes_from, closure_of, IsClosure, RefusesNodes}
+use Rattle.just_lang.specs.Walk.{visits, walk, numbers_of, nodes_from, closure_of, IsClosure, RefusesNodes}
 use Rattle.just_lang.specs.WellFormed.{IsWellFormed}
 use Rattle.just_lang.proofs.Around.{named_fits}
 use Rattle.just_lang.proofs.Closed.{nodes_named, walk_is, walk_closure, nodes_length, well_formed}
@@ -34,9 +34,9 @@ visit_each-requires-clause-fit c =
     subst (λ rs. All (λ q. fits rs (length rs) q ≡ true) keys) (sym c.as_slice-recipes.ensures) (in_all (λ q. fits j.recipes (length j.recipes) q ≡ true) keys (keys_fit j keys c.requires))
 
 -- the list that the visits leave
-the_walk : (rs rs' : List Recipe) (keys : List Key) (start list : List Place) → rs' ≡ rs → start ≡ [] → list ≡ visited_each (priors_of rs') (subsequents_of rs') (length rs') start None keys → list ≡ walk rs keys
+the_walk : (rs rs' : List Recipe) (keys : List Key) (start list : List Place) → rs' ≡ rs → start ≡ [] → list ≡ visits (priors_of rs') (subsequents_of rs') (length rs') start None keys → list ≡ walk rs keys
 the_walk rs rs' keys start list rs_is start_is list_is =
-    list_is ∙ ap (λ r. visited_each (priors_of r) (subsequents_of r) (length r) start None keys) rs_is ∙ ap (λ l. visited_each (priors_of rs) (subsequents_of rs) (length rs) l None keys) start_is ∙ sym (walk_is rs keys)
+    list_is ∙ ap (λ r. visits (priors_of r) (subsequents_of r) (length r) start None keys) rs_is ∙ ap (λ l. visits (priors_of rs) (subsequents_of rs) (length rs) l None keys) start_is ∙ sym (walk_is rs keys)
 
 the_nodes : (rs rs' : List Recipe) (keys : List Key) (list : List Place) (nodes : List Node) → rs' ≡ rs → list ≡ walk rs keys → nodes ≡ nodes_from (priors_of rs') (subsequents_of rs') list 0 list → nodes ≡ (closure_of rs keys).nodes
 the_nodes rs rs' keys list nodes rs_is list_is nodes_are =

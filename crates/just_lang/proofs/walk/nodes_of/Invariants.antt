@@ -1,3 +1,4 @@
+-- The nodes so far are those at the places so far.
 use Rattle.std.proofs.Common.{◌≡◌, ◌++◌, drop}
 use Rattle.just_lang.specs.Keys.{priors_of, subsequents_of}
 use Rattle.just_lang.specs.Walk.{nodes_from}

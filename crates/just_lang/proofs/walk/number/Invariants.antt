@@ -1,3 +1,4 @@
+-- The key stands at no place so far.
 use Rattle.std.proofs.Common.{◌≡◌, ◌+◌, drop}
 use Rattle.just_lang.specs.Walk.{number_of}
 use Rattle.just_lang.proofs.walk.number.Given as goal

@@ -1,3 +1,4 @@
+-- The numbers so far are those of the keys so far.
 use Rattle.std.proofs.Common.{◌≡◌, take}
 use Rattle.just_lang.specs.Walk.{numbers_of}
 use Rattle.just_lang.proofs.walk.numbers.Given as goal

@@ -1,7 +1,8 @@
+-- A node is ready where its flags say so.
 use Rattle.std.proofs.Common.{◌≡◌, ℕ, ◌<◌, ◌||◌, Bool, true, false, List, arith, subst, sym, ap, ◌∙◌, refl}
 use Rattle.std.specs.Prelude.{slice_index, Contains}
 use Rattle.just_sched.specs.Nodes.{priors_at}
-use Rattle.just_sched.specs.State.{took, done}
+use Rattle.just_sched.specs.State.{has_taken, is_done}
 use Rattle.just_sched.specs.Tables.{InRange}
 use Rattle.just_sched.proofs.PlanLaws.{priors_read, contains_at, confirmed_all}
 use Rattle.just_sched.proofs.WantedLaws.{priors_within, priors_below}
@@ -26,7 +27,7 @@ all_flagged-requires c =
 pub returns-clause-is : goal.returns-clause-is
 returns-clause-is c = λ e.
     let plan = c.args.plan.now in
-    let apart = or_parts (took c.args.history.now c.args.at) (done c.args.history.now c.args.at) (sym (c.requires.taken c.args.at (omega (arith, c.requires.within, c.requires.taken_sized))) ∙ c.if-taken-at.false) in
+    let apart = or_parts (has_taken c.args.history.now c.args.at) (is_done c.args.history.now c.args.at) (sym (c.requires.taken c.args.at (omega (arith, c.requires.within, c.requires.taken_sized))) ∙ c.if-taken-at.false) in
     record {
       wanted = (c.requires.wanted c.args.at (omega (arith, c.requires.within, c.requires.wanted_sized))).0 c.if-not-wanted-at.false;
       confirmed = confirmed_all plan.nodes c.args.history.now c.args.at plan.unprompted;

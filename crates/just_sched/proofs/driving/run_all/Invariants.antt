@@ -1,3 +1,4 @@
+-- No body is open between two moves.
 use Rattle.std.proofs.Common.{◌≡◌, ℕ, false}
 use Rattle.just_sched.specs.State.{is_open}
 use Rattle.just_sched.proofs.driving.run_all.Given as goal

@@ -1,3 +1,4 @@
+-- The step is that behind the statuses of the whole history.
 use Rattle.std.proofs.Common.{arith, get_or, ◌∙◌}
 use Rattle.std.proofs.lemmas.Option.{slice_get-get_or}
 use Rattle.just_sched.proofs.AfterLaws.{judged_node}

@@ -1,5 +1,6 @@
+-- The number of events, by the numbers of nodes and commands.
 use Rattle.std.proofs.Common.{arith}
-use Rattle.just_sched.proofs.Books.{slots_are}
+use Rattle.just_sched.proofs.EventRoom.{slots_are}
 use Rattle.just_sched.proofs.room.event_count.Goals as goal
 
 pub returns : goal.returns

@@ -1,3 +1,4 @@
+-- One node more has its priors flagged.
 use Rattle.std.proofs.Common.{◌-◌, arith}
 use Rattle.just_sched.proofs.WantedLaws.{descend_marks, descend_only}
 use Rattle.just_sched.proofs.wanted.descend.Goals as goal

@@ -1,3 +1,4 @@
+-- The node's priors have flags.
 use Rattle.std.proofs.Common.{subst, sym, ap, ◌∙◌, List, ℕ}
 use Rattle.just_sched.specs.Tables.{InRange}
 use Rattle.just_sched.proofs.PlanLaws.{priors_read}

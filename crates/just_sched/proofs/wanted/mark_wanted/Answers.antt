@@ -1,3 +1,4 @@
+-- The three passes flag just the wanted nodes.
 use Rattle.std.proofs.Common.{ℕ, List, arith, subst, sym}
 use Rattle.just_sched.specs.Tables.{InRange}
 use Rattle.just_sched.proofs.WantedLaws.{invocations_within, tells_wanted}

@@ -1,3 +1,4 @@
+-- One more line, in front of those so far.
 use Rattle.std.proofs.Common.{◌≡◌, ◌+◌, ℕ, List, [], ◌∷◌, ◌++◌, sym, ap, ◌∙◌, reverse, length, arith}
 use Rattle.std.proofs.lemmas.Grind.{common_steps}
 use Rattle.just_lang.specs.declared.grammar.kind.Kind.{Kind}

@@ -1,3 +1,4 @@
+-- What the lines so far make, from the last on.
 use Rattle.std.proofs.Common.{◌≡◌, [], reverse, vec_len}
 use Rattle.just_lang.specs.Kinds.{build, made}
 use Rattle.just_lang.proofs.grammar.item.items.Given as goal

@@ -1,3 +1,4 @@
+-- No line so far is outside.
 use Rattle.std.proofs.Common.{◌≡◌, ◌+◌, drop}
 use Rattle.just_lang.specs.Kinds.{first_outside}
 use Rattle.just_lang.proofs.grammar.kind.first_outside.Given as goal

@@ -1,3 +1,4 @@
+-- The text of the first line of a body, by each test.
 use Rattle.std.proofs.Common.{◌≡◌, ◌≢◌, false, true, [], arith, IsTrue, nat_eq, codes}
 use Rattle.std.specs.List.{starts_with}
 use Rattle.std.proofs.lemmas.Grind.{common_steps}

@@ -1,3 +1,4 @@
+-- One more kind, behind those so far.
 use Rattle.std.proofs.Common.{◌+◌, List, [], ◌∷◌, ◌++◌, ℕ, map, drop, sym, subst, append_assoc, append-nil}
 use denote.Ref.{Bor}
 use Rattle.just_lang.specs.Kinds.{Above, AreKinds, nothing}

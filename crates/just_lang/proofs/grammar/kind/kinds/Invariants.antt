@@ -1,3 +1,4 @@
+-- The kinds so far are those of the lines so far.
 use Rattle.std.proofs.Common.{◌+◌, List, ◌++◌, map, drop}
 use Rattle.just_lang.specs.declared.grammar.kind.Kind.{Kind}
 use Rattle.just_lang.specs.Kinds.{AreKinds, nothing, IsOpen, open_above}

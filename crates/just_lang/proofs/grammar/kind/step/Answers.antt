@@ -1,3 +1,4 @@
+-- A line of no kind is outside.
 use Rattle.std.proofs.Common.{List, ℕ, refl}
 use Rattle.just_lang.specs.declared.grammar.line.Header.{Header}
 use Rattle.just_lang.specs.Form.{IsBlank}

@@ -1,3 +1,4 @@
+-- What stands behind a colon.
 use Rattle.std.proofs.Common.{◌≡◌, ◌∷◌, false, List, ℕ, Option, Some, None, MatchOption}
 use Rattle.std.specs.Str.Pattern.{FindsCharPrefix, StripsPrefix}
 use Rattle.just_lang.specs.Form.{begins}

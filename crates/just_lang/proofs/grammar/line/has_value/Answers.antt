@@ -1,3 +1,4 @@
+-- What std finds of `{{` in a text.
 use Rattle.std.proofs.Common.{◌∷◌, ◌↔◌, Bool, true, false, List, [], ℕ, None, MatchBool, IsTrue, refl}
 use Rattle.std.specs.Str.Iter.{HasSubslice}
 use Rattle.std.specs.Str.Pattern.{FindsText, HasMatch}

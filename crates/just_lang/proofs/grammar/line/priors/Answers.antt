@@ -1,3 +1,4 @@
+-- One more prior, or the end of the line.
 use Rattle.std.proofs.Common.{◌≡◌, ◌≢◌, List, [], ◌∷◌, ◌++◌, ap, ◌∙◌, arith, append_assoc, append-nil, IsTrue}
 use Rattle.std.proofs.lemmas.Grind.{common_steps}
 use Rattle.just_lang.specs.declared.ast.Dependency.{Dependency}

@@ -1,3 +1,4 @@
+-- The priors so far, and the text behind them.
 use Rattle.std.proofs.Common.{◌≡◌, List, ◌++◌, length}
 use denote.Shadow.{shadow}
 use denote.Text.{Utf8}

@@ -1,3 +1,4 @@
+-- The parts of a recipe line.
 use Rattle.std.proofs.Common.{◌≡◌, ◌∷◌, ◌∙◌, sym, false, true, List, ℕ, subst}
 use Rattle.just_lang.specs.declared.ast.Dependency.{Dependency}
 use Rattle.just_lang.specs.Form.{begins, ArePriors}

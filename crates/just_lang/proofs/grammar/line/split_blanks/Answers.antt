@@ -1,3 +1,4 @@
+-- Where blanks end.
 use Rattle.std.proofs.Common.{◌≡◌}
 use Rattle.std.specs.List.{prefix_len}
 use Rattle.just_lang.specs.Form.{is_blank}

@@ -1,3 +1,4 @@
+-- Each prior so far is known.
 use Rattle.std.proofs.Common.{◌≡◌, map, drop}
 use Rattle.std.specs.List.{list_all}
 use Rattle.just_lang.specs.Kinds.{is_known}

@@ -1,3 +1,4 @@
+-- A recipe line whose names do not fit, or the next one.
 use Rattle.std.proofs.Common.{◌≡◌, ◌+◌, List, sym, ap, ◌∙◌, true, false, map, take, drop}
 use denote.Ref.{Bor}
 use Rattle.just_lang.specs.declared.grammar.line.Header.{Header}

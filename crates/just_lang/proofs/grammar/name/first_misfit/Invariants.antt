@@ -1,3 +1,4 @@
+-- The names of the recipe lines so far fit.
 use Rattle.std.proofs.Common.{◌≡◌, [], take, drop, map}
 use Rattle.just_lang.specs.Kinds.{first_misfit}
 use Rattle.just_lang.proofs.grammar.name.first_misfit.Given as goal

@@ -1,3 +1,4 @@
+-- The recipe lines so far are those among the kinds so far.
 use Rattle.std.proofs.Common.{◌≡◌, ◌++◌, map, drop}
 use Rattle.just_lang.specs.Kinds.{headers_of}
 use Rattle.just_lang.proofs.grammar.name.headers.Given as goal

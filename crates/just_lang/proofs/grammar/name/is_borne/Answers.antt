@@ -1,3 +1,4 @@
+-- A recipe line bears the name, or goes on.
 use Rattle.std.proofs.Common.{◌≡◌, true, false, bytes_eq}
 use denote.Ref.{Bor}
 use Rattle.just_lang.specs.declared.grammar.line.Header.{Header}

@@ -1,3 +1,4 @@
+-- No recipe line so far bears the name.
 use Rattle.std.proofs.Common.{◌≡◌, map, drop}
 use Rattle.just_lang.specs.Kinds.{is_borne}
 use Rattle.just_lang.proofs.grammar.name.is_borne.Given as goal

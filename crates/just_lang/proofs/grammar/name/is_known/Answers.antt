@@ -1,3 +1,4 @@
+-- A recipe line has the name of the path, or goes on.
 use Rattle.std.proofs.Common.{◌≡◌, sym, ◌∙◌, true, false}
 use denote.Ref.{Bor}
 use Rattle.just_lang.specs.declared.grammar.line.Header.{Header}

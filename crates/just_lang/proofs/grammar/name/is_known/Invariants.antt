@@ -1,3 +1,4 @@
+-- No recipe line so far has the name.
 use Rattle.std.proofs.Common.{◌≡◌, map, drop}
 use Rattle.just_lang.specs.Kinds.{is_known}
 use Rattle.just_lang.proofs.grammar.name.is_known.Given as goal

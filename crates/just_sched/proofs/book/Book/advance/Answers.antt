@@ -1,30 +1,32 @@
+-- A body goes on: given back where it is over, else begun where it is fresh, and then stepped.
 use Rattle.std.proofs.Common.{ap, sym, ◌∙◌}
-use Rattle.just_sched.specs.State.{done}
+use Rattle.just_sched.specs.State.{is_over}
 use Rattle.just_sched.specs.Legal.{in_body}
-use Rattle.just_sched.proofs.Books.{inside_open, grown_none, grown_two, grown_on}
-use Rattle.just_sched.proofs.book.Book.advance.Goals as goal
+use Rattle.just_sched.proofs.Grows.{grows_none, grows_two, grows_on}
+use Rattle.just_sched.proofs.Due.{is_inside}
 use Rattle.just_sched.proofs.book.Book.advance.Goals.{else-not-is_begun-via-then-not-is_begun+else-not-begin, else-not-is_begun-via-else-not-is_begun}
+use Rattle.just_sched.proofs.book.Book.advance.Goals as goal
 
 pub begin-requires-clause-inside : goal.begin-requires-clause-inside
 begin-requires-clause-inside g c _ _ =
     let s = c.args.self.now in
-    inside_open g.P.Naming.start s.history.items _ _ c.args.node s.kept c.requires.opened (ap (λ h. done h c.args.node) (sym c.as_slice.ensures.value) ∙ sym c.if-is_done.ensures)
+    is_inside s.history.items c.args.node c.requires.opened (ap (λ h. is_over h c.args.node) (sym c.as_slice.ensures.value) ∙ sym c.if-is_over.ensures)
 
 pub returns-then-not-begin-clause-grown : goal.returns-then-not-begin-clause-grown
-returns-then-not-begin-clause-grown g c = grown_two c.args.self.now.history.items _ _ c.args.node c.begin.ensures.grown c.give-then-not-begin.ensures.grown
+returns-then-not-begin-clause-grown g c = grows_two c.args.self.now.history.items _ _ c.args.node c.begin.ensures.grown c.give-then-not-begin.ensures.grown
 
 pub step-requires-clause-inside : goal.step-requires-clause-inside
 step-requires-clause-inside g c _ _ =
     let s = c.args.self.now in
     elim c.else-not-is_begun.branch [
       | else-not-is_begun-via-then-not-is_begun+else-not-begin w ↦ ap (λ b. in_body b.history.items c.args.node) w.self-is ∙ w.if-not-begin.ensures.did.0
-      | else-not-is_begun-via-else-not-is_begun w ↦ ap (λ b. in_body b.history.items c.args.node) w.self-is ∙ inside_open g.P.Naming.start s.history.items _ _ c.args.node s.kept c.requires.opened (ap (λ h. done h c.args.node) (sym c.as_slice.ensures.value) ∙ sym c.if-is_done.ensures)
+      | else-not-is_begun-via-else-not-is_begun w ↦ ap (λ b. in_body b.history.items c.args.node) w.self-is ∙ is_inside s.history.items c.args.node c.requires.opened (ap (λ h. is_over h c.args.node) (sym c.as_slice.ensures.value) ∙ sym c.if-is_over.ensures)
     ]
 
 pub returns-clause-grown : goal.returns-clause-grown
 returns-clause-grown g c =
     let h = c.args.self.now.history.items in
     elim c.else-not-is_begun.branch [
-      | else-not-is_begun-via-then-not-is_begun+else-not-begin w ↦ grown_on h _ _ _ c.args.node w.begin.ensures.grown (ap (λ b. b.history.items) w.self-is) c.step.ensures.grown
-      | else-not-is_begun-via-else-not-is_begun w ↦ grown_on h h _ _ c.args.node (grown_none h c.args.node) (ap (λ b. b.history.items) w.self-is) c.step.ensures.grown
+      | else-not-is_begun-via-then-not-is_begun+else-not-begin w ↦ grows_on h _ _ _ c.args.node w.begin.ensures.grown (ap (λ b. b.history.items) w.self-is) c.step.ensures.grown
+      | else-not-is_begun-via-else-not-is_begun w ↦ grows_on h h _ _ c.args.node (grows_none h c.args.node) (ap (λ b. b.history.items) w.self-is) c.step.ensures.grown
     ]

@@ -1,8 +1,29 @@
-use Rattle.std.proofs.Common.{ap, sym, ◌∙◌, subst}
-use Rattle.just_sched.specs.Start.{run_of}
+-- The verdict is that of the history, and where all went well and nothing is left, the history is complete.
+use Rattle.std.proofs.Common.{◌≡◌, ℕ, ◌<◌, List, length, false, ap, sym, ◌∙◌, subst, inr}
+use Rattle.just_sched.specs.declared.plan_node.PlanNode.{PlanNode}
+use Rattle.just_sched.specs.Start.{IsKept, run_of}
+use Rattle.just_sched.specs.State.{is_open, caught_signal}
 use Rattle.just_sched.specs.Verdict.{IsVerdict}
+use Rattle.just_sched.proofs.Accounts.{kept_of, signalled_of}
+use Rattle.just_sched.proofs.Ended.{well_complete}
 use Rattle.just_sched.proofs.book.Book.close.Goals as goal
+
+pub verdict-verdict-requires-clause-closed : goal.verdict-verdict-requires-clause-closed
+verdict-verdict-requires-clause-closed g c = λ n lt.
+    ap (λ h. is_open h n) c.as_slice.ensures.value ∙ c.requires n (subst (λ (xs : List PlanNode). n < length xs) (ap (λ p. p.nodes) c.args.self.plan_named) lt)
+
+pub verdict-verdict-requires-clause-caught : goal.verdict-verdict-requires-clause-caught
+verdict-verdict-requires-clause-caught g c = signalled_of c.args.self.account ∙ ap caught_signal (sym c.as_slice.ensures.value)
+
+pub returns-clause-kept : goal.returns-clause-kept
+returns-clause-kept g c =
+    let s = c.args.self in
+    subst (λ h. ∥ IsKept g.P.Naming.start h (g.H.Host.entries s.host) (g.H.Host.world s.host) ∥₁) (sym c.from.ensures) (kept_of s.account)
 
 pub returns-clause-verdict : goal.returns-clause-verdict
 returns-clause-verdict g c =
     subst (λ h. IsVerdict (run_of g.P.Naming.start) h c.verdict-verdict.result) (c.as_slice.ensures.value ∙ sym c.from.ensures) (c.verdict-verdict.ensures.verdict (run_of g.P.Naming.start) (ap (λ p. p.nodes) (sym c.args.self.plan_named)))
+
+pub returns-clause-complete : goal.returns-clause-complete
+returns-clause-complete g c = λ well nothing.
+    well_complete g.P.Naming.start _ _ _ c.verdict-verdict.result (returns-clause-kept g c) (λ n lt. ap (λ h. is_open h n) c.from.ensures ∙ c.requires n lt) (inr nothing) (returns-clause-verdict g c) well

@@ -1,0 +1,6 @@
+-- The texts so far are those of the strings so far.
+use Rattle.std.proofs.Common.{◌≡◌, map, take, string_bytes}
+use Rattle.just_cli.proofs.program.texts_of.Given as goal
+
+abbrev pub invariant-loop-string : goal.invariant-loop-string
+invariant-loop-string l = map (λ t. t.now) l.texts.items ≡ map string_bytes (take l.string-index l.strings)

@@ -1,0 +1,46 @@
+-- What a run of some words promises.
+use Rattle.std.specs.Prelude.{ℕ, ◌≡◌, ◌<◌, ◌++◌, true, List, [], Option, Some, None, Result, IfOk, IfErr, MatchOption, MatchResult}
+use Rattle.just_outside.specs.Record.{faults_of, misses_of}
+use Rattle.just_outside.specs.World.{World}
+use Rattle.just_outside.specs.declared.entry.Entry.{Entry}
+use Rattle.just_sched.specs.Favourable.{IsFavourable}
+use Rattle.just_sched.specs.declared.plan.Plan.{Plan}
+use Rattle.just_cli.specs.declared.ended.Failure.{Failure}
+use Rattle.just_cli.specs.declared.ended.Report.{Report}
+use Rattle.just_cli.specs.declared.error.Error.TheVariants as error
+use Rattle.just_cli.specs.Answered.{IsAnswered, IsServed}
+use Rattle.just_cli.specs.Caused.{is_fault, is_miss}
+use Rattle.just_cli.specs.Record.{EndsWell, EndsIll, EndsBefore, IsQuiet}
+use Rattle.just_cli.specs.Request.{IsAsked, RefusedFor}
+use Rattle.just_cli.specs.Texts.{exit_code}
+
+-- the job limit that words ask for: none, since no word sets one yet
+abbrev pub jobs_for : List (List ℕ) → Option ℕ
+jobs_for words = None
+
+-- A run of these words over a host that told this world before and tells that one after it, whose record was the old one
+-- and is the new one, has this result.
+pub record IsRun (words : List (List ℕ)) (told after : Option World) (old new : List Entry) (result : Result Report Failure) : Type 0 where
+  -- a report's history is that of a run which ended well
+  pub ran : IfOk result (λ r. ∥ EndsWell r.plan (jobs_for words) r.history old new ∥₁)
+  -- a plan is the one that the words ask for
+  pub asked : MatchResult result (λ r. IsAsked words told r.plan) (λ f. MatchOption f.plan (Unit {0}) (λ p. IsAsked words told p))
+  -- a failure without a plan is a refusal, by the request, the host, or want of memory
+  pub refused : IfErr result (λ f. f.plan ≡ None → ∥ RefusedFor words told f.error ∥₁)
+  -- over a told world the result fits the request
+  pub answered : IsAnswered words told result
+  -- a failure's history is that of a run which ended ill; without a plan the book wasn't opened
+  pub failed : IfErr result (λ f. MatchOption f.plan (∥ EndsBefore f.error old new ∥₁) (λ p. ∥ EndsIll p (jobs_for words) f.history f.error old new ∥₁))
+  -- over a told world a run that is asked for ends well, unless something stood against it
+  pub complete : IsServed words told (jobs_for words) result old new
+  -- without a plan there is no history
+  pub unplanned : IfErr result (λ f. f.plan ≡ None → f.history ≡ [])
+  -- the exit code is the error's
+  pub code : IfErr result (λ f. f.code ≡ exit_code f.error)
+  -- a planned run over a favourable record fails by want of memory alone
+  pub favoured : IfErr result (λ f. (p : Plan) → f.plan ≡ Some p → (es : List Entry) → new ≡ old ++ es → IsFavourable es → f.error ≡ error.NoMemory)
+  -- the error of a failed call has its failure in the record, and that of a miss its miss
+  pub faults : IfErr result (λ f. is_fault f.error ≡ true → faults_of old < faults_of new)
+  pub misses : IfErr result (λ f. is_miss f.error ≡ true → misses_of old < misses_of new)
+  -- where no child was started and nothing failed, the told world is as it was
+  pub untouched : (es : List Entry) → new ≡ old ++ es → IsQuiet es → after ≡ told

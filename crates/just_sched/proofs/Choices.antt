@@ -1,0 +1,67 @@
+-- Why there is no move, and that there is one.
+use Rattle.std.proofs.Common.{◌≡◌, ℕ, ◌<◌, inl, inr, true, false, List, length, slice_get, All, Option, Some, None, is_none, is_some, MatchOption, refl, ap, sym, ◌∙◌, subst, arith}
+use Rattle.std.proofs.Math.Logic.{∥∥₁_elim}
+use Rattle.std.proofs.lemmas.Option.{slice_get_within, get_or_from_slice_get}
+use Rattle.just_outside.specs.declared.outside.Host
+use Rattle.just_path.specs.declared.host.PathHost
+use Rattle.just_sched.specs.declared.event.Event.{Event}
+use Rattle.just_sched.specs.declared.event.Idle.{Idle}
+use Rattle.just_sched.specs.declared.plan_node.PlanNode.{PlanNode}
+use Rattle.just_sched.specs.declared.token.Next.{Next}
+use Rattle.just_sched.specs.declared.token.Next.TheVariants as next
+use Rattle.just_sched.specs.Idle.{HasWork, CanMove}
+use Rattle.just_sched.specs.Legal.{open_bodies}
+use Rattle.just_sched.specs.Moves.{GrowsBy, IsMove, RunsWith, Rests, MatchNext}
+use Rattle.just_sched.specs.Nodes.{prompt_in}
+use Rattle.just_sched.specs.Start.{Start, run_of}
+use Rattle.just_sched.specs.State.{has_taken, has_caught, IsReady, IsToAsk}
+use Rattle.just_sched.proofs.Grows.{grows_two}
+use Rattle.just_sched.proofs.OneMore.{taken_on}
+use Rattle.just_sched.proofs.Range.{ready_there}
+use Rattle.just_sched.proofs.Reasons.{none_to_ask}
+
+-- ---- no node is to be asked
+
+-- no node of a plan without prompts is to be asked
+pub none_asked : (s : Start) (h : List Event) (n : ℕ) → IsToAsk s.plan.nodes s.plan.invocations h n → ⊥
+none_asked s h n asked = ∥∥₁_elim s.plan.unprompted (λ x. absurd x) (λ all. none_to_ask (run_of s) h all n asked)
+
+-- ---- answers of a move
+
+-- what follows for each answer of a move follows for the move
+pub match_next : {X C D : Type 0} {g : Host.Ghosts X C D} {p : PathHost.Ghosts X} (r : Next X C D g p) (A A' : Type 0) (B B' : ℕ → ℕ → Type 0) (K K' : Idle → Type 0) → (A → A') → ((n c : ℕ) → B n c → B' n c) → ((i : Idle) → K i → K' i) → MatchNext r A B K → MatchNext r A' B' K'
+match_next next.Moved A A' B B' K K' a b k m = a m
+match_next (next.Body body) A A' B B' K K' a b k m = b body.node body.child m
+match_next (next.Idle i) A A' B B' K K' a b k m = k i m
+
+-- where no node of the plan is ready, there is no work
+pub nothing_ready : (s : Start) (h : List Event) → ((n : ℕ) → n < length s.plan.nodes → IsReady s.plan.nodes s.plan.invocations h n → ⊥) → HasWork (run_of s) h → ⊥
+nothing_ready s h none (n, inl ready) = ∥∥₁_elim s.plan.well (λ x. absurd x) (λ f. none n (ready_there (run_of s) h n f ready) ready)
+nothing_ready s h none (n, inr is_asked) = none_asked s h n is_asked
+
+-- a free job isn't a full limit
+not_full : (jobs : Option ℕ) (count : ℕ) → MatchOption jobs (Unit {0}) (λ j. count < j) → jobs ≡ Some count → ⊥
+not_full None count free e = absurd (cc)
+not_full (Some j) count free e = let same : j ≡ count = cc in omega arith
+
+-- a ready node can be moved where a job is free
+pub can_move : (s : Start) (h : List Event) (n : ℕ) → has_caught h ≡ false → IsReady s.plan.nodes s.plan.invocations h n → MatchOption s.jobs (Unit {0}) (λ j. open_bodies (run_of s) h < j) → CanMove (run_of s) h
+can_move s h n calm ready free = (calm, (n, inl ready), λ none full. not_full s.jobs (open_bodies (run_of s) h) free full)
+
+-- what became of a move, where the ready node of least number took a job and was then gone on with
+pub did_next : {X C D : Type 0} {g : Host.Ghosts X C D} {p : PathHost.Ghosts X} (r : Next X C D g p) (s : Start) (old first mid new : List Event) (node : ℕ) (K : Idle → Type 0)
+    → first ≡ old → IsReady s.plan.nodes s.plan.invocations old node → ((m : ℕ) → m < node → IsReady s.plan.nodes s.plan.invocations old m → ⊥)
+    → GrowsBy first mid node → has_taken mid node ≡ true → GrowsBy mid new node → MatchNext r (Rests new node) (λ n c. (n ≡ node) × RunsWith new n c) (λ i. ⊥)
+    → MatchNext r ((n : ℕ) × IsMove (run_of s) old new n × Rests new n) (λ n c. IsMove (run_of s) old new n × RunsWith new n c) K
+did_next r s old first mid new node K same ready least took taken went did =
+    let move : IsMove (run_of s) old new node = record {
+      ready = ready;
+      least = least;
+      grows = grows_two old mid new node (subst (λ h. GrowsBy h mid node) same took) went;
+      taken = taken_on mid new went.more node went.grew taken;
+    } in
+    match_next r (Rests new node) ((n : ℕ) × IsMove (run_of s) old new n × Rests new n) (λ n c. (n ≡ node) × RunsWith new n c) (λ n c. IsMove (run_of s) old new n × RunsWith new n c) (λ i. ⊥) K
+    (λ rests. (node, move, rests))
+    (λ n c m. (subst (λ k. IsMove (run_of s) old new k) (sym m.0) move, m.1))
+    (λ i x. absurd x)
+    did

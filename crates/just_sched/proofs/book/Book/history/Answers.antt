@@ -1,0 +1,10 @@
+-- The history is kept.
+use Rattle.std.proofs.Common.{sym, subst}
+use Rattle.just_sched.specs.Start.{IsKept}
+use Rattle.just_sched.proofs.Accounts.{kept_of}
+use Rattle.just_sched.proofs.book.Book.history.Goals as goal
+
+pub returns-clause-kept : goal.returns-clause-kept
+returns-clause-kept g c =
+    let s = c.args.self.now in
+    subst (λ h. ∥ IsKept g.P.Naming.start h (g.H.Host.entries s.host) (g.H.Host.world s.host) ∥₁) (sym c.as_slice.ensures.value) (kept_of s.account)

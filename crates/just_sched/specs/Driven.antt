@@ -1,0 +1,32 @@
+-- What the drive of a run promises.
+use Rattle.std.specs.Prelude.{◌≡◌, ◌⊎◌, true, List, Option}
+use Rattle.just_outside.specs.declared.entry.Entry.{Entry}
+use Rattle.just_outside.specs.World.{World}
+use Rattle.just_sched.specs.declared.event.Event.{Event}
+use Rattle.just_sched.specs.declared.event.Idle.{Idle}
+use Rattle.just_sched.specs.declared.event.Verdict.{Verdict}
+use Rattle.just_sched.specs.declared.event.Verdict.TheVariants as ended
+use Rattle.just_sched.specs.declared.plan.Plan.{Plan}
+use Rattle.just_sched.specs.Idle.{IsIdle, HasWork}
+use Rattle.just_sched.specs.Legal.{IsClosed, IsComplete}
+use Rattle.just_sched.specs.Start.{Start, IsKept, run_of}
+use Rattle.just_sched.specs.State.{has_caught}
+use Rattle.just_sched.specs.Verdict.{IsVerdict}
+
+-- A run that began there was driven to its end: this plan came back with this history and this verdict, over a host whose
+-- record and told world are these now.
+pub record IsDriven (s : Start) (p : Plan) (h : List Event) (v : Verdict) (now : List Entry) (world : Option World) : Type 0 where
+  -- the plan came back as it was
+  pub plan : p ≡ s.plan
+  -- the history is legal and matches what the record gained, and the world is as it was where nothing was started or failed
+  pub kept : ∥ IsKept s h now world ∥₁
+  -- no body is open
+  pub closed : IsClosed (run_of s) h
+  -- there is a reason why no move could be made
+  pub idle : (i : Idle) × IsIdle (run_of s) h i
+  -- so a signal was caught, or no node is ready or to be asked
+  pub nothing_left : (has_caught h ≡ true) ⊎ (HasWork (run_of s) h → ⊥)
+  -- the verdict is that of the history
+  pub verdict : IsVerdict (run_of s) h v
+  -- where all went well, each node of the plan is finished
+  pub complete : v ≡ ended.Well → IsComplete (run_of s) h

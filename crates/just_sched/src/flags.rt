@@ -1,0 +1,135 @@
+//! Flags of nodes, made by one pass over the history or over the plan. Nothing here takes memory.
+
+ghost use Rattle.std.specs.Prelude.{◌≡◌, ◌||◌, ◌==◌, ◌&&◌, ◌<◌, ◌⊎◌, ℕ, Bool, true, false, Option, Some, None, length, IfOk, IfSome, IfNone, Contains, replicate, slice_index};
+ghost use Rattle.just_sched.specs.Tables.{flag, FlagsAre, FlagsMean, InRange};
+ghost use Rattle.just_sched.specs.State.{names, skips, concludes_well, takes, concludes, is_over_well, has_taken, is_done, IsFinished, MayComeNext};
+
+use super::{Event, Outcome, Plan};
+
+/// The node that the event shows to be over well.
+fn over_by(event: &Event) -> Option<u32>
+    ensures { (n : ℕ) → names result n ≡ (skips n event.now || concludes_well n event.now) }
+{
+    match event {
+        Event::Skipped(node) | Event::Done(node, Outcome::Well) => Some(*node),
+        _ => None,
+    }
+}
+
+/// The node that the event shows to be taken or done.
+fn taken_by(event: &Event) -> Option<u32>
+    ensures { (n : ℕ) → names result n ≡ (takes n event.now || concludes n event.now) }
+{
+    match event {
+        Event::Took(node) | Event::Done(node, _) => Some(*node),
+        _ => None,
+    }
+}
+
+/// Sets the flag of a node, if it has one.
+fn set(flags: &mut [bool], node: Option<u32>)
+    ensures { (k : ℕ) → k < length flags.old → flag flags.new k ≡ (flag flags.old k || names node k) }
+{
+    if let Some(node) = node {
+        let at = node as usize;
+        if at < flags.len() {
+            flags[at] = true;
+        }
+    }
+}
+
+/// Takes all flags down.
+pub(crate) fn clear(flags: &mut [bool])
+    ensures { FlagsAre flags.new (λ _. false) }
+{
+    for flag in flags.iter_mut() {
+        *flag = false;
+    }
+}
+
+/// Flags the nodes that are over well.
+pub(crate) fn mark_over(history: &[Event], flags: &mut [bool])
+    ensures { FlagsAre flags.new (is_over_well history.now) }
+{
+    clear(flags);
+    for event in history {
+        set(flags, over_by(event));
+    }
+}
+
+/// Flags the nodes that took a job or are done.
+pub(crate) fn mark_taken(history: &[Event], flags: &mut [bool])
+    ensures { FlagsAre flags.new (λ n. has_taken history.now n || is_done history.now n) }
+{
+    clear(flags);
+    for event in history {
+        set(flags, taken_by(event));
+    }
+}
+
+/// Whether each node of the list is flagged.
+pub(crate) fn all_flagged(nodes: &[u32], flags: &[bool]) -> bool
+    requires { InRange nodes.now flags.now }
+    ensures yes { result ≡ true → (q : ℕ) → Contains nodes.now q → flag flags.now q ≡ true }
+    ensures not_all { result ≡ false → (j : ℕ) × (j < length nodes.now) × (flag flags.now (slice_index nodes.now j) ≡ false) }
+{
+    for node in nodes {
+        if !flags[*node as usize] {
+            return false;
+        }
+    }
+    true
+}
+
+/// Whether a flag stays up: it is up, and so is that of each node of the list.
+fn stays(nodes: &[u32], own: bool, flags: &[bool]) -> bool
+    requires { InRange nodes.now flags.now }
+    ensures yes { result ≡ true → (own ≡ true) × ((q : ℕ) → Contains nodes.now q → flag flags.now q ≡ true) }
+    ensures not_all { result ≡ false → (own ≡ false) ⊎ ((j : ℕ) × (j < length nodes.now) × (flag flags.now (slice_index nodes.now j) ≡ false)) }
+{
+    own && all_flagged(nodes, flags)
+}
+
+/// Flags the nodes that are finished: over well, with all their subsequents finished.
+pub(crate) fn mark_finished(plan: &Plan, history: &[Event], flags: &mut [bool])
+    requires { length flags.old ≡ length plan.now.nodes }
+    ensures { FlagsMean flags.new (IsFinished plan.now.nodes history.now) }
+{
+    mark_over(history, flags);
+    let nodes = plan.nodes.as_slice();
+    for back in 0..nodes.len() {
+        let at = nodes.len() - 1 - back;
+        let finished = stays(nodes[at].node.subsequents.as_slice(), flags[at], flags);
+        flags[at] = finished;
+    }
+}
+
+/// Flags the members of a list that have their turn: each one where they go together, else those before which all are
+/// finished.
+pub(crate) fn lead(nodes: &[u32], together: bool, finished: &[bool], flags: &mut [bool])
+    requires within { InRange nodes.now flags.old }
+    requires alike { length finished.now ≡ length flags.old }
+    ensures keeps { (k : ℕ) → flag flags.old k ≡ true → flag flags.new k ≡ true }
+    ensures marks { (k : ℕ) → MayComeNext (λ q. flag finished.now q ≡ true) together nodes.now k → flag flags.new k ≡ true }
+    ensures only { (k : ℕ) → flag flags.new k ≡ true → (flag flags.old k ≡ true) ⊎ MayComeNext (λ q. flag finished.now q ≡ true) together nodes.now k }
+{
+    for node in nodes {
+        flags[*node as usize] = true;
+        if !together && !finished[*node as usize] {
+            return;
+        }
+    }
+}
+
+/// Whether each flag is up.
+pub(crate) fn all_up(flags: &[bool]) -> bool
+    ensures yes { result ≡ true → (k : ℕ) → k < length flags.now → flag flags.now k ≡ true }
+    ensures not_all { result ≡ false → (k : ℕ) × (k < length flags.now) × (flag flags.now k ≡ false) }
+{
+    for flag in flags {
+        if !*flag {
+            return false;
+        }
+    }
+    true
+}
