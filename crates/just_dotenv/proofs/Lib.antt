@@ -1,3 +1,4 @@
+-- The proofs of the crate, from the parts of a value to whole texts.
 pub mod Parts
 pub mod Values
 pub mod ValueLaws

@@ -1,18 +1,17 @@
 -- One part of a value: what the code reads is what the grammar says, and nothing else.
 use Rattle.std.proofs.Common.{◌≡◌, ℕ, ◌<◌, ◌≤◌, ◌==◌, Bool, true, false, not, ◌&&◌, ◌||◌, if◌then◌else◌, List, [], ◌∷◌, length, Option, Some, None, Ok, Err, encode_utf8_all, refl, sym, ◌∙◌, subst, ⊎_elim, arith}
 use Rattle.std.proofs.lemmas.Bool.{false≢true}
-use Rattle.just_read.specs.Place.{Place, AreMany, Stands, next, past, run, first, starts, sees}
+use Rattle.just_read.specs.Place.{Place, AreMany, IsCharacter, next, past, run, first, starts, sees}
 use Rattle.just_read.specs.declared.error.ReadError.TheVariants.{Syntax}
-use Rattle.just_read.proofs.Tools.{choose, ok_value, ok_place}
-use Rattle.just_read.proofs.Steps.{starts_at, starts_seen, sees_first, next_shorter, past_le, stands_shorter}
-use Rattle.just_read.proofs.Many.{many_ok, many_again}
+use Rattle.just_read.proofs.Laws.{choose, ok_value, ok_place, starts_at, starts_seen, sees_first, next_shorter, past_le, character_shorter, many_ok, many_again}
 use Rattle.just_dotenv.specs.declared.part.Part.{Part}
 use Rattle.just_dotenv.specs.declared.part.Part.TheVariants.{Letter, Name, Braced, Gap, Sign}
-use Rattle.just_dotenv.specs.Characters.{in_word, in_value, is_plain, escape}
+use Rattle.just_dotenv.specs.Characters.{in_word, in_value, is_plain, escape, dollar_sign, backslash, open_brace, close_brace}
 use Rattle.just_dotenv.specs.Grammar.{is_braced, IsPart}
 use Rattle.just_dotenv.specs.Grammar.IsPart.{itself, escaped, named, braced, gap, sign}
 use Rattle.just_dotenv.specs.Readers.{brace, dollar, letter, escape_of, escape_at, part_of, part, parts}
 
+-- where two tests hold together, each holds
 pub and_true : (a b : Bool) → (a && b) ≡ true → (a ≡ true) × (b ≡ true)
 and_true true b h = (refl, h)
 and_true false b h = absurd (false≢true h)
@@ -20,17 +19,19 @@ and_true false b h = absurd (false≢true h)
 -- ---- what is read is a part
 
 module _ (quoted : Bool) (p : Place) where
-  brace_ok : (m q : Place) (x : Part) → Stands 36 p m → starts in_word m ≡ false → sees 123 m ≡ true → brace (next m) m ≡ Ok (x, q) → IsPart quoted p q x
+  -- what is read behind a `$` and a `{` is a part
+  brace_ok : (m q : Place) (x : Part) → IsCharacter dollar_sign p m → starts in_word m ≡ false → sees open_brace m ≡ true → brace (next m) m ≡ Ok (x, q) → IsPart quoted p q x
   unfolding brace
   brace_ok m q x s w o h =
       ⊎_elim
       (λ (t : _).
-      let (word, close) = and_true (starts in_word (next m)) (sees 125 (past in_word (next m))) t.0 in
+      let (word, close) = and_true (starts in_word (next m)) (sees close_brace (past in_word (next m))) t.0 in
       braced m (next m) s (o, refl) word (close, sym (ok_place _ x _ q t.1)) (sym (ok_value _ x _ q t.1)))
       (λ (t : _). subst (λ (r : Place). IsPart quoted p r x) (ok_place Gap x m q t.1) (gap s w o t.0 (sym (ok_value Gap x m q t.1))))
       (choose (is_braced (next m)) (Ok (Braced (encode_utf8_all (run in_word (next m).rest)), next (past in_word (next m)))) (Ok (Gap, m)) (Ok (x, q)) h)
 
-  dollar_ok : (m q : Place) (x : Part) → Stands 36 p m → dollar m ≡ Ok (x, q) → IsPart quoted p q x
+  -- what is read behind a `$` is a part
+  dollar_ok : (m q : Place) (x : Part) → IsCharacter dollar_sign p m → dollar m ≡ Ok (x, q) → IsPart quoted p q x
   unfolding dollar
   dollar_ok m q x s h =
       ⊎_elim
@@ -39,22 +40,26 @@ module _ (quoted : Bool) (p : Place) where
       ⊎_elim
       (λ (u : _). brace_ok m q x s t.0 u.0 u.1)
       (λ (u : _). subst (λ (r : Place). IsPart quoted p r x) (ok_place Sign x m q u.1) (sign s t.0 u.0 (sym (ok_value Sign x m q u.1))))
-      (choose (sees 123 m) (brace (next m) m) (Ok (Sign, m)) (Ok (x, q)) t.1))
-      (choose (starts in_word m) (Ok (Name (encode_utf8_all (run in_word m.rest)), past in_word m)) (if sees 123 m then brace (next m) m else Ok (Sign, m)) (Ok (x, q)) h)
+      (choose (sees open_brace m) (brace (next m) m) (Ok (Sign, m)) (Ok (x, q)) t.1))
+      (choose (starts in_word m) (Ok (Name (encode_utf8_all (run in_word m.rest)), past in_word m)) (if sees open_brace m then brace (next m) m else Ok (Sign, m)) (Ok (x, q)) h)
 
-  letter_ok : (m q : Place) (x : Part) (c : ℕ) (d : Option ℕ) → quoted ≡ true → Stands 92 p m → first m ≡ Some c → escape c ≡ d
+  -- what a backslash makes, where it makes something, is a part
+  letter_ok : (m q : Place) (x : Part) (c : ℕ) (d : Option ℕ) → quoted ≡ true → IsCharacter backslash p m → first m ≡ Some c → escape c ≡ d
       → letter d (next m) ≡ Ok (x, q) → IsPart quoted p q x
   letter_ok m q x c None t s f e h = absurd (let no : ⊥ = cc in no)
   letter_ok m q x c (Some d) t s f e h = escaped m c d t s f e (sym (ok_place _ x _ q h)) (sym (ok_value _ x _ q h))
 
-  escape_of_ok : (m q : Place) (x : Part) (o : Option ℕ) → quoted ≡ true → Stands 92 p m → first m ≡ o → escape_of o m ≡ Ok (x, q) → IsPart quoted p q x
+  -- what is read of the character behind a backslash is a part
+  escape_of_ok : (m q : Place) (x : Part) (o : Option ℕ) → quoted ≡ true → IsCharacter backslash p m → first m ≡ o → escape_of o m ≡ Ok (x, q) → IsPart quoted p q x
   escape_of_ok m q x None t s f h = absurd (let no : ⊥ = cc in no)
   escape_of_ok m q x (Some c) t s f h = letter_ok m q x c (escape c) t s f refl h
 
-  escape_ok : (m q : Place) (x : Part) → quoted ≡ true → Stands 92 p m → escape_at m ≡ Ok (x, q) → IsPart quoted p q x
+  -- what is read behind a backslash is a part
+  escape_ok : (m q : Place) (x : Part) → quoted ≡ true → IsCharacter backslash p m → escape_at m ≡ Ok (x, q) → IsPart quoted p q x
   unfolding escape_at
   escape_ok m q x t s h = escape_of_ok m q x (first m) t s refl h
 
+  -- what is read of a first character is a part
   part_of_ok : (o : Option ℕ) (q : Place) (x : Part) → first p ≡ o → part_of quoted o p ≡ Ok (x, q) → IsPart quoted p q x
   part_of_ok None q x f h = absurd (let no : ⊥ = cc in no)
   part_of_ok (Some c) q x f h =
@@ -73,36 +78,44 @@ module _ (quoted : Bool) (p : Place) where
       (choose (c == 36) (dollar (next p)) (if quoted && c == 92 then escape_at (next p) else Err Syntax) (Ok (x, q)) s.1))
       (choose (is_plain quoted c) (Ok (Letter c, next p)) (if c == 36 then dollar (next p) else (if quoted && c == 92 then escape_at (next p) else Err Syntax)) (Ok (x, q)) h)
 
+  -- what is read is a part
   pub part_ok : (q : Place) (x : Part) → part quoted p ≡ Ok (x, q) → IsPart quoted p q x
   unfolding part
   part_ok q x h = part_of_ok (first p) q x refl h
 
 -- ---- and each part is read
 
+-- a `$` doesn't stand for itself
 dollar_plain : (quoted : Bool) → is_plain quoted 36 ≡ false
 dollar_plain true = refl
 dollar_plain false = refl
 
+-- nor does a backslash
 slash_plain : (quoted : Bool) → is_plain quoted 92 ≡ false
 slash_plain true = refl
 slash_plain false = refl
 
+-- a value goes on with a `$`
 dollar_within : (quoted : Bool) → in_value quoted 36 ≡ true
 dollar_within true = refl
 dollar_within false = refl
 
-at_dollar : (quoted : Bool) (p m : Place) → Stands 36 p m → part quoted p ≡ dollar m
+-- where a `$` stands, the part is what stands behind it
+at_dollar : (quoted : Bool) (p m : Place) → IsCharacter dollar_sign p m → part quoted p ≡ dollar m
 unfolding part
 at_dollar quoted p m s = rw (sees_first 36 p s.0, dollar_plain quoted, s.1) refl
 
-at_slash : (quoted : Bool) (p m : Place) → quoted ≡ true → Stands 92 p m → part quoted p ≡ escape_at m
+-- where a backslash stands in double quotes, the part is what stands behind it
+at_slash : (quoted : Bool) (p m : Place) → quoted ≡ true → IsCharacter backslash p m → part quoted p ≡ escape_at m
 unfolding part
 at_slash quoted p m t s = rw (sees_first 92 p s.0, t, s.1) refl
 
+-- a code is itself
 same : (c : ℕ) → (c == c) ≡ true
 same c = grind (arith)
 
 module _ (quoted : Bool) (p q : Place) (x : Part) where
+  -- each part is read
   pub part_again : IsPart quoted p q x → part quoted p ≡ Ok (x, q)
   unfolding part dollar brace escape_at
   part_again (itself c f pl e z) = rw (f, pl, e, z) refl
@@ -114,7 +127,8 @@ module _ (quoted : Bool) (p q : Place) (x : Part) where
   part_again (gap s w o b z) = at_dollar quoted p q s ∙ rw (w, o, b, z) refl
   part_again (sign s w o z) = at_dollar quoted p q s ∙ rw (w, o, z) refl
 
-  from_dollar : (m : Place) → Stands 36 p m → starts (in_value quoted) p ≡ true
+  -- a value goes on where a `$` stands
+  from_dollar : (m : Place) → IsCharacter dollar_sign p m → starts (in_value quoted) p ≡ true
   from_dollar m s = starts_seen (in_value quoted) 36 p s.0 ∙ dollar_within quoted
 
   -- a value goes on where a part begins
@@ -131,28 +145,32 @@ module _ (quoted : Bool) (p q : Place) (x : Part) where
   part_shorter (itself c f pl e z) = rw e (next_shorter (is_plain quoted) p (starts_at (is_plain quoted) p c f ∙ pl))
   part_shorter (escaped m c d t s f k e z) =
       let step : length (next m).rest < length m.rest = next_shorter (λ a. a == c) m (starts_at (λ a. a == c) m c f ∙ same c) in
-      rw e (omega (arith, stands_shorter 92 p m s))
-  part_shorter (named m s w e z) = rw e (omega (arith, stands_shorter 36 p m s, past_le in_word m))
+      rw e (omega (arith, character_shorter 92 p m s))
+  part_shorter (named m s w e z) = rw e (omega (arith, character_shorter 36 p m s, past_le in_word m))
   part_shorter (braced m n s o w c z) =
-      omega (arith, stands_shorter 36 p m s, stands_shorter 123 m n o, past_le in_word n, stands_shorter 125 (past in_word n) q c)
-  part_shorter (gap s w o b z) = stands_shorter 36 p q s
-  part_shorter (sign s w o z) = stands_shorter 36 p q s
+      omega (arith, character_shorter 36 p m s, character_shorter 123 m n o, past_le in_word n, character_shorter 125 (past in_word n) q c)
+  part_shorter (gap s w o b z) = character_shorter 36 p q s
+  part_shorter (sign s w o z) = character_shorter 36 p q s
 
 -- ---- lists of parts
 
+-- a part that is read takes a character
 pub read_shorter : (quoted : Bool) (p q : Place) (x : Part) → starts (in_value quoted) p ≡ true → part quoted p ≡ Ok (x, q) → length q.rest < length p.rest
 read_shorter quoted p q x m h = part_shorter quoted p q x (part_ok quoted p q x h)
 
+-- parts that are read are a chain of parts, behind which the value ends
 pub parts_ok : (quoted : Bool) (p q : Place) (v : List Part) → parts quoted p ≡ Ok (v, q) → AreMany (IsPart quoted) p q v × (starts (in_value quoted) q ≡ false)
 unfolding parts
 parts_ok quoted p q v h = many_ok (starts (in_value quoted)) (part quoted) (IsPart quoted) (λ p q x m o. part_ok quoted p q x o) p q v h
 
+-- each such chain is read
 pub parts_again : (quoted : Bool) (p q : Place) (v : List Part) → AreMany (IsPart quoted) p q v → starts (in_value quoted) q ≡ false → parts quoted p ≡ Ok (v, q)
 unfolding parts
 parts_again quoted p q v are done =
     many_again (starts (in_value quoted)) (part quoted) (read_shorter quoted) (IsPart quoted)
     (λ p q x i. (part_starts quoted p q x i, part_again quoted p q x i)) p q v are done
 
+-- a chain of parts takes nothing back
 pub parts_le : (quoted : Bool) (p q : Place) (v : List Part) → AreMany (IsPart quoted) p q v → length q.rest ≤ length p.rest
 parts_le quoted p q [] e = rw e (omega arith)
 parts_le quoted p q (x ∷ v) (m, i, are) = omega (arith, part_shorter quoted p m x i, parts_le quoted m q v are)

@@ -1,3 +1,4 @@
+-- What the contracts of the crate cite.
 pub mod Characters
 pub mod Grammar
 pub mod Meaning

@@ -8,8 +8,8 @@ use Rattle.just_dotenv.specs.declared.error.DotenvError.{DotenvError}
 use Rattle.just_dotenv.specs.declared.error.DotenvError.TheVariants.{Line, NoMemory}
 use Rattle.just_dotenv.specs.declared.part.Part.{Part}
 use Rattle.just_dotenv.specs.declared.part.Part.TheVariants.{Letter, Name, Braced, Gap, Sign}
-use Rattle.just_dotenv.specs.Characters.{is_blank, begins_name, in_word, in_name, in_line, in_single, in_value, is_plain, escape}
-use Rattle.just_dotenv.specs.Grammar.{skip, is_braced, is_closed, is_gap, is_close, has_bare, word, Entry}
+use Rattle.just_dotenv.specs.Characters.{is_blank, begins_name, in_word, in_name, in_line, in_single_quotes, in_value, is_plain, escape, dollar_sign, backslash, open_brace, single_quote, double_quote, number_sign, equals_sign, line_feed, carriage_return}
+use Rattle.just_dotenv.specs.Grammar.{behind_blanks, is_braced, is_closed, is_gap, is_close, has_bare_value, word, Entry}
 use Rattle.just_dotenv.specs.Meaning.{Pairs, value_text, entry_pair}
 
 -- ---- parts
@@ -22,12 +22,14 @@ brace n = λ q. if is_braced n then Ok (Braced (encode_utf8_all (run in_word n.r
 unfoldable pub dollar : Reader Part
 dollar = λ q.
     if starts in_word q then Ok (Name (encode_utf8_all (run in_word q.rest)), past in_word q)
-    else (if sees 123 q then brace (next q) q else Ok (Sign, q))
+    else (if sees open_brace q then brace (next q) q else Ok (Sign, q))
 
+-- that character, where there is one
 abbrev pub letter : Option ℕ → Reader Part
 letter None = refuse
 letter (Some c) = λ q. Ok (Letter c, q)
 
+-- what a backslash makes with that character
 abbrev pub escape_of : Option ℕ → Reader Part
 escape_of None = refuse
 escape_of (Some c) = λ m. letter (escape c) (next m)
@@ -36,40 +38,47 @@ escape_of (Some c) = λ m. letter (escape c) (next m)
 unfoldable pub escape_at : Reader Part
 escape_at = λ m. escape_of (first m) m
 
+-- a part that begins with that character
 abbrev pub part_of : Bool → Option ℕ → Reader Part
 part_of quoted None = refuse
 part_of quoted (Some c) = λ p.
     if is_plain quoted c then Ok (Letter c, next p)
-    else (if c == 36 then dollar (next p) else (if quoted && c == 92 then escape_at (next p) else Err Syntax))
+    else (if c == dollar_sign then dollar (next p) else (if quoted && c == backslash then escape_at (next p) else Err Syntax))
 
+-- the next part
 unfoldable pub part : Bool → Reader Part
 part quoted = λ p. part_of quoted (first p) p
 
 -- ---- values
 
+-- the parts for as long as the value goes on
 unfoldable pub parts : Bool → Reader (List Part)
 parts quoted = many (starts (in_value quoted)) (part quoted)
 
-unfoldable pub closed : List Part → Reader (List Part)
-closed v = λ p. if is_closed v then Ok (v, p) else Err Syntax
+-- takes nothing, and refuses parts with a `${` that no `}` follows
+unfoldable pub check_closed : List Part → Reader (List Part)
+check_closed v = λ p. if is_closed v then Ok (v, p) else Err Syntax
 
+-- parts without such a `${`
 unfoldable pub closed_parts : Bool → Reader (List Part)
-closed_parts quoted = parts quoted >>= closed
+closed_parts quoted = parts quoted >>= check_closed
 
 -- behind the first quote
-unfoldable pub single : Reader (List Part)
-single = λ m. (expect 39 >> pure (map Letter (run in_single m.rest))) (past in_single m)
+unfoldable pub single_quoted_value : Reader (List Part)
+single_quoted_value = λ m. (expect single_quote >> pure (map Letter (run in_single_quotes m.rest))) (past in_single_quotes m)
 
-unfoldable pub double : Reader (List Part)
-double = do
+-- the same for a double quoted value
+unfoldable pub double_quoted_value : Reader (List Part)
+double_quoted_value = do
   v ← closed_parts true
-  expect 34
+  expect double_quote
   pure v
 
+-- behind the `=`
 unfoldable pub value : Reader (List Part)
 value = λ p.
-    if sees 39 (skip p) then single (next (skip p))
-    else (if sees 34 (skip p) then double (next (skip p)) else (if has_bare p then closed_parts false (skip p) else Ok ([], p)))
+    if sees single_quote (behind_blanks p) then single_quoted_value (next (behind_blanks p))
+    else (if sees double_quote (behind_blanks p) then double_quoted_value (next (behind_blanks p)) else (if has_bare_value p then closed_parts false (behind_blanks p) else Ok ([], p)))
 
 -- a value as its text
 abbrev pub as_text : Pairs → Pairs → Reader (List Part) → Reader (List ℕ)
@@ -79,6 +88,7 @@ as_text environ earlier r = r >>= (λ v. pure (value_text environ earlier v))
 abbrev pub waits : Part → Bool → Bool
 waits x before = is_gap x || (before && not (is_close x))
 
+-- the same behind some parts
 abbrev pub waits_behind : Bool → List Part → Bool
 waits_behind before [] = before
 waits_behind before (x ∷ xs) = waits_behind (waits x before) xs
@@ -87,19 +97,19 @@ waits_behind before (x ∷ xs) = waits_behind (waits x before) xs
 
 -- `export`, a blank, and a name behind the blanks
 unfoldable pub is_export : Place → Bool
-is_export p = bytes_eq (word p) (codes "export") && (starts is_blank (past in_name p) && starts begins_name (skip (past in_name p)))
+is_export p = bytes_eq (word p) (codes "export") && (starts is_blank (past in_name p) && starts begins_name (behind_blanks (past in_name p)))
 
 -- behind the name
 unfoldable pub assignment : List ℕ → Reader Entry
 assignment name = λ m. (do
-  expect 61
+  expect equals_sign
   v ← value
-  pure (record { name = name; value = v })) (skip m)
+  pure (record { name = name; value = v })) (behind_blanks m)
 
 -- from a name on
 unfoldable pub pair : Reader Entry
 pair = λ p.
-    if is_export p then assignment (word (skip (past in_name p))) (past in_name (skip (past in_name p)))
+    if is_export p then assignment (word (behind_blanks (past in_name p))) (past in_name (behind_blanks (past in_name p)))
     else assignment (word p) (past in_name p)
 
 -- an entry as its pair
@@ -108,33 +118,38 @@ as_pair environ earlier r = r >>= (λ e. pure (entry_pair environ earlier e))
 
 -- ---- lines
 
+-- the end of a line, or of the text
 unfoldable pub newline : Reader (Unit {0})
 newline = λ p.
     if is_end p then Ok (tt, p)
-    else (if sees 10 p then Ok (tt, next p) else (if sees 13 p then expect 10 (next p) else Err Syntax))
+    else (if sees line_feed p then Ok (tt, next p) else (if sees carriage_return p then expect line_feed (next p) else Err Syntax))
 
+-- blanks, a comment where one may begin, and the end of the line
 unfoldable pub rest : Bool → Reader (Unit {0})
-rest at_start = λ p. if (at_start || starts is_blank p) && sees 35 (skip p) then newline (past in_line (skip p)) else newline (skip p)
+rest at_start = λ p. if (at_start || starts is_blank p) && sees number_sign (behind_blanks p) then newline (past in_line (behind_blanks p)) else newline (behind_blanks p)
 
+-- a line, with its pair if it has one
 unfoldable pub line : Reader (Option Entry)
 line = λ p.
-    if starts begins_name (skip p) then (do
+    if starts begins_name (behind_blanks p) then (do
       e ← pair
       rest false
-      pure (Some e)) (skip p)
+      pure (Some e)) (behind_blanks p)
     else (do
       rest true
       pure None) p
 
+-- the pair that a line means, if it has one
 abbrev pub line_pair : Pairs → Pairs → Option Entry → Option (List ℕ × List ℕ)
 line_pair environ earlier None = None
 line_pair environ earlier (Some e) = Some (entry_pair environ earlier e)
 
+-- a line as that pair
 abbrev pub as_line : Pairs → Pairs → Reader (Option Entry) → Reader (Option (List ℕ × List ℕ))
 as_line environ earlier r = r >>= (λ x. pure (line_pair environ earlier x))
 
 -- what is told of the line at a place: its pair and where it ends, or its number where none is read there
-abbrev pub Tells : {A : Type 0} → Outcome A → ℕ → Result A DotenvError → Place → Type 0
-Tells outcome number (Ok a) new = outcome ≡ Ok (a, new)
-Tells outcome number (Err (Line n)) new = (n ≡ number) × ((e : ReadError) × (outcome ≡ Err e))
-Tells outcome number (Err NoMemory) new = Unit {0}
+abbrev pub ReadsLine : {A : Type 0} → Outcome A → ℕ → Result A DotenvError → Place → Type 0
+ReadsLine outcome number (Ok a) new = outcome ≡ Ok (a, new)
+ReadsLine outcome number (Err (Line n)) new = (n ≡ number) × ((e : ReadError) × (outcome ≡ Err e))
+ReadsLine outcome number (Err NoMemory) new = Unit {0}

@@ -1,3 +1,4 @@
+//! The sets of characters of the grammar.
 ghost use Rattle.std.specs.Prelude.{◌≡◌};
 ghost use Rattle.just_dotenv.specs.Characters.{is_plain, in_value};
 
@@ -69,12 +70,12 @@ impl Class for InLine {
 }
 
 /// What stands between single quotes.
-pub struct InSingle;
+pub struct InSingleQuotes;
 
-impl Class for InSingle {
-    ghost use Rattle.just_dotenv.specs.Characters.{in_single};
+impl Class for InSingleQuotes {
+    ghost use Rattle.just_dotenv.specs.Characters.{in_single_quotes};
 
-    ghost members = { in_single };
+    ghost members = { in_single_quotes };
 
     fn has(c: char) -> bool {
         c != '\''
@@ -101,7 +102,7 @@ pub fn is_in_value(quoted: bool, c: char) -> bool
     if quoted { c != '"' } else { Bare::has(c) }
 }
 
-/// Whether it stands there for itself.
+/// Whether it stands there for itself: neither a `$` nor a backslash does.
 pub fn is_plain(quoted: bool, c: char) -> bool
     ensures { result ≡ is_plain quoted c }
 {

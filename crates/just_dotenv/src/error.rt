@@ -1,14 +1,17 @@
+//! Why a dotenv text gives no pairs.
 ghost use Rattle.std.specs.Prelude.{◌≡◌};
 
 use std::alloc::{AllocError, AllocFailed};
 use std::error::Error;
 use std::fmt;
 
-/// Why a dotenv text gives no pairs.
+/// Why a dotenv text gives no pairs. It prints as `line 2`, or as `out of memory`.
 #[derive(Clone, Copy, Debug, PartialEq, Eq, Hash)]
 pub enum DotenvError {
-    /// The line, from 1, on which the first entry begins that can't be read.
+    /// The line, from 1, on which the first entry begins that can't be read. A quoted value may span lines, so what is wrong may
+    /// stand on a later one.
     Line(usize),
+    /// Memory was wanting, which says nothing of the text.
     NoMemory,
 }
 

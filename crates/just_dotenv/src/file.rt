@@ -1,6 +1,7 @@
+//! A whole text: its lines, from the first to the last.
 ghost use Rattle.std.specs.Prelude.{◌≡◌, IfOk, IfErr, MatchResult, List, ℕ, chars};
-ghost use Rattle.just_dotenv.specs.File.{begin, Gives, Refused};
-ghost use Rattle.just_dotenv.specs.Readers.{as_line, line, Tells};
+ghost use Rattle.just_dotenv.specs.File.{first_line, Gives, IsRefusedFor};
+ghost use Rattle.just_dotenv.specs.Readers.{as_line, line, ReadsLine};
 
 use super::DotenvError;
 use super::line::read_line;
@@ -9,8 +10,20 @@ use just_path::{Environ, Seq, Text};
 use just_read::{Cursor, ReadError};
 use std::alloc::{AllocError, Global};
 
-/// The pairs of a dotenv text, in its order. A `$NAME` or `${NAME}` in a bare or double quoted value means the
+/// Answers the pairs of a dotenv text, in its order, one for each line that has one. A name that stands twice has two pairs.
+///
+/// The head of the crate says how a line is written. A `$NAME` or `${NAME}` in a bare or double quoted value means the
 /// environment's value of that name, else that of the last pair above it, else nothing.
+///
+/// A text that isn't written so has no pairs, and is refused by `DotenvError::Line`: the line on which the first entry begins
+/// that can't be read. The only other answer is `DotenvError::NoMemory`. There is no condition.
+///
+/// ```
+/// // in an environment where HOME is `/h`
+/// let pairs = read(alloc, "A=1\nexport B=\"$HOME $A\" # where\nC='$A'\n", &environ)?;
+/// // A is `1`, B is `/h 1`, and C is `$A`
+/// let refused = read(alloc, "A=1\n=2\n", &environ); // Err(DotenvError::Line(2))
+/// ```
 #[tactic(auto, using(crate::proofs::FileLaws::up_to_none, crate::proofs::FileLaws::up_to_more, crate::proofs::FileLaws::up_to_end, crate::proofs::FileLaws::turn_shorter, crate::proofs::FileLaws::up_to_stop, crate::proofs::FileLaws::one_gift, crate::proofs::FileLaws::none_given))]
 pub fn read(alloc: Global, text: &str, environ: &Environ) -> Result<Seq<(Text, Text)>, DotenvError>
     // What is answered, the text gives in this environment.
@@ -18,10 +31,10 @@ pub fn read(alloc: Global, text: &str, environ: &Environ) -> Result<Seq<(Text, T
     // What the text gives is answered, unless memory is wanting: so it gives one list at most.
     ensures all { (pairs : List (List ℕ × List ℕ)) → Gives (chars text.now) environ.now.pairs pairs → MatchResult result (λ found. found ≡ pairs) (λ e. e ≡ DotenvError.NoMemory) }
     // A refused text has no pairs, and the line is that of the first entry that can't be read.
-    ensures refused { IfErr result (Refused (chars text.now)) }
+    ensures refused { IfErr result (IsRefusedFor (chars text.now)) }
 {
     let characters = characters(alloc, text)?;
-    let mut cursor = begin(characters.as_slice());
+    let mut cursor = first_line(characters.as_slice());
     let mut pairs: Vec<(Text, Text)> = Vec::new(alloc);
     'lines: while !cursor.is_at_end() {
         let scope = Scope {
@@ -37,15 +50,16 @@ pub fn read(alloc: Global, text: &str, environ: &Environ) -> Result<Seq<(Text, T
     Ok(Seq::from(pairs))
 }
 
+/// The characters of a text.
 fn characters(alloc: Global, text: &str) -> Result<Vec<char>, AllocError>
     ensures { IfOk result (λ v. v.items ≡ chars text.now) }
 {
     text.chars().collect(alloc)
 }
 
-/// The first line, behind the byte order mark, if there is one.
-fn begin(characters: &[char]) -> Cursor<'_>
-    ensures { result ≡ begin characters.now }
+/// The place where the first line begins: behind the byte order mark, where the text begins with one.
+fn first_line(characters: &[char]) -> Cursor<'_>
+    ensures { result ≡ first_line characters.now }
 {
     let mut cursor = Cursor::new(characters);
     if cursor.sees('\u{feff}') {
@@ -60,7 +74,7 @@ fn next_pair(
     cursor: &mut Cursor<'_>,
     scope: &Scope<'_>,
 ) -> Result<Option<(Text, Text)>, DotenvError>
-    ensures { Tells (as_line scope.now.environ.now.pairs scope.now.earlier.now line cursor.old) cursor.old.line result cursor.new }
+    ensures { ReadsLine (as_line scope.now.environ.now.pairs scope.now.earlier.now line cursor.old) cursor.old.line result cursor.new }
 {
     let line = cursor.line();
     match read_line(alloc, cursor, scope) {

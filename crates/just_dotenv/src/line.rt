@@ -1,3 +1,4 @@
+//! Lines, and the pair that one may have.
 ghost use Rattle.std.specs.Prelude.{◌≡◌, Ok, encode_utf8_all};
 ghost use Rattle.just_read.specs.Place.{past, run};
 ghost use Rattle.just_read.specs.Reader.{Reads};
@@ -90,7 +91,7 @@ fn rest(cursor: &mut Cursor<'_>, at_start: bool) -> Result<(), ReadError>
     newline(cursor)
 }
 
-/// A line, with its pair if it has one.
+/// Reads a line, with its pair if it has one: of `export A=1 # one` that is `A` and `1`, and `# one` has none.
 #[tactic(auto, unfolding(crate::specs::Readers::line))]
 pub fn read_line(
     alloc: Global,

@@ -1,3 +1,4 @@
+//! The parts of a bare or double quoted value.
 ghost use Rattle.std.specs.Prelude.{◌≡◌, ◌++◌, IfOk, string_bytes};
 ghost use Rattle.just_read.specs.Reader.{Reads};
 ghost use Rattle.just_dotenv.specs.Meaning.{part_text};
@@ -50,7 +51,7 @@ impl Part {
     }
 }
 
-/// Reads the next part.
+/// Reads the next part of a double quoted value (`quoted`) or of a bare one: of `$A/b` first the name `A`, then `/`, then `b`.
 #[tactic(auto, unfolding(crate::specs::Readers::part))]
 pub fn read_part(alloc: Global, cursor: &mut Cursor<'_>, quoted: bool) -> Result<Part, ReadError>
     ensures { Reads (part quoted cursor.old) result cursor.new }

@@ -1,6 +1,7 @@
+//! Where a value looks names up.
 ghost use Rattle.std.specs.Prelude.{◌≡◌, option_copied};
 ghost use Rattle.just_path.specs.Environ.{value_of};
-ghost use Rattle.just_dotenv.specs.Meaning.{looked_up};
+ghost use Rattle.just_dotenv.specs.Meaning.{value_in_scope};
 
 use just_path::{Environ, Text};
 
@@ -14,7 +15,7 @@ pub struct Scope<'a> {
 impl Scope<'_> {
     /// The environment's value, else that of the last earlier pair, else nothing.
     pub fn look_up(&self, name: &str) -> &str
-        ensures { result.now ≡ looked_up self.now.environ.now.pairs self.now.earlier.now name.now }
+        ensures { result.now ≡ value_in_scope self.now.environ.now.pairs self.now.earlier.now name.now }
     {
         match self.environ.get(name) {
             Some(value) => value,

@@ -1,10 +1,11 @@
+//! Values: single quoted, double quoted, and bare.
 ghost use Rattle.std.specs.Prelude.{◌≡◌, ◌&&◌, not};
 ghost use Rattle.just_read.specs.Place.{starts, sees};
 ghost use Rattle.just_read.specs.Reader.{Reads};
-ghost use Rattle.just_dotenv.specs.Characters.{in_value, is_bare, is_blank};
-ghost use Rattle.just_dotenv.specs.Readers.{as_text, closed_parts, single, double, value};
+ghost use Rattle.just_dotenv.specs.Characters.{in_value, is_bare, is_blank, number_sign};
+ghost use Rattle.just_dotenv.specs.Readers.{as_text, closed_parts, single_quoted_value, double_quoted_value, value};
 
-use super::characters::{Bare, Blank, InSingle, is_in_value};
+use super::characters::{Bare, Blank, InSingleQuotes, is_in_value};
 use super::part::read_part;
 use super::scope::Scope;
 use just_path::Text;
@@ -44,27 +45,36 @@ fn parts(
     Ok(Text::from(text))
 }
 
-/// What stands up to a single quote, and behind it.
-#[tactic(auto, unfolding(crate::specs::Readers::single))]
-fn single(alloc: Global, cursor: &mut Cursor<'_>, scope: &Scope<'_>) -> Result<Text, ReadError>
-    ensures { Reads (as_text scope.now.environ.now.pairs scope.now.earlier.now single cursor.old) result cursor.new }
+/// What stands up to the next single quote; the cursor goes behind that.
+#[tactic(auto, unfolding(crate::specs::Readers::single_quoted_value))]
+fn single_quoted_value(
+    alloc: Global,
+    cursor: &mut Cursor<'_>,
+    scope: &Scope<'_>,
+) -> Result<Text, ReadError>
+    ensures { Reads (as_text scope.now.environ.now.pairs scope.now.earlier.now single_quoted_value cursor.old) result cursor.new }
 {
-    let text = cursor.take::<InSingle>(alloc)?;
+    let text = cursor.take::<InSingleQuotes>(alloc)?;
     cursor.expect('\'')?;
     Ok(Text::from(text))
 }
 
-/// The parts up to a double quote, and behind it.
-#[tactic(auto, unfolding(crate::specs::Readers::double))]
-fn double(alloc: Global, cursor: &mut Cursor<'_>, scope: &Scope<'_>) -> Result<Text, ReadError>
-    ensures { Reads (as_text scope.now.environ.now.pairs scope.now.earlier.now double cursor.old) result cursor.new }
+/// The parts up to the next double quote; the cursor goes behind that.
+#[tactic(auto, unfolding(crate::specs::Readers::double_quoted_value))]
+fn double_quoted_value(
+    alloc: Global,
+    cursor: &mut Cursor<'_>,
+    scope: &Scope<'_>,
+) -> Result<Text, ReadError>
+    ensures { Reads (as_text scope.now.environ.now.pairs scope.now.earlier.now double_quoted_value cursor.old) result cursor.new }
 {
     let text = parts(alloc, cursor, true, scope)?;
     cursor.expect('"')?;
     Ok(text)
 }
 
-/// The value behind an `=`; where there is none, the cursor stays before the blanks.
+/// The value behind an `=`, as its text: of `A=$HOME/bin`, where the home is `/h`, that is `/h/bin`. Where there is none, it is
+/// the empty text, and the cursor stays before the blanks.
 #[tactic(auto, unfolding(crate::specs::Readers::value))]
 pub fn value(alloc: Global, cursor: &mut Cursor<'_>, scope: &Scope<'_>) -> Result<Text, ReadError>
     ensures { Reads (as_text scope.now.environ.now.pairs scope.now.earlier.now value cursor.old) result cursor.new }
@@ -74,14 +84,14 @@ pub fn value(alloc: Global, cursor: &mut Cursor<'_>, scope: &Scope<'_>) -> Resul
     if ahead.sees('\'') {
         ahead.step();
         *cursor = ahead;
-        return single(alloc, cursor, scope);
+        return single_quoted_value(alloc, cursor, scope);
     }
     if ahead.sees('"') {
         ahead.step();
         *cursor = ahead;
-        return double(alloc, cursor, scope);
+        return double_quoted_value(alloc, cursor, scope);
     }
-    if has_bare(cursor, &ahead) {
+    if has_bare_value(cursor, &ahead) {
         *cursor = ahead;
         return parts(alloc, cursor, false, scope);
     }
@@ -89,8 +99,8 @@ pub fn value(alloc: Global, cursor: &mut Cursor<'_>, scope: &Scope<'_>) -> Resul
 }
 
 /// Whether a bare value begins behind the blanks: behind a blank it doesn't begin with `#`.
-fn has_bare(before: &Cursor<'_>, behind: &Cursor<'_>) -> bool
-    ensures { result ≡ (starts is_bare behind.now && not (starts is_blank before.now && sees 35 behind.now)) }
+fn has_bare_value(before: &Cursor<'_>, behind: &Cursor<'_>) -> bool
+    ensures { result ≡ (starts is_bare behind.now && not (starts is_blank before.now && sees number_sign behind.now)) }
 {
     behind.starts::<Bare>() && !(before.starts::<Blank>() && behind.sees('#'))
 }

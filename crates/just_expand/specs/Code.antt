@@ -7,39 +7,39 @@ use Rattle.std.specs.declared.alloc.Global.{Global}
 use Rattle.std.specs.Fn.{CalledAt, Mut}
 use Rattle.just_expand.specs.Pieces.{Piece, plain, dollar, bare, braced, defaulted, unclosed, lone}
 use Rattle.just_expand.specs.Expansion.{Reply}
-use Rattle.just_expand.specs.Contexts.{reply_of, found_or}
-use Rattle.just_expand.specs.declared.piece.Piece.{Piece as Held}
-use Rattle.just_expand.specs.declared.piece.Piece.TheVariants as held
+use Rattle.just_expand.specs.Contexts.{reply_of, environ_reply}
+use Rattle.just_expand.specs.declared.piece.Piece.{Piece as CodePiece}
+use Rattle.just_expand.specs.declared.piece.Piece.TheVariants as code
 use Rattle.just_expand.specs.declared.error.NotPresent.{NotPresent}
 use Rattle.just_expand.specs.declared.error.Expand.{Expand}
 use Rattle.just_expand.specs.declared.error.Expand.TheVariants as expand
 
--- the piece that a value of the code holds
-abbrev pub piece_of : Held → Piece
-piece_of (held.Plain t) = plain t.now
-piece_of held.Dollar = dollar
-piece_of (held.Bare n) = bare n.now
-piece_of (held.Braced n) = braced n.now
-piece_of (held.Defaulted n d) = defaulted n.now d.now
-piece_of held.Unclosed = unclosed
-piece_of held.Lone = lone
+-- the piece that a value of the code stands for
+abbrev pub piece_of : CodePiece → Piece
+piece_of (code.Plain t) = plain t.now
+piece_of code.Dollar = dollar
+piece_of (code.Bare n) = bare n.now
+piece_of (code.Braced n) = braced n.now
+piece_of (code.Defaulted n d) = defaulted n.now d.now
+piece_of code.Unclosed = unclosed
+piece_of code.Lone = lone
 
 -- what is put out grew by the text that a piece became, or the error that it became is told, with the piece's name
-abbrev pub PutOrFailed : {E : Type 0} → List ℕ → List ℕ → List ℕ → Result (List ℕ) E → Result (Unit {0}) (Expand E) → Type 0
-PutOrFailed old new n became (Ok x) = (u : List ℕ) × (became ≡ Ok u) × (new ≡ old ++ u)
-PutOrFailed old new n became (Err (expand.Lookup l)) = (became ≡ Err l.cause) × (string_bytes l.var_name ≡ n)
-PutOrFailed old new n became (Err expand.NoMemory) = Unit {0}
+abbrev pub PutsOrFails : {E : Type 0} → List ℕ → List ℕ → List ℕ → Result (List ℕ) E → Result (Unit {0}) (Expand E) → Type 0
+PutsOrFails old new n became (Ok x) = (u : List ℕ) × (became ≡ Ok u) × (new ≡ old ++ u)
+PutsOrFails old new n became (Err (expand.Lookup l)) = (became ≡ Err l.cause) × (string_bytes l.var_name ≡ n)
+PutsOrFails old new n became (Err expand.NoMemory) = Unit {0}
 
--- a closure as a context, as `answers` is, which may be out of memory besides
-abbrev pub tells : {C E : Type 0} → Mut C (Bor (List ℕ) × Unit {0}) (Result (Result (Option (String Global)) E) NoMemory) → C → List ℕ → Reply E → C → Type 0
-tells {C} {E} g s n r s' = (x : Result (Option (String Global)) E) × CalledAt g s n (Ok x) s' × (r ≡ reply_of x)
+-- a closure as a context, as `Answers` is, which may be out of memory besides: what it answers where memory suffices
+abbrev pub AnswersWithMemory : {C E : Type 0} → Mut C (Bor (List ℕ) × Unit {0}) (Result (Result (Option (String Global)) E) NoMemory) → C → List ℕ → Reply E → C → Type 0
+AnswersWithMemory {C} {E} g s n r s' = (x : Result (Option (String Global)) E) × CalledAt g s n (Ok x) s' × (r ≡ reply_of x)
 
--- a closure that hands on the call of another, which answered what it hands on
+-- the result hands on a call of another closure, which answered r and left the state c
 abbrev pub IsCallOf : {C R E : Type 0} → (R → C → Type 0) → Result R E → C → Type 0
 IsCallOf called (Ok r) c = called r c
 IsCallOf called (Err e) c = ⊥
 
--- what an environment tells of a name whose value is v
+-- the answer of an environment to a name whose value is v, unless memory is wanting
 abbrev pub IsLookup : Option (List ℕ) → Result (Result (Option (String Global)) NotPresent) NoMemory → Type 0
-IsLookup v (Ok x) = reply_of x ≡ found_or v
+IsLookup v (Ok x) = reply_of x ≡ environ_reply v
 IsLookup v (Err e) = Unit {0}

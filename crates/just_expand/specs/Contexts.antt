@@ -9,7 +9,7 @@ use Rattle.std.specs.declared.convert.Infallible.{Infallible}
 use denote.Ref.{Bor}
 use Rattle.just_path.specs.declared.memory.NoMemory.{NoMemory}
 use Rattle.just_expand.specs.Expansion.{Reply, ExpandsTo, FailsAt}
-use Rattle.just_expand.specs.Tilde.{FullTo}
+use Rattle.just_expand.specs.Tilde.{FullyExpandsTo}
 use Rattle.just_path.specs.Environ.{value_of}
 use Rattle.just_expand.specs.declared.error.NotPresent.{NotPresent}
 use Rattle.just_expand.specs.declared.error.Expand.{Expand}
@@ -21,21 +21,21 @@ reply_of (Ok v) = Ok (option_map string_bytes v)
 reply_of (Err e) = Err e
 
 -- a closure as a context: asked for n in the state s, a call may answer r and leave the state s'
-abbrev pub answers : {C E : Type 0} → Mut C (Bor (List ℕ) × Unit {0}) (Result (Option (String Global)) E) → C → List ℕ → Reply E → C → Type 0
-answers {C} {E} g s n r s' = (x : Result (Option (String Global)) E) × CalledAt g s n x s' × (r ≡ reply_of x)
+abbrev pub Answers : {C E : Type 0} → Mut C (Bor (List ℕ) × Unit {0}) (Result (Option (String Global)) E) → C → List ℕ → Reply E → C → Type 0
+Answers {C} {E} g s n r s' = (x : Result (Option (String Global)) E) × CalledAt g s n x s' × (r ≡ reply_of x)
 
 -- the same of a closure that gives no errors
-abbrev pub always : {C : Type 0} → Mut C (Bor (List ℕ) × Unit {0}) (Option (String Global)) → C → List ℕ → Reply Infallible → C → Type 0
-always {C} g s n r s' = (x : Option (String Global)) × CalledAt g s n x s' × (r ≡ Ok (option_map string_bytes x))
+abbrev pub AnswersWithoutError : {C : Type 0} → Mut C (Bor (List ℕ) × Unit {0}) (Option (String Global)) → C → List ℕ → Reply Infallible → C → Type 0
+AnswersWithoutError {C} g s n r s' = (x : Option (String Global)) × CalledAt g s n x s' × (r ≡ Ok (option_map string_bytes x))
 
 -- the answer to a name that has that value in an environment
-abbrev pub found_or : Option (List ℕ) → Reply NotPresent
-found_or (Some v) = Ok (Some v)
-found_or None = Err (record {})
+abbrev pub environ_reply : Option (List ℕ) → Reply NotPresent
+environ_reply (Some v) = Ok (Some v)
+environ_reply None = Err (record {})
 
 -- an environment as a context: its pairs are the state, and stay
-abbrev pub environ_answers : List (List ℕ × List ℕ) → List ℕ → Reply NotPresent → List (List ℕ × List ℕ) → Type 0
-environ_answers s n r s' = (r ≡ found_or (value_of n s)) × (s' ≡ s)
+abbrev pub EnvironAnswers : List (List ℕ × List ℕ) → List ℕ → Reply NotPresent → List (List ℕ × List ℕ) → Type 0
+EnvironAnswers s n r s' = (r ≡ environ_reply (value_of n s)) × (s' ≡ s)
 
 -- the text is refused for that cause
 abbrev pub IsCause : {S E : Type 0} → (S → List ℕ → Reply E → S → Type 0) → S → List ℕ → Expand E → Type 0
@@ -51,19 +51,19 @@ IsExpansion asks s t (Err e) = IsCause asks s t e
 abbrev pub IsSureExpansion : {S : Type 0} → (S → List ℕ → Reply Infallible → S → Type 0) → S → List ℕ → Result (CowStr Global) NoMemory → Type 0
 IsSureExpansion asks s t result = IfOk result (λ x. ExpandsTo asks s t (cow_str_bytes x))
 
--- a closure as the home folder: the call may answer h
-abbrev pub homes : {H : Type 0} → Once H (Unit {0}) (Option (String Global)) → H → Option (List ℕ) → Type 0
-homes {H} g f h = (x : Option (String Global)) × g.post f tt x × (h ≡ option_map string_bytes x)
+-- a closure as the home folder: a call may give h
+abbrev pub GivesHome : {H : Type 0} → Once H (Unit {0}) (Option (String Global)) → H → Option (List ℕ) → Type 0
+GivesHome {H} g f h = (x : Option (String Global)) × g.post f tt x × (h ≡ option_map string_bytes x)
 
--- a home folder that is told: the home is that one
-abbrev pub home_is : Option (List ℕ) → Option (List ℕ) → Type 0
-home_is told h = h ≡ told
+-- a home folder that is known: it is that one
+abbrev pub IsHome : Option (List ℕ) → Option (List ℕ) → Type 0
+IsHome told h = h ≡ told
 
--- the home may be asked for
+-- the closure may be called for the home folder
 abbrev pub MayCall : {H : Type 0} → Once H (Unit {0}) (Option (String Global)) → H → Type 0
 MayCall g f = g.pre f tt
 
--- the result of an expansion of the text and of its tilde
+-- the result of an expansion of the text, its variables first and then its tilde
 abbrev pub IsFullExpansion : {S E : Type 0} → (S → List ℕ → Reply E → S → Type 0) → (Option (List ℕ) → Type 0) → S → List ℕ → Result (CowStr Global) (Expand E) → Type 0
-IsFullExpansion asks home s t (Ok x) = FullTo asks home s t (cow_str_bytes x)
+IsFullExpansion asks home s t (Ok x) = FullyExpandsTo asks home s t (cow_str_bytes x)
 IsFullExpansion asks home s t (Err e) = IsCause asks s t e

@@ -1,13 +1,14 @@
 -- What a text becomes, by the answers of a context that is asked for its names.
 use Rattle.std.specs.Prelude.{◌≡◌, ℕ, List, [], ◌∷◌, ◌++◌, Option, Some, None, Result, Ok, Err}
 use Rattle.std.specs.List.{FoldsTo}
-use Rattle.just_expand.specs.Pieces.{Piece, plain, dollar, bare, braced, defaulted, unclosed, lone, written, Begins, Cuts}
+use Rattle.just_expand.specs.Bytes.{dollar_sign}
+use Rattle.just_expand.specs.Pieces.{Piece, plain, dollar, bare, braced, defaulted, unclosed, lone, piece_text, Begins, Cuts}
 
 -- an answer of a context to a name: a value, that there is none, or an error
 abbrev pub Reply : Type 0 → Type 0
 Reply E = Result (Option (List ℕ)) E
 
--- the name that a piece asks for
+-- the name that a piece asks for, if it asks
 abbrev pub question : Piece → Option (List ℕ)
 question (plain t) = None
 question dollar = None
@@ -17,41 +18,41 @@ question (defaulted n d) = Some n
 question unclosed = None
 question lone = None
 
--- the text of a piece that asks for nothing: `$` for `$$`, and any other as it is written
-abbrev pub said : Piece → List ℕ
-said (plain t) = t
-said dollar = 36 ∷ []
-said (bare n) = written (bare n)
-said (braced n) = written (braced n)
-said (defaulted n d) = written (defaulted n d)
-said unclosed = written unclosed
-said lone = written lone
+-- the text that a piece is where it asks for nothing: `$` for `$$`, and any other as it is written
+abbrev pub own_text : Piece → List ℕ
+own_text (plain t) = t
+own_text dollar = dollar_sign ∷ []
+own_text (bare n) = piece_text (bare n)
+own_text (braced n) = piece_text (braced n)
+own_text (defaulted n d) = piece_text (defaulted n d)
+own_text unclosed = piece_text unclosed
+own_text lone = piece_text lone
 
 -- what a piece becomes where its name has no value: its default, or itself as it is written
-abbrev pub unset : Piece → List ℕ
-unset (defaulted n d) = d
-unset (plain t) = t
-unset dollar = written dollar
-unset (bare n) = written (bare n)
-unset (braced n) = written (braced n)
-unset unclosed = written unclosed
-unset lone = written lone
+abbrev pub text_without_value : Piece → List ℕ
+text_without_value (defaulted n d) = d
+text_without_value (plain t) = t
+text_without_value dollar = piece_text dollar
+text_without_value (bare n) = piece_text (bare n)
+text_without_value (braced n) = piece_text (braced n)
+text_without_value unclosed = piece_text unclosed
+text_without_value lone = piece_text lone
 
 -- what a piece becomes where its name gives an error: its default, or that error
-abbrev pub failed : {E : Type 0} → Piece → E → Result (List ℕ) E
-failed (defaulted n d) e = Ok d
-failed (plain t) e = Err e
-failed dollar e = Err e
-failed (bare n) e = Err e
-failed (braced n) e = Err e
-failed unclosed e = Err e
-failed lone e = Err e
+abbrev pub error_outcome : {E : Type 0} → Piece → E → Result (List ℕ) E
+error_outcome (defaulted n d) e = Ok d
+error_outcome (plain t) e = Err e
+error_outcome dollar e = Err e
+error_outcome (bare n) e = Err e
+error_outcome (braced n) e = Err e
+error_outcome unclosed e = Err e
+error_outcome lone e = Err e
 
 -- what a piece that asks becomes by the answer: the value as it stands, or one of these two
-abbrev pub answered : {E : Type 0} → Piece → Reply E → Result (List ℕ) E
-answered p (Ok (Some v)) = Ok v
-answered p (Ok None) = Ok (unset p)
-answered p (Err e) = failed p e
+abbrev pub outcome : {E : Type 0} → Piece → Reply E → Result (List ℕ) E
+outcome p (Ok (Some v)) = Ok v
+outcome p (Ok None) = Ok (text_without_value p)
+outcome p (Err e) = error_outcome p e
 
 -- A context with states in S: `asks s n r s'` says that, asked for the name n in the state s, it may answer r, and
 -- is then in the state s'. `may s n` says that it may be asked.
@@ -59,9 +60,10 @@ module _ {S E : Type 0} (asks : S → List ℕ → Reply E → S → Type 0) whe
   -- a piece with that question becomes a text, which goes behind what is put out: from the state and the text s to
   -- those of t
   abbrev pub PutsBy : Option (List ℕ) → S × List ℕ → Piece → S × List ℕ → Type 0
-  PutsBy None s p t = (t.0 ≡ s.0) × (t.1 ≡ s.1 ++ said p)
-  PutsBy (Some n) s p t = (r : Reply E) × (u : List ℕ) × asks s.0 n r t.0 × (answered p r ≡ Ok u) × (t.1 ≡ s.1 ++ u)
+  PutsBy None s p t = (t.0 ≡ s.0) × (t.1 ≡ s.1 ++ own_text p)
+  PutsBy (Some n) s p t = (r : Reply E) × (u : List ℕ) × asks s.0 n r t.0 × (outcome p r ≡ Ok u) × (t.1 ≡ s.1 ++ u)
 
+  -- the same of a piece with its own question
   abbrev pub Puts : S × List ℕ → Piece → S × List ℕ → Type 0
   Puts s p t = PutsBy (question p) s p t
 
@@ -86,7 +88,7 @@ module _ {S E : Type 0} (asks : S → List ℕ → Reply E → S → Type 0) whe
     pub reply : Reply E
     pub last : S
     pub asked : asks state n reply last
-    pub error : answered piece reply ≡ Err e
+    pub error : outcome piece reply ≡ Err e
 
   -- The context may be asked for the name of a piece, once, where all pieces in front of it became text. Nothing else
   -- lets a body ask: so it asks for these names, in this order, and for none behind an error.

@@ -1,3 +1,5 @@
+-- What the contracts of the crate cite.
+pub mod Bytes
 pub mod Pieces
 pub mod Expansion
 pub mod Tilde

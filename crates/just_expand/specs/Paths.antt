@@ -5,7 +5,7 @@ use Rattle.std.specs.declared.borrow.CowStr.{CowStr}
 use Rattle.std.specs.declared.borrow.CowStr.TheVariants as text
 use Rattle.just_path.specs.Path.{text_of}
 use Rattle.just_expand.specs.Expansion.{Reply, ExpandsTo}
-use Rattle.just_expand.specs.Tilde.{FullTo}
+use Rattle.just_expand.specs.Tilde.{FullyExpandsTo}
 use Rattle.std.specs.Prelude.{Option}
 use Rattle.just_expand.specs.Contexts.{IsCause}
 use Rattle.just_expand.specs.declared.error.Expand.{Expand}
@@ -17,12 +17,12 @@ abbrev pub expanded_bytes : Expanded → List ℕ
 expanded_bytes (path.Borrowed p) = text_of p
 expanded_bytes (path.Owned p) = p
 
--- the path is the one that was given
+-- the path is borrowed, as one that was given is
 abbrev pub IsBorrowedPath : Expanded → Type 0
 IsBorrowedPath (path.Borrowed p) = Unit {0}
 IsBorrowedPath (path.Owned p) = ⊥
 
--- the result is the path of that text, borrowed
+-- the result is a path of that text, borrowed
 abbrev pub IsSamePath : {X : Type 0} → List ℕ → Result Expanded X → Type 0
 IsSamePath t (Ok (path.Borrowed p)) = text_of p ≡ t
 IsSamePath t (Ok (path.Owned p)) = ⊥
@@ -42,11 +42,12 @@ IsPathResultOf (Ok x) (Err e) = ⊥
 IsPathResultOf (Err e) (Ok y) = ⊥
 IsPathResultOf (Err e) (Err f) = f ≡ e
 
--- the result of an expansion of a path's text, and of its tilde
+-- the result of an expansion of a path's text
 abbrev pub IsPathExpansion : {S E : Type 0} → (S → List ℕ → Reply E → S → Type 0) → S → List ℕ → Result Expanded (Expand E) → Type 0
 IsPathExpansion asks s t (Ok x) = ExpandsTo asks s t (expanded_bytes x)
 IsPathExpansion asks s t (Err e) = IsCause asks s t e
 
+-- the result of an expansion of a path's text, its variables first and then its tilde
 abbrev pub IsFullPathExpansion : {S E : Type 0} → (S → List ℕ → Reply E → S → Type 0) → (Option (List ℕ) → Type 0) → S → List ℕ → Result Expanded (Expand E) → Type 0
-IsFullPathExpansion asks home s t (Ok x) = FullTo asks home s t (expanded_bytes x)
+IsFullPathExpansion asks home s t (Ok x) = FullyExpandsTo asks home s t (expanded_bytes x)
 IsFullPathExpansion asks home s t (Err e) = IsCause asks s t e

@@ -1,4 +1,4 @@
--- How a text is cut into pieces. Bytes: 36 is `$`, 123 `{`, 125 `}`, 58 `:`, 45 `-` and 95 `_`.
+-- How a text is cut into pieces.
 use Rattle.std.specs.Prelude.{◌≡◌, ◌≢◌, ◌⊎◌, ℕ, List, [], ◌∷◌, ◌++◌, Bool, true, ◌||◌, false, ◌==◌}
 use Rattle.std.specs.List.{AllByRecursion}
 use Rattle.std.specs.Char.{encode_utf8}
@@ -7,10 +7,11 @@ use Rattle.unicode.specs.Binary.{is_alphabetic}
 use Rattle.unicode.specs.GeneralCategory.{general_category}
 use Rattle.unicode.specs.GeneralCategoryGroup.{in_group}
 use Rattle.ucd_category.specs.declared.GeneralCategoryGroup.TheVariants.{Number}
+use Rattle.just_expand.specs.Bytes.{dollar_sign, open_brace, close_brace, colon, minus_sign, underscore}
 
 -- whether a character may stand in a name without braces: a letter, a number or `_`
 unfoldable pub is_name_char : ℕ → Bool
-is_name_char c = (is_alphabetic c || in_group Number (general_category c)) || c == 95
+is_name_char c = (is_alphabetic c || in_group Number (general_category c)) || c == underscore
 
 -- the byte b doesn't stand in the text
 abbrev pub Lacks : ℕ → List ℕ → Type 0
@@ -34,13 +35,13 @@ BeginsWithoutName t = (c : ℕ) (rest : List ℕ) → t ≡ encode_utf8 c ++ res
 
 -- the text begins with `:-`
 abbrev pub BeginsWithMark : List ℕ → Type 0
-BeginsWithMark t = (rest : List ℕ) × (t ≡ 58 ∷ 45 ∷ rest)
+BeginsWithMark t = (rest : List ℕ) × (t ≡ colon ∷ minus_sign ∷ rest)
 
 -- `:-` doesn't stand in the text
 abbrev pub LacksMark : List ℕ → Type 0
-LacksMark t = (front rest : List ℕ) → t ≢ front ++ (58 ∷ 45 ∷ rest)
+LacksMark t = (front rest : List ℕ) → t ≢ front ++ (colon ∷ minus_sign ∷ rest)
 
--- A piece: plain text, `$$`, `$n`, `${n}`, `${n:-d}`, a `${` that no `}` closes, and any other `$`
+-- a piece: plain text, `$$`, `$n`, `${n}`, `${n:-d}`, a `${` that no `}` closes, and any other `$`
 pub data Piece : Type 0 where
   plain : List ℕ → Piece
   dollar : Piece
@@ -50,31 +51,31 @@ pub data Piece : Type 0 where
   unclosed : Piece
   lone : Piece
 
--- the bytes of a piece
-abbrev pub written : Piece → List ℕ
-written (plain t) = t
-written dollar = 36 ∷ 36 ∷ []
-written (bare n) = 36 ∷ n
-written (braced n) = 36 ∷ 123 ∷ (n ++ (125 ∷ []))
-written (defaulted n d) = 36 ∷ 123 ∷ (n ++ (58 ∷ 45 ∷ (d ++ (125 ∷ []))))
-written unclosed = 36 ∷ 123 ∷ []
-written lone = 36 ∷ []
+-- the bytes of a piece, as it is written
+abbrev pub piece_text : Piece → List ℕ
+piece_text (plain t) = t
+piece_text dollar = dollar_sign ∷ dollar_sign ∷ []
+piece_text (bare n) = dollar_sign ∷ n
+piece_text (braced n) = dollar_sign ∷ open_brace ∷ (n ++ (close_brace ∷ []))
+piece_text (defaulted n d) = dollar_sign ∷ open_brace ∷ (n ++ (colon ∷ minus_sign ∷ (d ++ (close_brace ∷ []))))
+piece_text unclosed = dollar_sign ∷ open_brace ∷ []
+piece_text lone = dollar_sign ∷ []
 
--- what makes some bytes that piece, where `rest` is the text behind them. Plain text and a name without braces go
+-- the piece may stand in front of the text `rest`: what makes its bytes that piece. Plain text and a name without braces go
 -- on as far as they can. A name in braces ends at the first `}`; there the first `:-` parts name and default, but
 -- where it stands in front, the whole inside is the name.
-abbrev pub Stands : Piece → List ℕ → Type 0
-Stands (plain t) rest = (t ≢ []) × Lacks 36 t × EndsOrBegins 36 rest
-Stands dollar rest = Unit {0}
-Stands (bare n) rest = (n ≢ []) × IsNameRun n × BeginsWithoutName rest
-Stands (braced n) rest = Lacks 125 n × (BeginsWithMark n ⊎ LacksMark n)
-Stands (defaulted n d) rest = (n ≢ []) × Lacks 125 n × LacksMark n × Lacks 125 d
-Stands unclosed rest = Lacks 125 rest
-Stands lone rest = BeginsWithout 36 rest × BeginsWithout 123 rest × BeginsWithoutName rest
+abbrev pub StandsBefore : Piece → List ℕ → Type 0
+StandsBefore (plain t) rest = (t ≢ []) × Lacks dollar_sign t × EndsOrBegins dollar_sign rest
+StandsBefore dollar rest = Unit {0}
+StandsBefore (bare n) rest = (n ≢ []) × IsNameRun n × BeginsWithoutName rest
+StandsBefore (braced n) rest = Lacks close_brace n × (BeginsWithMark n ⊎ LacksMark n)
+StandsBefore (defaulted n d) rest = (n ≢ []) × Lacks close_brace n × LacksMark n × Lacks close_brace d
+StandsBefore unclosed rest = Lacks close_brace rest
+StandsBefore lone rest = BeginsWithout dollar_sign rest × BeginsWithout open_brace rest × BeginsWithoutName rest
 
 -- the text is that piece, and then `rest`
 abbrev pub Begins : List ℕ → Piece → List ℕ → Type 0
-Begins t p rest = (t ≡ written p ++ rest) × Stands p rest
+Begins t p rest = (t ≡ piece_text p ++ rest) × StandsBefore p rest
 
 -- the text is these pieces, and then `rest`
 abbrev pub Cuts : List ℕ → List Piece → List ℕ → Type 0
@@ -82,5 +83,5 @@ Cuts t [] rest = t ≡ rest
 Cuts t (p ∷ ps) rest = (behind : List ℕ) × Begins t p behind × Cuts behind ps rest
 
 -- there is one way at most to cut the whole text
-unfoldable pub CutOneWay : List ℕ → Type 0
-CutOneWay t = (ps qs : List Piece) → Cuts t ps [] → Cuts t qs [] → ps ≡ qs
+unfoldable pub HasOneCut : List ℕ → Type 0
+HasOneCut t = (ps qs : List Piece) → Cuts t ps [] → Cuts t qs [] → ps ≡ qs

@@ -1,4 +1,4 @@
-// What an expansion may be refused for.
+//! What an expansion may be refused for.
 ghost use Rattle.std.specs.Prelude.{◌≡◌, Some, codes};
 
 use just_path::NoMemory;
@@ -6,10 +6,10 @@ use std::alloc::AllocError;
 use std::error::Error;
 use std::fmt;
 
-/// The type of owned texts.
+/// The type of owned texts, as of the name in a [`LookupError`].
 pub type OString = String;
 
-/// A name that the context answered with an error.
+/// A name that the context answered with an error. It prints as `error looking key 'N' up: ` and the error's own text.
 #[derive(Debug, PartialEq, Eq, Drop)]
 pub struct LookupError<E> {
     /// The name as it stands in the text.
@@ -34,11 +34,12 @@ impl<E: fmt::Display> fmt::Display for LookupError<E> {
 
 impl<E: Error> Error for LookupError<E> {}
 
-/// Why a text has no expansion.
+/// Why a text has no expansion. It prints as its [`LookupError`], or as `out of memory`.
 #[derive(Debug, PartialEq, Eq, Drop)]
 pub enum Expand<E> {
     /// The context's error at a name without a default: the first in the text.
     Lookup(LookupError<E>),
+    /// Memory was wanting, which says nothing of the text.
     NoMemory,
 }
 
@@ -77,7 +78,7 @@ impl<E: fmt::Display> fmt::Display for Expand<E> {
 
 impl<E: Error> Error for Expand<E> {}
 
-/// The error of a name that the environment doesn't have.
+/// The error of a name that the environment doesn't have. It prints as `environment variable not found`.
 #[derive(Clone, Copy, Debug, PartialEq, Eq, Hash)]
 pub struct NotPresent;
 

@@ -1,10 +1,11 @@
-// The expansion of a text's variables.
+//! The expansion of a text's variables: its pieces, put out one by one.
 ghost use Rattle.std.specs.Prelude.{◌≡◌, ◌++◌, ◌∷◌, [], List, ℕ, Ok, Err, MatchResult, IfOk, if◌then◌else◌, string_bytes};
 ghost use Rattle.std.specs.Cow.{IsBorrowedStr};
-ghost use Rattle.just_expand.specs.Pieces.{written, Lacks};
-ghost use Rattle.just_expand.specs.Expansion.{said, unset, answered, MayAsk, ExpandsTo};
+ghost use Rattle.just_expand.specs.Bytes.{dollar_sign};
+ghost use Rattle.just_expand.specs.Pieces.{piece_text, Lacks};
+ghost use Rattle.just_expand.specs.Expansion.{own_text, text_without_value, outcome, MayAsk, ExpandsTo};
 ghost use Rattle.std.specs.Fn.{TakesAt, CalledAt};
-ghost use Rattle.just_expand.specs.Code.{piece_of, tells, PutOrFailed};
+ghost use Rattle.just_expand.specs.Code.{piece_of, AnswersWithMemory, PutsOrFails};
 ghost use Rattle.just_expand.specs.Contexts.{reply_of, IsCause, IsExpansion};
 
 use crate::error::{Expand, LookupError};
@@ -13,9 +14,9 @@ use just_path::NoMemory;
 use std::alloc::{AllocError, Global};
 use std::borrow::CowStr;
 
-/// Puts the piece out as it is written.
-fn put_written(out: &mut String, piece: Piece<'_>) -> Result<(), AllocError>
-    ensures { IfOk result (λ _. string_bytes out.new ≡ string_bytes out.old ++ written (piece_of piece.entry)) }
+/// Puts a piece out as it is written.
+fn put_piece_text(out: &mut String, piece: Piece<'_>) -> Result<(), AllocError>
+    ensures { IfOk result (λ _. string_bytes out.new ≡ string_bytes out.old ++ piece_text (piece_of piece.entry)) }
 {
     match piece {
         Piece::Plain(text) => out.push_str(text),
@@ -42,38 +43,38 @@ fn put_written(out: &mut String, piece: Piece<'_>) -> Result<(), AllocError>
 }
 
 /// Puts out a piece that asks for nothing.
-fn put_said(out: &mut String, piece: Piece<'_>) -> Result<(), AllocError>
-    ensures { IfOk result (λ _. string_bytes out.new ≡ string_bytes out.old ++ said (piece_of piece.entry)) }
+fn put_own_text(out: &mut String, piece: Piece<'_>) -> Result<(), AllocError>
+    ensures { IfOk result (λ _. string_bytes out.new ≡ string_bytes out.old ++ own_text (piece_of piece.entry)) }
 {
     match piece {
         Piece::Dollar => out.push_str("$"),
-        _ => put_written(out, piece),
+        _ => put_piece_text(out, piece),
     }
 }
 
 /// Puts out a piece whose name has no value.
-fn put_unset(out: &mut String, piece: Piece<'_>) -> Result<(), AllocError>
-    ensures { IfOk result (λ _. string_bytes out.new ≡ string_bytes out.old ++ unset (piece_of piece.entry)) }
+fn put_text_without_value(out: &mut String, piece: Piece<'_>) -> Result<(), AllocError>
+    ensures { IfOk result (λ _. string_bytes out.new ≡ string_bytes out.old ++ text_without_value (piece_of piece.entry)) }
 {
     match piece {
         Piece::Defaulted(_, default) => out.push_str(default),
-        _ => put_written(out, piece),
+        _ => put_piece_text(out, piece),
     }
 }
 
 /// Puts out what a piece that asks for `name` becomes by the answer.
-fn put_answered<E: Drop>(
+fn put_outcome<E: Drop>(
     alloc: Global,
     out: &mut String,
     piece: Piece<'_>,
     name: &str,
     reply: Result<Option<String>, E>,
 ) -> Result<(), Expand<E>>
-    ensures { PutOrFailed (string_bytes out.old) (string_bytes out.new) name.now (answered (piece_of piece.entry) (reply_of reply)) result }
+    ensures { PutsOrFails (string_bytes out.old) (string_bytes out.new) name.now (outcome (piece_of piece.entry) (reply_of reply)) result }
 {
     match reply {
         Ok(Some(value)) => out.push_str(value.as_str())?,
-        Ok(None) => put_unset(out, piece)?,
+        Ok(None) => put_text_without_value(out, piece)?,
         Err(cause) => match piece {
             Piece::Defaulted(_, default) => out.push_str(default)?,
             _ => {
@@ -100,18 +101,18 @@ pub(crate) fn expand<C, E>(alloc: Global, input: &str, mut context: C) -> Result
 where
     C: FnMut(&str) -> Result<Result<Option<String>, E>, NoMemory> + Drop,
     E: Drop,
-    requires { MayAsk (tells C.FnMut) (TakesAt C.FnMut) context input.now }
-    ensures { MatchResult result (λ out. ExpandsTo (tells C.FnMut) context input.now (string_bytes out)) (IsCause (tells C.FnMut) context input.now) }
+    requires { MayAsk (AnswersWithMemory C.FnMut) (TakesAt C.FnMut) context input.now }
+    ensures { MatchResult result (λ out. ExpandsTo (AnswersWithMemory C.FnMut) context input.now (string_bytes out)) (IsCause (AnswersWithMemory C.FnMut) context input.now) }
 {
     let mut out = String::with_capacity(alloc, input.len())?;
     let mut rest = input;
     let mut may_close = true;
     while let Some((piece, behind)) = split_piece(rest, may_close) {
         match piece.question() {
-            None => put_said(&mut out, piece)?,
+            None => put_own_text(&mut out, piece)?,
             Some(name) => {
                 let reply = ask(&mut context, name)?;
-                put_answered(alloc, &mut out, piece, name, reply)?;
+                put_outcome(alloc, &mut out, piece, name, reply)?;
             }
         }
         may_close = may_close && !piece.is_unclosed();
@@ -129,10 +130,10 @@ pub(crate) fn expand_text<'a, C, E>(
 where
     C: FnMut(&str) -> Result<Result<Option<String>, E>, NoMemory> + Drop,
     E: Drop,
-    requires { MayAsk (tells C.FnMut) (TakesAt C.FnMut) context input.now }
-    ensures expanded { IsExpansion (tells C.FnMut) context input.now result }
-    ensures borrowed { Lacks 36 input.now → result ≡ Ok (CowStr.Borrowed input.entry) }
-    ensures owned { IfOk result (λ text. IsBorrowedStr text → Lacks 36 input.now) }
+    requires { MayAsk (AnswersWithMemory C.FnMut) (TakesAt C.FnMut) context input.now }
+    ensures expanded { IsExpansion (AnswersWithMemory C.FnMut) context input.now result }
+    ensures borrowed { Lacks dollar_sign input.now → result ≡ Ok (CowStr.Borrowed input.entry) }
+    ensures owned { IfOk result (λ text. IsBorrowedStr text → Lacks dollar_sign input.now) }
 {
     if !input.contains('$') {
         return Ok(CowStr::Borrowed(input));

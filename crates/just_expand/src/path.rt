@@ -1,12 +1,22 @@
-//! The same eight calls over paths.
+//! The same eight calls over paths: each answers what the call of its name at the crate's top answers over the path's text.
+//!
+//! A path that was given is a `Utf8Path`, and an answer is [`Expanded`]: the same path borrowed, where the call over texts borrows,
+//! or a new `Utf8PathBuf`. The refusals and the conditions are those of the calls over texts.
+//!
+//! ```
+//! // in an environment where A is `x` and HOME is `/h`
+//! let path = path::full(alloc, Utf8Path::new("~/$A"), &environ)?; // Expanded::Owned, "/h/x"
+//! let same = path::full(alloc, Utf8Path::new("a/b"), &environ)?; // Expanded::Borrowed, "a/b"
+//! ```
 ghost use Rattle.std.specs.Prelude.{◌≡◌, ◌∷◌, List, ℕ, IfOk};
 ghost use Rattle.std.specs.Fn.{TakesAt};
 ghost use Rattle.just_path.specs.Environ.{home_of};
 ghost use Rattle.just_path.specs.Path.{text_of};
-ghost use Rattle.just_expand.specs.Pieces.{Lacks, BeginsWithout, CutOneWay};
+ghost use Rattle.just_expand.specs.Bytes.{dollar_sign, tilde_sign};
+ghost use Rattle.just_expand.specs.Pieces.{Lacks, BeginsWithout, HasOneCut};
 ghost use Rattle.just_expand.specs.Expansion.{MayAsk, ExpandsTo, AsksNothing};
-ghost use Rattle.just_expand.specs.Tilde.{IsTilde, HasNoTilde, MayAskHome, TildeTo, FullTo};
-ghost use Rattle.just_expand.specs.Contexts.{answers, always, environ_answers, homes, home_is, MayCall};
+ghost use Rattle.just_expand.specs.Tilde.{CallsForHome, NeedsNoHome, MayAskHome, TildeExpandsTo, FullyExpandsTo};
+ghost use Rattle.just_expand.specs.Contexts.{Answers, AnswersWithoutError, EnvironAnswers, GivesHome, IsHome, MayCall};
 ghost use Rattle.just_expand.specs.Paths.{expanded_bytes, IsBorrowedPath, IsSamePath, IsPathResultOf, IsPathExpansion, IsFullPathExpansion};
 
 pub use crate::error::OString;
@@ -17,13 +27,15 @@ use just_path::{Environ, NoMemory, Utf8Path, Utf8PathBuf};
 use std::alloc::Global;
 use std::borrow::CowStr;
 
-/// What a call is given, and answers where it borrows.
+/// What a call is given, and answers where it borrows: a path.
 pub type Xstr<'a> = Utf8Path<'a>;
 
 /// An expanded path: the one that was given, or a new one.
 #[derive(Debug, Drop)]
 pub enum Expanded<'a> {
+    /// The path that was given: its text needed no expansion.
     Borrowed(Utf8Path<'a>),
+    /// A new path.
     Owned(Utf8PathBuf),
 }
 
@@ -38,8 +50,16 @@ fn as_path<'a, X>(expanded: Result<CowStr<'a, Global>, X>) -> Result<Expanded<'a
     }
 }
 
-/// Expands the variables of the path by `context`, which is asked for each name in turn.
-#[tactic(auto, using(crate::proofs::Unique::one_cut, crate::proofs::Untouched::asks_nothing))]
+/// Expands the variables of a path by `context`, which is asked for each name in turn: [`crate::env_with_context`] over its text.
+///
+/// Answers the path borrowed where its text has no `$`. Refused by [`Expand::Lookup`] at the first error without a default, and by
+/// [`Expand::NoMemory`]. Condition: `context` may be asked for the names of the text in their turn (`MayAsk`).
+///
+/// ```
+/// let x = |_name: &str| -> Result<Option<String>, NotPresent> { Ok(String::from_str(alloc, "x").ok()) };
+/// let path = path::env_with_context(alloc, Utf8Path::new("~/$A"), x)?; // "~/x"
+/// ```
+#[tactic(auto, using(crate::proofs::OneCut::one_cut, crate::proofs::WithoutDollar::asks_nothing))]
 pub fn env_with_context<'a, C, E>(
     alloc: Global,
     input: Utf8Path<'a>,
@@ -48,18 +68,26 @@ pub fn env_with_context<'a, C, E>(
 where
     C: FnMut(&str) -> Result<Option<String>, E> + Drop,
     E: Drop,
-    requires { MayAsk (answers C.FnMut) (TakesAt C.FnMut) context (text_of input) }
-    ensures one_cut { CutOneWay (text_of input.entry) }
-    ensures expanded { IsPathExpansion (answers C.FnMut) context (text_of input.entry) result }
-    ensures unasked { Lacks 36 (text_of input.entry) → AsksNothing (answers C.FnMut) context (text_of input.entry) }
-    ensures borrowed { Lacks 36 (text_of input.entry) → IsSamePath (text_of input.entry) result }
-    ensures owned { IfOk result (λ path. IsBorrowedPath path → Lacks 36 (text_of input.entry)) }
+    requires { MayAsk (Answers C.FnMut) (TakesAt C.FnMut) context (text_of input) }
+    ensures one_cut { HasOneCut (text_of input.entry) }
+    ensures expanded { IsPathExpansion (Answers C.FnMut) context (text_of input.entry) result }
+    ensures unasked { Lacks dollar_sign (text_of input.entry) → AsksNothing (Answers C.FnMut) context (text_of input.entry) }
+    ensures borrowed { Lacks dollar_sign (text_of input.entry) → IsSamePath (text_of input.entry) result }
+    ensures owned { IfOk result (λ path. IsBorrowedPath path → Lacks dollar_sign (text_of input.entry)) }
 {
     as_path(texts::env_with_context(alloc, input.as_str(), context))
 }
 
-/// Expands the variables of the path by a `context` that gives no errors.
-#[tactic(auto, using(crate::proofs::Unique::one_cut, crate::proofs::Untouched::asks_nothing))]
+/// Expands the variables of a path by a `context` that gives no errors: [`crate::env_with_context_no_errors`] over its text.
+///
+/// Answers the path borrowed where its text has no `$`. The one refusal is want of memory. Condition: `context` may be asked for
+/// the names of the text in their turn (`MayAsk`).
+///
+/// ```
+/// let x = |_name: &str| String::from_str(alloc, "x").ok();
+/// let path = path::env_with_context_no_errors(alloc, Utf8Path::new("b/$A"), x)?; // "b/x"
+/// ```
+#[tactic(auto, using(crate::proofs::OneCut::one_cut, crate::proofs::WithoutDollar::asks_nothing))]
 pub fn env_with_context_no_errors<'a, C>(
     alloc: Global,
     input: Utf8Path<'a>,
@@ -67,33 +95,50 @@ pub fn env_with_context_no_errors<'a, C>(
 ) -> Result<Expanded<'a>, NoMemory>
 where
     C: FnMut(&str) -> Option<String> + Drop,
-    requires { MayAsk (always C.FnMut) (TakesAt C.FnMut) context (text_of input) }
-    ensures one_cut { CutOneWay (text_of input.entry) }
-    ensures expanded { IfOk result (λ path. ExpandsTo (always C.FnMut) context (text_of input.entry) (expanded_bytes path)) }
-    ensures unasked { Lacks 36 (text_of input.entry) → AsksNothing (always C.FnMut) context (text_of input.entry) }
-    ensures borrowed { Lacks 36 (text_of input.entry) → IsSamePath (text_of input.entry) result }
-    ensures owned { IfOk result (λ path. IsBorrowedPath path → Lacks 36 (text_of input.entry)) }
+    requires { MayAsk (AnswersWithoutError C.FnMut) (TakesAt C.FnMut) context (text_of input) }
+    ensures one_cut { HasOneCut (text_of input.entry) }
+    ensures expanded { IfOk result (λ path. ExpandsTo (AnswersWithoutError C.FnMut) context (text_of input.entry) (expanded_bytes path)) }
+    ensures unasked { Lacks dollar_sign (text_of input.entry) → AsksNothing (AnswersWithoutError C.FnMut) context (text_of input.entry) }
+    ensures borrowed { Lacks dollar_sign (text_of input.entry) → IsSamePath (text_of input.entry) result }
+    ensures owned { IfOk result (λ path. IsBorrowedPath path → Lacks dollar_sign (text_of input.entry)) }
 {
     as_path(texts::env_with_context_no_errors(alloc, input.as_str(), context))
 }
 
-/// Expands the variables of the path by the environment.
-#[tactic(auto, using(crate::proofs::Unique::one_cut, crate::proofs::Untouched::asks_nothing))]
+/// Expands the variables of a path by the environment: [`crate::env`] over its text.
+///
+/// Answers the path borrowed where its text has no `$`. A name that isn't there and has no default is refused by [`Expand::Lookup`],
+/// and want of memory by [`Expand::NoMemory`]. There is no condition.
+///
+/// ```
+/// // in an environment where A is `x`
+/// let path = path::env(alloc, Utf8Path::new("b/$A"), &environ)?; // "b/x"
+/// ```
+#[tactic(auto, using(crate::proofs::OneCut::one_cut, crate::proofs::WithoutDollar::asks_nothing))]
 pub fn env<'a>(
     alloc: Global,
     input: Utf8Path<'a>,
     environ: &Environ,
 ) -> Result<Expanded<'a>, Expand<NotPresent>>
-    ensures one_cut { CutOneWay (text_of input.entry) }
-    ensures expanded { IsPathExpansion environ_answers environ.now.pairs (text_of input.entry) result }
-    ensures unasked { Lacks 36 (text_of input.entry) → AsksNothing environ_answers environ.now.pairs (text_of input.entry) }
-    ensures borrowed { Lacks 36 (text_of input.entry) → IsSamePath (text_of input.entry) result }
-    ensures owned { IfOk result (λ path. IsBorrowedPath path → Lacks 36 (text_of input.entry)) }
+    ensures one_cut { HasOneCut (text_of input.entry) }
+    ensures expanded { IsPathExpansion EnvironAnswers environ.now.pairs (text_of input.entry) result }
+    ensures unasked { Lacks dollar_sign (text_of input.entry) → AsksNothing EnvironAnswers environ.now.pairs (text_of input.entry) }
+    ensures borrowed { Lacks dollar_sign (text_of input.entry) → IsSamePath (text_of input.entry) result }
+    ensures owned { IfOk result (λ path. IsBorrowedPath path → Lacks dollar_sign (text_of input.entry)) }
 {
     as_path(texts::env(alloc, input.as_str(), environ))
 }
 
-/// Puts the home folder in place of a leading tilde that stands before `/` or alone.
+/// Puts the home folder in place of a leading tilde that stands before `/` or alone: [`crate::tilde_with_context`] over the
+/// path's text.
+///
+/// Answers the path borrowed where no such tilde stands or `home_dir` gives none. The one refusal is want of memory. Condition:
+/// where such a tilde stands, `home_dir` may be called.
+///
+/// ```
+/// let home = || String::from_str(alloc, "/h").ok();
+/// let path = path::tilde_with_context(alloc, Utf8Path::new("~/b"), home)?; // "/h/b"
+/// ```
 pub fn tilde_with_context<'a, H>(
     alloc: Global,
     input: Utf8Path<'a>,
@@ -101,27 +146,47 @@ pub fn tilde_with_context<'a, H>(
 ) -> Result<Expanded<'a>, NoMemory>
 where
     H: FnOnce() -> Option<String> + Drop,
-    requires { (rest : List ℕ) → IsTilde (text_of input) rest → MayCall H.FnOnce home_dir }
-    ensures expanded { IfOk result (λ path. TildeTo (homes H.FnOnce home_dir) (text_of input.entry) (expanded_bytes path)) }
-    ensures borrowed { HasNoTilde (text_of input.entry) → IsSamePath (text_of input.entry) result }
+    requires { (rest : List ℕ) → CallsForHome (text_of input) rest → MayCall H.FnOnce home_dir }
+    ensures expanded { IfOk result (λ path. TildeExpandsTo (GivesHome H.FnOnce home_dir) (text_of input.entry) (expanded_bytes path)) }
+    ensures borrowed { NeedsNoHome (text_of input.entry) → IsSamePath (text_of input.entry) result }
 {
     as_path(home::tilde_with_context(alloc, input.as_str(), home_dir))
 }
 
-/// Puts the environment's home folder in place of a leading tilde that stands before `/` or alone.
+/// Puts the environment's home folder in place of a leading tilde that stands before `/` or alone: [`crate::tilde`] over the
+/// path's text.
+///
+/// Answers the path borrowed where no such tilde stands or the environment has no home folder. The one refusal is want of memory.
+/// There is no condition.
+///
+/// ```
+/// // in an environment where HOME is `/h`
+/// let path = path::tilde(alloc, Utf8Path::new("~"), &environ)?; // "/h"
+/// ```
 pub fn tilde<'a>(
     alloc: Global,
     input: Utf8Path<'a>,
     environ: &Environ,
 ) -> Result<Expanded<'a>, NoMemory>
-    ensures expanded { IfOk result (λ path. TildeTo (home_is (home_of environ.now.pairs)) (text_of input.entry) (expanded_bytes path)) }
-    ensures borrowed { HasNoTilde (text_of input.entry) → IsSamePath (text_of input.entry) result }
+    ensures expanded { IfOk result (λ path. TildeExpandsTo (IsHome (home_of environ.now.pairs)) (text_of input.entry) (expanded_bytes path)) }
+    ensures borrowed { NeedsNoHome (text_of input.entry) → IsSamePath (text_of input.entry) result }
 {
     as_path(home::tilde(alloc, input.as_str(), environ))
 }
 
-/// Expands the variables of the path by `context`, and then a leading tilde, unless a variable brought it to the front.
-#[tactic(auto, using(crate::proofs::Unique::one_cut, crate::proofs::Untouched::asks_nothing))]
+/// Expands the variables of a path by `context`, and then a leading tilde, unless a variable brought it to the front:
+/// [`crate::full_with_context`] over its text.
+///
+/// Answers the path borrowed where its text has no `$` and begins with no `~`. Refused by [`Expand::Lookup`] at the first error
+/// without a default, and by [`Expand::NoMemory`]. Condition: `context` may be asked for the names of the text in their turn
+/// (`MayAsk`), and `home_dir` may be called where a tilde calls for it (`MayAskHome`).
+///
+/// ```
+/// let home = || String::from_str(alloc, "/h").ok();
+/// let x = |_name: &str| -> Result<Option<String>, NotPresent> { Ok(String::from_str(alloc, "x").ok()) };
+/// let path = path::full_with_context(alloc, Utf8Path::new("~/$A"), home, x)?; // "/h/x"
+/// ```
+#[tactic(auto, using(crate::proofs::OneCut::one_cut, crate::proofs::WithoutDollar::asks_nothing))]
 pub fn full_with_context<'a, H, C, E>(
     alloc: Global,
     input: Utf8Path<'a>,
@@ -132,21 +197,30 @@ where
     H: FnOnce() -> Option<String> + Drop,
     C: FnMut(&str) -> Result<Option<String>, E> + Drop,
     E: Drop,
-    requires asked { MayAsk (answers C.FnMut) (TakesAt C.FnMut) context (text_of input) }
-    requires home { MayAskHome (answers C.FnMut) (MayCall H.FnOnce home_dir) context (text_of input) }
-    ensures one_cut { CutOneWay (text_of input.entry) }
-    ensures expanded { IsFullPathExpansion (answers C.FnMut) (homes H.FnOnce home_dir) context (text_of input.entry) result }
-    ensures unasked { Lacks 36 (text_of input.entry) → AsksNothing (answers C.FnMut) context (text_of input.entry) }
-    ensures brought { BeginsWithout 126 (text_of input.entry) → IfOk result (λ path. ExpandsTo (answers C.FnMut) context (text_of input.entry) (expanded_bytes path)) }
-    ensures borrowed { Lacks 36 (text_of input.entry) → BeginsWithout 126 (text_of input.entry) → IsSamePath (text_of input.entry) result }
-    ensures owned { IfOk result (λ path. IsBorrowedPath path → Lacks 36 (text_of input.entry)) }
+    requires asked { MayAsk (Answers C.FnMut) (TakesAt C.FnMut) context (text_of input) }
+    requires home { MayAskHome (Answers C.FnMut) (MayCall H.FnOnce home_dir) context (text_of input) }
+    ensures one_cut { HasOneCut (text_of input.entry) }
+    ensures expanded { IsFullPathExpansion (Answers C.FnMut) (GivesHome H.FnOnce home_dir) context (text_of input.entry) result }
+    ensures unasked { Lacks dollar_sign (text_of input.entry) → AsksNothing (Answers C.FnMut) context (text_of input.entry) }
+    ensures brought { BeginsWithout tilde_sign (text_of input.entry) → IfOk result (λ path. ExpandsTo (Answers C.FnMut) context (text_of input.entry) (expanded_bytes path)) }
+    ensures borrowed { Lacks dollar_sign (text_of input.entry) → BeginsWithout tilde_sign (text_of input.entry) → IsSamePath (text_of input.entry) result }
+    ensures owned { IfOk result (λ path. IsBorrowedPath path → Lacks dollar_sign (text_of input.entry)) }
 {
     as_path(home::full_with_context(alloc, input.as_str(), home_dir, context))
 }
 
-/// Expands the variables of the path by a `context` that gives no errors, and then a leading tilde, unless a variable
-/// brought it to the front.
-#[tactic(auto, using(crate::proofs::Unique::one_cut, crate::proofs::Untouched::asks_nothing))]
+/// Expands the variables of a path by a `context` that gives no errors, and then a leading tilde, unless a variable brought it to
+/// the front: [`crate::full_with_context_no_errors`] over its text.
+///
+/// Answers the path borrowed where its text has no `$` and begins with no `~`. The one refusal is want of memory. Condition: as of
+/// [`full_with_context`].
+///
+/// ```
+/// let home = || String::from_str(alloc, "/h").ok();
+/// let x = |_name: &str| String::from_str(alloc, "x").ok();
+/// let path = path::full_with_context_no_errors(alloc, Utf8Path::new("~/$A"), home, x)?; // "/h/x"
+/// ```
+#[tactic(auto, using(crate::proofs::OneCut::one_cut, crate::proofs::WithoutDollar::asks_nothing))]
 pub fn full_with_context_no_errors<'a, H, C>(
     alloc: Global,
     input: Utf8Path<'a>,
@@ -156,32 +230,40 @@ pub fn full_with_context_no_errors<'a, H, C>(
 where
     H: FnOnce() -> Option<String> + Drop,
     C: FnMut(&str) -> Option<String> + Drop,
-    requires asked { MayAsk (always C.FnMut) (TakesAt C.FnMut) context (text_of input) }
-    requires home { MayAskHome (always C.FnMut) (MayCall H.FnOnce home_dir) context (text_of input) }
-    ensures one_cut { CutOneWay (text_of input.entry) }
-    ensures expanded { IfOk result (λ path. FullTo (always C.FnMut) (homes H.FnOnce home_dir) context (text_of input.entry) (expanded_bytes path)) }
-    ensures unasked { Lacks 36 (text_of input.entry) → AsksNothing (always C.FnMut) context (text_of input.entry) }
-    ensures brought { BeginsWithout 126 (text_of input.entry) → IfOk result (λ path. ExpandsTo (always C.FnMut) context (text_of input.entry) (expanded_bytes path)) }
-    ensures borrowed { Lacks 36 (text_of input.entry) → BeginsWithout 126 (text_of input.entry) → IsSamePath (text_of input.entry) result }
-    ensures owned { IfOk result (λ path. IsBorrowedPath path → Lacks 36 (text_of input.entry)) }
+    requires asked { MayAsk (AnswersWithoutError C.FnMut) (TakesAt C.FnMut) context (text_of input) }
+    requires home { MayAskHome (AnswersWithoutError C.FnMut) (MayCall H.FnOnce home_dir) context (text_of input) }
+    ensures one_cut { HasOneCut (text_of input.entry) }
+    ensures expanded { IfOk result (λ path. FullyExpandsTo (AnswersWithoutError C.FnMut) (GivesHome H.FnOnce home_dir) context (text_of input.entry) (expanded_bytes path)) }
+    ensures unasked { Lacks dollar_sign (text_of input.entry) → AsksNothing (AnswersWithoutError C.FnMut) context (text_of input.entry) }
+    ensures brought { BeginsWithout tilde_sign (text_of input.entry) → IfOk result (λ path. ExpandsTo (AnswersWithoutError C.FnMut) context (text_of input.entry) (expanded_bytes path)) }
+    ensures borrowed { Lacks dollar_sign (text_of input.entry) → BeginsWithout tilde_sign (text_of input.entry) → IsSamePath (text_of input.entry) result }
+    ensures owned { IfOk result (λ path. IsBorrowedPath path → Lacks dollar_sign (text_of input.entry)) }
 {
     as_path(home::full_with_context_no_errors(alloc, input.as_str(), home_dir, context))
 }
 
-/// Expands the variables of the path by the environment, and then a leading tilde by its home folder, unless a variable
-/// brought it to the front.
-#[tactic(auto, using(crate::proofs::Unique::one_cut, crate::proofs::Untouched::asks_nothing))]
+/// Expands the variables of a path by the environment, and then a leading tilde by its home folder, unless a variable brought it
+/// to the front: [`crate::full`] over its text.
+///
+/// Answers the path borrowed where its text has no `$` and begins with no `~`. A name that isn't there and has no default is refused
+/// by [`Expand::Lookup`], and want of memory by [`Expand::NoMemory`]. There is no condition.
+///
+/// ```
+/// // in an environment where A is `x` and HOME is `/h`
+/// let path = path::full(alloc, Utf8Path::new("~/$A"), &environ)?; // "/h/x"
+/// ```
+#[tactic(auto, using(crate::proofs::OneCut::one_cut, crate::proofs::WithoutDollar::asks_nothing))]
 pub fn full<'a>(
     alloc: Global,
     input: Utf8Path<'a>,
     environ: &Environ,
 ) -> Result<Expanded<'a>, Expand<NotPresent>>
-    ensures one_cut { CutOneWay (text_of input.entry) }
-    ensures expanded { IsFullPathExpansion environ_answers (home_is (home_of environ.now.pairs)) environ.now.pairs (text_of input.entry) result }
-    ensures unasked { Lacks 36 (text_of input.entry) → AsksNothing environ_answers environ.now.pairs (text_of input.entry) }
-    ensures brought { BeginsWithout 126 (text_of input.entry) → IfOk result (λ path. ExpandsTo environ_answers environ.now.pairs (text_of input.entry) (expanded_bytes path)) }
-    ensures borrowed { Lacks 36 (text_of input.entry) → BeginsWithout 126 (text_of input.entry) → IsSamePath (text_of input.entry) result }
-    ensures owned { IfOk result (λ path. IsBorrowedPath path → Lacks 36 (text_of input.entry)) }
+    ensures one_cut { HasOneCut (text_of input.entry) }
+    ensures expanded { IsFullPathExpansion EnvironAnswers (IsHome (home_of environ.now.pairs)) environ.now.pairs (text_of input.entry) result }
+    ensures unasked { Lacks dollar_sign (text_of input.entry) → AsksNothing EnvironAnswers environ.now.pairs (text_of input.entry) }
+    ensures brought { BeginsWithout tilde_sign (text_of input.entry) → IfOk result (λ path. ExpandsTo EnvironAnswers environ.now.pairs (text_of input.entry) (expanded_bytes path)) }
+    ensures borrowed { Lacks dollar_sign (text_of input.entry) → BeginsWithout tilde_sign (text_of input.entry) → IsSamePath (text_of input.entry) result }
+    ensures owned { IfOk result (λ path. IsBorrowedPath path → Lacks dollar_sign (text_of input.entry)) }
 {
     as_path(home::full(alloc, input.as_str(), environ))
 }

@@ -1,7 +1,8 @@
-// The pieces of a text, cut off one by one.
+//! The pieces of a text, cut off one by one.
 ghost use Rattle.std.specs.Prelude.{◌≡◌, ◌++◌, ◌∷◌, [], false, MatchOption, List, ℕ, IsTrue, ◌↔◌};
 ghost use Rattle.std.specs.Option.{option_copied};
-ghost use Rattle.just_expand.specs.Pieces.{is_name_char, Lacks, Stands, Begins, written, IsNameRun, BeginsWithoutName, unclosed};
+ghost use Rattle.just_expand.specs.Bytes.{dollar_sign, open_brace, close_brace};
+ghost use Rattle.just_expand.specs.Pieces.{is_name_char, Lacks, StandsBefore, Begins, piece_text, IsNameRun, BeginsWithoutName, unclosed};
 ghost use Rattle.just_expand.specs.Expansion.{question};
 ghost use Rattle.just_expand.specs.Code.{piece_of};
 
@@ -72,8 +73,8 @@ fn split_name(text: &str) -> (&str, &str)
 
 /// The piece that stands between `${` and the first `}`.
 fn read_inside(inside: &str) -> Piece<'_>
-    requires { Lacks 125 inside.now }
-    ensures { (rest : List ℕ) → Begins (36 ∷ 123 ∷ (inside.now ++ (125 ∷ rest))) (piece_of result) rest }
+    requires { Lacks close_brace inside.now }
+    ensures { (rest : List ℕ) → Begins (dollar_sign ∷ open_brace ∷ (inside.now ++ (close_brace ∷ rest))) (piece_of result) rest }
 {
     let Some((name, default)) = inside.split_once(":-") else {
         return Piece::Braced(inside);
@@ -87,8 +88,8 @@ fn read_inside(inside: &str) -> Piece<'_>
 
 /// The piece that `${` begins, and what follows it; `behind` is what stands behind the `${`.
 fn split_braced(behind: &str, may_close: bool) -> (Piece<'_>, &str)
-    requires { may_close ≡ false → Lacks 125 behind.now }
-    ensures { Begins (36 ∷ 123 ∷ behind.now) (piece_of result.0) result.1.now }
+    requires { may_close ≡ false → Lacks close_brace behind.now }
+    ensures { Begins (dollar_sign ∷ open_brace ∷ behind.now) (piece_of result.0) result.1.now }
 {
     if !may_close {
         return (Piece::Unclosed, behind);
@@ -101,8 +102,8 @@ fn split_braced(behind: &str, may_close: bool) -> (Piece<'_>, &str)
 
 /// The piece that a `$` begins, and what follows it; `behind` is what stands behind the `$`.
 fn split_dollar(behind: &str, may_close: bool) -> (Piece<'_>, &str)
-    requires { may_close ≡ false → Lacks 125 behind.now }
-    ensures { Begins (36 ∷ behind.now) (piece_of result.0) result.1.now }
+    requires { may_close ≡ false → Lacks close_brace behind.now }
+    ensures { Begins (dollar_sign ∷ behind.now) (piece_of result.0) result.1.now }
 {
     if let Some(rest) = behind.strip_prefix('$') {
         return (Piece::Dollar, rest);
@@ -121,7 +122,7 @@ fn split_dollar(behind: &str, may_close: bool) -> (Piece<'_>, &str)
 /// The first piece of a text and what follows it, or nothing for an empty text. Where `may_close` is false the
 /// text holds no `}`, and none is looked for.
 pub(crate) fn split_piece(text: &str, may_close: bool) -> Option<(Piece<'_>, &str)>
-    requires { may_close ≡ false → Lacks 125 text.now }
+    requires { may_close ≡ false → Lacks close_brace text.now }
     ensures { MatchOption result (text.now ≡ []) (λ r. Begins text.now (piece_of r.0) r.1.now) }
 {
     if text.is_empty() {

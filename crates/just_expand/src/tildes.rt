@@ -1,18 +1,19 @@
-// A leading tilde.
+//! A leading tilde, and the home folder in its place.
 ghost use Rattle.std.specs.Prelude.{◌≡◌, ◌∷◌, ◌++◌, ℕ, List, IfOk, string_bytes};
 ghost use Rattle.std.specs.Cow.{cow_str_bytes};
 ghost use Rattle.std.specs.Bool.{MatchBool};
 ghost use Rattle.std.specs.Option.{MatchOption, IsNone, option_map};
-ghost use Rattle.just_expand.specs.Contexts.{MayCall, homes};
+ghost use Rattle.just_expand.specs.Contexts.{MayCall, GivesHome};
+ghost use Rattle.just_expand.specs.Bytes.{dollar_sign, tilde_sign};
 ghost use Rattle.just_expand.specs.Pieces.{Lacks, BeginsWithout};
-ghost use Rattle.just_expand.specs.Tilde.{IsTilde, HasNoTilde, GainsTilde, IsBrought, StaysFull};
+ghost use Rattle.just_expand.specs.Tilde.{CallsForHome, NeedsNoHome, GainsTilde, BringsTilde, StaysAtAnyHome};
 
 use std::alloc::{AllocError, Global};
 use std::borrow::CowStr;
 
 /// Whether the text begins with a tilde.
 fn begins_with_tilde(text: &str) -> bool
-    ensures { MatchBool result ((rest : List ℕ) × (text.now ≡ 126 ∷ rest)) (BeginsWithout 126 text.now) }
+    ensures { MatchBool result ((rest : List ℕ) × (text.now ≡ tilde_sign ∷ rest)) (BeginsWithout tilde_sign text.now) }
 {
     match text.strip_prefix('~') {
         Some(_) => true,
@@ -29,7 +30,7 @@ pub(crate) fn gains_tilde(input: &str, text: &str) -> bool
 
 /// What stands behind a tilde that calls for the home folder.
 pub(crate) fn behind_tilde(text: &str) -> Option<&str>
-    ensures { MatchOption result (HasNoTilde text.now) (λ rest. IsTilde text.now rest.now) }
+    ensures { MatchOption result (NeedsNoHome text.now) (λ rest. CallsForHome text.now rest.now) }
 {
     let Some(behind) = text.strip_prefix('~') else {
         return None;
@@ -46,9 +47,9 @@ pub(crate) fn behind_tilde(text: &str) -> Option<&str>
 /// What stands behind a tilde of the expanded text that calls for the home folder: none where the expansion brought
 /// the tilde to the front.
 pub(crate) fn behind_own_tilde<'t>(input: &str, expanded: &'t CowStr<'_, Global>) -> Option<&'t str>
-    requires { Lacks 36 input.now → cow_str_bytes expanded.now ≡ input.now }
-    ensures calls { MatchOption result (StaysFull input.now (cow_str_bytes expanded.now)) (λ rest. (IsBrought input.now (cow_str_bytes expanded.now) → ⊥) × IsTilde (cow_str_bytes expanded.now) rest.now) }
-    ensures brought { BeginsWithout 126 input.now → IsNone result }
+    requires { Lacks dollar_sign input.now → cow_str_bytes expanded.now ≡ input.now }
+    ensures calls { MatchOption result (StaysAtAnyHome input.now (cow_str_bytes expanded.now)) (λ rest. (BringsTilde input.now (cow_str_bytes expanded.now) → ⊥) × CallsForHome (cow_str_bytes expanded.now) rest.now) }
+    ensures brought { BeginsWithout tilde_sign input.now → IsNone result }
 {
     let text = match expanded {
         CowStr::Borrowed(text) => *text,
@@ -74,7 +75,7 @@ pub(crate) fn ask_home<H>(home_dir: H) -> Option<String>
 where
     H: FnOnce() -> Option<String>,
     requires { MayCall H.FnOnce home_dir }
-    ensures { homes H.FnOnce home_dir (option_map string_bytes result) }
+    ensures { GivesHome H.FnOnce home_dir (option_map string_bytes result) }
 {
     home_dir()
 }

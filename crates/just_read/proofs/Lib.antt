@@ -1,3 +1,5 @@
+-- The proofs of the crate. Those of other crates cite Laws alone.
 pub mod Steps
-pub mod Tools
+pub mod Outcomes
 pub mod Many
+pub mod Laws

@@ -1,1 +1,2 @@
+-- How types of the crate may hold values of other types.
 pub mod boxed

@@ -1,3 +1,4 @@
+//! A place in a text, and the steps from it.
 ghost use Rattle.std.specs.Prelude.{◌≡◌, ℕ, ◌+◌, ◌<◌, ◌^◌, [], ◌∷◌, ◌↔◌, IsTrue, MatchOption, IfOk, IfErr, List, Bool, true, false, Some, None, Option, length, encode_utf8_all, string_bytes};
 ghost use Rattle.just_read.specs.Place.{Place, start, next, past, run, is_end, first, starts, sees};
 ghost use Rattle.just_read.specs.Reader.{Reads, expect};
@@ -6,7 +7,16 @@ use super::{Class, ReadError};
 use std::alloc::Global;
 use std::marker::Model;
 
-/// A place in a text, told by the characters that are left.
+/// A place in a text: the characters that are left, and the line and the column of the first of them. Contracts see it as a
+/// `Place`.
+///
+/// ```
+/// let text = ['1', '2', '='];
+/// let mut cursor = Cursor::new(&text);
+/// let digits = cursor.take::<Digit>(alloc)?; // "12"
+/// cursor.expect('=')?;
+/// assert!(rt; cursor.is_at_end() && cursor.column() == 4);
+/// ```
 #[derive(Drop)]
 pub struct Cursor<'a> {
     rest: &'a [char],
@@ -29,7 +39,7 @@ impl<'a> Model for Cursor<'a> {
 }
 
 impl<'a> Cursor<'a> {
-    /// The start of a text.
+    /// The start of a text, on line 1 in column 1.
     pub fn new(text: &'a [char]) -> Cursor<'a>
         ensures { result ≡ start text.now }
     {
@@ -40,7 +50,7 @@ impl<'a> Cursor<'a> {
         }
     }
 
-    /// The same place, to look ahead from.
+    /// The same place, to look ahead from: what is read from the copy leaves this cursor where it is.
     pub fn copied(&self) -> Cursor<'a>
         ensures { result ≡ self.now }
     {
@@ -65,13 +75,14 @@ impl<'a> Cursor<'a> {
         self.column
     }
 
+    /// Whether no character is left.
     pub fn is_at_end(&self) -> bool
         ensures { result ≡ is_end self.now }
     {
         self.rest.is_empty()
     }
 
-    /// The first character that is left.
+    /// The first character that is left, or nothing at the end of the text.
     pub fn peek(&self) -> Option<char>
         ensures { result ≡ first self.now }
     {
@@ -81,7 +92,7 @@ impl<'a> Cursor<'a> {
         }
     }
 
-    /// Whether a character of the class comes first.
+    /// Whether a character of the class comes first: of `12=`, `starts::<Digit>()` is true, and at the end of the text false.
     pub fn starts<C: Class>(&self) -> bool
         ensures { result ≡ starts C.members self.now }
     {
@@ -101,7 +112,7 @@ impl<'a> Cursor<'a> {
         }
     }
 
-    /// Goes behind the first character; at the end it stays.
+    /// Goes behind the first character; at the end it stays. Behind a line feed, and behind nothing else, a line begins.
     #[tactic(auto, using(crate::proofs::Steps::next_line, crate::proofs::Steps::next_column, crate::proofs::Steps::next_end))]
     pub fn step(&mut self)
         ensures { self.new ≡ next self.old }
@@ -117,7 +128,7 @@ impl<'a> Cursor<'a> {
         }
     }
 
-    /// Goes behind this character, or stays where it doesn't come first.
+    /// Goes behind this character. Where another comes first, or none, that is `ReadError::Syntax`, and the cursor stays.
     #[tactic(auto, unfolding(crate::specs::Reader::expect))]
     pub fn expect(&mut self, wanted: char) -> Result<(), ReadError>
         ensures { Reads (expect wanted self.old) result self.new }
@@ -130,7 +141,7 @@ impl<'a> Cursor<'a> {
         }
     }
 
-    /// Goes behind the longest run of the class.
+    /// Goes behind the longest run of the class, which may be empty: from `12=`, `pass::<Digit>()` goes to the `=`.
     #[tactic(auto, using(crate::proofs::Steps::past_next, crate::proofs::Steps::past_stays, crate::proofs::Steps::next_shorter))]
     pub fn pass<C: Class>(&mut self)
         ensures { self.new ≡ past C.members self.old }
@@ -140,8 +151,10 @@ impl<'a> Cursor<'a> {
         }
     }
 
-    /// Goes behind the longest run of the class, and gives it. Where memory is wanting, the cursor stands within it.
-    #[tactic(auto, using(crate::proofs::Steps::past_next, crate::proofs::Steps::past_stays, crate::proofs::Steps::next_shorter, crate::proofs::Steps::taken_more, crate::proofs::Steps::taken_all))]
+    /// Goes behind the longest run of the class, and gives it: from `12=`, `take::<Digit>(alloc)` is `12`, and it is the empty text
+    /// where no character of the class comes first. It is never `ReadError::Syntax`. Where memory is wanting, the cursor stands
+    /// within the run.
+    #[tactic(auto, using(crate::proofs::Steps::past_next, crate::proofs::Steps::past_stays, crate::proofs::Steps::next_shorter, crate::proofs::Steps::run_text_next, crate::proofs::Steps::run_text_end))]
     pub fn take<C: Class>(&mut self, alloc: Global) -> Result<String, ReadError>
         ensures new { IfOk result (λ text. self.new ≡ past C.members self.old) }
         ensures text { IfOk result (λ text. string_bytes text ≡ encode_utf8_all (run C.members self.old.rest)) }

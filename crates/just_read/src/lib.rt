@@ -1,4 +1,21 @@
 //! Reading a text character by character: cursors, places, and readers that are proved against a grammar.
+//!
+//! A [`Cursor`] is a place in a text: the characters that are left, and the line and the column of the first of them, both
+//! from 1. Contracts see it as a `Place`. A set of characters is a type with an implementation of [`Class`], so that a run of
+//! digits is `cursor.take::<Digit>(alloc)`. To look ahead, take a copy, read from that, and put it in the cursor's place where
+//! what it read is wanted:
+//!
+//! ```
+//! let mut ahead = cursor.copied();
+//! ahead.pass::<Blank>();
+//! if ahead.sees('=') {
+//!     cursor = ahead;
+//! }
+//! ```
+//!
+//! A reader of a grammar is a function from a cursor to a value or a [`ReadError`]. Its contract says `Reads (reader place)
+//! result cursor.new`, where `reader` is a definition in specs: what it answers at a place, and where it leaves the cursor. That
+//! such a definition reads what a grammar says is a matter of proofs; proofs/Laws.antt has the laws that they need.
 #![tactic(auto)]
 
 mod boxed;

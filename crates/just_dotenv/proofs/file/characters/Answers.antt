@@ -1,3 +1,4 @@
+-- The characters that were collected are those of the text.
 use Rattle.std.proofs.Common.{rules}
 use Rattle.std.proofs.lemmas.Str.{chars_from_encodes}
 use Rattle.just_dotenv.proofs.file.characters.Goals as goal

@@ -2,7 +2,7 @@
 use Rattle.std.proofs.Common.{◌≡◌, true, false, chars, Some, None, Ok, Err, sym, ◌∙◌, subst, rules}
 use Rattle.just_read.specs.Place.{is_end}
 use Rattle.just_dotenv.specs.Meaning.{Pairs}
-use Rattle.just_dotenv.specs.Readers.{as_line, line, Tells}
+use Rattle.just_dotenv.specs.Readers.{as_line, line, ReadsLine}
 use Rattle.just_dotenv.proofs.FileLaws.{UpTo, up_to_more, up_to_end, one_gift, none_given}
 use Rattle.just_dotenv.proofs.file.read.Goals as goal
 
@@ -32,4 +32,4 @@ pub returns-in-Err-clause-all : goal.returns-in-Err-clause-all
 returns-in-Err-clause-all c = λ pairs g.
     let goes_on : is_end c.lines.cursor ≡ false = search rules in
     none_given (chars c.args.text.now) c.args.environ.now.pairs c.lines.pairs.items pairs c.lines.cursor c.next_pair.new.cursor c.in-Err.refusal c.lines.invariant goes_on
-    (subst (λ (l : Pairs). Tells (as_line c.args.environ.now.pairs l line c.lines.cursor) c.lines.cursor.line (Err c.in-Err.refusal) c.next_pair.new.cursor) c.as_slice-in-lines.ensures.value c.in-Err.ensures) g
+    (subst (λ (l : Pairs). ReadsLine (as_line c.args.environ.now.pairs l line c.lines.cursor) c.lines.cursor.line (Err c.in-Err.refusal) c.next_pair.new.cursor) c.as_slice-in-lines.ensures.value c.in-Err.ensures) g

@@ -1,22 +1,6 @@
-use Rattle.std.proofs.Common.{string_bytes, ◌∙◌, ◌++◌, ap}
+-- The home folder may be asked for by the condition on what the variables become.
 use Rattle.std.specs.Cow.{cow_str_bytes}
-use Rattle.just_expand.specs.Contexts.{homes}
-use Rattle.just_expand.proofs.Behind.{full_put, full_homeless}
 use Rattle.just_expand.proofs.home.full_with_context.Goals as goal
 
-pub ask_home-requires : goal.ask_home-requires
-ask_home-requires g c = c.requires.home (cow_str_bytes c.in-Ok.expanded) c.in-Some.behind.now c.in-Ok.ensures.expanded c.in-Some.ensures.calls.0 c.in-Some.ensures.calls.1
-
-pub returns-clause-expanded : goal.returns-clause-expanded
-returns-clause-expanded g c = (
-  cow_str_bytes c.in-Ok.expanded,
-  c.in-Ok.ensures.expanded,
-  full_put (homes g.H.FnOnce c.args.home_dir) c.args.input.now (cow_str_bytes c.in-Ok.expanded) c.in-Some.behind.now (string_bytes c.in-Some-ask_home.home) (string_bytes c.in_ok-out.out) c.in-Some.ensures.calls c.in-Some-ask_home.ensures (c.in_ok-out.ensures ∙ ap (λ t. t ++ c.in-Some.behind.now) c.as_str.ensures.value),
-)
-
-pub returns-in_default-ask_home-clause-expanded : goal.returns-in_default-ask_home-clause-expanded
-returns-in_default-ask_home-clause-expanded g c = (
-  cow_str_bytes c.in-Ok.expanded,
-  c.in-Ok.ensures.expanded,
-  full_homeless (homes g.H.FnOnce c.args.home_dir) c.args.input.now (cow_str_bytes c.in-Ok.expanded) c.in-Some.behind.now c.in-Some.ensures.calls c.in_default-ask_home.ensures,
-)
+pub put_own_home-requires-clause-home : goal.put_own_home-requires-clause-home
+put_own_home-requires-clause-home g c = λ rest own calls. c.requires.home (cow_str_bytes c.in-Ok.expanded) rest c.in-Ok.ensures.expanded own calls

@@ -1,3 +1,4 @@
+-- The home folder takes the place of the tilde.
 use Rattle.std.proofs.Common.{inl, ◌∙◌, ◌++◌, ap, string_bytes}
 use Rattle.std.specs.Prelude.{Some}
 use Rattle.just_expand.proofs.home.tilde_with_context.Goals as goal

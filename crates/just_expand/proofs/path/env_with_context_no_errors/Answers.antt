@@ -1,20 +1,22 @@
+-- What `env_with_context_no_errors` says of a text it says of the path of that text.
 use Rattle.std.proofs.Common.{sym, subst}
 use Rattle.std.specs.Fn.{TakesAt}
 use Rattle.just_path.specs.Path.{text_of}
+use Rattle.just_expand.specs.Bytes.{dollar_sign}
 use Rattle.just_expand.specs.Pieces.{Lacks}
 use Rattle.just_expand.specs.Expansion.{MayAsk, ExpandsTo}
-use Rattle.just_expand.specs.Contexts.{always}
-use Rattle.just_expand.proofs.OverPaths.{sure, same_path, owned}
+use Rattle.just_expand.specs.Contexts.{AnswersWithoutError}
+use Rattle.just_expand.proofs.OverPaths.{sure_over_path, same_path_over_path, borrowed_without_dollar}
 use Rattle.just_expand.proofs.path.env_with_context_no_errors.Goals as goal
 
 pub env_with_context_no_errors-requires : goal.env_with_context_no_errors-requires
-env_with_context_no_errors-requires g c = subst (λ t. MayAsk (always g.C.FnMut) (TakesAt g.C.FnMut) c.args.context t) (sym c.as_str.ensures) c.requires
+env_with_context_no_errors-requires g c = subst (λ t. MayAsk (AnswersWithoutError g.C.FnMut) (TakesAt g.C.FnMut) c.args.context t) (sym c.as_str.ensures) c.requires
 
 pub returns-clause-expanded : goal.returns-clause-expanded
-returns-clause-expanded g c = sure (ExpandsTo (always g.C.FnMut) c.args.context) c.as_str.result.now (text_of c.args.input) _ _ c.as_str.ensures c.as_path.ensures c.env_with_context_no_errors.ensures.expanded
+returns-clause-expanded g c = sure_over_path (ExpandsTo (AnswersWithoutError g.C.FnMut) c.args.context) c.as_str.result.now (text_of c.args.input) _ _ c.as_str.ensures c.as_path.ensures c.env_with_context_no_errors.ensures.expanded
 
 pub returns-clause-borrowed : goal.returns-clause-borrowed
-returns-clause-borrowed g c = λ h0. same_path c.as_str.result (text_of c.args.input) _ _ (c.env_with_context_no_errors.ensures.borrowed (subst (Lacks 36) (sym c.as_str.ensures) h0)) c.as_path.ensures c.as_str.ensures
+returns-clause-borrowed g c = λ h0. same_path_over_path c.as_str.result (text_of c.args.input) _ _ (c.env_with_context_no_errors.ensures.borrowed (subst (Lacks dollar_sign) (sym c.as_str.ensures) h0)) c.as_path.ensures c.as_str.ensures
 
 pub returns-clause-owned : goal.returns-clause-owned
-returns-clause-owned g c = owned c.as_str.result.now (text_of c.args.input) _ _ c.as_str.ensures c.as_path.ensures c.env_with_context_no_errors.ensures.owned
+returns-clause-owned g c = borrowed_without_dollar c.as_str.result.now (text_of c.args.input) _ _ c.as_str.ensures c.as_path.ensures c.env_with_context_no_errors.ensures.owned

@@ -1,3 +1,4 @@
+-- What stands before the first `}` lacks it, and so does a text where none is found.
 use Rattle.std.proofs.Common.{refl, lit<}
 use Rattle.just_expand.proofs.Splits.{split_some, lacks_all}
 use Rattle.just_expand.proofs.piece.split_braced.Goals as goal

@@ -1,3 +1,4 @@
+-- What stands before the first other character is a run of name characters.
 use Rattle.std.proofs.Common.{rules, sym, subst}
 use Rattle.std.proofs.lemmas.Fn.{always_returns_same}
 use Rattle.just_expand.specs.Pieces.{IsNameRun, BeginsWithoutName}

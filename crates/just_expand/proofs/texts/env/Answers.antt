@@ -1,11 +1,12 @@
+-- The closure over the environment answers as the environment does.
 use Rattle.std.proofs.Common.{◌∙◌, ap}
-use Rattle.just_expand.specs.Contexts.{environ_answers, found_or}
+use Rattle.just_expand.specs.Contexts.{EnvironAnswers, environ_reply}
 use Rattle.just_path.specs.Environ.{value_of}
 use Rattle.just_expand.proofs.Transfer.{is_expansion}
 use Rattle.just_expand.proofs.texts.env.Goals as goal
 
 pub returns-clause-expanded : goal.returns-clause-expanded
 returns-clause-expanded c =
-    is_expansion _ environ_answers (λ w. w.1.now.pairs) (λ s n r s' k.
+    is_expansion _ EnvironAnswers (λ w. w.1.now.pairs) (λ s n r s' k.
     let h = k.1.called.met in
-    (k.2 ∙ h.1.0 ∙ ap (λ m. found_or (value_of m s.1.now.pairs)) k.1.shows, h.1.1)) _ _ _ c.expand_text.ensures.expanded
+    (k.2 ∙ h.1.0 ∙ ap (λ m. environ_reply (value_of m s.1.now.pairs)) k.1.shows, h.1.1)) _ _ _ c.expand_text.ensures.expanded

@@ -1,13 +1,14 @@
+-- The closure that hands calls on answers as the context does.
 use Rattle.std.proofs.Common.{subst, ◌∙◌}
 use Rattle.std.specs.Fn.{CalledAt, TakesAt}
-use Rattle.just_expand.specs.Contexts.{answers}
+use Rattle.just_expand.specs.Contexts.{Answers}
 use Rattle.just_expand.proofs.Transfer.{is_expansion, may_ask}
 use Rattle.just_expand.proofs.texts.env_with_context.Goals as goal
 
 pub expand_text-requires : goal.expand_text-requires
 expand_text-requires g c =
-    may_ask _ (answers g.C.FnMut) (λ w. w.0.now) (λ s n r s' k. (k.0, subst (λ m. CalledAt g.C.FnMut s.0.now m k.0 s'.0.now) k.1.shows k.1.called.met.1, k.2)) (TakesAt g.C.FnMut) _ (λ s n h. λ y e. λ y' e'. h y' (e' ∙ e)) _ _ c.requires
+    may_ask _ (Answers g.C.FnMut) (λ w. w.0.now) (λ s n r s' k. (k.0, subst (λ m. CalledAt g.C.FnMut s.0.now m k.0 s'.0.now) k.1.shows k.1.called.met.1, k.2)) (TakesAt g.C.FnMut) _ (λ s n h. λ y e. λ y' e'. h y' (e' ∙ e)) _ _ c.requires
 
 pub returns-clause-expanded : goal.returns-clause-expanded
 returns-clause-expanded g c =
-    is_expansion _ (answers g.C.FnMut) (λ w. w.0.now) (λ s n r s' k. (k.0, subst (λ m. CalledAt g.C.FnMut s.0.now m k.0 s'.0.now) k.1.shows k.1.called.met.1, k.2)) _ _ _ c.expand_text.ensures.expanded
+    is_expansion _ (Answers g.C.FnMut) (λ w. w.0.now) (λ s n r s' k. (k.0, subst (λ m. CalledAt g.C.FnMut s.0.now m k.0 s'.0.now) k.1.shows k.1.called.met.1, k.2)) _ _ _ c.expand_text.ensures.expanded

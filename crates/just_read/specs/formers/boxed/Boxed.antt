@@ -26,6 +26,7 @@ use Rattle.just_read.specs.contracts.boxed.Boxed.TheInside as inner
 abbrev pub the_former : Former {0} → Former {0}
 the_former held = held
 
+-- and weighs what it weighs
 abbrev pub the_weighed : {held : Former {0}} → Weighed held → Weighed (the_former held)
 the_weighed weight = weight
 
@@ -35,6 +36,7 @@ in_box =
     via (pair (const (Ptr × Global)) this) Inside (λ X inside. ((inside.held.ptr, inside.held.alloc), inside.held.value))
     (λ X parts. record { held = record { ptr = parts.0.0; alloc = parts.0.1; value = parts.1 } }) (λ X inside. refl) (λ X parts. refl)
 
+-- a `Box` of such values, as it lies in memory
 abbrev the_box : RattleType → RattleType
 the_box Held = box.the_row Held heap.the_row ghosts
 
@@ -43,6 +45,7 @@ abbrev holding : {X Y : Type 0} → Box X Global → Y → Box Y Global
 holding old value = record { ptr = old.ptr; alloc = old.alloc; value = value }
 
 module _ (From To : RattleType) (change : From.Denot → To.Denot) where
+  -- boxes of two kinds of values are alike where the values are
   box_alike : Alike From To change → Alike (the_box From) (the_box To) (λ old. holding old (change old.value))
   unfolding part_of
   box_alike alike = record {
@@ -51,6 +54,7 @@ module _ (From To : RattleType) (change : From.Denot → To.Denot) where
     shr_same = λ old i. (the_box (one_value From (alike.mir_same i) (alike.own_same old.value i) (alike.shr_same old.value i) gnil)).shr_at (holding old tt);
   }
 
+  -- and so are boxed values
   pub the_places : Alike From To change → Alike (outer.the_row From) (outer.the_row To) ((the_former this).map From.Denot To.Denot change)
   the_places alike =
       view_places in_box this view (λ X Y k u. refl) (λ X u. refl) From.Denot To.Denot change (outer.the_row From).coded (outer.the_row To).coded
@@ -59,5 +63,6 @@ module _ (From To : RattleType) (change : From.Denot → To.Denot) where
       (struct_places (inner.the_type From) (inner.the_type To) ((λ old. holding old (change old.value)), tt) _ (λ d. refl) refl
       (laid _ _ _ (box_alike alike), tt))
 
+  -- and their codes
   pub the_codes_placed : Recodes From To change → Recodes (outer.the_row From) (outer.the_row To) ((the_former this).map From.Denot To.Denot change)
   the_codes_placed recodes value = recodes value

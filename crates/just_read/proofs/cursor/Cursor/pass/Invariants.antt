@@ -1,3 +1,4 @@
+-- The run still ends where it ended at first; each turn takes a character.
 use Rattle.std.proofs.Common.{◌≡◌, length}
 use Rattle.just_read.specs.Place.{past}
 use Rattle.just_read.proofs.cursor.Cursor.pass.Given as goal

@@ -1,3 +1,4 @@
+-- What was taken and what is still to come are the whole run; each turn takes a character.
 use Rattle.std.proofs.Common.{◌≡◌, ◌++◌, length, string_bytes, encode_utf8_all}
 use Rattle.just_read.specs.Place.{past, run}
 use Rattle.just_read.proofs.cursor.Cursor.take.Given as goal
