@@ -6,7 +6,7 @@
 use crate::hosts::memory;
 use just_host::{Host, HostFault};
 use just_lang::{LangError, Source, assemble, dependencies, invocations, parse};
-use just_path::{Environ, NoMemory, Seq, Text, Utf8Path};
+use just_path::{Environ, NoMemory, Seq, Text, TryClone, Utf8Path};
 use std::alloc::Global;
 use std::test::Fail;
 
@@ -35,7 +35,7 @@ fn counts(alloc: Global, text: &str, recipe: &str) -> Result<(usize, usize), Lan
     let mut copied: usize = 0;
     for key in invocations(alloc, &justfile, &[recipe])?.as_slice() {
         priors = priors.saturating_add(dependencies(alloc, &justfile, key)?.0.len());
-        if key.try_clone(alloc)?.same(key) {
+        if key.try_clone()?.same(key) {
             copied = copied.saturating_add(1);
         }
     }
