@@ -1,5 +1,5 @@
 -- The world of one file, a folder's justfile: what a host that tells no world may be over.
-use Rattle.std.proofs.Common.{◌≡◌, ◌≢◌, ◌≤◌, ◌<◌, ◌+◌, ◌-◌, ◌||◌, ℕ, suc, Bool, true, false, cond, List, [], ◌∷◌, ◌++◌, map, length, drop, codes, nat_eq, Option, Some, None, option_map, is_some, Result, Ok, Err, if◌then◌else◌, bytes_eq, refl, ap, sym, ◌∙◌, append_assoc, length-append, arith}
+use Rattle.std.proofs.Common.{◌≡◌, ◌≤◌, ◌<◌, ◌+◌, ◌-◌, ◌||◌, ℕ, Bool, true, false, cond, List, [], ◌∷◌, ◌++◌, map, length, drop, codes, nat_eq, Option, Some, None, option_map, is_some, Ok, Err, if◌then◌else◌, bytes_eq, refl, ap, sym, ◌∙◌, append_assoc, length-append, arith}
 use Rattle.std.specs.List.{ends_with}
 use Rattle.std.specs.Ordering.{nat_cmp, eq_by_cmp}
 use Rattle.std.specs.Cmp.Lexicographic.{slice_cmp, pointwise}
@@ -11,9 +11,8 @@ use Rattle.std.proofs.lemmas.Grind.{common_steps}
 use Rattle.std.proofs.lemmas.Map.Text.{is_eq-slice_cmp}
 use Rattle.std.proofs.lemmas.Slice.Eq.{bytes_eq-Decides}
 use Rattle.just_path.specs.Comps.{is_empty}
-use Rattle.just_path.specs.Path.{pushed, ends_open}
-use Rattle.just_path.specs.View.{sight, meta_of, meta_seen, target_of, target_seen, place_under, asks_folder, filled_place, named_place, asked_place, followed_place, place_behind, absence, folder_place, canonical_told}
-use Rattle.just_path.specs.declared.host.Miss.{Miss}
+use Rattle.just_path.specs.Path.{ends_open}
+use Rattle.just_path.specs.View.{sight, meta_of, target_of, place_under, asks_folder, filled_place, named_place, asked_place, followed_place, place_behind, absence, folder_place, canonical_told}
 use Rattle.just_path.specs.declared.host.Miss.TheVariants as miss
 use Rattle.just_outside.specs.declared.outside.TheConstants.{MAX_BYTES}
 use Rattle.just_outside.specs.declared.tree.Thing.{Thing}
