@@ -1,4 +1,4 @@
-// The text that is timed. Nothing here has a clause: it is public to this crate's modules alone, and no theorem stands on it.
+//! The text that is timed. Nothing here has a clause: it is public to this crate's modules alone, and no theorem stands on it.
 use just_expand::env_with_context;
 use std::alloc::{AllocError, Global};
 use std::borrow::CowStr;

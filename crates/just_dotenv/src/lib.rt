@@ -30,6 +30,3 @@ mod value;
 
 pub use error::DotenvError;
 pub use file::read;
-
-#[cfg(test)]
-mod tests;

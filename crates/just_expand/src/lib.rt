@@ -45,6 +45,3 @@ mod tildes;
 pub use error::{Expand, LookupError, NotPresent, OString};
 pub use home::{full, full_with_context, full_with_context_no_errors, tilde, tilde_with_context};
 pub use texts::{WInput, Wstr, Xstr, env, env_with_context, env_with_context_no_errors};
-
-#[cfg(test)]
-mod tests;

@@ -12,8 +12,8 @@ use super::text::text_of;
 use just_outside::{MAX_BYTES, Stream};
 use just_path::{Item, Kind, Meta, Miss, NoMemory, Seq, Text, Utf8PathBuf};
 use std::alloc::Global;
-use std::env::FillError;
 use std::env;
+use std::env::FillError;
 use std::fs::{self, FileType, Files};
 use std::io::{self, ErrorKind, Read};
 use std::os::unix::fs::PermissionsExt;
@@ -118,11 +118,7 @@ pub fn target<R: Runtime>(rt: &R, alloc: Global, path: &str) -> io::Result<Utf8P
 
 /// The text of a file, or why it is none that can be read. What is neither a file nor a folder isn't opened, so that
 /// nothing is waited for.
-pub fn read<F: Files>(
-    files: &F,
-    alloc: Global,
-    path: &str,
-) -> io::Result<Result<String, Miss>>
+pub fn read<F: Files>(files: &F, alloc: Global, path: &str) -> io::Result<Result<String, Miss>>
     ensures { IfOk result (λ r. IfOk r (λ s. length (string_bytes s) ≤ MAX_BYTES)) }
 {
     let kind = kind_of(&fs::metadata(files, path)?.file_type());
@@ -140,9 +136,7 @@ fn read_text<F: Read + Drop>(alloc: Global, reader: F) -> io::Result<Result<Stri
     ensures told { IfOk result (λ r. IfSome (F.remaining reader) (λ bytes. Tells (text_in bytes) r)) }
 {
     let mut bytes = Vec::new(alloc);
-    reader
-        .take(MAX_BYTES as u64 + 1)
-        .read_to_end(&mut bytes)?;
+    reader.take(MAX_BYTES as u64 + 1).read_to_end(&mut bytes)?;
     Ok(text_of(bytes))
 }
 

@@ -30,6 +30,3 @@ pub use walk::closure;
 
 /// A request may need so many nodes.
 pub const CLOSURE_LIMIT: usize = 1_000_000;
-
-#[cfg(test)]
-mod closure_tests;

@@ -82,6 +82,3 @@ pub use prefix::{Utf8Prefix, Utf8PrefixComponent};
 pub use seq::Seq;
 pub use strip::StripPrefix;
 pub use text::Text;
-
-#[cfg(test)]
-mod tests;

@@ -27,6 +27,3 @@ pub use boxed::Boxed;
 pub use class::Class;
 pub use cursor::Cursor;
 pub use error::ReadError;
-
-#[cfg(test)]
-mod tests;

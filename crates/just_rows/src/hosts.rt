@@ -1,6 +1,6 @@
-//! Hosts for tests.
+//! Hosts for tests. The functions here promise nothing beyond safety: they are public to these tests alone.
 
-use just_host::{Ending, Entry, MemHost, Plot, Status, Stream, Thing, Tree};
+use just_host::{MemHost, Plot, Thing, Tree};
 use just_path::{Environ, NoMemory, Seq, Text, Utf8Path};
 use std::alloc::Global;
 
@@ -12,67 +12,34 @@ fn file(alloc: Global, text: &str) -> Result<Thing, NoMemory> {
     })
 }
 
-/// A host in the folder `/p` with that justfile, over which nothing happens.
-/// It promises nothing beyond safety: it is public to these tests alone, and no theorem stands on it.
-pub fn host(alloc: Global, justfile: &str, plot: Plot) -> Result<MemHost, NoMemory> {
+/// The tree with the folder `/p`, in it that justfile, a link to it, and one that leads nowhere.
+fn tree(alloc: Global, justfile: &str) -> Result<Tree, NoMemory> {
     let mut tree = Tree::new(alloc);
     tree.insert(alloc, "/p", Thing::Folder)?;
     tree.insert(alloc, "/p/justfile", file(alloc, justfile)?)?;
-    let environ = Environ {
-        pairs: Seq::new(alloc),
-    };
+    for (path, target) in [("/p/link", "/p/justfile"), ("/p/far", "/p/none")] {
+        tree.insert(alloc, path, Thing::Link(Text::from_str(alloc, target)?))?;
+    }
+    Ok(tree)
+}
+
+/// The environment with one name.
+fn environ(alloc: Global) -> Result<Environ, NoMemory> {
+    let mut pairs = Vec::new(alloc);
+    pairs.push((Text::from_str(alloc, "HOME")?, Text::from_str(alloc, "/h")?))?;
+    Ok(Environ {
+        pairs: Seq::from(pairs),
+    })
+}
+
+/// A host in the folder `/p` with that justfile, over which nothing happens.
+pub fn memory(alloc: Global, justfile: &str) -> Result<MemHost, NoMemory> {
     let current = Utf8Path::new("/p").to_path_buf(alloc)?;
-    MemHost::new(alloc, tree, current, environ, plot)
-}
-
-/// The plot in which the child of that line of `sh` ends so.
-/// It promises nothing beyond safety: it is public to these tests alone, and no theorem stands on it.
-pub fn ends(alloc: Global, line: &str, status: Status) -> Result<Plot, NoMemory> {
-    let mut plot = Plot::new(alloc);
-    let mut word = String::from_str(alloc, "-cu ")?;
-    word.push_str(line)?;
-    plot.endings.push(Ending {
-        word: Text::from(word),
-        status,
-        output: Seq::new(alloc),
-        effects: Vec::new(alloc),
-    })?;
-    Ok(plot)
-}
-
-/// What was printed to standard error, one text behind the other.
-/// It promises nothing beyond safety: it is public to these tests alone, and no theorem stands on it.
-pub fn told(alloc: Global, entries: &[Entry]) -> Result<String, NoMemory> {
-    let mut all = String::new(alloc);
-    for entry in entries {
-        if let Entry::Printed(Stream::Err, text) = entry {
-            all.push_str(text.as_str())?;
-        }
-    }
-    Ok(all)
-}
-
-/// The children that were started: each one's program and arguments with its folder, a line each.
-/// It promises nothing beyond safety: it is public to these tests alone, and no theorem stands on it.
-pub fn children(alloc: Global, entries: &[Entry]) -> Result<String, NoMemory> {
-    let mut all = String::new(alloc);
-    for entry in entries {
-        if let Entry::Started(_, spec) = entry {
-            all.push_str(spec.program.as_str())?;
-            for argument in spec.arguments.as_slice() {
-                all.push_str(" [")?;
-                all.push_str(argument.as_str())?;
-                all.push_str("]")?;
-            }
-            if let Some(folder) = &spec.folder {
-                all.push_str(" in ")?;
-                all.push_str(folder.as_str())?;
-            }
-            if !spec.changes.is_empty() || spec.script.is_some() {
-                all.push_str(" changed")?;
-            }
-            all.push_str("\n")?;
-        }
-    }
-    Ok(all)
+    MemHost::new(
+        alloc,
+        tree(alloc, justfile)?,
+        current,
+        environ(alloc)?,
+        Plot::new(alloc),
+    )
 }

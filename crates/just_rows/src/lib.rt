@@ -1,25 +1,15 @@
-//! Tests that cross crates: whole runs over a host in memory and over the real one.
+//! Tests that need code: hosts, and the calls that no row of another crate makes. Whole runs stand in `run_rows`.
 #![tactic(auto)]
 
 #[cfg(test)]
-mod answers;
-#[cfg(test)]
-mod host_paths;
+mod calls;
 #[cfg(test)]
 mod hosts;
 #[cfg(test)]
-mod lattice;
-#[cfg(test)]
-mod libraries;
-#[cfg(test)]
-mod paths;
-#[cfg(test)]
-mod refusals;
-#[cfg(test)]
-mod requests;
-#[cfg(test)]
-mod runs;
+mod real;
 #[cfg(test)]
 mod real_edges;
+#[cfg(test)]
+mod sights;
 #[cfg(test)]
 mod trees;

@@ -1,39 +1,97 @@
-use super::{Wrong, field};
-use just_path::Utf8PathBuf;
-use std::alloc::Global;
+//! Rows of bytes, some of which are no text.
 
-/// Whether the row of some bytes says how the crate reads them. No clause: it is public to this crate's modules
-/// alone, what it answers is seen by comparing with the originals' answers, and no theorem stands on it.
-pub fn agrees(alloc: Global, fields: &[&str]) -> Result<bool, Wrong> {
-    let bytes = field::bytes(alloc, fields, 0)?;
-    match Utf8PathBuf::try_from_path_buf(bytes) {
-        Ok(path) => Ok(
-            field::flags(fields, 1, true)?
-                && field::at(fields, 2)? == "-"
-                && field::at(fields, 3)? == "-"
-                && field::says(alloc, fields, 4, Some(path.as_str().as_bytes()))?,
-        ),
+use just_path::{FromPathError, Utf8PathBuf};
+use std::alloc::Global;
+use vectors::{Wrong, at, bytes, is_flag, says};
+
+/// Whether a row says that its bytes are that text, and nothing is broken.
+fn says_whole(alloc: Global, fields: &[&str], text: &[u8]) -> Result<bool, Wrong> {
+    Ok(
+        is_flag(fields, 1, true)?
+            && at(fields, 2)? == "-"
+            && at(fields, 3)? == "-"
+            && says(alloc, fields, 4, Some(text))?,
+    )
+}
+
+/// Whether a row says where its bytes are broken.
+fn says_place(alloc: Global, fields: &[&str], place: FromPathError) -> Result<bool, Wrong> {
+    let up_to = format!(in alloc; "{}", place.valid_up_to())?;
+    let len = match place.error_len() {
+        Some(len) => format!(in alloc; "{len}")?,
+        None => String::from_str(alloc, "-")?,
+    };
+    Ok(
+        is_flag(fields, 1, false)?
+            && at(fields, 2)? == up_to.as_str()
+            && at(fields, 3)? == len.as_str(),
+    )
+}
+
+/// Whether an error's text is that beginning and the text that the row has for broken bytes.
+fn says_text(alloc: Global, fields: &[&str], beginning: &str, text: &str) -> Result<bool, Wrong> {
+    match text.strip_prefix(beginning) {
+        Some(rest) => says(alloc, fields, 4, Some(rest.as_bytes())),
+        None => Ok(false),
+    }
+}
+
+/// What a path of bytes answers.
+fn path_agrees(alloc: Global, fields: &[&str]) -> Result<bool, Wrong> {
+    match Utf8PathBuf::try_from_path_buf(bytes(alloc, fields, 0)?) {
+        Ok(path) => says_whole(alloc, fields, path.as_str().as_bytes()),
         Err(error) => {
-            let cause = error.from_path_error();
-            let up_to = format!(in alloc; "{}", cause.valid_up_to())?;
-            let len = match cause.error_len() {
-                Some(len) => format!(in alloc; "{len}")?,
-                None => String::from_str(alloc, "-")?,
-            };
-            let shown = format!(in alloc; "{error}")?;
-            let lossy = match shown
-                .as_str()
-                .strip_prefix("PathBuf contains invalid UTF-8: ")
-            {
-                Some(lossy) => lossy,
-                None => return Ok(false),
-            };
+            let text = format!(in alloc; "{error}")?;
             Ok(
-                field::flags(fields, 1, false)?
-                    && field::at(fields, 2)? == up_to.as_str()
-                    && field::at(fields, 3)? == len.as_str()
-                    && field::says(alloc, fields, 4, Some(lossy.as_bytes()))?,
+                says_text(
+                    alloc,
+                    fields,
+                    "PathBuf contains invalid UTF-8: ",
+                    text.as_str(),
+                )? && says_place(alloc, fields, error.from_path_error())?,
             )
         }
     }
+}
+
+/// What a boxed path of bytes answers.
+fn box_agrees(alloc: Global, fields: &[&str]) -> Result<bool, Wrong> {
+    match Utf8PathBuf::try_from_boxed_path(bytes(alloc, fields, 0)?) {
+        Ok(path) => says_whole(alloc, fields, path.as_str().as_bytes()),
+        Err(error) => {
+            let text = format!(in alloc; "{error}")?;
+            Ok(
+                says_text(
+                    alloc,
+                    fields,
+                    "Box<Path> contains invalid UTF-8: ",
+                    text.as_str(),
+                )? && says_place(alloc, fields, error.from_path_error())?,
+            )
+        }
+    }
+}
+
+/// What a string of the system answers.
+fn string_agrees(alloc: Global, fields: &[&str]) -> Result<bool, Wrong> {
+    match Utf8PathBuf::try_from_os_string(bytes(alloc, fields, 0)?) {
+        Ok(path) => {
+            let back = path.into_os_string();
+            says_whole(alloc, fields, back.as_slice())
+        }
+        Err(error) => {
+            let text = format!(in alloc; "{error}")?;
+            says_text(
+                alloc,
+                fields,
+                "OsString contains invalid UTF-8: ",
+                text.as_str(),
+            )
+        }
+    }
+}
+
+/// Whether the row of some bytes says how the crate reads them. It promises nothing beyond safety.
+pub(crate) fn agrees(alloc: Global, fields: &[&str]) -> Result<bool, Wrong> {
+    Ok(path_agrees(alloc, fields)? && box_agrees(alloc, fields)? && string_agrees(alloc, fields)?)
 }

@@ -3,80 +3,34 @@
 #![tactic(auto)]
 
 mod bytes;
-mod field;
+mod json;
 mod pairs;
 mod paths;
-#[cfg(test)]
-mod tests;
-mod wrong;
 
 use std::alloc::Global;
+use std::io;
 use std::process::ExitCode;
-use std::{env, fs, io};
-pub(crate) use wrong::Wrong;
+use vectors::{Compare, Wrong, compare_files};
 
-/// Whether a row agrees with the crate's answers.
-fn agrees(alloc: Global, file: &str, row: &str) -> Result<bool, Wrong> {
-    let fields: Vec<&str> = row.split('\t').collect(alloc)?;
-    let fields = fields.as_slice();
-    if file.ends_with("paths.tsv") {
-        paths::agrees(alloc, fields)
-    } else if file.ends_with("pairs.tsv") {
-        pairs::agrees(alloc, fields)
-    } else if file.ends_with("utf8.tsv") {
-        bytes::agrees(alloc, fields)
-    } else {
-        Err(Wrong::Form)
-    }
-}
+/// The rows of paths: the end of a file's name tells their kind.
+struct PathRows;
 
-/// Compares the rows of a file, and prints how many agree, or those that differ.
-fn report(rt: &impl Print, alloc: Global, file: &str, text: &str) -> io::Result<bool> {
-    let mut count: u64 = 0;
-    let mut all = true;
-    for row in text.lines() {
-        if row.starts_with('#') {
-            continue;
-        }
-        match agrees(alloc, file, row) {
-            Ok(true) => count = count.saturating_add(1),
-            Ok(false) => {
-                all = false;
-                println!(rt; "{file}: differs: {row}")?;
-            }
-            Err(Wrong::Form) => {
-                all = false;
-                println!(rt; "{file}: no such row: {row}")?;
-            }
-            Err(Wrong::NoMemory) => {
-                all = false;
-                println!(rt; "{file}: out of memory: {row}")?;
-            }
+impl Compare for PathRows {
+    fn agrees(&self, alloc: Global, file: &str, fields: &[&str]) -> Result<bool, Wrong> {
+        if file.ends_with("paths.tsv") {
+            paths::agrees(alloc, fields)
+        } else if file.ends_with("pairs.tsv") {
+            pairs::agrees(alloc, fields)
+        } else if file.ends_with("utf8.tsv") {
+            bytes::agrees(alloc, fields)
+        } else if file.ends_with("json.tsv") {
+            json::agrees(alloc, fields)
+        } else {
+            Err(Wrong::Form)
         }
     }
-    if all {
-        println!(rt; "{file}: {count} agree")?;
-    }
-    Ok(all)
-}
-
-fn compare_files(rt: &HostRuntime) -> io::Result<bool> {
-    let mut all = true;
-    let mut names = env::args(rt)?;
-    let _program = names.next();
-    for name in names {
-        let text = fs::read_to_string(rt, name.as_str())?;
-        if !report(rt, rt.alloc(), name.as_str(), text.as_str())? {
-            all = false;
-        }
-    }
-    Ok(all)
 }
 
 fn main(rt: HostRuntime) -> io::Result<ExitCode> {
-    if compare_files(&rt)? {
-        Ok(ExitCode::SUCCESS)
-    } else {
-        Ok(ExitCode::FAILURE)
-    }
+    compare_files(&rt, &PathRows)
 }

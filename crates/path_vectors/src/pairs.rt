@@ -1,16 +1,16 @@
-ghost use Rattle.std.specs.Prelude.{◌≡◌};
+//! Rows of two paths.
+ghost use Rattle.std.specs.Prelude.{◌≡◌, IsTrue};
 ghost use Rattle.just_path.specs.Names.{has_no_slash};
 
-use super::{Wrong, field};
 use just_path::Utf8Path;
 use std::alloc::Global;
 use std::cmp::Ordering;
+use vectors::{Wrong, at, is_flag, says, text};
 
-/// Whether the row of two paths says what the crate answers. No clause: it is public to this crate's modules alone,
-/// what it answers is seen by comparing with the originals' answers, and no theorem stands on it.
-pub fn agrees(alloc: Global, fields: &[&str]) -> Result<bool, Wrong> {
-    let left = field::text(alloc, fields, 0)?;
-    let right = field::text(alloc, fields, 1)?;
+/// Whether the row of two paths says what the crate answers. It promises nothing beyond safety.
+pub(crate) fn agrees(alloc: Global, fields: &[&str]) -> Result<bool, Wrong> {
+    let left = text(alloc, fields, 0)?;
+    let right = text(alloc, fields, 1)?;
     let a = Utf8Path::new(left.as_str());
     let b = Utf8Path::new(right.as_str());
     Ok(
@@ -35,10 +35,10 @@ fn joins_agree(
         Err(_) => None,
     };
     Ok(
-        field::says(alloc, fields, 2, Some(joined.as_str().as_bytes()))?
-            && field::says(alloc, fields, 2, Some(bytes.as_slice()))?
-            && field::says(alloc, fields, 2, Some(pushed.as_str().as_bytes()))?
-            && field::says(alloc, fields, 3, rest)?,
+        says(alloc, fields, 2, Some(joined.as_str().as_bytes()))?
+            && says(alloc, fields, 2, Some(bytes.as_slice()))?
+            && says(alloc, fields, 2, Some(pushed.as_str().as_bytes()))?
+            && says(alloc, fields, 3, rest)?,
     )
 }
 
@@ -49,10 +49,10 @@ fn order_agrees(a: Utf8Path<'_>, b: Utf8Path<'_>, fields: &[&str]) -> Result<boo
         Ordering::Greater => "1",
     };
     Ok(
-        field::flags(fields, 4, a.starts_with(b))?
-            && field::flags(fields, 5, a.ends_with(b))?
-            && field::flags(fields, 6, a.eq_str(b.as_str()))?
-            && field::at(fields, 7)? == order,
+        is_flag(fields, 4, a.starts_with(b))?
+            && is_flag(fields, 5, a.ends_with(b))?
+            && is_flag(fields, 6, a.eq_str(b.as_str()))?
+            && at(fields, 7)? == order,
     )
 }
 
@@ -64,25 +64,39 @@ fn names_agree(
 ) -> Result<bool, Wrong> {
     let name = b.as_str();
     let named = a.with_file_name(alloc, name)?;
-    if !field::says(alloc, fields, 8, Some(named.as_str().as_bytes()))? {
+    let mut path = a.to_path_buf(alloc)?;
+    path.set_file_name(name)?;
+    if !says(alloc, fields, 8, Some(named.as_str().as_bytes()))? || path != named {
         return Ok(false);
     }
     if !is_extension(name) {
-        return Ok(
-            field::at(fields, 9)? == "-"
-                && field::at(fields, 10)? == "-"
-                && field::at(fields, 11)? == "-",
-        );
+        return Ok(at(fields, 9)? == "-" && at(fields, 10)? == "-" && at(fields, 11)? == "-");
     }
+    extensions_agree(alloc, a, name, fields)
+}
+
+/// Whether a row says what other extensions give.
+fn extensions_agree(
+    alloc: Global,
+    a: Utf8Path<'_>,
+    name: &str,
+    fields: &[&str],
+) -> Result<bool, Wrong>
+    requires { IsTrue (has_no_slash name.now) }
+{
     let other = a.with_extension(alloc, name)?;
     let added = a.with_added_extension(alloc, name)?;
     let mut path = a.to_path_buf(alloc)?;
     let had = path.set_extension(name)?;
+    let mut longer = a.to_path_buf(alloc)?;
+    let also = longer.add_extension(name)?;
     Ok(
-        field::says(alloc, fields, 9, Some(other.as_str().as_bytes()))?
-            && field::says(alloc, fields, 9, Some(path.as_str().as_bytes()))?
-            && field::says(alloc, fields, 10, Some(added.as_str().as_bytes()))?
-            && field::flags(fields, 11, had)?,
+        says(alloc, fields, 9, Some(other.as_str().as_bytes()))?
+            && says(alloc, fields, 9, Some(path.as_str().as_bytes()))?
+            && says(alloc, fields, 10, Some(added.as_str().as_bytes()))?
+            && says(alloc, fields, 10, Some(longer.as_str().as_bytes()))?
+            && is_flag(fields, 11, had)?
+            && is_flag(fields, 11, also)?,
     )
 }
 

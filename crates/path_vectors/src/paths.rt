@@ -1,15 +1,16 @@
-use super::{Wrong, field};
+//! Rows of one path.
+
 use just_path::{Utf8Component, Utf8Path};
 use std::alloc::Global;
+use vectors::{Wrong, at, is_flag, says, text, unescaped};
 
-/// Whether the row of a path says what the crate answers. No clause: it is public to this crate's modules alone,
-/// what it answers is seen by comparing with the originals' answers, and no theorem stands on it.
-pub fn agrees(alloc: Global, fields: &[&str]) -> Result<bool, Wrong> {
-    let text = field::text(alloc, fields, 0)?;
+/// Whether the row of a path says what the crate answers. It promises nothing beyond safety.
+pub(crate) fn agrees(alloc: Global, fields: &[&str]) -> Result<bool, Wrong> {
+    let text = text(alloc, fields, 0)?;
     let path = Utf8Path::new(text.as_str());
     Ok(
-        components_agree(alloc, path, field::at(fields, 1)?)?
-            && field::flags(fields, 2, path.is_absolute())?
+        components_agree(alloc, path, at(fields, 1)?)?
+            && is_flag(fields, 2, path.is_absolute())?
             && parts_agree(alloc, path, fields)?,
     )
 }
@@ -21,13 +22,17 @@ fn parts_agree(alloc: Global, path: Utf8Path<'_>, fields: &[&str]) -> Result<boo
         None => None,
     };
     let clean = path.clean(alloc)?;
+    let mut cut = path.to_path_buf(alloc)?;
+    let has_parent = cut.pop();
     Ok(
-        field::says(alloc, fields, 3, parent)?
-            && field::says(alloc, fields, 4, as_bytes(path.file_name()))?
-            && field::says(alloc, fields, 5, as_bytes(path.file_stem()))?
-            && field::says(alloc, fields, 6, as_bytes(path.file_prefix()))?
-            && field::says(alloc, fields, 7, as_bytes(path.extension()))?
-            && field::says(alloc, fields, 8, Some(clean.as_str().as_bytes()))?,
+        says(alloc, fields, 3, parent)?
+            && has_parent == parent.is_some()
+            && parent.unwrap_or(path.as_os_str()) == cut.as_str().as_bytes()
+            && says(alloc, fields, 4, as_bytes(path.file_name()))?
+            && says(alloc, fields, 5, as_bytes(path.file_stem()))?
+            && says(alloc, fields, 6, as_bytes(path.file_prefix()))?
+            && says(alloc, fields, 7, as_bytes(path.extension()))?
+            && says(alloc, fields, 8, Some(clean.as_str().as_bytes()))?,
     )
 }
 
@@ -45,7 +50,7 @@ fn components_agree(alloc: Global, path: Utf8Path<'_>, list: &str) -> Result<boo
         return Ok(left.next().is_none());
     }
     for item in list.split('|') {
-        let wanted = field::unescaped(alloc, item)?;
+        let wanted = unescaped(alloc, item)?;
         match left.next() {
             None => return Ok(false),
             Some(component) => {
