@@ -156,11 +156,7 @@ fn places_of(
 }
 
 /// Lets effects happen at these places, one after the other, where there is memory for them.
-fn apply(
-    things: &mut Vec<(Place, Thing)>,
-    places: Vec<Place>,
-    effects: Vec<(Text, Option<Thing>)>,
-)
+fn apply(things: &mut Vec<(Place, Thing)>, places: Vec<Place>, effects: Vec<(Text, Option<Thing>)>)
     requires { vec_len things.old + vec_len places ≤ vec_capacity things.old }
     ensures { files_in things.new.items ≡ after_changes (files_in things.old.items) places.items effects.items }
 {

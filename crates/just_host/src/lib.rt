@@ -13,6 +13,7 @@ mod sights;
 mod system;
 mod text;
 
+pub use child::{RealChild, RealDone};
 pub use files::Tree;
 pub use just_outside::{
     Call, Entry, Host, HostFault, Look, MAX_BYTES, Script, Signal, Spec, Status, Stream, Thing,
@@ -20,7 +21,6 @@ pub use just_outside::{
 pub use memory::{MemChild, MemDone, MemHost};
 use place::Place;
 pub use plot::{Ending, Plot};
-pub use child::{RealChild, RealDone};
 pub use real::RealHost;
 
 #[cfg(test)]

@@ -17,8 +17,8 @@ ghost use Rattle.just_host.specs.Mem.{record_of, world_of, Went, OnlyNotes, Play
 ghost use Rattle.just_host.specs.Playing.{next_call, word_of, ending_of, status_of};
 ghost use Rattle.just_outside.proofs.Laws.{counts_noted};
 
-use super::sights::TreeFault;
 use super::plot::{Faults, word_of};
+use super::sights::TreeFault;
 use super::{Ending, Place, Plot, Tree};
 use just_outside::{Call, Entry, Host, HostFault, Log, Signal, Spec, Status, Stream};
 use just_path::{
@@ -322,7 +322,9 @@ impl Host for MemHost {
         let copy = spec.try_clone()?;
         let word = word_of(self.alloc, spec)?;
         self.log.ready()?;
-        let status = self.tree.play(self.alloc, &self.folder, &mut self.endings, word.as_str())?;
+        let status = self
+            .tree
+            .play(self.alloc, &self.folder, &mut self.endings, word.as_str())?;
         let number = self.log.start(copy);
         let fails = self.faults.strike();
         let status = if fails { None } else { Some(status) };

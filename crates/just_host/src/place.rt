@@ -24,11 +24,7 @@ impl Place {
     }
 
     /// The place of a path under an absolute folder.
-    pub fn under(
-        alloc: Global,
-        folder: Utf8Path<'_>,
-        path: Utf8Path<'_>,
-    ) -> Result<Place, NoMemory>
+    pub fn under(alloc: Global, folder: Utf8Path<'_>, path: Utf8Path<'_>) -> Result<Place, NoMemory>
         requires { is_absolute (text_of folder) ≡ true }
         ensures { IfOk result (λ p. p.path ≡ place_under (text_of folder.entry) (text_of path.entry)) }
     {

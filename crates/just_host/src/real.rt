@@ -267,7 +267,13 @@ impl<R: Runtime + Processes<Started = SystemProcess>> PathHost for RealHost<R> {
 
     fn current(&mut self) -> Result<Utf8PathBuf, PathFault> {
         let told = here(&self.rt, self.alloc);
-        answer_path(&mut self.log, self.alloc, PathCall::Current, Utf8Path::new(""), told)
+        answer_path(
+            &mut self.log,
+            self.alloc,
+            PathCall::Current,
+            Utf8Path::new(""),
+            told,
+        )
     }
 
     ghost counts = { λ a b n w. counts_noted (record_of a) (record_of b) n w.entries };

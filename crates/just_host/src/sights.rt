@@ -198,12 +198,7 @@ impl Tree {
     }
 
     /// The place behind a link at a place, with that target.
-    fn target_place(
-        &self,
-        alloc: Global,
-        place: &Place,
-        target: &str,
-    ) -> Result<Place, TreeFault>
+    fn target_place(&self, alloc: Global, place: &Place, target: &str) -> Result<Place, TreeFault>
         ensures { ShowsPlace (target_place place.now.path target.now (seen (files_of self.now))) result }
     {
         let folder = place.as_path().join(alloc, Utf8Path::new(".."))?;
@@ -213,12 +208,7 @@ impl Tree {
     }
 
     /// Where it is to be followed, the place behind the link at a place, else that place.
-    fn followed_place(
-        &self,
-        alloc: Global,
-        place: Place,
-        follow: bool,
-    ) -> Result<Place, TreeFault>
+    fn followed_place(&self, alloc: Global, place: Place, follow: bool) -> Result<Place, TreeFault>
         ensures { ShowsPlace (followed_place follow (seen (files_of self.now)) (Ok place.path)) result }
     {
         if !follow {

@@ -1,19 +1,19 @@
 //! What the system tells of paths and of the environment. An error that is a miss has the kind of one.
 //! Nothing is claimed of what the system answers, so most of these functions have no clause.
 
-ghost use Rattle.std.specs.Prelude.{◌≤◌, IfOk, IfSome, length, string_bytes};
+ghost use Rattle.std.specs.Prelude.{◌≡◌, ◌≤◌, ◌++◌, IfOk, OnOk, IfSome, length, string_bytes};
 ghost use Rattle.just_path.specs.View.{AreInOrder};
 ghost use Rattle.just_outside.specs.declared.outside.TheConstants.{MAX_BYTES};
 ghost use Rattle.just_outside.specs.World.{text_in};
-ghost use Rattle.just_host.specs.Texts.{Tells};
+ghost use Rattle.just_host.specs.Texts.{Tells, pairs_in};
 
 use super::items::in_order;
 use super::text::text_of;
 use just_outside::{MAX_BYTES, Stream};
 use just_path::{Item, Kind, Meta, Miss, NoMemory, Seq, Text, Utf8PathBuf};
 use std::alloc::Global;
-use std::env::FillError;
 use std::env;
+use std::env::FillError;
 use std::fs::{self, FileType, Files};
 use std::io::{self, ErrorKind, Read};
 use std::os::unix::fs::PermissionsExt;
@@ -118,11 +118,7 @@ pub fn target<R: Runtime>(rt: &R, alloc: Global, path: &str) -> io::Result<Utf8P
 
 /// The text of a file, or why it is none that can be read. What is neither a file nor a folder isn't opened, so that
 /// nothing is waited for.
-pub fn read<F: Files>(
-    files: &F,
-    alloc: Global,
-    path: &str,
-) -> io::Result<Result<String, Miss>>
+pub fn read<F: Files>(files: &F, alloc: Global, path: &str) -> io::Result<Result<String, Miss>>
     ensures { IfOk result (λ r. IfOk r (λ s. length (string_bytes s) ≤ MAX_BYTES)) }
 {
     let kind = kind_of(&fs::metadata(files, path)?.file_type());
@@ -140,9 +136,7 @@ fn read_text<F: Read + Drop>(alloc: Global, reader: F) -> io::Result<Result<Stri
     ensures told { IfOk result (λ r. IfSome (F.remaining reader) (λ bytes. Tells (text_in bytes) r)) }
 {
     let mut bytes = Vec::new(alloc);
-    reader
-        .take(MAX_BYTES as u64 + 1)
-        .read_to_end(&mut bytes)?;
+    reader.take(MAX_BYTES as u64 + 1).read_to_end(&mut bytes)?;
     Ok(text_of(bytes))
 }
 
@@ -184,11 +178,18 @@ fn entry<E: Env>(env: &E, alloc: Global, i: usize) -> Result<Option<Vec<u8>>, No
     Err(NoMemory)
 }
 
-/// Appends the pair of an entry `NAME=VALUE`, where it is one and is UTF-8.
+/// Appends the pair of an entry, where it is one and is UTF-8.
 fn put_pair(alloc: Global, pairs: &mut Vec<(Text, Text)>, entry: &[u8]) -> Result<(), NoMemory> {
-    let Ok(text) = std::str::from_utf8(entry) else {
-        return Ok(());
-    };
+    match std::str::from_utf8(entry) {
+        Ok(text) => put_pair_of(alloc, pairs, text),
+        Err(_) => Ok(()),
+    }
+}
+
+/// Appends the pair of a text `NAME=VALUE`, where it is one.
+fn put_pair_of(alloc: Global, pairs: &mut Vec<(Text, Text)>, text: &str) -> Result<(), NoMemory>
+    ensures { OnOk result (pairs.new.items ≡ pairs.old.items ++ pairs_in text.now) }
+{
     let Some((name, value)) = text.split_once('=') else {
         return Ok(());
     };

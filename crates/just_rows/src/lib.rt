@@ -14,12 +14,12 @@ mod libraries;
 #[cfg(test)]
 mod paths;
 #[cfg(test)]
+mod real_edges;
+#[cfg(test)]
 mod refusals;
 #[cfg(test)]
 mod requests;
 #[cfg(test)]
 mod runs;
-#[cfg(test)]
-mod real_edges;
 #[cfg(test)]
 mod trees;

@@ -2,9 +2,7 @@
 //! for all its places by paths of several forms.
 
 use just_host::{Host, HostFault, MemHost, Plot, RealHost, Thing, Tree};
-use just_path::{
-    Environ, Item, NoMemory, PathFault, PathHost, Seq, Text, Utf8Path, Utf8PathBuf,
-};
+use just_path::{Environ, Item, NoMemory, PathFault, PathHost, Seq, Text, Utf8Path, Utf8PathBuf};
 use std::alloc::Global;
 use std::fs;
 use std::os::unix::fs::symlink;
@@ -197,13 +195,7 @@ fn answer_alike<A: Host, B: Host>(one: &mut A, other: &mut B, path: &str) -> boo
 }
 
 /// A path to a place in a form of that number.
-fn form(
-    alloc: Global,
-    here: &str,
-    number: u32,
-    place: &str,
-    form: u8,
-) -> Result<String, NoMemory> {
+fn form(alloc: Global, here: &str, number: u32, place: &str, form: u8) -> Result<String, NoMemory> {
     let text = match form {
         0 => format!(in alloc; "trees/{number}/{place}")?,
         1 => format!(in alloc; "{here}/trees/{number}/{place}")?,
