@@ -56,19 +56,29 @@ fn a_child_has_its_folder_its_environment_and_one_start(rt: HostRuntime) -> Resu
     let _ = fs::remove_dir_all(&rt, "edges");
     fs::create_dir_all(&rt, "edges/in")?;
     let mut host = RealHost::new(&rt, alloc)?;
-    let lines = "pwd >here; echo once >>times; echo $A >a; for v in PATH HOME USER; do env | grep \"^$v=\" || echo $v=none; done >all";
+    let lines =
+        "pwd >here; echo once >>times; echo $A >a; for v in PATH HOME USER; do env | grep \"^$v=\" || echo $v=none; done >all";
     let status = end_of(&mut host, &shell(alloc, "edges/in", lines)?);
     assert!(rt; status == Ok(Status::Code(0)));
     let folder = host.canonical(Utf8Path::new("edges/in"))?;
     let here = format!(in alloc; "{}\n", folder.as_str())?;
-    assert!(rt; holds(&mut host, "edges/in/here", here.as_str()), "another folder");
-    assert!(rt; holds(&mut host, "edges/in/times", "once\n"), "started twice");
+    assert!(rt;
+        holds(&mut host, "edges/in/here", here.as_str()),
+        "another folder"
+    );
+    assert!(rt;
+        holds(&mut host, "edges/in/times", "once\n"),
+        "started twice"
+    );
     assert!(rt; holds(&mut host, "edges/in/a", "1\n"), "changes lost");
     let environ = host.environ()?;
     for name in ["PATH", "HOME", "USER"] {
         let value = environ.get(name).unwrap_or("none");
         let line = format!(in alloc; "{name}={value}\n")?;
-        assert!(rt; has(&mut host, "edges/in/all", line.as_str()), "environment lost");
+        assert!(rt;
+            has(&mut host, "edges/in/all", line.as_str()),
+            "environment lost"
+        );
     }
     Ok(())
 }
@@ -110,7 +120,10 @@ fn what_is_no_file_is_refused_and_not_waited_for(rt: HostRuntime) -> Result<(), 
     ] {
         assert!(rt; refusal(&mut host, path) == Some(want), "{path}");
     }
-    assert_eq!(rt; host.read(Utf8Path::new("refused/most"))?.as_str().len(), 67_108_864);
+    assert_eq!(rt;
+        host.read(Utf8Path::new("refused/most"))?.as_str().len(),
+        67_108_864
+    );
     let meta = host.meta(Utf8Path::new("refused/loop"), true);
     assert!(rt; meta == Err(PathFault::Failed));
     fs::remove_dir_all(&rt, "refused")?;
