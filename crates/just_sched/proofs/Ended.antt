@@ -1,5 +1,5 @@
 -- A run at its end: no work is left, and where no failure decides, all is done.
-use Rattle.std.proofs.Common.{◌≡◌, ◌<◌, ◌⊎◌, inl, inr, ℕ, true, false, true≢false, refl, Option, Some, None, option_map, MatchOption, sym, ◌∙◌, ap, subst}
+use Rattle.std.proofs.Common.{◌≡◌, ◌<◌, ◌⊎◌, inl, inr, ℕ, true, false, true≢false, refl, Option, Some, None, option_map, MatchOption, sym, ◌∙◌, subst}
 use Rattle.std.proofs.Math.Logic.{∥∥₁_elim}
 use Rattle.std.specs.Prelude.{List}
 use Rattle.std.specs.Int.NonZero.{non_zero_u64_get}
