@@ -19,6 +19,7 @@ use Rattle.just_host.specs.Items.{kind_behind, AreItemsBehind}
 use Rattle.just_host.proofs.Lookups.{sight_seen}
 use Rattle.just_host.proofs.Things.{find_hit, find_pass}
 
+-- where neither of two tests holds, the first does not
 not_slash : (a b : Bool) → not (a || b) ≡ true → a ≡ false
 not_slash true b h = cc
 not_slash false b h = refl
@@ -28,6 +29,7 @@ relative : (name : List ℕ) → is_name name ≡ true → is_absolute name ≡ 
 relative [] h = refl
 relative (b ∷ bs) h = not_slash (b == 47) (list_any (λ x. x == 47) bs) h
 
+-- a slash between a folder and a name belongs to the front
 pushed_open : (e : Bool) (folder name : List ℕ) → (if e then folder ++ (47 ∷ name) else folder ++ name) ≡ (if e then folder ++ (47 ∷ []) else folder ++ []) ++ name
 pushed_open true folder name = sym (append_assoc folder (47 ∷ []) name)
 pushed_open false folder name = ap (λ x. x ++ name) (sym (append-nil folder))
@@ -38,13 +40,16 @@ pushed_name folder name h =
     ap (λ b. if b then name else (if ends_open folder then folder ++ (47 ∷ name) else folder ++ name)) (relative name h)
     ∙ pushed_open (ends_open folder) folder name
 
+-- the kind of a thing
 abbrev kind_of : Thing → Kind
 kind_of t = (meta_of (sight_of t)).kind
 
+-- to look at a thing and take its kind is to take its kind
 mapped : (o : Option Thing) → option_map (λ s. (meta_of s).kind) (option_map sight_of o) ≡ option_map (λ t. (meta_of (sight_of t)).kind) o
 mapped None = refl
 mapped (Some t) = refl
 
+-- the kind behind a folder's front is that of what stands in the folder under the name
 kind_same : (folder name : List ℕ) (tree : Tree) (b : Bool) → is_name name ≡ b → (things : List (List ℕ × Thing)) → from_entries {R = slice_cmp nat_cmp} things ≡ tree → cond b (option_map (λ t. (meta_of (sight_of t)).kind) (find (slice_cmp nat_cmp) (pushed folder [] ++ name) things)) None ≡ cond b (option_map (λ s. (meta_of s).kind) (sight (pushed folder name) (seen tree))) None
 kind_same folder name tree false is things of_tree = refl
 kind_same folder name tree true is things of_tree =
@@ -59,6 +64,7 @@ kind_same folder name tree true is things of_tree =
 pub items_seen : (folder : List ℕ) (tree : Tree) (things : List (List ℕ × Thing)) (items : List Item) → from_entries {R = slice_cmp nat_cmp} things ≡ tree → AreItemsBehind (pushed folder []) things items → AreItemsOf folder (seen tree) items
 items_seen folder tree things items of_tree h = λ name. h name ∙ kind_same folder name tree (is_name name) refl things of_tree
 
+-- texts that differ don't compare equal
 not_equal : (x y : List ℕ) → y ≢ x → bytes_eq x y ≡ false
 not_equal x y apart =
     elim (bytes_eq x y) as (λ b. bytes_eq x y ≡ b → b ≡ false) [
@@ -66,6 +72,7 @@ not_equal x y apart =
       | false ↦ λ e. refl
     ] refl
 
+-- a thing that isn't the named one is passed
 passed_at : (front : List ℕ) (things : List (List ℕ × Thing)) (i : ℕ) (e : List ℕ × Thing) (name : List ℕ) (b : Bool) → i < length things → e ≡ get_or things i e → (b ≡ true → e.0 ≢ front ++ name) → cond b (option_map (λ t. (meta_of (sight_of t)).kind) (find (slice_cmp nat_cmp) (front ++ name) (drop (i + 1) things))) None ≡ cond b (option_map (λ t. (meta_of (sight_of t)).kind) (find (slice_cmp nat_cmp) (front ++ name) (drop i things))) None
 passed_at front things i e name false inside is apart = refl
 passed_at front things i e name true inside is apart =
@@ -75,17 +82,21 @@ passed_at front things i e name true inside is apart =
 pub thing_passed : (front : List ℕ) (things : List (List ℕ × Thing)) (i : ℕ) (e : List ℕ × Thing) (items : List Item) → i < length things → e ≡ get_or things i e → ((name : List ℕ) → is_name name ≡ true → e.0 ≢ front ++ name) → AreItemsBehind front (drop (i + 1) things) items → AreItemsBehind front (drop i things) items
 thing_passed front things i e items inside is apart h = λ name. h name ∙ passed_at front things i e name (is_name name) inside is (apart name)
 
+-- texts that compare equal are equal
 equal_names : (x y : List ℕ) → eq_by_cmp (slice_cmp nat_cmp) x y ≡ true → x ≡ y
 equal_names x y h = (bytes_eq-Decides x y).0 (sym (is_eq-slice_cmp x y) ∙ h)
 
+-- a text compares equal to itself
 equal_itself : (x : List ℕ) → eq_by_cmp (slice_cmp nat_cmp) x x ≡ true
 equal_itself x = is_eq-slice_cmp x x ∙ (bytes_eq-Decides x x).1 refl
 
+-- the thing of the front and a name has its kind under that name
 found_at : (front : List ℕ) (things : List (List ℕ × Thing)) (i : ℕ) (e : List ℕ × Thing) (n : List ℕ) → i < length things → e ≡ get_or things i e → is_name n ≡ true → e.0 ≡ front ++ n → Some (kind_of e.1) ≡ kind_behind front (drop i things) n
 found_at front things i e n inside is name key =
     sym (ap (λ b. cond b (option_map (λ t. (meta_of (sight_of t)).kind) (find (slice_cmp nat_cmp) (front ++ n) (drop i things))) None) name
     ∙ ap (λ o. option_map (λ t. (meta_of (sight_of t)).kind) o) (find_hit (front ++ n) e.0 things i e inside is refl ((bytes_eq-Decides (front ++ n) e.0).1 (sym key))))
 
+-- that thing gives its own name its kind, and leaves each other name
 put_at : (front : List ℕ) (things : List (List ℕ × Thing)) (i : ℕ) (e : List ℕ × Thing) (n name : List ℕ) (t : Bool) → eq_by_cmp (slice_cmp nat_cmp) name n ≡ t → i < length things → e ≡ get_or things i e → is_name n ≡ true → e.0 ≡ front ++ n → cond t (Some (kind_of e.1)) (kind_behind front (drop (i + 1) things) name) ≡ kind_behind front (drop i things) name
 put_at front things i e n name true same inside is isname key =
     subst (λ x. Some (kind_of e.1) ≡ kind_behind front (drop i things) x) (sym (equal_names name n same)) (found_at front things i e n inside is isname key)

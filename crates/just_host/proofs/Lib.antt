@@ -1,3 +1,4 @@
+-- Proofs of the hosts, by subject.
 pub mod Things
 pub mod Lookups
 pub mod Places

@@ -15,6 +15,7 @@ use Rattle.just_host.specs.Texts.{Tells}
 too_large : (xs : List ℕ) → MAX_BYTES < length xs → text_in xs ≡ Err miss.TooLarge
 too_large xs more = let over : nat_lt MAX_BYTES (length xs) ≡ true = grind (arith, nat_tests) in rw over
 
+-- of a longer list one more than n items are more than n
 cut_over : (n : ℕ) (xs : List ℕ) → n < length xs → n < length (take (n + 1) xs)
 cut_over n xs more = let all : length (take (n + 1) xs) ≡ n + 1 = length-take-le (n + 1) xs (omega arith) in omega arith
 
@@ -26,10 +27,12 @@ text_in-take xs =
       | no within ↦ ap text_in (take_all (MAX_BYTES + 1) xs (omega arith))
     ]
 
+-- known bytes that were read up to one more than the limit tell the text
 read_some : (xs bytes first : List ℕ) (limit : ℕ) (r : Result (String Global) Miss) → limit ≡ MAX_BYTES + 1 → first ≡ [] → bytes ≡ first ++ take limit xs → Tells (text_in bytes) r → Tells (text_in xs) r
 read_some xs bytes first limit r is none read h =
     subst (λ t. Tells t r) (ap text_in (read ∙ ap (λ f. f ++ take limit xs) none ∙ ap (λ n. take n xs) is) ∙ text_in-take xs) h
 
+-- the same where the bytes are known or not
 read_of : (known : Option (List ℕ)) (bytes first : List ℕ) (limit : ℕ) (r : Result (String Global) Miss) → limit ≡ MAX_BYTES + 1 → first ≡ [] → IfSome (option_map (take limit) known) (λ xs. bytes ≡ first ++ xs) → Tells (text_in bytes) r → IfSome known (λ xs. Tells (text_in xs) r)
 read_of None bytes first limit r is none read h = tt
 read_of (Some xs) bytes first limit r is none read h = read_some xs bytes first limit r is none read h

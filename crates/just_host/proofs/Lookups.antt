@@ -13,6 +13,7 @@ use Rattle.just_host.specs.declared.place.Place.{Place}
 use Rattle.just_host.specs.Files.{by_text, files_in}
 use Rattle.just_host.proofs.Things.{same_text}
 
+-- to look at the chosen of two is to choose among what is looked at
 mapped_cond : (b : Bool) (t : Thing) (o : Option Thing) → cond b (Some (sight_of t)) (option_map sight_of o) ≡ option_map sight_of (cond b (Some t) o)
 mapped_cond true t o = refl
 mapped_cond false t o = refl
@@ -48,12 +49,15 @@ meta_none tree place is = sym (ap (λ o. option_map meta_of o) (sight_as tree pl
 pub target_link : (tree : Tree) (place target : List ℕ) → get tree place ≡ Some (things.Link target) → Some target ≡ target_seen place (seen tree)
 target_link tree place target is = sym (ap target_of (sight_as tree place (Some (things.Link target)) is))
 
+-- a folder shows no target
 pub target_folder : (tree : Tree) (place : List ℕ) → get tree place ≡ Some things.Folder → None ≡ target_seen place (seen tree)
 target_folder tree place is = sym (ap target_of (sight_as tree place (Some things.Folder) is))
 
+-- a file shows no target
 pub target_file : (tree : Tree) (place bytes : List ℕ) (executable : Bool) → get tree place ≡ Some (things.File bytes executable) → None ≡ target_seen place (seen tree)
 target_file tree place bytes executable is = sym (ap target_of (sight_as tree place (Some (things.File bytes executable)) is))
 
+-- a place at which nothing stands shows no target
 pub target_none : (tree : Tree) (place : List ℕ) → get tree place ≡ None → None ≡ target_seen place (seen tree)
 target_none tree place is = sym (ap target_of (sight_as tree place None is))
 

@@ -25,12 +25,14 @@ find_more path es i d h =
     at_drop_more (find (slice_cmp nat_cmp) path) es i d h
     ∙ ap (λ b. cond b (Some (get_or es i d).1) (find (slice_cmp nat_cmp) path (drop (i + 1) es))) (is_eq-slice_cmp path (get_or es i d).0)
 
+-- the next entry is the one that is found
 pub find_hit : (path key : List ℕ) (es : List (List ℕ × Thing)) (i : ℕ) (e : List ℕ × Thing) → i < length es → e ≡ get_or es i e → key ≡ e.0 → bytes_eq path key ≡ true → find (slice_cmp nat_cmp) path (drop i es) ≡ Some e.1
 find_hit path key es i e h is named same =
     let hit : bytes_eq path (get_or es i e).0 ≡ true = cc in
     let item : get_or es i e ≡ e = cc in
     find_more path es i e h ∙ ap (λ b. cond b (Some (get_or es i e).1) (find (slice_cmp nat_cmp) path (drop (i + 1) es))) hit ∙ ap (λ x. Some x.1) item
 
+-- the next entry is passed
 pub find_pass : (path key : List ℕ) (es : List (List ℕ × Thing)) (i : ℕ) (e : List ℕ × Thing) → i < length es → e ≡ get_or es i e → key ≡ e.0 → bytes_eq path key ≡ false → find (slice_cmp nat_cmp) path (drop i es) ≡ find (slice_cmp nat_cmp) path (drop (i + 1) es)
 find_pass path key es i e h is named other =
     let passed : bytes_eq path (get_or es i e).0 ≡ false = cc in
@@ -40,6 +42,7 @@ find_pass path key es i e h is named other =
 pub item_at : (things : List (Place × Thing)) (i : ℕ) (e : Place × Thing) → i < length things → e ≡ get_or things i e → by_text e ≡ get_or (map by_text things) i (by_text e)
 item_at things i e inside is = ap by_text is ∙ sym (get_or-map by_text things i e (by_text e) inside)
 
+-- a place in a list of things is one in the list of their entries
 pub within : (things : List (Place × Thing)) (i : ℕ) → i < length things → i < length (map by_text things)
 within things i inside = subst (λ n. i < n) (sym (length-map things by_text)) inside
 
@@ -59,11 +62,13 @@ any_below p n k h holds =
     let is : get_or (range_with_len 0 n) k 0 ≡ k = get_or-range_with_len 0 n k 0 h ∙ zero-add k in
     list_any_at p (range_with_len 0 n) k 0 (rw length-range_with_len h) (ap p is ∙ holds)
 
+-- a test that holds at no number from a on
 none_from : (p : ℕ → Bool) (a n : ℕ) → ((j : ℕ) → a ≤ j → j < a + n → p j ≡ false) → list_any p (range_with_len a n) ≡ false
 none_from p a zero h = refl
 none_from p a (suc n) h =
     ap (λ b. b || list_any p (range_with_len (a + 1) n)) (h a (omega arith) (omega arith)) ∙ none_from p (a + 1) n (λ j low high. h j (omega arith) (omega arith))
 
+-- a test that holds at no number below n
 pub none_below : (p : ℕ → Bool) (n : ℕ) → ((j : ℕ) → j < n → p j ≡ false) → list_any p (range_with_len 0 n) ≡ false
 none_below p n h = none_from p 0 n (λ j low high. h j (omega arith))
 
@@ -71,18 +76,22 @@ none_below p n h = none_from p 0 n (λ j low high. h j (omega arith))
 pub same_text : (x y : List ℕ) → eq_by_cmp (slice_cmp nat_cmp) x y ≡ true → x ≡ y
 same_text x y h = (bytes_eq-Decides x y).0 (sym (is_eq-slice_cmp x y) ∙ h)
 
+-- a text compares equal to itself
 same_itself : (x : List ℕ) → eq_by_cmp (slice_cmp nat_cmp) x x ≡ true
 same_itself x = is_eq-slice_cmp x x ∙ (bytes_eq-Decides x x).1 refl
 
+-- what is none by a test stays none by it
 none_again : (t : Bool) (x y : Option Thing) → cond t None (cond t x y) ≡ cond t None y
 none_again true x y = refl
 none_again false x y = refl
 
+-- two tests that don't hold together may be asked in either order
 none_first : (a t : Bool) (x y : Option Thing) → (a ≡ true → t ≡ true → ⊥) → cond a x (cond t None y) ≡ cond t None (cond a x y)
 none_first true true x y apart = absurd (apart refl refl)
 none_first true false x y apart = refl
 none_first false t x y apart = refl
 
+-- an entry that is kept is found, and one that is dropped isn't
 kept_or_not : (path q : List ℕ) (e : List ℕ × Thing) (b : Bool) → bytes_eq e.0 path ≡ b → (kept es : List (List ℕ × Thing)) → find (slice_cmp nat_cmp) q kept ≡ cond (eq_by_cmp (slice_cmp nat_cmp) q path) None (find (slice_cmp nat_cmp) q es) → find (slice_cmp nat_cmp) q (cond (not b) (e ∷ kept) kept) ≡ cond (eq_by_cmp (slice_cmp nat_cmp) q path) None (find (slice_cmp nat_cmp) q (e ∷ es))
 kept_or_not path q e true is kept es h =
     let same : e.0 ≡ path = (bytes_eq-Decides e.0 path).0 is in
@@ -97,10 +106,12 @@ kept_or_not path q e false is kept es h =
     ap (λ o. cond (eq_by_cmp (slice_cmp nat_cmp) q e.0) (Some e.1) o) h
     ∙ none_first (eq_by_cmp (slice_cmp nat_cmp) q e.0) (eq_by_cmp (slice_cmp nat_cmp) q path) (Some e.1) (find (slice_cmp nat_cmp) q es) apart
 
+-- where the entries of a path are dropped, nothing is found at it, and elsewhere what was
 find_without : (path q : List ℕ) (es : List (List ℕ × Thing)) → find (slice_cmp nat_cmp) q (filter (λ e. not (bytes_eq e.0 path)) es) ≡ cond (eq_by_cmp (slice_cmp nat_cmp) q path) None (find (slice_cmp nat_cmp) q es)
 find_without path q [] = elim (eq_by_cmp (slice_cmp nat_cmp) q path) as (λ t. ◌≡◌ {A = Option Thing} None (cond t None None)) [ true ↦ refl | false ↦ refl ]
 find_without path q (e ∷ es) = kept_or_not path q e (bytes_eq e.0 path) refl (filter (λ x. not (bytes_eq x.0 path)) es) es (find_without path q es)
 
+-- texts that aren't apart in their order are equal
 texts_apart : IsAntisymmetric (slice_cmp nat_cmp)
 texts_apart = slice_cmp-IsAntisymmetric nat_cmp-IsAntisymmetric
 
@@ -112,6 +123,7 @@ from_entries-without path es =
     ∙ ap (λ o. cond (eq_by_cmp (slice_cmp nat_cmp) q path) None o) (sym (get-from_entries nat_list_cmp_total es q))
     ∙ sym (get-remove nat_list_cmp_total (from_entries es) path q))
 
+-- what is put over what was taken out is what is put
 put_again : (t : Bool) (v : Thing) (o : Option Thing) → cond t (Some v) (cond t None o) ≡ cond t (Some v) o
 put_again true v o = refl
 put_again false v o = refl
@@ -130,10 +142,12 @@ from_entries-replaced path v es m is =
     ∙ put_again (eq_by_cmp (slice_cmp nat_cmp) q path) v (get m q)
     ∙ sym (get-insert nat_list_cmp_total m path v q))
 
+-- to take the texts of what is kept or not is to keep the texts or not
 filter_case : (b : Bool) (x : Place × Thing) (rest : List (Place × Thing)) → map by_text (cond b (x ∷ rest) rest) ≡ cond b (by_text x ∷ map by_text rest) (map by_text rest)
 filter_case true x rest = refl
 filter_case false x rest = refl
 
+-- to drop the things of a place is to drop their entries
 filtered_texts : (place : List ℕ) (things : List (Place × Thing)) → map by_text (filter (λ e. not (bytes_eq e.0.path place)) things) ≡ filter (λ e. not (bytes_eq e.0 place)) (map by_text things)
 filtered_texts place [] = refl
 filtered_texts place (e ∷ es) =

@@ -1,3 +1,4 @@
+-- Definitions of the hosts.
 pub mod Files
 pub mod Trees
 pub mod Texts

@@ -1,3 +1,4 @@
+//! The command of a child, and what its end means.
 ghost use Rattle.std.specs.Prelude.{◌≡◌, ◌++◌, ℕ, List, Option, Some, false, if◌then◌else◌, IfOk, OnOk};
 ghost use Rattle.std.specs.Str.{bytes_eq};
 ghost use Rattle.std.specs.Process.{command_program, command_args, command_dir, command_var, clears_env, exit_code, exit_signal};

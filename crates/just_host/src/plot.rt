@@ -1,3 +1,4 @@
+//! What is to happen over a host in memory.
 ghost use Rattle.std.specs.Prelude.{◌≡◌, ◌==◌, [], IfOk, string_bytes};
 ghost use Rattle.std.specs.List.{list_any};
 ghost use Rattle.just_host.specs.Playing.{joined, next_call, word_of};

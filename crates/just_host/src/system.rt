@@ -1,11 +1,11 @@
 //! What the system tells of paths and of the environment. An error that is a miss has the kind of one.
 //! Nothing is claimed of what the system answers, so most of these functions have no clause.
 
-ghost use Rattle.std.specs.Prelude.{◌≤◌, IfOk, IfSome, length, string_bytes};
+ghost use Rattle.std.specs.Prelude.{◌≡◌, ◌≤◌, ◌++◌, IfOk, OnOk, IfSome, length, string_bytes};
 ghost use Rattle.just_path.specs.View.{AreInOrder};
 ghost use Rattle.just_outside.specs.declared.outside.TheConstants.{MAX_BYTES};
 ghost use Rattle.just_outside.specs.World.{text_in};
-ghost use Rattle.just_host.specs.Texts.{Tells};
+ghost use Rattle.just_host.specs.Texts.{Tells, pairs_in};
 
 use super::items::in_order;
 use super::text::text_of;
@@ -178,11 +178,18 @@ fn entry<E: Env>(env: &E, alloc: Global, i: usize) -> Result<Option<Vec<u8>>, No
     Err(NoMemory)
 }
 
-/// Appends the pair of an entry `NAME=VALUE`, where it is one and is UTF-8.
+/// Appends the pair of an entry, where it is one and is UTF-8.
 fn put_pair(alloc: Global, pairs: &mut Vec<(Text, Text)>, entry: &[u8]) -> Result<(), NoMemory> {
-    let Ok(text) = std::str::from_utf8(entry) else {
-        return Ok(());
-    };
+    match std::str::from_utf8(entry) {
+        Ok(text) => put_pair_of(alloc, pairs, text),
+        Err(_) => Ok(()),
+    }
+}
+
+/// Appends the pair of a text `NAME=VALUE`, where it is one.
+fn put_pair_of(alloc: Global, pairs: &mut Vec<(Text, Text)>, text: &str) -> Result<(), NoMemory>
+    ensures { OnOk result (pairs.new.items ≡ pairs.old.items ++ pairs_in text.now) }
+{
     let Some((name, value)) = text.split_once('=') else {
         return Ok(());
     };

@@ -7,9 +7,11 @@ use Rattle.just_path.specs.declared.host.PathNote.TheVariants as note
 use Rattle.just_outside.specs.declared.entry.Entry.{Entry}
 use Rattle.just_outside.specs.Record.{noted, faults_of, misses_of, is_failed, is_missed}
 
+-- the failures of two records, one behind the other, add up
 faults-append : (es bs : List Entry) → faults_of (es ++ bs) ≡ faults_of es + faults_of bs
 faults-append es bs = sum_by-append (λ e. cond (is_failed e) 1 0) es bs
 
+-- the misses of two records, one behind the other, add up
 misses-append : (es bs : List Entry) → misses_of (es ++ bs) ≡ misses_of es + misses_of bs
 misses-append es bs = sum_by-append (λ e. cond (is_missed e) 1 0) es bs
 

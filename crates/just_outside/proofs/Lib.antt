@@ -1,1 +1,2 @@
+-- Laws of the outside.
 pub mod Laws

@@ -1,3 +1,4 @@
+-- Definitions of the outside.
 pub mod Record
 pub mod World
 pub mod Sights

@@ -1,3 +1,4 @@
+//! Absolute paths.
 ghost use Rattle.std.specs.Prelude.{◌≡◌, ◌≢◌, [], true, false, Err, IfOk, OnOk, MatchResult};
 ghost use Rattle.just_path.specs.Path.{text_of, is_absolute};
 ghost use Rattle.just_path.specs.Absolute.{is_double, root_of, spread, under, Gives, PutsUnder};

@@ -1,3 +1,4 @@
+//! The entries of a listed folder.
 ghost use Rattle.std.specs.Prelude.{◌≡◌, [], ◌∷◌, map, reverse, false, length, IfOk, IfErr, MatchOption};
 ghost use Rattle.std.specs.Iterator.{at_most};
 ghost use Rattle.just_path.specs.Path.{text_of};

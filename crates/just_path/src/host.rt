@@ -1,3 +1,4 @@
+//! The host of files, as far as paths ask it.
 ghost use Rattle.std.specs.Prelude.{◌≡◌, ℕ, [], Option, IfOk};
 ghost use Rattle.just_path.specs.Path.{text_of};
 ghost use Rattle.just_path.specs.declared.host.PathNote.{PathNote};

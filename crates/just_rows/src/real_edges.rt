@@ -8,7 +8,7 @@ use std::fs;
 use std::os::unix::fs::symlink;
 use std::test::Fail;
 
-/// `sh -cu LINE` in a folder, with `A` set to `1` and `HOME` taken out.
+/// `sh -cu LINE` in a folder, with `A` set to `1`.
 fn shell(alloc: Global, folder: &str, line: &str) -> Result<Spec, NoMemory> {
     let mut arguments = Vec::new(alloc);
     arguments.push(Text::from_str(alloc, "-cu")?)?;
@@ -16,7 +16,6 @@ fn shell(alloc: Global, folder: &str, line: &str) -> Result<Spec, NoMemory> {
     let mut changes = Vec::new(alloc);
     let one = Text::from_str(alloc, "1")?;
     changes.push((Text::from_str(alloc, "A")?, Some(one)))?;
-    changes.push((Text::from_str(alloc, "HOME")?, None))?;
     Ok(Spec {
         program: Text::from_str(alloc, "sh")?,
         arguments: Seq::from(arguments),
@@ -43,13 +42,22 @@ fn holds<H: Host>(host: &mut H, path: &str, want: &str) -> bool {
     }
 }
 
+/// Whether a file's text has that text in it.
+fn has<H: Host>(host: &mut H, path: &str, want: &str) -> bool {
+    match host.read(Utf8Path::new(path)) {
+        Ok(text) => text.as_str().contains(want),
+        Err(_) => false,
+    }
+}
+
 #[test]
 fn a_child_has_its_folder_its_environment_and_one_start(rt: HostRuntime) -> Result<(), Fail> {
     let alloc = rt.alloc();
     let _ = fs::remove_dir_all(&rt, "edges");
     fs::create_dir_all(&rt, "edges/in")?;
     let mut host = RealHost::new(&rt, alloc)?;
-    let lines = "pwd >here; echo once >>times; printf %s \"$PATH\" >path; echo $A ${HOME-none} >a";
+    let lines =
+        "pwd >here; echo once >>times; echo $A >a; for v in PATH HOME USER; do env | grep \"^$v=\" || echo $v=none; done >all";
     let status = end_of(&mut host, &shell(alloc, "edges/in", lines)?);
     assert!(rt; status == Ok(Status::Code(0)));
     let folder = host.canonical(Utf8Path::new("edges/in"))?;
@@ -62,13 +70,16 @@ fn a_child_has_its_folder_its_environment_and_one_start(rt: HostRuntime) -> Resu
         holds(&mut host, "edges/in/times", "once\n"),
         "started twice"
     );
-    assert!(rt; holds(&mut host, "edges/in/a", "1 none\n"), "changes lost");
+    assert!(rt; holds(&mut host, "edges/in/a", "1\n"), "changes lost");
     let environ = host.environ()?;
-    let path = environ.get("PATH").unwrap_or("");
-    assert!(rt;
-        !path.is_empty() && holds(&mut host, "edges/in/path", path),
-        "environment lost"
-    );
+    for name in ["PATH", "HOME", "USER"] {
+        let value = environ.get(name).unwrap_or("none");
+        let line = format!(in alloc; "{name}={value}\n")?;
+        assert!(rt;
+            has(&mut host, "edges/in/all", line.as_str()),
+            "environment lost"
+        );
+    }
     Ok(())
 }
 

@@ -29,6 +29,7 @@ enum Stand {
 }
 
 /// Numbers at random, the same each time.
+#[derive(Drop)]
 struct Random {
     state: u64,
 }
@@ -44,7 +45,7 @@ impl Random {
 }
 
 /// What stands at a place, where the place that it stands in is a folder.
-fn stand(random: &mut Random) -> Stand {
+fn any_stand(random: &mut Random) -> Stand {
     match random.next() % 8 {
         0 => Stand::Nothing,
         1..=4 => Stand::Folder,
@@ -54,11 +55,11 @@ fn stand(random: &mut Random) -> Stand {
 }
 
 /// What stands at each place.
-fn stands(random: &mut Random) -> [Stand; 14] {
+fn grown(random: &mut Random) -> [Stand; 14] {
     let mut all = [Stand::Nothing; 14];
     for n in 0..14usize {
         if n < 2 || all[n / 2 - 1] == Stand::Folder {
-            all[n] = stand(random);
+            all[n] = any_stand(random);
         }
     }
     all
@@ -208,23 +209,23 @@ fn form(alloc: Global, here: &str, number: u32, place: &str, form: u8) -> Result
     Ok(text)
 }
 
-/// The path of which the two hosts answer otherwise, if there is one.
+/// The path of which the two hosts answer otherwise, if there is one. Each place is asked for by one path.
 fn difference<A: Host, B: Host>(
     alloc: Global,
-    one: &mut A,
-    other: &mut B,
+    random: &mut Random,
+    hosts: (&mut A, &mut B),
     here: &str,
     number: u32,
     all: &[Stand; 14],
 ) -> Result<Option<String>, NoMemory> {
+    let (one, other) = hosts;
     for n in 0..14usize {
         let place = PLACES.get(n).copied().unwrap_or("");
-        for number_of_form in 0..8u8 {
-            let behind = all[n] == Stand::Link && number_of_form == 6;
-            let path = form(alloc, here, number, place, number_of_form)?;
-            if is_before_links(all, n) && !behind && !answer_alike(one, other, path.as_str()) {
-                return Ok(Some(path));
-            }
+        let which = random.next() % 8;
+        let behind = which == 6 && all[n] == Stand::Link;
+        let path = form(alloc, here, number, place, which)?;
+        if is_before_links(all, n) && !behind && !answer_alike(one, other, path.as_str()) {
+            return Ok(Some(path));
         }
     }
     Ok(None)
@@ -238,7 +239,7 @@ fn difference_of(
     number: u32,
 ) -> Result<Option<String>, Fail> {
     let alloc = rt.alloc();
-    let all = stands(random);
+    let all = grown(random);
     let root = format!(in alloc; "{here}/trees/{number}")?;
     let tree = grow(rt, alloc, random, root.as_str(), &all)?;
     let environ = Environ {
@@ -247,7 +248,7 @@ fn difference_of(
     let current = Utf8Path::new(here).to_path_buf(alloc)?;
     let mut memory = MemHost::new(alloc, tree, current, environ, Plot::new(alloc))?;
     let mut real = RealHost::new(rt, alloc)?;
-    let path = difference(alloc, &mut real, &mut memory, here, number, &all)?;
+    let path = difference(alloc, random, (&mut real, &mut memory), here, number, &all)?;
     Ok(path)
 }
 

@@ -1,3 +1,4 @@
+-- Items are put in one behind the other, and stay in order.
 use Rattle.std.proofs.Common.{ap, sym, ◌∙◌}
 use Rattle.std.specs.Vec.Iter.{into_iter_items}
 use Rattle.just_path.specs.View.{named}

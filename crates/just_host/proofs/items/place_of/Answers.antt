@@ -1,3 +1,4 @@
+-- Items from the end on are passed until one has a lesser name.
 use Rattle.std.proofs.Common.{◌-◌, ◌<◌, length, sym, ◌∙◌, arith}
 use Rattle.just_host.proofs.Places.{place_found, place_passed}
 use Rattle.just_host.proofs.items.place_of.Goals as goal

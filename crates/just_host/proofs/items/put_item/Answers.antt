@@ -1,3 +1,4 @@
+-- An item goes between two others, or replaces one.
 use Rattle.std.proofs.Common.{◌≡◌, ◌<◌, true, length, bytes_eq, ap, ◌∙◌, arith}
 use Rattle.std.proofs.lemmas.Grind.{common_steps}
 use Rattle.just_path.specs.View.{named}

@@ -8,10 +8,12 @@ use Rattle.just_outside.specs.declared.outside.TheConstants.{MAX_BYTES}
 use Rattle.just_outside.specs.World.{text_in}
 use Rattle.just_host.proofs.text.text_of.Goals as goal
 
+-- bytes within the limit that are UTF-8 are a text
 text_of_utf8 : (bytes : List ℕ) → length bytes ≤ MAX_BYTES → is_utf8 bytes ≡ true → text_in bytes ≡ Ok bytes
 text_of_utf8 bytes small is =
     let within : nat_lt MAX_BYTES (length bytes) ≡ false = grind (arith, nat_tests) in rw (within, is)
 
+-- bytes within the limit that aren't UTF-8 are none
 no_text : (bytes : List ℕ) → length bytes ≤ MAX_BYTES → is_utf8 bytes ≡ false → text_in bytes ≡ Err miss.NotUtf8
 no_text bytes small is =
     let within : nat_lt MAX_BYTES (length bytes) ≡ false = grind (arith, nat_tests) in rw (within, is)

@@ -7,6 +7,7 @@ use Rattle.just_host.specs.Trees.{files_of}
 use Rattle.just_host.proofs.Things.{any_below, none_below}
 use Rattle.just_host.proofs.files.Tree.goes_through_file.Goals as goal
 
+-- two tests that hold hold together
 both : (a b : Bool) → a ≡ true → b ≡ true → (a && b) ≡ true
 both a b p q = ap (λ x. x && b) p ∙ q
 

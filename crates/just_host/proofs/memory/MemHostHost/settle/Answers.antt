@@ -1,3 +1,4 @@
+-- To settle a child changes nothing of the world.
 use Rattle.std.proofs.Common.{refl}
 use Rattle.just_host.specs.Mem.{world_of}
 use Rattle.just_host.proofs.memory.MemHostHost.settle.Goals as goal

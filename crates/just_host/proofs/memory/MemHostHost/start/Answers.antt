@@ -1,3 +1,4 @@
+-- A start leaves the world but for its files.
 use Rattle.std.proofs.Common.{refl}
 use Rattle.just_host.specs.Mem.{world_of}
 use Rattle.just_host.proofs.memory.MemHostHost.start.Goals as goal

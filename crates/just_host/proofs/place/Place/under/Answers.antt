@@ -8,6 +8,6 @@ use Rattle.just_host.proofs.place.Place.under.Goals as goal
 pub invariant_of-result : goal.invariant_of-result
 invariant_of-result c = record {
   clean = subst (λ p. is_clean_absolute p ≡ true)
-      (sym (c.in_ok-path.ensures.clean ∙ ap cleaned (c.as_path.ensures ∙ c.in_ok-whole.ensures)))
+      (sym (c.in_ok-path.ensures.clean ∙ ap cleaned (c.as_path.ensures ∙ c.in_ok-whole.ensures.path)))
       (clean_absolute-pushed (text_of c.args.folder) (text_of c.args.path) c.requires);
 }
