@@ -5,7 +5,7 @@
 
 use crate::hosts::memory;
 use just_host::{Host, HostFault};
-use just_lang::{LangError, Source, assemble, dependencies, invocations, parse};
+use just_lang::{AstItem, LangError, Source, assemble, dependencies, invocations, parse};
 use just_path::{Environ, NoMemory, Seq, Text, TryClone, Utf8Path};
 use std::alloc::Global;
 use std::test::Fail;
@@ -18,10 +18,17 @@ fn source(alloc: Global, text: &str) -> Result<Source, NoMemory> {
     })
 }
 
-/// How many items a text has.
-fn item_count(alloc: Global, text: &str) -> Result<usize, LangError> {
+/// How many items a text has, and the lines in which its recipes begin, one behind the other.
+fn items(alloc: Global, text: &str) -> Result<(usize, Vec<usize>), LangError> {
     let source = source(alloc, text)?;
-    Ok(parse(alloc, &source)?.items.len())
+    let ast = parse(alloc, &source)?;
+    let mut lines = Vec::new(alloc);
+    for item in ast.items.as_slice() {
+        if let AstItem::Recipe(recipe) = item {
+            lines.push(recipe.line)?;
+        }
+    }
+    Ok((ast.items.len(), lines))
 }
 
 /// How many priors a recipe of a text has, and how many of its keys are copied as they are.
@@ -57,7 +64,9 @@ fn home(alloc: Global) -> Result<String, HostFault> {
 fn every_call_answers(rt: HostRuntime) -> Result<(), Fail> {
     let alloc = rt.alloc();
     let text = "b: a\n\techo b\na:\n";
-    assert_eq!(rt; item_count(alloc, text)?, 2);
+    let (count, lines) = items(alloc, "b: a\n  one\n\n   two\n\n# c\r\na:")?;
+    assert_eq!(rt; count, 4);
+    assert_eq!(rt; lines.as_slice(), [1usize, 7].as_slice());
     assert!(rt; counts(alloc, text, "b")? == (1, 1));
     assert_eq!(rt; home(alloc)?.as_str(), "/h");
     Ok(())
