@@ -2,9 +2,8 @@
 #![tactic(auto)]
 
 use just_cli::{no_arguments, run_arguments};
-use std::env;
-use std::io;
 use std::process::ExitCode;
+use std::{env, io};
 
 /// The arguments, the first of which is the program's name.
 fn arguments(rt: &HostRuntime) -> io::Result<Vec<String>> {

@@ -4,9 +4,8 @@
 
 use just_cli::{Ended, exit_status, run};
 use just_host::{Entry, Stream};
-use std::env;
-use std::io;
 use std::process::ExitCode;
+use std::{env, io};
 
 /// The exit status where the run couldn't be shown.
 const NOT_SHOWN: u8 = 99;
