@@ -1,6 +1,9 @@
-//! Tests that need code: hosts, and the calls that no row of another crate makes. Whole runs stand in `run_rows`.
+//! Tests that need code: hosts, a book on its own, and the calls that no row of another crate makes. Whole runs stand in
+//! `run_rows`.
 #![tactic(auto)]
 
+#[cfg(test)]
+mod books;
 #[cfg(test)]
 mod calls;
 #[cfg(test)]

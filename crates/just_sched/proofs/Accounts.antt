@@ -1,5 +1,5 @@
 -- What a book's account of its run gives, and how it goes on by one event.
-use Rattle.std.proofs.Common.{◌≡◌, ℕ, ◌+◌, ◌-◌, ◌*◌, ◌^◌, ◌<◌, ◌≤◌, ◌||◌, Bool, true, false, cond, List, [], ◌∷◌, ◌++◌, length, slice_get, All, count_by, Option, Some, None, MatchOption, refl, ap, sym, ◌∙◌, subst, append_assoc, append-nil, arith, is_some}
+use Rattle.std.proofs.Common.{◌≡◌, ℕ, ◌+◌, ◌-◌, ◌^◌, ◌<◌, ◌≤◌, true, false, cond, List, [], ◌∷◌, ◌++◌, length, count_by, Option, Some, None, MatchOption, refl, ap, sym, ◌∙◌, subst, append_assoc, append-nil, arith}
 use Rattle.std.specs.Coded.{coded_option, Coded-set}
 use Rattle.std.specs.List.{list_any, range_with_len}
 use Rattle.std.proofs.Math.Bool.{Bool-set}
@@ -9,7 +9,6 @@ use Rattle.std.proofs.Math.Nat.{ℕ_set}
 use Rattle.std.proofs.lemmas.List.Folds.{list_any-append}
 use Rattle.std.proofs.lemmas.List.FromFn.{length-range_with_len}
 use Rattle.std.proofs.lemmas.List.Sums.{count_by-le-length, sum_by-cons}
-
 use Rattle.just_outside.specs.contracts.signal.Signal as signal_contract
 use Rattle.just_outside.specs.declared.entry.Entry.{Entry}
 use Rattle.just_outside.specs.declared.signal.Signal.{Signal}
@@ -22,7 +21,7 @@ use Rattle.just_sched.specs.Legal.{Run, May, IsLegal, all_starts, open_bodies, i
 use Rattle.just_sched.specs.Match.{StandsFor}
 use Rattle.just_sched.specs.Room.{slots, settles, settle_count, total_commands}
 use Rattle.just_sched.specs.Start.{Start, IsKept, run_of}
-use Rattle.just_sched.specs.State.{signal_in, has_taken, has_given, is_over, is_open, is_running, has_caught, caught_signal}
+use Rattle.just_sched.specs.State.{signal_in, has_taken, has_given, is_over, is_open, is_running, caught_signal}
 use Rattle.just_sched.proofs.Counts.{over_still, running_inside, untaken}
 use Rattle.just_sched.proofs.Due.{opened}
 use Rattle.just_sched.proofs.EventRoom.{room, settle_room}

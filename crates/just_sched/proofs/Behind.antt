@@ -1,5 +1,5 @@
 -- The states of a node behind an event that a book has noted.
-use Rattle.std.proofs.Common.{◌≡◌, ℕ, ◌+◌, ◌^◌, ◌<◌, ◌≤◌, ◌&&◌, ◌||◌, not, nat_lt, Bool, true, false, cond, List, [], ◌∷◌, ◌++◌, length, slice_get, All, count_by, Option, Some, None, refl, ap, sym, ◌∙◌, subst, arith, eq-eqb, le-ltb}
+use Rattle.std.proofs.Common.{◌≡◌, ℕ, ◌^◌, ◌<◌, ◌≤◌, ◌&&◌, ◌||◌, not, nat_lt, Bool, true, false, cond, List, [], ◌∷◌, ◌++◌, length, slice_get, All, count_by, Option, Some, None, refl, ap, sym, ◌∙◌, subst, arith, eq-eqb, le-ltb}
 use Rattle.std.proofs.Math.Bool.{Bool-set}
 use Rattle.std.proofs.Math.Bridge.{le_prop}
 use Rattle.std.proofs.Math.Logic.{∥∥₁_elim}
@@ -18,7 +18,7 @@ use Rattle.just_sched.specs.Legal.{Started, IsDue, is_start, all_starts, in_body
 use Rattle.just_sched.specs.Moves.{RunsWith}
 use Rattle.just_sched.specs.Nodes.{work_in}
 use Rattle.just_sched.specs.Start.{Start, run_of}
-use Rattle.just_sched.specs.State.{takes, gives, starts, ends, concludes, begins, skips, has_taken, has_given, is_begun, is_skipped, is_done, is_over, is_open, start_count, end_count, is_running}
+use Rattle.just_sched.specs.State.{takes, gives, starts, ends, concludes, has_taken, has_given, is_skipped, is_done, is_over, is_open, start_count, end_count, is_running}
 use Rattle.just_sched.specs.Works.{commands_of}
 use Rattle.just_sched.proofs.Counts.{due_start, agrees}
 use Rattle.just_sched.proofs.Due.{inside, is_opened, running_by, runs}

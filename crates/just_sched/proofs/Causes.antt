@@ -1,5 +1,5 @@
 -- What a record shows of a body that failed.
-use Rattle.std.proofs.Common.{◌≡◌, ℕ, ◌+◌, ◌-◌, ◌==◌, ◌⊎◌, inl, inr, ◌&&◌, not, codes, Bool, true, false, if◌then◌else◌, List, [], ◌∷◌, ◌++◌, length, slice_get, Contains, Option, Some, None, ℤ, pos, true≢false, refl, ap, sym, ◌∙◌, subst, append_assoc, append-nil, length-append, arith, eqb-true}
+use Rattle.std.proofs.Common.{◌≡◌, ℕ, ◌-◌, ◌==◌, inl, inr, ◌&&◌, not, codes, Bool, true, false, if◌then◌else◌, List, [], ◌∷◌, ◌++◌, length, slice_get, Contains, Option, Some, None, ℤ, pos, true≢false, refl, ap, sym, ◌∙◌, subst, append_assoc, append-nil, length-append, arith, eqb-true}
 use Rattle.std.specs.List.{last_or}
 use Rattle.std.specs.Ordering.{int_eq}
 use Rattle.std.proofs.lemmas.List.Elements.{Contains-append_left, Contains-append_right}

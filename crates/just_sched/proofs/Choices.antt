@@ -1,18 +1,15 @@
 -- Why there is no move, and that there is one.
-use Rattle.std.proofs.Common.{◌≡◌, ℕ, ◌<◌, inl, inr, true, false, List, length, slice_get, All, Option, Some, None, is_none, is_some, MatchOption, refl, ap, sym, ◌∙◌, subst, arith}
+use Rattle.std.proofs.Common.{◌≡◌, ℕ, ◌<◌, inl, inr, true, false, List, length, Option, Some, None, MatchOption, sym, subst, arith}
 use Rattle.std.proofs.Math.Logic.{∥∥₁_elim}
-use Rattle.std.proofs.lemmas.Option.{slice_get_within, get_or_from_slice_get}
 use Rattle.just_outside.specs.declared.outside.Host
 use Rattle.just_path.specs.declared.host.PathHost
 use Rattle.just_sched.specs.declared.event.Event.{Event}
 use Rattle.just_sched.specs.declared.event.Idle.{Idle}
-use Rattle.just_sched.specs.declared.plan_node.PlanNode.{PlanNode}
 use Rattle.just_sched.specs.declared.token.Next.{Next}
 use Rattle.just_sched.specs.declared.token.Next.TheVariants as next
 use Rattle.just_sched.specs.Idle.{HasWork, CanMove}
 use Rattle.just_sched.specs.Legal.{open_bodies}
 use Rattle.just_sched.specs.Moves.{GrowsBy, IsMove, RunsWith, Rests, MatchNext}
-use Rattle.just_sched.specs.Nodes.{prompt_in}
 use Rattle.just_sched.specs.Start.{Start, run_of}
 use Rattle.just_sched.specs.State.{has_taken, has_caught, IsReady, IsToAsk}
 use Rattle.just_sched.proofs.Grows.{grows_two}

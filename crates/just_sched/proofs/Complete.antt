@@ -1,30 +1,24 @@
 -- When a closed history is complete.
-use Rattle.std.proofs.Common.{◌≡◌, ℕ, zero, suc, ◌+◌, ◌<◌, ◌≤◌, ◌==◌, ◌⊎◌, inl, inr, ◌&&◌, ◌||◌, not, Bool, true, false, if◌then◌else◌, List, [], ◌∷◌, ◌++◌, length, map, slice_get, slice_index, Contains, Option, Some, None, is_some, is_none, option_map, filter_map, All, true≢false, eqb-true, refl, ap, sym, ◌∙◌, subst, arith}
+use Rattle.std.proofs.Common.{◌≡◌, ℕ, zero, suc, ◌+◌, ◌<◌, ◌≤◌, ◌⊎◌, inl, inr, ◌&&◌, ◌||◌, not, Bool, true, false, List, length, map, slice_get, slice_index, Contains, Option, Some, None, is_some, is_none, option_map, refl, ap, sym, ◌∙◌, subst, arith}
 use Rattle.std.proofs.Math.Bool.{Bool-set}
-use Rattle.std.specs.List.{list_any, cons_option}
+use Rattle.std.specs.List.{list_any}
 use Rattle.std.proofs.lemmas.Grind.{get_or_default_zero}
-use Rattle.std.proofs.lemmas.Option.{get_or_from_slice_get, slice_get_within, slice_get-map}
+use Rattle.std.proofs.lemmas.Option.{slice_get_within, slice_get-map}
 use Rattle.just_lang.specs.declared.node.Node.{Node}
 use Rattle.just_lang.specs.WellFormed.{IsUsed, invoked as used_invoked, prior as used_prior, subsequent as used_subsequent}
 use Rattle.just_sched.specs.declared.event.Event.{Event}
-use Rattle.just_sched.specs.declared.event.Event.TheVariants as event
-use Rattle.just_sched.specs.declared.event.Outcome.TheVariants as outcome
-use Rattle.just_sched.specs.declared.event.Reason.{Reason}
-use Rattle.just_sched.specs.declared.event.Reason.TheVariants as reason
 use Rattle.just_sched.specs.declared.event.Idle.TheVariants as idle
 use Rattle.just_sched.specs.declared.plan_node.PlanNode.{PlanNode}
-use Rattle.just_sched.specs.Nodes.{prompt_in, prompt_at, priors_in, priors_at, subsequents_in, subsequents_at}
-use Rattle.just_sched.specs.State.{answers, asks, catches, takes, skips, concludes, concludes_well, reason_in, is_skipped, has_taken, has_given, is_done, is_asked, is_over_well, is_confirmed, first, reason_of, has_caught, IsFinished, finished, IsWanted, invoked, prior, subsequent}
-use Rattle.just_sched.specs.Legal.{Run, May, MayFailBy, IsLegal, IsClosed, IsComplete, open_bodies}
-use Rattle.just_sched.specs.Idle.{HasWork, NoneToAsk, IsIdle}
-use Rattle.just_sched.specs.Verdict.{decides, NoneDecides}
+use Rattle.just_sched.specs.Nodes.{prompt_at, priors_in, priors_at, subsequents_in, subsequents_at}
+use Rattle.just_sched.specs.State.{answers, skips, concludes_well, is_skipped, has_taken, has_given, is_done, is_asked, is_over_well, is_confirmed, reason_of, has_caught, IsFinished, finished, IsWanted, invoked, prior, subsequent}
+use Rattle.just_sched.specs.Legal.{Run, IsLegal, IsClosed, IsComplete, open_bodies}
+use Rattle.just_sched.specs.Idle.{HasWork, IsIdle}
 use Rattle.just_sched.proofs.Bodies.{item_there}
 use Rattle.just_sched.proofs.Finish.{asked_answer, done_well, finished_behind, finished_over, took_priors}
 use Rattle.just_sched.proofs.OpenBodies.{closed_zero}
 use Rattle.just_sched.proofs.Order.{gave_over, over_took, took_confirmed}
 use Rattle.just_sched.proofs.PlanShape.{IsFormed, IsPrior, IsSubsequent, invocation_is, node_at, prior_is, round_in, round_of, subsequent_is}
 use Rattle.just_sched.proofs.Range.{any_weaker}
-use Rattle.just_sched.proofs.Reasons.{no_reason}
 use Rattle.just_sched.proofs.Tests.{or_true}
 
 -- ---- lists of which each item leads to the next

@@ -1,5 +1,5 @@
 -- A run at its end: no work is left, and where no failure decides, all is done.
-use Rattle.std.proofs.Common.{◌≡◌, ◌<◌, ◌⊎◌, inl, inr, ℕ, true, false, true≢false, refl, Option, Some, None, option_map, MatchOption, sym, ◌∙◌, ap, subst}
+use Rattle.std.proofs.Common.{◌≡◌, ◌<◌, ◌⊎◌, inl, inr, ℕ, true, false, true≢false, refl, Option, Some, None, option_map, MatchOption, sym, ◌∙◌, subst}
 use Rattle.std.proofs.Math.Logic.{∥∥₁_elim}
 use Rattle.std.specs.Prelude.{List}
 use Rattle.std.specs.Int.NonZero.{non_zero_u64_get}
@@ -62,7 +62,7 @@ pub well_complete : (s : Start) (h : List Event) (now : List Entry) (w : Option 
     → ∥ IsKept s h now w ∥₁ → IsClosed (run_of s) h → (has_caught h ≡ true) ⊎ (HasWork (run_of s) h → ⊥) → IsVerdict (run_of s) h v → v ≡ verdict.Well → IsComplete (run_of s) h
 well_complete s h now w v kept closed left judged well = well_by (subst (λ x. IsVerdict (run_of s) h x) well judged)
   where
-  -- a run that went well is complete, by what its verdict says
-  well_by : IsVerdict (run_of s) h verdict.Well → IsComplete (run_of s) h
-  well_by (none, inl calm) = ended_complete s h now w kept closed none calm left
-  well_by (none, inr complete) = complete
+    -- a run that went well is complete, by what its verdict says
+    well_by : IsVerdict (run_of s) h verdict.Well → IsComplete (run_of s) h
+    well_by (none, inl calm) = ended_complete s h now w kept closed none calm left
+    well_by (none, inr complete) = complete

@@ -1,5 +1,5 @@
 -- What the calls of a host gained stands for the event that a book notes behind them.
-use Rattle.std.proofs.Common.{◌≡◌, ◌≢◌, ℕ, ◌+◌, inl, inr, List, [], ◌∷◌, ◌++◌, Option, Some, None, MatchOption, Err, refl, ap, sym, subst, arith}
+use Rattle.std.proofs.Common.{◌≡◌, ◌≢◌, ℕ, inl, inr, List, [], ◌∷◌, ◌++◌, Option, Some, MatchOption, Err, refl, ap, sym, subst, arith}
 use Rattle.just_outside.specs.declared.entry.Call.TheVariants as call
 use Rattle.just_outside.specs.declared.entry.Entry.{Entry}
 use Rattle.just_outside.specs.declared.entry.Entry.TheVariants as entry

@@ -1,23 +1,9 @@
 -- How a legal history, and a match, go on by one event.
-use Rattle.std.proofs.Common.{◌≡◌, ℕ, ◌+◌, ◌==◌, ◌&&◌, ◌||◌, not, nat_lt, Bool, true, false, cond, if◌then◌else◌, List, [], ◌∷◌, ◌++◌, Option, Some, None, is_none, filter_map, count_by, refl, ap, ap₂, sym, ◌∙◌, subst, append_assoc, append-nil, arith, eq-eqb, ne_eqb}
-use Rattle.std.specs.List.{list_any, last_or, cons_option}
-use Rattle.std.proofs.lemmas.List.Elements.{filter_map-append}
-use Rattle.std.proofs.lemmas.List.Folds.{list_any-append}
-use Rattle.std.proofs.lemmas.List.Sums.{sum_by_push}
+use Rattle.std.proofs.Common.{List, [], ◌∷◌, ◌++◌, refl, ap, sym, ◌∙◌, subst, append_assoc, append-nil}
 use Rattle.just_outside.specs.declared.entry.Entry.{Entry}
-use Rattle.just_outside.specs.declared.entry.Status.{Status}
-use Rattle.just_outside.specs.declared.signal.Signal.{Signal}
 use Rattle.just_sched.specs.declared.event.Event.{Event}
-use Rattle.just_sched.specs.declared.event.Event.TheVariants as event
-use Rattle.just_sched.specs.declared.event.Outcome.TheVariants as outcome
-use Rattle.just_sched.specs.declared.event.Reason.{Reason}
-use Rattle.just_sched.specs.declared.plan_node.PlanNode.{PlanNode}
-use Rattle.just_sched.specs.Works.{after}
-use Rattle.just_sched.specs.Nodes.{prompt_at, work_at}
-use Rattle.just_sched.specs.State.{is_of, is_over, answers, asks, takes, skips, begins, starts, ends, concludes, concludes_well, fails, gives, catches, status_of, start_of, reason_in, signal_in, has_taken, has_given, is_begun, is_skipped, is_done, is_asked, is_over_well, has_failed, is_confirmed, is_open, start_count, end_count, is_running, statuses, last_start, first, reason_of, has_caught, caught_signal, next_step}
-use Rattle.just_sched.specs.Legal.{Run, May, LegalFrom, IsLegal, in_body, all_starts, is_start}
+use Rattle.just_sched.specs.Legal.{Run, May, LegalFrom, IsLegal}
 use Rattle.just_sched.specs.Match.{StandsFor, MatchesFrom, Matches}
-use Rattle.just_sched.specs.Room.{settle_count, settles}
 
 -- legal events go on by one, behind those before
 legal_from_more : (s : Run) (before h : List Event) (e : Event) → LegalFrom s before h → May s (before ++ h) e → LegalFrom s before (h ++ e ∷ [])

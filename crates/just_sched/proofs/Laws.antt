@@ -20,7 +20,7 @@ use Rattle.just_sched.specs.Moves.{GrowsBy, IsMove, RunsWith, Rests}
 use Rattle.just_sched.specs.State.{statuses, reason_of, next_step, caught_signal, is_open}
 use Rattle.just_sched.specs.Works.{after}
 use Rattle.just_sched.proofs.Causes.{last_end, status_failed, failed_code, fault_caused, miss_caused, signal_shown}
-use Rattle.just_sched.proofs.Grows.{move_apart, runs_on, others_open, closed_where}
+use Rattle.just_sched.proofs.Grows.{grows_none, grows_turn, move_apart, runs_on, others_open, closed_where}
 use Rattle.just_sched.proofs.Stretch.{matched_children, started}
 
 -- The last status of a node is that of a child which the node started, and whose end the record shows.
@@ -70,3 +70,7 @@ others_stay_open = others_open
 -- Where a node came to rest, the nodes are closed that were closed but for it.
 pub rests_closed : (Q : ℕ → Type 0) (old new : List Event) (n : ℕ) → GrowsBy old new n → Rests new n → ((m : ℕ) → m ≢ n → Q m → is_open old m ≡ false) → (m : ℕ) → Q m → is_open new m ≡ false
 rests_closed = closed_where
+
+-- A turn of a body is of its node: its child's end was noted, and the body was gone on with.
+pub turn_grows : (a b c : List Event) (n m k : ℕ) → m ≡ n → k ≡ m → GrowsBy a b m → GrowsBy b c k → GrowsBy a c n
+turn_grows a b c n m k first after p q = grows_turn a a b c n m k first after (grows_none a n) p q

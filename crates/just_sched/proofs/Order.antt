@@ -1,25 +1,11 @@
 -- What comes before what in a legal history, and how often.
-use Rattle.std.proofs.Common.{◌≡◌, ℕ, zero, suc, ◌+◌, ◌-◌, ◌<◌, ◌≤◌, ◌==◌, inl, inr, ◌&&◌, ◌||◌, not, nat_lt, Bool, true, false, cond, if◌then◌else◌, List, [], ◌∷◌, ◌++◌, length, slice_get, Option, Some, None, is_some, count_by, refl, ap, ap₂, sym, ◌∙◌, subst, arith, true≢false, eqb-true, eq-eqb, ltb-true, ltb-false, lt-ltb, le-ltb, length-append}
+use Rattle.std.proofs.Common.{◌≡◌, ℕ, ◌+◌, ◌≤◌, ◌||◌, Bool, true, false, cond, List, [], ◌∷◌, ◌++◌, count_by, refl, ap₂, sym, ◌∙◌, arith, true≢false}
 use Rattle.std.specs.List.{list_any}
 use Rattle.std.proofs.lemmas.List.Sums.{sum_by-cons}
-use Rattle.std.proofs.lemmas.Option.{slice_get_within}
-use Rattle.just_outside.specs.declared.entry.Call.{Call}
-use Rattle.just_outside.specs.declared.entry.Call.TheVariants as call
-use Rattle.just_outside.specs.declared.entry.Status.{Status}
 use Rattle.just_sched.specs.declared.event.Event.{Event}
 use Rattle.just_sched.specs.declared.event.Event.TheVariants as event
-use Rattle.just_sched.specs.declared.event.Outcome.{Outcome}
-use Rattle.just_sched.specs.declared.event.Outcome.TheVariants as outcome
-use Rattle.just_sched.specs.declared.event.Reason.{Reason}
-use Rattle.just_sched.specs.declared.event.Reason.TheVariants as reason
-use Rattle.just_sched.specs.declared.work.Command.{Command}
-use Rattle.just_sched.specs.declared.work.Work.{Work}
-use Rattle.just_sched.specs.declared.work.Step.{Step}
-use Rattle.just_sched.specs.declared.work.Step.TheVariants as step
-use Rattle.just_sched.specs.Works.{commands_of, ends_body, goes_on, start_or_well, step_behind, after, EachWentOn}
-use Rattle.just_sched.specs.Nodes.{work_at, command_at}
-use Rattle.just_sched.specs.State.{is_over, asks, takes, skips, begins, starts, ends, concludes, concludes_well, gives, catches, status_of, start_of, has_taken, has_given, is_begun, is_skipped, is_done, is_over_well, is_confirmed, is_open, start_count, end_count, is_running, statuses, last_start, has_caught, next_step, IsToAsk, IsReady}
-use Rattle.just_sched.specs.Legal.{Run, Due, Asked, Looked, Begun, Started, Ended, Saved, in_body, IsDue, MayMiss, MayFail, IsAtEnd, MayFailBy, May, IsLegal}
+use Rattle.just_sched.specs.State.{is_over, takes, skips, begins, starts, concludes_well, gives, has_taken, has_given, is_begun, is_skipped, is_over_well, is_confirmed}
+use Rattle.just_sched.specs.Legal.{Run, May, IsLegal}
 use Rattle.just_sched.proofs.Due.{begun_due, gave_due, inside, opened, skip_due, started_due, took_ready, well_due}
 use Rattle.just_sched.proofs.Histories.{legal_holds}
 use Rattle.just_sched.proofs.OneMore.{confirmed_kept, over_kept}

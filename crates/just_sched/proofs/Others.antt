@@ -1,23 +1,14 @@
 -- An event of one node leaves the states of every other.
-use Rattle.std.proofs.Common.{◌≡◌, ℕ, ◌+◌, ◌==◌, ◌&&◌, ◌||◌, not, nat_lt, Bool, true, false, cond, if◌then◌else◌, List, [], ◌∷◌, ◌++◌, Option, Some, None, is_none, filter_map, count_by, refl, ap, ap₂, sym, ◌∙◌, subst, append_assoc, append-nil, arith, eq-eqb, ne_eqb}
-use Rattle.std.specs.List.{list_any, last_or, cons_option}
-use Rattle.std.proofs.lemmas.List.Elements.{filter_map-append}
-use Rattle.std.proofs.lemmas.List.Folds.{list_any-append}
-use Rattle.std.proofs.lemmas.List.Sums.{sum_by_push}
-use Rattle.just_outside.specs.declared.entry.Entry.{Entry}
-use Rattle.just_outside.specs.declared.entry.Status.{Status}
-use Rattle.just_outside.specs.declared.signal.Signal.{Signal}
+use Rattle.std.proofs.Common.{◌≡◌, ℕ, ◌==◌, ◌&&◌, ◌||◌, not, Bool, false, if◌then◌else◌, List, [], ◌∷◌, ◌++◌, Some, None, refl, ap, ap₂, ne_eqb}
+use Rattle.std.specs.List.{list_any}
 use Rattle.just_sched.specs.declared.event.Event.{Event}
 use Rattle.just_sched.specs.declared.event.Event.TheVariants as event
 use Rattle.just_sched.specs.declared.event.Outcome.TheVariants as outcome
-use Rattle.just_sched.specs.declared.event.Reason.{Reason}
 use Rattle.just_sched.specs.declared.plan_node.PlanNode.{PlanNode}
 use Rattle.just_sched.specs.Works.{after}
-use Rattle.just_sched.specs.Nodes.{prompt_at, work_at}
-use Rattle.just_sched.specs.State.{is_of, is_over, answers, asks, takes, skips, begins, starts, ends, concludes, concludes_well, fails, gives, catches, status_of, start_of, reason_in, signal_in, has_taken, has_given, is_begun, is_skipped, is_done, is_asked, is_over_well, has_failed, is_confirmed, is_open, start_count, end_count, is_running, statuses, last_start, first, reason_of, has_caught, caught_signal, next_step}
-use Rattle.just_sched.specs.Legal.{Run, May, LegalFrom, IsLegal, in_body, all_starts, is_start}
-use Rattle.just_sched.specs.Match.{StandsFor, MatchesFrom, Matches}
-use Rattle.just_sched.specs.Room.{settle_count, settles}
+use Rattle.just_sched.specs.Nodes.{work_at}
+use Rattle.just_sched.specs.State.{is_of, answers, asks, takes, skips, begins, starts, ends, concludes, concludes_well, fails, gives, status_of, start_of, reason_in, has_taken, has_given, is_begun, is_skipped, is_done, is_asked, is_over_well, has_failed, is_open, start_count, end_count, is_running, statuses, last_start, reason_of, next_step}
+use Rattle.just_sched.specs.Legal.{in_body}
 use Rattle.just_sched.proofs.OneMore.{in_body_stays, is_open_stays, last_start_stays, reason_stays, running_stays, statuses_stay}
 use Rattle.just_sched.proofs.Tests.{any_none, count_none}
 

@@ -1,32 +1,13 @@
 -- Each event of a legal history is one of a node of the plan, or a caught signal.
-use Rattle.std.proofs.Common.{◌≡◌, ℕ, zero, suc, ◌+◌, ◌*◌, ◌<◌, ◌≤◌, ◌==◌, inl, inr, ◌&&◌, ◌||◌, not, Bool, true, false, cond, if◌then◌else◌, List, [], ◌∷◌, ◌++◌, length, map, slice_get, slice_index, Option, Some, None, MatchOption, option_map, count_by, sum_by, refl, ap, ap₂, sym, ◌∙◌, subst, arith, eqb-true, eq-eqb, codes, true≢false, append_assoc, append-nil, length-append}
-use borrow.Author.Tests.{eqb-false}
-use Rattle.std.specs.List.{list_any, list_all, range_with_len}
-use Rattle.std.proofs.lemmas.List.Folds.{list_any-append}
-use Rattle.std.proofs.lemmas.List.Sums.{sum_by-cons, sum_by-append}
-use Rattle.std.proofs.lemmas.Option.{slice_get_within, slice_get-map}
-use Rattle.just_path.specs.declared.host.Miss.{Miss}
-use Rattle.just_outside.specs.declared.entry.Call.{Call}
-use Rattle.just_outside.specs.declared.entry.Call.TheVariants as call
-use Rattle.just_outside.specs.declared.entry.Entry.{Entry}
-use Rattle.just_outside.specs.declared.entry.Entry.TheVariants as entry
-use Rattle.just_outside.specs.declared.entry.Status.{Status}
-use Rattle.just_outside.specs.declared.entry.Stream.TheVariants as stream
-use Rattle.just_outside.specs.Record.{children, is_failed, is_missed, is_started as is_child, script_folder}
-use Rattle.just_lang.specs.WellFormed.{IsWellFormed, round_at}
+use Rattle.std.proofs.Common.{◌≡◌, ℕ, ◌<◌, ◌==◌, not, Bool, true, false, if◌then◌else◌, List, [], ◌∷◌, length, refl, subst, eq-eqb}
+use Rattle.std.specs.List.{list_any}
 use Rattle.just_sched.specs.declared.event.Event.{Event}
 use Rattle.just_sched.specs.declared.event.Event.TheVariants as event
 use Rattle.just_sched.specs.declared.event.Outcome.TheVariants as outcome
 use Rattle.just_sched.specs.declared.event.Reason.{Reason}
 use Rattle.just_sched.specs.declared.event.Reason.TheVariants as reason
-use Rattle.just_sched.specs.declared.plan_node.PlanNode.{PlanNode}
-use Rattle.just_sched.specs.declared.work.Command.{Command}
-use Rattle.just_sched.specs.Works.{commands_of}
-use Rattle.just_sched.specs.Nodes.{prompt_at, banner_at, command_at, priors_in, priors_at, subsequents_in, subsequents_at, work_in, work_at}
-use Rattle.just_sched.specs.State.{is_of, answers, asks, takes, skips, begins, starts, ends, concludes, gives, catches, has_taken, is_done, is_asked, is_open, start_count, end_count, is_running, reason_in, reason_of, IsToAsk, IsReady, IsWanted, invoked, prior, subsequent}
-use Rattle.just_sched.specs.Legal.{Run, Due, Asked, Looked, Begun, Started, Ended, Saved, IsDue, May, IsLegal, open_bodies, all_starts, is_start, IsClosed}
-use Rattle.just_sched.specs.Match.{printed_entries, is_yes, started_entries, BehindEcho, DueEntries, FailureStandsFor, FaultStandsFor, MissStandsFor, StandsFor, MatchesFrom, Matches}
-use Rattle.just_sched.specs.Room.{slots, total_commands, settles, settle_count}
+use Rattle.just_sched.specs.State.{answers, asks, takes, catches, has_taken, is_asked, IsToAsk, IsReady, IsWanted, invoked, prior, subsequent}
+use Rattle.just_sched.specs.Legal.{Run, Due, Asked, Looked, Begun, Started, Ended, Saved, IsDue, May, IsLegal}
 use Rattle.just_sched.proofs.Due.{asked_due, fail_due, inside, miss_due, opened, skip_due, took_ready}
 use Rattle.just_sched.proofs.Order.{begun_took, since}
 use Rattle.just_sched.proofs.PlanShape.{IsFormed, invocation_is, prior_is, subsequent_is}

@@ -70,7 +70,12 @@ impl Tables {
     }
 
     /// How the run of a closed history went. It takes no memory.
-    pub(crate) fn verdict(&mut self, plan: &Plan, history: &[Event], caught: Option<Signal>) -> Verdict
+    pub(crate) fn verdict(
+        &mut self,
+        plan: &Plan,
+        history: &[Event],
+        caught: Option<Signal>,
+    ) -> Verdict
         requires size { self.old.size ≡ length plan.now.nodes }
         requires closed { (n : ℕ) → n < length plan.now.nodes → is_open history.now n ≡ false }
         requires caught { caught ≡ caught_signal history.now }

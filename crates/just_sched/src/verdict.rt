@@ -53,7 +53,11 @@ fn decisive_reason(reason: Option<Reason>) -> Option<Reason>
 }
 
 /// The first node whose failure decides, and its reason.
-fn first_decisive(plan: &Plan, history: &[Event], reasons: &[Option<Reason>]) -> Option<(u32, Reason)>
+fn first_decisive(
+    plan: &Plan,
+    history: &[Event],
+    reasons: &[Option<Reason>],
+) -> Option<(u32, Reason)>
     requires sized { length reasons.now ≡ length plan.now.nodes }
     requires noted { (k : ℕ) → k < length reasons.now → reason_at reasons.now k ≡ failure_of history.now k }
     ensures found { IfSome result (λ f. (f.0 < length plan.now.nodes) × (failure_of history.now f.0 ≡ Some f.1) × (decisive (Some f.1) ≡ true)) }

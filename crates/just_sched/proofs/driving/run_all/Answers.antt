@@ -1,5 +1,5 @@
 -- Each move leaves all closed, and at the end there is a reason why none can be made.
-use Rattle.std.proofs.Common.{ap, sym, ◌∙◌, subst}
+use Rattle.std.proofs.Common.{ap, ◌∙◌}
 use Rattle.just_sched.specs.State.{is_open}
 use Rattle.just_sched.proofs.Grows.{grows_two, closed_by}
 use Rattle.just_sched.proofs.driving.run_all.Goals as goal

@@ -1,5 +1,5 @@
 -- A closed history is complete where each node is finished.
-use Rattle.std.proofs.Common.{◌≡◌, ℕ, ◌<◌, List, length, arith, subst, sym}
+use Rattle.std.proofs.Common.{◌<◌, List, length, arith, subst, sym}
 use Rattle.just_sched.specs.declared.plan_node.PlanNode.{PlanNode}
 use Rattle.just_sched.specs.State.{IsFinished}
 use Rattle.just_sched.proofs.verdict.is_complete.Goals as goal

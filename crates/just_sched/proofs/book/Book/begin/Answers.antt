@@ -1,5 +1,5 @@
 -- A body is begun, or its banner couldn't be printed: the event may come with what was gained, and the account goes on.
-use Rattle.std.proofs.Common.{arith, refl, sym, ◌∙◌, ap, subst, length, Err, eq-eqb}
+use Rattle.std.proofs.Common.{arith, refl, ◌∙◌, ap, subst, length, Err, eq-eqb}
 use Rattle.just_sched.specs.Gains.{TellGains}
 use Rattle.just_sched.specs.Match.{printed_entries}
 use Rattle.just_sched.specs.Nodes.{banner_at}

@@ -1,5 +1,5 @@
 -- The verdict is that of the history, and where all went well and nothing is left, the history is complete.
-use Rattle.std.proofs.Common.{◌≡◌, ℕ, ◌<◌, List, length, false, ap, sym, ◌∙◌, subst, inr}
+use Rattle.std.proofs.Common.{◌<◌, List, length, ap, sym, ◌∙◌, subst, inr}
 use Rattle.just_sched.specs.declared.plan_node.PlanNode.{PlanNode}
 use Rattle.just_sched.specs.Start.{IsKept, run_of}
 use Rattle.just_sched.specs.State.{is_open, caught_signal}

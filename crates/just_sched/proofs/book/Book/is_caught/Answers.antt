@@ -1,5 +1,5 @@
 -- A signal was caught where the account holds one.
-use Rattle.std.proofs.Common.{sym, ◌∙◌, ap, is_some}
+use Rattle.std.proofs.Common.{◌∙◌, ap, is_some}
 use Rattle.just_sched.proofs.Accounts.{signalled_of}
 use Rattle.just_sched.proofs.TableLaws.{caught_some}
 use Rattle.just_sched.proofs.book.Book.is_caught.Goals as goal

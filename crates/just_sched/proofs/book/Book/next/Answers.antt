@@ -1,5 +1,5 @@
 -- A move is of the ready node of least number, or there is a reason why none can be made.
-use Rattle.std.proofs.Common.{Some, ℕ, ◌≡◌, ◌<◌, MatchOption, ap, inl, sym, ◌∙◌, subst}
+use Rattle.std.proofs.Common.{Some, ◌≡◌, ◌<◌, MatchOption, ap, inl, sym, ◌∙◌, subst}
 use Rattle.just_sched.specs.declared.event.Idle.TheVariants as idle
 use Rattle.just_sched.specs.Idle.{IsIdle, CanMove}
 use Rattle.just_sched.specs.Legal.{open_bodies}

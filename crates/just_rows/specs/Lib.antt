@@ -1,0 +1,2 @@
+-- The definitions that the tests cite.
+pub mod Beside
