@@ -4,9 +4,9 @@
 use just_host::{Host, HostFault, MemHost, Plot, RealHost, Thing, Tree};
 use just_path::{Environ, Item, NoMemory, PathFault, PathHost, Seq, Text, Utf8Path, Utf8PathBuf};
 use std::alloc::Global;
+use std::fs;
 use std::os::unix::fs::symlink;
 use std::test::Fail;
-use std::{fs, io};
 
 /// The places of a tree under its root. That of number n stands in that of number n / 2 - 1, the first two in the root.
 const PLACES: [&str; 14] = [
@@ -103,15 +103,6 @@ fn target(
     Ok(text)
 }
 
-/// Puts a thing at a path of the system.
-fn make(rt: &HostRuntime, path: &str, thing: &Thing) -> io::Result<()> {
-    match thing {
-        Thing::Folder => fs::create_dir_all(rt, path),
-        Thing::File { bytes, .. } => fs::write(rt, path, bytes.as_slice()),
-        Thing::Link(target) => symlink(rt, target.as_str(), path),
-    }
-}
-
 /// Puts a thing at a path of both.
 fn put(
     rt: &HostRuntime,
@@ -120,7 +111,11 @@ fn put(
     path: &str,
     thing: Thing,
 ) -> Result<(), Fail> {
-    make(rt, path, &thing)?;
+    match &thing {
+        Thing::Folder => fs::create_dir_all(rt, path)?,
+        Thing::File { bytes, .. } => fs::write(rt, path, bytes.as_slice())?,
+        Thing::Link(target) => symlink(rt, target.as_str(), path)?,
+    }
     tree.insert(alloc, path, thing)?;
     Ok(())
 }
