@@ -1,7 +1,7 @@
 -- How a place moves on: by one character, and along a run.
-use Rattle.std.proofs.Common.{◌≡◌, ℕ, ◌+◌, ◌<◌, ◌≤◌, ◌==◌, Bool, true, false, if◌then◌else◌, List, [], ◌∷◌, ◌++◌, length, Some, None, encode_utf8_all, encode_utf8, append-nil, append_assoc, refl, sym, ap, ◌∙◌, arith}
+use Rattle.std.proofs.Common.{◌≡◌, ℕ, ◌+◌, ◌<◌, ◌≤◌, ◌==◌, Bool, true, false, if◌then◌else◌, List, [], ◌∷◌, ◌++◌, length, Some, None, encode_utf8_all, encode_utf8, append-nil, append_assoc, drop, drop-cons, add-one, refl, sym, ap, ◌∙◌, arith}
 use Rattle.std.proofs.lemmas.Bool.{false≢true}
-use Rattle.just_read.specs.Place.{Place, at, next, next_in, past, past_in, run, first, first_in, passes, starts, sees, is_empty, is_end, Stands}
+use Rattle.just_read.specs.Place.{Place, at, next, next_in, past, past_in, run, first, first_in, passes, starts, sees, is_empty, is_end, Stands, begins_in, behind_text}
 
 -- behind a line feed
 pub next_line : (p : Place) (c : ℕ) (rest : List ℕ) → p.rest ≡ c ∷ rest → c ≡ 10 → next p ≡ at rest (p.line + 1) 1
@@ -184,3 +184,13 @@ length_more p h = left p.rest h
 -- what stands takes a character
 pub stands_shorter : (c : ℕ) (p q : Place) → Stands c p q → length q.rest < length p.rest
 stands_shorter c p q s = rw (s.1) (next_shorter (λ d. d == c) p s.0)
+
+-- ---- texts that come first
+
+-- a text that isn't at its end doesn't come first where nothing is left
+pub begins_none : (i : ℕ) (text rest : List ℕ) → i < length text → rest ≡ [] → begins_in (drop i text) rest ≡ false
+begins_none i text rest h e = rw (drop-cons text i 0, e) refl
+
+-- a step along a text
+pub behind_more : (i : ℕ) (text : List ℕ) (p : Place) → i < length text → behind_text (drop (i + 1) text) (next p) ≡ behind_text (drop i text) p
+behind_more i text p h = rw (add-one, drop-cons text i 0) refl

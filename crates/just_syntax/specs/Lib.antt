@@ -1,0 +1,2 @@
+-- The specifications of the language.
+pub mod Characters
