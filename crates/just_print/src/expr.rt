@@ -46,18 +46,18 @@ pub fn push_expr(out: &mut String, expr: &Expr) -> Result<(), AllocError> {
             left,
             comparison,
             right,
-            then,
+            consequent,
             chained,
-            otherwise,
+            alternative,
         } => {
             out.push_str("if ")?;
             push_expr(out, left.get())?;
             out.push_str(sign_of(*comparison))?;
             push_expr(out, right.get())?;
             out.push_str(" { ")?;
-            push_expr(out, then.get())?;
+            push_expr(out, consequent.get())?;
             out.push_str(" } else ")?;
-            push_otherwise(out, *chained, otherwise.get())
+            push_otherwise(out, *chained, alternative.get())
         }
         Expr::Root(inside) => {
             out.push_str("/ ")?;

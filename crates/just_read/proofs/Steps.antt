@@ -194,3 +194,11 @@ begins_none i text rest h e = rw (drop-cons text i 0, e) refl
 -- a step along a text
 pub behind_more : (i : ℕ) (text : List ℕ) (p : Place) → i < length text → behind_text (drop (i + 1) text) (next p) ≡ behind_text (drop i text) p
 behind_more i text p h = rw (add-one, drop-cons text i 0) refl
+
+-- what a loop over a run has collected, and what is still to come
+pub collected_more : (t : ℕ → Bool) (p : Place) (c : ℕ) (front : List ℕ) → first p ≡ Some c → starts t p ≡ true
+    → (front ++ c ∷ []) ++ run t (next p).rest ≡ front ++ run t p.rest
+collected_more t p c front e h = rw (run_next t p c e h) (append_assoc front (c ∷ []) (run t (next p).rest))
+
+pub collected_all : (t : ℕ → Bool) (p : Place) (front : List ℕ) → starts t p ≡ false → front ++ run t p.rest ≡ front
+collected_all t p front h = rw (run_none t p h) (append-nil front)

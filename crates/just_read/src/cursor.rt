@@ -197,7 +197,7 @@ impl<'a> Cursor<'a> {
 
     /// The first character, and behind it, where it is of the class.
     #[tactic(auto, using(crate::proofs::Steps::starts_at, crate::proofs::Steps::starts_none))]
-    fn next_of<C: Class>(&mut self) -> Option<char>
+    pub fn next_of<C: Class>(&mut self) -> Option<char>
         ensures { MatchOption result ((starts C.members self.old ≡ false) × (self.new ≡ self.old)) (λ c. (starts C.members self.old ≡ true) × (first self.old ≡ Some c) × (self.new ≡ next self.old)) }
     {
         let c = self.peek()?;

@@ -107,14 +107,15 @@ pub enum Comparison {
 /// An expression.
 #[derive(Drop)]
 pub enum Expr {
-    /// `if LEFT == RIGHT { THEN } else { OTHERWISE }`; it is chained where another `if` stands in place of the last block.
+    /// `if LEFT == RIGHT { CONSEQUENT } else { ALTERNATIVE }`; it is chained where another `if` stands in place of the
+    /// last block.
     If {
         left: Boxed<Expr>,
         comparison: Comparison,
         right: Boxed<Expr>,
-        then: Boxed<Expr>,
+        consequent: Boxed<Expr>,
         chained: bool,
-        otherwise: Boxed<Expr>,
+        alternative: Boxed<Expr>,
     },
     /// `/ EXPR`
     Root(Boxed<Expr>),

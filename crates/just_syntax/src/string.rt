@@ -1,17 +1,27 @@
 //! Strings: as they are written, and the texts that they mean.
-ghost use Rattle.std.specs.Prelude.{◌≡◌};
+ghost use Rattle.std.specs.Prelude.{◌≡◌, ◌<◌, ◌≤◌, ◌^◌, [], ◌∷◌, Ok, Err, Some, None, true, false, ◌≢◌, IfOk, IfErr, MatchOption, MatchResult, List, ℕ, chars, encode_utf8_all, length};
+ghost use Rattle.just_read.specs.Place.{next, run, starts, first};
+ghost use Rattle.just_read.specs.Reader.{Reads};
+ghost use Rattle.just_syntax.specs.Characters.{is_hex};
+ghost use Rattle.just_syntax.specs.Strings.{begins_string, quote_at, goes_on, digit_value, IsTextOf, IsCooked};
+ghost use Rattle.just_syntax.specs.Given.{ReadsSome};
+ghost use Rattle.just_syntax.specs.Readers as read;
 
 use super::class::QuoteMark;
 use super::token::skip;
-use super::indentation::unindent;
+use super::indentation::{characters, text_of, unindented};
 use super::{Quote, StringLiteral};
 use just_path::Text;
 use just_read::{Cursor, ReadError};
 use std::alloc::Global;
 
 impl Quote {
+    ghost use Rattle.just_syntax.specs.Strings.{mark, is_cooked, is_block};
+
     /// The characters before and behind a string.
-    pub fn mark(self) -> &'static [u8] {
+    pub fn mark(self) -> &'static [u8]
+        ensures { result.now ≡ mark self }
+    {
         match self {
             Quote::Single => b"'",
             Quote::Double => b"\"",
@@ -21,7 +31,9 @@ impl Quote {
     }
 
     /// Whether the string's escapes mean something.
-    pub fn is_cooked(self) -> bool {
+    pub fn is_cooked(self) -> bool
+        ensures { result ≡ is_cooked self }
+    {
         match self {
             Quote::Single | Quote::SingleBlock => false,
             Quote::Double | Quote::DoubleBlock => true,
@@ -29,7 +41,9 @@ impl Quote {
     }
 
     /// Whether the string's lines lose their indentation.
-    pub fn is_block(self) -> bool {
+    pub fn is_block(self) -> bool
+        ensures { result ≡ is_block self }
+    {
         match self {
             Quote::Single | Quote::Double => false,
             Quote::SingleBlock | Quote::DoubleBlock => true,
@@ -38,7 +52,9 @@ impl Quote {
 }
 
 /// Whether a string begins here: a quote, or an `x` directly before one.
-pub fn begins_string(cursor: &Cursor<'_>) -> bool {
+pub fn begins_string(cursor: &Cursor<'_>) -> bool
+    ensures { result ≡ begins_string cursor.now }
+{
     let mut ahead = cursor.copied();
     if ahead.sees('x') {
         ahead.step();
@@ -47,7 +63,9 @@ pub fn begins_string(cursor: &Cursor<'_>) -> bool {
 }
 
 /// The quote that stands here.
-fn quote_at(cursor: &Cursor<'_>) -> Option<Quote> {
+fn quote_at(cursor: &Cursor<'_>) -> Option<Quote>
+    ensures { result ≡ quote_at cursor.now }
+{
     if cursor.begins(b"'''") {
         Some(Quote::SingleBlock)
     } else if cursor.begins(b"'") {
@@ -62,7 +80,10 @@ fn quote_at(cursor: &Cursor<'_>) -> Option<Quote> {
 }
 
 /// A string, and the blanks behind it.
-pub fn string(alloc: Global, cursor: &mut Cursor<'_>) -> Result<StringLiteral, ReadError> {
+#[tactic(auto, unfolding(crate::specs::Readers::string))]
+pub fn string(alloc: Global, cursor: &mut Cursor<'_>) -> Result<StringLiteral, ReadError>
+    ensures { Reads (read.string cursor.old) result cursor.new }
+{
     let line = cursor.line();
     let column = cursor.column();
     let expands = cursor.sees('x');
@@ -85,7 +106,10 @@ pub fn string(alloc: Global, cursor: &mut Cursor<'_>) -> Result<StringLiteral, R
 }
 
 /// What stands up to the closing quote, and the quote.
-fn raw_text(alloc: Global, cursor: &mut Cursor<'_>, quote: Quote) -> Result<Text, ReadError> {
+#[tactic(auto, unfolding(crate::specs::Readers::raw_text))]
+fn raw_text(alloc: Global, cursor: &mut Cursor<'_>, quote: Quote) -> Result<Text, ReadError>
+    ensures { Reads (read.raw_text quote cursor.old) result cursor.new }
+{
     let begin = cursor.copied();
     pieces(cursor, quote)?;
     let text = begin.text_up_to(alloc, cursor)?;
@@ -97,12 +121,17 @@ fn raw_text(alloc: Global, cursor: &mut Cursor<'_>, quote: Quote) -> Result<Text
 }
 
 /// Whether a string goes on here.
-fn goes_on(cursor: &Cursor<'_>, quote: Quote) -> bool {
+fn goes_on(cursor: &Cursor<'_>, quote: Quote) -> bool
+    ensures { result ≡ goes_on quote cursor.now }
+{
     !cursor.is_at_end() && !cursor.begins(quote.mark())
 }
 
 /// Goes behind the pieces of a string.
-fn pieces(cursor: &mut Cursor<'_>, quote: Quote) -> Result<(), ReadError> {
+#[tactic(auto, using(crate::proofs::PiecesLoop::more, crate::proofs::PiecesLoop::done, crate::proofs::PiecesLoop::wrong, crate::proofs::PiecesLoop::shorter))]
+fn pieces(cursor: &mut Cursor<'_>, quote: Quote) -> Result<(), ReadError>
+    ensures { Reads (read.pieces quote cursor.old) result cursor.new }
+{
     'pieces: while goes_on(cursor, quote) {
         let _given = piece(cursor, quote.is_cooked())?;
     }
@@ -110,7 +139,10 @@ fn pieces(cursor: &mut Cursor<'_>, quote: Quote) -> Result<(), ReadError> {
 }
 
 /// A piece of a string, and the character that it gives, if it gives one.
-fn piece(cursor: &mut Cursor<'_>, cooked: bool) -> Result<Option<char>, ReadError> {
+#[tactic(auto, unfolding(crate::specs::Readers::piece))]
+fn piece(cursor: &mut Cursor<'_>, cooked: bool) -> Result<Option<char>, ReadError>
+    ensures { ReadsSome (read.piece cooked cursor.old) result cursor.new }
+{
     let Some(c) = cursor.peek() else {
         return Err(ReadError::Syntax);
     };
@@ -123,7 +155,10 @@ fn piece(cursor: &mut Cursor<'_>, cooked: bool) -> Result<Option<char>, ReadErro
 }
 
 /// What a backslash and that which stands here give.
-fn escape(cursor: &mut Cursor<'_>) -> Result<Option<char>, ReadError> {
+#[tactic(auto, unfolding(crate::specs::Readers::escape))]
+fn escape(cursor: &mut Cursor<'_>) -> Result<Option<char>, ReadError>
+    ensures { ReadsSome (read.escape cursor.old) result cursor.new }
+{
     let Some(c) = cursor.peek() else {
         return Err(ReadError::Syntax);
     };
@@ -144,35 +179,46 @@ fn escape(cursor: &mut Cursor<'_>) -> Result<Option<char>, ReadError> {
 }
 
 /// One to six hexadecimal digits in braces: the character with that number.
-fn unicode(cursor: &mut Cursor<'_>) -> Result<Option<char>, ReadError> {
+#[tactic(auto, unfolding(crate::specs::Readers::unicode))]
+fn unicode(cursor: &mut Cursor<'_>) -> Result<Option<char>, ReadError>
+    ensures { ReadsSome (read.unicode cursor.old) result cursor.new }
+{
     cursor.expect('{')?;
-    let number = number(cursor)?;
+    let c = number(cursor)?;
     cursor.expect('}')?;
-    match char::from_u32(number) {
-        Some(c) => Ok(Some(c)),
-        None => Err(ReadError::Syntax),
-    }
+    Ok(Some(c))
 }
 
-/// One to six hexadecimal digits.
-fn number(cursor: &mut Cursor<'_>) -> Result<u32, ReadError> {
+/// One to six hexadecimal digits: the character with that number.
+#[tactic(auto, using(crate::proofs::Digits::counts_begin, crate::proofs::Digits::counts_more, crate::proofs::Digits::number_done, crate::proofs::Digits::number_odd, crate::proofs::Digits::number_none, crate::proofs::Digits::number_long, crate::proofs::Digits::number_big, just_read::proofs::Steps::next_shorter))]
+fn number(cursor: &mut Cursor<'_>) -> Result<char, ReadError>
+    ensures { Reads (read.number cursor.old) result cursor.new }
+{
     let mut number: u32 = 0;
     let mut count: u32 = 0;
     'digits: while let Some(digit) = next_digit(cursor) {
-        if count == 6 {
-            return Err(ReadError::Syntax);
-        }
         count += 1;
         number = number * 16 + digit;
+        if count > 6 {
+            return Err(ReadError::Syntax);
+        }
+        if number > 0x10_FFFF {
+            return Err(ReadError::Syntax);
+        }
     }
     if count == 0 {
         return Err(ReadError::Syntax);
     }
-    Ok(number)
+    match char::from_u32(number) {
+        Some(c) => Ok(c),
+        None => Err(ReadError::Syntax),
+    }
 }
 
 /// The value of the digit that stands here, and behind it.
-fn next_digit(cursor: &mut Cursor<'_>) -> Option<u32> {
+fn next_digit(cursor: &mut Cursor<'_>) -> Option<u32>
+    ensures { MatchOption result ((starts is_hex cursor.old ≡ false) × (cursor.new ≡ cursor.old)) (λ d. (starts is_hex cursor.old ≡ true) × (d < 16) × (cursor.new ≡ next cursor.old) × ((c : ℕ) → first cursor.old ≡ Some c → d ≡ digit_value c)) }
+{
     let c = cursor.peek()?;
     let value = match c {
         '0'..='9' => c as u32 - 48,
@@ -187,24 +233,33 @@ fn next_digit(cursor: &mut Cursor<'_>) -> Option<u32> {
 impl StringLiteral {
     /// The text that it means, before an `x` in front expands it: a block without its indentation, a double quoted one
     /// with its escapes' meanings.
-    pub fn text(&self, alloc: Global) -> Result<Text, ReadError> {
-        let text = if self.quote.is_block() {
-            unindent(alloc, self.raw.as_str())?
+    pub fn text(&self, alloc: Global) -> Result<Text, ReadError>
+        // What is answered, it means.
+        ensures found { IfOk result (IsTextOf self.now) }
+        // What it means is answered, unless memory is wanting; a text with a false escape means nothing.
+        ensures only { (t : List ℕ) → IsTextOf self.now t → MatchResult result (λ found. found ≡ t) (λ e. e ≡ ReadError.NoMemory) }
+        ensures err { IfErr result (λ e. e ≢ ReadError.Depth) }
+    {
+        let characters = if self.quote.is_block() {
+            unindented(alloc, self.raw.as_str())?
         } else {
-            String::from_str(alloc, self.raw.as_str())?
+            characters(alloc, self.raw.as_str())?
         };
         if self.quote.is_cooked() {
-            cooked(alloc, text.as_str())
+            cooked(alloc, characters.as_slice())
         } else {
-            Ok(Text::from(text))
+            Ok(text_of(alloc, characters.as_slice())?)
         }
     }
 }
 
 /// A text with the meanings of its escapes.
-fn cooked(alloc: Global, text: &str) -> Result<Text, ReadError> {
-    let characters: Vec<char> = text.chars().collect(alloc)?;
-    let mut cursor = Cursor::new(characters.as_slice());
+fn cooked(alloc: Global, text: &[char]) -> Result<Text, ReadError>
+    ensures found { IfOk result (λ t. (gives : List ℕ) × IsCooked text.now gives × (t ≡ encode_utf8_all gives)) }
+    ensures only { (gives : List ℕ) → IsCooked text.now gives → MatchResult result (λ t. t ≡ encode_utf8_all gives) (λ e. e ≡ ReadError.NoMemory) }
+    ensures err { IfErr result (λ e. e ≢ ReadError.Depth) }
+{
+    let mut cursor = Cursor::new(text);
     let mut meant = String::new(alloc);
     'pieces: while !cursor.is_at_end() {
         if let Some(c) = piece(&mut cursor, true)? {
