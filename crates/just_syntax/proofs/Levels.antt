@@ -1,5 +1,5 @@
 -- An expression a level further in.
-use Rattle.std.proofs.Common.{◌≡◌, ℕ, zero, suc, ◌-◌, Err, refl, sub-one, arith, absurd}
+use Rattle.std.proofs.Common.{◌≡◌, ℕ, zero, suc, ◌-◌, Err, refl, arith}
 use Rattle.just_read.specs.Place.{Place}
 use Rattle.just_read.specs.declared.error.ReadError.TheVariants.{Depth}
 use Rattle.just_syntax.specs.Readers as reader

@@ -8,3 +8,12 @@ pub mod PathLoop
 pub mod Pieces
 pub mod PiecesLoop
 pub mod Levels
+pub mod StringLaws
+pub mod Beginnings
+pub mod ExprSound
+pub mod ExprComplete
+pub mod ExprShorter
+pub mod Shorter
+pub mod Loops
+pub mod TextLoop
+pub mod Blanks

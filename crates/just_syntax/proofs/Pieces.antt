@@ -14,7 +14,7 @@ use Rattle.just_syntax.specs.Strings.IsPiece.{itself, escaped}
 use Rattle.just_syntax.specs.Readers as reader
 use Rattle.just_syntax.proofs.Texts.{and_true, same, next_le}
 
-is_of : (c d : ℕ) → (c == d) ≡ true → c ≡ d
+pub is_of : (c d : ℕ) → (c == d) ≡ true → c ≡ d
 is_of c d h = grind (arith)
 
 -- a character that is this one stands there

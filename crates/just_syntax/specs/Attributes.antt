@@ -1,10 +1,11 @@
 -- Attributes: lines of them in brackets, and what stands behind the name of each.
-use Rattle.std.specs.Prelude.{◌≡◌, ℕ, ◌+◌, ◌*◌, ◌-◌, ◌<◌, ◌^◌, Bool, true, false, not, ◌&&◌, ◌||◌, ◌==◌, if◌then◌else◌, ◌⊎◌, List, [], ◌∷◌, ◌++◌, Option, Some, None, codes, bytes_eq}
+use Rattle.std.specs.Prelude.{◌≡◌, ℕ, ◌+◌, ◌*◌, ◌-◌, ◌^◌, nat_lt, Bool, true, false, not, ◌&&◌, ◌||◌, ◌==◌, if◌then◌else◌, ◌⊎◌, List, [], ◌∷◌, ◌++◌, Option, Some, None, codes, bytes_eq}
 use Rattle.std.specs.List.{list_all, list_any}
 use Rattle.just_read.specs.Place.{Place, AreMany, next, starts, begins}
 use Rattle.just_syntax.specs.declared.ast.Name.{Name}
 use Rattle.just_syntax.specs.declared.ast.StringLiteral.{StringLiteral}
-use Rattle.just_syntax.specs.declared.ast.Expr.{Expr}
+use Rattle.just_syntax.specs.declared.ast.Expr.{Expr, out-Expr}
+use Rattle.just_syntax.specs.declared.ast.Expr.TheOpen.{Expr-F}
 use Rattle.just_syntax.specs.declared.ast.Expr.TheVariants as e
 use Rattle.just_syntax.specs.declared.ast.Argument.{Argument}
 use Rattle.just_syntax.specs.declared.ast.Attribute.{Attribute}
@@ -29,21 +30,19 @@ IsPlain key p q x = (y : Expr) × IsExpr p q y × (x ≡ argument_at key p y)
 
 -- a key and its `=`
 pub data IsKey (p q : Place) (key : Name) : Type 0 where
-  key : (m : Place) → IsName p m key → IsToken (codes "=") m q → IsKey p q key
+  key_sign : (m : Place) → IsName p m key → IsToken (codes "=") m q → IsKey p q key
 
 -- whether these stand here
 abbrev pub is_keyed : Place → Bool
 is_keyed p = starts begins_name p && begins (codes "=") (behind_word p)
 
+abbrev pub is_named_in : List ℕ → Expr-F Expr → Bool
+is_named_in key (Expr-F.Variable n) = bytes_eq n.text key
+is_named_in key _ = false
+
+-- whether an expression is that name
 abbrev pub is_named : List ℕ → Expr → Bool
-is_named key (e.If left comparison right consequent chained alternative) = false
-is_named key (e.Root x) = false
-is_named key (e.Join x y) = false
-is_named key (e.Concat x y) = false
-is_named key (e.Literal s) = false
-is_named key (e.Variable n) = bytes_eq n.text key
-is_named key (e.Group x) = false
-is_named key (e.Env line column x y) = false
+is_named key x = is_named_in key (out-Expr x)
 
 abbrev pub is_key_or : List ℕ → Option Name → Expr → Bool
 is_key_or key None value = is_named key value
@@ -74,12 +73,9 @@ abbrev pub is_some_text : List ℕ → Bool
 is_some_text [] = false
 is_some_text (c ∷ rest) = true
 
--- a decimal number of 64 bits, without a zero in front
-pub record IsNumber (text : List ℕ) : Type 0 where
-  pub some : is_some_text text ≡ true
-  pub digits : list_all is_digit text ≡ true
-  pub plain : has_zero text ≡ false
-  pub small : value_from 0 text < 2 ^ 64
+-- whether a text is a decimal number of 64 bits without a zero in front
+abbrev pub is_decimal : List ℕ → Bool
+is_decimal text = is_some_text text && (list_all is_digit text && (not (has_zero text) && nat_lt (value_from 0 text) (2 ^ 64)))
 
 -- a key of `arg` behind these: alone, with a text, or with a number
 pub data IsOption (earlier : List Argument) (p q : Place) (x : Argument) : Type 0 where
@@ -87,7 +83,7 @@ pub data IsOption (earlier : List Argument) (p q : Place) (x : Argument) : Type 
       → x ≡ argument_at None p (e.Variable k) → IsOption earlier p q x
   valued : (m : Place) (k : Name) → IsKey p m k → may_have earlier k.text ≡ true → has_text (key_form k.text) ≡ true → IsPlain (Some k) m q x → IsOption earlier p q x
   number : (m : Place) (k : Name) (s : StringLiteral) (text : List ℕ) → IsKey p m k → may_have earlier k.text ≡ true → key_form k.text ≡ Number
-      → IsString m q s → IsTextOf s text → IsNumber text → x ≡ argument_at (Some k) m (e.Literal s) → IsOption earlier p q x
+      → IsString m q s → IsTextOf s text → is_decimal text ≡ true → x ≡ argument_at (Some k) m (e.Literal s) → IsOption earlier p q x
 
 abbrev pub is_first : List Argument → Bool
 is_first [] = true
@@ -132,7 +128,7 @@ pub data IsTrailing (p q : Place) : Type 0 where
 
 -- arguments in parentheses, at least one
 pub data AreArguments (form : Form) (p q : Place) (xs : List Argument) : Type 0 where
-  arguments : (m n o r : Place) (first : Argument) (others : List Argument) → IsToken (codes "(") p m → IsArgument form [] m n first
+  in_parentheses : (m n o r : Place) (first : Argument) (others : List Argument) → IsToken (codes "(") p m → IsArgument form [] m n first
       → AreFurther form (first ∷ []) n o others → IsTrailing o r → IsToken (codes ")") r q → xs ≡ first ∷ others → AreArguments form p q xs
 
 -- ---- attributes
@@ -143,7 +139,7 @@ attribute_of name colon arguments = record { name = name; colon = colon; argumen
 pub data IsAttribute (p q : Place) (x : Attribute) : Type 0 where
   bare : (n : Name) → IsName p q n → may_be_bare (form_of n.text) ≡ true → begins (codes ":") q ≡ false → begins (codes "(") q ≡ false
       → x ≡ attribute_of n false [] → IsAttribute p q x
-  colon : (m o : Place) (n : Name) (s : StringLiteral) → IsName p m n → has_colon (form_of n.text) ≡ true → IsToken (codes ":") m o → IsString o q s
+  behind_colon : (m o : Place) (n : Name) (s : StringLiteral) → IsName p m n → has_colon (form_of n.text) ≡ true → IsToken (codes ":") m o → IsString o q s
       → x ≡ attribute_of n true (argument_at None o (e.Literal s) ∷ []) → IsAttribute p q x
   grouped : (m : Place) (n : Name) (xs : List Argument) → IsName p m n → AreArguments (form_of n.text) m q xs → x ≡ attribute_of n false xs → IsAttribute p q x
 
@@ -158,7 +154,7 @@ with_comment comment x (y ∷ ys) = x ∷ with_comment comment y ys
 
 -- a line of attributes in brackets; the blanks in front of the next line belong to it
 pub data IsAttributeLine (p q : Place) (xs : List Attribute) : Type 0 where
-  line : (m n o r s : Place) (first : Attribute) (others : List Attribute) (comment : Option (List ℕ)) → IsToken (codes "[") p m → IsAttribute m n first
+  in_brackets : (m n o r s : Place) (first : Attribute) (others : List Attribute) (comment : Option (List ℕ)) → IsToken (codes "[") p m → IsAttribute m n first
       → AreMany IsFurtherAttribute n o others → IsToken (codes "]") o r → IsRest r s comment → q ≡ skip s → xs ≡ with_comment comment first others
       → IsAttributeLine p q xs
 
@@ -168,4 +164,4 @@ concat (line ∷ lines) = line ++ concat lines
 
 -- the attributes before an item
 pub data AreAttributes (p q : Place) (xs : List Attribute) : Type 0 where
-  lines : (lines : List (List Attribute)) → AreMany IsAttributeLine p q lines → begins (codes "[") q ≡ false → xs ≡ concat lines → AreAttributes p q xs
+  line_by_line : (lines : List (List Attribute)) → AreMany IsAttributeLine p q lines → begins (codes "[") q ≡ false → xs ≡ concat lines → AreAttributes p q xs

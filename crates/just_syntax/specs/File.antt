@@ -50,9 +50,9 @@ behind_item (entry.Line x) = body.Closed
 -- from p, where b may go on, to q, where c may, stands one entry
 pub data IsEntry (b : Body) (p q : Place) (x : Entry) (c : Body) : Type 0 where
   blank : IsBlankLine p q → x ≡ entry.Blank p.line → c ≡ behind_blank b → IsEntry b p q x c
-  line : (indentation : List ℕ) (y : Line) → is_blank_line p ≡ false → indentation_at b p ≡ Some indentation → IsBodyLine indentation p q y
+  body_line : (indentation : List ℕ) (y : Line) → is_blank_line p ≡ false → indentation_at b p ≡ Some indentation → IsBodyLine indentation p q y
       → x ≡ entry.Line y → c ≡ body.Open indentation → IsEntry b p q x c
-  item : is_blank_line p ≡ false → is_in_body b p ≡ false → IsItem p q x → c ≡ behind_item x → IsEntry b p q x c
+  further : is_blank_line p ≡ false → is_in_body b p ≡ false → IsItem p q x → c ≡ behind_item x → IsEntry b p q x c
 
 -- from p to q stand these entries, each directly behind the one before it
 abbrev pub AreEntries : Body → Place → Place → Body → List Entry → Type 0

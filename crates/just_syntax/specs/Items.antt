@@ -132,7 +132,7 @@ pub data IsItem (p q : Place) (x : Entry) : Type 0 where
   assignment : (y : AstItem) → opening_at p ≡ opening.Assignment → IsAssignment false p q y → x ≡ entry.Item y → IsItem p q x
   export : (m : Place) (y : AstItem) → opening_at p ≡ opening.Export → IsToken (codes "export") p m → IsAssignment true m q y → x ≡ entry.Item y → IsItem p q x
   unexport : (y : AstItem) → opening_at p ≡ opening.Unexport → IsUnexport p q y → x ≡ entry.Item y → IsItem p q x
-  setting : (y : AstItem) → opening_at p ≡ opening.Setting → IsSetting p q y → x ≡ entry.Item y → IsItem p q x
+  setting_item : (y : AstItem) → opening_at p ≡ opening.Setting → IsSetting p q y → x ≡ entry.Item y → IsItem p q x
   attributed_module : (m : Place) (attributes : List Attribute) (y : AstItem) → opening_at p ≡ opening.Recipe → AreAttributes p m attributes
       → opens_module m ≡ true → IsModule attributes m q y → x ≡ entry.Item y → IsItem p q x
   recipe : (m : Place) (attributes : List Attribute) (y : AstRecipe) → opening_at p ≡ opening.Recipe → AreAttributes p m attributes → opens_module m ≡ false

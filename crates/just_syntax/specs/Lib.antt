@@ -12,3 +12,5 @@ pub mod Items
 pub mod File
 pub mod Readers
 pub mod Given
+pub mod Collected
+pub mod ItemReaders

@@ -35,14 +35,22 @@ abbrev pub begins_parameter : Place → Bool
 begins_parameter p = begins (codes "$") p || starts begins_name p
 
 -- the last parameter, which takes several values, if there is one
-pub data IsVariadic (p q : Place) (xs : List AstParameter) : Type 0 where
-  star : (m : Place) (x : AstParameter) → IsToken (codes "*") p m → IsParameter Star m q x → xs ≡ x ∷ [] → IsVariadic p q xs
-  plus : (m : Place) (x : AstParameter) → IsToken (codes "+") p m → IsParameter Plus m q x → xs ≡ x ∷ [] → IsVariadic p q xs
-  none : begins (codes "*") p ≡ false → begins (codes "+") p ≡ false → q ≡ p → xs ≡ [] → IsVariadic p q xs
+pub data IsVariadic (p q : Place) (x : Option AstParameter) : Type 0 where
+  star : (m : Place) (y : AstParameter) → IsToken (codes "*") p m → IsParameter Star m q y → x ≡ Some y → IsVariadic p q x
+  plus : (m : Place) (y : AstParameter) → IsToken (codes "+") p m → IsParameter Plus m q y → x ≡ Some y → IsVariadic p q x
+  none : begins (codes "*") p ≡ false → begins (codes "+") p ≡ false → q ≡ p → x ≡ None → IsVariadic p q x
+
+abbrev pub listed : Option AstParameter → List AstParameter
+listed None = []
+listed (Some x) = x ∷ []
+
+-- a parameter that takes one value
+abbrev pub IsSingular : Rule AstParameter
+IsSingular p q x = (begins_parameter p ≡ true) × IsParameter Singular p q x
 
 pub data AreParameters (p q : Place) (xs : List AstParameter) : Type 0 where
-  parameters : (m : Place) (singular variadic : List AstParameter) → AreMany (IsParameter Singular) p m singular → begins_parameter m ≡ false
-      → IsVariadic m q variadic → xs ≡ singular ++ variadic → AreParameters p q xs
+  parameters : (m : Place) (singular : List AstParameter) (last : Option AstParameter) → AreMany IsSingular p m singular → begins_parameter m ≡ false
+      → IsVariadic m q last → xs ≡ singular ++ listed last → AreParameters p q xs
 
 -- ---- dependencies
 

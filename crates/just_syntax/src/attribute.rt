@@ -1,17 +1,25 @@
 //! Attributes: lines of them in brackets, and what may stand behind the name of each.
-ghost use Rattle.std.specs.Prelude.{◌≡◌};
+ghost use Rattle.std.specs.Prelude.{◌≡◌, ◌++◌, []};
+ghost use Rattle.just_read.specs.Reader.{Reads};
+ghost use Rattle.just_syntax.specs.Attributes.{goes_on, is_keyed, has_key, is_decimal, is_key_or, may_cache, may_have};
+ghost use Rattle.just_syntax.specs.Collected.{Appends};
+ghost use Rattle.just_syntax.specs.ItemReaders as read;
 
+use super::class::NameStart;
 use super::expr::{LEVELS, expr};
 use super::form::{Form, KeyForm, form_of, is_cache_key, key_form};
 use super::string::string;
-use super::token::{behind_word, name, rest, token};
+use super::token::{behind_word, name, rest, skip, token};
 use super::{Argument, Attribute, Expr, Name};
 use just_path::Seq;
 use just_read::{Cursor, ReadError};
 use std::alloc::Global;
 
 /// The attributes before an item, line by line.
-pub fn attributes(alloc: Global, cursor: &mut Cursor<'_>) -> Result<Seq<Attribute>, ReadError> {
+#[tactic(auto, using(crate::proofs::AttributeLoops::lines_begin, crate::proofs::AttributeLoops::lines_more, crate::proofs::AttributeLoops::lines_done, crate::proofs::AttributeLoops::lines_wrong, crate::proofs::AttributeLoops::lines_shorter))]
+pub fn attributes(alloc: Global, cursor: &mut Cursor<'_>) -> Result<Seq<Attribute>, ReadError>
+    ensures { Reads (read.attributes cursor.old) result cursor.new }
+{
     let mut found = Vec::new(alloc);
     'lines: while cursor.begins(b"[") {
         attribute_line(alloc, cursor, &mut found)?;
@@ -20,44 +28,69 @@ pub fn attributes(alloc: Global, cursor: &mut Cursor<'_>) -> Result<Seq<Attribut
 }
 
 /// A line of attributes in brackets, with the comment behind it, and the blanks in front of the next line.
+#[tactic(auto, using(crate::proofs::AttributeLoops::line_begin, crate::proofs::AttributeLoops::line_more, crate::proofs::AttributeLoops::line_done, crate::proofs::AttributeLoops::line_wrong, crate::proofs::AttributeLoops::line_shorter))]
 fn attribute_line(
     alloc: Global,
     cursor: &mut Cursor<'_>,
     found: &mut Vec<Attribute>,
-) -> Result<(), ReadError> {
+) -> Result<(), ReadError>
+    ensures { Appends (read.attribute_line cursor.old) found.old.items result found.new.items cursor.new }
+{
     token(cursor, b"[")?;
     let mut last = attribute(alloc, cursor)?;
     'attributes: while cursor.begins(b",") {
-        token(cursor, b",")?;
-        let next = attribute(alloc, cursor)?;
+        let next = further_attribute(alloc, cursor)?;
         found.push(last)?;
         last = next;
     }
     token(cursor, b"]")?;
     last.comment = rest(alloc, cursor)?;
-    super::token::skip(cursor);
+    skip(cursor);
     found.push(last)?;
     Ok(())
 }
 
+/// A comma and an attribute.
+#[tactic(auto, unfolding(crate::specs::ItemReaders::further_attribute))]
+fn further_attribute(alloc: Global, cursor: &mut Cursor<'_>) -> Result<Attribute, ReadError>
+    ensures { Reads (read.further_attribute cursor.old) result cursor.new }
+{
+    token(cursor, b",")?;
+    attribute(alloc, cursor)
+}
+
 /// An attribute: its name, and what its form has behind it.
-fn attribute(alloc: Global, cursor: &mut Cursor<'_>) -> Result<Attribute, ReadError> {
+#[tactic(auto, unfolding(crate::specs::ItemReaders::attribute))]
+fn attribute(alloc: Global, cursor: &mut Cursor<'_>) -> Result<Attribute, ReadError>
+    ensures { Reads (read.attribute cursor.old) result cursor.new }
+{
     let name = name(alloc, cursor)?;
     let form = form_of(name.text.as_str());
-    let colon = cursor.begins(b":");
-    let arguments = if colon {
-        colon_argument(alloc, cursor, form)?
-    } else if cursor.begins(b"(") {
-        arguments(alloc, cursor, form)?
-    } else if form.may_be_bare() {
-        Seq::new(alloc)
-    } else {
+    if cursor.begins(b":") {
+        let arguments = colon_argument(alloc, cursor, form)?;
+        return Ok(Attribute {
+            name,
+            colon: true,
+            arguments,
+            comment: None,
+        });
+    }
+    if cursor.begins(b"(") {
+        let arguments = arguments(alloc, cursor, form)?;
+        return Ok(Attribute {
+            name,
+            colon: false,
+            arguments,
+            comment: None,
+        });
+    }
+    if !form.may_be_bare() {
         return Err(ReadError::Syntax);
-    };
+    }
     Ok(Attribute {
         name,
-        colon,
-        arguments,
+        colon: false,
+        arguments: Seq::new(alloc),
         comment: None,
     })
 }
@@ -67,7 +100,9 @@ fn colon_argument(
     alloc: Global,
     cursor: &mut Cursor<'_>,
     form: Form,
-) -> Result<Seq<Argument>, ReadError> {
+) -> Result<Seq<Argument>, ReadError>
+    ensures { Reads (read.colon_argument form cursor.old) result cursor.new }
+{
     if !form.has_colon() {
         return Err(ReadError::Syntax);
     }
@@ -86,67 +121,103 @@ fn colon_argument(
 }
 
 /// Whether a comma and a further argument stand here.
-fn goes_on(cursor: &Cursor<'_>) -> bool {
+fn goes_on(cursor: &Cursor<'_>) -> bool
+    ensures { result ≡ goes_on cursor.now }
+{
     if !cursor.begins(b",") {
         return false;
     }
     let mut ahead = cursor.copied();
     ahead.step();
-    super::token::skip(&mut ahead);
+    skip(&mut ahead);
     !ahead.begins(b")")
 }
 
+/// A comma, or nothing.
+#[tactic(auto, unfolding(crate::specs::ItemReaders::trailing))]
+pub fn trailing(cursor: &mut Cursor<'_>) -> Result<(), ReadError>
+    ensures { Reads (read.trailing cursor.old) result cursor.new }
+{
+    if cursor.begins(b",") {
+        token(cursor, b",")
+    } else {
+        Ok(())
+    }
+}
+
 /// The arguments of an attribute in parentheses.
+#[tactic(auto, unfolding(crate::specs::ItemReaders::arguments))]
 fn arguments(
     alloc: Global,
     cursor: &mut Cursor<'_>,
     form: Form,
-) -> Result<Seq<Argument>, ReadError> {
+) -> Result<Seq<Argument>, ReadError>
+    ensures { Reads (read.arguments form cursor.old) result cursor.new }
+{
     token(cursor, b"(")?;
-    let mut found = Vec::new(alloc);
-    found.push(argument(alloc, cursor, form, &[])?)?;
-    'arguments: while goes_on(cursor) {
-        token(cursor, b",")?;
-        let next = argument(alloc, cursor, form, found.as_slice())?;
-        found.push(next)?;
-    }
-    if cursor.begins(b",") {
-        token(cursor, b",")?;
-    }
+    let found = argument_list(alloc, cursor, form)?;
+    trailing(cursor)?;
     token(cursor, b")")?;
+    Ok(found)
+}
+
+/// Arguments with commas between them, at least one.
+#[tactic(auto, using(crate::proofs::AttributeLoops::arguments_begin, crate::proofs::AttributeLoops::arguments_more, crate::proofs::AttributeLoops::arguments_done, crate::proofs::AttributeLoops::arguments_wrong, crate::proofs::AttributeLoops::arguments_shorter))]
+fn argument_list(
+    alloc: Global,
+    cursor: &mut Cursor<'_>,
+    form: Form,
+) -> Result<Seq<Argument>, ReadError>
+    ensures { Reads (read.argument_list form cursor.old) result cursor.new }
+{
+    let first = argument(alloc, cursor, form, &[])?;
+    let mut found = Vec::new(alloc);
+    found.push(first)?;
+    'arguments: while goes_on(cursor) {
+        match further_argument(alloc, cursor, form, found.as_slice()) {
+            Ok(next) => found.push(next)?,
+            Err(refused) => return Err(refused),
+        }
+    }
     Ok(Seq::from(found))
 }
 
+/// A comma and an argument behind these.
+#[tactic(auto, unfolding(crate::specs::ItemReaders::further_argument))]
+fn further_argument(
+    alloc: Global,
+    cursor: &mut Cursor<'_>,
+    form: Form,
+    earlier: &[Argument],
+) -> Result<Argument, ReadError>
+    ensures { Reads (read.further_argument form earlier.now cursor.old) result cursor.new }
+{
+    token(cursor, b",")?;
+    argument(alloc, cursor, form, earlier)
+}
+
 /// The next argument of an attribute of that form.
+#[tactic(auto, unfolding(crate::specs::ItemReaders::argument))]
 fn argument(
     alloc: Global,
     cursor: &mut Cursor<'_>,
     form: Form,
     earlier: &[Argument],
-) -> Result<Argument, ReadError> {
+) -> Result<Argument, ReadError>
+    ensures { Reads (read.argument form earlier.now cursor.old) result cursor.new }
+{
     match form {
         Form::Bare => Err(ReadError::Syntax),
-        Form::MaybeText | Form::Text => {
-            if earlier.is_empty() {
-                plain(alloc, cursor, None)
-            } else {
-                Err(ReadError::Syntax)
-            }
-        }
+        Form::MaybeText | Form::Text => first_text(alloc, cursor, earlier),
         Form::Texts => plain(alloc, cursor, None),
-        Form::Arg => {
-            if earlier.is_empty() {
-                plain(alloc, cursor, None)
-            } else {
-                option(alloc, cursor, &earlier[1..])
-            }
-        }
+        Form::Arg => match earlier {
+            [] => plain(alloc, cursor, None),
+            [_, keys @ ..] => option(alloc, cursor, keys),
+        },
         Form::Cache => cached(alloc, cursor, earlier),
         Form::Open => {
             if is_keyed(cursor) {
-                let key = name(alloc, cursor)?;
-                token(cursor, b"=")?;
-                plain(alloc, cursor, Some(key))
+                keyed(alloc, cursor)
             } else {
                 plain(alloc, cursor, None)
             }
@@ -154,12 +225,30 @@ fn argument(
     }
 }
 
-/// An expression as an argument.
+/// The one text of an attribute.
+fn first_text(
+    alloc: Global,
+    cursor: &mut Cursor<'_>,
+    earlier: &[Argument],
+) -> Result<Argument, ReadError>
+    ensures { Reads (read.first_text earlier.now cursor.old) result cursor.new }
+{
+    if earlier.is_empty() {
+        plain(alloc, cursor, None)
+    } else {
+        Err(ReadError::Syntax)
+    }
+}
+
+/// An expression as the argument with that key.
+#[tactic(auto, unfolding(crate::specs::ItemReaders::plain))]
 fn plain(
     alloc: Global,
     cursor: &mut Cursor<'_>,
     key: Option<Name>,
-) -> Result<Argument, ReadError> {
+) -> Result<Argument, ReadError>
+    ensures { Reads (read.plain key cursor.old) result cursor.new }
+{
     let line = cursor.line();
     let column = cursor.column();
     let value = expr(alloc, cursor, LEVELS)?;
@@ -172,52 +261,92 @@ fn plain(
 }
 
 /// Whether a key and its `=` stand here.
-fn is_keyed(cursor: &Cursor<'_>) -> bool {
-    cursor.starts::<super::class::NameStart>() && behind_word(cursor).begins(b"=")
+fn is_keyed(cursor: &Cursor<'_>) -> bool
+    ensures { result ≡ is_keyed cursor.now }
+{
+    cursor.starts::<NameStart>() && behind_word(cursor).begins(b"=")
 }
 
-/// An argument of `cache`: a key that it has, and an expression.
+/// A key and an expression.
+#[tactic(auto, unfolding(crate::specs::ItemReaders::keyed))]
+fn keyed(alloc: Global, cursor: &mut Cursor<'_>) -> Result<Argument, ReadError>
+    ensures { Reads (read.keyed cursor.old) result cursor.new }
+{
+    let key = name(alloc, cursor)?;
+    token(cursor, b"=")?;
+    plain(alloc, cursor, Some(key))
+}
+
+/// Whether `cache` may have this key behind these arguments.
+fn may_cache(earlier: &[Argument], key: &str) -> bool
+    ensures { result ≡ may_cache earlier.now key.now }
+{
+    is_cache_key(key) && !(key == "extra" && has_key(earlier, key))
+}
+
+/// Whether `arg` may have this key behind these arguments.
+fn may_have(earlier: &[Argument], key: &str) -> bool
+    ensures { result ≡ may_have earlier.now key.now }
+{
+    key == "pattern" || !has_key(earlier, key)
+}
+
+/// An argument of `cache`: a key that it may have, and an expression.
+#[tactic(auto, unfolding(crate::specs::ItemReaders::cached))]
 fn cached(
     alloc: Global,
     cursor: &mut Cursor<'_>,
     earlier: &[Argument],
-) -> Result<Argument, ReadError> {
+) -> Result<Argument, ReadError>
+    ensures { Reads (read.cached earlier.now cursor.old) result cursor.new }
+{
     let key = name(alloc, cursor)?;
-    if !is_cache_key(key.text.as_str()) {
-        return Err(ReadError::Syntax);
-    }
-    if key.text.as_str() == "extra" && has_key(earlier, "extra") {
+    if !may_cache(earlier, key.text.as_str()) {
         return Err(ReadError::Syntax);
     }
     token(cursor, b"=")?;
     plain(alloc, cursor, Some(key))
 }
 
-/// A key of `arg`, with its value if it has one.
+/// A key of `arg`, alone or with its value.
+#[tactic(auto, unfolding(crate::specs::ItemReaders::option))]
 fn option(
     alloc: Global,
     cursor: &mut Cursor<'_>,
     earlier: &[Argument],
-) -> Result<Argument, ReadError> {
+) -> Result<Argument, ReadError>
+    ensures { Reads (read.option earlier.now cursor.old) result cursor.new }
+{
     let line = cursor.line();
     let column = cursor.column();
     let key = name(alloc, cursor)?;
-    if key.text.as_str() != "pattern" && has_key(earlier, key.text.as_str()) {
+    if !may_have(earlier, key.text.as_str()) {
         return Err(ReadError::Syntax);
     }
     let form = key_form(key.text.as_str());
-    if !cursor.begins(b"=") {
-        return if form.may_stand_alone() {
-            Ok(Argument {
-                key: None,
-                line,
-                column,
-                value: Expr::Variable(key),
-            })
-        } else {
-            Err(ReadError::Syntax)
-        };
+    if cursor.begins(b"=") {
+        return valued(alloc, cursor, form, key);
     }
+    if !form.may_stand_alone() {
+        return Err(ReadError::Syntax);
+    }
+    Ok(Argument {
+        key: None,
+        line,
+        column,
+        value: Expr::Variable(key),
+    })
+}
+
+/// The value of a key of `arg`.
+fn valued(
+    alloc: Global,
+    cursor: &mut Cursor<'_>,
+    form: KeyForm,
+    key: Name,
+) -> Result<Argument, ReadError>
+    ensures { Reads (read.valued form key cursor.old) result cursor.new }
+{
     match form {
         KeyForm::Value | KeyForm::Either => {
             token(cursor, b"=")?;
@@ -232,12 +361,15 @@ fn option(
 }
 
 /// A string that holds a decimal number.
-fn number(alloc: Global, cursor: &mut Cursor<'_>, key: Name) -> Result<Argument, ReadError> {
+#[tactic(auto, unfolding(crate::specs::ItemReaders::number_argument))]
+fn number(alloc: Global, cursor: &mut Cursor<'_>, key: Name) -> Result<Argument, ReadError>
+    ensures { Reads (read.number_argument key cursor.old) result cursor.new }
+{
     let line = cursor.line();
     let column = cursor.column();
     let value = string(alloc, cursor)?;
     let text = value.text(alloc)?;
-    if !is_number(text.as_str()) {
+    if !is_decimal(text.as_str()) {
         return Err(ReadError::Syntax);
     }
     Ok(Argument {
@@ -248,8 +380,10 @@ fn number(alloc: Global, cursor: &mut Cursor<'_>, key: Name) -> Result<Argument,
     })
 }
 
-/// Whether a text is a decimal number of 64 bits without a leading zero.
-fn is_number(text: &str) -> bool {
+/// Whether a text is a decimal number of 64 bits without a zero in front.
+fn is_decimal(text: &str) -> bool
+    ensures { result ≡ is_decimal text.now }
+{
     let bytes = text.as_bytes();
     if bytes.len() > 1 && bytes[0] == b'0' {
         return false;
@@ -258,7 +392,9 @@ fn is_number(text: &str) -> bool {
 }
 
 /// Whether one of the arguments has this key, with a value or alone.
-fn has_key(arguments: &[Argument], key: &str) -> bool {
+fn has_key(arguments: &[Argument], key: &str) -> bool
+    ensures { result ≡ has_key arguments.now key.now }
+{
     'arguments: for argument in arguments {
         if is_of_key(argument, key) {
             return true;
@@ -267,7 +403,9 @@ fn has_key(arguments: &[Argument], key: &str) -> bool {
     false
 }
 
-fn is_of_key(argument: &Argument, key: &str) -> bool {
+fn is_of_key(argument: &Argument, key: &str) -> bool
+    ensures { result ≡ is_key_or key.now argument.now.key argument.now.value }
+{
     match &argument.key {
         Some(name) => name.text.as_str() == key,
         None => match &argument.value {

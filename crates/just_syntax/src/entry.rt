@@ -1,7 +1,11 @@
 //! The entries of a text: what stands in it line by line, before body lines are gathered into their recipes.
-ghost use Rattle.std.specs.Prelude.{◌≡◌};
+ghost use Rattle.std.specs.Prelude.{◌≡◌, [], ◌++◌, ◌∷◌, IfOk, List};
+ghost use Rattle.just_read.specs.Reader.{Reads};
+ghost use Rattle.just_syntax.specs.File.{items_of};
+ghost use Rattle.just_syntax.specs.ItemReaders as read;
 
 use super::body::{blanks, body_line, is_body_line};
+use super::class::Blank;
 use super::item::item;
 use super::token::{blank_line, is_blank_line};
 use super::{AstItem, AstRecipe, Line};
@@ -30,12 +34,16 @@ pub enum Body {
     /// The one that would begin with this line.
     Begins,
     /// The one with this indentation.
-    Open(Vec<u8>),
+    Open(Seq<u8>),
 }
 
 impl Body {
+    ghost use Rattle.just_syntax.specs.File.{behind_blank, indentation_at};
+
     /// The body to which a line behind a blank one may belong.
-    fn behind_blank(self) -> Body {
+    fn behind_blank(self) -> Body
+        ensures { result ≡ behind_blank self }
+    {
         match self {
             Body::Closed | Body::Begins => Body::Closed,
             Body::Open(indentation) => Body::Open(indentation),
@@ -47,11 +55,13 @@ impl Body {
         self,
         alloc: Global,
         cursor: &Cursor<'_>,
-    ) -> Result<Option<Vec<u8>>, AllocError> {
+    ) -> Result<Option<Seq<u8>>, AllocError>
+        ensures { IfOk result (λ i. i ≡ indentation_at self cursor.now) }
+    {
         match self {
             Body::Closed => Ok(None),
             Body::Begins => {
-                if cursor.starts::<super::class::Blank>() {
+                if cursor.starts::<Blank>() {
                     Ok(Some(blanks(alloc, cursor)?))
                 } else {
                     Ok(None)
@@ -63,49 +73,65 @@ impl Body {
 }
 
 /// The entry that begins here, and the body to which the next line may belong.
+#[tactic(auto, unfolding(crate::specs::ItemReaders::entry_at))]
 pub fn read_entry(
     alloc: Global,
     cursor: &mut Cursor<'_>,
     body: Body,
-) -> Result<(Entry, Body), ReadError> {
+) -> Result<(Entry, Body), ReadError>
+    ensures { Reads (read.entry_at body cursor.old) result cursor.new }
+{
     if is_blank_line(cursor) {
         let number = cursor.line();
         blank_line(cursor)?;
         return Ok((Entry::Blank(number), body.behind_blank()));
     }
-    if let Some(indentation) = body.indentation_at(alloc, cursor)? {
-        if is_body_line(cursor, indentation.as_slice()) {
-            let line = body_line(alloc, cursor, indentation.as_slice())?;
-            return Ok((Entry::Line(line), Body::Open(indentation)));
-        }
+    match body.indentation_at(alloc, cursor)? {
+        Some(indentation) => line_or_item(alloc, cursor, indentation),
+        None => entry_item(alloc, cursor),
     }
-    let entry = item(alloc, cursor)?;
-    let body = match &entry {
-        Entry::Recipe(_) => Body::Begins,
-        _ => Body::Closed,
-    };
-    Ok((entry, body))
+}
+
+/// A line of the body with this indentation, or else an item.
+fn line_or_item(
+    alloc: Global,
+    cursor: &mut Cursor<'_>,
+    indentation: Seq<u8>,
+) -> Result<(Entry, Body), ReadError>
+    ensures { Reads (read.line_or_item indentation cursor.old) result cursor.new }
+{
+    if !is_body_line(cursor, indentation.as_slice()) {
+        return entry_item(alloc, cursor);
+    }
+    let line = body_line(alloc, cursor, indentation.as_slice())?;
+    Ok((Entry::Line(line), Body::Open(indentation)))
+}
+
+/// An item, and the body to which the next line may belong.
+fn entry_item(alloc: Global, cursor: &mut Cursor<'_>) -> Result<(Entry, Body), ReadError>
+    ensures { Reads (read.entry_item cursor.old) result cursor.new }
+{
+    match item(alloc, cursor)? {
+        Entry::Recipe(recipe) => Ok((Entry::Recipe(recipe), Body::Begins)),
+        Entry::Blank(number) => Ok((Entry::Blank(number), Body::Closed)),
+        Entry::Item(item) => Ok((Entry::Item(item), Body::Closed)),
+        Entry::Line(line) => Ok((Entry::Line(line), Body::Closed)),
+    }
 }
 
 /// The items of a text's entries: each recipe has the lines that follow it, and the blank lines between these.
-pub fn gather(alloc: Global, mut entries: Vec<Entry>) -> Result<Seq<AstItem>, NoMemory> {
+pub fn gather(alloc: Global, mut entries: Vec<Entry>) -> Result<Seq<AstItem>, NoMemory>
+    ensures { IfOk result (λ items. items ≡ items_of entries.items) }
+{
     let mut lines: Vec<Line> = Vec::new(alloc);
     let mut items: Vec<AstItem> = Vec::new(alloc);
     'entries: while let Some(entry) = entries.pop() {
         match entry {
-            Entry::Blank(number) => {
-                if lines.is_empty() {
-                    items.push(AstItem::Blank)?;
-                } else {
-                    lines.push(Line {
-                        number,
-                        fragments: Seq::new(alloc),
-                    })?;
-                }
-            }
+            Entry::Blank(number) => add_blank(alloc, number, &mut lines, &mut items)?,
             Entry::Item(item) => items.push(item)?,
             Entry::Recipe(recipe) => {
-                items.push(with_body(alloc, recipe, lines)?)?;
+                let whole = with_body(alloc, recipe, lines)?;
+                items.push(whole)?;
                 lines = Vec::new(alloc);
             }
             Entry::Line(line) => lines.push(line)?,
@@ -113,6 +139,24 @@ pub fn gather(alloc: Global, mut entries: Vec<Entry>) -> Result<Seq<AstItem>, No
     }
     items.as_mut_slice().reverse();
     Ok(Seq::from(items))
+}
+
+/// Adds a blank line: to the lines of a body, the last one first, where there are any, else to the items.
+fn add_blank(
+    alloc: Global,
+    number: usize,
+    lines: &mut Vec<Line>,
+    items: &mut Vec<AstItem>,
+) -> Result<(), AllocError> {
+    if lines.is_empty() {
+        items.push(AstItem::Blank)?;
+    } else {
+        lines.push(Line {
+            number,
+            fragments: Seq::new(alloc),
+        })?;
+    }
+    Ok(())
 }
 
 /// A recipe with these lines as its body, the last one first.

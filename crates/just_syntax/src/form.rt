@@ -1,5 +1,6 @@
 //! What the grammar asks of the attributes, settings and keys that it knows by name.
 ghost use Rattle.std.specs.Prelude.{◌≡◌};
+ghost use Rattle.just_syntax.specs.Forms.{form_of, is_one_of, bare_attributes, key_form, is_cache_key, sort_of, flags, is_left_out_setting, is_left_out_attribute};
 
 /// What may stand behind the name of an attribute.
 #[derive(Clone, Copy, Debug, PartialEq, Eq)]
@@ -21,7 +22,12 @@ pub enum Form {
 }
 
 impl Form {
-    pub fn may_be_bare(self) -> bool {
+    ghost use Rattle.just_syntax.specs.Forms.{may_be_bare, has_colon};
+
+    /// Whether nothing may stand behind the name.
+    pub fn may_be_bare(self) -> bool
+        ensures { result ≡ may_be_bare self }
+    {
         match self {
             Form::Bare | Form::MaybeText | Form::Texts | Form::Open => true,
             Form::Text | Form::Arg | Form::Cache => false,
@@ -29,7 +35,9 @@ impl Form {
     }
 
     /// Whether one string may stand behind a colon.
-    pub fn has_colon(self) -> bool {
+    pub fn has_colon(self) -> bool
+        ensures { result ≡ has_colon self }
+    {
         match self {
             Form::MaybeText | Form::Text | Form::Texts | Form::Arg | Form::Open => true,
             Form::Bare | Form::Cache => false,
@@ -38,7 +46,9 @@ impl Form {
 }
 
 /// The form of the attribute with that name.
-pub fn form_of(name: &str) -> Form {
+pub fn form_of(name: &str) -> Form
+    ensures { result ≡ form_of name.now }
+{
     match name {
         "confirm" | "doc" => Form::MaybeText,
         "extension" | "group" | "working-directory" => Form::Text,
@@ -56,7 +66,9 @@ pub fn form_of(name: &str) -> Form {
 }
 
 /// Whether it is the name of an attribute that has nothing behind it.
-fn is_bare(name: &str) -> bool {
+fn is_bare(name: &str) -> bool
+    ensures { result ≡ is_one_of bare_attributes name.now }
+{
     matches!(
         name,
         "default"
@@ -95,7 +107,12 @@ pub enum KeyForm {
 }
 
 impl KeyForm {
-    pub fn may_stand_alone(self) -> bool {
+    ghost use Rattle.just_syntax.specs.Forms.{may_stand_alone};
+
+    /// Whether nothing may stand behind the key.
+    pub fn may_stand_alone(self) -> bool
+        ensures { result ≡ may_stand_alone self }
+    {
         match self {
             KeyForm::Alone | KeyForm::Either => true,
             KeyForm::Value | KeyForm::Number | KeyForm::Unknown => false,
@@ -104,7 +121,9 @@ impl KeyForm {
 }
 
 /// The form of the key of `arg` with that name.
-pub fn key_form(name: &str) -> KeyForm {
+pub fn key_form(name: &str) -> KeyForm
+    ensures { result ≡ key_form name.now }
+{
     match name {
         "flag" | "multiple" => KeyForm::Alone,
         "long" => KeyForm::Either,
@@ -115,7 +134,9 @@ pub fn key_form(name: &str) -> KeyForm {
 }
 
 /// Whether `cache` has this key.
-pub fn is_cache_key(name: &str) -> bool {
+pub fn is_cache_key(name: &str) -> bool
+    ensures { result ≡ is_cache_key name.now }
+{
     matches!(name, "inputs" | "outputs" | "extra")
 }
 
@@ -133,7 +154,9 @@ pub enum Sort {
 }
 
 /// The sort of the setting with that name.
-pub fn sort_of(name: &str) -> Sort {
+pub fn sort_of(name: &str) -> Sort
+    ensures { result ≡ sort_of name.now }
+{
     match name {
         "dotenv-command" | "dotenv-filename" | "dotenv-path" | "indentation" | "tempdir"
         | "working-directory" => Sort::Text,
@@ -149,7 +172,9 @@ pub fn sort_of(name: &str) -> Sort {
 }
 
 /// Whether it is the name of a setting that is a flag.
-fn is_flag(name: &str) -> bool {
+fn is_flag(name: &str) -> bool
+    ensures { result ≡ is_one_of flags name.now }
+{
     matches!(
         name,
         "allow-duplicate-recipes"
@@ -173,11 +198,15 @@ fn is_flag(name: &str) -> bool {
 }
 
 /// Whether the setting with that name is left out.
-pub fn is_left_out_setting(name: &str) -> bool {
+pub fn is_left_out_setting(name: &str) -> bool
+    ensures { result ≡ is_left_out_setting name.now }
+{
     matches!(name, "lazy" | "minimum-version" | "default-script")
 }
 
 /// Whether the attribute with that name is left out.
-pub fn is_left_out_attribute(name: &str) -> bool {
+pub fn is_left_out_attribute(name: &str) -> bool
+    ensures { result ≡ is_left_out_attribute name.now }
+{
     matches!(name, "env" | "metadata" | "timestamp")
 }

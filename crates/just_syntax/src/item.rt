@@ -1,14 +1,19 @@
 //! Items: which one begins at a place, and the items that aren't recipes.
 ghost use Rattle.std.specs.Prelude.{◌≡◌};
+ghost use Rattle.just_read.specs.Reader.{Reads};
+ghost use Rattle.just_syntax.specs.Items.{is_assignment, is_last_name, is_module, opening_at, opens_module, goes_on};
+ghost use Rattle.just_syntax.specs.ItemReaders as read;
 
-use super::attribute::attributes;
+use super::attribute::{attributes, trailing};
 use super::class::NameStart;
 use super::entry::Entry;
 use super::expr::{LEVELS, expr};
 use super::form::{Sort, sort_of};
 use super::recipe::recipe_line;
 use super::string::{begins_string, string};
-use super::token::{behind_word, comment, is_rest, is_word, name, path, rest, token};
+use super::token::{
+    behind_word, comment, is_rest, is_word, maybe, name, path, rest, skip, token, word,
+};
 use super::{AstItem, Attribute, SettingValue, StringLiteral};
 use just_path::Seq;
 use just_read::{Boxed, Cursor, ReadError};
@@ -29,12 +34,16 @@ pub enum Opening {
 }
 
 /// Whether a name and `:=` stand here.
-fn is_assignment(cursor: &Cursor<'_>) -> bool {
+fn is_assignment(cursor: &Cursor<'_>) -> bool
+    ensures { result ≡ is_assignment cursor.now }
+{
     cursor.starts::<NameStart>() && behind_word(cursor).begins(b":=")
 }
 
-/// Whether the name of a module stands here, with a string or the end of the line behind it, or a `?`.
-fn is_module(cursor: &Cursor<'_>) -> bool {
+/// Whether a `?` stands here, or a name with a string or the end of the line behind it.
+fn is_module(cursor: &Cursor<'_>) -> bool
+    ensures { result ≡ is_module cursor.now }
+{
     if cursor.begins(b"?") {
         return true;
     }
@@ -43,12 +52,16 @@ fn is_module(cursor: &Cursor<'_>) -> bool {
 }
 
 /// Whether a name stands here with the end of the line behind it.
-fn is_last_name(cursor: &Cursor<'_>) -> bool {
+fn is_last_name(cursor: &Cursor<'_>) -> bool
+    ensures { result ≡ is_last_name cursor.now }
+{
     cursor.starts::<NameStart>() && is_rest(&behind_word(cursor))
 }
 
 /// Which item begins here. No word is reserved: what follows it tells.
-pub fn opening_at(cursor: &Cursor<'_>) -> Opening {
+pub fn opening_at(cursor: &Cursor<'_>) -> Opening
+    ensures { result ≡ opening_at cursor.now }
+{
     if cursor.sees('#') {
         return Opening::Comment;
     }
@@ -57,26 +70,43 @@ pub fn opening_at(cursor: &Cursor<'_>) -> Opening {
     }
     let ahead = behind_word(cursor);
     if is_word(cursor, b"alias") && is_assignment(&ahead) {
-        Opening::Alias
-    } else if is_word(cursor, b"export") && is_assignment(&ahead) {
-        Opening::Export
-    } else if is_word(cursor, b"unexport") && is_last_name(&ahead) {
-        Opening::Unexport
-    } else if is_word(cursor, b"import") && (ahead.begins(b"?") || begins_string(&ahead)) {
-        Opening::Import
-    } else if is_word(cursor, b"mod") && is_module(&ahead) {
-        Opening::Module
-    } else if is_word(cursor, b"set") && (is_assignment(&ahead) || is_last_name(&ahead)) {
-        Opening::Setting
-    } else {
-        Opening::Recipe
+        return Opening::Alias;
     }
+    if is_word(cursor, b"export") && is_assignment(&ahead) {
+        return Opening::Export;
+    }
+    if is_word(cursor, b"unexport") && is_last_name(&ahead) {
+        return Opening::Unexport;
+    }
+    if is_word(cursor, b"import") && (ahead.begins(b"?") || begins_string(&ahead)) {
+        return Opening::Import;
+    }
+    if is_word(cursor, b"mod") && is_module(&ahead) {
+        return Opening::Module;
+    }
+    if is_word(cursor, b"set") && (is_assignment(&ahead) || is_last_name(&ahead)) {
+        return Opening::Setting;
+    }
+    Opening::Recipe
 }
 
-/// The item that stands here.
-pub fn item(alloc: Global, cursor: &mut Cursor<'_>) -> Result<Entry, ReadError> {
+/// Whether a module stands here, behind attributes; else it is a recipe.
+fn opens_module(cursor: &Cursor<'_>) -> bool
+    ensures { result ≡ opens_module cursor.now }
+{
+    is_word(cursor, b"mod") && is_module(&behind_word(cursor))
+}
+
+/// The item, or the line of a recipe, that stands here.
+#[tactic(auto, unfolding(crate::specs::ItemReaders::item_at))]
+pub fn item(alloc: Global, cursor: &mut Cursor<'_>) -> Result<Entry, ReadError>
+    ensures { Reads (read.item_at cursor.old) result cursor.new }
+{
     match opening_at(cursor) {
-        Opening::Comment => Ok(Entry::Item(AstItem::Comment(comment(alloc, cursor)?))),
+        Opening::Comment => {
+            let text = comment(alloc, cursor)?;
+            Ok(Entry::Item(AstItem::Comment(text)))
+        }
         Opening::Alias => Ok(Entry::Item(alias(alloc, cursor)?)),
         Opening::Import => Ok(Entry::Item(import(alloc, cursor)?)),
         Opening::Module => Ok(Entry::Item(module(alloc, cursor, Seq::new(alloc))?)),
@@ -92,17 +122,22 @@ pub fn item(alloc: Global, cursor: &mut Cursor<'_>) -> Result<Entry, ReadError> 
 }
 
 /// Attributes, and the module or the recipe that has them.
-fn attributed(alloc: Global, cursor: &mut Cursor<'_>) -> Result<Entry, ReadError> {
+#[tactic(auto, unfolding(crate::specs::ItemReaders::attributed))]
+fn attributed(alloc: Global, cursor: &mut Cursor<'_>) -> Result<Entry, ReadError>
+    ensures { Reads (read.attributed cursor.old) result cursor.new }
+{
     let attributes = attributes(alloc, cursor)?;
-    if is_word(cursor, b"mod") && is_module(&behind_word(cursor)) {
-        Ok(Entry::Item(module(alloc, cursor, attributes)?))
-    } else {
-        let recipe = recipe_line(alloc, cursor, attributes)?;
-        Ok(Entry::Recipe(Boxed::new(alloc, recipe)?))
+    if opens_module(cursor) {
+        return Ok(Entry::Item(module(alloc, cursor, attributes)?));
     }
+    let recipe = recipe_line(alloc, cursor, attributes)?;
+    Ok(Entry::Recipe(Boxed::new(alloc, recipe)?))
 }
 
-fn alias(alloc: Global, cursor: &mut Cursor<'_>) -> Result<AstItem, ReadError> {
+#[tactic(auto, unfolding(crate::specs::ItemReaders::alias))]
+fn alias(alloc: Global, cursor: &mut Cursor<'_>) -> Result<AstItem, ReadError>
+    ensures { Reads (read.alias cursor.old) result cursor.new }
+{
     token(cursor, b"alias")?;
     let name = name(alloc, cursor)?;
     token(cursor, b":=")?;
@@ -115,19 +150,12 @@ fn alias(alloc: Global, cursor: &mut Cursor<'_>) -> Result<AstItem, ReadError> {
     })
 }
 
-/// A `?`, if one stands here.
-fn question(cursor: &mut Cursor<'_>) -> Result<bool, ReadError> {
-    if cursor.begins(b"?") {
-        token(cursor, b"?")?;
-        Ok(true)
-    } else {
-        Ok(false)
-    }
-}
-
-fn import(alloc: Global, cursor: &mut Cursor<'_>) -> Result<AstItem, ReadError> {
+#[tactic(auto, unfolding(crate::specs::ItemReaders::import))]
+fn import(alloc: Global, cursor: &mut Cursor<'_>) -> Result<AstItem, ReadError>
+    ensures { Reads (read.import cursor.old) result cursor.new }
+{
     token(cursor, b"import")?;
-    let optional = question(cursor)?;
+    let optional = maybe(cursor, b"?")?;
     let path = string(alloc, cursor)?;
     let comment = rest(alloc, cursor)?;
     Ok(AstItem::Import {
@@ -137,13 +165,16 @@ fn import(alloc: Global, cursor: &mut Cursor<'_>) -> Result<AstItem, ReadError> 
     })
 }
 
+#[tactic(auto, unfolding(crate::specs::ItemReaders::module_item))]
 fn module(
     alloc: Global,
     cursor: &mut Cursor<'_>,
     attributes: Seq<Attribute>,
-) -> Result<AstItem, ReadError> {
+) -> Result<AstItem, ReadError>
+    ensures { Reads (read.module_item attributes cursor.old) result cursor.new }
+{
     token(cursor, b"mod")?;
-    let optional = question(cursor)?;
+    let optional = maybe(cursor, b"?")?;
     let name = name(alloc, cursor)?;
     let path = module_path(alloc, cursor)?;
     let comment = rest(alloc, cursor)?;
@@ -157,18 +188,29 @@ fn module(
 }
 
 /// The string behind a module's name, if there is one.
+#[tactic(auto, unfolding(crate::specs::ItemReaders::module_path))]
 fn module_path(
     alloc: Global,
     cursor: &mut Cursor<'_>,
-) -> Result<Option<StringLiteral>, ReadError> {
+) -> Result<Option<StringLiteral>, ReadError>
+    ensures { Reads (read.module_path cursor.old) result cursor.new }
+{
     if begins_string(cursor) {
-        Ok(Some(string(alloc, cursor)?))
+        let found = string(alloc, cursor)?;
+        Ok(Some(found))
     } else {
         Ok(None)
     }
 }
 
-fn assignment(alloc: Global, cursor: &mut Cursor<'_>, export: bool) -> Result<AstItem, ReadError> {
+#[tactic(auto, unfolding(crate::specs::ItemReaders::assignment))]
+fn assignment(
+    alloc: Global,
+    cursor: &mut Cursor<'_>,
+    export: bool,
+) -> Result<AstItem, ReadError>
+    ensures { Reads (read.assignment export cursor.old) result cursor.new }
+{
     let name = name(alloc, cursor)?;
     token(cursor, b":=")?;
     let value = expr(alloc, cursor, LEVELS)?;
@@ -181,14 +223,20 @@ fn assignment(alloc: Global, cursor: &mut Cursor<'_>, export: bool) -> Result<As
     })
 }
 
-fn unexport(alloc: Global, cursor: &mut Cursor<'_>) -> Result<AstItem, ReadError> {
+#[tactic(auto, unfolding(crate::specs::ItemReaders::unexport))]
+fn unexport(alloc: Global, cursor: &mut Cursor<'_>) -> Result<AstItem, ReadError>
+    ensures { Reads (read.unexport cursor.old) result cursor.new }
+{
     token(cursor, b"unexport")?;
     let name = name(alloc, cursor)?;
     let comment = rest(alloc, cursor)?;
     Ok(AstItem::Unexport { name, comment })
 }
 
-fn setting(alloc: Global, cursor: &mut Cursor<'_>) -> Result<AstItem, ReadError> {
+#[tactic(auto, unfolding(crate::specs::ItemReaders::setting_item))]
+fn setting(alloc: Global, cursor: &mut Cursor<'_>) -> Result<AstItem, ReadError>
+    ensures { Reads (read.setting_item cursor.old) result cursor.new }
+{
     token(cursor, b"set")?;
     let name = name(alloc, cursor)?;
     let value = setting_value(alloc, cursor, sort_of(name.text.as_str()))?;
@@ -201,11 +249,14 @@ fn setting(alloc: Global, cursor: &mut Cursor<'_>) -> Result<AstItem, ReadError>
 }
 
 /// What stands behind the name of a setting of that sort.
+#[tactic(auto, unfolding(crate::specs::ItemReaders::setting_value))]
 fn setting_value(
     alloc: Global,
     cursor: &mut Cursor<'_>,
     sort: Sort,
-) -> Result<Option<SettingValue>, ReadError> {
+) -> Result<Option<SettingValue>, ReadError>
+    ensures { Reads (read.setting_value sort cursor.old) result cursor.new }
+{
     if !cursor.begins(b":=") {
         return match sort {
             Sort::Flag | Sort::Open => Ok(None),
@@ -213,59 +264,107 @@ fn setting_value(
         };
     }
     token(cursor, b":=")?;
-    match sort {
-        Sort::Flag => Ok(Some(SettingValue::Bool(truth(cursor)?))),
-        Sort::Text => Ok(Some(SettingValue::Text(expr(alloc, cursor, LEVELS)?))),
-        Sort::List => Ok(Some(SettingValue::List(strings(alloc, cursor)?))),
-        Sort::Open => {
-            if cursor.begins(b"[") {
-                Ok(Some(SettingValue::List(strings(alloc, cursor)?)))
-            } else {
-                Ok(Some(SettingValue::Text(expr(alloc, cursor, LEVELS)?)))
-            }
-        }
+    let value = match sort {
+        Sort::Flag => SettingValue::Bool(truth(cursor)?),
+        Sort::Text => text_value(alloc, cursor)?,
+        Sort::List => list_value(alloc, cursor)?,
+        Sort::Open => open_value(alloc, cursor)?,
+    };
+    Ok(Some(value))
+}
+
+fn text_value(alloc: Global, cursor: &mut Cursor<'_>) -> Result<SettingValue, ReadError>
+    ensures { Reads (read.text_value cursor.old) result cursor.new }
+{
+    let value = expr(alloc, cursor, LEVELS)?;
+    Ok(SettingValue::Text(value))
+}
+
+fn list_value(alloc: Global, cursor: &mut Cursor<'_>) -> Result<SettingValue, ReadError>
+    ensures { Reads (read.list_value cursor.old) result cursor.new }
+{
+    let values = strings(alloc, cursor)?;
+    Ok(SettingValue::List(values))
+}
+
+/// A value of a setting that isn't known.
+fn open_value(alloc: Global, cursor: &mut Cursor<'_>) -> Result<SettingValue, ReadError>
+    ensures { Reads (read.open_value cursor.old) result cursor.new }
+{
+    if cursor.begins(b"[") {
+        list_value(alloc, cursor)
+    } else {
+        text_value(alloc, cursor)
     }
 }
 
 /// `true` or `false`
-fn truth(cursor: &mut Cursor<'_>) -> Result<bool, ReadError> {
+#[tactic(auto, unfolding(crate::specs::ItemReaders::truth))]
+fn truth(cursor: &mut Cursor<'_>) -> Result<bool, ReadError>
+    ensures { Reads (read.truth cursor.old) result cursor.new }
+{
     if is_word(cursor, b"true") {
-        token(cursor, b"true")?;
+        word(cursor, b"true")?;
         Ok(true)
-    } else if is_word(cursor, b"false") {
-        token(cursor, b"false")?;
-        Ok(false)
     } else {
-        Err(ReadError::Syntax)
+        word(cursor, b"false")?;
+        Ok(false)
     }
 }
 
 /// Whether a comma and a further string stand here.
-fn goes_on(cursor: &Cursor<'_>) -> bool {
+fn goes_on(cursor: &Cursor<'_>) -> bool
+    ensures { result ≡ goes_on cursor.now }
+{
     if !cursor.begins(b",") {
         return false;
     }
     let mut ahead = cursor.copied();
     ahead.step();
-    super::token::skip(&mut ahead);
+    skip(&mut ahead);
     begins_string(&ahead)
 }
 
+/// A comma and a string.
+#[tactic(auto, unfolding(crate::specs::ItemReaders::further_string))]
+fn further_string(alloc: Global, cursor: &mut Cursor<'_>) -> Result<StringLiteral, ReadError>
+    ensures { Reads (read.further_string cursor.old) result cursor.new }
+{
+    token(cursor, b",")?;
+    string(alloc, cursor)
+}
+
 /// Strings in brackets.
-fn strings(alloc: Global, cursor: &mut Cursor<'_>) -> Result<Seq<StringLiteral>, ReadError> {
+#[tactic(auto, unfolding(crate::specs::ItemReaders::strings))]
+fn strings(alloc: Global, cursor: &mut Cursor<'_>) -> Result<Seq<StringLiteral>, ReadError>
+    ensures { Reads (read.strings cursor.old) result cursor.new }
+{
     token(cursor, b"[")?;
+    let found = some_strings(alloc, cursor)?;
+    token(cursor, b"]")?;
+    Ok(found)
+}
+
+/// Strings with commas between them, and maybe one behind them; or nothing.
+#[tactic(auto, using(crate::proofs::Loops::strings_none, crate::proofs::Loops::strings_begin, crate::proofs::Loops::strings_more, crate::proofs::Loops::strings_done, crate::proofs::Loops::strings_wrong, crate::proofs::Loops::strings_shorter))]
+fn some_strings(
+    alloc: Global,
+    cursor: &mut Cursor<'_>,
+) -> Result<Seq<StringLiteral>, ReadError>
+    ensures { Reads (read.some_strings cursor.old) result cursor.new }
+{
+    if !begins_string(cursor) {
+        return Ok(Seq::new(alloc));
+    }
+    let first = string(alloc, cursor)?;
     let mut found = Vec::new(alloc);
-    if begins_string(cursor) {
-        found.push(string(alloc, cursor)?)?;
-        'strings: while goes_on(cursor) {
-            token(cursor, b",")?;
-            let next = string(alloc, cursor)?;
-            found.push(next)?;
-        }
-        if cursor.begins(b",") {
-            token(cursor, b",")?;
+    found.push(first)?;
+    'strings: while goes_on(cursor) {
+        match further_string(alloc, cursor) {
+            Ok(next) => found.push(next)?,
+            Err(refused) => return Err(refused),
         }
     }
-    token(cursor, b"]")?;
+    trailing(cursor)?;
     Ok(Seq::from(found))
 }

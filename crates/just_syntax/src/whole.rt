@@ -1,11 +1,15 @@
 //! A text whole: its tree, or its fault.
-ghost use Rattle.std.specs.Prelude.{◌≡◌};
+ghost use Rattle.std.specs.Prelude.{◌≡◌, IfOk, IfErr, MatchResult, List, ℕ, Option, Some, None, chars};
+ghost use Rattle.just_syntax.specs.declared.ast.AstItem.{AstItem};
+ghost use Rattle.just_syntax.specs.File.{IsFile, first_left_out};
+ghost use Rattle.just_syntax.specs.ItemReaders as read;
 
 use super::entry::{Body, Entry, gather, read_entry};
+use super::indentation::characters;
 use super::left_out::first_left_out;
 use super::{Ast, Fault, FaultKind, ParseError};
 use just_read::{Cursor, ReadError};
-use std::alloc::{AllocError, Global};
+use std::alloc::Global;
 
 /// The tree of a justfile's text. A text that has none is refused at the line at which its longest front of items and
 /// body lines ends; one that has a tree with a left-out setting or attribute is refused at its name.
@@ -34,10 +38,6 @@ fn entries_of(alloc: Global, text: &str) -> Result<Vec<Entry>, ParseError> {
         body = next;
     }
     Ok(entries)
-}
-
-fn characters(alloc: Global, text: &str) -> Result<Vec<char>, AllocError> {
-    text.chars().collect(alloc)
 }
 
 /// The entry that begins here, or the fault at its begin.
