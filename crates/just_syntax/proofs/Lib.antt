@@ -17,3 +17,7 @@ pub mod Shorter
 pub mod Loops
 pub mod TextLoop
 pub mod Blanks
+pub mod SharedBlanks
+pub mod Comments
+pub mod AttributeShorter
+pub mod AttributeLoops

@@ -26,10 +26,10 @@ use Rattle.just_syntax.proofs.ExprShorter.{name_lt, level_lt, value_lt, inner_lt
 use Rattle.just_syntax.proofs.PathLoop as path
 
 -- what is left at the place where a reader ended
-less_at : (p m q : Place) → m ≡ q → length m.rest < length p.rest → length q.rest < length p.rest
+pub less_at : (p m q : Place) → m ≡ q → length m.rest < length p.rest → length q.rest < length p.rest
 less_at p m q e h = subst (λ (l : Place). length l.rest < length p.rest) e h
 
-most_at : (p m q : Place) → m ≡ q → length m.rest ≤ length p.rest → length q.rest ≤ length p.rest
+pub most_at : (p m q : Place) → m ≡ q → length m.rest ≤ length p.rest → length q.rest ≤ length p.rest
 most_at p m q e h = subst (λ (l : Place). length l.rest ≤ length p.rest) e h
 
 -- an expression takes a character

@@ -1,6 +1,6 @@
 -- Attributes: lines of them in brackets, and what stands behind the name of each.
 use Rattle.std.specs.Prelude.{◌≡◌, ℕ, ◌+◌, ◌*◌, ◌-◌, ◌^◌, nat_lt, Bool, true, false, not, ◌&&◌, ◌||◌, ◌==◌, if◌then◌else◌, ◌⊎◌, List, [], ◌∷◌, ◌++◌, Option, Some, None, codes, bytes_eq}
-use Rattle.std.specs.List.{list_all, list_any}
+use Rattle.std.specs.List.{list_any}
 use Rattle.just_read.specs.Place.{Place, AreMany, next, starts, begins}
 use Rattle.just_syntax.specs.declared.ast.Name.{Name}
 use Rattle.just_syntax.specs.declared.ast.StringLiteral.{StringLiteral}
@@ -60,9 +60,10 @@ may_cache earlier key = is_cache_key key && not (bytes_eq key (codes "extra") &&
 abbrev pub may_have : List Argument → List ℕ → Bool
 may_have earlier key = bytes_eq key (codes "pattern") || not (has_key earlier key)
 
-abbrev pub value_from : ℕ → List ℕ → ℕ
-value_from n [] = n
-value_from n (c ∷ rest) = value_from (n * 10 + (c - 48)) rest
+-- whether digits follow a number, and all of them make one below 2 ^ 64
+abbrev pub decimal_from : ℕ → List ℕ → Bool
+decimal_from n [] = true
+decimal_from n (c ∷ rest) = is_digit c && (nat_lt (n * 10 + (c - 48)) (2 ^ 64) && decimal_from (n * 10 + (c - 48)) rest)
 
 abbrev pub has_zero : List ℕ → Bool
 has_zero [] = false
@@ -75,7 +76,7 @@ is_some_text (c ∷ rest) = true
 
 -- whether a text is a decimal number of 64 bits without a zero in front
 abbrev pub is_decimal : List ℕ → Bool
-is_decimal text = is_some_text text && (list_all is_digit text && (not (has_zero text) && nat_lt (value_from 0 text) (2 ^ 64)))
+is_decimal text = is_some_text text && (not (has_zero text) && decimal_from 0 text)
 
 -- a key of `arg` behind these: alone, with a text, or with a number
 pub data IsOption (earlier : List Argument) (p q : Place) (x : Argument) : Type 0 where
@@ -148,14 +149,15 @@ abbrev pub IsFurtherAttribute : Place → Place → Attribute → Type 0
 IsFurtherAttribute p q x = (m : Place) × IsToken (codes ",") p m × IsAttribute m q x
 
 -- attributes, of which the last one has this comment
-abbrev pub with_comment : Option (List ℕ) → Attribute → List Attribute → List Attribute
-with_comment comment x [] = record x { comment = comment } ∷ []
-with_comment comment x (y ∷ ys) = x ∷ with_comment comment y ys
+abbrev pub with_comment : Option (List ℕ) → List Attribute → List Attribute
+with_comment comment [] = []
+with_comment comment (x ∷ []) = record x { comment = comment } ∷ []
+with_comment comment (x ∷ y ∷ ys) = x ∷ with_comment comment (y ∷ ys)
 
 -- a line of attributes in brackets; the blanks in front of the next line belong to it
 pub data IsAttributeLine (p q : Place) (xs : List Attribute) : Type 0 where
   in_brackets : (m n o r s : Place) (first : Attribute) (others : List Attribute) (comment : Option (List ℕ)) → IsToken (codes "[") p m → IsAttribute m n first
-      → AreMany IsFurtherAttribute n o others → IsToken (codes "]") o r → IsRest r s comment → q ≡ skip s → xs ≡ with_comment comment first others
+      → AreMany IsFurtherAttribute n o others → IsToken (codes "]") o r → IsRest r s comment → q ≡ skip s → xs ≡ with_comment comment (first ∷ others)
       → IsAttributeLine p q xs
 
 abbrev pub concat : List (List Attribute) → List Attribute

@@ -1,5 +1,5 @@
 -- What a function that reads a list into a vector, or a letter of a text, ensures.
-use Rattle.std.specs.Prelude.{◌≡◌, ◌≢◌, ℕ, List, [], ◌∷◌, ◌++◌, Option, Some, None, Result, Ok, Err, codes}
+use Rattle.std.specs.Prelude.{◌≡◌, ◌≢◌, ℕ, List, [], ◌∷◌, Option, Some, None, Result, Ok, Err, codes}
 use Rattle.std.specs.declared.vec.Vec.{Vec}
 use Rattle.std.specs.declared.alloc.Global.{Global}
 use Rattle.just_read.specs.Place.{Place}
@@ -17,8 +17,3 @@ abbrev pub ReadsLetter : Outcome (List ℕ) → Result (Option ℕ) ReadError �
 ReadsLetter outcome (Ok None) new = outcome ≡ Ok (codes "{{", new)
 ReadsLetter outcome (Ok (Some c)) new = outcome ≡ Ok (c ∷ [], new)
 ReadsLetter outcome (Err e) new = e ≢ NoMemory → outcome ≡ Err e
-
--- what one that reads a list and adds it to a vector ensures
-abbrev pub Appends : {A : Type 0} → Outcome (List A) → List A → Result (Unit {0}) ReadError → List A → Place → Type 0
-Appends {A} outcome before (Ok u) after new = (xs : List A) × (outcome ≡ Ok (xs, new)) × (after ≡ before ++ xs)
-Appends {A} outcome before (Err e) after new = e ≢ NoMemory → outcome ≡ Err e

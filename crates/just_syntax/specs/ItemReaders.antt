@@ -190,14 +190,19 @@ attribute = do
 unfoldable pub further_attribute : Reader Attribute
 further_attribute = token (codes ",") >> attribute
 
+unfoldable pub attribute_list : Reader (List Attribute)
+attribute_list = do
+  x ← attribute
+  xs ← many (begins (codes ",")) further_attribute
+  pure (x ∷ xs)
+
 unfoldable pub attribute_line : Reader (List Attribute)
 attribute_line = do
   token (codes "[")
-  x ← attribute
-  xs ← many (begins (codes ",")) further_attribute
+  xs ← attribute_list
   token (codes "]")
   c ← rest
-  λ p. Ok (with_comment c x xs, skip p)
+  λ p. Ok (with_comment c xs, skip p)
 
 unfoldable pub attributes : Reader (List Attribute)
 attributes = do
@@ -375,14 +380,20 @@ truth = λ p. if is_word (codes "true") p then (word (codes "true") >> pure true
 unfoldable pub further_string : Reader StringLiteral
 further_string = token (codes ",") >> string
 
--- strings with commas between them, and maybe one behind them; or nothing
+-- strings with commas between them, at least one
+unfoldable pub string_list : Reader (List StringLiteral)
+string_list = do
+  s ← string
+  others ← many goes_on_string further_string
+  pure (s ∷ others)
+
+-- these, and maybe a comma behind them; or nothing
 unfoldable pub some_strings : Reader (List StringLiteral)
 some_strings = λ p.
     if begins_string p then (do
-      s ← string
-      others ← many goes_on_string further_string
+      xs ← string_list
       trailing
-      pure (s ∷ others)) p
+      pure xs) p
     else Ok ([], p)
 
 unfoldable pub strings : Reader (List StringLiteral)

@@ -1,8 +1,9 @@
 //! Attributes: lines of them in brackets, and what may stand behind the name of each.
-ghost use Rattle.std.specs.Prelude.{◌≡◌, ◌++◌, []};
+ghost use Rattle.std.specs.Prelude.{◌≡◌, ◌++◌, ◌+◌, ◌*◌, ◌-◌, ◌^◌, ◌&&◌, nat_lt, true, false, [], IfOk, MatchOption};
 ghost use Rattle.just_read.specs.Reader.{Reads};
-ghost use Rattle.just_syntax.specs.Attributes.{goes_on, is_keyed, has_key, is_decimal, is_key_or, may_cache, may_have};
-ghost use Rattle.just_syntax.specs.Collected.{Appends};
+ghost use Rattle.just_syntax.specs.Attributes.{goes_on, is_keyed, with_comment, decimal_from, has_key, is_decimal, is_key_or, may_cache, may_have};
+ghost use Rattle.just_syntax.specs.Characters.{is_digit};
+ghost use Rattle.just_syntax.specs.Collected.{ReadsVec};
 ghost use Rattle.just_syntax.specs.ItemReaders as read;
 
 use super::class::NameStart;
@@ -11,9 +12,9 @@ use super::form::{Form, KeyForm, form_of, is_cache_key, key_form};
 use super::string::string;
 use super::token::{behind_word, name, rest, skip, token};
 use super::{Argument, Attribute, Expr, Name};
-use just_path::Seq;
+use just_path::{Seq, Text};
 use just_read::{Cursor, ReadError};
-use std::alloc::Global;
+use std::alloc::{AllocError, Global};
 
 /// The attributes before an item, line by line.
 #[tactic(auto, using(crate::proofs::AttributeLoops::lines_begin, crate::proofs::AttributeLoops::lines_more, crate::proofs::AttributeLoops::lines_done, crate::proofs::AttributeLoops::lines_wrong, crate::proofs::AttributeLoops::lines_shorter))]
@@ -22,32 +23,62 @@ pub fn attributes(alloc: Global, cursor: &mut Cursor<'_>) -> Result<Seq<Attribut
 {
     let mut found = Vec::new(alloc);
     'lines: while cursor.begins(b"[") {
-        attribute_line(alloc, cursor, &mut found)?;
+        match attribute_line(alloc, cursor) {
+            Ok(line) => append(&mut found, line)?,
+            Err(refused) => return Err(refused),
+        }
     }
     Ok(Seq::from(found))
 }
 
+/// Adds attributes behind others.
+fn append(found: &mut Vec<Attribute>, mut line: Vec<Attribute>) -> Result<(), AllocError>
+    ensures { IfOk result (λ u. found.new.items ≡ found.old.items ++ line.items) }
+{
+    found.append(&mut line)
+}
+
 /// A line of attributes in brackets, with the comment behind it, and the blanks in front of the next line.
-#[tactic(auto, using(crate::proofs::AttributeLoops::line_begin, crate::proofs::AttributeLoops::line_more, crate::proofs::AttributeLoops::line_done, crate::proofs::AttributeLoops::line_wrong, crate::proofs::AttributeLoops::line_shorter))]
-fn attribute_line(
-    alloc: Global,
-    cursor: &mut Cursor<'_>,
-    found: &mut Vec<Attribute>,
-) -> Result<(), ReadError>
-    ensures { Appends (read.attribute_line cursor.old) found.old.items result found.new.items cursor.new }
+#[tactic(auto, unfolding(crate::specs::ItemReaders::attribute_line))]
+fn attribute_line(alloc: Global, cursor: &mut Cursor<'_>) -> Result<Vec<Attribute>, ReadError>
+    ensures { ReadsVec (read.attribute_line cursor.old) result cursor.new }
 {
     token(cursor, b"[")?;
-    let mut last = attribute(alloc, cursor)?;
-    'attributes: while cursor.begins(b",") {
-        let next = further_attribute(alloc, cursor)?;
-        found.push(last)?;
-        last = next;
-    }
+    let mut found = attribute_list(alloc, cursor)?;
     token(cursor, b"]")?;
-    last.comment = rest(alloc, cursor)?;
+    let comment = rest(alloc, cursor)?;
     skip(cursor);
-    found.push(last)?;
+    comment_last(&mut found, comment)?;
+    Ok(found)
+}
+
+/// Gives the last attribute its comment.
+#[tactic(auto, using(crate::proofs::Comments::comment_last, crate::proofs::Comments::comment_none))]
+fn comment_last(found: &mut Vec<Attribute>, comment: Option<Text>) -> Result<(), AllocError>
+    ensures { IfOk result (λ u. found.new.items ≡ with_comment comment found.old.items) }
+{
+    if let Some(mut last) = found.pop() {
+        last.comment = comment;
+        found.push(last)?;
+    }
     Ok(())
+}
+
+/// Attributes with commas between them, at least one.
+#[tactic(auto, using(crate::proofs::AttributeLoops::list_begin, crate::proofs::AttributeLoops::list_more, crate::proofs::AttributeLoops::list_done, crate::proofs::AttributeLoops::list_wrong, crate::proofs::AttributeLoops::list_shorter, crate::proofs::AttributeLoops::list_refused))]
+fn attribute_list(alloc: Global, cursor: &mut Cursor<'_>) -> Result<Vec<Attribute>, ReadError>
+    ensures { ReadsVec (read.attribute_list cursor.old) result cursor.new }
+{
+    let first = attribute(alloc, cursor)?;
+    let mut found = Vec::new(alloc);
+    found.push(first)?;
+    'attributes: while cursor.begins(b",") {
+        match further_attribute(alloc, cursor) {
+            Ok(next) => found.push(next)?,
+            Err(refused) => return Err(refused),
+        }
+    }
+    Ok(found)
 }
 
 /// A comma and an attribute.
@@ -162,7 +193,7 @@ fn arguments(
 }
 
 /// Arguments with commas between them, at least one.
-#[tactic(auto, using(crate::proofs::AttributeLoops::arguments_begin, crate::proofs::AttributeLoops::arguments_more, crate::proofs::AttributeLoops::arguments_done, crate::proofs::AttributeLoops::arguments_wrong, crate::proofs::AttributeLoops::arguments_shorter))]
+#[tactic(auto, using(crate::proofs::AttributeLoops::arguments_begin, crate::proofs::AttributeLoops::arguments_more, crate::proofs::AttributeLoops::arguments_done, crate::proofs::AttributeLoops::arguments_wrong, crate::proofs::AttributeLoops::arguments_shorter, crate::proofs::AttributeLoops::arguments_refused))]
 fn argument_list(
     alloc: Global,
     cursor: &mut Cursor<'_>,
@@ -384,11 +415,35 @@ fn number(alloc: Global, cursor: &mut Cursor<'_>, key: Name) -> Result<Argument,
 fn is_decimal(text: &str) -> bool
     ensures { result ≡ is_decimal text.now }
 {
-    let bytes = text.as_bytes();
-    if bytes.len() > 1 && bytes[0] == b'0' {
-        return false;
+    match text.as_bytes() {
+        [] => false,
+        [b'0', _, ..] => false,
+        bytes => is_decimal_from(bytes),
     }
-    bytes.iter().all(|byte| byte.is_ascii_digit()) && text.parse::<u64>().is_ok()
+}
+
+/// Whether these are digits of a number below 2 ^ 64.
+fn is_decimal_from(digits: &[u8]) -> bool
+    ensures { result ≡ decimal_from 0 digits.now }
+{
+    let mut number: u64 = 0;
+    'digits: for digit in digits {
+        match with_digit(number, *digit) {
+            Some(next) => number = next,
+            None => return false,
+        }
+    }
+    true
+}
+
+/// A number with one more digit, if this is one and the number stays below 2 ^ 64.
+fn with_digit(number: u64, digit: u8) -> Option<u64>
+    ensures { MatchOption result ((is_digit digit && nat_lt (number * 10 + (digit - 48)) (2 ^ 64)) ≡ false) (λ n. ((is_digit digit && nat_lt (number * 10 + (digit - 48)) (2 ^ 64)) ≡ true) × (n ≡ number * 10 + (digit - 48))) }
+{
+    if !digit.is_ascii_digit() {
+        return None;
+    }
+    number.checked_mul(10)?.checked_add(u64::from(digit - b'0'))
 }
 
 /// Whether one of the arguments has this key, with a value or alone.

@@ -1,8 +1,9 @@
 //! Texts without the indentation that their lines share.
-ghost use Rattle.std.specs.Prelude.{◌≡◌, ◌<◌, ◌≤◌, [], ◌∷◌, ◌++◌, Some, None, length, drop, take, IfOk, MatchOption, chars, encode_utf8_all, string_bytes, codes, true, false, List, ℕ};
+ghost use Rattle.std.specs.Prelude.{◌≡◌, ◌<◌, ◌≤◌, ◌&&◌, not, [], ◌∷◌, ◌++◌, Some, None, length, drop, take, IfOk, MatchOption, chars, encode_utf8_all, string_bytes, codes, true, false, List, ℕ};
+ghost use Rattle.std.specs.Option.{option_copied};
 ghost use Rattle.just_read.specs.Place.{run};
 ghost use Rattle.just_syntax.specs.Characters.{is_blank};
-ghost use Rattle.just_syntax.specs.Indentation.{lines_of, is_blank_text, common, shared, count_of, given, unindented};
+ghost use Rattle.just_syntax.specs.Indentation.{lines_of, is_blank_text, common, shared, shared_with, line_gives, has_more, first_length, count_of, given, unindented};
 
 use just_path::{NoMemory, Text};
 use std::alloc::{AllocError, Global};
@@ -55,15 +56,37 @@ fn given(alloc: Global, text: &[char], count: usize) -> Result<Vec<char>, AllocE
     let mut rest = text;
     let mut is_first = true;
     'lines: while let Some((line, behind)) = split_line(rest) {
-        if !is_blank(line) {
-            push_all(&mut found, behind_blanks(line, count))?;
-        } else if !is_first && !behind.is_empty() {
-            found.push('\n')?;
-        }
+        add_line(&mut found, line, count, is_inner(is_first, behind))?;
         rest = behind;
         is_first = false;
     }
     Ok(found)
+}
+
+/// Whether a line is neither the first nor the last.
+#[tactic(auto, using(crate::proofs::SharedBlanks::more_lines, crate::proofs::SharedBlanks::no_lines))]
+fn is_inner(is_first: bool, behind: &[char]) -> bool
+    ensures { result ≡ (not is_first && has_more (lines_of behind.now)) }
+{
+    !is_first && !behind.is_empty()
+}
+
+/// Adds what a line gives.
+fn add_line(
+    found: &mut Vec<char>,
+    line: &[char],
+    count: usize,
+    inner: bool,
+) -> Result<(), AllocError>
+    ensures { IfOk result (λ u. found.new.items ≡ found.old.items ++ line_gives count inner line.now) }
+{
+    if !is_blank(line) {
+        return push_all(found, behind_blanks(line, count));
+    }
+    if inner {
+        found.push('\n')?;
+    }
+    Ok(())
 }
 
 /// What is left of a line behind so many characters.
@@ -87,8 +110,9 @@ fn push_all(found: &mut Vec<char>, characters: &[char]) -> Result<(), AllocError
 }
 
 /// The first line with its line feed, and what follows it.
+#[tactic(auto, using(crate::proofs::SharedBlanks::lines_cut, crate::proofs::SharedBlanks::first_some))]
 fn split_line(text: &[char]) -> Option<(&[char], &[char])>
-    ensures { MatchOption result (text.now ≡ []) (λ s. (0 < length s.0.now) × (text.now ≡ s.0.now ++ s.1.now) × (lines_of text.now ≡ s.0.now ∷ lines_of s.1.now)) }
+    ensures { MatchOption result (text.now ≡ []) (λ s. (length s.1.now < length text.now) × (lines_of text.now ≡ s.0.now ∷ lines_of s.1.now)) }
 {
     if text.is_empty() {
         return None;
@@ -98,10 +122,12 @@ fn split_line(text: &[char]) -> Option<(&[char], &[char])>
 }
 
 /// How many characters the first line has, its line feed too.
+#[tactic(auto, using(crate::proofs::SharedBlanks::length_feed, crate::proofs::SharedBlanks::length_more, crate::proofs::SharedBlanks::length_end, crate::proofs::SharedBlanks::first_le))]
 fn line_length(text: &[char]) -> usize
-    ensures { result ≤ length text.now }
+    ensures exact { result ≡ first_length text.now }
+    ensures within { result ≤ length text.now }
 {
-    for at in 0..text.len() {
+    'letters: for at in 0..text.len() {
         if text[at] == '\n' {
             return at + 1;
         }
@@ -119,28 +145,46 @@ fn is_blank(line: &[char]) -> bool
 
 /// The longest front of blanks that all lines share which aren't blank.
 fn shared(text: &[char]) -> Option<&[char]>
-    ensures { MatchOption result (shared (lines_of text.now) ≡ None) (λ s. shared (lines_of text.now) ≡ Some s.now) }
+    ensures { option_copied result ≡ shared (lines_of text.now) }
 {
     let mut shared: Option<&[char]> = None;
     let mut rest = text;
     'lines: while let Some((line, behind)) = split_line(rest) {
-        if !is_blank(line) {
-            let blanks = &line[..count_blanks(line)];
-            shared = Some(match shared {
-                None => blanks,
-                Some(before) => &before[..count_common(before, blanks)],
-            });
-        }
+        shared = shared_with(shared, line);
         rest = behind;
     }
     shared
 }
 
-/// How many blanks a line begins with.
-fn count_blanks(line: &[char]) -> usize
-    ensures { result ≤ length line.now }
+/// What a line shares with those before it.
+fn shared_with<'a>(before: Option<&'a [char]>, line: &'a [char]) -> Option<&'a [char]>
+    ensures { option_copied result ≡ shared_with (option_copied before.entry) line.entry.now }
 {
-    for at in 0..line.len() {
+    if is_blank(line) {
+        return before;
+    }
+    let blanks = front_blanks(line);
+    match before {
+        None => Some(blanks),
+        Some(shared) => Some(front_common(shared, blanks)),
+    }
+}
+
+/// The blanks that a line begins with.
+#[tactic(auto, using(crate::proofs::SharedBlanks::take_run))]
+fn front_blanks(line: &[char]) -> &[char]
+    ensures { result.now ≡ run is_blank line.now }
+{
+    &line[..count_blanks(line)]
+}
+
+/// How many these are.
+#[tactic(auto, using(crate::proofs::SharedBlanks::run_more, crate::proofs::SharedBlanks::run_stop, crate::proofs::SharedBlanks::run_end, crate::proofs::SharedBlanks::run_le))]
+fn count_blanks(line: &[char]) -> usize
+    ensures exact { result ≡ length (run is_blank line.now) }
+    ensures within { result ≤ length line.now }
+{
+    'letters: for at in 0..line.len() {
         if !matches!(line[at], ' ' | '\t') {
             return at;
         }
@@ -148,12 +192,25 @@ fn count_blanks(line: &[char]) -> usize
     line.len()
 }
 
-/// How long the front is that two texts share.
-fn count_common(one: &[char], other: &[char]) -> usize
-    ensures { result ≤ length one.now }
+/// The front that two texts share.
+#[tactic(auto, using(crate::proofs::SharedBlanks::take_common))]
+fn front_common<'a>(one: &'a [char], other: &[char]) -> &'a [char]
+    ensures { result.now ≡ common one.now other.now }
 {
-    for at in 0..one.len() {
-        if at >= other.len() || one[at] != other[at] {
+    &one[..count_common(one, other)]
+}
+
+/// How long it is.
+#[tactic(auto, using(crate::proofs::SharedBlanks::common_more, crate::proofs::SharedBlanks::common_short, crate::proofs::SharedBlanks::common_stop, crate::proofs::SharedBlanks::common_end, crate::proofs::SharedBlanks::common_le))]
+fn count_common(one: &[char], other: &[char]) -> usize
+    ensures exact { result ≡ length (common one.now other.now) }
+    ensures within { result ≤ length one.now }
+{
+    'letters: for at in 0..one.len() {
+        if at >= other.len() {
+            return at;
+        }
+        if one[at] != other[at] {
             return at;
         }
     }

@@ -346,7 +346,7 @@ fn strings(alloc: Global, cursor: &mut Cursor<'_>) -> Result<Seq<StringLiteral>,
 }
 
 /// Strings with commas between them, and maybe one behind them; or nothing.
-#[tactic(auto, using(crate::proofs::Loops::strings_none, crate::proofs::Loops::strings_begin, crate::proofs::Loops::strings_more, crate::proofs::Loops::strings_done, crate::proofs::Loops::strings_wrong, crate::proofs::Loops::strings_shorter))]
+#[tactic(auto, unfolding(crate::specs::ItemReaders::some_strings))]
 fn some_strings(
     alloc: Global,
     cursor: &mut Cursor<'_>,
@@ -356,6 +356,19 @@ fn some_strings(
     if !begins_string(cursor) {
         return Ok(Seq::new(alloc));
     }
+    let found = string_list(alloc, cursor)?;
+    trailing(cursor)?;
+    Ok(found)
+}
+
+/// Strings with commas between them, at least one.
+#[tactic(auto, using(crate::proofs::AttributeLoops::strings_begin, crate::proofs::AttributeLoops::strings_more, crate::proofs::AttributeLoops::strings_done, crate::proofs::AttributeLoops::strings_wrong, crate::proofs::AttributeLoops::strings_shorter, crate::proofs::AttributeLoops::strings_refused))]
+fn string_list(
+    alloc: Global,
+    cursor: &mut Cursor<'_>,
+) -> Result<Seq<StringLiteral>, ReadError>
+    ensures { Reads (read.string_list cursor.old) result cursor.new }
+{
     let first = string(alloc, cursor)?;
     let mut found = Vec::new(alloc);
     found.push(first)?;
@@ -365,6 +378,5 @@ fn some_strings(
             Err(refused) => return Err(refused),
         }
     }
-    trailing(cursor)?;
     Ok(Seq::from(found))
 }
