@@ -16,6 +16,7 @@ pub mod ExprShorter
 pub mod Shorter
 pub mod Loops
 pub mod TextLoop
+pub mod CookedLoop
 pub mod Blanks
 pub mod SharedBlanks
 pub mod Comments

@@ -1,13 +1,14 @@
 -- Lines of a text, and the blanks that they share, as loops find them.
-use Rattle.std.proofs.Common.{◌≡◌, ℕ, zero, suc, ◌+◌, ◌<◌, ◌≤◌, ◌==◌, Bool, true, false, not, if◌then◌else◌, List, [], ◌∷◌, ◌++◌, length, take, drop, get_or, drop-cons, add-one, refl, sym, ap, ◌∙◌, arith}
+use Rattle.std.proofs.Common.{◌≡◌, ℕ, zero, suc, ◌+◌, ◌-◌, ◌<◌, ◌≤◌, ◌==◌, Bool, true, false, not, ◌&&◌, if◌then◌else◌, List, [], ◌∷◌, ◌++◌, length, take, drop, get_or, drop-cons, add-one, refl, sym, ap, ◌∙◌, arith}
 use Rattle.std.proofs.lemmas.Bool.{false≢true}
+use Rattle.std.proofs.lemmas.List.{take_all, length-drop}
 use Rattle.just_read.specs.Place.{run, is_empty}
 use Rattle.just_syntax.specs.Characters.{is_blank}
 use Rattle.just_syntax.specs.Indentation.{joined_line, lines_of, common, has_more, first_length}
 
 -- a text from one of its letters on
 drop_next : (i : ℕ) (text : List ℕ) → i < length text → drop i text ≡ get_or text i 0 ∷ drop (i + 1) text
-drop_next i text h = drop-cons text i 0 ∙ ap (λ (n : ℕ). get_or text i 0 ∷ drop n text) (sym (add-one i))
+drop_next i text h = drop-cons text i 0 h ∙ ap (λ (n : ℕ). get_or text i 0 ∷ drop n text) (sym (add-one i))
 
 -- ---- the first line
 
@@ -71,8 +72,20 @@ pub more_lines : (text : List ℕ) → (text ≡ [] → ⊥) → has_more (lines
 more_lines [] n = absurd (n refl)
 more_lines (c ∷ text) n = more_if (c == 10) c text
 
-pub no_lines : (text : List ℕ) → text ≡ [] → has_more (lines_of text) ≡ false
-no_lines text e = rw e refl
+more_lines_of : (b : Bool) (m : Bool) → m ≡ true → b ≡ (b && m)
+more_lines_of true m e = sym e
+more_lines_of false m e = refl
+
+none_of : (b : Bool) → false ≡ (b && false)
+none_of true = refl
+none_of false = refl
+
+-- whether a line is neither the first nor the last
+pub inner_some : (b : Bool) (text : List ℕ) → (text ≡ [] → ⊥) → not b ≡ (not b && has_more (lines_of text))
+inner_some b text n = more_lines_of (not b) (has_more (lines_of text)) (more_lines text n)
+
+pub inner_none : (b : Bool) (text : List ℕ) → text ≡ [] → false ≡ (not b && has_more (lines_of text))
+inner_none b text e = rw e (none_of (not b))
 
 -- ---- blanks in front
 
@@ -145,3 +158,18 @@ common_short i one other h k = rw (drop-cons one i 0, drop_past i other k) refl
 
 pub common_end : (one other : List ℕ) → length (common (drop (length one) one) (drop (length one) other)) ≡ 0
 common_end one other = rw (drop_past (length one) one (omega arith)) refl
+
+-- ---- a line cut off
+
+some_length : (text : List ℕ) → (text ≡ [] → ⊥) → 0 < length text
+some_length [] n = absurd (n refl)
+some_length (c ∷ text) n = omega arith
+
+-- a line that is cut off, and what is left
+pub split_is : (text : List ℕ) (n : ℕ) → (text ≡ [] → ⊥) → n ≡ first_length text
+    → (length (take (length text - n) (drop n text)) < length text) × (lines_of text ≡ take n text ∷ lines_of (take (length text - n) (drop n text)))
+split_is text n h e =
+    let some : 0 < length text = some_length text h in
+    let rest : take (length text - n) (drop n text) ≡ drop n text = take_all (length text - n) (drop n text) (omega (arith, length-drop n text)) in
+    let first : 0 < n = rw e (first_some text some) in
+    rw rest (omega (arith, length-drop n text), rw e (lines_cut text some))

@@ -27,7 +27,7 @@ pub begin : (p : Place) → item.text p ≡ text_to_come [] p
 unfolding item.text text_to_come
 begin p = begins_with (many is_text item.letter p)
 
-encode_append : (xs ys : List ℕ) → encode_utf8_all (xs ++ ys) ≡ encode_utf8_all xs ++ encode_utf8_all ys
+pub encode_append : (xs ys : List ℕ) → encode_utf8_all (xs ++ ys) ≡ encode_utf8_all xs ++ encode_utf8_all ys
 encode_append [] ys = refl
 encode_append (c ∷ xs) ys =
     ap (λ (r : List ℕ). encode_utf8 c ++ r) (encode_append xs ys) ∙ sym (append_assoc (encode_utf8 c) (encode_utf8_all xs) (encode_utf8_all ys))

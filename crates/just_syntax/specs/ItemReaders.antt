@@ -36,31 +36,19 @@ use Rattle.just_syntax.specs.declared.item.Opening.{Opening}
 use Rattle.just_syntax.specs.declared.item.Opening.TheVariants as opening
 use Rattle.just_syntax.specs.Characters.{begins_name}
 use Rattle.just_syntax.specs.Places.{skip, is_word, behind_word, ends_line, is_blank_line}
-use Rattle.just_syntax.specs.Strings.{begins_string, is_cooked, plain_text, concat}
+use Rattle.just_syntax.specs.Strings.{begins_string, concat}
 use Rattle.just_syntax.specs.Forms.{form_of, may_be_bare, has_colon, key_form, may_stand_alone, sort_of}
 use Rattle.just_syntax.specs.Attributes.{argument_at, is_keyed, may_cache, may_have, is_decimal, goes_on, attribute_of, with_comment, concat as concat_lines}
 use Rattle.just_syntax.specs.Recipes.{begins_parameter, begins_dependency, listed}
 use Rattle.just_syntax.specs.Bodies.{opens, is_text, is_body_line}
 use Rattle.just_syntax.specs.Items.{opening_at, opens_module, goes_on as goes_on_string}
 use Rattle.just_syntax.specs.File.{indentation_at, is_in_body, behind_blank, behind_item}
+use Rattle.just_syntax.specs.Meanings.{text_of}
 use Rattle.just_syntax.specs.Readers.{token, word, maybe, name, path, newline, blank_line, comment, rest, piece, string, value, level, inner}
 
 -- an expression, in which at most 256 levels are open at a place
 abbrev pub expr : Reader Expr
 expr = level (inner 256)
-
--- ---- the text of a string
-
-abbrev pub texts_of : Outcome (List (List ℕ)) → Option (List ℕ)
-texts_of (Ok s) = Some (encode_utf8_all (concat s.0))
-texts_of (Err e) = None
-
--- the text of its pieces, where each is one
-unfoldable pub cooked_text : List ℕ → Option (List ℕ)
-cooked_text text = texts_of (many (λ p. not (is_end p)) (piece true) (start text))
-
-abbrev pub text_of : StringLiteral → Option (List ℕ)
-text_of x = if is_cooked x.quote then cooked_text (plain_text x) else Some (encode_utf8_all (plain_text x))
 
 -- ---- attributes
 

@@ -11,6 +11,9 @@ pub mod Bodies
 pub mod Items
 pub mod File
 pub mod Readers
+pub mod Meanings
 pub mod Given
 pub mod Collected
 pub mod ItemReaders
+pub mod Deep
+pub mod Faults

@@ -64,11 +64,14 @@ fn given(alloc: Global, text: &[char], count: usize) -> Result<Vec<char>, AllocE
 }
 
 /// Whether a line is neither the first nor the last.
-#[tactic(auto, using(crate::proofs::SharedBlanks::more_lines, crate::proofs::SharedBlanks::no_lines))]
+#[tactic(auto, using(crate::proofs::SharedBlanks::inner_some, crate::proofs::SharedBlanks::inner_none))]
 fn is_inner(is_first: bool, behind: &[char]) -> bool
     ensures { result ≡ (not is_first && has_more (lines_of behind.now)) }
 {
-    !is_first && !behind.is_empty()
+    if behind.is_empty() {
+        return false;
+    }
+    !is_first
 }
 
 /// Adds what a line gives.

@@ -3,8 +3,9 @@ ghost use Rattle.std.specs.Prelude.{◌≡◌, ◌<◌, ◌≤◌, ◌^◌, [], 
 ghost use Rattle.just_read.specs.Place.{next, run, starts, first};
 ghost use Rattle.just_read.specs.Reader.{Reads};
 ghost use Rattle.just_syntax.specs.Characters.{is_hex};
-ghost use Rattle.just_syntax.specs.Strings.{begins_string, quote_at, goes_on, digit_value, IsTextOf, IsCooked};
+ghost use Rattle.just_syntax.specs.Strings.{begins_string, quote_at, goes_on, digit_value};
 ghost use Rattle.just_syntax.specs.Given.{ReadsSome};
+ghost use Rattle.just_syntax.specs.Meanings.{cooked_text, text_of, TellsText};
 ghost use Rattle.just_syntax.specs.Readers as read;
 
 use super::class::QuoteMark;
@@ -232,13 +233,9 @@ fn next_digit(cursor: &mut Cursor<'_>) -> Option<u32>
 
 impl StringLiteral {
     /// The text that it means, before an `x` in front expands it: a block without its indentation, a double quoted one
-    /// with its escapes' meanings.
+    /// with its escapes' meanings. Where an escape is none it means no text.
     pub fn text(&self, alloc: Global) -> Result<Text, ReadError>
-        // What is answered, it means.
-        ensures found { IfOk result (IsTextOf self.now) }
-        // What it means is answered, unless memory is wanting; a text with a false escape means nothing.
-        ensures only { (t : List ℕ) → IsTextOf self.now t → MatchResult result (λ found. found ≡ t) (λ e. e ≡ ReadError.NoMemory) }
-        ensures err { IfErr result (λ e. e ≢ ReadError.Depth) }
+        ensures { TellsText (text_of self.now) result }
     {
         let characters = if self.quote.is_block() {
             unindented(alloc, self.raw.as_str())?
@@ -246,24 +243,25 @@ impl StringLiteral {
             characters(alloc, self.raw.as_str())?
         };
         if self.quote.is_cooked() {
-            cooked(alloc, characters.as_slice())
-        } else {
-            Ok(text_of(alloc, characters.as_slice())?)
+            return cooked(alloc, characters.as_slice());
         }
+        Ok(text_of(alloc, characters.as_slice())?)
     }
 }
 
 /// A text with the meanings of its escapes.
+#[tactic(auto, using(crate::proofs::CookedLoop::more_letter, crate::proofs::CookedLoop::more_nothing, crate::proofs::CookedLoop::done, crate::proofs::CookedLoop::wrong, crate::proofs::CookedLoop::shorter))]
 fn cooked(alloc: Global, text: &[char]) -> Result<Text, ReadError>
-    ensures found { IfOk result (λ t. (gives : List ℕ) × IsCooked text.now gives × (t ≡ encode_utf8_all gives)) }
-    ensures only { (gives : List ℕ) → IsCooked text.now gives → MatchResult result (λ t. t ≡ encode_utf8_all gives) (λ e. e ≡ ReadError.NoMemory) }
-    ensures err { IfErr result (λ e. e ≢ ReadError.Depth) }
+    ensures { TellsText (cooked_text text.now) result }
 {
     let mut cursor = Cursor::new(text);
     let mut meant = String::new(alloc);
     'pieces: while !cursor.is_at_end() {
-        if let Some(c) = piece(&mut cursor, true)? {
-            meant.push(c)?;
+        match piece(&mut cursor, true) {
+            Ok(Some(c)) => meant.push(c)?,
+            Ok(None) => {}
+            Err(ReadError::NoMemory) => return Err(ReadError::NoMemory),
+            Err(ReadError::Syntax | ReadError::Depth) => return Err(ReadError::Syntax),
         }
     }
     Ok(Text::from(meant))

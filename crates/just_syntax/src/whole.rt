@@ -1,8 +1,8 @@
 //! A text whole: its tree, or its fault.
-ghost use Rattle.std.specs.Prelude.{◌≡◌, IfOk, IfErr, MatchResult, List, ℕ, Option, Some, None, chars};
+ghost use Rattle.std.specs.Prelude.{◌≡◌, IfOk, IfErr, MatchResult, List, None, chars};
 ghost use Rattle.just_syntax.specs.declared.ast.AstItem.{AstItem};
 ghost use Rattle.just_syntax.specs.File.{IsFile, first_left_out};
-ghost use Rattle.just_syntax.specs.ItemReaders as read;
+ghost use Rattle.just_syntax.specs.Faults.{Refuses};
 
 use super::entry::{Body, Entry, gather, read_entry};
 use super::indentation::characters;
@@ -13,7 +13,14 @@ use std::alloc::Global;
 
 /// The tree of a justfile's text. A text that has none is refused at the line at which its longest front of items and
 /// body lines ends; one that has a tree with a left-out setting or attribute is refused at its name.
-pub fn parse(alloc: Global, text: &str) -> Result<Ast, ParseError> {
+pub fn parse(alloc: Global, text: &str) -> Result<Ast, ParseError>
+    // What is answered is the tree of the text, and has no left-out name.
+    ensures found { IfOk result (λ a. IsFile (chars text.now) a.items × (first_left_out a.items ≡ None)) }
+    // The tree of the text is answered, unless memory is wanting: so it has one tree at most.
+    ensures only { (items : List AstItem) → IsFile (chars text.now) items → first_left_out items ≡ None → MatchResult result (λ a. a.items ≡ items) (λ e. e ≡ ParseError.NoMemory) }
+    // A fault is where the text stops being entries, or the first left-out name of its tree.
+    ensures refused { IfErr result (Refuses (chars text.now)) }
+{
     let entries = entries_of(alloc, text)?;
     let items = gather(alloc, entries)?;
     match first_left_out(items.as_slice()) {
