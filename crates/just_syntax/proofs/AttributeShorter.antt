@@ -19,6 +19,7 @@ use Rattle.just_syntax.specs.Characters.{is_blank, in_line}
 use Rattle.just_syntax.specs.Places.{skip, crlf, without_returns}
 use Rattle.just_syntax.specs.Forms.{form_of, may_be_bare, has_colon, key_form, may_stand_alone}
 use Rattle.just_syntax.specs.Attributes.{argument_at, attribute_of, is_keyed, may_cache, may_have, with_comment, goes_on}
+use Rattle.just_syntax.specs.Meanings.{text_of}
 use Rattle.just_syntax.specs.ItemReaders as item
 use Rattle.just_syntax.specs.Readers as reader
 use Rattle.just_syntax.proofs.Texts.{behind_le, next_le}
@@ -97,7 +98,7 @@ number_le n p q x h =
     ⊎_elim
     (λ (t : _). most_at p m q (ok_place (argument_at (Some n) p (e.Literal s)) x m q t.1) (omega (arith, string_lt p m s (string_ok p m s h1))))
     (λ (t : _). absurd (let no : ⊥ = cc (t.1) in no))
-    (choose (item.is_some_decimal (item.text_of s)) (Ok (argument_at (Some n) p (e.Literal s), m)) (Err Syntax) (Ok (x, q)) k1)
+    (choose (item.is_some_decimal (text_of s)) (Ok (argument_at (Some n) p (e.Literal s), m)) (Err Syntax) (Ok (x, q)) k1)
 
 valued_le : (form : KeyForm) (n : Name) (p q : Place) (x : Argument) → item.valued form n p ≡ Ok (x, q) → length q.rest ≤ length p.rest
 valued_le Alone n p q x h = absurd (let no : ⊥ = cc (h) in no)
