@@ -264,13 +264,27 @@ fn setting_value(
         };
     }
     token(cursor, b":=")?;
-    let value = match sort {
-        Sort::Flag => SettingValue::Bool(truth(cursor)?),
-        Sort::Text => text_value(alloc, cursor)?,
-        Sort::List => list_value(alloc, cursor)?,
-        Sort::Open => open_value(alloc, cursor)?,
-    };
+    let value = value_of(alloc, cursor, sort)?;
     Ok(Some(value))
+}
+
+/// A value of that sort.
+fn value_of(
+    alloc: Global,
+    cursor: &mut Cursor<'_>,
+    sort: Sort,
+) -> Result<SettingValue, ReadError>
+    ensures { Reads (read.value_of sort cursor.old) result cursor.new }
+{
+    match sort {
+        Sort::Flag => {
+            let flag = truth(cursor)?;
+            Ok(SettingValue::Bool(flag))
+        }
+        Sort::Text => text_value(alloc, cursor),
+        Sort::List => list_value(alloc, cursor),
+        Sort::Open => open_value(alloc, cursor),
+    }
 }
 
 fn text_value(alloc: Global, cursor: &mut Cursor<'_>) -> Result<SettingValue, ReadError>
