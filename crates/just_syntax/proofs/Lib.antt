@@ -22,3 +22,4 @@ pub mod SharedBlanks
 pub mod Comments
 pub mod AttributeShorter
 pub mod AttributeLoops
+pub mod Gather

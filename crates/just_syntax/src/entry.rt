@@ -1,7 +1,7 @@
 //! The entries of a text: what stands in it line by line, before body lines are gathered into their recipes.
-ghost use Rattle.std.specs.Prelude.{◌≡◌, [], ◌++◌, ◌∷◌, IfOk, List};
+ghost use Rattle.std.specs.Prelude.{◌≡◌, reverse, IfOk};
 ghost use Rattle.just_read.specs.Reader.{Reads};
-ghost use Rattle.just_syntax.specs.File.{items_of};
+ghost use Rattle.just_syntax.specs.File.{items_of, gather_blank};
 ghost use Rattle.just_syntax.specs.ItemReaders as read;
 
 use super::body::{blanks, body_line, is_body_line};
@@ -120,6 +120,7 @@ fn entry_item(alloc: Global, cursor: &mut Cursor<'_>) -> Result<(Entry, Body), R
 }
 
 /// The items of a text's entries: each recipe has the lines that follow it, and the blank lines between these.
+#[tactic(auto, using(crate::proofs::Gather::gather_begin, crate::proofs::Gather::gather_last, crate::proofs::Gather::gather_end, crate::proofs::Gather::reverse_last))]
 pub fn gather(alloc: Global, mut entries: Vec<Entry>) -> Result<Seq<AstItem>, NoMemory>
     ensures { IfOk result (λ items. items ≡ items_of entries.items) }
 {
@@ -137,25 +138,39 @@ pub fn gather(alloc: Global, mut entries: Vec<Entry>) -> Result<Seq<AstItem>, No
             Entry::Line(line) => lines.push(line)?,
         }
     }
-    items.as_mut_slice().reverse();
-    Ok(Seq::from(items))
+    Ok(turned(alloc, items)?)
+}
+
+/// The items of a list from the last one on.
+#[tactic(auto, using(crate::proofs::Gather::turned_more, crate::proofs::Gather::turned_end))]
+fn turned<T: Drop>(alloc: Global, mut from: Vec<T>) -> Result<Seq<T>, AllocError>
+    ensures { IfOk result (λ s. s ≡ reverse from.items) }
+{
+    let mut found = Vec::new(alloc);
+    'items: while let Some(item) = from.pop() {
+        found.push(item)?;
+    }
+    Ok(Seq::from(found))
 }
 
 /// Adds a blank line: to the lines of a body, the last one first, where there are any, else to the items.
+#[tactic(auto, using(crate::proofs::Gather::blank_item, crate::proofs::Gather::blank_line_more))]
 fn add_blank(
     alloc: Global,
     number: usize,
     lines: &mut Vec<Line>,
     items: &mut Vec<AstItem>,
-) -> Result<(), AllocError> {
+) -> Result<(), AllocError>
+    ensures { IfOk result (λ u. (reverse lines.new.items, reverse items.new.items) ≡ gather_blank number (reverse lines.old.items) (reverse items.old.items)) }
+{
     if lines.is_empty() {
         items.push(AstItem::Blank)?;
-    } else {
-        lines.push(Line {
-            number,
-            fragments: Seq::new(alloc),
-        })?;
+        return Ok(());
     }
+    lines.push(Line {
+        number,
+        fragments: Seq::new(alloc),
+    })?;
     Ok(())
 }
 
@@ -163,10 +178,11 @@ fn add_blank(
 fn with_body(
     alloc: Global,
     recipe: Boxed<AstRecipe>,
-    mut lines: Vec<Line>,
-) -> Result<AstItem, NoMemory> {
-    lines.as_mut_slice().reverse();
+    lines: Vec<Line>,
+) -> Result<AstItem, NoMemory>
+    ensures { IfOk result (λ x. x ≡ AstItem.Recipe (record recipe { body = reverse lines.items })) }
+{
     let mut recipe = recipe.into_inner();
-    recipe.body = Seq::from(lines);
+    recipe.body = turned(alloc, lines)?;
     Ok(AstItem::Recipe(Boxed::new(alloc, recipe)?))
 }
