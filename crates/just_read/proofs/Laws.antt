@@ -1,7 +1,7 @@
 -- What the crate offers to the proofs of crates above: laws of places, of outcomes and of loops over readers.
-use Rattle.std.proofs.Common.{◌≡◌, ℕ, ◌<◌, ◌≤◌, Bool, true, false, if◌then◌else◌, ◌⊎◌, List, [], ◌∷◌, length, Some, None, Ok, Err}
+use Rattle.std.proofs.Common.{◌≡◌, ℕ, ◌<◌, ◌≤◌, Bool, true, false, if◌then◌else◌, ◌⊎◌, List, [], ◌∷◌, ◌++◌, length, Some, None, Ok, Err}
 use Rattle.just_read.specs.Place.{Place, next, past, run, first, starts, sees, is_end, IsCharacter, Rule, AreMany}
-use Rattle.just_read.specs.Reader.{Outcome, Reader, and_then, pure, expect, many}
+use Rattle.just_read.specs.Reader.{Outcome, Reader, and_then, pure, expect, step, many}
 use Rattle.just_read.specs.declared.error.ReadError.{ReadError}
 use Rattle.just_read.proofs.Steps as steps
 use Rattle.just_read.proofs.Outcomes as outcomes
@@ -81,6 +81,19 @@ length_before_end = steps.length_before_end
 pub not_end_of_length : (p : Place) → 0 < length p.rest → is_end p ≡ false
 not_end_of_length = steps.not_end_of_length
 
+-- behind the end of the text it stays
+pub next_end : (p : Place) → p.rest ≡ [] → next p ≡ p
+next_end = steps.next_end
+
+-- what a loop over a run has collected, and what is still to come
+pub collected_more : (t : ℕ → Bool) (p : Place) (c : ℕ) (front : List ℕ) → first p ≡ Some c → starts t p ≡ true
+    → (front ++ c ∷ []) ++ run t (next p).rest ≡ front ++ run t p.rest
+collected_more = steps.collected_more
+
+-- where the run is at its end, nothing is
+pub collected_all : (t : ℕ → Bool) (p : Place) (front : List ℕ) → starts t p ≡ false → front ++ run t p.rest ≡ front
+collected_all = steps.collected_all
+
 -- ---- outcomes
 
 -- a chain that succeeds did so at its first link, and goes on from there
@@ -120,6 +133,10 @@ expect_again = outcomes.expect_again
 
 module _ {A : Type 0} (more : Place → Bool) (one : Reader A)
     (shorter : (p q : Place) (x : A) → more p ≡ true → one p ≡ Ok (x, q) → length q.rest < length p.rest) where
+  -- the loop is one turn, and then the loop
+  pub many_is : (p : Place) → many more one p ≡ step more one (many more one) p
+  many_is p = loop.many_is more one shorter p
+
   -- where no more begins, the list is empty
   pub many_end : (p : Place) → more p ≡ false → many more one p ≡ Ok ([], p)
   many_end p h = loop.many_end more one shorter p h

@@ -1,7 +1,7 @@
 -- Steps of a place: over one character, and along a run.
-use Rattle.std.proofs.Common.{◌≡◌, ℕ, ◌+◌, ◌<◌, ◌≤◌, ◌==◌, Bool, true, false, if◌then◌else◌, List, [], ◌∷◌, ◌++◌, length, Some, None, encode_utf8_all, encode_utf8, append-nil, append_assoc, refl, sym, ap, ◌∙◌, arith}
+use Rattle.std.proofs.Common.{◌≡◌, ℕ, ◌+◌, ◌<◌, ◌≤◌, ◌==◌, Bool, true, false, if◌then◌else◌, List, [], ◌∷◌, ◌++◌, length, Some, None, encode_utf8_all, encode_utf8, append-nil, append_assoc, drop, drop-cons, add-one, refl, sym, ap, ◌∙◌, arith}
 use Rattle.std.proofs.lemmas.Bool.{false≢true}
-use Rattle.just_read.specs.Place.{Place, at, next, next_in, past, past_in, run, first, first_in, passes, starts, sees, is_empty, is_end, IsCharacter}
+use Rattle.just_read.specs.Place.{Place, at, next, next_in, past, past_in, run, first, first_in, passes, starts, sees, is_empty, is_end, IsCharacter, begins_in, behind_text}
 
 -- behind a line feed stands the first column of the next line
 pub next_line : (p : Place) (c : ℕ) (rest : List ℕ) → p.rest ≡ c ∷ rest → c ≡ 10 → next p ≡ at rest (p.line + 1) 1
@@ -209,3 +209,22 @@ not_end_of_length p h = not_empty_of_length p.rest h
 -- behind a character that stands here fewer are left
 pub character_shorter : (c : ℕ) (p q : Place) → IsCharacter c p q → length q.rest < length p.rest
 character_shorter c p q s = rw (s.1) (next_shorter (λ d. d == c) p s.0)
+
+-- ---- texts that come first
+
+-- a text that isn't at its end doesn't come first where nothing is left
+pub begins_none : (i : ℕ) (text rest : List ℕ) → i < length text → rest ≡ [] → begins_in (drop i text) rest ≡ false
+begins_none i text rest h e = rw (drop-cons text i 0, e) refl
+
+-- a step along a text
+pub behind_more : (i : ℕ) (text : List ℕ) (p : Place) → i < length text → behind_text (drop (i + 1) text) (next p) ≡ behind_text (drop i text) p
+behind_more i text p h = rw (add-one, drop-cons text i 0) refl
+
+-- what a loop over a run has collected, and what is still to come
+pub collected_more : (t : ℕ → Bool) (p : Place) (c : ℕ) (front : List ℕ) → first p ≡ Some c → starts t p ≡ true
+    → (front ++ c ∷ []) ++ run t (next p).rest ≡ front ++ run t p.rest
+collected_more t p c front e h = rw (run_next t p c e h) (append_assoc front (c ∷ []) (run t (next p).rest))
+
+-- where the run is at its end, nothing is
+pub collected_all : (t : ℕ → Bool) (p : Place) (front : List ℕ) → starts t p ≡ false → front ++ run t p.rest ≡ front
+collected_all t p front h = rw (run_none t p h) (append-nil front)

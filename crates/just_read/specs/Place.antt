@@ -1,5 +1,5 @@
 -- A place in a text, and the places behind it.
-use Rattle.std.specs.Prelude.{◌≡◌, ℕ, ◌+◌, Bool, false, true, List, [], ◌∷◌, if◌then◌else◌, ◌==◌, Option, Some, None, refl}
+use Rattle.std.specs.Prelude.{◌≡◌, ℕ, ◌+◌, ◌-◌, Bool, false, true, ◌&&◌, List, [], ◌∷◌, length, take, if◌then◌else◌, ◌==◌, Option, Some, None, refl}
 use Rattle.std.specs.Coded.{Coded, code_by, coded×, coded_ℕ, coded_list}
 
 -- the characters from here to the end of the text, and the line and the column of the first of them, from 1
@@ -79,6 +79,24 @@ starts test p = passes test (first p)
 -- whether that character is the first from a place
 abbrev pub sees : ℕ → Place → Bool
 sees c p = starts (λ d. d == c) p
+
+abbrev pub begins_in : List ℕ → List ℕ → Bool
+begins_in [] rest = true
+begins_in (c ∷ text) [] = false
+begins_in (c ∷ text) (d ∷ rest) = d == c && begins_in text rest
+
+-- whether these characters are the first
+abbrev pub begins : List ℕ → Place → Bool
+begins text p = begins_in text p.rest
+
+-- the place as many characters on as the text has
+abbrev pub behind_text : List ℕ → Place → Place
+behind_text [] p = p
+behind_text (c ∷ text) p = behind_text text (next p)
+
+-- what stands between two places of one text
+abbrev pub between : Place → Place → List ℕ
+between p q = take (length p.rest - length q.rest) p.rest
 
 -- from p to q stands that character and nothing else
 abbrev pub IsCharacter : ℕ → Place → Place → Type 0

@@ -1,6 +1,6 @@
 //! A place in a text, and the steps from it.
 ghost use Rattle.std.specs.Prelude.{◌≡◌, ℕ, ◌+◌, ◌<◌, ◌^◌, [], ◌∷◌, ◌↔◌, IsTrue, MatchOption, IfOk, IfErr, List, Bool, true, false, Some, None, Option, length, encode_utf8_all, string_bytes};
-ghost use Rattle.just_read.specs.Place.{Place, start, next, past, run, is_end, first, starts, sees};
+ghost use Rattle.just_read.specs.Place.{Place, start, next, past, run, is_end, first, starts, sees, begins, behind_text, between};
 ghost use Rattle.just_read.specs.Reader.{Reads, expect};
 
 use super::{Class, ReadError};
@@ -112,6 +112,47 @@ impl<'a> Cursor<'a> {
         }
     }
 
+    /// Whether these characters of ASCII come first.
+    #[tactic(auto, using(crate::proofs::Steps::begins_none))]
+    pub fn begins(&self, text: &[u8]) -> bool
+        ensures { result ≡ begins text.now self.now }
+    {
+        let mut rest = self.rest;
+        'letters: for letter in text {
+            let Some((c, behind)) = front(rest) else {
+                return false;
+            };
+            if c != char::from(*letter) {
+                return false;
+            }
+            rest = behind;
+        }
+        true
+    }
+
+    /// Goes on by as many characters as the text has.
+    #[tactic(auto, using(crate::proofs::Steps::behind_more))]
+    pub fn pass_text(&mut self, text: &[u8])
+        ensures { self.new ≡ behind_text text.now self.old }
+    {
+        'letters: for _letter in text {
+            self.step();
+        }
+    }
+
+    /// What stands from here to another place of the same text.
+    pub fn text_up_to(&self, alloc: Global, end: &Cursor<'_>) -> Result<String, ReadError>
+        ensures text { IfOk result (λ t. string_bytes t ≡ encode_utf8_all (between self.now end.now)) }
+        ensures memory { IfErr result (λ e. e ≡ ReadError.NoMemory) }
+    {
+        let count = self.rest.len().saturating_sub(end.rest.len());
+        let mut text = String::new(alloc);
+        'letters: for c in &self.rest[..count] {
+            text.push(*c)?;
+        }
+        Ok(text)
+    }
+
     /// Goes behind the first character; at the end it stays. Behind a line feed, and behind nothing else, a line begins.
     #[tactic(auto, using(crate::proofs::Steps::next_line, crate::proofs::Steps::next_column, crate::proofs::Steps::next_end))]
     pub fn step(&mut self)
@@ -169,7 +210,7 @@ impl<'a> Cursor<'a> {
 
     /// The first character, and behind it, where it is of the class.
     #[tactic(auto, using(crate::proofs::Steps::starts_at, crate::proofs::Steps::starts_none))]
-    fn next_of<C: Class>(&mut self) -> Option<char>
+    pub fn next_of<C: Class>(&mut self) -> Option<char>
         ensures { MatchOption result ((starts C.members self.old ≡ false) × (self.new ≡ self.old)) (λ c. (starts C.members self.old ≡ true) × (first self.old ≡ Some c) × (self.new ≡ next self.old)) }
     {
         let c = self.peek()?;

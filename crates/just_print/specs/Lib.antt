@@ -1,0 +1,1 @@
+-- The specifications of printed texts.

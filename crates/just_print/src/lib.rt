@@ -1,0 +1,10 @@
+//! Trees of justfiles as texts.
+#![tactic(auto)]
+
+mod expr;
+mod item;
+mod recipe;
+mod whole;
+
+pub use expr::push_expr;
+pub use whole::print;

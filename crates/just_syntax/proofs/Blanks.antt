@@ -1,0 +1,25 @@
+-- The blanks in front of a line, as a loop collects them.
+use Rattle.std.proofs.Common.{◌≡◌, ℕ, ◌==◌, Bool, true, false, ◌||◌, List, [], ◌∷◌, ◌++◌, Some, append-nil, append_assoc, refl, sym, ap, ◌∙◌, subst, arith}
+use Rattle.std.proofs.lemmas.Bool.{false≢true}
+use Rattle.just_read.specs.Place.{Place, next, run, first, starts, sees}
+use Rattle.just_read.proofs.Laws.{starts_with, starts_at, run_next, run_none, sees_first}
+use Rattle.just_syntax.specs.Characters.{is_blank}
+
+tab_of : (c : ℕ) → is_blank c ≡ true → (c == 32) ≡ false → c ≡ 9
+tab_of c h n = grind (arith)
+
+-- the run of blanks goes on with a space
+pub space_more : (p : Place) (found : List ℕ) → starts is_blank p ≡ true → sees 32 p ≡ true → (found ++ 32 ∷ []) ++ run is_blank (next p).rest ≡ found ++ run is_blank p.rest
+space_more p found h s =
+    rw (run_next is_blank p 32 (sees_first 32 p s) h) (append_assoc found (32 ∷ []) (run is_blank (next p).rest))
+
+-- or with a tab
+pub tab_more : (p : Place) (found : List ℕ) → starts is_blank p ≡ true → sees 32 p ≡ false → (found ++ 9 ∷ []) ++ run is_blank (next p).rest ≡ found ++ run is_blank p.rest
+tab_more p found h s =
+    let (c, f, t) = starts_with is_blank p h in
+    let k : c ≡ 9 = tab_of c t (sym (starts_at (λ d. d == 32) p c f) ∙ s) in
+    let g : first p ≡ Some 9 = f ∙ ap (λ (d : ℕ). Some d) k in
+    rw (run_next is_blank p 9 g h) (append_assoc found (9 ∷ []) (run is_blank (next p).rest))
+
+pub blanks_done : (p : Place) (found : List ℕ) → starts is_blank p ≡ false → found ++ run is_blank p.rest ≡ found
+blanks_done p found h = rw (run_none is_blank p h) (append-nil found)

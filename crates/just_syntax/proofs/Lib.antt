@@ -1,0 +1,25 @@
+-- The laws of the language.
+pub mod Texts
+pub mod Collect
+pub mod Marks
+pub mod Lines
+pub mod Digits
+pub mod PathLoop
+pub mod Pieces
+pub mod PiecesLoop
+pub mod Levels
+pub mod StringLaws
+pub mod Beginnings
+pub mod ExprSound
+pub mod ExprComplete
+pub mod ExprShorter
+pub mod Shorter
+pub mod Loops
+pub mod TextLoop
+pub mod CookedLoop
+pub mod Blanks
+pub mod SharedBlanks
+pub mod Comments
+pub mod AttributeShorter
+pub mod AttributeLoops
+pub mod Gather

@@ -1,0 +1,122 @@
+-- The loops over parameters, dependencies, their values and fragments.
+use Rattle.std.proofs.Common.{◌≡◌, ℕ, ◌<◌, ◌≤◌, Bool, true, false, not, ◌&&◌, ◌||◌, if◌then◌else◌, List, [], ◌∷◌, ◌++◌, length, Option, Some, None, Ok, Err, codes, encode_utf8_all, refl, sym, ap, ◌∙◌, subst, ⊎_elim, arith}
+use Rattle.just_read.specs.Place.{Place, starts, begins, behind_text, first, next}
+use Rattle.just_read.specs.Reader.{Outcome, Reader, and_then, pure, many}
+use Rattle.just_read.specs.declared.error.ReadError.{ReadError}
+use Rattle.just_read.specs.declared.error.ReadError.TheVariants.{Syntax}
+use Rattle.just_read.proofs.Laws.{bind_ok, choose, ok_value, ok_place}
+use Rattle.just_syntax.specs.declared.ast.Name.{Name}
+use Rattle.just_syntax.specs.declared.ast.Expr.{Expr}
+use Rattle.just_syntax.specs.declared.ast.ParameterKind.{ParameterKind}
+use Rattle.just_syntax.specs.declared.ast.ParameterKind.TheVariants.{Singular}
+use Rattle.just_syntax.specs.declared.ast.AstParameter.{AstParameter}
+use Rattle.just_syntax.specs.declared.ast.AstDependency.{AstDependency}
+use Rattle.just_syntax.specs.declared.ast.Fragment.{Fragment}
+use Rattle.just_syntax.specs.declared.ast.Fragment.TheVariants as fragment
+use Rattle.just_syntax.specs.Exprs.{IsInner}
+use Rattle.just_syntax.specs.Recipes.{begins_parameter, begins_dependency}
+use Rattle.just_syntax.specs.ItemReaders as item
+use Rattle.just_syntax.specs.Readers as reader
+use Rattle.just_syntax.proofs.Collect.{to_come, more_is, end_is, wrong_is}
+use Rattle.just_syntax.proofs.Marks.{token_ok, token_lt, name_ok}
+use Rattle.just_syntax.proofs.Shorter.{expr_shorter, parameter_lt, dependency_lt, fragment_lt}
+
+begins_with : {A : Type 0} (o : Outcome (List A)) → o ≡ and_then o (λ xs. pure ([] ++ xs))
+begins_with (Ok s) = refl
+begins_with (Err e) = refl
+
+-- ---- expressions up to a closing parenthesis
+
+pub values_shorter : (p q : Place) (x : Expr) → item.is_open p ≡ true → item.expr p ≡ Ok (x, q) → length q.rest < length p.rest
+values_shorter p q x m h = expr_shorter p q x h
+
+unfoldable pub values_to_come : List Expr → Reader (List Expr)
+values_to_come found = to_come item.is_open item.expr found
+
+pub values_begin : (p : Place) → item.dependency_values p ≡ values_to_come [] p
+unfolding item.dependency_values values_to_come to_come
+values_begin p = begins_with (many item.is_open item.expr p)
+
+pub values_more : (p q : Place) (x : Expr) (found : List Expr) → item.is_open p ≡ true → item.expr p ≡ Ok (x, q) → values_to_come found p ≡ values_to_come (found ++ x ∷ []) q
+unfolding values_to_come
+values_more p q x found m o = more_is item.is_open item.expr values_shorter p q x found m o
+
+pub values_done : (p : Place) (found : List Expr) → item.is_open p ≡ false → values_to_come found p ≡ Ok (found, p)
+unfolding values_to_come
+values_done p found m = end_is item.is_open item.expr values_shorter p found m
+
+pub values_wrong : (p : Place) (found : List Expr) (e : ReadError) → item.is_open p ≡ true → item.expr p ≡ Err e → values_to_come found p ≡ Err e
+unfolding values_to_come
+values_wrong p found e m o = wrong_is item.is_open item.expr values_shorter p found e m o
+
+-- ---- parameters that take one value
+
+pub parameters_shorter : (p q : Place) (x : AstParameter) → begins_parameter p ≡ true → item.parameter Singular p ≡ Ok (x, q) → length q.rest < length p.rest
+parameters_shorter p q x m h = parameter_lt Singular p q x h
+
+unfoldable pub parameters_to_come : List AstParameter → Reader (List AstParameter)
+parameters_to_come found = to_come begins_parameter (item.parameter Singular) found
+
+pub parameters_begin : (p : Place) → item.singular p ≡ parameters_to_come [] p
+unfolding item.singular parameters_to_come to_come
+parameters_begin p = begins_with (many begins_parameter (item.parameter Singular) p)
+
+pub parameters_more : (p q : Place) (x : AstParameter) (found : List AstParameter) → begins_parameter p ≡ true → item.parameter Singular p ≡ Ok (x, q) → parameters_to_come found p ≡ parameters_to_come (found ++ x ∷ []) q
+unfolding parameters_to_come
+parameters_more p q x found m o = more_is begins_parameter (item.parameter Singular) parameters_shorter p q x found m o
+
+pub parameters_done : (p : Place) (found : List AstParameter) → begins_parameter p ≡ false → parameters_to_come found p ≡ Ok (found, p)
+unfolding parameters_to_come
+parameters_done p found m = end_is begins_parameter (item.parameter Singular) parameters_shorter p found m
+
+pub parameters_wrong : (p : Place) (found : List AstParameter) (e : ReadError) → begins_parameter p ≡ true → item.parameter Singular p ≡ Err e → parameters_to_come found p ≡ Err e
+unfolding parameters_to_come
+parameters_wrong p found e m o = wrong_is begins_parameter (item.parameter Singular) parameters_shorter p found e m o
+
+-- ---- dependencies
+
+pub dependencies_shorter : (p q : Place) (x : AstDependency) → begins_dependency p ≡ true → item.dependency p ≡ Ok (x, q) → length q.rest < length p.rest
+dependencies_shorter p q x m h = dependency_lt p q x h
+
+unfoldable pub dependencies_to_come : List AstDependency → Reader (List AstDependency)
+dependencies_to_come found = to_come begins_dependency item.dependency found
+
+pub dependencies_begin : (p : Place) → item.dependencies p ≡ dependencies_to_come [] p
+unfolding item.dependencies dependencies_to_come to_come
+dependencies_begin p = begins_with (many begins_dependency item.dependency p)
+
+pub dependencies_more : (p q : Place) (x : AstDependency) (found : List AstDependency) → begins_dependency p ≡ true → item.dependency p ≡ Ok (x, q) → dependencies_to_come found p ≡ dependencies_to_come (found ++ x ∷ []) q
+unfolding dependencies_to_come
+dependencies_more p q x found m o = more_is begins_dependency item.dependency dependencies_shorter p q x found m o
+
+pub dependencies_done : (p : Place) (found : List AstDependency) → begins_dependency p ≡ false → dependencies_to_come found p ≡ Ok (found, p)
+unfolding dependencies_to_come
+dependencies_done p found m = end_is begins_dependency item.dependency dependencies_shorter p found m
+
+pub dependencies_wrong : (p : Place) (found : List AstDependency) (e : ReadError) → begins_dependency p ≡ true → item.dependency p ≡ Err e → dependencies_to_come found p ≡ Err e
+unfolding dependencies_to_come
+dependencies_wrong p found e m o = wrong_is begins_dependency item.dependency dependencies_shorter p found e m o
+
+-- ---- fragments of a line
+
+pub fragments_shorter : (p q : Place) (x : Fragment) → item.line_goes_on p ≡ true → item.fragment_at p ≡ Ok (x, q) → length q.rest < length p.rest
+fragments_shorter p q x m h = fragment_lt p q x m h
+
+unfoldable pub fragments_to_come : List Fragment → Reader (List Fragment)
+fragments_to_come found = to_come item.line_goes_on item.fragment_at found
+
+pub fragments_begin : (p : Place) → item.fragments p ≡ fragments_to_come [] p
+unfolding item.fragments fragments_to_come to_come
+fragments_begin p = begins_with (many item.line_goes_on item.fragment_at p)
+
+pub fragments_more : (p q : Place) (x : Fragment) (found : List Fragment) → item.line_goes_on p ≡ true → item.fragment_at p ≡ Ok (x, q) → fragments_to_come found p ≡ fragments_to_come (found ++ x ∷ []) q
+unfolding fragments_to_come
+fragments_more p q x found m o = more_is item.line_goes_on item.fragment_at fragments_shorter p q x found m o
+
+pub fragments_done : (p : Place) (found : List Fragment) → item.line_goes_on p ≡ false → fragments_to_come found p ≡ Ok (found, p)
+unfolding fragments_to_come
+fragments_done p found m = end_is item.line_goes_on item.fragment_at fragments_shorter p found m
+
+pub fragments_wrong : (p : Place) (found : List Fragment) (e : ReadError) → item.line_goes_on p ≡ true → item.fragment_at p ≡ Err e → fragments_to_come found p ≡ Err e
+unfolding fragments_to_come
+fragments_wrong p found e m o = wrong_is item.line_goes_on item.fragment_at fragments_shorter p found e m o

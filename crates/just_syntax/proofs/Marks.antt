@@ -1,0 +1,53 @@
+-- Marks, words and names: what the code reads is what the grammar says, and it takes characters.
+use Rattle.std.proofs.Common.{◌≡◌, ℕ, ◌<◌, ◌≤◌, Bool, true, false, not, ◌&&◌, if◌then◌else◌, List, [], ◌∷◌, length, Ok, Err, codes, refl, sym, ap, ◌∙◌, ⊎_elim, arith}
+use Rattle.just_read.specs.Place.{Place, past, starts, begins, behind_text}
+use Rattle.just_read.specs.declared.error.ReadError.TheVariants.{Syntax}
+use Rattle.just_read.proofs.Laws.{bind_ok, choose, ok_value, ok_place}
+use Rattle.just_read.proofs.Laws.{past_le, next_shorter}
+use Rattle.just_syntax.specs.declared.ast.Name.{Name}
+use Rattle.just_syntax.specs.Characters.{is_blank, begins_name, in_name}
+use Rattle.just_syntax.specs.Places.{skip, is_word, behind_word, name_at, IsToken, IsWord, IsName, IsFurtherName}
+use Rattle.just_syntax.specs.Readers as reader
+use Rattle.just_syntax.proofs.Texts.{and_true, behind_le, behind_shorter}
+
+pub token_ok : (mark : List ℕ) (p : Place) (u : Unit {0}) (q : Place) → reader.token mark p ≡ Ok (u, q) → IsToken mark p q
+unfolding reader.token
+token_ok mark p u q h =
+    ⊎_elim (λ (s : _). (s.0, sym (ok_place tt u (skip (behind_text mark p)) q s.1)))
+    (λ (s : _). absurd (let no : ⊥ = cc (s.1) in no))
+    (choose (begins mark p) (Ok (tt, skip (behind_text mark p))) (Err Syntax) (Ok (u, q)) h)
+
+pub token_again : (mark : List ℕ) (p q : Place) → IsToken mark p q → reader.token mark p ≡ Ok (tt, q)
+unfolding reader.token
+token_again mark p q s = rw (s.0, s.1) refl
+
+-- a mark takes a character
+pub token_lt : (c : ℕ) (mark : List ℕ) (p q : Place) → IsToken (c ∷ mark) p q → length q.rest < length p.rest
+token_lt c mark p q s = rw (s.1) (omega (arith, past_le is_blank (behind_text (c ∷ mark) p), behind_shorter c mark p s.0))
+
+pub word_ok : (text : List ℕ) (p : Place) (u : Unit {0}) (q : Place) → reader.word text p ≡ Ok (u, q) → IsWord text p q
+unfolding reader.word
+word_ok text p u q h =
+    ⊎_elim (λ (s : _). (s.0, sym (ok_place tt u (skip (behind_text text p)) q s.1)))
+    (λ (s : _). absurd (let no : ⊥ = cc (s.1) in no))
+    (choose (is_word text p) (Ok (tt, skip (behind_text text p))) (Err Syntax) (Ok (u, q)) h)
+
+pub word_again : (text : List ℕ) (p q : Place) → IsWord text p q → reader.word text p ≡ Ok (tt, q)
+unfolding reader.word
+word_again text p q s = rw (s.0, s.1) refl
+
+-- a word takes a character
+pub word_lt : (c : ℕ) (text : List ℕ) (p q : Place) → IsWord (c ∷ text) p q → length q.rest < length p.rest
+word_lt c text p q s =
+    token_lt c text p q ((and_true (begins (c ∷ text) p) (not (starts in_name (behind_text (c ∷ text) p))) s.0).0, s.1)
+
+pub name_ok : (p : Place) (x : Name) (q : Place) → reader.name p ≡ Ok (x, q) → IsName p q x
+unfolding reader.name
+name_ok p x q h =
+    ⊎_elim (λ (s : _). (s.0, sym (ok_place (name_at p) x (behind_word p) q s.1), sym (ok_value (name_at p) x (behind_word p) q s.1)))
+    (λ (s : _). absurd (let no : ⊥ = cc (s.1) in no))
+    (choose (starts begins_name p) (Ok (name_at p, behind_word p)) (Err Syntax) (Ok (x, q)) h)
+
+pub name_again : (p q : Place) (x : Name) → IsName p q x → reader.name p ≡ Ok (x, q)
+unfolding reader.name
+name_again p q x (b, e, z) = rw (b, e, z) refl

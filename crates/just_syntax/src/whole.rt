@@ -1,0 +1,72 @@
+//! A text whole: its tree, or its fault.
+ghost use Rattle.std.specs.Prelude.{◌≡◌, IfOk, IfErr, MatchResult, List, None, chars};
+ghost use Rattle.just_syntax.specs.declared.ast.AstItem.{AstItem};
+ghost use Rattle.just_syntax.specs.File.{IsFile, first_left_out};
+ghost use Rattle.just_syntax.specs.Faults.{Refuses};
+
+use super::entry::{Body, Entry, gather, read_entry};
+use super::indentation::characters;
+use super::left_out::first_left_out;
+use super::{Ast, Fault, FaultKind, ParseError};
+use just_read::{Cursor, ReadError};
+use std::alloc::Global;
+
+/// The tree of a justfile's text. A text that has none is refused at the line at which its longest front of items and
+/// body lines ends; one that has a tree with a left-out setting or attribute is refused at its name.
+pub fn parse(alloc: Global, text: &str) -> Result<Ast, ParseError>
+    // What is answered is the tree of the text, and has no left-out name.
+    ensures found { IfOk result (λ a. IsFile (chars text.now) a.items × (first_left_out a.items ≡ None)) }
+    // The tree of the text is answered, unless memory is wanting: so it has one tree at most.
+    ensures only { (items : List AstItem) → IsFile (chars text.now) items → first_left_out items ≡ None → MatchResult result (λ a. a.items ≡ items) (λ e. e ≡ ParseError.NoMemory) }
+    // A fault is where the text stops being entries, or the first left-out name of its tree.
+    ensures refused { IfErr result (Refuses (chars text.now)) }
+{
+    let entries = entries_of(alloc, text)?;
+    let items = gather(alloc, entries)?;
+    match first_left_out(items.as_slice()) {
+        Some(name) => Err(ParseError::Fault(Fault {
+            kind: FaultKind::Unsupported,
+            line: name.line,
+            column: name.column,
+        })),
+        None => Ok(Ast { items }),
+    }
+}
+
+/// The entries of a text.
+fn entries_of(alloc: Global, text: &str) -> Result<Vec<Entry>, ParseError> {
+    let characters = characters(alloc, text)?;
+    let mut cursor = Cursor::new(characters.as_slice());
+    let mut body = Body::Closed;
+    let mut entries = Vec::new(alloc);
+    'entries: while !cursor.is_at_end() {
+        let (entry, next) = next(alloc, &mut cursor, body)?;
+        entries.push(entry)?;
+        body = next;
+    }
+    Ok(entries)
+}
+
+/// The entry that begins here, or the fault at its begin.
+fn next(
+    alloc: Global,
+    cursor: &mut Cursor<'_>,
+    body: Body,
+) -> Result<(Entry, Body), ParseError> {
+    let line = cursor.line();
+    let column = cursor.column();
+    match read_entry(alloc, cursor, body) {
+        Ok(read) => Ok(read),
+        Err(ReadError::NoMemory) => Err(ParseError::NoMemory),
+        Err(ReadError::Syntax) => Err(ParseError::Fault(Fault {
+            kind: FaultKind::Syntax,
+            line,
+            column,
+        })),
+        Err(ReadError::Depth) => Err(ParseError::Fault(Fault {
+            kind: FaultKind::Depth,
+            line,
+            column,
+        })),
+    }
+}
