@@ -2,6 +2,7 @@
 pub mod Texts
 pub mod Collect
 pub mod Marks
+pub mod LineLaws
 pub mod Lines
 pub mod Digits
 pub mod PathLoop
