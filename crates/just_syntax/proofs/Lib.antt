@@ -3,6 +3,7 @@ pub mod Texts
 pub mod Collect
 pub mod Marks
 pub mod LineLaws
+pub mod TextLaws
 pub mod Lines
 pub mod Digits
 pub mod PathLoop
