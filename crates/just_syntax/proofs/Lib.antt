@@ -24,4 +24,5 @@ pub mod SharedBlanks
 pub mod Comments
 pub mod AttributeShorter
 pub mod AttributeLoops
+pub mod AttributeSound
 pub mod Gather
