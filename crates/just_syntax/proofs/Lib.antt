@@ -25,4 +25,5 @@ pub mod Comments
 pub mod AttributeShorter
 pub mod AttributeLoops
 pub mod AttributeSound
+pub mod AttributeComplete
 pub mod Gather
