@@ -50,6 +50,7 @@ keyed_again p m q k x (key_sign o i t) v = rw (name_again p o k i, token_again (
 
 -- ---- keys of `arg`
 
+-- `=` and an expression that stand behind a key are read
 valued_again : (form : KeyForm) (k : Name) (o m q : Place) (x : Argument) → has_text form ≡ true → IsToken (codes "=") o m → IsPlain (Some k) m q x
     → item.valued form k o ≡ Ok (x, q)
 valued_again Alone k o m q x h t v = absurd (false≢true h)
@@ -69,6 +70,7 @@ option_again earlier p q x (number m k s digits (key_sign o i t) b f st means d 
 
 -- ---- arguments
 
+-- an expression without a key that stands there is read, where the attribute has one
 text_argument : (form : Form) (earlier : List Argument) (p q : Place) (x : Argument) → takes_text form earlier ≡ true → IsPlain None p q x
     → item.argument_of form earlier p ≡ Ok (x, q)
 text_argument Bare earlier p q x t v = absurd (false≢true t)
@@ -82,6 +84,7 @@ text_argument Arg (y ∷ earlier) p q x t v = absurd (false≢true t)
 text_argument Cache earlier p q x t v = absurd (false≢true t)
 text_argument Open earlier p q x t v = absurd (false≢true t)
 
+-- a key of `arg` that stands behind its first argument is read
 key_argument : (earlier : List Argument) (p q : Place) (x : Argument) → is_first earlier ≡ false → IsOption (behind_first earlier) p q x
     → item.argument_of Arg earlier p ≡ Ok (x, q)
 key_argument [] p q x f o = absurd (false≢true (sym f))

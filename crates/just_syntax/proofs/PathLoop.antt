@@ -23,7 +23,8 @@ first_lt p c f = next_shorter (λ d. d == c) p (starts_at (λ d. d == c) p c f �
 pub text_lt : (c : ℕ) (text : List ℕ) (p : Place) → begins (c ∷ text) p ≡ true → length (behind_text (c ∷ text) p).rest < length p.rest
 text_lt c text p h = behind_shorter c text p h
 
-are_le : {A : Type 0} (Is : Rule A) (less : (p q : Place) (x : A) → Is p q x → length q.rest < length p.rest) (p q : Place) (xs : List A)
+-- behind a chain no more is left, if each of its links takes a character
+pub are_le : {A : Type 0} (Is : Rule A) (less : (p q : Place) (x : A) → Is p q x → length q.rest < length p.rest) (p q : Place) (xs : List A)
     → AreMany Is p q xs → length q.rest ≤ length p.rest
 are_le Is less p q [] e = rw e (omega arith)
 are_le Is less p q (x ∷ xs) (m, i, are) = omega (arith, less p m x i, are_le Is less m q xs are)

@@ -21,14 +21,16 @@ use Rattle.just_syntax.specs.ItemReaders as item
 use Rattle.just_syntax.specs.Readers as reader
 use Rattle.just_syntax.proofs.Texts.{behind_le}
 use Rattle.just_syntax.proofs.Marks.{token_ok, token_lt, name_ok}
+use Rattle.just_syntax.proofs.LineLaws.{maybe_ok, path_ok, behind_maybe, behind_path}
 use Rattle.just_syntax.proofs.ExprSound.{level_ok, value_ok, inner_ok}
 use Rattle.just_syntax.proofs.ExprShorter.{name_lt, level_lt, value_lt, inner_lt}
 use Rattle.just_syntax.proofs.PathLoop as path
 
--- what is left at the place where a reader ended
+-- less is left at the place where a reader ended
 pub less_at : (p m q : Place) → m ≡ q → length m.rest < length p.rest → length q.rest < length p.rest
 less_at p m q e h = subst (λ (l : Place). length l.rest < length p.rest) e h
 
+-- or no more than before
 pub most_at : (p m q : Place) → m ≡ q → length m.rest ≤ length p.rest → length q.rest ≤ length p.rest
 most_at p m q e h = subst (λ (l : Place). length l.rest ≤ length p.rest) e h
 
@@ -36,17 +38,12 @@ most_at p m q e h = subst (λ (l : Place). length l.rest ≤ length p.rest) e h
 pub expr_shorter : (p q : Place) (x : Expr) → item.expr p ≡ Ok (x, q) → length q.rest < length p.rest
 expr_shorter p q x h = level_lt (IsInner 256) (inner_lt 256) p q x (level_ok (reader.inner 256) (IsInner 256) (inner_ok 256) p q x h)
 
-pub maybe_le : (c : ℕ) (mark : List ℕ) (p q : Place) (b : Bool) → reader.maybe (c ∷ mark) p ≡ Ok (b, q) → length q.rest ≤ length p.rest
-unfolding reader.maybe
-maybe_le c mark p q b h =
-    ⊎_elim
-    (λ (s : _).
-    let (u, m, t, k) = bind_ok (reader.token (c ∷ mark) p) (λ _. pure true) b q s.1 in
-    most_at p m q (ok_place true b m q k) (omega (arith, token_lt c mark p m (token_ok (c ∷ mark) p u m t))))
-    (λ (s : _). most_at p p q (ok_place false b p q s.1) (omega arith))
-    (choose (begins (c ∷ mark) p) (and_then (reader.token (c ∷ mark) p) (λ _. pure true)) (Ok (false, p)) (Ok (b, q)) h)
+-- a mark that may stand takes nothing back
+maybe_le : (mark : List ℕ) (p q : Place) (b : Bool) → reader.maybe mark p ≡ Ok (b, q) → length q.rest ≤ length p.rest
+maybe_le mark p q b h = behind_maybe mark p q b (maybe_ok mark p q b h)
 
-pub default_le : (p q : Place) (x : Option Expr) → item.parameter_default p ≡ Ok (x, q) → length q.rest ≤ length p.rest
+-- nor does what may stand behind a parameter
+default_le : (p q : Place) (x : Option Expr) → item.parameter_default p ≡ Ok (x, q) → length q.rest ≤ length p.rest
 unfolding item.parameter_default
 default_le p q x h =
     ⊎_elim
@@ -67,16 +64,14 @@ parameter_lt kind p q x h =
     let (n, r, h2, k2) = bind_ok (reader.name m) _ x q k1 in
     let (d, s, h3, k3) = bind_ok (item.parameter_default r) _ x q k2 in
     less_at p s q (ok_place (record { kind = kind; export = b; name = n; default = d }) x s q k3)
-    (omega (arith, maybe_le 36 [] p m b h1, name_lt m r n (name_ok m n r h2), default_le r s d h3))
+    (omega (arith, maybe_le (codes "$") p m b h1, name_lt m r n (name_ok m n r h2), default_le r s d h3))
 
-pub path_lt : (p q : Place) (xs : List Name) → reader.path p ≡ Ok (xs, q) → length q.rest < length p.rest
-unfolding reader.path
-path_lt p q xs h =
-    let (n, m, h1, k1) = bind_ok (reader.name p) _ xs q h in
-    let (ys, r, h2, k2) = bind_ok (many (begins (codes "::")) reader.further_name m) _ xs q k1 in
-    less_at p r q (ok_place (n ∷ ys) xs r q k2) (omega (arith, name_lt p m n (name_ok p n m h1), path.names_le m r ys h2))
+-- a path takes a character
+path_lt : (p q : Place) (xs : List Name) → reader.path p ≡ Ok (xs, q) → length q.rest < length p.rest
+path_lt p q xs h = behind_path p q xs (path_ok p q xs h)
 
-pub values_le : (p q : Place) (xs : List Expr) → item.dependency_values p ≡ Ok (xs, q) → length q.rest ≤ length p.rest
+-- the arguments of a dependency take nothing back
+values_le : (p q : Place) (xs : List Expr) → item.dependency_values p ≡ Ok (xs, q) → length q.rest ≤ length p.rest
 unfolding item.dependency_values
 values_le p q xs h = path.many_le item.is_open item.expr (λ a b x m o. expr_shorter a b x o) p q xs h
 
@@ -100,6 +95,7 @@ dependency_lt p q x h =
     (λ _. pure (record { path = ns; grouped = true; arguments = xs }))))))
     (and_then (reader.path p) (λ ns. pure (record { path = ns; grouped = false; arguments = [] }))) (Ok (x, q)) h)
 
+-- a character takes itself
 letter_lt_of : (p q : Place) (x : List ℕ) (o : Option ℕ) → first p ≡ o → item.letter_of o p ≡ Ok (x, q) → length q.rest < length p.rest
 letter_lt_of p q x None f h = absurd (let no : ⊥ = cc (h) in no)
 letter_lt_of p q x (Some c) f h = less_at p (next p) q (ok_place (c ∷ []) x (next p) q h) (path.first_lt p c f)
@@ -113,12 +109,13 @@ letter_lt p q x h =
     (choose (begins (codes "{{{{") p) (Ok (codes "{{", behind_text (codes "{{{{") p)) (item.letter_of (first p) p) (Ok (x, q)) h)
 
 -- where text stands a text takes a character
-pub text_lt : (p q : Place) (x : List ℕ) → is_text p ≡ true → item.text p ≡ Ok (x, q) → length q.rest < length p.rest
+text_lt : (p q : Place) (x : List ℕ) → is_text p ≡ true → item.text p ≡ Ok (x, q) → length q.rest < length p.rest
 unfolding item.text
 text_lt p q x m h =
     let (ls, r, h1, k1) = bind_ok (many is_text item.letter p) _ x q h in
     less_at p r q (ok_place (encode_utf8_all (concat ls)) x r q k1) (path.many_lt is_text item.letter (λ a b y n o. letter_lt a b y o) p r ls m h1)
 
+-- where the line goes on and no value opens, text stands
 goes_text : (a b : Bool) → not a ≡ true → b ≡ false → (not a && not b) ≡ true
 goes_text false false h k = refl
 goes_text false true h k = absurd (false≢true (sym k))

@@ -14,6 +14,7 @@ use Rattle.just_syntax.proofs.Pieces.{piece_ok, piece_lt}
 use Rattle.just_syntax.proofs.StringLaws.{piece_again}
 use Rattle.just_syntax.proofs.CookedLoop as loop
 
+-- what isn't not so is so
 not_false : (b : Bool) → not b ≡ false → b ≡ true
 not_false true h = refl
 not_false false h = absurd (false≢true (sym h))
