@@ -1,5 +1,5 @@
 -- Attributes and strings in lists take characters.
-use Rattle.std.proofs.Common.{◌≡◌, ℕ, ◌<◌, ◌≤◌, Bool, List, [], ◌∷◌, ◌++◌, length, Option, Some, None, Ok, codes, arith}
+use Rattle.std.proofs.Common.{◌≡◌, ◌<◌, ◌≤◌, List, [], ◌∷◌, ◌++◌, length, Option, Some, None, Ok, codes, arith}
 use Rattle.just_read.specs.Place.{Place}
 use Rattle.just_read.proofs.Laws.{bind_ok, past_le}
 use Rattle.just_syntax.specs.declared.ast.Name.{Name}

@@ -1,13 +1,12 @@
 -- Attributes: what the code reads is what the grammar says.
-use Rattle.std.proofs.Common.{◌≡◌, ℕ, zero, suc, Bool, true, false, not, ◌&&◌, if◌then◌else◌, List, [], ◌∷◌, ◌++◌, length, Option, Some, None, Ok, Err, codes, refl, sym, ap, ◌∙◌, subst, ⊎_elim}
+use Rattle.std.proofs.Common.{◌≡◌, ℕ, zero, suc, Bool, true, false, if◌then◌else◌, List, [], ◌∷◌, ◌++◌, length, Option, Some, None, Ok, Err, codes, refl, sym, ap, ◌∙◌, subst, ⊎_elim}
 use Rattle.std.proofs.lemmas.Bool.{false≢true}
-use Rattle.just_read.specs.Place.{Place, AreMany, starts, begins}
+use Rattle.just_read.specs.Place.{Place, AreMany, begins}
 use Rattle.just_read.specs.Reader.{Reader, and_then, pure, refuse, many}
 use Rattle.just_read.specs.declared.error.ReadError.TheVariants.{Syntax}
 use Rattle.just_read.proofs.Laws.{bind_ok, choose, ok_value, ok_place, many_ok}
 use Rattle.just_syntax.specs.declared.ast.Name.{Name}
 use Rattle.just_syntax.specs.declared.ast.StringLiteral.{StringLiteral}
-use Rattle.just_syntax.specs.declared.ast.Expr.{Expr}
 use Rattle.just_syntax.specs.declared.ast.Expr.TheVariants as e
 use Rattle.just_syntax.specs.declared.ast.Argument.{Argument}
 use Rattle.just_syntax.specs.declared.ast.Attribute.{Attribute}
@@ -15,7 +14,7 @@ use Rattle.just_syntax.specs.declared.form.Form.{Form}
 use Rattle.just_syntax.specs.declared.form.Form.TheVariants.{Bare, MaybeText, Text, Texts, Arg, Cache, Open}
 use Rattle.just_syntax.specs.declared.form.KeyForm.{KeyForm}
 use Rattle.just_syntax.specs.declared.form.KeyForm.TheVariants.{Alone, Either, Value, Number, Unknown}
-use Rattle.just_syntax.specs.Places.{skip, IsToken, IsName, IsRest}
+use Rattle.just_syntax.specs.Places.{skip, IsToken, IsName}
 use Rattle.just_syntax.specs.Strings.{IsString, IsTextOf}
 use Rattle.just_syntax.specs.Exprs.{IsExpr}
 use Rattle.just_syntax.specs.Forms.{form_of, may_be_bare, has_colon, key_form, may_stand_alone, has_text}

@@ -1,16 +1,14 @@
 -- Expressions: what the grammar says is read, so it is one.
-use Rattle.std.proofs.Common.{◌≡◌, ℕ, zero, suc, ◌==◌, Bool, true, false, not, ◌&&◌, if◌then◌else◌, List, [], ◌∷◌, Option, Some, None, Ok, codes, refl, sym, ap, ◌∙◌, subst}
-use Rattle.just_read.specs.Place.{Place, Rule, starts, begins}
+use Rattle.std.proofs.Common.{◌≡◌, ℕ, zero, suc, Bool, true, false, [], ◌∷◌, Option, Some, None, Ok, codes, refl, sym, ap, ◌∙◌}
+use Rattle.just_read.specs.Place.{Place, Rule, begins}
 use Rattle.just_read.specs.Reader.{Reader, pure}
 use Rattle.just_read.proofs.Laws.{ok_value, ok_place}
-use Rattle.just_syntax.specs.declared.ast.Name.{Name}
 use Rattle.just_syntax.specs.declared.ast.Comparison.{Comparison}
 use Rattle.just_syntax.specs.declared.ast.Expr.{Expr}
 use Rattle.just_syntax.specs.declared.ast.Expr.TheVariants as e
-use Rattle.just_syntax.specs.Characters.{begins_name, in_name, is_quote}
-use Rattle.just_syntax.specs.Places.{behind_word, IsToken, IsWord, IsName}
-use Rattle.just_syntax.specs.Strings.{begins_string}
-use Rattle.just_syntax.specs.Exprs.{begins_condition, is_call, IsComparison, IsDefault, IsValue, IsBlock, IsOtherwise, IsLevel, IsInner, IsExpr}
+use Rattle.just_syntax.specs.Characters.{begins_name}
+use Rattle.just_syntax.specs.Places.{behind_word, IsToken, IsWord}
+use Rattle.just_syntax.specs.Exprs.{begins_condition, IsComparison, IsDefault, IsValue, IsBlock, IsOtherwise, IsLevel, IsInner, IsExpr}
 use Rattle.just_syntax.specs.Exprs.IsComparison.{equal, unequal}
 use Rattle.just_syntax.specs.Exprs.IsValue.{literal, group, env, variable}
 use Rattle.just_syntax.specs.Exprs.IsBlock.{block}

@@ -1,12 +1,12 @@
 -- Expressions take characters.
-use Rattle.std.proofs.Common.{◌≡◌, ℕ, zero, suc, ◌<◌, ◌≤◌, Bool, true, List, length, [], ◌∷◌, Option, Some, None, codes, refl, sym, ap, ◌∙◌, arith}
+use Rattle.std.proofs.Common.{◌≡◌, ℕ, zero, suc, ◌<◌, ◌≤◌, Bool, true, length, [], ◌∷◌, Option, Some, None, refl, sym, ap, ◌∙◌, arith}
 use Rattle.just_read.specs.Place.{Place, Rule, next, past, starts}
 use Rattle.just_read.proofs.Laws.{past_le, next_shorter, past_next, starts_with, starts_at}
 use Rattle.just_syntax.specs.declared.ast.Name.{Name}
 use Rattle.just_syntax.specs.declared.ast.Comparison.{Comparison}
 use Rattle.just_syntax.specs.declared.ast.Expr.{Expr}
 use Rattle.just_syntax.specs.Characters.{is_blank, begins_name, in_name}
-use Rattle.just_syntax.specs.Places.{skip, behind_word, IsToken, IsWord, IsName}
+use Rattle.just_syntax.specs.Places.{IsName}
 use Rattle.just_syntax.specs.Exprs.{IsComparison, IsDefault, IsValue, IsBlock, IsOtherwise, IsLevel, IsInner}
 use Rattle.just_syntax.specs.Exprs.IsComparison.{equal, unequal}
 use Rattle.just_syntax.specs.Exprs.IsValue.{literal, group, env, variable}

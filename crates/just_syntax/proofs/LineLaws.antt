@@ -1,16 +1,16 @@
 -- Marks that may stand, paths, the ends of lines and comments: what the code reads is what the grammar says. Those of marks,
 -- words and names are in Marks.
-use Rattle.std.proofs.Common.{◌≡◌, ℕ, ◌<◌, ◌≤◌, ◌==◌, Bool, true, false, not, ◌&&◌, ◌||◌, if◌then◌else◌, List, [], ◌∷◌, length, Option, Some, None, Ok, Err, codes, encode_utf8_all, refl, sym, ap, ◌∙◌, subst, ⊎_elim, arith}
+use Rattle.std.proofs.Common.{◌≡◌, ℕ, ◌<◌, ◌≤◌, ◌==◌, Bool, true, false, not, if◌then◌else◌, List, [], ◌∷◌, length, Option, Some, None, Ok, Err, codes, encode_utf8_all, refl, sym, ap, ◌∙◌, subst, ⊎_elim, arith}
 use Rattle.std.proofs.lemmas.Bool.{false≢true}
 use Rattle.just_read.specs.Place.{Place, AreMany, next, past, run, starts, sees, begins, behind_text, is_end}
-use Rattle.just_read.specs.Reader.{Reader, and_then, pure, many}
+use Rattle.just_read.specs.Reader.{and_then, pure, many}
 use Rattle.just_read.specs.declared.error.ReadError.TheVariants.{Syntax}
 use Rattle.just_read.proofs.Laws.{bind_ok, choose, ok_value, ok_place}
 use Rattle.just_read.proofs.Laws.{many_ok, many_again}
 use Rattle.just_read.proofs.Laws.{past_le, character_shorter, starts_seen, past_next, next_shorter, length_at_end, length_before_end, not_end_where_starts}
 use Rattle.just_syntax.specs.declared.ast.Name.{Name}
 use Rattle.just_syntax.specs.Characters.{is_blank, in_line}
-use Rattle.just_syntax.specs.Places.{skip, crlf, ends_line, is_blank_line, is_rest, without_returns, IsToken, IsName, IsFurtherName, IsPath, IsNewline, IsBlankLine, IsComment, IsRest}
+use Rattle.just_syntax.specs.Places.{skip, crlf, ends_line, is_blank_line, is_rest, without_returns, IsToken, IsFurtherName, IsPath, IsNewline, IsBlankLine, IsComment, IsRest}
 use Rattle.just_syntax.specs.Places.IsPath.{names}
 use Rattle.just_syntax.specs.Places.IsNewline.{last, feed, return_feed}
 use Rattle.just_syntax.specs.Places.IsRest.{ended, commented}
@@ -20,7 +20,7 @@ use Rattle.just_syntax.specs.Attributes.{IsTrailing}
 use Rattle.just_syntax.specs.Attributes.IsTrailing.{comma, nothing}
 use Rattle.just_syntax.specs.ItemReaders as item
 use Rattle.just_syntax.specs.Readers as reader
-use Rattle.just_syntax.proofs.Texts.{and_true, begins_starts, behind_shorter, behind_le, next_le}
+use Rattle.just_syntax.proofs.Texts.{and_true, begins_starts, behind_shorter, behind_le}
 use Rattle.just_syntax.proofs.Beginnings.{not_true}
 use Rattle.just_syntax.proofs.Marks.{token_ok, token_again, token_lt, name_ok, name_again}
 use Rattle.just_syntax.proofs.ExprShorter.{name_lt}

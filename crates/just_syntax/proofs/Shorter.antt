@@ -1,11 +1,10 @@
 -- What the readers of parameters, dependencies and fragments leave: each takes a character.
-use Rattle.std.proofs.Common.{◌≡◌, ℕ, ◌<◌, ◌≤◌, Bool, true, false, not, ◌&&◌, if◌then◌else◌, List, [], ◌∷◌, length, Option, Some, None, Ok, Err, codes, encode_utf8_all, refl, sym, ap, ◌∙◌, subst, ⊎_elim, arith}
+use Rattle.std.proofs.Common.{◌≡◌, ℕ, ◌<◌, ◌≤◌, Bool, true, false, not, ◌&&◌, List, [], ◌∷◌, length, Option, Some, None, Ok, Err, codes, encode_utf8_all, refl, sym, subst, ⊎_elim, arith}
 use Rattle.std.proofs.lemmas.Bool.{false≢true}
-use Rattle.just_read.specs.Place.{Place, starts, begins, behind_text, first, next}
-use Rattle.just_read.specs.Reader.{Outcome, Reader, and_then, pure, many}
+use Rattle.just_read.specs.Place.{Place, begins, behind_text, first, next}
+use Rattle.just_read.specs.Reader.{and_then, pure, many}
 use Rattle.just_read.specs.declared.error.ReadError.TheVariants.{Syntax}
-use Rattle.just_read.proofs.Laws.{bind_ok, choose, ok_value, ok_place}
-use Rattle.just_read.proofs.Laws.{many_ok, many_is}
+use Rattle.just_read.proofs.Laws.{bind_ok, choose, ok_place}
 use Rattle.just_syntax.specs.declared.ast.Name.{Name}
 use Rattle.just_syntax.specs.declared.ast.Expr.{Expr}
 use Rattle.just_syntax.specs.declared.ast.ParameterKind.{ParameterKind}
