@@ -25,4 +25,10 @@ pub mod Comments
 pub mod AttributeShorter
 pub mod AttributeLoops
 pub mod AttributeSound
+pub mod RecipeSound
+pub mod RecipeComplete
+pub mod RecipeShorter
+pub mod BodySound
+pub mod BodyComplete
+pub mod BodyShorter
 pub mod Gather
