@@ -1,5 +1,5 @@
 -- Attributes and strings in lists take characters.
-use Rattle.std.proofs.Common.{◌≡◌, ◌<◌, ◌≤◌, List, [], ◌∷◌, ◌++◌, length, Option, Some, None, Ok, codes, arith}
+use Rattle.std.proofs.Common.{◌≡◌, ℕ, ◌<◌, ◌≤◌, List, [], ◌∷◌, ◌++◌, length, Option, Some, None, Ok, codes, arith}
 use Rattle.just_read.specs.Place.{Place}
 use Rattle.just_read.proofs.Laws.{bind_ok, past_le}
 use Rattle.just_syntax.specs.declared.ast.Name.{Name}
@@ -21,7 +21,7 @@ use Rattle.just_syntax.specs.Attributes.AreAttributes.{line_by_line}
 use Rattle.just_syntax.specs.ItemReaders as item
 use Rattle.just_syntax.specs.Readers as reader
 use Rattle.just_syntax.proofs.Marks.{token_ok, token_lt}
-use Rattle.just_syntax.proofs.LineLaws.{behind_rest, behind_trailing}
+use Rattle.just_syntax.proofs.LineLaws.{newline_ok, rest_ok, trailing_ok, behind_newline, behind_rest, behind_trailing}
 use Rattle.just_syntax.proofs.StringLaws.{string_ok, string_lt}
 use Rattle.just_syntax.proofs.ExprShorter.{name_lt, level_lt, inner_lt}
 use Rattle.just_syntax.proofs.PathLoop.{are_le}
@@ -83,6 +83,18 @@ pub behind_attributes : (p q : Place) (xs : List Attribute) → AreAttributes p 
 behind_attributes p q xs (line_by_line lines are n z) = are_le IsAttributeLine behind_attribute_line p q lines are
 
 -- ---- over what is read
+
+-- the end of a line takes nothing back
+pub newline_le : (p q : Place) (u : Unit {0}) → reader.newline p ≡ Ok (u, q) → length q.rest ≤ length p.rest
+newline_le p q u h = behind_newline p q (newline_ok p q u h)
+
+-- nor does what may stand behind an item
+pub rest_le : (p q : Place) (x : Option (List ℕ)) → reader.rest p ≡ Ok (x, q) → length q.rest ≤ length p.rest
+rest_le p q x h = behind_rest p q x (rest_ok p q x h)
+
+-- nor a comma that may stand
+pub trailing_le : (p q : Place) (u : Unit {0}) → item.trailing p ≡ Ok (u, q) → length q.rest ≤ length p.rest
+trailing_le p q u h = behind_trailing p q (trailing_ok p q u h)
 
 -- a comma and an argument take a character
 pub further_argument_lt : (form : Form) (earlier : List Argument) (p q : Place) (x : Argument) → item.further_argument form earlier p ≡ Ok (x, q) → length q.rest < length p.rest

@@ -10,7 +10,7 @@ use Rattle.just_syntax.specs.ItemReaders as item
 use Rattle.just_syntax.proofs.Shorter.{letter_lt}
 
 pub shorter : (p q : Place) (x : List ℕ) → is_text p ≡ true → item.letter p ≡ Ok (x, q) → length q.rest < length p.rest
-shorter p q x m h = letter_lt p q x h
+shorter p q x m h = letter_lt p q x m h
 
 -- the text that is still to come, behind what was found
 abbrev finish : List ℕ → List (List ℕ) → Reader (List ℕ)
