@@ -24,3 +24,5 @@ pub mod Comments
 pub mod AttributeShorter
 pub mod AttributeLoops
 pub mod Gather
+pub mod DeepChains
+pub mod DeepNone
