@@ -26,3 +26,4 @@ pub mod AttributeLoops
 pub mod Gather
 pub mod DeepChains
 pub mod DeepNone
+pub mod DeepExpr

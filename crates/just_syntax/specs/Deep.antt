@@ -21,7 +21,6 @@ use Rattle.just_syntax.specs.declared.item.Opening.{Opening}
 use Rattle.just_syntax.specs.declared.item.Opening.TheVariants as opening
 use Rattle.just_syntax.specs.declared.entry.Body.{Body}
 use Rattle.just_syntax.specs.Places.{is_blank_line, ends_line, IsToken, IsWord, IsName, IsPath}
-use Rattle.just_syntax.specs.Strings.{begins_string}
 use Rattle.just_syntax.specs.Exprs.{begins_condition, is_call, IsComparison, IsValue, IsBlock, IsLevel, IsInner, IsExpr}
 use Rattle.just_syntax.specs.Forms.{form_of, has_text, key_form, sort_of}
 use Rattle.just_syntax.specs.Attributes.{is_keyed, may_cache, may_have, is_first, behind_first, takes_text, goes_on, IsKey, IsArgument, AreFurther, IsAttribute, IsFurtherAttribute, IsAttributeLine, AreAttributes}
@@ -38,7 +37,7 @@ pub data IsDeepBehind {A : Type 0} (Is : Rule A) (Deep : Place → Type 0) (p : 
 
 module _ (Inner : Rule Expr) (Deep : Place → Type 0) where
   pub data IsDeepValue (p : Place) : Type 0 where
-    group : (m : Place) → begins_string p ≡ false → IsToken (codes "(") p m → Deep m → IsDeepValue p
+    group : (m : Place) → IsToken (codes "(") p m → Deep m → IsDeepValue p
     env_key : (m n : Place) → IsWord (codes "env") p m → IsToken (codes "(") m n → Deep n → IsDeepValue p
     env_default : (m n o r : Place) (key : Expr) → IsWord (codes "env") p m → IsToken (codes "(") m n → Inner n o key → IsToken (codes ",") o r → Deep r
         → IsDeepValue p
