@@ -18,7 +18,7 @@ use Rattle.just_syntax.specs.declared.form.KeyForm.TheVariants.{Alone, Either, V
 use Rattle.just_syntax.specs.Characters.{is_blank, in_line}
 use Rattle.just_syntax.specs.Places.{skip, crlf, without_returns}
 use Rattle.just_syntax.specs.Forms.{form_of, may_be_bare, has_colon, key_form, may_stand_alone}
-use Rattle.just_syntax.specs.Attributes.{argument_at, attribute_of, is_keyed, may_cache, may_have, with_comment, goes_on}
+use Rattle.just_syntax.specs.Attributes.{argument_at, attribute_of, is_keyed, may_cache, may_have, with_comment, goes_on, concat}
 use Rattle.just_syntax.specs.Meanings.{text_of}
 use Rattle.just_syntax.specs.ItemReaders as item
 use Rattle.just_syntax.specs.Readers as reader
@@ -240,9 +240,9 @@ further_attribute_lt p q x h =
     let (u, m, h1, k1) = bind_ok (reader.token (codes ",") p) (λ _. item.attribute) x q h in
     omega (arith, token_lt 44 [] p m (token_ok (codes ",") p u m h1), attribute_lt m q x k1)
 
-pub attributes_le : (p q : Place) (xs : List Attribute) → item.attribute_list p ≡ Ok (xs, q) → length q.rest ≤ length p.rest
+pub attribute_list_le : (p q : Place) (xs : List Attribute) → item.attribute_list p ≡ Ok (xs, q) → length q.rest ≤ length p.rest
 unfolding item.attribute_list
-attributes_le p q xs h =
+attribute_list_le p q xs h =
     let (x, m, h1, k1) = bind_ok (item.attribute p) (λ x m. and_then (many (begins (codes ",")) item.further_attribute m) (λ ys. pure (x ∷ ys))) xs q h in
     let (ys, n, h2, k2) = bind_ok (many (begins (codes ",")) item.further_attribute m) (λ ys. pure (x ∷ ys)) xs q k1 in
     most_at p n q (ok_place (x ∷ ys) xs n q k2)
@@ -257,8 +257,15 @@ attribute_line_lt p q xs h =
     let (v, o, h3, k3) = bind_ok (reader.token (codes "]") n) _ xs q k2 in
     let (c, r, h4, k4) = bind_ok (reader.rest o) (λ c r. Ok (with_comment c ys, skip r)) xs q k3 in
     less_at p (skip r) q (ok_place (with_comment c ys) xs (skip r) q k4)
-    (omega (arith, token_lt 91 [] p m (token_ok (codes "[") p u m h1), attributes_le m n ys h2, token_lt 93 [] n o (token_ok (codes "]") n v o h3),
+    (omega (arith, token_lt 91 [] p m (token_ok (codes "[") p u m h1), attribute_list_le m n ys h2, token_lt 93 [] n o (token_ok (codes "]") n v o h3),
     rest_le o r c h4, past_le is_blank r))
+
+-- the attributes before an item take nothing back
+pub attributes_le : (p q : Place) (xs : List Attribute) → item.attributes p ≡ Ok (xs, q) → length q.rest ≤ length p.rest
+unfolding item.attributes
+attributes_le p q xs h =
+    let (lines, m, h1, k1) = bind_ok (many (begins (codes "[")) item.attribute_line p) (λ lines. pure (concat lines)) xs q h in
+    most_at p m q (ok_place (concat lines) xs m q k1) (many_le (begins (codes "[")) item.attribute_line (λ a b y g o. attribute_line_lt a b y o) p m lines h1)
 
 -- a comma and a string take a character
 pub further_string_lt : (p q : Place) (x : StringLiteral) → item.further_string p ≡ Ok (x, q) → length q.rest < length p.rest
