@@ -26,6 +26,12 @@ pub mod AttributeShorter
 pub mod AttributeLoops
 pub mod AttributeSound
 pub mod AttributeComplete
+pub mod RecipeSound
+pub mod RecipeComplete
+pub mod RecipeShorter
+pub mod BodySound
+pub mod BodyComplete
+pub mod BodyShorter
 pub mod Gather
 pub mod DeepChains
 pub mod DeepNone
