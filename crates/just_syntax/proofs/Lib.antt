@@ -36,3 +36,4 @@ pub mod Gather
 pub mod DeepChains
 pub mod DeepNone
 pub mod DeepExpr
+pub mod DeepAttributes

@@ -87,16 +87,16 @@ IsDeepFurther form earlier p (x ∷ xs) =
     (m : Place) × (n : Place) × (goes_on p ≡ true) × IsToken (codes ",") p m × IsArgument form earlier m n x × IsDeepFurther form (earlier ++ x ∷ []) n xs
 
 pub data IsDeepAttribute (p : Place) : Type 0 where
-  first : (m n : Place) (name : Name) → IsName p m name → IsToken (codes "(") m n → IsDeepArgument (form_of name.text) [] n → IsDeepAttribute p
-  other : (m n o : Place) (name : Name) (x : Argument) (xs : List Argument) → IsName p m name → IsToken (codes "(") m n → IsArgument (form_of name.text) [] n o x
+  first_argument : (m n : Place) (name : Name) → IsName p m name → IsToken (codes "(") m n → IsDeepArgument (form_of name.text) [] n → IsDeepAttribute p
+  other_argument : (m n o : Place) (name : Name) (x : Argument) (xs : List Argument) → IsName p m name → IsToken (codes "(") m n → IsArgument (form_of name.text) [] n o x
       → IsDeepFurther (form_of name.text) (x ∷ []) o xs → IsDeepAttribute p
 
 pub data IsDeepFurtherAttribute (p : Place) : Type 0 where
   further : (m : Place) → IsToken (codes ",") p m → IsDeepAttribute m → IsDeepFurtherAttribute p
 
 pub data IsDeepAttributeLine (p : Place) : Type 0 where
-  first : (m : Place) → IsToken (codes "[") p m → IsDeepAttribute m → IsDeepAttributeLine p
-  other : (m n : Place) (x : Attribute) → IsToken (codes "[") p m → IsAttribute m n x → IsDeepBehind IsFurtherAttribute IsDeepFurtherAttribute n → IsDeepAttributeLine p
+  first_attribute : (m : Place) → IsToken (codes "[") p m → IsDeepAttribute m → IsDeepAttributeLine p
+  other_attribute : (m n : Place) (x : Attribute) → IsToken (codes "[") p m → IsAttribute m n x → IsDeepBehind IsFurtherAttribute IsDeepFurtherAttribute n → IsDeepAttributeLine p
 
 -- ---- recipes
 
