@@ -37,3 +37,4 @@ pub mod DeepChains
 pub mod DeepNone
 pub mod DeepExpr
 pub mod DeepAttributes
+pub mod DeepRecipes
