@@ -38,3 +38,5 @@ pub mod DeepNone
 pub mod DeepExpr
 pub mod DeepAttributes
 pub mod DeepRecipes
+pub mod DeepBodies
+pub mod DeepItems
