@@ -20,9 +20,11 @@ use Rattle.just_syntax.proofs.DeepChains.{shallow_ok, shallow_refuse, shallow_if
 use Rattle.just_syntax.proofs.DeepNone.{token_shallow, text_shallow, newline_shallow}
 use Rattle.just_syntax.proofs.DeepExpr.{expr_deep_ok, expr_deep_again}
 
+-- closing braces are not too deep
 closed_shallow : (x : Expr) (p : Place) → item.closed x p ≡ Err Depth → ⊥
 closed_shallow x p h = shallow_if (begins (codes "}}") p) _ _ (λ k. shallow_ok _ k) (λ k. shallow_refuse p k) h
 
+-- a fragment that the code finds too deep is
 fragment_deep_ok : (p : Place) → item.fragment_at p ≡ Err Depth → IsDeepFragment p
 unfolding item.fragment_at
 fragment_deep_ok p h =
@@ -33,6 +35,7 @@ fragment_deep_ok p h =
     (λ (s : _). absurd (shallow_gives (item.text p) _ (text_shallow p) s.1))
     (choose (opens p) _ _ (Err Depth) h)
 
+-- fragments that the code finds too deep are
 fragments_deep_ok : (p : Place) → item.fragments p ≡ Err Depth → IsDeepBehind IsFragment IsDeepFragment p
 unfolding item.fragments
 fragments_deep_ok p h =
@@ -46,10 +49,12 @@ body_line_deep_ok indentation p b h =
     line b (fragments_deep_ok (behind_text indentation p)
     (depth_first (item.fragments (behind_text indentation p)) _ (λ fs m j. shallow_gives (reader.newline m) _ (newline_shallow m) j) h))
 
+-- a fragment that is too deep is found so
 fragment_deep_again : (p : Place) → IsDeepFragment p → (item.line_goes_on p ≡ true) × (item.fragment_at p ≡ Err Depth)
 unfolding item.fragment_at
 fragment_deep_again p (value m o t d) = (opens_goes_on p o, rw (o, token_again (codes "{{") p m t, expr_deep_again m d) refl)
 
+-- fragments that are too deep are found so
 fragments_deep_again : (p : Place) → IsDeepBehind IsFragment IsDeepFragment p → item.fragments p ≡ Err Depth
 unfolding item.fragments
 fragments_deep_again p d =

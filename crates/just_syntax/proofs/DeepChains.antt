@@ -48,6 +48,7 @@ shallow_if false x y n k h = k h
 -- ---- loops
 
 module _ {A : Type 0} (more : Place → Bool) (one : Reader A) where
+  -- one turn isn't too deep where its reader and the turns behind it aren't
   shallow_step : (others : Reader (List A)) → ((p : Place) → one p ≡ Err Depth → ⊥) → ((p : Place) → others p ≡ Err Depth → ⊥)
       → (p : Place) → step more one others p ≡ Err Depth → ⊥
   shallow_step others n k p h =
@@ -56,6 +57,7 @@ module _ {A : Type 0} (more : Place → Bool) (one : Reader A) where
       (λ x m j. shallow_gives (others m) (λ xs. x ∷ xs) (k m) j) i)
       (λ i. shallow_ok ([], p) i) h
 
+  -- nor are as many turns as a bound allows
   shallow_many_in : ((p : Place) → one p ≡ Err Depth → ⊥) → (n : ℕ) (p : Place) → many_in more one n p ≡ Err Depth → ⊥
   shallow_many_in k zero p h = shallow_step refuse k (λ m i. let no : ⊥ = cc (i) in no) p h
   shallow_many_in k (suc n) p h = shallow_step (many_in more one n) k (shallow_many_in k n) p h
@@ -68,9 +70,11 @@ module _ {A : Type 0} (more : Place → Bool) (one : Reader A) where
 module _ {A : Type 0} (more : Place → Bool) (one : Reader A) (Is : Rule A) (Deep : Place → Type 0)
     (reads : (p q : Place) (x : A) → more p ≡ true → one p ≡ Ok (x, q) → Is p q x)
     (deep : (p : Place) → more p ≡ true → one p ≡ Err Depth → Deep p) where
+  -- one more in front of what is too deep
   one_more : (p m : Place) (x : A) → Is p m x → IsDeepBehind Is Deep m → IsDeepBehind Is Deep p
   one_more p m x i (behind n xs are d) = behind n (x ∷ xs) (m, i, are) d
 
+  -- one turn that is too deep is such a chain, if the turns behind it are
   deep_turn : (others : Reader (List A)) → ((p : Place) → others p ≡ Err Depth → IsDeepBehind Is Deep p)
       → (p : Place) → step more one others p ≡ Err Depth → IsDeepBehind Is Deep p
   deep_turn others k p h =
@@ -84,6 +88,7 @@ module _ {A : Type 0} (more : Place → Bool) (one : Reader A) (Is : Rule A) (De
       (λ (s : _). absurd (shallow_ok ([], p) s.1))
       (choose (more p) (and_then (one p) (λ x. others >>= (λ xs. pure (x ∷ xs)))) (Ok ([], p)) (Err Depth) h)
 
+  -- as many turns as a bound allows that are too deep are such a chain
   deep_in : (n : ℕ) (p : Place) → many_in more one n p ≡ Err Depth → IsDeepBehind Is Deep p
   deep_in zero p h = deep_turn refuse (λ m i. absurd (let no : ⊥ = cc (i) in no)) p h
   deep_in (suc n) p h = deep_turn (many_in more one n) (deep_in n) p h
@@ -97,6 +102,7 @@ module _ {A : Type 0} (more : Place → Bool) (one : Reader A)
     (shorter : (p q : Place) (x : A) → more p ≡ true → one p ≡ Ok (x, q) → length q.rest < length p.rest) (Is : Rule A) (Deep : Place → Type 0)
     (again : (p q : Place) (x : A) → Is p q x → (more p ≡ true) × (one p ≡ Ok (x, q)))
     (deep : (p : Place) → Deep p → (more p ≡ true) × (one p ≡ Err Depth)) where
+  -- a chain before one that is too deep is refused so
   deep_chain : (p m : Place) (xs : List A) → AreMany Is p m xs → Deep m → many more one p ≡ Err Depth
   deep_chain p m [] e d = let k = deep p (subst Deep e d) in many_wrong more one shorter p Depth k.0 k.1
   deep_chain p m (x ∷ xs) (n, i, are) d =

@@ -28,6 +28,7 @@ use Rattle.just_syntax.proofs.DeepNone.{token_shallow, word_shallow, name_shallo
 module _ (inner : Reader Expr) (Inner : Rule Expr) (Deep : Place → Type 0)
     (reads : (p q : Place) (x : Expr) → inner p ≡ Ok (x, q) → Inner p q x)
     (deep : (p : Place) → inner p ≡ Err Depth → Deep p) where
+  -- parentheses that the code finds too deep are
   group_deep_ok : (p : Place) → reader.group inner p ≡ Err Depth → IsDeepValue Inner Deep p
   unfolding reader.group
   group_deep_ok p h =
@@ -35,6 +36,7 @@ module _ (inner : Reader Expr) (Inner : Rule Expr) (Deep : Place → Type 0)
       group m (token_ok (codes "(") p u m t)
       (deep m (depth_first (inner m) _ (λ y n j. shallow_gives (reader.token (codes ")") n) _ (token_shallow (codes ")") n) j) k))
 
+  -- a second argument of `env` that the code finds too deep is
   default_deep_ok : (p : Place) → reader.default inner p ≡ Err Depth → (m : Place) × IsToken (codes ",") p m × Deep m
   unfolding reader.default
   default_deep_ok p h =
@@ -45,6 +47,7 @@ module _ (inner : Reader Expr) (Inner : Rule Expr) (Deep : Place → Type 0)
       (λ (s : _). absurd (shallow_ok _ s.1))
       (choose (begins (codes ",") p) _ _ (Err Depth) h)
 
+  -- a call of `env` that the code finds too deep is
   env_deep_ok : (p : Place) → reader.env inner p ≡ Err Depth → IsDeepValue Inner Deep p
   unfolding reader.env
   env_deep_ok p h =
@@ -72,6 +75,7 @@ module _ (inner : Reader Expr) (Inner : Rule Expr) (Deep : Place → Type 0)
       (choose (begins (codes "(") p) _ _ (Err Depth) s.1))
       (choose (begins_string p) _ _ (Err Depth) h)
 
+  -- braces that the code finds too deep are
   block_deep_ok : (p : Place) → reader.block inner p ≡ Err Depth → IsDeepBlock Inner Deep p
   unfolding reader.block
   block_deep_ok p h =
@@ -79,6 +83,7 @@ module _ (inner : Reader Expr) (Inner : Rule Expr) (Deep : Place → Type 0)
       block m (token_ok (codes "{") p u m t)
       (deep m (depth_first (inner m) _ (λ y n j. shallow_gives (reader.token (codes "}") n) _ (token_shallow (codes "}") n) j) k))
 
+  -- what follows `else` is found too deep as a further `if` or in its braces
   otherwise_deep_ok : (p : Place) → reader.otherwise inner p ≡ Err Depth
       → ((begins_condition p ≡ true) × Deep p) ⊎ ((begins_condition p ≡ false) × IsDeepBlock Inner Deep p)
   unfolding reader.otherwise
@@ -87,6 +92,7 @@ module _ (inner : Reader Expr) (Inner : Rule Expr) (Deep : Place → Type 0)
       (λ (s : _). inr (s.0, block_deep_ok p (depth_first (reader.block inner p) _ (λ y n j. shallow_ok _ j) s.1)))
       (choose (begins_condition p) _ _ (Err Depth) h)
 
+  -- a condition is found too deep on one of its sides
   condition_deep_ok : (p m : Place) → begins_condition p ≡ true → IsToken (codes "if") p m → reader.condition inner m ≡ Err Depth → IsDeepLevel Inner Deep p
   unfolding reader.condition
   condition_deep_ok p m b t h =
@@ -97,6 +103,7 @@ module _ (inner : Reader Expr) (Inner : Rule Expr) (Deep : Place → Type 0)
       right_side m n o left c b t (reads m n left l) (comparison_ok n o c g) (deep o (depth_first (inner o) _ (λ x r i. shallow_ok _ i) j)))
       (depth_either (inner m) _ h)
 
+  -- an `if` that the code finds too deep is
   conditional_deep_ok : (p : Place) → begins_condition p ≡ true → reader.conditional inner p ≡ Err Depth → IsDeepLevel Inner Deep p
   unfolding reader.conditional
   conditional_deep_ok p b h =
@@ -119,12 +126,14 @@ module _ (inner : Reader Expr) (Inner : Rule Expr) (Deep : Place → Type 0)
       (depth_either (reader.block inner r) _ i))
       (depth_either (reader.condition inner m) _ k)
 
+  -- a leading slash that the code finds too deep is
   root_deep_ok : (p : Place) → reader.root inner p ≡ Err Depth → IsDeepLevel Inner Deep p
   unfolding reader.root
   root_deep_ok p h =
       let (u, m, t, k) = depth_behind (reader.token (codes "/") p) _ (token_shallow (codes "/") p) h in
       root m (token_ok (codes "/") p u m t) (deep m (depth_first (inner m) _ (λ y n j. shallow_ok _ j) k))
 
+  -- what follows a value and is found too deep is
   tail_deep_ok : (p m : Place) (a : Expr) → begins_condition p ≡ false → IsValue Inner p m a → reader.tail inner a m ≡ Err Depth → IsDeepLevel Inner Deep p
   unfolding reader.tail
   tail_deep_ok p m a c v h =
@@ -141,6 +150,7 @@ module _ (inner : Reader Expr) (Inner : Rule Expr) (Deep : Place → Type 0)
       (choose (begins (codes "+") m) _ _ (Err Depth) s.1))
       (choose (begins (codes "/") m) _ _ (Err Depth) h)
 
+  -- an expression is found too deep where it is, if those inside it are
   level_deep_ok : (p : Place) → reader.level inner p ≡ Err Depth → IsDeepLevel Inner Deep p
   unfolding reader.level
   level_deep_ok p h =
@@ -169,18 +179,22 @@ expr_deep_ok p h = level_deep_ok (reader.inner 256) (IsInner 256) (IsTooDeep 256
 module _ (inner : Reader Expr) (Inner : Rule Expr) (Deep : Place → Type 0)
     (again : (p q : Place) (x : Expr) → Inner p q x → inner p ≡ Ok (x, q))
     (deep : (p : Place) → Deep p → inner p ≡ Err Depth) where
+  -- parentheses that are too deep are found so
   group_deep_again : (p m : Place) → IsToken (codes "(") p m → Deep m → reader.group inner p ≡ Err Depth
   unfolding reader.group
   group_deep_again p m t d = rw (token_again (codes "(") p m t, deep m d) refl
 
+  -- a call of `env` whose first argument is too deep is found so
   env_key_again : (p m n : Place) → IsWord (codes "env") p m → IsToken (codes "(") m n → Deep n → reader.env inner p ≡ Err Depth
   unfolding reader.env
   env_key_again p m n w t d = rw (word_again (codes "env") p m w, token_again (codes "(") m n t, deep n d) refl
 
+  -- a second argument that is too deep is found so
   default_deep_again : (p m : Place) → IsToken (codes ",") p m → Deep m → reader.default inner p ≡ Err Depth
   unfolding reader.default
   default_deep_again p m t d = rw (t.0, token_again (codes ",") p m t, deep m d) refl
 
+  -- and the call that has it
   env_default_again : (p m n o r : Place) (key : Expr) → IsWord (codes "env") p m → IsToken (codes "(") m n → Inner n o key → IsToken (codes ",") o r → Deep r
       → reader.env inner p ≡ Err Depth
   unfolding reader.env
@@ -193,9 +207,14 @@ module _ (inner : Reader Expr) (Inner : Rule Expr) (Deep : Place → Type 0)
   env_called p m n w t =
       let b : begins (codes "env") p ≡ true = word_begins (codes "env") p m w in
       let call : begins (codes "(") (behind_word p) ≡ true = ap (begins (codes "(")) (word_behind (codes "env") p m refl w) ∙ t.0 in
-      rw (no_string 101 (110 ∷ 118 ∷ []) p b refl refl, begins_other 101 40 [] p (begins_first 101 (110 ∷ 118 ∷ []) p b) refl,
-      begins_starts begins_name 101 (110 ∷ 118 ∷ []) p b, call) refl
+      rw (
+        no_string 101 (110 ∷ 118 ∷ []) p b refl refl,
+        begins_other 101 40 [] p (begins_first 101 (110 ∷ 118 ∷ []) p b) refl,
+        begins_starts begins_name 101 (110 ∷ 118 ∷ []) p b,
+        call,
+      ) refl
 
+  -- where a parenthesis stands the value is a group
   group_called : (p m : Place) → IsToken (codes "(") p m → reader.value inner p ≡ reader.group inner p
   unfolding reader.value
   group_called p m t = rw (no_string 40 [] p t.0 refl refl, t.0) refl
@@ -206,51 +225,67 @@ module _ (inner : Reader Expr) (Inner : Rule Expr) (Deep : Place → Type 0)
   value_deep_again p (env_key m n w t d) = env_called p m n w t ∙ env_key_again p m n w t d
   value_deep_again p (env_default m n o r key w t i c d) = env_called p m n w t ∙ env_default_again p m n o r key w t i c d
 
+  -- braces that are too deep are found so
   block_deep_again : (p : Place) → IsDeepBlock Inner Deep p → reader.block inner p ≡ Err Depth
   unfolding reader.block
   block_deep_again p (block m t d) = rw (token_again (codes "{") p m t, deep m d) refl
 
+  -- a condition whose left side is too deep is found so
   left_again : (p : Place) → Deep p → reader.condition inner p ≡ Err Depth
   unfolding reader.condition
   left_again p d = rw (deep p d) refl
 
+  -- a condition whose right side is too deep is found so
   right_again : (p m n : Place) (left : Expr) (c : Comparison) → Inner p m left → IsComparison m n c → Deep n → reader.condition inner p ≡ Err Depth
   unfolding reader.condition
   right_again p m n left c i g d = rw (again p m left i, comparison_again m n c g, deep n d) refl
 
+  -- so is an `if` with such a condition
   condition_deep_again : (p m : Place) → IsToken (codes "if") p m → reader.condition inner m ≡ Err Depth → reader.conditional inner p ≡ Err Depth
   unfolding reader.conditional
   condition_deep_again p m t h = rw (token_again (codes "if") p m t, h) refl
 
+  -- an `if` whose first braces are too deep is found so
   consequent_again : (p m n o r : Place) (left right : Expr) (c : Comparison) → IsToken (codes "if") p m → Inner m n left → IsComparison n o c → Inner o r right
       → IsDeepBlock Inner Deep r → reader.conditional inner p ≡ Err Depth
   unfolding reader.conditional
   consequent_again p m n o r left right c t i g j d =
       rw (token_again (codes "if") p m t, condition_again inner Inner again m n o r left right c i g j, block_deep_again r d) refl
 
+  -- an `if` is found too deep where what follows its `else` is
   otherwise_deep_again : (p m n o r s t : Place) (left right then_part : Expr) (c : Comparison) → IsToken (codes "if") p m → Inner m n left → IsComparison n o c
       → Inner o r right → IsBlock Inner r s then_part → IsWord (codes "else") s t → reader.otherwise inner t ≡ Err Depth → reader.conditional inner p ≡ Err Depth
   unfolding reader.conditional
   otherwise_deep_again p m n o r s t left right then_part c u i g j b w h =
-      rw (token_again (codes "if") p m u, condition_again inner Inner again m n o r left right c i g j, block_again inner Inner again r s then_part b,
-      word_again (codes "else") s t w, h) refl
+      rw (
+        token_again (codes "if") p m u,
+        condition_again inner Inner again m n o r left right c i g j,
+        block_again inner Inner again r s then_part b,
+        word_again (codes "else") s t w,
+        h,
+      ) refl
 
+  -- braces behind `else` that are too deep are found so
   last_again : (p : Place) → begins_condition p ≡ false → IsDeepBlock Inner Deep p → reader.otherwise inner p ≡ Err Depth
   unfolding reader.otherwise
   last_again p b d = rw (b, block_deep_again p d) refl
 
+  -- a further `if` that is too deep is found so
   further_again : (p : Place) → begins_condition p ≡ true → Deep p → reader.otherwise inner p ≡ Err Depth
   unfolding reader.otherwise
   further_again p b d = rw (b, deep p d) refl
 
+  -- a leading slash that is too deep is found so
   root_deep_again : (p m : Place) → IsToken (codes "/") p m → Deep m → reader.root inner p ≡ Err Depth
   unfolding reader.root
   root_deep_again p m t d = rw (token_again (codes "/") p m t, deep m d) refl
 
+  -- what a slash joins and is too deep is found so
   slash_deep_again : (a : Expr) (m n : Place) → IsToken (codes "/") m n → Deep n → reader.tail inner a m ≡ Err Depth
   unfolding reader.tail
   slash_deep_again a m n t d = rw (t.0, token_again (codes "/") m n t, deep n d) refl
 
+  -- what a plus joins and is too deep is found so
   plus_deep_again : (a : Expr) (m n : Place) → IsToken (codes "+") m n → Deep n → reader.tail inner a m ≡ Err Depth
   unfolding reader.tail
   plus_deep_again a m n t d = rw (begins_other 43 47 [] m (begins_first 43 [] m t.0) refl, t.0, token_again (codes "+") m n t, deep n d) refl
@@ -262,6 +297,7 @@ module _ (inner : Reader Expr) (Inner : Rule Expr) (Deep : Place → Type 0)
   deep_begins p (env_default m n o r key w t i c d) =
       begins_other 101 47 [] p (begins_first 101 (110 ∷ 118 ∷ []) p (word_begins (codes "env") p m w)) refl
 
+  -- an expression that is too deep is found so, if those inside it are
   level_deep_again : (p : Place) → IsDeepLevel Inner Deep p → reader.level inner p ≡ Err Depth
   unfolding reader.level
   level_deep_again p (left_side m b t d) = rw (b) (condition_deep_again p m t (left_again m d))

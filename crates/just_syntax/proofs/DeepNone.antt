@@ -46,6 +46,7 @@ unfolding reader.maybe
 maybe_shallow mark p h =
     shallow_if (begins mark p) _ _ (λ k. shallow_gives (reader.token mark p) (λ _. true) (token_shallow mark p) k) (λ k. shallow_ok _ k) h
 
+-- nor `::` and a name
 further_name_shallow : (p : Place) → reader.further_name p ≡ Err Depth → ⊥
 unfolding reader.further_name
 further_name_shallow p h = shallow_then (reader.token (codes "::") p) _ (token_shallow (codes "::") p) (λ u m k. name_shallow m k) h
@@ -78,20 +79,24 @@ rest_shallow p h =
 
 -- ---- strings
 
+-- the digits of an escape aren't too deep
 number_shallow : (p : Place) → reader.number p ≡ Err Depth → ⊥
 unfolding reader.number
 number_shallow p h = shallow_if (starts is_hex p && reader.is_number (run is_hex p.rest)) _ _ (λ k. shallow_ok _ k) (λ k. shallow_refuse p k) h
 
+-- nor a character by its number
 unicode_shallow : (p : Place) → reader.unicode p ≡ Err Depth → ⊥
 unfolding reader.unicode
 unicode_shallow p h =
     shallow_then (expect 123 p) _ (expect_shallow 123 p)
     (λ u m k. shallow_then (reader.number m) _ (number_shallow m) (λ c n i. shallow_gives (expect 125 n) (λ _. c ∷ []) (expect_shallow 125 n) i) k) h
 
+-- nor a letter that an escape has
 letter_shallow : (o : Option ℕ) (p : Place) → reader.letter_of o p ≡ Err Depth → ⊥
 letter_shallow None p h = shallow_refuse p h
 letter_shallow (Some d) p h = shallow_ok _ h
 
+-- nor what begins with that character behind a backslash
 escape_of_shallow : (o : Option ℕ) (p : Place) → reader.escape_of o p ≡ Err Depth → ⊥
 escape_of_shallow None p h = shallow_refuse p h
 escape_of_shallow (Some c) p h =
@@ -100,30 +105,37 @@ escape_of_shallow (Some c) p h =
     shallow_if (c == 10) _ _ (λ i. shallow_ok _ i)
     (λ i. shallow_if (c == 13) _ _ (λ j. shallow_gives (expect 10 (next p)) (λ _. []) (expect_shallow 10 (next p)) j) (λ j. letter_shallow (letter_meant c) p j) i) k) h
 
+-- nor an escape
 escape_shallow : (p : Place) → reader.escape p ≡ Err Depth → ⊥
 unfolding reader.escape
 escape_shallow p h = escape_of_shallow (first p) p h
 
+-- nor a piece that begins with that character
 piece_of_shallow : (cooked : Bool) (o : Option ℕ) (p : Place) → reader.piece_of cooked o p ≡ Err Depth → ⊥
 piece_of_shallow cooked None p h = shallow_refuse p h
 piece_of_shallow cooked (Some c) p h = shallow_if (cooked && c == 92) _ _ (λ k. escape_shallow (next p) k) (λ k. shallow_ok _ k) h
 
+-- nor a piece of a string
 piece_shallow : (cooked : Bool) (p : Place) → reader.piece cooked p ≡ Err Depth → ⊥
 unfolding reader.piece
 piece_shallow cooked p h = piece_of_shallow cooked (first p) p h
 
+-- nor its pieces
 pieces_shallow : (quote : Quote) (p : Place) → reader.pieces quote p ≡ Err Depth → ⊥
 unfolding reader.pieces
 pieces_shallow quote p h =
     shallow_gives (reader.many_pieces quote p) (λ _. tt) (shallow_many (goes_on quote) (reader.piece (is_cooked quote)) (piece_shallow (is_cooked quote)) p) h
 
+-- nor the closing quote
 close_shallow : (quote : Quote) (raw : List ℕ) (p : Place) → reader.close quote raw p ≡ Err Depth → ⊥
 close_shallow quote raw p h = shallow_if (begins (mark quote) p) _ _ (λ k. shallow_ok _ k) (λ k. shallow_refuse p k) h
 
+-- nor what stands up to it
 raw_shallow : (quote : Quote) (p : Place) → reader.raw_text quote p ≡ Err Depth → ⊥
 unfolding reader.raw_text
 raw_shallow quote p h = shallow_then (reader.pieces quote p) _ (pieces_shallow quote p) (λ u m k. close_shallow quote (encode_utf8_all (between p m)) m k) h
 
+-- nor a string with that quote
 quoted_shallow : (o : Option Quote) (p m : Place) → reader.quoted p o m ≡ Err Depth → ⊥
 quoted_shallow None p m h = shallow_refuse m h
 quoted_shallow (Some quote) p m h =
@@ -161,10 +173,12 @@ colon_shallow form p h =
     (λ k. shallow_then (reader.token (codes ":") p) _ (token_shallow (codes ":") p) (λ u m i. shallow_gives (reader.string m) _ (string_shallow m) i) k)
     (λ k. shallow_refuse p k) h
 
+-- nor a letter of a text
 letter_of_shallow : (o : Option ℕ) (p : Place) → item.letter_of o p ≡ Err Depth → ⊥
 letter_of_shallow None p h = shallow_refuse p h
 letter_of_shallow (Some c) p h = shallow_ok _ h
 
+-- nor four braces, or a letter
 text_letter_shallow : (p : Place) → item.letter p ≡ Err Depth → ⊥
 unfolding item.letter
 text_letter_shallow p h = shallow_if (begins (codes "{{{{") p) _ _ (λ k. shallow_ok _ k) (λ k. letter_of_shallow (first p) p k) h
@@ -196,6 +210,7 @@ import_shallow p h =
     shallow_then (reader.maybe (codes "?") m) _ (maybe_shallow (codes "?") m)
     (λ b n j. shallow_then (reader.string n) _ (string_shallow n) (λ s o k. shallow_gives (reader.rest o) _ (rest_shallow o) k) j) i) h
 
+-- nor the string behind a module
 module_path_shallow : (p : Place) → item.module_path p ≡ Err Depth → ⊥
 unfolding item.module_path
 module_path_shallow p h =
@@ -226,16 +241,19 @@ truth_shallow p h =
     shallow_if (is_word (codes "true") p) _ _ (λ k. shallow_gives (reader.word (codes "true") p) (λ _. true) (word_shallow (codes "true") p) k)
     (λ k. shallow_gives (reader.word (codes "false") p) (λ _. false) (word_shallow (codes "false") p) k) h
 
+-- nor a string behind a comma
 further_string_shallow : (p : Place) → item.further_string p ≡ Err Depth → ⊥
 unfolding item.further_string
 further_string_shallow p h = shallow_then (reader.token (codes ",") p) _ (token_shallow (codes ",") p) (λ u m k. string_shallow m k) h
 
+-- nor strings behind commas
 string_list_shallow : (p : Place) → item.string_list p ≡ Err Depth → ⊥
 unfolding item.string_list
 string_list_shallow p h =
     shallow_then (reader.string p) _ (string_shallow p)
     (λ s m k. shallow_gives (many goes_on_string item.further_string m) _ (shallow_many goes_on_string item.further_string further_string_shallow m) k) h
 
+-- nor these with a comma behind them
 some_strings_shallow : (p : Place) → item.some_strings p ≡ Err Depth → ⊥
 unfolding item.some_strings
 some_strings_shallow p h =

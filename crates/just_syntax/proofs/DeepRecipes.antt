@@ -40,6 +40,7 @@ use Rattle.just_syntax.proofs.DeepExpr.{value_deep_ok, value_deep_again, inner_d
 
 -- ---- parameters that are found too deep
 
+-- a default that the code finds too deep is
 default_deep_ok : (p : Place) → item.parameter_default p ≡ Err Depth → IsDeepDefault p
 unfolding item.parameter_default
 default_deep_ok p h =
@@ -61,12 +62,14 @@ parameter_deep_ok kind p h =
     parameter m n b name (maybe_ok (codes "$") p m b t) (name_ok m name n i)
     (default_deep_ok n (depth_first (item.parameter_default n) _ (λ x o l. shallow_ok _ l) j))
 
+-- parameters of one value that the code finds too deep are
 singular_deep_ok : (p : Place) → item.singular p ≡ Err Depth → IsDeepBehind IsSingular IsDeepSingular p
 unfolding item.singular
 singular_deep_ok p h =
     many_deep_ok begins_parameter (item.parameter Singular) IsSingular IsDeepSingular (λ a b x c k. (c, parameter_ok Singular a b x k))
     (λ a c k. one_singular c (parameter_deep_ok Singular a k)) p h
 
+-- a last parameter that the code finds too deep is
 variadic_deep_ok : (p m : Place) (xs : List AstParameter) → AreMany IsSingular p m xs → begins_parameter m ≡ false → item.variadic m ≡ Err Depth
     → AreDeepParameters p
 unfolding item.variadic
@@ -97,12 +100,14 @@ parameters_deep_ok p h =
 
 -- ---- dependencies that are found too deep
 
+-- arguments of a dependency that the code finds too deep are
 values_deep_ok : (p : Place) → item.dependency_values p ≡ Err Depth → IsDeepBehind IsDependencyValue IsDeepDependencyValue p
 unfolding item.dependency_values
 values_deep_ok p h =
     many_deep_ok item.is_open item.expr IsDependencyValue IsDeepDependencyValue (λ a b x c k. (not_true (begins (codes ")") a) c, expr_ok a b x k))
     (λ a c k. value (not_true (begins (codes ")") a) c) (expr_deep_ok a k)) p h
 
+-- a dependency that the code finds too deep is
 dependency_deep_ok : (p : Place) → item.dependency p ≡ Err Depth → IsDeepDependency p
 unfolding item.dependency
 dependency_deep_ok p h =
@@ -121,6 +126,7 @@ unfolding item.dependencies
 dependencies_deep_ok p h =
     many_deep_ok begins_dependency item.dependency IsDependency IsDeepDependency (λ a b x c k. dependency_ok a b x k) (λ a c k. dependency_deep_ok a k) p h
 
+-- dependencies behind `&&` that the code finds too deep are
 subsequents_deep_ok : (p : Place) → item.subsequents p ≡ Err Depth → (m : Place) × IsToken (codes "&&") p m × IsDeepBehind IsDependency IsDeepDependency m
 unfolding item.subsequents
 subsequents_deep_ok p h =
@@ -158,34 +164,44 @@ recipe_line_deep_ok attributes p h =
 
 -- ---- parameters that are too deep are found so
 
+-- a default that is too deep is found so
 default_deep_again : (p : Place) → IsDeepDefault p → item.parameter_default p ≡ Err Depth
 unfolding item.parameter_default
 default_deep_again p (default m t d) =
-    rw (t.0, token_again (codes "=") p m t,
-    value_deep_again (reader.inner 256) (IsInner 256) (IsTooDeep 256) (inner_again 256) (inner_deep_again 256) m d) refl
+    rw (
+      t.0,
+      token_again (codes "=") p m t,
+      value_deep_again (reader.inner 256) (IsInner 256) (IsTooDeep 256) (inner_again 256) (inner_deep_again 256) m d,
+    ) refl
 
+-- a parameter that is too deep is found so
 parameter_deep_again : (kind : ParameterKind) (p : Place) → IsDeepParameter p → item.parameter kind p ≡ Err Depth
 unfolding item.parameter
 parameter_deep_again kind p (parameter m n b name t i d) = rw (maybe_again (codes "$") p m b t, name_again m n name i, default_deep_again n d) refl
 
+-- where one of one value begins
 one_singular_again : (p : Place) → IsDeepSingular p → (begins_parameter p ≡ true) × (item.parameter Singular p ≡ Err Depth)
 one_singular_again p (one_singular b d) = (b, parameter_deep_again Singular p d)
 
+-- parameters of one value that are too deep are found so
 singular_deep_again : (p : Place) → IsDeepBehind IsSingular IsDeepSingular p → item.singular p ≡ Err Depth
 unfolding item.singular
 singular_deep_again p d =
     many_deep_again begins_parameter (item.parameter Singular) parameters_shorter IsSingular IsDeepSingular (λ a b x i. (i.0, parameter_again Singular a b x i.1))
     one_singular_again p d
 
+-- a parameter behind a star that is too deep is found so
 star_deep_again : (p m : Place) → IsToken (codes "*") p m → IsDeepParameter m → item.variadic p ≡ Err Depth
 unfolding item.variadic
 star_deep_again p m t d = rw (t.0, token_again (codes "*") p m t, parameter_deep_again Star m d) refl
 
+-- a parameter behind a plus that is too deep is found so
 plus_deep_again : (p m : Place) → IsToken (codes "+") p m → IsDeepParameter m → item.variadic p ≡ Err Depth
 unfolding item.variadic
 plus_deep_again p m t d =
     rw (begins_other 43 42 [] p (begins_first 43 [] p t.0) refl, t.0, token_again (codes "+") p m t, parameter_deep_again Plus m d) refl
 
+-- parameters that are too deep are found so
 parameters_deep_again : (p : Place) → AreDeepParameters p → item.parameters p ≡ Err Depth
 unfolding item.parameters
 parameters_deep_again p (some_singular d) = rw (singular_deep_again p d) refl
@@ -194,19 +210,23 @@ parameters_deep_again p (plus m n xs are done t d) = rw (singular_again p m xs a
 
 -- ---- dependencies that are too deep are found so
 
+-- an argument of a dependency that is too deep is found so
 value_again : (p : Place) → IsDeepDependencyValue p → (item.is_open p ≡ true) × (item.expr p ≡ Err Depth)
 value_again p (value b d) = (rw b refl, expr_deep_again p d)
 
+-- arguments of a dependency that are too deep are found so
 values_deep_again : (p : Place) → IsDeepBehind IsDependencyValue IsDeepDependencyValue p → item.dependency_values p ≡ Err Depth
 unfolding item.dependency_values
 values_deep_again p d =
     many_deep_again item.is_open item.expr values_shorter IsDependencyValue IsDeepDependencyValue (λ a b x i. (rw (i.0) refl, expr_again a b x i.1)) value_again p d
 
+-- a dependency that is too deep is found so
 dependency_deep_again : (p : Place) → IsDeepDependency p → (begins_dependency p ≡ true) × (item.dependency p ≡ Err Depth)
 unfolding item.dependency
 dependency_deep_again p (grouped m n path t i d) =
     (rw (t.0) refl, rw (t.0, token_again (codes "(") p m t, path_again m n path i, values_deep_again n d) refl)
 
+-- dependencies that are too deep are found so
 dependencies_deep_again : (p : Place) → IsDeepBehind IsDependency IsDeepDependency p → item.dependencies p ≡ Err Depth
 unfolding item.dependencies
 dependencies_deep_again p d =
@@ -218,9 +238,11 @@ some_begins : (p m : Place) (xs : List AstDependency) → AreMany IsDependency p
 some_begins p m [] e d = ap begins_dependency (sym e) ∙ (dependency_deep_again m d).0
 some_begins p m (x ∷ xs) (n, i, are) d = dependency_begins p n x i
 
+-- the same of a whole list of them
 dependencies_begin : (p : Place) → IsDeepBehind IsDependency IsDeepDependency p → begins_dependency p ≡ true
 dependencies_begin p (behind m xs are d) = some_begins p m xs are d
 
+-- dependencies behind `&&` that are too deep are found so
 subsequents_deep_again : (p m : Place) → IsToken (codes "&&") p m → IsDeepBehind IsDependency IsDeepDependency m → item.subsequents p ≡ Err Depth
 unfolding item.subsequents
 subsequents_deep_again p m t d = rw (t.0, token_again (codes "&&") p m t, dependencies_begin m d) (dependencies_deep_again m d)
@@ -234,5 +256,11 @@ recipe_line_deep_again attributes p (parameters m n quiet name t i d) = rw (mayb
 recipe_line_deep_again attributes p (priors m n o r quiet name xs t i j u d) =
     rw (maybe_again (codes "@") p m quiet t, name_again m n name i, parameters_again n o xs j, token_again (codes ":") o r u, dependencies_deep_again r d) refl
 recipe_line_deep_again attributes p (subsequents m n o r s l quiet name xs ys t i j u k v d) =
-    rw (maybe_again (codes "@") p m quiet t, name_again m n name i, parameters_again n o xs j, token_again (codes ":") o r u, dependencies_again r s ys k,
-    subsequents_deep_again s l v d) refl
+    rw (
+      maybe_again (codes "@") p m quiet t,
+      name_again m n name i,
+      parameters_again n o xs j,
+      token_again (codes ":") o r u,
+      dependencies_again r s ys k,
+      subsequents_deep_again s l v d,
+    ) refl
