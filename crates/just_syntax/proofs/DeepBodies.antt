@@ -1,11 +1,9 @@
 -- Body lines that hold an expression that is too deep: those that the code finds so, and those that the grammar says do.
-use Rattle.std.proofs.Common.{◌≡◌, ℕ, Bool, true, false, if◌then◌else◌, List, [], ◌∷◌, Ok, Err, codes, refl, ⊎_elim}
+use Rattle.std.proofs.Common.{◌≡◌, ℕ, true, List, Err, codes, refl, ⊎_elim}
 use Rattle.just_read.specs.Place.{Place, begins, behind_text}
-use Rattle.just_read.specs.Reader.{Reader, and_then, pure, many}
 use Rattle.just_read.specs.declared.error.ReadError.TheVariants.{Depth}
 use Rattle.just_read.proofs.Laws.{choose}
 use Rattle.just_syntax.specs.declared.ast.Expr.{Expr}
-use Rattle.just_syntax.specs.declared.ast.Fragment.{Fragment}
 use Rattle.just_syntax.specs.Bodies.{opens, is_body_line, IsFragment}
 use Rattle.just_syntax.specs.Deep.{IsDeepBehind, IsDeepFragment, IsDeepBodyLine}
 use Rattle.just_syntax.specs.Deep.IsDeepFragment.{value}

@@ -1,5 +1,5 @@
 -- Which link of a chain of readers was too deep, and that a chain of readers that never are never is.
-use Rattle.std.proofs.Common.{◌≡◌, ℕ, zero, suc, ◌<◌, Bool, true, false, if◌then◌else◌, ◌⊎◌, inl, inr, List, [], ◌∷◌, length, Ok, Err, refl, sym, ap, ◌∙◌, subst, ⊎_elim}
+use Rattle.std.proofs.Common.{◌≡◌, ℕ, zero, suc, ◌<◌, Bool, true, false, if◌then◌else◌, ◌⊎◌, inl, inr, List, [], ◌∷◌, length, Ok, Err, refl, ap, ◌∙◌, subst, ⊎_elim}
 use Rattle.just_read.specs.Place.{Place, Rule, AreMany}
 use Rattle.just_read.specs.Reader.{Outcome, Reader, and_then, ◌>>=◌, pure, refuse, step, many_in, many}
 use Rattle.just_read.specs.declared.error.ReadError.TheVariants.{Depth}

@@ -1,16 +1,15 @@
 -- Expressions that are too deep: those that the code finds so, and those that the grammar says are.
-use Rattle.std.proofs.Common.{◌≡◌, ℕ, zero, suc, ◌==◌, Bool, true, false, if◌then◌else◌, ◌⊎◌, inl, inr, List, [], ◌∷◌, Option, Some, None, Ok, Err, codes, refl, sym, ap, ◌∙◌, ⊎_elim}
-use Rattle.just_read.specs.Place.{Place, Rule, starts, begins}
-use Rattle.just_read.specs.Reader.{Reader, and_then, ◌>>=◌, pure}
+use Rattle.std.proofs.Common.{◌≡◌, ℕ, zero, suc, true, false, ◌⊎◌, inl, inr, [], ◌∷◌, Ok, Err, codes, refl, ap, ◌∙◌, ⊎_elim}
+use Rattle.just_read.specs.Place.{Place, Rule, begins}
+use Rattle.just_read.specs.Reader.{Reader}
 use Rattle.just_read.specs.declared.error.ReadError.TheVariants.{Depth}
 use Rattle.just_read.proofs.Laws.{choose}
 use Rattle.just_syntax.specs.declared.ast.Comparison.{Comparison}
 use Rattle.just_syntax.specs.declared.ast.Expr.{Expr}
-use Rattle.just_syntax.specs.declared.ast.Expr.TheVariants as e
 use Rattle.just_syntax.specs.Characters.{begins_name}
 use Rattle.just_syntax.specs.Places.{behind_word, IsToken, IsWord}
 use Rattle.just_syntax.specs.Strings.{begins_string}
-use Rattle.just_syntax.specs.Exprs.{begins_condition, is_call, IsComparison, IsValue, IsBlock, IsLevel, IsInner}
+use Rattle.just_syntax.specs.Exprs.{begins_condition, is_call, IsComparison, IsValue, IsBlock, IsInner}
 use Rattle.just_syntax.specs.Deep.{IsDeepValue, IsDeepBlock, IsDeepLevel, IsTooDeep, IsDeepExpr}
 use Rattle.just_syntax.specs.Deep.IsDeepValue.{group, env_key, env_default}
 use Rattle.just_syntax.specs.Deep.IsDeepBlock.{block}

@@ -1,7 +1,6 @@
 -- Entries that hold an expression that is too deep: the code finds so exactly those that the grammar says do.
-use Rattle.std.proofs.Common.{◌≡◌, ◌↔◌, ℕ, Bool, true, false, if◌then◌else◌, List, [], ◌∷◌, Option, Some, None, Ok, Err, codes, refl, sym, ap, ◌∙◌, ⊎_elim}
+use Rattle.std.proofs.Common.{◌≡◌, ◌↔◌, ℕ, Bool, true, false, List, [], Option, Some, None, Err, codes, refl, ap, ◌∙◌, ⊎_elim}
 use Rattle.just_read.specs.Place.{Place, begins}
-use Rattle.just_read.specs.Reader.{Reader, and_then, ◌>>=◌, pure}
 use Rattle.just_read.specs.declared.error.ReadError.TheVariants.{Depth}
 use Rattle.just_read.proofs.Laws.{choose}
 use Rattle.just_syntax.specs.declared.ast.Name.{Name}
@@ -16,8 +15,8 @@ use Rattle.just_syntax.specs.Forms.{sort_of}
 use Rattle.just_syntax.specs.Attributes.{AreAttributes}
 use Rattle.just_syntax.specs.Bodies.{is_body_line}
 use Rattle.just_syntax.specs.Items.{opening_at, opens_module}
-use Rattle.just_syntax.specs.File.{indentation_at, goes_into, is_in_body, behind_item}
-use Rattle.just_syntax.specs.Deep.{IsDeepBehind, IsDeepExpr, IsDeepAssignment, IsDeepSetting, IsDeepItem, IsDeepRecipeLine, IsDeepEntry}
+use Rattle.just_syntax.specs.File.{indentation_at, goes_into}
+use Rattle.just_syntax.specs.Deep.{IsDeepExpr, IsDeepAssignment, IsDeepSetting, IsDeepItem, IsDeepRecipeLine, IsDeepEntry}
 use Rattle.just_syntax.specs.Deep.IsDeepAssignment.{assignment}
 use Rattle.just_syntax.specs.Deep.IsDeepSetting.{text, any_text}
 use Rattle.just_syntax.specs.Deep.IsDeepItem.{assignment as assignment_item, export, setting, attributes, recipe}
@@ -27,7 +26,7 @@ use Rattle.just_syntax.specs.Readers as reader
 use Rattle.just_syntax.proofs.Marks.{token_ok, token_again, name_ok, name_again}
 use Rattle.just_syntax.proofs.AttributeSound.{attributes_ok}
 use Rattle.just_syntax.proofs.AttributeComplete.{attributes_again}
-use Rattle.just_syntax.proofs.DeepChains.{shallow_ok, shallow_refuse, shallow_if, shallow_gives, depth_either, depth_behind, depth_first}
+use Rattle.just_syntax.proofs.DeepChains.{shallow_ok, shallow_refuse, shallow_gives, depth_either, depth_behind, depth_first}
 use Rattle.just_syntax.proofs.DeepNone.{token_shallow, name_shallow, newline_shallow, comment_shallow, rest_shallow, alias_shallow, import_shallow, module_shallow, unexport_shallow, truth_shallow, strings_shallow}
 use Rattle.just_syntax.proofs.DeepExpr.{expr_deep_ok, expr_deep_again}
 use Rattle.just_syntax.proofs.DeepAttributes.{attributes_deep_ok, attributes_deep_again}

@@ -1,14 +1,14 @@
 -- The readers in which no expression stands: none of them is too deep.
-use Rattle.std.proofs.Common.{◌≡◌, ℕ, ◌==◌, Bool, true, false, ◌&&◌, if◌then◌else◌, List, [], ◌∷◌, Option, Some, None, Ok, Err, codes, encode_utf8_all}
+use Rattle.std.proofs.Common.{◌≡◌, ℕ, ◌==◌, Bool, true, false, ◌&&◌, List, [], ◌∷◌, Option, Some, None, Err, codes, encode_utf8_all}
 use Rattle.just_read.specs.Place.{Place, next, past, run, between, first, starts, sees, begins, behind_text, is_end}
-use Rattle.just_read.specs.Reader.{Outcome, Reader, and_then, ◌>>=◌, ◌>>◌, pure, refuse, expect, many}
+use Rattle.just_read.specs.Reader.{expect, many}
 use Rattle.just_read.specs.declared.error.ReadError.TheVariants.{Depth}
 use Rattle.just_syntax.specs.declared.ast.Name.{Name}
 use Rattle.just_syntax.specs.declared.ast.Quote.{Quote}
 use Rattle.just_syntax.specs.declared.ast.Attribute.{Attribute}
 use Rattle.just_syntax.specs.declared.form.Form.{Form}
 use Rattle.just_syntax.specs.Characters.{begins_name, is_hex, in_line}
-use Rattle.just_syntax.specs.Places.{skip, is_word, crlf}
+use Rattle.just_syntax.specs.Places.{is_word, crlf}
 use Rattle.just_syntax.specs.Strings.{mark, is_cooked, quote_at, behind_x, begins_string, letter_meant, goes_on}
 use Rattle.just_syntax.specs.Forms.{has_colon}
 use Rattle.just_syntax.specs.Bodies.{is_text}

@@ -1,20 +1,17 @@
 -- Recipe lines that hold an expression that is too deep: those that the code finds so, and those that the grammar says do.
-use Rattle.std.proofs.Common.{◌≡◌, ◌==◌, Bool, true, false, if◌then◌else◌, List, [], ◌∷◌, ◌++◌, Option, Some, None, Ok, Err, codes, refl, sym, ap, ◌∙◌, ⊎_elim}
-use Rattle.just_read.specs.Place.{Place, AreMany, starts, begins}
-use Rattle.just_read.specs.Reader.{Reader, and_then, ◌>>=◌, pure, many}
+use Rattle.std.proofs.Common.{◌≡◌, true, false, List, [], ◌∷◌, Err, codes, refl, sym, ap, ◌∙◌, ⊎_elim}
+use Rattle.just_read.specs.Place.{Place, AreMany, begins}
 use Rattle.just_read.specs.declared.error.ReadError.TheVariants.{Depth}
 use Rattle.just_read.proofs.Laws.{choose}
-use Rattle.just_syntax.specs.declared.ast.Name.{Name}
-use Rattle.just_syntax.specs.declared.ast.Expr.{Expr}
 use Rattle.just_syntax.specs.declared.ast.Attribute.{Attribute}
 use Rattle.just_syntax.specs.declared.ast.ParameterKind.{ParameterKind}
 use Rattle.just_syntax.specs.declared.ast.ParameterKind.TheVariants.{Singular, Plus, Star}
 use Rattle.just_syntax.specs.declared.ast.AstParameter.{AstParameter}
 use Rattle.just_syntax.specs.declared.ast.AstDependency.{AstDependency}
-use Rattle.just_syntax.specs.Places.{IsToken, IsName, IsPath}
+use Rattle.just_syntax.specs.Places.{IsToken, IsName}
 use Rattle.just_syntax.specs.Exprs.{IsInner}
-use Rattle.just_syntax.specs.Recipes.{begins_parameter, begins_dependency, IsMaybe, IsSingular, AreParameters, IsDependencyValue, IsDependency, AreDependencies}
-use Rattle.just_syntax.specs.Deep.{IsDeepBehind, IsTooDeep, IsDeepExpr, IsDeepDefault, IsDeepParameter, IsDeepSingular, AreDeepParameters, IsDeepDependencyValue, IsDeepDependency, IsDeepRecipeLine}
+use Rattle.just_syntax.specs.Recipes.{begins_parameter, begins_dependency, IsMaybe, IsSingular, AreParameters, IsDependencyValue, IsDependency}
+use Rattle.just_syntax.specs.Deep.{IsDeepBehind, IsTooDeep, IsDeepDefault, IsDeepParameter, IsDeepSingular, AreDeepParameters, IsDeepDependencyValue, IsDeepDependency, IsDeepRecipeLine}
 use Rattle.just_syntax.specs.Deep.IsDeepBehind.{behind}
 use Rattle.just_syntax.specs.Deep.IsDeepDefault.{default}
 use Rattle.just_syntax.specs.Deep.IsDeepParameter.{parameter}
@@ -34,7 +31,7 @@ use Rattle.just_syntax.proofs.ExprComplete.{inner_again, expr_ok, expr_again}
 use Rattle.just_syntax.proofs.Loops.{values_shorter, parameters_shorter, dependencies_shorter}
 use Rattle.just_syntax.proofs.RecipeSound.{parameter_ok, singular_ok, parameters_ok, dependency_ok, dependencies_ok}
 use Rattle.just_syntax.proofs.RecipeComplete.{parameter_again, singular_again, parameters_again, dependency_begins, dependency_again, dependencies_again}
-use Rattle.just_syntax.proofs.DeepChains.{shallow_ok, shallow_refuse, shallow_then, shallow_gives, depth_either, depth_behind, depth_first, many_deep_ok, many_deep_again}
+use Rattle.just_syntax.proofs.DeepChains.{shallow_ok, shallow_refuse, shallow_gives, depth_either, depth_behind, depth_first, many_deep_ok, many_deep_again}
 use Rattle.just_syntax.proofs.DeepNone.{token_shallow, name_shallow, maybe_shallow, path_shallow, rest_shallow}
 use Rattle.just_syntax.proofs.DeepExpr.{value_deep_ok, value_deep_again, inner_deep_ok, inner_deep_again, expr_deep_ok, expr_deep_again}
 
