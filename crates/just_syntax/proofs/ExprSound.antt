@@ -21,7 +21,7 @@ use Rattle.just_syntax.proofs.Marks.{token_ok, word_ok, name_ok}
 use Rattle.just_syntax.proofs.StringLaws.{string_ok}
 
 -- a comparison that is read stands there
-comparison_ok : (p q : Place) (x : Comparison) → reader.comparison p ≡ Ok (x, q) → IsComparison p q x
+pub comparison_ok : (p q : Place) (x : Comparison) → reader.comparison p ≡ Ok (x, q) → IsComparison p q x
 unfolding reader.comparison
 comparison_ok p q x h =
     ⊎_elim
@@ -92,7 +92,7 @@ module _ (inner : Reader Expr) (Inner : Rule Expr) (reads : (p q : Place) (x : E
       (if begins (codes "(") p then reader.group inner p else (if is_call p then reader.env inner p else and_then (reader.name p) (λ n. pure (e.Variable n)))) (Ok (x, q)) h)
 
   -- a block that is read stands there
-  block_ok : (p q : Place) (x : Expr) → reader.block inner p ≡ Ok (x, q) → IsBlock Inner p q x
+  pub block_ok : (p q : Place) (x : Expr) → reader.block inner p ≡ Ok (x, q) → IsBlock Inner p q x
   unfolding reader.block
   block_ok p q x h =
       let (u, m, h1, k1) = bind_ok (reader.token (codes "{") p) _ x q h in
@@ -128,7 +128,7 @@ module _ (inner : Reader Expr) (Inner : Rule Expr) (reads : (p q : Place) (x : E
     pub right : Inner n q x.2
 
   -- the two sides of a condition that are read stand there
-  condition_ok : (p q : Place) (x : Expr × Comparison × Expr) → reader.condition inner p ≡ Ok (x, q) → Sides p q x
+  pub condition_ok : (p q : Place) (x : Expr × Comparison × Expr) → reader.condition inner p ≡ Ok (x, q) → Sides p q x
   unfolding reader.condition
   condition_ok p q x h =
       let (a, m, h1, k1) = bind_ok (inner p) _ x q h in

@@ -33,3 +33,10 @@ pub mod BodySound
 pub mod BodyComplete
 pub mod BodyShorter
 pub mod Gather
+pub mod DeepChains
+pub mod DeepNone
+pub mod DeepExpr
+pub mod DeepAttributes
+pub mod DeepRecipes
+pub mod DeepBodies
+pub mod DeepItems
