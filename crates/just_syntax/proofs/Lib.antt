@@ -23,3 +23,4 @@ pub mod Comments
 pub mod AttributeShorter
 pub mod AttributeLoops
 pub mod Gather
+pub mod Laws
