@@ -137,7 +137,7 @@ module _ (form : Form) where
       same_step (item.further_in form m) (item.further_in form n) earlier p (goes_on p) (item.further_argument form earlier p)
       (λ x q h o. same_in m n (earlier ++ x ∷ []) q (omega (arith, arguments_shorter p q x earlier h o)) (omega (arith, arguments_shorter p q x earlier h o)))
 
-  further_is : (earlier : List Argument) (p : Place) → item.further form earlier p ≡ item.further_step form (item.further form) earlier p
+  pub further_is : (earlier : List Argument) (p : Place) → item.further form earlier p ≡ item.further_step form (item.further form) earlier p
   unfolding item.further
   further_is earlier p =
       same_in (length p.rest) (suc (length p.rest)) earlier p (omega arith) (omega arith)
@@ -167,10 +167,10 @@ module _ (form : Form) where
       ap (λ (r : Outcome (List Argument)). and_then r (λ xs. pure (found ++ xs))) (further_is found p ∙ rw (m, o) refl)
       ∙ further_found (item.further form (found ++ x ∷ []) q) found x
 
-  further_end : (p : Place) (found : List Argument) → goes_on p ≡ false → item.further form found p ≡ Ok ([], p)
+  pub further_end : (p : Place) (found : List Argument) → goes_on p ≡ false → item.further form found p ≡ Ok ([], p)
   further_end p found m = further_is found p ∙ rw m refl
 
-  further_wrong : (p : Place) (found : List Argument) (e : ReadError) → goes_on p ≡ true → item.further_argument form found p ≡ Err e → item.further form found p ≡ Err e
+  pub further_wrong : (p : Place) (found : List Argument) (e : ReadError) → goes_on p ≡ true → item.further_argument form found p ≡ Err e → item.further form found p ≡ Err e
   further_wrong p found e m o = further_is found p ∙ rw (m, o) refl
 
   pub arguments_done : (p : Place) (found : List Argument) → goes_on p ≡ false → arguments_to_come found p ≡ Ok (found, p)

@@ -18,7 +18,7 @@ use Rattle.just_syntax.specs.declared.form.KeyForm.TheVariants.{Alone, Either, V
 use Rattle.just_syntax.specs.Characters.{is_blank, in_line}
 use Rattle.just_syntax.specs.Places.{skip, crlf, without_returns}
 use Rattle.just_syntax.specs.Forms.{form_of, may_be_bare, has_colon, key_form, may_stand_alone}
-use Rattle.just_syntax.specs.Attributes.{argument_at, attribute_of, is_keyed, may_cache, may_have, with_comment, goes_on}
+use Rattle.just_syntax.specs.Attributes.{argument_at, attribute_of, is_keyed, may_cache, may_have, with_comment, goes_on, concat}
 use Rattle.just_syntax.specs.Meanings.{text_of}
 use Rattle.just_syntax.specs.ItemReaders as item
 use Rattle.just_syntax.specs.Readers as reader
@@ -31,7 +31,7 @@ use Rattle.just_syntax.proofs.PathLoop.{many_le}
 
 -- ---- ends of lines
 
-newline_le : (p q : Place) (u : Unit {0}) → reader.newline p ≡ Ok (u, q) → length q.rest ≤ length p.rest
+pub newline_le : (p q : Place) (u : Unit {0}) → reader.newline p ≡ Ok (u, q) → length q.rest ≤ length p.rest
 unfolding reader.newline
 newline_le p q u h =
     ⊎_elim (λ (s : _). most_at p p q (ok_place tt u p q s.1) (omega arith))
@@ -44,13 +44,13 @@ newline_le p q u h =
     (choose (sees 10 p) (Ok (tt, next p)) (if begins crlf p then Ok (tt, behind_text crlf p) else Err Syntax) (Ok (u, q)) s.1))
     (choose (is_end p) (Ok (tt, p)) (if sees 10 p then Ok (tt, next p) else (if begins crlf p then Ok (tt, behind_text crlf p) else Err Syntax)) (Ok (u, q)) h)
 
-comment_le : (p q : Place) (x : List ℕ) → reader.comment p ≡ Ok (x, q) → length q.rest ≤ length p.rest
+pub comment_le : (p q : Place) (x : List ℕ) → reader.comment p ≡ Ok (x, q) → length q.rest ≤ length p.rest
 unfolding reader.comment
 comment_le p q x h =
     let (u, m, h1, k1) = bind_ok (reader.newline (past in_line p)) (λ _. pure (encode_utf8_all (without_returns (run in_line p.rest)))) x q h in
     most_at p m q (ok_place (encode_utf8_all (without_returns (run in_line p.rest))) x m q k1) (omega (arith, past_le in_line p, newline_le (past in_line p) m u h1))
 
-rest_le : (p q : Place) (x : Option (List ℕ)) → reader.rest p ≡ Ok (x, q) → length q.rest ≤ length p.rest
+pub rest_le : (p q : Place) (x : Option (List ℕ)) → reader.rest p ≡ Ok (x, q) → length q.rest ≤ length p.rest
 unfolding reader.rest
 rest_le p q x h =
     ⊎_elim
@@ -64,7 +64,7 @@ rest_le p q x h =
 
 -- ---- arguments
 
-plain_le : (key : Option Name) (p q : Place) (x : Argument) → item.plain key p ≡ Ok (x, q) → length q.rest ≤ length p.rest
+pub plain_le : (key : Option Name) (p q : Place) (x : Argument) → item.plain key p ≡ Ok (x, q) → length q.rest ≤ length p.rest
 unfolding item.plain
 plain_le key p q x h =
     let (y, m, h1, k1) = bind_ok (item.expr p) (λ y. pure (argument_at key p y)) x q h in
@@ -144,7 +144,7 @@ argument_of_le Cache earlier p q x h = cached_le earlier p q x h
 argument_of_le Open earlier p q x h =
     ⊎_elim (λ (s : _). keyed_le p q x s.1) (λ (s : _). plain_le None p q x s.1) (choose (is_keyed p) (item.keyed p) (item.plain None p) (Ok (x, q)) h)
 
-argument_le : (form : Form) (earlier : List Argument) (p q : Place) (x : Argument) → item.argument form earlier p ≡ Ok (x, q) → length q.rest ≤ length p.rest
+pub argument_le : (form : Form) (earlier : List Argument) (p q : Place) (x : Argument) → item.argument form earlier p ≡ Ok (x, q) → length q.rest ≤ length p.rest
 unfolding item.argument
 argument_le form earlier p q x h = argument_of_le form earlier p q x h
 
@@ -178,13 +178,13 @@ list_le form p q xs h =
     let (ys, n, h2, k2) = bind_ok (item.further_in form (length m.rest) (x ∷ []) m) (λ ys. pure (x ∷ ys)) xs q k1 in
     most_at p n q (ok_place (x ∷ ys) xs n q k2) (omega (arith, argument_le form [] p m x h1, bounded_le form (length m.rest) (x ∷ []) m n ys h2))
 
-trailing_le : (p q : Place) (u : Unit {0}) → item.trailing p ≡ Ok (u, q) → length q.rest ≤ length p.rest
+pub trailing_le : (p q : Place) (u : Unit {0}) → item.trailing p ≡ Ok (u, q) → length q.rest ≤ length p.rest
 unfolding item.trailing
 trailing_le p q u h =
     ⊎_elim (λ (s : _). omega (arith, token_lt 44 [] p q (token_ok (codes ",") p u q s.1))) (λ (s : _). most_at p p q (ok_place tt u p q s.1) (omega arith))
     (choose (begins (codes ",") p) (reader.token (codes ",") p) (Ok (tt, p)) (Ok (u, q)) h)
 
-arguments_le : (form : Form) (p q : Place) (xs : List Argument) → item.arguments form p ≡ Ok (xs, q) → length q.rest ≤ length p.rest
+pub arguments_le : (form : Form) (p q : Place) (xs : List Argument) → item.arguments form p ≡ Ok (xs, q) → length q.rest ≤ length p.rest
 unfolding item.arguments
 arguments_le form p q xs h =
     let (u, m, h1, k1) = bind_ok (reader.token (codes "(") p) _ xs q h in
@@ -227,7 +227,7 @@ attribute_as_le n p q x h =
     (if begins (codes "(") p then and_then (item.arguments (form_of n.text) p) (λ xs. pure (attribute_of n false xs))
     else (if may_be_bare (form_of n.text) then Ok (attribute_of n false [], p) else Err Syntax)) (Ok (x, q)) h)
 
-attribute_lt : (p q : Place) (x : Attribute) → item.attribute p ≡ Ok (x, q) → length q.rest < length p.rest
+pub attribute_lt : (p q : Place) (x : Attribute) → item.attribute p ≡ Ok (x, q) → length q.rest < length p.rest
 unfolding item.attribute
 attribute_lt p q x h =
     let (n, m, h1, k1) = bind_ok (reader.name p) item.attribute_as x q h in
@@ -240,9 +240,9 @@ further_attribute_lt p q x h =
     let (u, m, h1, k1) = bind_ok (reader.token (codes ",") p) (λ _. item.attribute) x q h in
     omega (arith, token_lt 44 [] p m (token_ok (codes ",") p u m h1), attribute_lt m q x k1)
 
-attributes_le : (p q : Place) (xs : List Attribute) → item.attribute_list p ≡ Ok (xs, q) → length q.rest ≤ length p.rest
+pub attribute_list_le : (p q : Place) (xs : List Attribute) → item.attribute_list p ≡ Ok (xs, q) → length q.rest ≤ length p.rest
 unfolding item.attribute_list
-attributes_le p q xs h =
+attribute_list_le p q xs h =
     let (x, m, h1, k1) = bind_ok (item.attribute p) (λ x m. and_then (many (begins (codes ",")) item.further_attribute m) (λ ys. pure (x ∷ ys))) xs q h in
     let (ys, n, h2, k2) = bind_ok (many (begins (codes ",")) item.further_attribute m) (λ ys. pure (x ∷ ys)) xs q k1 in
     most_at p n q (ok_place (x ∷ ys) xs n q k2)
@@ -257,8 +257,15 @@ attribute_line_lt p q xs h =
     let (v, o, h3, k3) = bind_ok (reader.token (codes "]") n) _ xs q k2 in
     let (c, r, h4, k4) = bind_ok (reader.rest o) (λ c r. Ok (with_comment c ys, skip r)) xs q k3 in
     less_at p (skip r) q (ok_place (with_comment c ys) xs (skip r) q k4)
-    (omega (arith, token_lt 91 [] p m (token_ok (codes "[") p u m h1), attributes_le m n ys h2, token_lt 93 [] n o (token_ok (codes "]") n v o h3),
+    (omega (arith, token_lt 91 [] p m (token_ok (codes "[") p u m h1), attribute_list_le m n ys h2, token_lt 93 [] n o (token_ok (codes "]") n v o h3),
     rest_le o r c h4, past_le is_blank r))
+
+-- the attributes before an item take nothing back
+pub attributes_le : (p q : Place) (xs : List Attribute) → item.attributes p ≡ Ok (xs, q) → length q.rest ≤ length p.rest
+unfolding item.attributes
+attributes_le p q xs h =
+    let (lines, m, h1, k1) = bind_ok (many (begins (codes "[")) item.attribute_line p) (λ lines. pure (concat lines)) xs q h in
+    most_at p m q (ok_place (concat lines) xs m q k1) (many_le (begins (codes "[")) item.attribute_line (λ a b y g o. attribute_line_lt a b y o) p m lines h1)
 
 -- a comma and a string take a character
 pub further_string_lt : (p q : Place) (x : StringLiteral) → item.further_string p ≡ Ok (x, q) → length q.rest < length p.rest

@@ -1,7 +1,8 @@
--- Expressions: what the grammar says is read.
+-- Expressions: what the grammar says is read, so it is one.
 use Rattle.std.proofs.Common.{◌≡◌, ℕ, zero, suc, ◌==◌, Bool, true, false, not, ◌&&◌, if◌then◌else◌, List, [], ◌∷◌, Option, Some, None, Ok, codes, refl, sym, ap, ◌∙◌, subst}
 use Rattle.just_read.specs.Place.{Place, Rule, starts, begins}
-use Rattle.just_read.specs.Reader.{Reader}
+use Rattle.just_read.specs.Reader.{Reader, pure}
+use Rattle.just_read.proofs.Laws.{ok_value, ok_place}
 use Rattle.just_syntax.specs.declared.ast.Name.{Name}
 use Rattle.just_syntax.specs.declared.ast.Comparison.{Comparison}
 use Rattle.just_syntax.specs.declared.ast.Expr.{Expr}
@@ -9,7 +10,7 @@ use Rattle.just_syntax.specs.declared.ast.Expr.TheVariants as e
 use Rattle.just_syntax.specs.Characters.{begins_name, in_name, is_quote}
 use Rattle.just_syntax.specs.Places.{behind_word, IsToken, IsWord, IsName}
 use Rattle.just_syntax.specs.Strings.{begins_string}
-use Rattle.just_syntax.specs.Exprs.{begins_condition, is_call, IsComparison, IsDefault, IsValue, IsBlock, IsOtherwise, IsLevel, IsInner}
+use Rattle.just_syntax.specs.Exprs.{begins_condition, is_call, IsComparison, IsDefault, IsValue, IsBlock, IsOtherwise, IsLevel, IsInner, IsExpr}
 use Rattle.just_syntax.specs.Exprs.IsComparison.{equal, unequal}
 use Rattle.just_syntax.specs.Exprs.IsValue.{literal, group, env, variable}
 use Rattle.just_syntax.specs.Exprs.IsBlock.{block}
@@ -20,6 +21,7 @@ use Rattle.just_syntax.proofs.Texts.{begins_first, begins_starts, begins_other, 
 use Rattle.just_syntax.proofs.Beginnings.{no_string, string_other, word_behind, word_begins}
 use Rattle.just_syntax.proofs.Marks.{token_again, word_again, name_again}
 use Rattle.just_syntax.proofs.StringLaws.{string_again, string_begins}
+use Rattle.just_syntax.proofs.ExprSound.{level_ok, inner_ok}
 
 comparison_again : (p q : Place) (x : Comparison) → IsComparison p q x → reader.comparison p ≡ Ok (x, q)
 unfolding reader.comparison
@@ -116,3 +118,17 @@ pub inner_again : (left : ℕ) (p q : Place) (x : Expr) → IsInner left p q x �
 unfolding reader.inner IsInner
 inner_again zero p q x i = absurd i
 inner_again (suc left) p q x i = level_again (reader.inner left) (IsInner left) (inner_again left) p q x i
+
+-- an expression that is read stands there
+pub expr_ok : (p q : Place) (x : Expr) → reader.level (reader.inner 256) p ≡ Ok (x, q) → IsExpr p q x
+expr_ok p q x h = level_ok (reader.inner 256) (IsInner 256) (inner_ok 256) p q x h
+
+-- an expression that stands there is read
+pub expr_again : (p q : Place) (x : Expr) → IsExpr p q x → reader.level (reader.inner 256) p ≡ Ok (x, q)
+expr_again p q x i = level_again (reader.inner 256) (IsInner 256) (inner_again 256) p q x i
+
+-- so one expression stands there, and ends at one place
+pub expr_one : (p q r : Place) (x y : Expr) → IsExpr p q x → IsExpr p r y → (x ≡ y) × (q ≡ r)
+expr_one p q r x y i j =
+    let e : pure x q ≡ Ok (y, r) = sym (expr_again p q x i) ∙ expr_again p r y j in
+    (ok_value x y q r e, ok_place x y q r e)

@@ -2,6 +2,8 @@
 pub mod Texts
 pub mod Collect
 pub mod Marks
+pub mod LineLaws
+pub mod TextLaws
 pub mod Lines
 pub mod Digits
 pub mod PathLoop
@@ -22,5 +24,7 @@ pub mod SharedBlanks
 pub mod Comments
 pub mod AttributeShorter
 pub mod AttributeLoops
+pub mod AttributeSound
+pub mod AttributeComplete
 pub mod Gather
 pub mod Laws

@@ -36,7 +36,7 @@ most_at p m q e h = subst (λ (l : Place). length l.rest ≤ length p.rest) e h
 pub expr_shorter : (p q : Place) (x : Expr) → item.expr p ≡ Ok (x, q) → length q.rest < length p.rest
 expr_shorter p q x h = level_lt (IsInner 256) (inner_lt 256) p q x (level_ok (reader.inner 256) (IsInner 256) (inner_ok 256) p q x h)
 
-maybe_le : (c : ℕ) (mark : List ℕ) (p q : Place) (b : Bool) → reader.maybe (c ∷ mark) p ≡ Ok (b, q) → length q.rest ≤ length p.rest
+pub maybe_le : (c : ℕ) (mark : List ℕ) (p q : Place) (b : Bool) → reader.maybe (c ∷ mark) p ≡ Ok (b, q) → length q.rest ≤ length p.rest
 unfolding reader.maybe
 maybe_le c mark p q b h =
     ⊎_elim
@@ -46,7 +46,7 @@ maybe_le c mark p q b h =
     (λ (s : _). most_at p p q (ok_place false b p q s.1) (omega arith))
     (choose (begins (c ∷ mark) p) (and_then (reader.token (c ∷ mark) p) (λ _. pure true)) (Ok (false, p)) (Ok (b, q)) h)
 
-default_le : (p q : Place) (x : Option Expr) → item.parameter_default p ≡ Ok (x, q) → length q.rest ≤ length p.rest
+pub default_le : (p q : Place) (x : Option Expr) → item.parameter_default p ≡ Ok (x, q) → length q.rest ≤ length p.rest
 unfolding item.parameter_default
 default_le p q x h =
     ⊎_elim
@@ -69,14 +69,14 @@ parameter_lt kind p q x h =
     less_at p s q (ok_place (record { kind = kind; export = b; name = n; default = d }) x s q k3)
     (omega (arith, maybe_le 36 [] p m b h1, name_lt m r n (name_ok m n r h2), default_le r s d h3))
 
-path_lt : (p q : Place) (xs : List Name) → reader.path p ≡ Ok (xs, q) → length q.rest < length p.rest
+pub path_lt : (p q : Place) (xs : List Name) → reader.path p ≡ Ok (xs, q) → length q.rest < length p.rest
 unfolding reader.path
 path_lt p q xs h =
     let (n, m, h1, k1) = bind_ok (reader.name p) _ xs q h in
     let (ys, r, h2, k2) = bind_ok (many (begins (codes "::")) reader.further_name m) _ xs q k1 in
     less_at p r q (ok_place (n ∷ ys) xs r q k2) (omega (arith, name_lt p m n (name_ok p n m h1), path.names_le m r ys h2))
 
-values_le : (p q : Place) (xs : List Expr) → item.dependency_values p ≡ Ok (xs, q) → length q.rest ≤ length p.rest
+pub values_le : (p q : Place) (xs : List Expr) → item.dependency_values p ≡ Ok (xs, q) → length q.rest ≤ length p.rest
 unfolding item.dependency_values
 values_le p q xs h = path.many_le item.is_open item.expr (λ a b x m o. expr_shorter a b x o) p q xs h
 
@@ -113,7 +113,7 @@ letter_lt p q x h =
     (choose (begins (codes "{{{{") p) (Ok (codes "{{", behind_text (codes "{{{{") p)) (item.letter_of (first p) p) (Ok (x, q)) h)
 
 -- where text stands a text takes a character
-text_lt : (p q : Place) (x : List ℕ) → is_text p ≡ true → item.text p ≡ Ok (x, q) → length q.rest < length p.rest
+pub text_lt : (p q : Place) (x : List ℕ) → is_text p ≡ true → item.text p ≡ Ok (x, q) → length q.rest < length p.rest
 unfolding item.text
 text_lt p q x m h =
     let (ls, r, h1, k1) = bind_ok (many is_text item.letter p) _ x q h in
