@@ -26,5 +26,16 @@ pub mod AttributeShorter
 pub mod AttributeLoops
 pub mod AttributeSound
 pub mod AttributeComplete
+pub mod RecipeSound
+pub mod RecipeComplete
+pub mod RecipeShorter
+pub mod BodySound
+pub mod BodyComplete
+pub mod BodyShorter
+pub mod ItemSound
+pub mod ItemComplete
+pub mod ItemShorter
+pub mod EntryLaws
+pub mod FileLaws
 pub mod Gather
 pub mod Laws
