@@ -37,5 +37,7 @@ pub mod ItemComplete
 pub mod ItemShorter
 pub mod EntryLaws
 pub mod FileLaws
+pub mod Pending
+pub mod FileFaults
 pub mod Gather
 pub mod Laws
