@@ -98,7 +98,7 @@ argument_again form earlier p q x (any f n v) = rw (f, n) (plain_again None p q 
 argument_again form earlier p q x (any_key m k f i v) = rw (f, key_is p m k i) (keyed_again p m q k x i v)
 
 -- a comma and an argument that stand there are read
-further_argument_again : (form : Form) (earlier : List Argument) (p m q : Place) (x : Argument) → IsToken (codes ",") p m → IsArgument form earlier m q x
+pub further_argument_again : (form : Form) (earlier : List Argument) (p m q : Place) (x : Argument) → IsToken (codes ",") p m → IsArgument form earlier m q x
     → item.further_argument form earlier p ≡ Ok (x, q)
 unfolding item.further_argument
 further_argument_again form earlier p m q x t i = rw (token_again (codes ",") p m t) (argument_again form earlier m q x i)

@@ -38,7 +38,7 @@ text_again p q letters are done =
     rw (many_again is_text item.letter (λ a b x m o. letter_lt a b x o) IsLetter (λ a b x i. (letter_is a b x i, letter_again a b x i)) p q letters are done) refl
 
 -- where an interpolation opens no line ends
-opens_goes_on : (p : Place) → opens p ≡ true → item.line_goes_on p ≡ true
+pub opens_goes_on : (p : Place) → opens p ≡ true → item.line_goes_on p ≡ true
 opens_goes_on p o =
     let b : begins (codes "{{") p ≡ true = (and_true (begins (codes "{{") p) (not (begins (codes "{{{{") p)) o).0 in
     rw (

@@ -23,7 +23,7 @@ use Rattle.just_syntax.proofs.Marks.{token_again, word_again, name_again}
 use Rattle.just_syntax.proofs.StringLaws.{string_again, string_begins}
 use Rattle.just_syntax.proofs.ExprSound.{level_ok, inner_ok}
 
-comparison_again : (p q : Place) (x : Comparison) → IsComparison p q x → reader.comparison p ≡ Ok (x, q)
+pub comparison_again : (p q : Place) (x : Comparison) → IsComparison p q x → reader.comparison p ≡ Ok (x, q)
 unfolding reader.comparison
 comparison_again p q x (equal t z) = rw (t.0, token_again (codes "==") p q t, z) refl
 comparison_again p q x (unequal t z) =
@@ -56,7 +56,7 @@ module _ (inner : Reader Expr) (Inner : Rule Expr) (again : (p q : Place) (x : E
       begins_starts begins_name 101 (110 ∷ 118 ∷ []) p b, call, env_again p m n o r q key d w t i k u, z) refl
   value_again p q x (variable n s c i z) = rw (s, starts_other begins_name 40 [] p i.0 refl, c, name_again p q n i, z) refl
 
-  block_again : (p q : Place) (x : Expr) → IsBlock Inner p q x → reader.block inner p ≡ Ok (x, q)
+  pub block_again : (p q : Place) (x : Expr) → IsBlock Inner p q x → reader.block inner p ≡ Ok (x, q)
   unfolding reader.block
   block_again p q x (block m n t i u) = rw (token_again (codes "{") p m t, again m n x i, token_again (codes "}") n q u) refl
 
@@ -65,7 +65,7 @@ module _ (inner : Reader Expr) (Inner : Rule Expr) (again : (p q : Place) (x : E
   otherwise_again p q chained x (last b i z) = rw (b, block_again p q x i, z) refl
   otherwise_again p q chained x (further b i z) = rw (b, again p q x i, z) refl
 
-  condition_again : (p m n q : Place) (a b : Expr) (c : Comparison) → Inner p m a → IsComparison m n c → Inner n q b → reader.condition inner p ≡ Ok ((a, c, b), q)
+  pub condition_again : (p m n q : Place) (a b : Expr) (c : Comparison) → Inner p m a → IsComparison m n c → Inner n q b → reader.condition inner p ≡ Ok ((a, c, b), q)
   unfolding reader.condition
   condition_again p m n q a b c i k j = rw (again p m a i, comparison_again m n c k, again n q b j) refl
 
@@ -82,7 +82,7 @@ module _ (inner : Reader Expr) (Inner : Rule Expr) (again : (p q : Place) (x : E
   root_again p m q y t i = rw (token_again (codes "/") p m t, again m q y i) refl
 
   -- no value begins with a slash
-  value_begins : (p q : Place) (x : Expr) → IsValue Inner p q x → begins (codes "/") p ≡ false
+  pub value_begins : (p q : Place) (x : Expr) → IsValue Inner p q x → begins (codes "/") p ≡ false
   value_begins p q x (literal s i z) = string_other 47 [] p (string_begins p q s i) refl refl
   value_begins p q x (group m n y t i u z) = begins_other 40 47 [] p (begins_first 40 [] p t.0) refl
   value_begins p q x (env m n o r key d w t i k u z) =
@@ -90,7 +90,7 @@ module _ (inner : Reader Expr) (Inner : Rule Expr) (again : (p q : Place) (x : E
   value_begins p q x (variable n s c i z) = starts_other begins_name 47 [] p i.0 refl
 
   -- nor does a condition
-  no_condition : (p : Place) → begins (codes "/") p ≡ true → begins_condition p ≡ false
+  pub no_condition : (p : Place) → begins (codes "/") p ≡ true → begins_condition p ≡ false
   no_condition p h = rw (begins_other 47 105 (102 ∷ []) p (begins_first 47 [] p h) refl) refl
 
   tail_none : (a : Expr) (q : Place) → begins (codes "/") q ≡ false → begins (codes "+") q ≡ false → reader.tail inner a q ≡ Ok (a, q)

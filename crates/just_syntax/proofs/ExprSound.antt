@@ -20,7 +20,7 @@ use Rattle.just_syntax.specs.Readers as reader
 use Rattle.just_syntax.proofs.Marks.{token_ok, word_ok, name_ok}
 use Rattle.just_syntax.proofs.StringLaws.{string_ok}
 
-comparison_ok : (p q : Place) (x : Comparison) → reader.comparison p ≡ Ok (x, q) → IsComparison p q x
+pub comparison_ok : (p q : Place) (x : Comparison) → reader.comparison p ≡ Ok (x, q) → IsComparison p q x
 unfolding reader.comparison
 comparison_ok p q x h =
     ⊎_elim
@@ -86,7 +86,7 @@ module _ (inner : Reader Expr) (Inner : Rule Expr) (reads : (p q : Place) (x : E
       (choose (begins_string p) (and_then (reader.string p) (λ t. pure (e.Literal t)))
       (if begins (codes "(") p then reader.group inner p else (if is_call p then reader.env inner p else and_then (reader.name p) (λ n. pure (e.Variable n)))) (Ok (x, q)) h)
 
-  block_ok : (p q : Place) (x : Expr) → reader.block inner p ≡ Ok (x, q) → IsBlock Inner p q x
+  pub block_ok : (p q : Place) (x : Expr) → reader.block inner p ≡ Ok (x, q) → IsBlock Inner p q x
   unfolding reader.block
   block_ok p q x h =
       let (u, m, h1, k1) = bind_ok (reader.token (codes "{") p) _ x q h in
@@ -120,7 +120,7 @@ module _ (inner : Reader Expr) (Inner : Rule Expr) (reads : (p q : Place) (x : E
     pub sign : IsComparison m n x.1
     pub right : Inner n q x.2
 
-  condition_ok : (p q : Place) (x : Expr × Comparison × Expr) → reader.condition inner p ≡ Ok (x, q) → Sides p q x
+  pub condition_ok : (p q : Place) (x : Expr × Comparison × Expr) → reader.condition inner p ≡ Ok (x, q) → Sides p q x
   unfolding reader.condition
   condition_ok p q x h =
       let (a, m, h1, k1) = bind_ok (inner p) _ x q h in

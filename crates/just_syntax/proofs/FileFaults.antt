@@ -21,7 +21,7 @@ use Rattle.just_syntax.specs.ItemReaders as item
 use Rattle.just_syntax.specs.EntryReaders.{fault_at, or_fault, entry_or_fault}
 use Rattle.just_syntax.proofs.EntryLaws.{entry_ok, entry_again, entry_takes}
 use Rattle.just_syntax.proofs.FileLaws.{one_tree, tree_or_stops, stops_once, one_more}
-use Rattle.just_syntax.proofs.Pending.{entry_deep_ok, entry_deep_again}
+use Rattle.just_syntax.proofs.DeepItems.{entry_deep_ok, entry_deep_again}
 
 -- ---- one refusal
 

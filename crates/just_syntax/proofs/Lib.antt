@@ -37,7 +37,13 @@ pub mod ItemComplete
 pub mod ItemShorter
 pub mod EntryLaws
 pub mod FileLaws
-pub mod Pending
-pub mod FileFaults
 pub mod Gather
+pub mod DeepChains
+pub mod DeepNone
+pub mod DeepExpr
+pub mod DeepAttributes
+pub mod DeepRecipes
+pub mod DeepBodies
+pub mod DeepItems
+pub mod FileFaults
 pub mod Laws

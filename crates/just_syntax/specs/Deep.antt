@@ -1,31 +1,24 @@
 -- Where an expression opens too many levels before anything else is wrong.
 -- Each rule says that what stands from p on is right up to an expression that is too deep.
-use Rattle.std.specs.Prelude.{◌≡◌, ℕ, zero, suc, Bool, true, false, not, ◌&&◌, ◌||◌, if◌then◌else◌, List, [], ◌∷◌, ◌++◌, Option, Some, None, codes}
-use Rattle.just_read.specs.Place.{Place, Rule, AreMany, starts, begins, behind_text}
+use Rattle.std.specs.Prelude.{◌≡◌, ℕ, zero, suc, Bool, true, false, List, [], ◌∷◌, ◌++◌, Some, codes}
+use Rattle.just_read.specs.Place.{Place, Rule, AreMany, begins, behind_text}
 use Rattle.just_syntax.specs.declared.ast.Name.{Name}
-use Rattle.just_syntax.specs.declared.ast.StringLiteral.{StringLiteral}
 use Rattle.just_syntax.specs.declared.ast.Comparison.{Comparison}
 use Rattle.just_syntax.specs.declared.ast.Expr.{Expr}
 use Rattle.just_syntax.specs.declared.ast.Argument.{Argument}
 use Rattle.just_syntax.specs.declared.ast.Attribute.{Attribute}
-use Rattle.just_syntax.specs.declared.ast.ParameterKind.{ParameterKind}
-use Rattle.just_syntax.specs.declared.ast.ParameterKind.TheVariants.{Singular, Plus, Star}
 use Rattle.just_syntax.specs.declared.ast.AstParameter.{AstParameter}
 use Rattle.just_syntax.specs.declared.ast.AstDependency.{AstDependency}
-use Rattle.just_syntax.specs.declared.ast.Fragment.{Fragment}
 use Rattle.just_syntax.specs.declared.form.Form.{Form}
 use Rattle.just_syntax.specs.declared.form.Form.TheVariants.{Arg, Cache, Open}
-use Rattle.just_syntax.specs.declared.form.Sort.{Sort}
 use Rattle.just_syntax.specs.declared.form.Sort.TheVariants as sort
-use Rattle.just_syntax.specs.declared.item.Opening.{Opening}
 use Rattle.just_syntax.specs.declared.item.Opening.TheVariants as opening
 use Rattle.just_syntax.specs.declared.entry.Body.{Body}
-use Rattle.just_syntax.specs.Places.{is_blank_line, ends_line, IsToken, IsWord, IsName, IsPath}
-use Rattle.just_syntax.specs.Strings.{begins_string}
-use Rattle.just_syntax.specs.Exprs.{begins_condition, is_call, IsComparison, IsValue, IsBlock, IsLevel, IsInner, IsExpr}
+use Rattle.just_syntax.specs.Places.{is_blank_line, IsToken, IsWord, IsName, IsPath}
+use Rattle.just_syntax.specs.Exprs.{begins_condition, IsComparison, IsValue, IsBlock, IsInner}
 use Rattle.just_syntax.specs.Forms.{form_of, has_text, key_form, sort_of}
-use Rattle.just_syntax.specs.Attributes.{is_keyed, may_cache, may_have, is_first, behind_first, takes_text, goes_on, IsKey, IsArgument, AreFurther, IsAttribute, IsFurtherAttribute, IsAttributeLine, AreAttributes}
-use Rattle.just_syntax.specs.Recipes.{begins_parameter, begins_dependency, IsMaybe, IsParameter, IsSingular, AreParameters, IsDependency, IsDependencyValue, AreDependencies}
+use Rattle.just_syntax.specs.Attributes.{is_keyed, may_cache, may_have, is_first, behind_first, takes_text, goes_on, IsKey, IsArgument, IsAttribute, IsFurtherAttribute, IsAttributeLine, AreAttributes}
+use Rattle.just_syntax.specs.Recipes.{begins_parameter, IsMaybe, IsSingular, AreParameters, IsDependency, IsDependencyValue, AreDependencies}
 use Rattle.just_syntax.specs.Bodies.{opens, is_body_line, IsFragment}
 use Rattle.just_syntax.specs.Items.{opening_at, opens_module}
 use Rattle.just_syntax.specs.File.{indentation_at, is_in_body}
@@ -38,7 +31,7 @@ pub data IsDeepBehind {A : Type 0} (Is : Rule A) (Deep : Place → Type 0) (p : 
 
 module _ (Inner : Rule Expr) (Deep : Place → Type 0) where
   pub data IsDeepValue (p : Place) : Type 0 where
-    group : (m : Place) → begins_string p ≡ false → IsToken (codes "(") p m → Deep m → IsDeepValue p
+    group : (m : Place) → IsToken (codes "(") p m → Deep m → IsDeepValue p
     env_key : (m n : Place) → IsWord (codes "env") p m → IsToken (codes "(") m n → Deep n → IsDeepValue p
     env_default : (m n o r : Place) (key : Expr) → IsWord (codes "env") p m → IsToken (codes "(") m n → Inner n o key → IsToken (codes ",") o r → Deep r
         → IsDeepValue p
@@ -88,16 +81,16 @@ IsDeepFurther form earlier p (x ∷ xs) =
     (m : Place) × (n : Place) × (goes_on p ≡ true) × IsToken (codes ",") p m × IsArgument form earlier m n x × IsDeepFurther form (earlier ++ x ∷ []) n xs
 
 pub data IsDeepAttribute (p : Place) : Type 0 where
-  first : (m n : Place) (name : Name) → IsName p m name → IsToken (codes "(") m n → IsDeepArgument (form_of name.text) [] n → IsDeepAttribute p
-  other : (m n o : Place) (name : Name) (x : Argument) (xs : List Argument) → IsName p m name → IsToken (codes "(") m n → IsArgument (form_of name.text) [] n o x
+  first_argument : (m n : Place) (name : Name) → IsName p m name → IsToken (codes "(") m n → IsDeepArgument (form_of name.text) [] n → IsDeepAttribute p
+  other_argument : (m n o : Place) (name : Name) (x : Argument) (xs : List Argument) → IsName p m name → IsToken (codes "(") m n → IsArgument (form_of name.text) [] n o x
       → IsDeepFurther (form_of name.text) (x ∷ []) o xs → IsDeepAttribute p
 
 pub data IsDeepFurtherAttribute (p : Place) : Type 0 where
   further : (m : Place) → IsToken (codes ",") p m → IsDeepAttribute m → IsDeepFurtherAttribute p
 
 pub data IsDeepAttributeLine (p : Place) : Type 0 where
-  first : (m : Place) → IsToken (codes "[") p m → IsDeepAttribute m → IsDeepAttributeLine p
-  other : (m n : Place) (x : Attribute) → IsToken (codes "[") p m → IsAttribute m n x → IsDeepBehind IsFurtherAttribute IsDeepFurtherAttribute n → IsDeepAttributeLine p
+  first_attribute : (m : Place) → IsToken (codes "[") p m → IsDeepAttribute m → IsDeepAttributeLine p
+  other_attribute : (m n : Place) (x : Attribute) → IsToken (codes "[") p m → IsAttribute m n x → IsDeepBehind IsFurtherAttribute IsDeepFurtherAttribute n → IsDeepAttributeLine p
 
 -- ---- recipes
 

@@ -8,6 +8,7 @@ use super::class::{NameStart, QuoteMark};
 use super::string::{begins_string, string};
 use super::token::{behind_word, is_word, name, token, word};
 use super::{Comparison, Expr};
+
 use just_read::{Boxed, Cursor, ReadError};
 use std::alloc::{AllocFailed, Global};
 
