@@ -18,10 +18,10 @@ use Rattle.just_syntax.specs.Strings.{begins_string, IsString}
 use Rattle.just_syntax.specs.Forms.{sort_of}
 use Rattle.just_syntax.specs.Items.{goes_on, IsTruth, IsFurtherString, AreStrings, IsSettingValue, IsAlias, IsImport, IsModulePath, IsModule, IsAssignment, IsUnexport, IsSetting, IsItem}
 use Rattle.just_syntax.specs.Items.IsTruth.{yes_word, no_word}
-use Rattle.just_syntax.specs.Items.AreStrings as strings
-use Rattle.just_syntax.specs.Items.IsSettingValue as is
-use Rattle.just_syntax.specs.Items.IsModulePath as behind
-use Rattle.just_syntax.specs.Items.IsItem as stands
+use Rattle.just_syntax.specs.Items.AreStrings.{none as no_strings, some as some_strings}
+use Rattle.just_syntax.specs.Items.IsSettingValue.{absent as value_absent, flag as value_flag, text as value_text, list as value_list, any_text, any_list}
+use Rattle.just_syntax.specs.Items.IsModulePath.{path as path_behind, without as no_path_behind}
+use Rattle.just_syntax.specs.Items.IsItem.{comment as comment_item, alias as alias_item, import as import_item, module_alone, assignment as assignment_item, export as export_item, unexport as unexport_item, setting_item, attributed_module, recipe as recipe_item}
 use Rattle.just_syntax.specs.ItemReaders as item
 use Rattle.just_syntax.specs.Readers as reader
 use Rattle.just_syntax.proofs.Texts.{begins_first, begins_other}
@@ -51,8 +51,8 @@ import_again p q x (m, n, o, optional, s, c, a, b, st, re, z) =
 -- the string behind a module's name is read
 module_path_again : (p q : Place) (x : Option StringLiteral) → IsModulePath p q x → item.module_path p ≡ Ok (x, q)
 unfolding item.module_path
-module_path_again p q x (behind.path s i z) = rw (string_begins p q s i, string_again p q s i, z) refl
-module_path_again p q x (behind.without n e z) = rw (n, e, z) refl
+module_path_again p q x (path_behind s i z) = rw (string_begins p q s i, string_again p q s i, z) refl
+module_path_again p q x (no_path_behind n e z) = rw (n, e, z) refl
 
 -- a module that stands there is read
 module_again : (attributes : List Attribute) (p q : Place) (x : AstItem) → IsModule attributes p q x → item.module_item attributes p ≡ Ok (x, q)
@@ -90,17 +90,17 @@ further_string_again p q x (m, g, t, i) = (g, rw (token_again (codes ",") p m t)
 -- strings in brackets that stand there are read
 strings_again : (p q : Place) (xs : List StringLiteral) → AreStrings p q xs → item.strings p ≡ Ok (xs, q)
 unfolding item.strings item.some_strings item.string_list
-strings_again p q xs (strings.none m a b z) =
+strings_again p q xs (no_strings m a b z) =
     rw (token_again (codes "[") p m a, no_string 93 [] m b.0 refl refl, token_again (codes "]") m q b, z) refl
-strings_again p q xs (strings.some m n o r first others a i are d c b z) =
+strings_again p q xs (some_strings m n o r first others a i are d c b z) =
     rw (token_again (codes "[") p m a, string_begins m n first i, string_again m n first i,
     many_again goes_on item.further_string strings_shorter IsFurtherString further_string_again n o others are d, trailing_again o r c,
     token_again (codes "]") r q b, z) refl
 
 -- strings in brackets begin with a bracket
 strings_begin : (p q : Place) (xs : List StringLiteral) → AreStrings p q xs → begins (codes "[") p ≡ true
-strings_begin p q xs (strings.none m a b z) = a.0
-strings_begin p q xs (strings.some m n o r first others a i are d c b z) = a.0
+strings_begin p q xs (no_strings m a b z) = a.0
+strings_begin p q xs (some_strings m n o r first others a i are d c b z) = a.0
 
 absent_again : (kind : Sort) (p : Place) → (kind ≡ sort.Text → ⊥) → (kind ≡ sort.List → ⊥) → item.absent kind p ≡ Ok (None, p)
 absent_again sort.Flag p n m = refl
@@ -111,12 +111,12 @@ absent_again sort.Open p n m = refl
 -- what stands behind a setting's name is read
 setting_value_again : (kind : Sort) (p q : Place) (x : Option SettingValue) → IsSettingValue kind p q x → item.setting_value kind p ≡ Ok (x, q)
 unfolding item.setting_value
-setting_value_again kind p q x (is.absent n m b e z) = rw (b, absent_again kind p n m, e, z) refl
-setting_value_again kind p q x (is.flag m b k t i z) = rw (k, t.0, token_again (codes ":=") p m t, truth_again m q b i, z) refl
-setting_value_again kind p q x (is.text m y k t i z) = rw (k, t.0, token_again (codes ":=") p m t, expr_again m q y i, z) refl
-setting_value_again kind p q x (is.list m ys k t i z) = rw (k, t.0, token_again (codes ":=") p m t, strings_again m q ys i, z) refl
-setting_value_again kind p q x (is.any_text m y k t b i z) = rw (k, t.0, token_again (codes ":=") p m t, b, expr_again m q y i, z) refl
-setting_value_again kind p q x (is.any_list m ys k t i z) =
+setting_value_again kind p q x (value_absent n m b e z) = rw (b, absent_again kind p n m, e, z) refl
+setting_value_again kind p q x (value_flag m b k t i z) = rw (k, t.0, token_again (codes ":=") p m t, truth_again m q b i, z) refl
+setting_value_again kind p q x (value_text m y k t i z) = rw (k, t.0, token_again (codes ":=") p m t, expr_again m q y i, z) refl
+setting_value_again kind p q x (value_list m ys k t i z) = rw (k, t.0, token_again (codes ":=") p m t, strings_again m q ys i, z) refl
+setting_value_again kind p q x (any_text m y k t b i z) = rw (k, t.0, token_again (codes ":=") p m t, b, expr_again m q y i, z) refl
+setting_value_again kind p q x (any_list m ys k t i z) =
     rw (k, t.0, token_again (codes ":=") p m t, strings_begin m q ys i, strings_again m q ys i, z) refl
 
 -- a setting that stands there is read
@@ -130,13 +130,13 @@ setting_again p q x (m, n, o, name, y, c, a, i, v, re, z) =
 -- an item, or the line of a recipe, that stands there is read
 pub item_again : (p q : Place) (x : Entry) → IsItem p q x → item.item_at p ≡ Ok (x, q)
 unfolding item.item_at item.attributed
-item_again p q x (stands.comment t e i z) = rw (e, comment_again p q t i, z) refl
-item_again p q x (stands.alias y e i z) = rw (e, alias_again p q y i, z) refl
-item_again p q x (stands.import y e i z) = rw (e, import_again p q y i, z) refl
-item_again p q x (stands.module_alone y e i z) = rw (e, module_again [] p q y i, z) refl
-item_again p q x (stands.assignment y e i z) = rw (e, assignment_again false p q y i, z) refl
-item_again p q x (stands.export m y e t i z) = rw (e, token_again (codes "export") p m t, assignment_again true m q y i, z) refl
-item_again p q x (stands.unexport y e i z) = rw (e, unexport_again p q y i, z) refl
-item_again p q x (stands.setting_item y e i z) = rw (e, setting_again p q y i, z) refl
-item_again p q x (stands.attributed_module m xs y e are b i z) = rw (e, attributes_again p m xs are, b, module_again xs m q y i, z) refl
-item_again p q x (stands.recipe m xs y e are b i z) = rw (e, attributes_again p m xs are, b, recipe_line_again xs m q y i, z) refl
+item_again p q x (comment_item t e i z) = rw (e, comment_again p q t i, z) refl
+item_again p q x (alias_item y e i z) = rw (e, alias_again p q y i, z) refl
+item_again p q x (import_item y e i z) = rw (e, import_again p q y i, z) refl
+item_again p q x (module_alone y e i z) = rw (e, module_again [] p q y i, z) refl
+item_again p q x (assignment_item y e i z) = rw (e, assignment_again false p q y i, z) refl
+item_again p q x (export_item m y e t i z) = rw (e, token_again (codes "export") p m t, assignment_again true m q y i, z) refl
+item_again p q x (unexport_item y e i z) = rw (e, unexport_again p q y i, z) refl
+item_again p q x (setting_item y e i z) = rw (e, setting_again p q y i, z) refl
+item_again p q x (attributed_module m xs y e are b i z) = rw (e, attributes_again p m xs are, b, module_again xs m q y i, z) refl
+item_again p q x (recipe_item m xs y e are b i z) = rw (e, attributes_again p m xs are, b, recipe_line_again xs m q y i, z) refl

@@ -15,10 +15,10 @@ use Rattle.just_syntax.specs.Exprs.{IsExpr, IsInner}
 use Rattle.just_syntax.specs.Forms.{sort_of}
 use Rattle.just_syntax.specs.Items.{IsTruth, IsFurtherString, AreStrings, IsSettingValue, IsAlias, IsImport, IsModulePath, IsModule, IsAssignment, IsUnexport, IsSetting, IsItem}
 use Rattle.just_syntax.specs.Items.IsTruth.{yes_word, no_word}
-use Rattle.just_syntax.specs.Items.AreStrings as strings
-use Rattle.just_syntax.specs.Items.IsSettingValue as is
-use Rattle.just_syntax.specs.Items.IsModulePath as behind
-use Rattle.just_syntax.specs.Items.IsItem as stands
+use Rattle.just_syntax.specs.Items.AreStrings.{none as no_strings, some as some_strings}
+use Rattle.just_syntax.specs.Items.IsSettingValue.{absent as value_absent, flag as value_flag, text as value_text, list as value_list, any_text, any_list}
+use Rattle.just_syntax.specs.Items.IsModulePath.{path as path_behind, without as no_path_behind}
+use Rattle.just_syntax.specs.Items.IsItem.{comment as comment_item, alias as alias_item, import as import_item, module_alone, assignment as assignment_item, export as export_item, unexport as unexport_item, setting_item, attributed_module, recipe as recipe_item}
 use Rattle.just_syntax.proofs.Marks.{token_lt, word_lt}
 use Rattle.just_syntax.proofs.LineLaws.{maybe_again, trailing_again, path_again, newline_again, rest_again}
 use Rattle.just_syntax.proofs.StringLaws.{string_lt}
@@ -54,8 +54,8 @@ import_lt p q x (m, n, o, optional, s, c, a, b, st, re, z) =
     omega (arith, token_lt 105 (109 ∷ 112 ∷ 111 ∷ 114 ∷ 116 ∷ []) p m a, maybe_le 63 [] m n optional (maybe_again (codes "?") m n optional b), string_lt n o s st, behind_le o q c re)
 
 module_path_le : (p q : Place) (x : Option StringLiteral) → IsModulePath p q x → length q.rest ≤ length p.rest
-module_path_le p q x (behind.path s i z) = omega (arith, string_lt p q s i)
-module_path_le p q x (behind.without n e z) = rw e (omega arith)
+module_path_le p q x (path_behind s i z) = omega (arith, string_lt p q s i)
+module_path_le p q x (no_path_behind n e z) = rw e (omega arith)
 
 module_lt : (attributes : List Attribute) (p q : Place) (x : AstItem) → IsModule attributes p q x → length q.rest < length p.rest
 module_lt attributes p q x (m, n, o, r, optional, name, s, c, a, b, i, ps, re, z) =
@@ -80,17 +80,17 @@ further_le p q [] e = rw e (omega arith)
 further_le p q (x ∷ xs) (m, (n, g, t, i), are) = omega (arith, token_lt 44 [] p n t, string_lt n m x i, further_le m q xs are)
 
 strings_lt : (p q : Place) (xs : List StringLiteral) → AreStrings p q xs → length q.rest < length p.rest
-strings_lt p q xs (strings.none m a b z) = omega (arith, token_lt 91 [] p m a, token_lt 93 [] m q b)
-strings_lt p q xs (strings.some m n o r first others a i are d c b z) =
+strings_lt p q xs (no_strings m a b z) = omega (arith, token_lt 91 [] p m a, token_lt 93 [] m q b)
+strings_lt p q xs (some_strings m n o r first others a i are d c b z) =
     omega (arith, token_lt 91 [] p m a, string_lt m n first i, further_le n o others are, trailing_le o r tt (trailing_again o r c), token_lt 93 [] r q b)
 
 setting_value_le : (kind : Sort) (p q : Place) (x : Option SettingValue) → IsSettingValue kind p q x → length q.rest ≤ length p.rest
-setting_value_le kind p q x (is.absent n m b e z) = rw e (omega arith)
-setting_value_le kind p q x (is.flag m b k t i z) = omega (arith, token_lt 58 (61 ∷ []) p m t, truth_lt m q b i)
-setting_value_le kind p q x (is.text m y k t i z) = omega (arith, token_lt 58 (61 ∷ []) p m t, expr_lt m q y i)
-setting_value_le kind p q x (is.list m ys k t i z) = omega (arith, token_lt 58 (61 ∷ []) p m t, strings_lt m q ys i)
-setting_value_le kind p q x (is.any_text m y k t b i z) = omega (arith, token_lt 58 (61 ∷ []) p m t, expr_lt m q y i)
-setting_value_le kind p q x (is.any_list m ys k t i z) = omega (arith, token_lt 58 (61 ∷ []) p m t, strings_lt m q ys i)
+setting_value_le kind p q x (value_absent n m b e z) = rw e (omega arith)
+setting_value_le kind p q x (value_flag m b k t i z) = omega (arith, token_lt 58 (61 ∷ []) p m t, truth_lt m q b i)
+setting_value_le kind p q x (value_text m y k t i z) = omega (arith, token_lt 58 (61 ∷ []) p m t, expr_lt m q y i)
+setting_value_le kind p q x (value_list m ys k t i z) = omega (arith, token_lt 58 (61 ∷ []) p m t, strings_lt m q ys i)
+setting_value_le kind p q x (any_text m y k t b i z) = omega (arith, token_lt 58 (61 ∷ []) p m t, expr_lt m q y i)
+setting_value_le kind p q x (any_list m ys k t i z) = omega (arith, token_lt 58 (61 ∷ []) p m t, strings_lt m q ys i)
 
 setting_lt : (p q : Place) (x : AstItem) → IsSetting p q x → length q.rest < length p.rest
 setting_lt p q x (m, n, o, name, y, c, a, i, v, re, z) =
@@ -100,14 +100,14 @@ setting_lt p q x (m, n, o, name, y, c, a, i, v, re, z) =
 
 -- an item, or the line of a recipe, takes a character
 pub item_takes : (p q : Place) (x : Entry) → IsItem p q x → length q.rest < length p.rest
-item_takes p q x (stands.comment t e i z) = comment_lt p q t i
-item_takes p q x (stands.alias y e i z) = alias_lt p q y i
-item_takes p q x (stands.import y e i z) = import_lt p q y i
-item_takes p q x (stands.module_alone y e i z) = module_lt [] p q y i
-item_takes p q x (stands.assignment y e i z) = assignment_lt false p q y i
-item_takes p q x (stands.export m y e t i z) = omega (arith, token_lt 101 (120 ∷ 112 ∷ 111 ∷ 114 ∷ 116 ∷ []) p m t, assignment_lt true m q y i)
-item_takes p q x (stands.unexport y e i z) = unexport_lt p q y i
-item_takes p q x (stands.setting_item y e i z) = setting_lt p q y i
-item_takes p q x (stands.attributed_module m xs y e are b i z) = omega (arith, attributes_le p m xs (attributes_again p m xs are), module_lt xs m q y i)
-item_takes p q x (stands.recipe m xs y e are b i z) =
+item_takes p q x (comment_item t e i z) = comment_lt p q t i
+item_takes p q x (alias_item y e i z) = alias_lt p q y i
+item_takes p q x (import_item y e i z) = import_lt p q y i
+item_takes p q x (module_alone y e i z) = module_lt [] p q y i
+item_takes p q x (assignment_item y e i z) = assignment_lt false p q y i
+item_takes p q x (export_item m y e t i z) = omega (arith, token_lt 101 (120 ∷ 112 ∷ 111 ∷ 114 ∷ 116 ∷ []) p m t, assignment_lt true m q y i)
+item_takes p q x (unexport_item y e i z) = unexport_lt p q y i
+item_takes p q x (setting_item y e i z) = setting_lt p q y i
+item_takes p q x (attributed_module m xs y e are b i z) = omega (arith, attributes_le p m xs (attributes_again p m xs are), module_lt xs m q y i)
+item_takes p q x (recipe_item m xs y e are b i z) =
     omega (arith, attributes_le p m xs (attributes_again p m xs are), recipe_line_lt xs m q y (recipe_line_again xs m q y i))

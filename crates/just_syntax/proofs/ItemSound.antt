@@ -26,10 +26,10 @@ use Rattle.just_syntax.specs.Attributes.{IsTrailing, AreAttributes}
 use Rattle.just_syntax.specs.Recipes.{IsMaybe, IsRecipeLine}
 use Rattle.just_syntax.specs.Items.{opening_at, is_assignment, is_last_name, is_module, opens_module, goes_on, IsTruth, IsFurtherString, AreStrings, IsSettingValue, IsAlias, IsImport, IsModulePath, IsModule, IsAssignment, IsUnexport, IsSetting, IsItem}
 use Rattle.just_syntax.specs.Items.IsTruth.{yes_word, no_word}
-use Rattle.just_syntax.specs.Items.AreStrings.{none, some}
-use Rattle.just_syntax.specs.Items.IsSettingValue as is
-use Rattle.just_syntax.specs.Items.IsModulePath as behind
-use Rattle.just_syntax.specs.Items.IsItem as stands
+use Rattle.just_syntax.specs.Items.AreStrings.{none as no_strings, some as some_strings}
+use Rattle.just_syntax.specs.Items.IsSettingValue.{absent as value_absent, flag as value_flag, text as value_text, list as value_list, any_text, any_list}
+use Rattle.just_syntax.specs.Items.IsModulePath.{path as path_behind, without as no_path_behind}
+use Rattle.just_syntax.specs.Items.IsItem.{comment as comment_item, alias as alias_item, import as import_item, module_alone, assignment as assignment_item, export as export_item, unexport as unexport_item, setting_item, attributed_module, recipe as recipe_item}
 use Rattle.just_syntax.specs.ItemReaders as item
 use Rattle.just_syntax.specs.Readers as reader
 use Rattle.just_syntax.proofs.Marks.{token_ok, word_ok, name_ok}
@@ -71,8 +71,8 @@ module_path_ok p q x h =
     ⊎_elim
     (λ (s : _).
     let (t, m, h1, k1) = bind_ok (reader.string p) (λ t. pure (Some t)) x q s.1 in
-    behind.path t (subst (λ (r : Place). IsString p r t) (ok_place (Some t) x m q k1) (string_ok p m t h1)) (sym (ok_value (Some t) x m q k1)))
-    (λ (s : _). behind.without s.0 (sym (ok_place None x p q s.1)) (sym (ok_value None x p q s.1)))
+    path_behind t (subst (λ (r : Place). IsString p r t) (ok_place (Some t) x m q k1) (string_ok p m t h1)) (sym (ok_value (Some t) x m q k1)))
+    (λ (s : _). no_path_behind s.0 (sym (ok_place None x p q s.1)) (sym (ok_value None x p q s.1)))
     (choose (begins_string p) (and_then (reader.string p) (λ t. pure (Some t))) (Ok (None, p)) (Ok (x, q)) h)
 
 -- a module that is read stands there
@@ -143,9 +143,9 @@ some_strings_ok p m n q xs a h b =
     let (zs, i, h4, k4) = bind_ok (many goes_on item.further_string l) (λ zs. pure (t ∷ zs)) ys o k3 in
     let (are, done) = many_ok goes_on item.further_string IsFurtherString further_string_ok l i zs h4 in
     let end : i ≡ o = ok_place (t ∷ zs) ys i o k4 in
-    some m l o n t zs a (string_ok m l t h3) (subst (λ (w : Place). AreMany IsFurtherString l w zs) end are) (subst (λ (w : Place). goes_on w ≡ false) end done)
+    some_strings m l o n t zs a (string_ok m l t h3) (subst (λ (w : Place). AreMany IsFurtherString l w zs) end are) (subst (λ (w : Place). goes_on w ≡ false) end done)
     (subst (λ (w : Place). IsTrailing o w) (ok_place ys xs r n k2) (trailing_ok o r u h2)) b (sym (ok_value (t ∷ zs) ys i o k4 ∙ ok_value ys xs r n k2)))
-    (λ (s : _). none m a (subst (λ (w : Place). IsToken (codes "]") w q) (sym (ok_place [] xs m n s.1)) b) (sym (ok_value [] xs m n s.1)))
+    (λ (s : _). no_strings m a (subst (λ (w : Place). IsToken (codes "]") w q) (sym (ok_place [] xs m n s.1)) b) (sym (ok_value [] xs m n s.1)))
     (choose (begins_string m) (and_then (item.string_list m) (λ ys o. and_then (item.trailing o) (λ _. pure ys))) (Ok ([], m)) (Ok (xs, n)) h)
 
 -- strings in brackets that are read stand there
@@ -173,21 +173,21 @@ list_value_ok m q x h =
 value_of_ok : (kind : Sort) (p m q : Place) (x : SettingValue) → IsToken (codes ":=") p m → item.value_of kind m ≡ Ok (x, q) → IsSettingValue kind p q (Some x)
 value_of_ok sort.Flag p m q x t h =
     let (b, n, h1, k1) = bind_ok (item.truth m) (λ b. pure (value.Bool b)) x q h in
-    is.flag m b refl t (subst (λ (r : Place). IsTruth m r b) (ok_place (value.Bool b) x n q k1) (truth_ok m n b h1)) (ap Some (sym (ok_value (value.Bool b) x n q k1)))
-value_of_ok sort.Text p m q x t h = let (y, i, z) = text_value_ok m q x h in is.text m y refl t i z
-value_of_ok sort.List p m q x t h = let (ys, i, z) = list_value_ok m q x h in is.list m ys refl t i z
+    value_flag m b refl t (subst (λ (r : Place). IsTruth m r b) (ok_place (value.Bool b) x n q k1) (truth_ok m n b h1)) (ap Some (sym (ok_value (value.Bool b) x n q k1)))
+value_of_ok sort.Text p m q x t h = let (y, i, z) = text_value_ok m q x h in value_text m y refl t i z
+value_of_ok sort.List p m q x t h = let (ys, i, z) = list_value_ok m q x h in value_list m ys refl t i z
 value_of_ok sort.Open p m q x t h =
-    ⊎_elim (λ (s : _). let (ys, i, z) = list_value_ok m q x s.1 in is.any_list m ys refl t i z)
-    (λ (s : _). let (y, i, z) = text_value_ok m q x s.1 in is.any_text m y refl t s.0 i z)
+    ⊎_elim (λ (s : _). let (ys, i, z) = list_value_ok m q x s.1 in any_list m ys refl t i z)
+    (λ (s : _). let (y, i, z) = text_value_ok m q x s.1 in any_text m y refl t s.0 i z)
     (choose (begins (codes "[") m) (item.list_value m) (item.text_value m) (Ok (x, q)) h)
 
 absent_ok : (kind : Sort) (p q : Place) (x : Option SettingValue) → begins (codes ":=") p ≡ false → item.absent kind p ≡ Ok (x, q) → IsSettingValue kind p q x
 absent_ok sort.Flag p q x b h =
-    is.absent (λ e. let no : ⊥ = cc (e) in no) (λ e. let no : ⊥ = cc (e) in no) b (sym (ok_place None x p q h)) (sym (ok_value None x p q h))
+    value_absent (λ e. let no : ⊥ = cc (e) in no) (λ e. let no : ⊥ = cc (e) in no) b (sym (ok_place None x p q h)) (sym (ok_value None x p q h))
 absent_ok sort.Text p q x b h = absurd (let no : ⊥ = cc (h) in no)
 absent_ok sort.List p q x b h = absurd (let no : ⊥ = cc (h) in no)
 absent_ok sort.Open p q x b h =
-    is.absent (λ e. let no : ⊥ = cc (e) in no) (λ e. let no : ⊥ = cc (e) in no) b (sym (ok_place None x p q h)) (sym (ok_value None x p q h))
+    value_absent (λ e. let no : ⊥ = cc (e) in no) (λ e. let no : ⊥ = cc (e) in no) b (sym (ok_place None x p q h)) (sym (ok_value None x p q h))
 
 -- what is read behind a setting's name stands there
 setting_value_ok : (kind : Sort) (p q : Place) (x : Option SettingValue) → item.setting_value kind p ≡ Ok (x, q) → IsSettingValue kind p q x
@@ -251,28 +251,28 @@ attributed_ok p q x e h =
     let (xs, m, h1, k1) = bind_ok (item.attributes p)
         (λ xs m. if opens_module m then and_then (item.module_item xs m) (λ y. pure (entry.Item y)) else and_then (item.recipe_line xs m) (λ y. pure (entry.Recipe y))) x q h in
     let are : AreAttributes p m xs = attributes_ok p m xs h1 in
-    ⊎_elim (λ (s : _). let (y, h2, z) = as_item_ok (item.module_item xs m) q x s.1 in stands.attributed_module m xs y e are s.0 (module_ok xs m q y h2) z)
+    ⊎_elim (λ (s : _). let (y, h2, z) = as_item_ok (item.module_item xs m) q x s.1 in attributed_module m xs y e are s.0 (module_ok xs m q y h2) z)
     (λ (s : _).
     let (y, n, h2, k2) = bind_ok (item.recipe_line xs m) (λ y. pure (entry.Recipe y)) x q s.1 in
-    stands.recipe m xs y e are s.0 (subst (λ (r : Place). IsRecipeLine xs m r y) (ok_place (entry.Recipe y) x n q k2) (recipe_line_ok xs m n y h2))
+    recipe_item m xs y e are s.0 (subst (λ (r : Place). IsRecipeLine xs m r y) (ok_place (entry.Recipe y) x n q k2) (recipe_line_ok xs m n y h2))
     (sym (ok_value (entry.Recipe y) x n q k2)))
     (choose (opens_module m) (and_then (item.module_item xs m) (λ y. pure (entry.Item y))) (and_then (item.recipe_line xs m) (λ y. pure (entry.Recipe y))) (Ok (x, q)) k1)
 
 item_of_ok : (o : Opening) (p q : Place) (x : Entry) → opening_at p ≡ o → item.item_of o p ≡ Ok (x, q) → IsItem p q x
 item_of_ok opening.Comment p q x e h =
     let (t, m, h1, k1) = bind_ok (reader.comment p) (λ t. pure (entry.Item (tree.Comment t))) x q h in
-    stands.comment t e (subst (λ (r : Place). IsComment p r t) (ok_place (entry.Item (tree.Comment t)) x m q k1) (comment_ok p m t (comment_sees p e) h1))
+    comment_item t e (subst (λ (r : Place). IsComment p r t) (ok_place (entry.Item (tree.Comment t)) x m q k1) (comment_ok p m t (comment_sees p e) h1))
     (sym (ok_value (entry.Item (tree.Comment t)) x m q k1))
-item_of_ok opening.Alias p q x e h = let (y, k, z) = as_item_ok (item.alias p) q x h in stands.alias y e (alias_ok p q y k) z
-item_of_ok opening.Import p q x e h = let (y, k, z) = as_item_ok (item.import p) q x h in stands.import y e (import_ok p q y k) z
-item_of_ok opening.Module p q x e h = let (y, k, z) = as_item_ok (item.module_item [] p) q x h in stands.module_alone y e (module_ok [] p q y k) z
+item_of_ok opening.Alias p q x e h = let (y, k, z) = as_item_ok (item.alias p) q x h in alias_item y e (alias_ok p q y k) z
+item_of_ok opening.Import p q x e h = let (y, k, z) = as_item_ok (item.import p) q x h in import_item y e (import_ok p q y k) z
+item_of_ok opening.Module p q x e h = let (y, k, z) = as_item_ok (item.module_item [] p) q x h in module_alone y e (module_ok [] p q y k) z
 item_of_ok opening.Export p q x e h =
     let (u, m, h1, k1) = bind_ok (reader.token (codes "export") p) (λ _ m. and_then (item.assignment true m) (λ y. pure (entry.Item y))) x q h in
     let (y, k, z) = as_item_ok (item.assignment true m) q x k1 in
-    stands.export m y e (token_ok (codes "export") p u m h1) (assignment_ok true m q y k) z
-item_of_ok opening.Assignment p q x e h = let (y, k, z) = as_item_ok (item.assignment false p) q x h in stands.assignment y e (assignment_ok false p q y k) z
-item_of_ok opening.Unexport p q x e h = let (y, k, z) = as_item_ok (item.unexport p) q x h in stands.unexport y e (unexport_ok p q y k) z
-item_of_ok opening.Setting p q x e h = let (y, k, z) = as_item_ok (item.setting_item p) q x h in stands.setting_item y e (setting_ok p q y k) z
+    export_item m y e (token_ok (codes "export") p u m h1) (assignment_ok true m q y k) z
+item_of_ok opening.Assignment p q x e h = let (y, k, z) = as_item_ok (item.assignment false p) q x h in assignment_item y e (assignment_ok false p q y k) z
+item_of_ok opening.Unexport p q x e h = let (y, k, z) = as_item_ok (item.unexport p) q x h in unexport_item y e (unexport_ok p q y k) z
+item_of_ok opening.Setting p q x e h = let (y, k, z) = as_item_ok (item.setting_item p) q x h in setting_item y e (setting_ok p q y k) z
 item_of_ok opening.Recipe p q x e h = attributed_ok p q x e h
 
 -- an item, or the line of a recipe, that is read stands there
