@@ -32,6 +32,11 @@ pub mod RecipeShorter
 pub mod BodySound
 pub mod BodyComplete
 pub mod BodyShorter
+pub mod ItemSound
+pub mod ItemComplete
+pub mod ItemShorter
+pub mod EntryLaws
+pub mod FileLaws
 pub mod Gather
 pub mod DeepChains
 pub mod DeepNone
@@ -40,3 +45,5 @@ pub mod DeepAttributes
 pub mod DeepRecipes
 pub mod DeepBodies
 pub mod DeepItems
+pub mod FileFaults
+pub mod Laws

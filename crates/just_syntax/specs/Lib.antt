@@ -15,5 +15,6 @@ pub mod Meanings
 pub mod Given
 pub mod Collected
 pub mod ItemReaders
+pub mod EntryReaders
 pub mod Deep
 pub mod Faults

@@ -1,11 +1,14 @@
 //! Settings and attributes that the language leaves out.
-ghost use Rattle.std.specs.Prelude.{◌≡◌};
+ghost use Rattle.std.specs.Prelude.{◌≡◌, option_copied};
+ghost use Rattle.just_syntax.specs.File.{first_left_out, left_out_of, left_out_among};
 
 use super::form::{is_left_out_attribute, is_left_out_setting};
 use super::{AstItem, Attribute, Name};
 
 /// The first name of a left-out setting or attribute.
-pub fn first_left_out(items: &[AstItem]) -> Option<&Name> {
+pub fn first_left_out(items: &[AstItem]) -> Option<&Name>
+    ensures { option_copied result ≡ first_left_out items.now }
+{
     'items: for item in items {
         if let Some(name) = left_out_of(item) {
             return Some(name);
@@ -15,7 +18,9 @@ pub fn first_left_out(items: &[AstItem]) -> Option<&Name> {
 }
 
 /// The first such name of an item.
-fn left_out_of(item: &AstItem) -> Option<&Name> {
+fn left_out_of(item: &AstItem) -> Option<&Name>
+    ensures { option_copied result ≡ left_out_of item.now }
+{
     match item {
         AstItem::Setting { name, .. } => {
             if is_left_out_setting(name.text.as_str()) {
@@ -31,7 +36,9 @@ fn left_out_of(item: &AstItem) -> Option<&Name> {
 }
 
 /// The first such name of attributes.
-fn left_out_among(attributes: &[Attribute]) -> Option<&Name> {
+fn left_out_among(attributes: &[Attribute]) -> Option<&Name>
+    ensures { option_copied result ≡ left_out_among attributes.now }
+{
     'attributes: for attribute in attributes {
         if is_left_out_attribute(attribute.name.text.as_str()) {
             return Some(&attribute.name);

@@ -1,8 +1,9 @@
 //! A text whole: its tree, or its fault.
 ghost use Rattle.std.specs.Prelude.{◌≡◌, IfOk, IfErr, MatchResult, List, None, chars};
 ghost use Rattle.just_syntax.specs.declared.ast.AstItem.{AstItem};
-ghost use Rattle.just_syntax.specs.File.{IsFile, first_left_out};
+ghost use Rattle.just_syntax.specs.File.{IsFile, items_of, first_left_out};
 ghost use Rattle.just_syntax.specs.Faults.{Refuses};
+ghost use Rattle.just_syntax.specs.EntryReaders.{entry_or_fault, ReadsEntry};
 
 use super::entry::{Body, Entry, gather, read_entry};
 use super::indentation::characters;
@@ -13,6 +14,7 @@ use std::alloc::Global;
 
 /// The tree of a justfile's text. A text that has none is refused at the line at which its longest front of items and
 /// body lines ends; one that has a tree with a left-out setting or attribute is refused at its name.
+#[tactic(auto, using(crate::proofs::FileLaws::one_tree, crate::proofs::FileFaults::only_memory, crate::proofs::FileFaults::left_out_refuses))]
 pub fn parse(alloc: Global, text: &str) -> Result<Ast, ParseError>
     // What is answered is the tree of the text, and has no left-out name.
     ensures found { IfOk result (λ a. IsFile (chars text.now) a.items × (first_left_out a.items ≡ None)) }
@@ -33,26 +35,37 @@ pub fn parse(alloc: Global, text: &str) -> Result<Ast, ParseError>
     }
 }
 
-/// The entries of a text.
-fn entries_of(alloc: Global, text: &str) -> Result<Vec<Entry>, ParseError> {
+/// The entries of a text, or the fault where it stops being entries.
+#[tactic(auto, using(crate::proofs::FileFaults::entries_more, crate::proofs::FileFaults::entry_shorter, crate::proofs::FileFaults::entries_end, crate::proofs::FileFaults::stop_refuses))]
+fn entries_of(alloc: Global, text: &str) -> Result<Vec<Entry>, ParseError>
+    ensures found { IfOk result (λ v. IsFile (chars text.now) (items_of v.items)) }
+    ensures refused { IfErr result (Refuses (chars text.now)) }
+{
     let characters = characters(alloc, text)?;
     let mut cursor = Cursor::new(characters.as_slice());
     let mut body = Body::Closed;
     let mut entries = Vec::new(alloc);
     'entries: while !cursor.is_at_end() {
-        let (entry, next) = next(alloc, &mut cursor, body)?;
-        entries.push(entry)?;
-        body = next;
+        match next(alloc, &mut cursor, body) {
+            Ok((entry, behind)) => {
+                entries.push(entry)?;
+                body = behind;
+            }
+            Err(refusal) => return Err(refusal),
+        }
     }
     Ok(entries)
 }
 
-/// The entry that begins here, or the fault at its begin.
+/// The entry that begins here and the body behind it, or the fault where it begins.
+#[tactic(auto, unfolding(crate::specs::EntryReaders::entry_or_fault))]
 fn next(
     alloc: Global,
     cursor: &mut Cursor<'_>,
     body: Body,
-) -> Result<(Entry, Body), ParseError> {
+) -> Result<(Entry, Body), ParseError>
+    ensures { ReadsEntry (entry_or_fault body cursor.old) result cursor.new }
+{
     let line = cursor.line();
     let column = cursor.column();
     match read_entry(alloc, cursor, body) {
