@@ -8,9 +8,8 @@ use super::class::{NameStart, QuoteMark};
 use super::string::{begins_string, string};
 use super::token::{behind_word, is_word, name, token, word};
 use super::{Comparison, Expr};
-use just_path::NoMemory;
 use just_read::{Boxed, Cursor, ReadError};
-use std::alloc::Global;
+use std::alloc::{AllocError, Global};
 
 /// How many levels may be open at a place of an expression.
 pub const LEVELS: usize = 256;
@@ -158,7 +157,7 @@ fn join_if(
     condition: (Expr, Comparison, Expr),
     consequent: Expr,
     alternative: (bool, Expr),
-) -> Result<Expr, NoMemory>
+) -> Result<Expr, AllocError>
     ensures { IfOk result (λ x. x ≡ Expr.If condition.0 condition.1 condition.2 consequent alternative.0 alternative.1) }
 {
     let (left, comparison, right) = condition;
@@ -250,7 +249,7 @@ fn join_env(
     column: usize,
     key: Expr,
     default: Option<Expr>,
-) -> Result<Expr, NoMemory>
+) -> Result<Expr, AllocError>
     ensures { IfOk result (λ x. x ≡ Expr.Env line column key default) }
 {
     let key = Boxed::new(alloc, key)?;
@@ -291,7 +290,7 @@ fn tail(
 }
 
 /// `FIRST / SECOND`
-fn join_slash(alloc: Global, first: Expr, second: Expr) -> Result<Expr, NoMemory>
+fn join_slash(alloc: Global, first: Expr, second: Expr) -> Result<Expr, AllocError>
     ensures { IfOk result (λ x. x ≡ Expr.Join first second) }
 {
     let first = Boxed::new(alloc, first)?;
@@ -300,7 +299,7 @@ fn join_slash(alloc: Global, first: Expr, second: Expr) -> Result<Expr, NoMemory
 }
 
 /// `FIRST + SECOND`
-fn join_plus(alloc: Global, first: Expr, second: Expr) -> Result<Expr, NoMemory>
+fn join_plus(alloc: Global, first: Expr, second: Expr) -> Result<Expr, AllocError>
     ensures { IfOk result (λ x. x ≡ Expr.Concat first second) }
 {
     let first = Boxed::new(alloc, first)?;
