@@ -1,1 +1,2 @@
 -- The specifications of printed texts.
+pub mod Printed

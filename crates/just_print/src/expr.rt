@@ -1,12 +1,17 @@
 //! Strings, names and expressions as texts.
-ghost use Rattle.std.specs.Prelude.{◌≡◌};
+ghost use Rattle.std.specs.Prelude.{◌≡◌, ◌++◌, map, codes, IfOk, string_bytes};
+ghost use Rattle.std.specs.Option.{option_map};
+ghost use Rattle.just_syntax.specs.Strings.{mark};
+ghost use Rattle.just_print.specs.Printed.{led, only_if, otherwise, printed_name, printed_string, printed_path, printed_comparison, printed_expr, printed_second, printed_values};
 
 use just_read::Boxed;
 use just_syntax::{Comparison, Expr, Name, Quote, StringLiteral};
 use std::alloc::AllocError;
 
 /// The characters before and behind a string.
-fn mark_of(quote: Quote) -> &'static str {
+fn mark_of(quote: Quote) -> &'static str
+    ensures { result.now ≡ mark quote }
+{
     match quote {
         Quote::Single => "'",
         Quote::Double => "\"",
@@ -15,32 +20,53 @@ fn mark_of(quote: Quote) -> &'static str {
     }
 }
 
+/// Adds a text where it is wanted.
+pub fn push_if(out: &mut String, wanted: bool, text: &str) -> Result<(), AllocError>
+    ensures { IfOk result (λ _. string_bytes out.new ≡ string_bytes out.old ++ only_if wanted text.now) }
+{
+    if wanted { out.push_str(text) } else { Ok(()) }
+}
+
 /// Adds a string as it was written.
-pub fn push_string(out: &mut String, string: &StringLiteral) -> Result<(), AllocError> {
-    if string.expands {
-        out.push_str("x")?;
-    }
+pub fn push_string(out: &mut String, string: &StringLiteral) -> Result<(), AllocError>
+    ensures { IfOk result (λ _. string_bytes out.new ≡ string_bytes out.old ++ printed_string string.now) }
+{
+    push_if(out, string.expands, "x")?;
     out.push_str(mark_of(string.quote))?;
     out.push_str(string.raw.as_str())?;
     out.push_str(mark_of(string.quote))
 }
 
 /// Adds a path: its names with `::` between them.
-pub fn push_path(out: &mut String, path: &[Name]) -> Result<(), AllocError> {
-    let mut is_first = true;
-    'names: for name in path {
-        if !is_first {
-            out.push_str("::")?;
+pub fn push_path(out: &mut String, path: &[Name]) -> Result<(), AllocError>
+    ensures { IfOk result (λ _. string_bytes out.new ≡ string_bytes out.old ++ printed_path path.now) }
+{
+    match path {
+        [] => Ok(()),
+        [first, others @ ..] => {
+            out.push_str(first.text.as_str())?;
+            push_further_names(out, others)
         }
+    }
+}
+
+/// Adds names, each behind `::`.
+fn push_further_names(out: &mut String, names: &[Name]) -> Result<(), AllocError>
+    ensures { IfOk result (λ _. string_bytes out.new ≡ string_bytes out.old ++ led (codes "::") (map printed_name names.now)) }
+{
+    'names: for name in names {
+        out.push_str("::")?;
         out.push_str(name.text.as_str())?;
-        is_first = false;
     }
     Ok(())
 }
 
 /// Adds an expression, with one blank on each side of an operator.
 #[cycle(print)]
-pub fn push_expr(out: &mut String, expr: &Expr) -> Result<(), AllocError> {
+#[tactic(auto, using(crate::proofs::Exprs::if_behind, crate::proofs::Exprs::root_behind, crate::proofs::Exprs::join_behind, crate::proofs::Exprs::concat_behind, crate::proofs::Exprs::literal_is, crate::proofs::Exprs::variable_is, crate::proofs::Exprs::group_behind, crate::proofs::Exprs::env_behind))]
+pub fn push_expr(out: &mut String, expr: &Expr) -> Result<(), AllocError>
+    ensures { IfOk result (λ _. string_bytes out.new ≡ string_bytes out.old ++ printed_expr expr.now) }
+{
     match expr {
         Expr::If {
             left,
@@ -83,7 +109,7 @@ pub fn push_expr(out: &mut String, expr: &Expr) -> Result<(), AllocError> {
         Expr::Env { key, default, .. } => {
             out.push_str("env(")?;
             push_expr(out, key.get())?;
-            push_default(out, default)?;
+            push_second(out, default)?;
             out.push_str(")")
         }
     }
@@ -91,7 +117,9 @@ pub fn push_expr(out: &mut String, expr: &Expr) -> Result<(), AllocError> {
 
 /// Adds what follows an `else`.
 #[cycle(print)]
-fn push_otherwise(out: &mut String, chained: bool, expr: &Expr) -> Result<(), AllocError> {
+fn push_otherwise(out: &mut String, chained: bool, expr: &Expr) -> Result<(), AllocError>
+    ensures { IfOk result (λ _. string_bytes out.new ≡ string_bytes out.old ++ otherwise chained (printed_expr expr.now)) }
+{
     if chained {
         push_expr(out, expr)
     } else {
@@ -103,7 +131,9 @@ fn push_otherwise(out: &mut String, chained: bool, expr: &Expr) -> Result<(), Al
 
 /// Adds the second argument of `env`, if there is one.
 #[cycle(print)]
-fn push_default(out: &mut String, default: &Option<Boxed<Expr>>) -> Result<(), AllocError> {
+fn push_second(out: &mut String, default: &Option<Boxed<Expr>>) -> Result<(), AllocError>
+    ensures { IfOk result (λ _. string_bytes out.new ≡ string_bytes out.old ++ printed_second (option_map printed_expr default.now)) }
+{
     match default {
         Some(inside) => {
             out.push_str(", ")?;
@@ -114,9 +144,22 @@ fn push_default(out: &mut String, default: &Option<Boxed<Expr>>) -> Result<(), A
 }
 
 /// A comparison with its blanks.
-fn sign_of(comparison: Comparison) -> &'static str {
+fn sign_of(comparison: Comparison) -> &'static str
+    ensures { result.now ≡ printed_comparison comparison }
+{
     match comparison {
         Comparison::Equal => " == ",
         Comparison::Unequal => " != ",
     }
+}
+
+/// Adds expressions, each behind a blank.
+pub fn push_values(out: &mut String, values: &[Expr]) -> Result<(), AllocError>
+    ensures { IfOk result (λ _. string_bytes out.new ≡ string_bytes out.old ++ printed_values values.now) }
+{
+    'values: for value in values {
+        out.push_str(" ")?;
+        push_expr(out, value)?;
+    }
+    Ok(())
 }

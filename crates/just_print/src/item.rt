@@ -1,13 +1,23 @@
 //! Items as texts.
-ghost use Rattle.std.specs.Prelude.{◌≡◌};
+ghost use Rattle.std.specs.Prelude.{◌≡◌, ◌++◌, map, codes, IfOk, string_bytes};
+ghost use Rattle.just_print.specs.Printed.{led, printed_string, printed_strings, printed_value, printed_setting, printed_word, printed_file, printed_recipe, printed_item};
 
-use super::expr::{push_expr, push_path, push_string};
-use super::recipe::{push_attributes, push_end, push_recipe};
-use just_syntax::{AstItem, Attribute, Name, SettingValue, StringLiteral};
-use std::alloc::AllocError;
+use super::attribute::{push_attributes, push_end};
+use super::body::push_body;
+use super::expr::{push_expr, push_if, push_path, push_string};
+use super::recipe::push_recipe_line;
+use just_syntax::{AstItem, AstRecipe, SettingValue, StringLiteral};
+use std::alloc::{AllocError, Global};
 
 /// Adds an item.
-pub fn push_item(out: &mut String, item: &AstItem, indentation: &str) -> Result<(), AllocError> {
+pub fn push_item(
+    alloc: Global,
+    out: &mut String,
+    item: &AstItem,
+    indentation: &str,
+) -> Result<(), AllocError>
+    ensures { IfOk result (λ _. string_bytes out.new ≡ string_bytes out.old ++ printed_item indentation.now item.now) }
+{
     match item {
         AstItem::Blank => out.push_str("\n"),
         AstItem::Comment(text) => {
@@ -30,7 +40,7 @@ pub fn push_item(out: &mut String, item: &AstItem, indentation: &str) -> Result<
             path,
             comment,
         } => {
-            out.push_str(if *optional { "import? " } else { "import " })?;
+            push_word(out, "import", *optional)?;
             push_string(out, path)?;
             push_end(out, comment)
         }
@@ -41,7 +51,10 @@ pub fn push_item(out: &mut String, item: &AstItem, indentation: &str) -> Result<
             path,
             comment,
         } => {
-            push_module(out, attributes.as_slice(), *optional, name, path)?;
+            push_attributes(out, attributes.as_slice())?;
+            push_word(out, "mod", *optional)?;
+            out.push_str(name.text.as_str())?;
+            push_file(out, path)?;
             push_end(out, comment)
         }
         AstItem::Assignment {
@@ -50,9 +63,7 @@ pub fn push_item(out: &mut String, item: &AstItem, indentation: &str) -> Result<
             value,
             comment,
         } => {
-            if *export {
-                out.push_str("export ")?;
-            }
+            push_if(out, *export, "export ")?;
             out.push_str(name.text.as_str())?;
             out.push_str(" := ")?;
             push_expr(out, value)?;
@@ -73,20 +84,37 @@ pub fn push_item(out: &mut String, item: &AstItem, indentation: &str) -> Result<
             push_setting(out, value)?;
             push_end(out, comment)
         }
-        AstItem::Recipe(recipe) => push_recipe(out, recipe.get(), indentation),
+        AstItem::Recipe(recipe) => push_recipe(alloc, out, recipe.get(), indentation),
     }
 }
 
-fn push_module(
+/// Adds a word, with a `?` where it is optional that the file is there.
+fn push_word(out: &mut String, word: &str, optional: bool) -> Result<(), AllocError>
+    ensures { IfOk result (λ _. string_bytes out.new ≡ string_bytes out.old ++ printed_word word.now optional) }
+{
+    out.push_str(word)?;
+    push_if(out, optional, "?")?;
+    out.push_str(" ")
+}
+
+/// Adds a recipe, with its attributes and its body.
+fn push_recipe(
+    alloc: Global,
     out: &mut String,
-    attributes: &[Attribute],
-    optional: bool,
-    name: &Name,
-    path: &Option<StringLiteral>,
-) -> Result<(), AllocError> {
-    push_attributes(out, attributes)?;
-    out.push_str(if optional { "mod? " } else { "mod " })?;
-    out.push_str(name.text.as_str())?;
+    recipe: &AstRecipe,
+    indentation: &str,
+) -> Result<(), AllocError>
+    ensures { IfOk result (λ _. string_bytes out.new ≡ string_bytes out.old ++ printed_recipe indentation.now recipe.now) }
+{
+    push_attributes(out, recipe.attributes.as_slice())?;
+    push_recipe_line(out, recipe)?;
+    push_body(alloc, out, recipe.body.as_slice(), indentation)
+}
+
+/// Adds the file of a module, if it has one.
+fn push_file(out: &mut String, path: &Option<StringLiteral>) -> Result<(), AllocError>
+    ensures { IfOk result (λ _. string_bytes out.new ≡ string_bytes out.old ++ printed_file path.now) }
+{
     match path {
         Some(string) => {
             out.push_str(" ")?;
@@ -96,32 +124,57 @@ fn push_module(
     }
 }
 
-fn push_setting(out: &mut String, value: &Option<SettingValue>) -> Result<(), AllocError> {
+/// Adds the value of a setting, if it has one.
+fn push_setting(out: &mut String, value: &Option<SettingValue>) -> Result<(), AllocError>
+    ensures { IfOk result (λ _. string_bytes out.new ≡ string_bytes out.old ++ printed_setting value.now) }
+{
     match value {
-        None => Ok(()),
         Some(value) => {
             out.push_str(" := ")?;
-            match value {
-                SettingValue::Bool(is_set) => {
-                    out.push_str(if *is_set { "true" } else { "false" })
-                }
-                SettingValue::Text(text) => push_expr(out, text),
-                SettingValue::List(strings) => push_list(out, strings.as_slice()),
+            push_value(out, value)
+        }
+        None => Ok(()),
+    }
+}
+
+fn push_value(out: &mut String, value: &SettingValue) -> Result<(), AllocError>
+    ensures { IfOk result (λ _. string_bytes out.new ≡ string_bytes out.old ++ printed_value value.now) }
+{
+    match value {
+        SettingValue::Bool(is_set) => {
+            if *is_set {
+                out.push_str("true")
+            } else {
+                out.push_str("false")
             }
         }
+        SettingValue::Text(text) => push_expr(out, text),
+        SettingValue::List(strings) => push_strings(out, strings.as_slice()),
     }
 }
 
 /// Adds strings in brackets.
-fn push_list(out: &mut String, strings: &[StringLiteral]) -> Result<(), AllocError> {
-    out.push_str("[")?;
-    let mut is_first = true;
-    'strings: for string in strings {
-        if !is_first {
-            out.push_str(", ")?;
+fn push_strings(out: &mut String, strings: &[StringLiteral]) -> Result<(), AllocError>
+    ensures { IfOk result (λ _. string_bytes out.new ≡ string_bytes out.old ++ printed_strings strings.now) }
+{
+    match strings {
+        [] => out.push_str("[]"),
+        [first, others @ ..] => {
+            out.push_str("[")?;
+            push_string(out, first)?;
+            push_further_strings(out, others)?;
+            out.push_str("]")
         }
-        push_string(out, string)?;
-        is_first = false;
     }
-    out.push_str("]")
+}
+
+/// Adds strings, each behind a comma.
+fn push_further_strings(out: &mut String, strings: &[StringLiteral]) -> Result<(), AllocError>
+    ensures { IfOk result (λ _. string_bytes out.new ≡ string_bytes out.old ++ led (codes ", ") (map printed_string strings.now)) }
+{
+    'strings: for string in strings {
+        out.push_str(", ")?;
+        push_string(out, string)?;
+    }
+    Ok(())
 }

@@ -1,6 +1,8 @@
 //! Trees of justfiles as texts.
 #![tactic(auto)]
 
+mod attribute;
+mod body;
 mod expr;
 mod item;
 mod recipe;

@@ -1,0 +1,103 @@
+//! Attributes, and the ends of items' lines, as texts.
+ghost use Rattle.std.specs.Prelude.{◌≡◌, ◌++◌, map, codes, IfOk, string_bytes};
+ghost use Rattle.just_print.specs.Printed.{led, printed_end, printed_key, printed_argument, printed_arguments, behind_attribute, printed_attribute, printed_attributes};
+
+use super::expr::push_expr;
+use just_path::Text;
+use just_syntax::{Argument, Attribute, Name};
+use std::alloc::AllocError;
+
+/// Adds the end of an item's line, with the comment behind it.
+pub fn push_end(out: &mut String, comment: &Option<Text>) -> Result<(), AllocError>
+    ensures { IfOk result (λ _. string_bytes out.new ≡ string_bytes out.old ++ printed_end comment.now) }
+{
+    match comment {
+        Some(text) => {
+            out.push_str(" ")?;
+            out.push_str(text.as_str())?;
+            out.push_str("\n")
+        }
+        None => out.push_str("\n"),
+    }
+}
+
+/// Adds attributes, each on a line of its own.
+pub fn push_attributes(out: &mut String, attributes: &[Attribute]) -> Result<(), AllocError>
+    ensures { IfOk result (λ _. string_bytes out.new ≡ string_bytes out.old ++ printed_attributes attributes.now) }
+{
+    'attributes: for attribute in attributes {
+        push_attribute(out, attribute)?;
+    }
+    Ok(())
+}
+
+fn push_attribute(out: &mut String, attribute: &Attribute) -> Result<(), AllocError>
+    ensures { IfOk result (λ _. string_bytes out.new ≡ string_bytes out.old ++ printed_attribute attribute.now) }
+{
+    out.push_str("[")?;
+    out.push_str(attribute.name.text.as_str())?;
+    push_behind_name(out, attribute.colon, attribute.arguments.as_slice())?;
+    out.push_str("]")?;
+    push_end(out, &attribute.comment)
+}
+
+/// Adds what stands behind an attribute's name.
+fn push_behind_name(out: &mut String, colon: bool, arguments: &[Argument]) -> Result<(), AllocError>
+    ensures { IfOk result (λ _. string_bytes out.new ≡ string_bytes out.old ++ behind_attribute colon arguments.now) }
+{
+    if colon {
+        out.push_str(": ")?;
+        return push_arguments(out, arguments);
+    }
+    match arguments {
+        [] => Ok(()),
+        [_first, ..] => {
+            out.push_str("(")?;
+            push_arguments(out, arguments)?;
+            out.push_str(")")
+        }
+    }
+}
+
+/// Adds arguments with commas between them.
+fn push_arguments(out: &mut String, arguments: &[Argument]) -> Result<(), AllocError>
+    ensures { IfOk result (λ _. string_bytes out.new ≡ string_bytes out.old ++ printed_arguments arguments.now) }
+{
+    match arguments {
+        [] => Ok(()),
+        [first, others @ ..] => {
+            push_argument(out, first)?;
+            push_further_arguments(out, others)
+        }
+    }
+}
+
+/// Adds arguments, each behind a comma.
+fn push_further_arguments(out: &mut String, arguments: &[Argument]) -> Result<(), AllocError>
+    ensures { IfOk result (λ _. string_bytes out.new ≡ string_bytes out.old ++ led (codes ", ") (map printed_argument arguments.now)) }
+{
+    'arguments: for argument in arguments {
+        out.push_str(", ")?;
+        push_argument(out, argument)?;
+    }
+    Ok(())
+}
+
+fn push_argument(out: &mut String, argument: &Argument) -> Result<(), AllocError>
+    ensures { IfOk result (λ _. string_bytes out.new ≡ string_bytes out.old ++ printed_argument argument.now) }
+{
+    push_key(out, &argument.key)?;
+    push_expr(out, &argument.value)
+}
+
+fn push_key(out: &mut String, key: &Option<Name>) -> Result<(), AllocError>
+    ensures { IfOk result (λ _. string_bytes out.new ≡ string_bytes out.old ++ printed_key key.now) }
+{
+    match key {
+        Some(name) => {
+            out.push_str(name.text.as_str())?;
+            out.push_str("=")
+        }
+        None => Ok(()),
+    }
+}
