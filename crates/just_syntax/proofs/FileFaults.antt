@@ -19,7 +19,7 @@ use Rattle.just_syntax.specs.Faults.{IsFaultAt, IsLeftOut, TellsFault, Refuses}
 use Rattle.just_syntax.specs.Deep.{IsDeepEntry}
 use Rattle.just_syntax.specs.ItemReaders as item
 use Rattle.just_syntax.specs.EntryReaders.{fault_at, or_fault, entry_or_fault}
-use Rattle.just_syntax.proofs.EntryLaws.{entry_ok, entry_again, entry_takes}
+use Rattle.just_syntax.proofs.EntryLaws.{entry_ok, entry_again, entry_lt}
 use Rattle.just_syntax.proofs.FileLaws.{one_tree, tree_or_stops, stops_once, one_more}
 use Rattle.just_syntax.proofs.DeepItems.{entry_deep_ok, entry_deep_again}
 
@@ -81,30 +81,32 @@ pub not_refused : (text : List ℕ) (xs : List AstItem) (f : Fault) → IsFile t
 not_refused text xs f is none r = not_told text xs f f.kind is none r
 
 -- the only error of a text that has such a tree is want of memory
-pub only_memory : (text : List ℕ) (xs : List AstItem) (e : ParseError) → IsFile text xs → first_left_out xs ≡ None → Refuses text e → e ≡ error.NoMemory
-only_memory text xs (error.Fault f) is none r = absurd (not_refused text xs f is none r)
-only_memory text xs error.NoMemory is none r = refl
+pub only_memory : (text : List ℕ) (e : ParseError) → Refuses text e → (xs : List AstItem) → IsFile text xs → first_left_out xs ≡ None → e ≡ error.NoMemory
+only_memory text (error.Fault f) r xs is none = absurd (not_refused text xs f is none r)
+only_memory text error.NoMemory r xs is none = refl
+
+-- and its only answer is its tree
+pub only_tree : (text : List ℕ) (xs : List AstItem) → IsFile text xs → (ys : List AstItem) → IsFile text ys → first_left_out ys ≡ None → xs ≡ ys
+only_tree text xs f ys g none = one_tree text xs ys f g
 
 -- ---- what the code tells
+
+-- the entry that is read
+read_entry : (p : Place) (o : Outcome (Entry × Body)) (s : (Entry × Body) × Place) → or_fault p o ≡ Ok s → o ≡ Ok s
+read_entry p (Ok t) s h = let same : t ≡ s = cc in ap Ok same
+read_entry p (Err e) s h = absurd (let no : ⊥ = cc (h) in no)
 
 -- an entry that is read follows those in front of it
 pub entries_more : (text : List ℕ) (p q : Place) (b c : Body) (xs : List Entry) (x : Entry) → AreEntries body.Closed (start text) p b xs
     → entry_or_fault b p ≡ Ok ((x, c), q) → AreEntries body.Closed (start text) q c (xs ++ x ∷ [])
 unfolding entry_or_fault
-entries_more text p q b c xs x are h = one_more body.Closed (start text) p q b c xs x are (entry_ok b p q x c (found (item.entry_at b p) h))
-  where
-    found : (o : Outcome (Entry × Body)) → or_fault p o ≡ Ok ((x, c), q) → o ≡ Ok ((x, c), q)
-    found (Ok s) h = h
-    found (Err e) h = absurd (let no : ⊥ = cc (h) in no)
+entries_more text p q b c xs x are h =
+    one_more body.Closed (start text) p q b c xs x are (entry_ok b p q x c (read_entry p (item.entry_at b p) ((x, c), q) h))
 
 -- and takes a character
 pub entry_shorter : (p q : Place) (b c : Body) (x : Entry) → entry_or_fault b p ≡ Ok ((x, c), q) → length q.rest < length p.rest
 unfolding entry_or_fault
-entry_shorter p q b c x h = entry_takes b p q x c (entry_ok b p q x c (found (item.entry_at b p) h))
-  where
-    found : (o : Outcome (Entry × Body)) → or_fault p o ≡ Ok ((x, c), q) → o ≡ Ok ((x, c), q)
-    found (Ok s) h = h
-    found (Err e) h = absurd (let no : ⊥ = cc (h) in no)
+entry_shorter p q b c x h = entry_lt b p q x c (read_entry p (item.entry_at b p) ((x, c), q) h)
 
 -- entries up to the end are a tree
 pub entries_end : (text : List ℕ) (p : Place) (b : Body) (xs : List Entry) → AreEntries body.Closed (start text) p b xs → is_end p ≡ true → IsFile text (items_of xs)
@@ -143,3 +145,8 @@ stop_refuses text p b xs (error.Fault f) are goes h = told (item.entry_at b p) r
 pub left_out_refuses : (text : List ℕ) (xs : List AstItem) (n : Name) → IsFile text xs → first_left_out xs ≡ Some n
     → Refuses text (error.Fault (record { kind = Unsupported; line = n.line; column = n.column }))
 left_out_refuses text xs n is first = record { items = xs; name = n; file = is; first = first; line = refl; column = refl }
+
+-- so such a text has no tree without one
+pub only_left_out : (text : List ℕ) (xs : List AstItem) (n : Name) → IsFile text xs → first_left_out xs ≡ Some n → (ys : List AstItem) → IsFile text ys
+    → first_left_out ys ≡ None → error.Fault (record { kind = Unsupported; line = n.line; column = n.column }) ≡ error.NoMemory
+only_left_out text xs n is first ys g none = only_memory text _ (left_out_refuses text xs n is first) ys g none
