@@ -1,7 +1,7 @@
 -- Attributes: what the grammar says is read, so it is one.
-use Rattle.std.proofs.Common.{◌≡◌, ℕ, ◌==◌, Bool, true, false, not, ◌&&◌, if◌then◌else◌, List, [], ◌∷◌, ◌++◌, Option, Some, None, Ok, codes, refl, sym, ap, ◌∙◌}
+use Rattle.std.proofs.Common.{◌≡◌, true, false, List, [], ◌∷◌, ◌++◌, Option, Some, None, Ok, codes, refl, sym, ◌∙◌}
 use Rattle.std.proofs.lemmas.Bool.{false≢true}
-use Rattle.just_read.specs.Place.{Place, AreMany, begins}
+use Rattle.just_read.specs.Place.{Place, begins}
 use Rattle.just_read.specs.Reader.{pure}
 use Rattle.just_read.proofs.Laws.{ok_value, ok_place, many_again}
 use Rattle.just_syntax.specs.declared.ast.Name.{Name}
@@ -11,7 +11,7 @@ use Rattle.just_syntax.specs.declared.form.Form.{Form}
 use Rattle.just_syntax.specs.declared.form.Form.TheVariants.{Bare, MaybeText, Text, Texts, Arg, Cache, Open}
 use Rattle.just_syntax.specs.declared.form.KeyForm.{KeyForm}
 use Rattle.just_syntax.specs.declared.form.KeyForm.TheVariants.{Alone, Either, Value, Number, Unknown}
-use Rattle.just_syntax.specs.Places.{IsToken, IsName}
+use Rattle.just_syntax.specs.Places.{IsToken}
 use Rattle.just_syntax.specs.Forms.{form_of, key_form, has_text}
 use Rattle.just_syntax.specs.Attributes.{is_keyed, takes_text, is_first, behind_first}
 use Rattle.just_syntax.specs.Attributes.{IsPlain, IsKey, IsOption, IsArgument, AreFurther, AreArguments, IsAttribute, IsFurtherAttribute, IsAttributeLine, AreAttributes}
@@ -23,7 +23,6 @@ use Rattle.just_syntax.specs.Attributes.IsAttribute.{bare, behind_colon, grouped
 use Rattle.just_syntax.specs.Attributes.IsAttributeLine.{in_brackets}
 use Rattle.just_syntax.specs.Attributes.AreAttributes.{line_by_line}
 use Rattle.just_syntax.specs.ItemReaders as item
-use Rattle.just_syntax.specs.Readers as reader
 use Rattle.just_syntax.proofs.Texts.{begins_first, begins_other}
 use Rattle.just_syntax.proofs.Marks.{token_again, name_again}
 use Rattle.just_syntax.proofs.LineLaws.{rest_again, trailing_again}
@@ -50,6 +49,7 @@ keyed_again p m q k x (key_sign o i t) v = rw (name_again p o k i, token_again (
 
 -- ---- keys of `arg`
 
+-- `=` and an expression that stand behind a key are read
 valued_again : (form : KeyForm) (k : Name) (o m q : Place) (x : Argument) → has_text form ≡ true → IsToken (codes "=") o m → IsPlain (Some k) m q x
     → item.valued form k o ≡ Ok (x, q)
 valued_again Alone k o m q x h t v = absurd (false≢true h)
@@ -69,6 +69,7 @@ option_again earlier p q x (number m k s digits (key_sign o i t) b f st means d 
 
 -- ---- arguments
 
+-- an expression without a key that stands there is read, where the attribute has one
 text_argument : (form : Form) (earlier : List Argument) (p q : Place) (x : Argument) → takes_text form earlier ≡ true → IsPlain None p q x
     → item.argument_of form earlier p ≡ Ok (x, q)
 text_argument Bare earlier p q x t v = absurd (false≢true t)
@@ -82,6 +83,7 @@ text_argument Arg (y ∷ earlier) p q x t v = absurd (false≢true t)
 text_argument Cache earlier p q x t v = absurd (false≢true t)
 text_argument Open earlier p q x t v = absurd (false≢true t)
 
+-- a key of `arg` that stands behind its first argument is read
 key_argument : (earlier : List Argument) (p q : Place) (x : Argument) → is_first earlier ≡ false → IsOption (behind_first earlier) p q x
     → item.argument_of Arg earlier p ≡ Ok (x, q)
 key_argument [] p q x f o = absurd (false≢true (sym f))

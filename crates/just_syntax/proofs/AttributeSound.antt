@@ -1,13 +1,12 @@
 -- Attributes: what the code reads is what the grammar says.
-use Rattle.std.proofs.Common.{◌≡◌, ℕ, zero, suc, Bool, true, false, not, ◌&&◌, if◌then◌else◌, List, [], ◌∷◌, ◌++◌, length, Option, Some, None, Ok, Err, codes, refl, sym, ap, ◌∙◌, subst, ⊎_elim}
+use Rattle.std.proofs.Common.{◌≡◌, ℕ, zero, suc, Bool, true, false, if◌then◌else◌, List, [], ◌∷◌, ◌++◌, length, Option, Some, None, Ok, Err, codes, refl, sym, ap, ◌∙◌, subst, ⊎_elim}
 use Rattle.std.proofs.lemmas.Bool.{false≢true}
-use Rattle.just_read.specs.Place.{Place, AreMany, starts, begins}
+use Rattle.just_read.specs.Place.{Place, AreMany, begins}
 use Rattle.just_read.specs.Reader.{Reader, and_then, pure, refuse, many}
 use Rattle.just_read.specs.declared.error.ReadError.TheVariants.{Syntax}
 use Rattle.just_read.proofs.Laws.{bind_ok, choose, ok_value, ok_place, many_ok}
 use Rattle.just_syntax.specs.declared.ast.Name.{Name}
 use Rattle.just_syntax.specs.declared.ast.StringLiteral.{StringLiteral}
-use Rattle.just_syntax.specs.declared.ast.Expr.{Expr}
 use Rattle.just_syntax.specs.declared.ast.Expr.TheVariants as e
 use Rattle.just_syntax.specs.declared.ast.Argument.{Argument}
 use Rattle.just_syntax.specs.declared.ast.Attribute.{Attribute}
@@ -15,7 +14,7 @@ use Rattle.just_syntax.specs.declared.form.Form.{Form}
 use Rattle.just_syntax.specs.declared.form.Form.TheVariants.{Bare, MaybeText, Text, Texts, Arg, Cache, Open}
 use Rattle.just_syntax.specs.declared.form.KeyForm.{KeyForm}
 use Rattle.just_syntax.specs.declared.form.KeyForm.TheVariants.{Alone, Either, Value, Number, Unknown}
-use Rattle.just_syntax.specs.Places.{skip, IsToken, IsName, IsRest}
+use Rattle.just_syntax.specs.Places.{skip, IsToken, IsName}
 use Rattle.just_syntax.specs.Strings.{IsString, IsTextOf}
 use Rattle.just_syntax.specs.Exprs.{IsExpr}
 use Rattle.just_syntax.specs.Forms.{form_of, may_be_bare, has_colon, key_form, may_stand_alone, has_text}
@@ -63,6 +62,7 @@ keyed_ok p q x h =
 
 -- ---- arguments of `cache`
 
+-- so does what is read behind a key that `cache` may have
 cached_as_ok : (b : Bool) (earlier : List Argument) (p m q : Place) (k : Name) (x : Argument) → may_cache earlier k.text ≡ b → IsName p m k
     → item.cached_as b k m ≡ Ok (x, q) → IsArgument Cache earlier p q x
 cached_as_ok false earlier p m q k x b i h = absurd (let no : ⊥ = cc (h) in no)
@@ -88,6 +88,7 @@ record IsNumber (k : Name) (p q : Place) (x : Argument) : Type 0 where
   decimal : is_decimal digits ≡ true
   is : x ≡ argument_at (Some k) p (e.Literal s)
 
+-- a text that is a decimal number is what the string means
 decimal_ok : (s : StringLiteral) (o : Option (List ℕ)) → text_of s ≡ o → item.is_some_decimal o ≡ true → (t : List ℕ) × IsTextOf s t × (is_decimal t ≡ true)
 decimal_ok s None m h = absurd (false≢true h)
 decimal_ok s (Some t) m h = (t, text_ok s t m, h)
@@ -106,6 +107,7 @@ number_ok k p q x h =
     (λ (c : _). absurd (let no : ⊥ = cc (c.1) in no))
     (choose (item.is_some_decimal (text_of s)) (Ok (found, m)) (Err Syntax) (Ok (x, q)) k1)
 
+-- what is read behind a key with `=`, by the form of the key, stands there
 valued_ok : (form : KeyForm) (earlier : List Argument) (p m q : Place) (k : Name) (x : Argument) → key_form k.text ≡ form → may_have earlier k.text ≡ true
     → IsName p m k → item.valued form k m ≡ Ok (x, q) → IsOption earlier p q x
 valued_ok Alone earlier p m q k x f b i h = absurd (let no : ⊥ = cc (h) in no)
@@ -117,6 +119,7 @@ valued_ok Number earlier p m q k x f b i h =
     number n k v.s v.digits (key_sign m i (token_ok (codes "=") m u n h1)) b f v.stands v.means v.decimal v.is
 valued_ok Unknown earlier p m q k x f b i h = absurd (let no : ⊥ = cc (h) in no)
 
+-- what is read behind a key that `arg` may have stands there
 option_as_ok : (b : Bool) (earlier : List Argument) (p m q : Place) (k : Name) (x : Argument) → may_have earlier k.text ≡ b → IsName p m k
     → item.option_as b p k m ≡ Ok (x, q) → IsOption earlier p q x
 option_as_ok false earlier p m q k x b i h = absurd (let no : ⊥ = cc (h) in no)
@@ -141,11 +144,13 @@ option_ok earlier p q x h =
 
 -- ---- arguments
 
+-- an argument of a name that isn't known stands there
 open_ok : (earlier : List Argument) (p q : Place) (x : Argument) → (if is_keyed p then item.keyed p else item.plain None p) ≡ Ok (x, q) → IsArgument Open earlier p q x
 open_ok earlier p q x h =
     ⊎_elim (λ (s : _). let (m, k, i, v) = keyed_ok p q x s.1 in any_key m k refl i v) (λ (s : _). any refl s.0 (plain_ok None p q x s.1))
     (choose (is_keyed p) (item.keyed p) (item.plain None p) (Ok (x, q)) h)
 
+-- an argument that is read by the form of the attribute stands there
 argument_of_ok : (form : Form) (earlier : List Argument) (p q : Place) (x : Argument) → item.argument_of form earlier p ≡ Ok (x, q) → IsArgument form earlier p q x
 argument_of_ok Bare earlier p q x h = absurd (let no : ⊥ = cc (h) in no)
 argument_of_ok MaybeText [] p q x h = text refl (plain_ok None p q x h)
@@ -163,6 +168,7 @@ pub argument_ok : (form : Form) (earlier : List Argument) (p q : Place) (x : Arg
 unfolding item.argument
 argument_ok form earlier p q x h = argument_of_ok form earlier p q x h
 
+-- further arguments that one turn reads stand there, if those behind the first do
 further_turn : (form : Form) (others : List Argument → Reader (List Argument))
     → ((earlier : List Argument) (p q : Place) (xs : List Argument) → others earlier p ≡ Ok (xs, q) → AreFurther form earlier p q xs)
     → (earlier : List Argument) (p q : Place) (xs : List Argument) → item.further_step form others earlier p ≡ Ok (xs, q) → AreFurther form earlier p q xs
@@ -180,6 +186,7 @@ further_turn form others are earlier p q xs h =
     (λ (s : _). subst (λ (zs : List Argument). AreFurther form earlier p q zs) (ok_value [] xs p q s.1) (s.0, sym (ok_place [] xs p q s.1)))
     (choose (goes_on p) (and_then (item.further_argument form earlier p) (λ x n. and_then (others (earlier ++ x ∷ []) n) (λ ys. pure (x ∷ ys)))) (Ok ([], p)) (Ok (xs, q)) h)
 
+-- further arguments that so many turns read stand there
 bounded_ok : (form : Form) (bound : ℕ) (earlier : List Argument) (p q : Place) (xs : List Argument) → item.further_in form bound earlier p ≡ Ok (xs, q) → AreFurther form earlier p q xs
 bounded_ok form zero earlier p q xs h = further_turn form (λ e. refuse) (λ e a b ys k. absurd (let no : ⊥ = cc (k) in no)) earlier p q xs h
 bounded_ok form (suc bound) earlier p q xs h = further_turn form (item.further_in form bound) (bounded_ok form bound) earlier p q xs h
@@ -206,6 +213,7 @@ arguments_ok form p q xs h =
 
 -- ---- attributes
 
+-- a string that is read behind a colon stands there
 colon_ok : (n : Name) (p m q : Place) (xs : List Argument) → IsName p m n → item.colon_argument (form_of n.text) m ≡ Ok (xs, q) → IsAttribute p q (attribute_of n true xs)
 colon_ok n p m q xs i h =
     ⊎_elim
@@ -219,6 +227,7 @@ colon_ok n p m q xs i h =
     (choose (has_colon (form_of n.text)) (and_then (reader.token (codes ":") m) (λ _ o. and_then (reader.string o) (λ t. pure (argument_at None o (e.Literal t) ∷ []))))
     (Err Syntax) (Ok (xs, q)) h)
 
+-- what is read behind the name of an attribute stands there
 attribute_as_ok : (n : Name) (p m q : Place) (x : Attribute) → IsName p m n → item.attribute_as n m ≡ Ok (x, q) → IsAttribute p q x
 attribute_as_ok n p m q x i h =
     ⊎_elim

@@ -5,6 +5,7 @@ use Rattle.just_read.specs.Place.{Place, next, run, first, starts, sees}
 use Rattle.just_read.proofs.Laws.{starts_with, starts_at, run_next, run_none, sees_first}
 use Rattle.just_syntax.specs.Characters.{is_blank}
 
+-- a blank that is no space is a tab
 tab_of : (c : ℕ) → is_blank c ≡ true → (c == 32) ≡ false → c ≡ 9
 tab_of c h n = grind (arith)
 
@@ -21,5 +22,6 @@ tab_more p found h s =
     let g : first p ≡ Some 9 = f ∙ ap (λ (d : ℕ). Some d) k in
     rw (run_next is_blank p 9 g h) (append_assoc found (9 ∷ []) (run is_blank (next p).rest))
 
+-- where no blank stands, all of the run is found
 pub blanks_done : (p : Place) (found : List ℕ) → starts is_blank p ≡ false → found ++ run is_blank p.rest ≡ found
 blanks_done p found h = rw (run_none is_blank p h) (append-nil found)

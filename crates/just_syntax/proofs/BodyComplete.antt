@@ -35,7 +35,7 @@ letter_is p q x (itself c i b f e z) = i
 pub text_again : (p q : Place) (letters : List (List ℕ)) → AreMany IsLetter p q letters → is_text q ≡ false → item.text p ≡ Ok (encode_utf8_all (concat letters), q)
 unfolding item.text
 text_again p q letters are done =
-    rw (many_again is_text item.letter (λ a b x m o. letter_lt a b x o) IsLetter (λ a b x i. (letter_is a b x i, letter_again a b x i)) p q letters are done) refl
+    rw (many_again is_text item.letter letter_lt IsLetter (λ a b x i. (letter_is a b x i, letter_again a b x i)) p q letters are done) refl
 
 -- where an interpolation opens no line ends
 pub opens_goes_on : (p : Place) → opens p ≡ true → item.line_goes_on p ≡ true

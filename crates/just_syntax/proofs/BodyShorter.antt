@@ -13,27 +13,10 @@ use Rattle.just_syntax.specs.Bodies.IsBodyLine.{line}
 use Rattle.just_syntax.specs.ItemReaders as item
 use Rattle.just_syntax.proofs.Texts.{and_true, behind_shorter, behind_le}
 use Rattle.just_syntax.proofs.Beginnings.{not_true}
-use Rattle.just_syntax.proofs.PathLoop.{many_le}
-use Rattle.just_syntax.proofs.Shorter.{fragment_lt}
-use Rattle.just_syntax.proofs.Loops.{fragments_shorter}
-use Rattle.just_syntax.proofs.LineLaws.{newline_again}
-use Rattle.just_syntax.proofs.AttributeShorter.{newline_le}
+use Rattle.just_syntax.proofs.LineLaws.{behind_newline}
+use Rattle.just_syntax.proofs.PathLoop.{are_le}
+use Rattle.just_syntax.proofs.Shorter.{behind_fragment}
 use Rattle.just_syntax.proofs.BodySound.{body_line_ok}
-use Rattle.just_syntax.proofs.BodyComplete.{fragment_begins, fragment_again}
-
--- the fragments up to a line's end take nothing back
-pub fragments_le : (p q : Place) (xs : List Fragment) → item.fragments p ≡ Ok (xs, q) → length q.rest ≤ length p.rest
-unfolding item.fragments
-fragments_le p q xs h = many_le item.line_goes_on item.fragment_at fragments_shorter p q xs h
-
--- behind a fragment less is left
-behind_fragment : (p q : Place) (x : Fragment) → IsFragment p q x → length q.rest < length p.rest
-behind_fragment p q x i = fragment_lt p q x (fragment_begins p q x i) (fragment_again p q x i)
-
--- behind fragments no more is left
-behind_fragments : (p q : Place) (xs : List Fragment) → AreMany IsFragment p q xs → length q.rest ≤ length p.rest
-behind_fragments p q [] e = rw e (omega arith)
-behind_fragments p q (x ∷ xs) (m, i, are) = omega (arith, behind_fragment p m x i, behind_fragments m q xs are)
 
 -- an empty text has no first character
 no_first : (rest : List ℕ) → is_empty rest ≡ true → first_in rest ≡ None
@@ -57,15 +40,15 @@ line_takes [] p m q [] i e n = newline_takes p q (not_true (ends_line (skip p)) 
 line_takes (c ∷ indentation) p m q [] i e n =
     let b = (and_true (begins (c ∷ indentation) p) (not (ends_line (skip p))) i).0 in
     let k : length m.rest ≡ length (behind_text (c ∷ indentation) p).rest = ap (λ (l : Place). length l.rest) e in
-    omega (arith, behind_shorter c indentation p b, newline_le m q tt (newline_again m q n), k)
+    omega (arith, behind_shorter c indentation p b, behind_newline m q n, k)
 line_takes indentation p m q (f ∷ fs) i (o, a, are) n =
-    omega (arith, behind_le indentation p, behind_fragment (behind_text indentation p) o f a, behind_fragments o m fs are, newline_le m q tt (newline_again m q n))
+    omega (arith, behind_le indentation p, behind_fragment (behind_text indentation p) o f a, are_le IsFragment behind_fragment o m fs are, behind_newline m q n)
 
 -- behind a body line less is left
-behind_line : (indentation : List ℕ) (p q : Place) (x : Line) → IsBodyLine indentation p q x → length q.rest < length p.rest
-behind_line indentation p q x (line m fs i are e n z) = line_takes indentation p m q fs i are n
+pub behind_body_line : (indentation : List ℕ) (p q : Place) (x : Line) → IsBodyLine indentation p q x → length q.rest < length p.rest
+behind_body_line indentation p q x (line m fs i are e n z) = line_takes indentation p m q fs i are n
 
 -- a body line takes a character
 pub body_line_lt : (indentation : List ℕ) (p q : Place) (x : Line) → is_body_line indentation p ≡ true → item.body_line indentation p ≡ Ok (x, q)
     → length q.rest < length p.rest
-body_line_lt indentation p q x i h = behind_line indentation p q x (body_line_ok indentation p q x i h)
+body_line_lt indentation p q x i h = behind_body_line indentation p q x (body_line_ok indentation p q x i h)

@@ -18,21 +18,25 @@ pub record Counts (p q : Place) (number k : ℕ) : Type 0 where
   pub few : k ≤ 6
   pub small : number ≤ 1114111
 
+-- a digit in front multiplies the number by 16 and adds its value
 number_more : (n d : ℕ) (q : Place) → starts is_hex q ≡ true → ((c : ℕ) → first q ≡ Some c → d ≡ digit_value c)
     → number_from (n * 16 + d) (run is_hex (next q).rest) ≡ number_from n (run is_hex q.rest)
 number_more n d q h k =
     let (c, f, t) = starts_with is_hex q h in
     ap (λ (v : ℕ). number_from (n * 16 + v) (run is_hex (next q).rest)) (k c f) ∙ sym (ap (number_from n) (run_next is_hex q c f h))
 
+-- a digit that stands here is one of the run
 not_end_of_length : (q : Place) → starts is_hex q ≡ true → length (run is_hex q.rest) ≡ length (run is_hex (next q).rest) + 1
 not_end_of_length q h =
     let (c, f, t) = starts_with is_hex q h in
     let e : length (run is_hex q.rest) ≡ length (c ∷ run is_hex (next q).rest) = ap length (run_next is_hex q c f h) in
     omega arith
 
+-- before the first digit none is counted
 pub counts_begin : (p : Place) → Counts p p 0 0
 counts_begin p = record { place = refl; value = refl; count = omega arith; few = omega arith; small = omega arith }
 
+-- a digit more is one more that is counted
 pub counts_more : (p q : Place) (n k d : ℕ) → Counts p q n k → starts is_hex q ≡ true → ((c : ℕ) → first q ≡ Some c → d ≡ digit_value c)
     → k + 1 ≤ 6 → n * 16 + d ≤ 1114111 → Counts p (next q) (n * 16 + d) (k + 1)
 counts_more p q n k d c h v few small = record {
@@ -43,22 +47,28 @@ counts_more p q n k d c h v few small = record {
   small = small;
 }
 
+-- the test of at most, where it holds
 le_true : (a b : ℕ) → a ≤ b → nat_le a b ≡ true
 le_true a b h = grind (arith)
 
+-- the test of at most, where it doesn't hold
 le_false : (a b : ℕ) → b < a → nat_le a b ≡ false
 le_false a b h = grind (arith)
 
+-- a run that isn't empty has a digit in front
 some_run : (p : Place) → 0 < length (run is_hex p.rest) → starts is_hex p ≡ true
 some_run p h = some_if (starts is_hex p) p refl h
   where
+    -- the same by what the test says
     some_if : (b : Bool) (p : Place) → starts is_hex p ≡ b → 0 < length (run is_hex p.rest) → b ≡ true
     some_if true p e h = refl
     some_if false p e h = let k : length (run is_hex p.rest) ≡ 0 = ap length (run_none is_hex p e) in absurd (omega arith)
 
+-- an empty run has no digit in front
 no_run : (p : Place) → length (run is_hex p.rest) ≡ 0 → starts is_hex p ≡ false
 no_run p h = no_if (starts is_hex p) p refl h
   where
+    -- the same by what the test says
     no_if : (b : Bool) (p : Place) → starts is_hex p ≡ b → length (run is_hex p.rest) ≡ 0 → b ≡ false
     no_if false p e h = refl
     no_if true p e h = absurd (omega (arith, not_end_of_length p e))
@@ -75,6 +85,7 @@ number_done p q n k c h some is =
     let end : past is_hex p ≡ q = sym c.place ∙ past_stays is_hex q h in
     rw (begins, few, value, is, end) refl
 
+-- three tests of which the last fails
 refused : (b c d : Bool) → c ≡ false → (b && (d && c)) ≡ false
 refused false c d e = refl
 refused true c false e = refl
@@ -88,6 +99,7 @@ number_odd p q n k c h odd =
     let no : scalar (number_from 0 (run is_hex p.rest)) ≡ false = rw value (not_true (scalar n) odd) in
     rw (refused (starts is_hex p) (scalar (number_from 0 (run is_hex p.rest))) (nat_le (length (run is_hex p.rest)) 6) no) refl
   where
+    -- what isn't true is false
     not_true : (b : Bool) → (b ≡ true → ⊥) → b ≡ false
     not_true true n = absurd (n refl)
     not_true false n = refl
@@ -107,10 +119,12 @@ number_long p q n k c h e =
     let no : nat_le (length (run is_hex p.rest)) 6 ≡ false = le_false (length (run is_hex p.rest)) 6 (omega (arith, c.count, not_end_of_length q h)) in
     rw (no, second (starts is_hex p)) refl
   where
+    -- nothing and a falsehood hold together
     second : (b : Bool) → (b && false) ≡ false
     second true = refl
     second false = refl
 
+-- further digits make no number smaller
 from_le : (n : ℕ) (digits : List ℕ) → n ≤ number_from n digits
 from_le n [] = omega arith
 from_le n (c ∷ digits) = omega (arith, from_le (n * 16 + digit_value c) digits)
@@ -124,5 +138,6 @@ number_big p q n k d c h v e =
     let big : 1114111 < number_from 0 (run is_hex p.rest) = omega (arith, from_le (n * 16 + d) (run is_hex (next q).rest), value) in
     rw (refused (starts is_hex p) (scalar (number_from 0 (run is_hex p.rest))) (nat_le (length (run is_hex p.rest)) 6) (above (number_from 0 (run is_hex p.rest)) big)) refl
   where
+    -- no character has a number above the last one
     above : (n : ℕ) → 1114111 < n → scalar n ≡ false
     above n h = grind (arith)

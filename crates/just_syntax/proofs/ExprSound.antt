@@ -20,6 +20,7 @@ use Rattle.just_syntax.specs.Readers as reader
 use Rattle.just_syntax.proofs.Marks.{token_ok, word_ok, name_ok}
 use Rattle.just_syntax.proofs.StringLaws.{string_ok}
 
+-- a comparison that is read stands there
 pub comparison_ok : (p q : Place) (x : Comparison) → reader.comparison p ≡ Ok (x, q) → IsComparison p q x
 unfolding reader.comparison
 comparison_ok p q x h =
@@ -33,6 +34,7 @@ comparison_ok p q x h =
     (choose (begins (codes "==") p) (and_then (reader.token (codes "==") p) (λ _. pure Equal)) (and_then (reader.token (codes "!=") p) (λ _. pure Unequal)) (Ok (x, q)) h)
 
 module _ (inner : Reader Expr) (Inner : Rule Expr) (reads : (p q : Place) (x : Expr) → inner p ≡ Ok (x, q) → Inner p q x) where
+  -- an expression in parentheses that is read stands there
   group_ok : (p q : Place) (x : Expr) → reader.group inner p ≡ Ok (x, q) → IsValue Inner p q x
   unfolding reader.group
   group_ok p q x h =
@@ -42,6 +44,7 @@ module _ (inner : Reader Expr) (Inner : Rule Expr) (reads : (p q : Place) (x : E
       group m n y (token_ok (codes "(") p u m h1) (reads m n y h2)
       (subst (λ (r : Place). IsToken (codes ")") n r) (ok_place (e.Group y) x o q k3) (token_ok (codes ")") n v o h3)) (sym (ok_value (e.Group y) x o q k3))
 
+  -- a second argument of `env` that is read stands there
   default_ok : (p q : Place) (x : Option Expr) → reader.default inner p ≡ Ok (x, q) → IsDefault Inner p q x
   unfolding reader.default
   default_ok p q x h =
@@ -54,6 +57,7 @@ module _ (inner : Reader Expr) (Inner : Rule Expr) (reads : (p q : Place) (x : E
       (λ (s : _). subst (λ (z : Option Expr). IsDefault Inner p q z) (ok_value None x p q s.1) (s.0, sym (ok_place None x p q s.1)))
       (choose (begins (codes ",") p) (and_then (reader.token (codes ",") p) (λ _ m. and_then (inner m) (λ y. pure (Some y)))) (Ok (None, p)) (Ok (x, q)) h)
 
+  -- a call of `env` that is read stands there
   env_ok : (p q : Place) (x : Expr) → reader.env inner p ≡ Ok (x, q) → IsValue Inner p q x
   unfolding reader.env
   env_ok p q x h =
@@ -66,6 +70,7 @@ module _ (inner : Reader Expr) (Inner : Rule Expr) (reads : (p q : Place) (x : E
       (subst (λ (l : Place). IsToken (codes ")") r l) (ok_place (e.Env p.line p.column key d) x s q k5) (token_ok (codes ")") r w s h5))
       (sym (ok_value (e.Env p.line p.column key d) x s q k5))
 
+  -- a value that is read stands there
   pub value_ok : (p q : Place) (x : Expr) → reader.value inner p ≡ Ok (x, q) → IsValue Inner p q x
   unfolding reader.value
   value_ok p q x h =
@@ -86,6 +91,7 @@ module _ (inner : Reader Expr) (Inner : Rule Expr) (reads : (p q : Place) (x : E
       (choose (begins_string p) (and_then (reader.string p) (λ t. pure (e.Literal t)))
       (if begins (codes "(") p then reader.group inner p else (if is_call p then reader.env inner p else and_then (reader.name p) (λ n. pure (e.Variable n)))) (Ok (x, q)) h)
 
+  -- a block that is read stands there
   pub block_ok : (p q : Place) (x : Expr) → reader.block inner p ≡ Ok (x, q) → IsBlock Inner p q x
   unfolding reader.block
   block_ok p q x h =
@@ -95,6 +101,7 @@ module _ (inner : Reader Expr) (Inner : Rule Expr) (reads : (p q : Place) (x : E
       let t : IsToken (codes "}") n q = subst (λ (r : Place). IsToken (codes "}") n r) (ok_place y x o q k3) (token_ok (codes "}") n v o h3) in
       block m n (token_ok (codes "{") p u m h1) (subst (λ (z : Expr). Inner m n z) (ok_value y x o q k3) (reads m n y h2)) t
 
+  -- what is read behind `else` stands there
   otherwise_ok : (p q : Place) (x : Bool × Expr) → reader.otherwise inner p ≡ Ok (x, q) → IsOtherwise Inner p q x.0 x.1
   unfolding reader.otherwise
   otherwise_ok p q x h =
@@ -120,6 +127,7 @@ module _ (inner : Reader Expr) (Inner : Rule Expr) (reads : (p q : Place) (x : E
     pub sign : IsComparison m n x.1
     pub right : Inner n q x.2
 
+  -- the two sides of a condition that are read stand there
   pub condition_ok : (p q : Place) (x : Expr × Comparison × Expr) → reader.condition inner p ≡ Ok (x, q) → Sides p q x
   unfolding reader.condition
   condition_ok p q x h =
@@ -129,6 +137,7 @@ module _ (inner : Reader Expr) (Inner : Rule Expr) (reads : (p q : Place) (x : E
       subst (λ (z : Expr × Comparison × Expr). Sides p q z) (ok_value (a, c, b) x o q k3)
       (record { m = m; n = n; left = reads p m a h1; sign = comparison_ok m n c h2; right = subst (λ (r : Place). Inner n r b) (ok_place (a, c, b) x o q k3) (reads n o b h3) })
 
+  -- a conditional that is read stands there
   conditional_ok : (p q : Place) (x : Expr) → begins_condition p ≡ true → reader.conditional inner p ≡ Ok (x, q) → IsLevel Inner p q x
   unfolding reader.conditional
   conditional_ok p q x b h =
@@ -143,6 +152,7 @@ module _ (inner : Reader Expr) (Inner : Rule Expr) (reads : (p q : Place) (x : E
       (word_ok (codes "else") s v t h4) (subst (λ (w : Place). IsOtherwise Inner t w o.0 o.1) end (otherwise_ok t l o h5))
       (sym (ok_value (e.If c.0 c.1 c.2 y o.0 o.1) x l q k5))
 
+  -- a slash and an expression that are read stand there
   root_ok : (p q : Place) (x : Expr) → reader.root inner p ≡ Ok (x, q) → IsLevel Inner p q x
   unfolding reader.root
   root_ok p q x h =
@@ -150,6 +160,7 @@ module _ (inner : Reader Expr) (Inner : Rule Expr) (reads : (p q : Place) (x : E
       let (y, n, h2, k2) = bind_ok (inner m) _ x q k1 in
       root m y (token_ok (codes "/") p u m h1) (subst (λ (r : Place). Inner m r y) (ok_place (e.Root y) x n q k2) (reads m n y h2)) (sym (ok_value (e.Root y) x n q k2))
 
+  -- what is read behind a first value stands there
   tail_ok : (p m q : Place) (a x : Expr) → begins_condition p ≡ false → IsValue Inner p m a → reader.tail inner a m ≡ Ok (x, q) → IsLevel Inner p q x
   unfolding reader.tail
   tail_ok p m q a x c v h =
@@ -173,6 +184,7 @@ module _ (inner : Reader Expr) (Inner : Rule Expr) (reads : (p q : Place) (x : E
       (choose (begins (codes "/") m) (and_then (reader.token (codes "/") m) (λ _ n. and_then (inner n) (λ b. pure (e.Join a b))))
       (if begins (codes "+") m then and_then (reader.token (codes "+") m) (λ _ n. and_then (inner n) (λ b. pure (e.Concat a b))) else Ok (a, m)) (Ok (x, q)) h)
 
+  -- an expression that is read stands there, if those inside it do
   pub level_ok : (p q : Place) (x : Expr) → reader.level inner p ≡ Ok (x, q) → IsLevel Inner p q x
   unfolding reader.level
   level_ok p q x h =
@@ -185,6 +197,7 @@ module _ (inner : Reader Expr) (Inner : Rule Expr) (reads : (p q : Place) (x : E
       (choose (begins (codes "/") p) (reader.root inner p) (and_then (reader.value inner p) (reader.tail inner)) (Ok (x, q)) s.1))
       (choose (begins_condition p) (reader.conditional inner p) (if begins (codes "/") p then reader.root inner p else and_then (reader.value inner p) (reader.tail inner)) (Ok (x, q)) h)
 
+-- an expression that is read inside another one stands there
 pub inner_ok : (left : ℕ) (p q : Place) (x : Expr) → reader.inner left p ≡ Ok (x, q) → IsInner left p q x
 unfolding reader.inner IsInner
 inner_ok zero p q x h = absurd (let no : ⊥ = cc (h) in no)

@@ -1,16 +1,16 @@
 -- Marks that may stand, paths, the ends of lines and comments: what the code reads is what the grammar says. Those of marks,
 -- words and names are in Marks.
-use Rattle.std.proofs.Common.{◌≡◌, ℕ, ◌<◌, ◌≤◌, ◌==◌, Bool, true, false, not, ◌&&◌, ◌||◌, if◌then◌else◌, List, [], ◌∷◌, length, Option, Some, None, Ok, Err, codes, encode_utf8_all, refl, sym, ap, ◌∙◌, subst, ⊎_elim, arith}
+use Rattle.std.proofs.Common.{◌≡◌, ℕ, ◌<◌, ◌≤◌, ◌==◌, Bool, true, false, not, if◌then◌else◌, List, [], ◌∷◌, length, Option, Some, None, Ok, Err, codes, encode_utf8_all, refl, sym, ap, ◌∙◌, subst, ⊎_elim, arith}
 use Rattle.std.proofs.lemmas.Bool.{false≢true}
 use Rattle.just_read.specs.Place.{Place, AreMany, next, past, run, starts, sees, begins, behind_text, is_end}
-use Rattle.just_read.specs.Reader.{Reader, and_then, pure, many}
+use Rattle.just_read.specs.Reader.{and_then, pure, many}
 use Rattle.just_read.specs.declared.error.ReadError.TheVariants.{Syntax}
 use Rattle.just_read.proofs.Laws.{bind_ok, choose, ok_value, ok_place}
 use Rattle.just_read.proofs.Laws.{many_ok, many_again}
-use Rattle.just_read.proofs.Laws.{past_le, character_shorter, starts_seen, length_at_end, length_before_end, not_end_where_starts}
+use Rattle.just_read.proofs.Laws.{past_le, character_shorter, starts_seen, past_next, next_shorter, length_at_end, length_before_end, not_end_where_starts}
 use Rattle.just_syntax.specs.declared.ast.Name.{Name}
 use Rattle.just_syntax.specs.Characters.{is_blank, in_line}
-use Rattle.just_syntax.specs.Places.{skip, crlf, ends_line, is_blank_line, is_rest, without_returns, IsToken, IsName, IsFurtherName, IsPath, IsNewline, IsBlankLine, IsComment, IsRest}
+use Rattle.just_syntax.specs.Places.{skip, crlf, ends_line, is_blank_line, is_rest, without_returns, IsToken, IsFurtherName, IsPath, IsNewline, IsBlankLine, IsComment, IsRest}
 use Rattle.just_syntax.specs.Places.IsPath.{names}
 use Rattle.just_syntax.specs.Places.IsNewline.{last, feed, return_feed}
 use Rattle.just_syntax.specs.Places.IsRest.{ended, commented}
@@ -20,9 +20,11 @@ use Rattle.just_syntax.specs.Attributes.{IsTrailing}
 use Rattle.just_syntax.specs.Attributes.IsTrailing.{comma, nothing}
 use Rattle.just_syntax.specs.ItemReaders as item
 use Rattle.just_syntax.specs.Readers as reader
-use Rattle.just_syntax.proofs.Texts.{and_true, begins_starts, behind_shorter}
+use Rattle.just_syntax.proofs.Texts.{and_true, begins_starts, behind_shorter, behind_le}
+use Rattle.just_syntax.proofs.Beginnings.{not_true}
 use Rattle.just_syntax.proofs.Marks.{token_ok, token_again, token_lt, name_ok, name_again}
-use Rattle.just_syntax.proofs.PathLoop.{shorter}
+use Rattle.just_syntax.proofs.ExprShorter.{name_lt}
+use Rattle.just_syntax.proofs.PathLoop.{shorter, are_le}
 
 -- ---- marks that may stand
 
@@ -114,10 +116,6 @@ newline_again p q (last e z) = rw (e, z) refl
 newline_again p q (feed s) = rw (not_end_where_starts (λ d. d == 10) p s.0, s.0, s.1) refl
 newline_again p q (return_feed b z) = rw (return_no_end p b, begins_starts (λ d. d == 10) 13 (10 ∷ []) p b, b, z) refl
 
-or_false : (a : Bool) → (a || false) ≡ a
-or_false true = refl
-or_false false = refl
-
 -- where a line's end stands, a line ends
 pub newline_ends : (p q : Place) → IsNewline p q → ends_line p ≡ true
 newline_ends p q (last e z) = rw e refl
@@ -129,13 +127,13 @@ end_sees : (c : ℕ) (p : Place) (b : Bool) → sees c p ≡ b → is_end p ≡ 
 end_sees c p true s e = absurd (false≢true (sym (not_end_where_starts (λ d. d == c) p s) ∙ e))
 end_sees c p false s e = refl
 
--- and no comment stands there
+-- where a line's end stands, no comment does
 pub newline_no_comment : (p q : Place) → IsNewline p q → sees 35 p ≡ false
 newline_no_comment p q (last e z) = end_sees 35 p (sees 35 p) refl e
 newline_no_comment p q (feed s) = starts_seen (λ d. d == 35) 10 p s.0
 newline_no_comment p q (return_feed b z) = begins_starts (λ d. d == 35) 13 (10 ∷ []) p b
 
--- the end of a line takes a character where the text doesn't end
+-- behind the end of a line less is left where the text doesn't end
 pub newline_lt : (p q : Place) → IsNewline p q → is_end p ≡ false → length q.rest < length p.rest
 newline_lt p q (last e z) n = absurd (false≢true (sym n ∙ e))
 newline_lt p q (feed s) n = character_shorter 10 p q s
@@ -143,27 +141,24 @@ newline_lt p q (return_feed b z) n = rw z (behind_shorter 13 (10 ∷ []) p b)
 
 -- ---- lines with nothing but blanks
 
-not_true : (b : Bool) → not b ≡ true → b ≡ false
-not_true true h = absurd (false≢true h)
-not_true false h = refl
-
 -- a line with nothing but blanks that is read stands there
 pub blank_line_ok : (p q : Place) (u : Unit {0}) → is_blank_line p ≡ true → reader.blank_line p ≡ Ok (u, q) → IsBlankLine p q
 unfolding reader.blank_line
 blank_line_ok p q u b h = (not_true (is_end p) (and_true (not (is_end p)) (ends_line (skip p)) b).0, newline_ok (skip p) q u h)
 
--- and one that stands there is read
+-- a line with nothing but blanks that stands there is read
 pub blank_line_again : (p q : Place) → IsBlankLine p q → (is_blank_line p ≡ true) × (reader.blank_line p ≡ Ok (tt, q))
 unfolding reader.blank_line
 blank_line_again p q (n, i) = (rw (n, newline_ends (skip p) q i) refl, newline_again (skip p) q i)
 
+-- behind the end of a line of blanks less is left
 skipped_lt : (p q : Place) (b : Bool) → is_end (skip p) ≡ b → is_end p ≡ false → IsNewline (skip p) q → length q.rest < length p.rest
 skipped_lt p q false e n i = omega (arith, past_le is_blank p, newline_lt (skip p) q i e)
 skipped_lt p q true e n (last f z) = rw z (omega (arith, length_at_end (skip p) e, length_before_end p n))
 skipped_lt p q true e n (feed s) = absurd (false≢true (sym (not_end_where_starts (λ d. d == 10) (skip p) s.0) ∙ e))
 skipped_lt p q true e n (return_feed b z) = absurd (false≢true (sym (return_no_end (skip p) b) ∙ e))
 
--- a line with nothing but blanks takes a character
+-- behind a line with nothing but blanks less is left
 pub blank_line_lt : (p q : Place) → IsBlankLine p q → length q.rest < length p.rest
 blank_line_lt p q (n, i) = skipped_lt p q (is_end (skip p)) refl n i
 
@@ -205,3 +200,41 @@ rest_again p q x (commented t i z) = rw (i.0, comment_again p q t i, z) refl
 pub rest_begins : (p q : Place) (x : Option (List ℕ)) → IsRest p q x → is_rest p ≡ true
 rest_begins p q x (ended i z) = rw (newline_no_comment p q i) (newline_ends p q i)
 rest_begins p q x (commented t i z) = rw (i.0) refl
+
+-- ---- what is left
+
+-- behind a mark that may stand no more is left
+pub behind_maybe : (mark : List ℕ) (p q : Place) (b : Bool) → IsMaybe mark p q b → length q.rest ≤ length p.rest
+behind_maybe mark p q b (here t z) = rw (t.1) (omega (arith, past_le is_blank (behind_text mark p), behind_le mark p))
+behind_maybe mark p q b (not_here n e z) = rw e (omega arith)
+
+-- nor behind a comma that may stand
+pub behind_trailing : (p q : Place) → IsTrailing p q → length q.rest ≤ length p.rest
+behind_trailing p q (comma t) = omega (arith, token_lt 44 [] p q t)
+behind_trailing p q (nothing n e) = rw e (omega arith)
+
+-- behind `::` and a name less is left
+behind_further_name : (p q : Place) (x : Name) → IsFurtherName p q x → length q.rest < length p.rest
+behind_further_name p q x (m, t, i) = omega (arith, token_lt 58 (58 ∷ []) p m t, name_lt m q x i)
+
+-- behind a path less is left
+pub behind_path : (p q : Place) (xs : List Name) → IsPath p q xs → length q.rest < length p.rest
+behind_path p q xs (names m n ys i are done z) = omega (arith, name_lt p m n i, are_le IsFurtherName behind_further_name m q ys are)
+
+-- behind the end of a line no more is left
+pub behind_newline : (p q : Place) → IsNewline p q → length q.rest ≤ length p.rest
+behind_newline p q (last e z) = rw z (omega arith)
+behind_newline p q (feed s) = omega (arith, character_shorter 10 p q s)
+behind_newline p q (return_feed b z) = rw z (behind_le crlf p)
+
+-- behind a comment less is left
+pub behind_comment : (p q : Place) (x : List ℕ) → IsComment p q x → length q.rest < length p.rest
+behind_comment p q x (s, z, i) =
+    let h : starts in_line p ≡ true = starts_seen in_line 35 p s in
+    let k : past in_line p ≡ past in_line (next p) = sym (past_next in_line p h) in
+    omega (arith, behind_newline (past in_line p) q i, past_le in_line (next p), next_shorter in_line p h, ap (λ (r : Place). length r.rest) k)
+
+-- behind what may stand behind an item no more is left
+pub behind_rest : (p q : Place) (x : Option (List ℕ)) → IsRest p q x → length q.rest ≤ length p.rest
+behind_rest p q x (ended i z) = behind_newline p q i
+behind_rest p q x (commented t i z) = omega (arith, behind_comment p q t i)

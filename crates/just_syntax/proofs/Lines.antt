@@ -12,6 +12,7 @@ stays : (c : ℕ) (text : List ℕ) (d : ℕ) (rest : List ℕ) → text ++ d �
 stays c [] d rest e = rw (sym e) refl
 stays c (x ∷ text) d rest e = rw (sym e) refl
 
+-- a text that ends in any other character keeps them all
 pub returns_none : (text : List ℕ) (d : ℕ) → (d ≡ 13 → ⊥) → without_returns (text ++ d ∷ []) ≡ text ++ d ∷ []
 returns_none [] d n = let k : (d == 13) ≡ false = grind (arith) in rw k refl
 returns_none (c ∷ text) d n = ap (put c) (returns_none text d n) ∙ stays c text d (text ++ d ∷ []) refl

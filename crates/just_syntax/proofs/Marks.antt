@@ -10,6 +10,7 @@ use Rattle.just_syntax.specs.Places.{skip, is_word, behind_word, name_at, IsToke
 use Rattle.just_syntax.specs.Readers as reader
 use Rattle.just_syntax.proofs.Texts.{and_true, behind_le, behind_shorter}
 
+-- a mark that is read stands there
 pub token_ok : (mark : List ℕ) (p : Place) (u : Unit {0}) (q : Place) → reader.token mark p ≡ Ok (u, q) → IsToken mark p q
 unfolding reader.token
 token_ok mark p u q h =
@@ -17,6 +18,7 @@ token_ok mark p u q h =
     (λ (s : _). absurd (let no : ⊥ = cc (s.1) in no))
     (choose (begins mark p) (Ok (tt, skip (behind_text mark p))) (Err Syntax) (Ok (u, q)) h)
 
+-- a mark that stands there is read
 pub token_again : (mark : List ℕ) (p q : Place) → IsToken mark p q → reader.token mark p ≡ Ok (tt, q)
 unfolding reader.token
 token_again mark p q s = rw (s.0, s.1) refl
@@ -25,6 +27,7 @@ token_again mark p q s = rw (s.0, s.1) refl
 pub token_lt : (c : ℕ) (mark : List ℕ) (p q : Place) → IsToken (c ∷ mark) p q → length q.rest < length p.rest
 token_lt c mark p q s = rw (s.1) (omega (arith, past_le is_blank (behind_text (c ∷ mark) p), behind_shorter c mark p s.0))
 
+-- a word that is read stands there
 pub word_ok : (text : List ℕ) (p : Place) (u : Unit {0}) (q : Place) → reader.word text p ≡ Ok (u, q) → IsWord text p q
 unfolding reader.word
 word_ok text p u q h =
@@ -32,6 +35,7 @@ word_ok text p u q h =
     (λ (s : _). absurd (let no : ⊥ = cc (s.1) in no))
     (choose (is_word text p) (Ok (tt, skip (behind_text text p))) (Err Syntax) (Ok (u, q)) h)
 
+-- a word that stands there is read
 pub word_again : (text : List ℕ) (p q : Place) → IsWord text p q → reader.word text p ≡ Ok (tt, q)
 unfolding reader.word
 word_again text p q s = rw (s.0, s.1) refl
@@ -41,6 +45,7 @@ pub word_lt : (c : ℕ) (text : List ℕ) (p q : Place) → IsWord (c ∷ text) 
 word_lt c text p q s =
     token_lt c text p q ((and_true (begins (c ∷ text) p) (not (starts in_name (behind_text (c ∷ text) p))) s.0).0, s.1)
 
+-- a name that is read stands there
 pub name_ok : (p : Place) (x : Name) (q : Place) → reader.name p ≡ Ok (x, q) → IsName p q x
 unfolding reader.name
 name_ok p x q h =
@@ -48,6 +53,7 @@ name_ok p x q h =
     (λ (s : _). absurd (let no : ⊥ = cc (s.1) in no))
     (choose (starts begins_name p) (Ok (name_at p, behind_word p)) (Err Syntax) (Ok (x, q)) h)
 
+-- a name that stands there is read
 pub name_again : (p q : Place) (x : Name) → IsName p q x → reader.name p ≡ Ok (x, q)
 unfolding reader.name
 name_again p q x (b, e, z) = rw (b, e, z) refl

@@ -23,7 +23,8 @@ first_lt p c f = next_shorter (λ d. d == c) p (starts_at (λ d. d == c) p c f �
 pub text_lt : (c : ℕ) (text : List ℕ) (p : Place) → begins (c ∷ text) p ≡ true → length (behind_text (c ∷ text) p).rest < length p.rest
 text_lt c text p h = behind_shorter c text p h
 
-are_le : {A : Type 0} (Is : Rule A) (less : (p q : Place) (x : A) → Is p q x → length q.rest < length p.rest) (p q : Place) (xs : List A)
+-- behind a chain no more is left, if each of its links takes a character
+pub are_le : {A : Type 0} (Is : Rule A) (less : (p q : Place) (x : A) → Is p q x → length q.rest < length p.rest) (p q : Place) (xs : List A)
     → AreMany Is p q xs → length q.rest ≤ length p.rest
 are_le Is less p q [] e = rw e (omega arith)
 are_le Is less p q (x ∷ xs) (m, i, are) = omega (arith, less p m x i, are_le Is less m q xs are)
@@ -36,6 +37,7 @@ many_le {A} more one shorter p q xs h =
     let (are, done) = many_ok more one Is (λ a b x m o. (m, o)) p q xs h in
     are_le Is (λ a b x i. shorter a b x i.0 i.1) p q xs are
 
+-- a loop whose first turn begins takes a character
 turned : {A : Type 0} (more : Place → Bool) (one : Reader A) (shorter : (p q : Place) (x : A) → more p ≡ true → one p ≡ Ok (x, q) → length q.rest < length p.rest)
     (p q : Place) (xs : List A) → more p ≡ true → AreMany (λ a b x. (more a ≡ true) × (one a ≡ Ok (x, b))) p q xs → more q ≡ false → length q.rest < length p.rest
 turned more one shorter p q [] m e n = absurd (false≢true (sym n ∙ (ap more e ∙ m)))
@@ -54,6 +56,7 @@ many_lt {A} more one shorter p q xs m h =
 pub name_le : (p q : Place) (x : Name) → IsName p q x → length q.rest ≤ length p.rest
 name_le p q x (b, e, z) = rw e (omega (arith, past_le is_blank (past in_name p), past_le in_name p))
 
+-- a further name takes a character
 pub shorter : (p q : Place) (x : Name) → begins (codes "::") p ≡ true → reader.further_name p ≡ Ok (x, q) → length q.rest < length p.rest
 unfolding reader.further_name
 shorter p q x m h =
@@ -64,26 +67,32 @@ shorter p q x m h =
 pub names_le : (p q : Place) (xs : List Name) → many (begins (codes "::")) reader.further_name p ≡ Ok (xs, q) → length q.rest ≤ length p.rest
 names_le p q xs h = many_le (begins (codes "::")) reader.further_name shorter p q xs h
 
+-- the names that were found, and those to come
 unfoldable pub names_to_come : List Name → Reader (List Name)
 names_to_come found = to_come (begins (codes "::")) reader.further_name found
 
+-- behind the first name the others are to come
 pub begin : (p m : Place) (first : Name) → reader.name p ≡ Ok (first, m) → reader.path p ≡ names_to_come (first ∷ []) m
 unfolding reader.path names_to_come to_come
 begin p m first h = rw h refl
 
+-- a further name is one that was found
 pub more : (p q : Place) (x : Name) (found : List Name) → begins (codes "::") p ≡ true → reader.further_name p ≡ Ok (x, q)
     → names_to_come found p ≡ names_to_come (found ++ x ∷ []) q
 unfolding names_to_come
 more p q x found m o = more_is (begins (codes "::")) reader.further_name shorter p q x found m o
 
+-- where no further one begins, all were found
 pub done : (p : Place) (found : List Name) → begins (codes "::") p ≡ false → names_to_come found p ≡ Ok (found, p)
 unfolding names_to_come
 done p found m = end_is (begins (codes "::")) reader.further_name shorter p found m
 
+-- where one begins that isn't read, the path is refused as it is
 pub wrong : (p : Place) (found : List Name) (e : ReadError) → begins (codes "::") p ≡ true → reader.further_name p ≡ Err e → names_to_come found p ≡ Err e
 unfolding names_to_come
 wrong p found e m o = wrong_is (begins (codes "::")) reader.further_name shorter p found e m o
 
+-- where no name is read, the path is refused as it is
 pub path_wrong : (p : Place) (e : ReadError) → reader.name p ≡ Err e → reader.path p ≡ Err e
 unfolding reader.path
 path_wrong p e h = rw h refl

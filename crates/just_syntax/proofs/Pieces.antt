@@ -14,6 +14,7 @@ use Rattle.just_syntax.specs.Strings.IsPiece.{itself, escaped}
 use Rattle.just_syntax.specs.Readers as reader
 use Rattle.just_syntax.proofs.Texts.{and_true, same, next_le}
 
+-- characters that the test calls equal are
 pub is_of : (c d : ℕ) → (c == d) ≡ true → c ≡ d
 is_of c d h = grind (arith)
 
@@ -21,6 +22,7 @@ is_of c d h = grind (arith)
 stands_at : (d : ℕ) (p : Place) (c : ℕ) → first p ≡ Some c → (c == d) ≡ true → IsCharacter d p (next p)
 stands_at d p c f h = (starts_at (λ x. x == d) p c f ∙ h, refl)
 
+-- what the test of at most says
 le_of : (a b : ℕ) → nat_le a b ≡ true → a ≤ b
 le_of a b h = grind (arith)
 
@@ -39,6 +41,7 @@ number_ok p q c h =
     (λ (s : _). absurd (let no : ⊥ = cc (s.1) in no))
     (choose (starts is_hex p && reader.is_number (run is_hex p.rest)) (Ok (n, past is_hex p)) (Err Syntax) (Ok (c, q)) h)
 
+-- digits in braces that are read are an escape
 unicode_ok : (p q : Place) (x : List ℕ) (o : Place) → IsCharacter 117 o p → reader.unicode p ≡ Ok (x, q) → IsEscape o q x
 unfolding reader.unicode
 unicode_ok p q x o s h =
@@ -51,10 +54,12 @@ unicode_ok p q x o s h =
     let is : scalar c ≡ true = rw e k in
     unicode p m c s (expect_ok 123 p u m h1) a l e is (subst (λ (w : Place). IsCharacter 125 w q) z (t.0, sym end ∙ t.1)) (sym (ok_value (c ∷ []) x r q k3))
 
+-- a letter behind a backslash that is read is an escape
 letter_ok : (p q : Place) (x : List ℕ) (c : ℕ) (o : Option ℕ) → first p ≡ Some c → letter_meant c ≡ o → reader.letter_of o p ≡ Ok (x, q) → IsEscape p q x
 letter_ok p q x c None f e h = absurd (let no : ⊥ = cc (h) in no)
 letter_ok p q x c (Some d) f e h = letter c d f e (sym (ok_place (d ∷ []) x (next p) q h)) (sym (ok_value (d ∷ []) x (next p) q h))
 
+-- what is read behind a backslash, by its first character, is an escape
 escape_at : (p q : Place) (x : List ℕ) (o : Option ℕ) → first p ≡ o → reader.escape_of o p ≡ Ok (x, q) → IsEscape p q x
 escape_at p q x None f h = absurd (let no : ⊥ = cc (h) in no)
 escape_at p q x (Some c) f h =
@@ -73,10 +78,12 @@ escape_at p q x (Some c) f h =
     (choose (c == 117) (reader.unicode (next p))
     (if c == 10 then Ok ([], next p) else (if c == 13 then and_then (expect 10 (next p)) (λ _. pure []) else reader.letter_of (letter_meant c) p)) (Ok (x, q)) h)
 
+-- what is read behind a backslash is an escape
 pub escape_ok : (p q : Place) (x : List ℕ) → reader.escape p ≡ Ok (x, q) → IsEscape p q x
 unfolding reader.escape
 escape_ok p q x h = escape_at p q x (first p) refl h
 
+-- what is read as a piece, by its first character, is one
 piece_at : (cooked : Bool) (p q : Place) (x : List ℕ) (o : Option ℕ) → first p ≡ o → reader.piece_of cooked o p ≡ Ok (x, q) → IsPiece cooked p q x
 piece_at cooked p q x None f h = absurd (let no : ⊥ = cc (h) in no)
 piece_at cooked p q x (Some c) f h =
@@ -87,15 +94,18 @@ piece_at cooked p q x (Some c) f h =
     (λ (s : _). itself c f s.0 (sym (ok_place (c ∷ []) x (next p) q s.1)) (sym (ok_value (c ∷ []) x (next p) q s.1)))
     (choose (cooked && c == 92) (reader.escape (next p)) (Ok (c ∷ [], next p)) (Ok (x, q)) h)
 
+-- a piece that is read stands there
 pub piece_ok : (cooked : Bool) (p q : Place) (x : List ℕ) → reader.piece cooked p ≡ Ok (x, q) → IsPiece cooked p q x
 unfolding reader.piece
 piece_ok cooked p q x h = piece_at cooked p q x (first p) refl h
 
 -- ---- what is left
 
+-- where a character comes first, a step takes it
 first_lt : (p : Place) (c : ℕ) → first p ≡ Some c → length (next p).rest < length p.rest
 first_lt p c f = next_shorter (λ d. d == c) p (starts_at (λ d. d == c) p c f ∙ same c)
 
+-- an escape takes nothing back
 escape_le : (p q : Place) (x : List ℕ) → IsEscape p q x → length q.rest ≤ length p.rest
 escape_le p q x (letter c d f m e g) = rw e (omega (arith, first_lt p c f))
 escape_le p q x (unicode m n c s t b l v k o g) =

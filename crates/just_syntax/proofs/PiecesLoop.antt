@@ -9,27 +9,33 @@ use Rattle.just_syntax.specs.Strings.{is_cooked, goes_on}
 use Rattle.just_syntax.specs.Readers as reader
 use Rattle.just_syntax.proofs.Pieces.{piece_ok, piece_lt}
 
+-- where the string goes on a piece takes a character
 pub shorter : (quote : Quote) (p q : Place) (x : List ℕ) → goes_on quote p ≡ true → reader.piece (is_cooked quote) p ≡ Ok (x, q) → length q.rest < length p.rest
 shorter quote p q x m h = piece_lt (is_cooked quote) p q x (piece_ok (is_cooked quote) p q x h)
 
+-- what the pieces give is dropped
 abbrev nothing : List (List ℕ) → Reader (Unit {0})
 nothing pieces = pure tt
 
+-- with it what the first of them gives
 forget : (o : Outcome (List (List ℕ))) (x : List ℕ) → and_then (and_then o (λ xs. pure (x ∷ xs))) nothing ≡ and_then o nothing
 forget (Err e) x = refl
 forget (Ok s) x = refl
 
+-- behind a piece the others are read
 pub more : (quote : Quote) (p q : Place) (x : List ℕ) → goes_on quote p ≡ true → reader.piece (is_cooked quote) p ≡ Ok (x, q) → reader.pieces quote p ≡ reader.pieces quote q
 unfolding reader.pieces
 more quote p q x m o =
     ap (λ (r : Outcome (List (List ℕ))). and_then r nothing) (many_more (goes_on quote) (reader.piece (is_cooked quote)) (shorter quote) p q x m o)
     ∙ forget (reader.many_pieces quote q) x
 
+-- where the string doesn't go on, no piece is
 pub done : (quote : Quote) (p : Place) → goes_on quote p ≡ false → reader.pieces quote p ≡ Ok (tt, p)
 unfolding reader.pieces
 done quote p m =
     ap (λ (r : Outcome (List (List ℕ))). and_then r nothing) (many_end (goes_on quote) (reader.piece (is_cooked quote)) (shorter quote) p m)
 
+-- where a piece isn't read, the pieces are refused as it is
 pub wrong : (quote : Quote) (p : Place) (e : ReadError) → goes_on quote p ≡ true → reader.piece (is_cooked quote) p ≡ Err e → reader.pieces quote p ≡ Err e
 unfolding reader.pieces
 wrong quote p e m o =

@@ -25,6 +25,7 @@ use Rattle.just_syntax.proofs.PiecesLoop.{shorter}
 
 -- ---- pieces are read again
 
+-- a letter that means something is no character that means nothing, by the test
 letter_if : (b : Bool) (c d k : ℕ) → (c == k) ≡ b → letter_meant c ≡ Some d → letter_meant k ≡ None → b ≡ false
 letter_if false c d k e m n = refl
 letter_if true c d k e m n = let t : Some d ≡ None = sym m ∙ (ap letter_meant (is_of c k e) ∙ n) in absurd (let no : ⊥ = cc (t) in no)
@@ -33,14 +34,17 @@ letter_if true c d k e m n = let t : Some d ≡ None = sym m ∙ (ap letter_mean
 letter_not : (c d k : ℕ) → letter_meant c ≡ Some d → letter_meant k ≡ None → (c == k) ≡ false
 letter_not c d k m n = letter_if (c == k) c d k refl m n
 
+-- the test of at most, where it holds
 le_true : (a b : ℕ) → a ≤ b → nat_le a b ≡ true
 le_true a b h = grind (arith)
 
+-- digits that make the number of a character are read
 number_again : (n : Place) → starts is_hex n ≡ true → length (run is_hex n.rest) ≤ 6 → scalar (number_from 0 (run is_hex n.rest)) ≡ true
     → reader.number n ≡ Ok (number_from 0 (run is_hex n.rest), past is_hex n)
 unfolding reader.number
 number_again n b l k = rw (b, le_true (length (run is_hex n.rest)) 6 l, k) refl
 
+-- an escape that stands behind a backslash is read
 escape_again : (p q : Place) (x : List ℕ) → IsEscape p q x → reader.escape p ≡ Ok (x, q)
 unfolding reader.escape reader.unicode
 escape_again p q x (letter c d f m e g) =
@@ -51,6 +55,7 @@ escape_again p q x (unicode m n c s t b l v k o g) =
 escape_again p q x (feed s g) = rw (sees_first 10 p s.0, s.1, g) refl
 escape_again p q x (return_feed m s t g) = rw (sees_first 13 p s.0, ← s.1, expect_again 10 m q t, g) refl
 
+-- a piece that stands there is read
 pub piece_again : (cooked : Bool) (p q : Place) (x : List ℕ) → IsPiece cooked p q x → reader.piece cooked p ≡ Ok (x, q)
 unfolding reader.piece
 piece_again cooked p q x (itself c f n e g) = rw (f, n, e, g) refl
@@ -58,6 +63,7 @@ piece_again cooked p q x (escaped m a s i) = rw (sees_first 92 p s.0, a, ← s.1
 
 -- ---- what stands between the quotes
 
+-- pieces that are read stand there, and the string doesn't go on behind them
 pieces_ok : (quote : Quote) (p m : Place) (u : Unit {0}) → reader.pieces quote p ≡ Ok (u, m)
     → (pieces : List (List ℕ)) × AreMany (IsPieceOf quote) p m pieces × (goes_on quote m ≡ false)
 unfolding reader.pieces
@@ -67,12 +73,14 @@ pieces_ok quote p m u h =
     let end : n ≡ m = ok_place tt u n m k in
     subst (λ (l : Place). (pieces : List (List ℕ)) × AreMany (IsPieceOf quote) p l pieces × (goes_on quote l ≡ false)) end (ps, are, done)
 
+-- pieces that stand there are read, where the string doesn't go on behind them
 pieces_again : (quote : Quote) (p m : Place) (pieces : List (List ℕ)) → AreMany (IsPieceOf quote) p m pieces → goes_on quote m ≡ false → reader.pieces quote p ≡ Ok (tt, m)
 unfolding reader.pieces
 pieces_again quote p m pieces are done =
     rw (many_again (goes_on quote) (reader.piece (is_cooked quote)) (shorter quote) (IsPieceOf quote)
     (λ a b x i. (i.0, piece_again (is_cooked quote) a b x i.1)) p m pieces are done) refl
 
+-- what is read up to the closing quote stands there
 raw_ok : (quote : Quote) (p q : Place) (raw : List ℕ) → reader.raw_text quote p ≡ Ok (raw, q) → IsRaw quote p q raw
 unfolding reader.raw_text
 raw_ok quote p q raw h =
@@ -84,10 +92,12 @@ raw_ok quote p q raw h =
     (λ (s : _). absurd (let no : ⊥ = cc (s.1) in no))
     (choose (begins (mark quote) m) (Ok (text, behind_text (mark quote) m)) (Err Syntax) (Ok (raw, q)) k)
 
+-- where the closing quote stands the string doesn't go on
 stops : (end b : Bool) → b ≡ true → (not end && not b) ≡ false
 stops true b e = refl
 stops false b e = rw e refl
 
+-- what stands there up to the closing quote is read
 raw_again : (quote : Quote) (p q : Place) (raw : List ℕ) → IsRaw quote p q raw → reader.raw_text quote p ≡ Ok (raw, q)
 unfolding reader.raw_text
 raw_again quote p q raw (closed m ps are b e z) =
@@ -95,6 +105,7 @@ raw_again quote p q raw (closed m ps are b e z) =
 
 -- ---- strings
 
+-- a string that is read behind an `x` or none stands there
 quoted_ok : (p m q : Place) (x : StringLiteral) (o : Option Quote) → quote_at m ≡ o → m ≡ behind_x p → reader.quoted p o m ≡ Ok (x, q) → IsString p q x
 quoted_ok p m q x None e w h = absurd (let no : ⊥ = cc (h) in no)
 quoted_ok p m q x (Some quote) e w h =
@@ -103,10 +114,12 @@ quoted_ok p m q x (Some quote) e w h =
         subst (λ (l : Place). IsRaw quote (behind_text (mark quote) l) n raw) w (raw_ok quote (behind_text (mark quote) m) n raw r) in
     string n quote raw (ap quote_at (sym w) ∙ e) is (sym (ok_place (literal_at p quote raw) x (skip n) q k)) (sym (ok_value (literal_at p quote raw) x (skip n) q k))
 
+-- a string that is read stands there
 pub string_ok : (p q : Place) (x : StringLiteral) → reader.string p ≡ Ok (x, q) → IsString p q x
 unfolding reader.string
 string_ok p q x h = quoted_ok p (behind_x p) q x (quote_at (behind_x p)) refl refl h
 
+-- a string that stands there is read
 pub string_again : (p q : Place) (x : StringLiteral) → IsString p q x → reader.string p ≡ Ok (x, q)
 unfolding reader.string
 string_again p q x (string m quote raw o r e z) = rw (o, raw_again quote (behind_text (mark quote) (behind_x p)) m raw r, e, z) refl
@@ -145,13 +158,16 @@ mark_starts Double p h = begins_starts is_quote 34 [] p h
 mark_starts SingleBlock p h = begins_starts is_quote 39 (39 ∷ 39 ∷ []) p h
 mark_starts DoubleBlock p h = begins_starts is_quote 34 (34 ∷ 34 ∷ []) p h
 
+-- behind pieces no more is left
 pieces_le : (quote : Quote) (p q : Place) (xs : List (List ℕ)) → AreMany (IsPieceOf quote) p q xs → length q.rest ≤ length p.rest
 pieces_le quote p q [] e = rw e (omega arith)
 pieces_le quote p q (x ∷ xs) (m, i, are) = omega (arith, piece_lt (is_cooked quote) p m x i.1, pieces_le quote m q xs are)
 
+-- nor behind the closing quote
 raw_le : (quote : Quote) (p q : Place) (raw : List ℕ) → IsRaw quote p q raw → length q.rest ≤ length p.rest
 raw_le quote p q raw (closed m ps are b e z) = rw e (omega (arith, pieces_le quote p m ps are, behind_le (mark quote) m))
 
+-- nor behind an `x`
 x_le : (b : Bool) (p : Place) → length (if b then next p else p).rest ≤ length p.rest
 x_le true p = next_le p
 x_le false p = omega arith
@@ -162,5 +178,6 @@ string_lt p q x (string m quote raw o r e z) =
     rw e (omega (arith, past_le is_blank m, raw_le quote (behind_text (mark quote) (behind_x p)) m raw r,
     mark_lt quote (behind_x p) (quote_begins (behind_x p) quote o), x_le (sees 120 p) p))
 
+-- where a string stands one begins
 pub string_begins : (p q : Place) (x : StringLiteral) → IsString p q x → begins_string p ≡ true
 string_begins p q x (string m quote raw o r e z) = mark_starts quote (behind_x p) (quote_begins (behind_x p) quote o)

@@ -1,7 +1,7 @@
 -- The text that a string means: what the code gives is what the grammar says.
-use Rattle.std.proofs.Common.{◌≡◌, ℕ, ◌<◌, Bool, true, false, not, if◌then◌else◌, List, [], ◌∷◌, ◌++◌, length, Option, Some, None, Ok, Err, encode_utf8_all, refl, sym, ap, ◌∙◌, subst, ⊎_elim, arith}
+use Rattle.std.proofs.Common.{◌≡◌, ℕ, ◌<◌, Bool, true, false, not, List, [], length, Some, Ok, Err, encode_utf8_all, refl, sym, ap, ◌∙◌, ⊎_elim, arith}
 use Rattle.std.proofs.lemmas.Bool.{false≢true}
-use Rattle.just_read.specs.Place.{Place, AreMany, start, is_end}
+use Rattle.just_read.specs.Place.{Place, start, is_end}
 use Rattle.just_read.specs.Reader.{Outcome, many}
 use Rattle.just_read.proofs.Laws.{choose, many_ok, many_again, not_end_of_length}
 use Rattle.just_syntax.specs.declared.ast.StringLiteral.{StringLiteral}
@@ -14,6 +14,7 @@ use Rattle.just_syntax.proofs.Pieces.{piece_ok, piece_lt}
 use Rattle.just_syntax.proofs.StringLaws.{piece_again}
 use Rattle.just_syntax.proofs.CookedLoop as loop
 
+-- what isn't not so is so
 not_false : (b : Bool) → not b ≡ false → b ≡ true
 not_false true h = refl
 not_false false h = absurd (false≢true (sym h))
