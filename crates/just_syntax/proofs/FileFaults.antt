@@ -42,6 +42,7 @@ same_stop text f g p q b c i k =
 same_fault : (f g : Fault) → f.kind ≡ g.kind → f.line ≡ g.line → f.column ≡ g.column → f ≡ g
 same_fault f g k l c = rw (k, l, c) refl
 
+-- what two equal options hold is one name
 same_name : (a b : Option Name) (x y : Name) → a ≡ Some x → b ≡ Some y → a ≡ b → x ≡ y
 same_name a b x y h k e = let both : Some x ≡ Some y = sym h ∙ (e ∙ k) in cc
 
@@ -52,6 +53,7 @@ one_left_out text f g e i k =
         (ap first_left_out (one_tree text i.items k.items i.file k.file)) in
     same_fault f g e (i.line ∙ (ap (λ (n : Name). n.line) same ∙ sym k.line)) (i.column ∙ (ap (λ (n : Name). n.column) same ∙ sym k.column))
 
+-- faults of any two kinds that refuse one text are one
 one_kind : (text : List ℕ) (f g : Fault) (a b : FaultKind) → f.kind ≡ a → g.kind ≡ b → TellsFault text f a → TellsFault text g b → f ≡ g
 one_kind text f g Syntax Syntax i j (p, b, s) (q, c, t) = let (l, m, d) = same_stop text f g p q b c s t in same_fault f g (i ∙ sym j) l m
 one_kind text f g Syntax Depth i j (p, b, s) (q, c, t) = let (l, m, d) = same_stop text f g p q b c s t in let e = d.1 j in let no : Syntax ≡ Depth = sym i ∙ e in absurd (let none : ⊥ = cc (no) in none)
@@ -67,9 +69,11 @@ one_kind text f g Depth Unsupported i j (p, b, s) t = absurd (no_fault text t.it
 pub same_refusal : (text : List ℕ) (f g : Fault) → Refuses text (error.Fault f) → Refuses text (error.Fault g) → f ≡ g
 same_refusal text f g r s = one_kind text f g f.kind g.kind refl refl r s
 
+-- no option is none and holds a name
 not_both : (a b : Option Name) (x : Name) → a ≡ None → b ≡ Some x → a ≡ b → ⊥
 not_both a b x h k e = let both : None ≡ Some x = sym h ∙ (e ∙ k) in let no : ⊥ = cc (both) in no
 
+-- no kind of fault is told of a text that has a tree without a left-out name
 not_told : (text : List ℕ) (xs : List AstItem) (f : Fault) (a : FaultKind) → IsFile text xs → first_left_out xs ≡ None → TellsFault text f a → ⊥
 not_told text xs f Syntax is none (p, b, s) = no_fault text xs f p b is s
 not_told text xs f Depth is none (p, b, s) = no_fault text xs f p b is s
@@ -118,6 +122,7 @@ stops_at : (text : List ℕ) (p : Place) (b : Body) (xs : List Entry) (e : ReadE
 stops_at text p b xs e are goes h =
     record { entries = xs; are = are; goes_on = goes; no_entry = λ q x c i. let no : Err e ≡ Ok ((x, c), q) = sym h ∙ entry_again b p q x c i in let none : ⊥ = cc (no) in none }
 
+-- the fault at the place where no entry is read refuses the text
 tells : (text : List ℕ) (p : Place) (b : Body) (xs : List Entry) (e : ReadError) → AreEntries body.Closed (start text) p b xs → is_end p ≡ false
     → item.entry_at b p ≡ Err e → Refuses text (fault_at p e)
 tells text p b xs reason.Syntax are goes h =

@@ -102,6 +102,7 @@ strings_begin : (p q : Place) (xs : List StringLiteral) → AreStrings p q xs �
 strings_begin p q xs (no_strings m a b z) = a.0
 strings_begin p q xs (some_strings m n o r first others a i are d c b z) = a.0
 
+-- a setting of a sort that may have no value is read without one
 absent_again : (kind : Sort) (p : Place) → (kind ≡ sort.Text → ⊥) → (kind ≡ sort.List → ⊥) → item.absent kind p ≡ Ok (None, p)
 absent_again sort.Flag p n m = refl
 absent_again sort.Text p n m = absurd (n refl)

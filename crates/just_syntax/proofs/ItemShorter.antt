@@ -39,51 +39,62 @@ behind_le p q c i = rest_le p q c (rest_again p q c i)
 
 -- ---- items that aren't recipes
 
+-- a comment takes a character
 comment_lt : (p q : Place) (x : List ℕ) → IsComment p q x → length q.rest < length p.rest
 comment_lt p q x (s, z, i) =
     let b : starts in_line p ≡ true = starts_seen in_line 35 p s in
     omega (arith, newline_le (past in_line p) q tt (newline_again (past in_line p) q i), ap (λ (r : Place). length r.rest) (past_next in_line p b),
     past_le in_line (next p), next_shorter in_line p b)
 
+-- an alias takes a character
 alias_lt : (p q : Place) (x : AstItem) → IsAlias p q x → length q.rest < length p.rest
 alias_lt p q x (m, n, o, r, name, target, c, a, i, t, ns, re, z) =
     omega (arith, token_lt 97 (108 ∷ 105 ∷ 97 ∷ 115 ∷ []) p m a, name_lt m n name i, token_lt 58 (61 ∷ []) n o t, path_lt o r target (path_again o r target ns), behind_le r q c re)
 
+-- an import takes a character
 import_lt : (p q : Place) (x : AstItem) → IsImport p q x → length q.rest < length p.rest
 import_lt p q x (m, n, o, optional, s, c, a, b, st, re, z) =
     omega (arith, token_lt 105 (109 ∷ 112 ∷ 111 ∷ 114 ∷ 116 ∷ []) p m a, maybe_le 63 [] m n optional (maybe_again (codes "?") m n optional b), string_lt n o s st, behind_le o q c re)
 
+-- the string behind a module's name takes nothing back
 module_path_le : (p q : Place) (x : Option StringLiteral) → IsModulePath p q x → length q.rest ≤ length p.rest
 module_path_le p q x (path_behind s i z) = omega (arith, string_lt p q s i)
 module_path_le p q x (no_path_behind n e z) = rw e (omega arith)
 
+-- a module takes a character
 module_lt : (attributes : List Attribute) (p q : Place) (x : AstItem) → IsModule attributes p q x → length q.rest < length p.rest
 module_lt attributes p q x (m, n, o, r, optional, name, s, c, a, b, i, ps, re, z) =
     omega (arith, token_lt 109 (111 ∷ 100 ∷ []) p m a, maybe_le 63 [] m n optional (maybe_again (codes "?") m n optional b), name_lt n o name i, module_path_le o r s ps, behind_le r q c re)
 
+-- an assignment takes a character
 assignment_lt : (export : Bool) (p q : Place) (x : AstItem) → IsAssignment export p q x → length q.rest < length p.rest
 assignment_lt export p q x (m, n, o, name, y, c, i, t, v, re, z) =
     omega (arith, name_lt p m name i, token_lt 58 (61 ∷ []) m n t, expr_lt n o y v, behind_le o q c re)
 
+-- an `unexport` takes a character
 unexport_lt : (p q : Place) (x : AstItem) → IsUnexport p q x → length q.rest < length p.rest
 unexport_lt p q x (m, n, name, c, a, i, re, z) =
     omega (arith, token_lt 117 (110 ∷ 101 ∷ 120 ∷ 112 ∷ 111 ∷ 114 ∷ 116 ∷ []) p m a, name_lt m n name i, behind_le n q c re)
 
 -- ---- settings
 
+-- `true` and `false` take a character
 truth_lt : (p q : Place) (x : Bool) → IsTruth p q x → length q.rest < length p.rest
 truth_lt p q x (yes_word w z) = word_lt 116 (114 ∷ 117 ∷ 101 ∷ []) p q w
 truth_lt p q x (no_word w z) = word_lt 102 (97 ∷ 108 ∷ 115 ∷ 101 ∷ []) p q w
 
+-- further strings take nothing back
 further_le : (p q : Place) (xs : List StringLiteral) → AreMany IsFurtherString p q xs → length q.rest ≤ length p.rest
 further_le p q [] e = rw e (omega arith)
 further_le p q (x ∷ xs) (m, (n, g, t, i), are) = omega (arith, token_lt 44 [] p n t, string_lt n m x i, further_le m q xs are)
 
+-- strings in brackets take a character
 strings_lt : (p q : Place) (xs : List StringLiteral) → AreStrings p q xs → length q.rest < length p.rest
 strings_lt p q xs (no_strings m a b z) = omega (arith, token_lt 91 [] p m a, token_lt 93 [] m q b)
 strings_lt p q xs (some_strings m n o r first others a i are d c b z) =
     omega (arith, token_lt 91 [] p m a, string_lt m n first i, further_le n o others are, trailing_le o r tt (trailing_again o r c), token_lt 93 [] r q b)
 
+-- what stands behind a setting's name takes nothing back
 setting_value_le : (kind : Sort) (p q : Place) (x : Option SettingValue) → IsSettingValue kind p q x → length q.rest ≤ length p.rest
 setting_value_le kind p q x (value_absent n m b e z) = rw e (omega arith)
 setting_value_le kind p q x (value_flag m b k t i z) = omega (arith, token_lt 58 (61 ∷ []) p m t, truth_lt m q b i)
@@ -92,6 +103,7 @@ setting_value_le kind p q x (value_list m ys k t i z) = omega (arith, token_lt 5
 setting_value_le kind p q x (any_text m y k t b i z) = omega (arith, token_lt 58 (61 ∷ []) p m t, expr_lt m q y i)
 setting_value_le kind p q x (any_list m ys k t i z) = omega (arith, token_lt 58 (61 ∷ []) p m t, strings_lt m q ys i)
 
+-- a setting takes a character
 setting_lt : (p q : Place) (x : AstItem) → IsSetting p q x → length q.rest < length p.rest
 setting_lt p q x (m, n, o, name, y, c, a, i, v, re, z) =
     omega (arith, token_lt 115 (101 ∷ 116 ∷ []) p m a, name_lt m n name i, setting_value_le (sort_of name.text) n o y v, behind_le o q c re)

@@ -132,6 +132,7 @@ further_string_ok p q x g h =
     let (u, m, h1, k1) = bind_ok (reader.token (codes ",") p) (λ _. reader.string) x q h in
     (m, g, token_ok (codes ",") p u m h1, string_ok m q x k1)
 
+-- strings that are read between brackets stand there with these
 some_strings_ok : (p m n q : Place) (xs : List StringLiteral) → IsToken (codes "[") p m → item.some_strings m ≡ Ok (xs, n) → IsToken (codes "]") n q → AreStrings p q xs
 unfolding item.some_strings item.string_list
 some_strings_ok p m n q xs a h b =
@@ -170,6 +171,7 @@ list_value_ok m q x h =
     let (ys, n, h1, k1) = bind_ok (item.strings m) (λ ys. pure (value.List ys)) x q h in
     (ys, subst (λ (r : Place). AreStrings m r ys) (ok_place (value.List ys) x n q k1) (strings_ok m n ys h1), ap Some (sym (ok_value (value.List ys) x n q k1)))
 
+-- a value that is read behind `:=` is one of a setting of the sort
 value_of_ok : (kind : Sort) (p m q : Place) (x : SettingValue) → IsToken (codes ":=") p m → item.value_of kind m ≡ Ok (x, q) → IsSettingValue kind p q (Some x)
 value_of_ok sort.Flag p m q x t h =
     let (b, n, h1, k1) = bind_ok (item.truth m) (λ b. pure (value.Bool b)) x q h in
@@ -181,6 +183,7 @@ value_of_ok sort.Open p m q x t h =
     (λ (s : _). let (y, i, z) = text_value_ok m q x s.1 in any_text m y refl t s.0 i z)
     (choose (begins (codes "[") m) (item.list_value m) (item.text_value m) (Ok (x, q)) h)
 
+-- where no value is read a setting of the sort may have none
 absent_ok : (kind : Sort) (p q : Place) (x : Option SettingValue) → begins (codes ":=") p ≡ false → item.absent kind p ≡ Ok (x, q) → IsSettingValue kind p q x
 absent_ok sort.Flag p q x b h =
     value_absent (λ e. let no : ⊥ = cc (e) in no) (λ e. let no : ⊥ = cc (e) in no) b (sym (ok_place None x p q h)) (sym (ok_value None x p q h))
@@ -215,10 +218,12 @@ setting_ok p q x h =
 
 -- ---- which item begins
 
+-- of two openings that are no comment neither is
 no_comment_if : (b : Bool) (x y : Opening) → (x ≡ opening.Comment → ⊥) → (y ≡ opening.Comment → ⊥) → (if b then x else y) ≡ opening.Comment → ⊥
 no_comment_if true x y n m h = n h
 no_comment_if false x y n m h = m h
 
+-- where an opening is a comment, and the other way is none, the test holds
 comment_if : (b : Bool) (y : Opening) → (y ≡ opening.Comment → ⊥) → (if b then opening.Comment else y) ≡ opening.Comment → b ≡ true
 comment_if true y n h = refl
 comment_if false y n h = absurd (n h)
@@ -258,6 +263,7 @@ attributed_ok p q x e h =
     (sym (ok_value (entry.Recipe y) x n q k2)))
     (choose (opens_module m) (and_then (item.module_item xs m) (λ y. pure (entry.Item y))) (and_then (item.recipe_line xs m) (λ y. pure (entry.Recipe y))) (Ok (x, q)) k1)
 
+-- an item that is read by what it begins with stands there
 item_of_ok : (o : Opening) (p q : Place) (x : Entry) → opening_at p ≡ o → item.item_of o p ≡ Ok (x, q) → IsItem p q x
 item_of_ok opening.Comment p q x e h =
     let (t, m, h1, k1) = bind_ok (reader.comment p) (λ t. pure (entry.Item (tree.Comment t))) x q h in
