@@ -1,9 +1,8 @@
 -- Entries: what the code reads is what the grammar says, so one stands at a place, and it takes a character.
-use Rattle.std.proofs.Common.{◌≡◌, ℕ, ◌<◌, Bool, true, false, if◌then◌else◌, List, length, Option, Some, None, Ok, refl, sym, ap, ◌∙◌, subst, ⊎_elim}
+use Rattle.std.proofs.Common.{◌≡◌, ℕ, ◌<◌, false, List, length, Option, Some, None, Ok, refl, sym, ap, ◌∙◌, subst, ⊎_elim}
 use Rattle.just_read.specs.Place.{Place}
-use Rattle.just_read.specs.Reader.{and_then, ◌>>=◌, ◌>>◌, pure}
+use Rattle.just_read.specs.Reader.{and_then, pure}
 use Rattle.just_read.proofs.Laws.{bind_ok, choose, ok_value, ok_place}
-use Rattle.just_syntax.specs.declared.ast.Line.{Line}
 use Rattle.just_syntax.specs.declared.entry.Entry.{Entry}
 use Rattle.just_syntax.specs.declared.entry.Entry.TheVariants as entry
 use Rattle.just_syntax.specs.declared.entry.Body.{Body}

@@ -1,5 +1,5 @@
 -- Refusals of a text: one fault at most, none where the text has a tree, and what the code tells is right.
-use Rattle.std.proofs.Common.{◌≡◌, ◌≢◌, ◌↔◌, ℕ, ◌<◌, Bool, true, false, List, [], ◌∷◌, ◌++◌, length, Option, Some, None, Ok, Err, refl, sym, ap, ◌∙◌, subst}
+use Rattle.std.proofs.Common.{◌≡◌, ◌≢◌, ◌↔◌, ℕ, ◌<◌, true, false, List, [], ◌∷◌, ◌++◌, length, Option, Some, None, Ok, Err, refl, sym, ap, ◌∙◌, subst}
 use Rattle.just_read.specs.Place.{Place, start, is_end}
 use Rattle.just_read.specs.Reader.{Outcome}
 use Rattle.just_read.specs.declared.error.ReadError.{ReadError}
@@ -14,7 +14,7 @@ use Rattle.just_syntax.specs.declared.error.FaultKind.TheVariants.{Syntax, Unsup
 use Rattle.just_syntax.specs.declared.error.Fault.{Fault}
 use Rattle.just_syntax.specs.declared.error.ParseError.{ParseError}
 use Rattle.just_syntax.specs.declared.error.ParseError.TheVariants as error
-use Rattle.just_syntax.specs.File.{IsEntry, AreEntries, IsFile, Stops, items_of, first_left_out}
+use Rattle.just_syntax.specs.File.{AreEntries, IsFile, Stops, items_of, first_left_out}
 use Rattle.just_syntax.specs.Faults.{IsFaultAt, IsLeftOut, TellsFault, Refuses}
 use Rattle.just_syntax.specs.Deep.{IsDeepEntry}
 use Rattle.just_syntax.specs.ItemReaders as item
@@ -33,10 +33,14 @@ no_fault text xs f p b is at = tree_or_stops text xs p b is at.stops
 pub same_stop : (text : List ℕ) (f g : Fault) (p q : Place) (b c : Body) → IsFaultAt text f p b → IsFaultAt text g q c
     → (f.line ≡ g.line) × (f.column ≡ g.column) × ((f.kind ≡ Depth) ↔ (g.kind ≡ Depth))
 same_stop text f g p q b c i k =
-    let (e, h) = stops_once text p q b c i.stops k.stops in
-    (i.line ∙ (ap (λ (r : Place). r.line) e ∙ sym k.line), i.column ∙ (ap (λ (r : Place). r.column) e ∙ sym k.column),
-    ((λ d. k.deep.1 (subst (λ (r : Place). IsDeepEntry c r) e (subst (λ (l : Body). IsDeepEntry l p) h (i.deep.0 d)))),
-    (λ d. i.deep.1 (subst (λ (r : Place). IsDeepEntry b r) (sym e) (subst (λ (l : Body). IsDeepEntry l q) (sym h) (k.deep.0 d))))))
+    let (e, h) = stops_once text p q b c i.stops k.stops in (
+      i.line ∙ (ap (λ (r : Place). r.line) e ∙ sym k.line),
+      i.column ∙ (ap (λ (r : Place). r.column) e ∙ sym k.column),
+      (
+        (λ d. k.deep.1 (subst (λ (r : Place). IsDeepEntry c r) e (subst (λ (l : Body). IsDeepEntry l p) h (i.deep.0 d)))),
+        (λ d. i.deep.1 (subst (λ (r : Place). IsDeepEntry b r) (sym e) (subst (λ (l : Body). IsDeepEntry l q) (sym h) (k.deep.0 d)))),
+      ),
+    )
 
 -- faults of one kind, line and column are one
 same_fault : (f g : Fault) → f.kind ≡ g.kind → f.line ≡ g.line → f.column ≡ g.column → f ≡ g
@@ -50,7 +54,7 @@ same_name a b x y h k e = let both : Some x ≡ Some y = sym h ∙ (e ∙ k) in 
 one_left_out : (text : List ℕ) (f g : Fault) → f.kind ≡ g.kind → IsLeftOut text f → IsLeftOut text g → f ≡ g
 one_left_out text f g e i k =
     let same : i.name ≡ k.name = same_name (first_left_out i.items) (first_left_out k.items) i.name k.name i.first k.first
-        (ap first_left_out (one_tree text i.items k.items i.file k.file)) in
+    (ap first_left_out (one_tree text i.items k.items i.file k.file)) in
     same_fault f g e (i.line ∙ (ap (λ (n : Name). n.line) same ∙ sym k.line)) (i.column ∙ (ap (λ (n : Name). n.column) same ∙ sym k.column))
 
 -- faults of any two kinds that refuse one text are one
@@ -125,10 +129,19 @@ stops_at text p b xs e are goes h =
 -- the fault at the place where no entry is read refuses the text
 tells : (text : List ℕ) (p : Place) (b : Body) (xs : List Entry) (e : ReadError) → AreEntries body.Closed (start text) p b xs → is_end p ≡ false
     → item.entry_at b p ≡ Err e → Refuses text (fault_at p e)
-tells text p b xs reason.Syntax are goes h =
-    (p, b, record { stops = stops_at text p b xs reason.Syntax are goes h; line = refl; column = refl;
-    deep = ((λ k. absurd (let no : ⊥ = cc (k) in no)),
-    (λ d. absurd (let no : Err reason.Syntax ≡ Err reason.Depth = sym h ∙ entry_deep_again b p d in let none : ⊥ = cc (no) in none))) })
+tells text p b xs reason.Syntax are goes h = (
+  p,
+  b,
+  record {
+    stops = stops_at text p b xs reason.Syntax are goes h;
+    line = refl;
+    column = refl;
+    deep = (
+      (λ k. absurd (let no : ⊥ = cc (k) in no)),
+      (λ d. absurd (let no : Err reason.Syntax ≡ Err reason.Depth = sym h ∙ entry_deep_again b p d in let none : ⊥ = cc (no) in none)),
+    );
+  },
+)
 tells text p b xs reason.Depth are goes h =
     (p, b, record { stops = stops_at text p b xs reason.Depth are goes h; line = refl; column = refl; deep = ((λ k. entry_deep_ok b p h), (λ d. refl)) })
 tells text p b xs reason.NoMemory are goes h = tt

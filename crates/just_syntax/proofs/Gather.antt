@@ -5,7 +5,7 @@ use Rattle.just_syntax.specs.declared.ast.Line.{Line}
 use Rattle.just_syntax.specs.declared.ast.AstItem.{AstItem}
 use Rattle.just_syntax.specs.declared.ast.AstItem.TheVariants as item
 use Rattle.just_syntax.specs.declared.entry.Entry.{Entry}
-use Rattle.just_syntax.specs.File.{blank_line, gather_blank, gather_one, gathered, items_of}
+use Rattle.just_syntax.specs.File.{blank_line, gather_blank, gather_one, gathered}
 
 -- entries in front of what was gathered behind them
 unfoldable pub onto : List Entry → List Line → List AstItem → List Line × List AstItem
@@ -64,6 +64,7 @@ reverse_some (x ∷ lines) n e = not_nil (reverse lines) x (sym (reverse_cons x 
     not_nil : (xs : List Line) (x : Line) → xs ++ x ∷ [] ≡ [] → ⊥
     not_nil [] x e = let no : ⊥ = cc in no
     not_nil (y ∷ xs) x e = let no : ⊥ = cc in no
+
     reverse_cons : (x : Line) (xs : List Line) → reverse (x ∷ xs) ≡ reverse xs ++ x ∷ []
     reverse_cons x xs = reverse-append (x ∷ []) xs
 

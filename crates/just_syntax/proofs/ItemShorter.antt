@@ -1,6 +1,6 @@
 -- Items take characters.
-use Rattle.std.proofs.Common.{◌≡◌, ℕ, ◌<◌, ◌≤◌, Bool, true, false, List, [], ◌∷◌, length, Option, Some, None, codes, refl, sym, ap, ◌∙◌, arith}
-use Rattle.just_read.specs.Place.{Place, AreMany, next, past, starts, sees}
+use Rattle.std.proofs.Common.{◌≡◌, ℕ, ◌<◌, ◌≤◌, Bool, true, false, List, [], ◌∷◌, length, Option, codes, ap, arith}
+use Rattle.just_read.specs.Place.{Place, AreMany, next, past, starts}
 use Rattle.just_read.proofs.Laws.{past_le, past_next, next_shorter, starts_seen}
 use Rattle.just_syntax.specs.declared.ast.StringLiteral.{StringLiteral}
 use Rattle.just_syntax.specs.declared.ast.Expr.{Expr}
@@ -10,7 +10,7 @@ use Rattle.just_syntax.specs.declared.ast.AstItem.{AstItem}
 use Rattle.just_syntax.specs.declared.entry.Entry.{Entry}
 use Rattle.just_syntax.specs.declared.form.Sort.{Sort}
 use Rattle.just_syntax.specs.Characters.{in_line}
-use Rattle.just_syntax.specs.Places.{IsToken, IsComment, IsRest}
+use Rattle.just_syntax.specs.Places.{IsComment, IsRest}
 use Rattle.just_syntax.specs.Exprs.{IsExpr, IsInner}
 use Rattle.just_syntax.specs.Forms.{sort_of}
 use Rattle.just_syntax.specs.Items.{IsTruth, IsFurtherString, AreStrings, IsSettingValue, IsAlias, IsImport, IsModulePath, IsModule, IsAssignment, IsUnexport, IsSetting, IsItem}
@@ -43,8 +43,13 @@ behind_le p q c i = rest_le p q c (rest_again p q c i)
 comment_lt : (p q : Place) (x : List ℕ) → IsComment p q x → length q.rest < length p.rest
 comment_lt p q x (s, z, i) =
     let b : starts in_line p ≡ true = starts_seen in_line 35 p s in
-    omega (arith, newline_le (past in_line p) q tt (newline_again (past in_line p) q i), ap (λ (r : Place). length r.rest) (past_next in_line p b),
-    past_le in_line (next p), next_shorter in_line p b)
+    omega (
+      arith,
+      newline_le (past in_line p) q tt (newline_again (past in_line p) q i),
+      ap (λ (r : Place). length r.rest) (past_next in_line p b),
+      past_le in_line (next p),
+      next_shorter in_line p b,
+    )
 
 -- an alias takes a character
 alias_lt : (p q : Place) (x : AstItem) → IsAlias p q x → length q.rest < length p.rest

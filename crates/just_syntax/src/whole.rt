@@ -62,11 +62,7 @@ fn entries_of(alloc: Global, text: &str) -> Result<Vec<Entry>, ParseError>
 
 /// The entry that begins here and the body behind it, or the fault where it begins.
 #[tactic(auto, unfolding(crate::specs::EntryReaders::entry_or_fault))]
-fn next(
-    alloc: Global,
-    cursor: &mut Cursor<'_>,
-    body: Body,
-) -> Result<(Entry, Body), ParseError>
+fn next(alloc: Global, cursor: &mut Cursor<'_>, body: Body) -> Result<(Entry, Body), ParseError>
     ensures { ReadsEntry (entry_or_fault body cursor.old) result cursor.new }
 {
     let line = cursor.line();
