@@ -1,9 +1,8 @@
 -- Entries: what the code reads is what the grammar says, so one stands at a place, and it takes a character.
-use Rattle.std.proofs.Common.{◌≡◌, ℕ, ◌<◌, Bool, true, false, if◌then◌else◌, List, length, Option, Some, None, Ok, refl, sym, ap, ◌∙◌, subst, ⊎_elim}
+use Rattle.std.proofs.Common.{◌≡◌, ℕ, ◌<◌, false, List, length, Option, Some, None, Ok, refl, sym, ap, ◌∙◌, subst, ⊎_elim}
 use Rattle.just_read.specs.Place.{Place}
-use Rattle.just_read.specs.Reader.{and_then, ◌>>=◌, ◌>>◌, pure}
+use Rattle.just_read.specs.Reader.{and_then, pure}
 use Rattle.just_read.proofs.Laws.{bind_ok, choose, ok_value, ok_place}
-use Rattle.just_syntax.specs.declared.ast.Line.{Line}
 use Rattle.just_syntax.specs.declared.entry.Entry.{Entry}
 use Rattle.just_syntax.specs.declared.entry.Entry.TheVariants as entry
 use Rattle.just_syntax.specs.declared.entry.Body.{Body}
@@ -34,6 +33,7 @@ entry_item_ok b p q x c n m h =
     further n m (subst (λ (z : Entry). IsItem p q z) same (subst (λ (o : Place). IsItem p o y) (ok_place (y, behind_item y) (x, c) r q k1) (item_ok p r y h1)))
     (sym (ap (λ (s : Entry × Body). s.1) both) ∙ ap behind_item same)
 
+-- an entry that is read where a body may go on, and no blank line stands, stands there
 in_body_ok : (i : Option (List ℕ)) (b : Body) (p q : Place) (x : Entry) (c : Body) → indentation_at b p ≡ i → is_blank_line p ≡ false
     → item.in_body i p ≡ Ok ((x, c), q) → IsEntry b p q x c
 in_body_ok None b p q x c e n h = entry_item_ok b p q x c n (ap (λ (i : Option (List ℕ)). goes_into i p) e) h
@@ -63,6 +63,7 @@ entry_ok b p q x c h =
 
 -- ---- what stands there is read
 
+-- an item that stands where no line of a body begins is read
 in_body_again : (i : Option (List ℕ)) (p q : Place) (x : Entry) → goes_into i p ≡ false → item.item_at p ≡ Ok (x, q) → item.in_body i p ≡ Ok ((x, behind_item x), q)
 in_body_again None p q x n h = rw h refl
 in_body_again (Some indentation) p q x n h = rw (n, h) refl

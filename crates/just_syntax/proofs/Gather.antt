@@ -5,13 +5,14 @@ use Rattle.just_syntax.specs.declared.ast.Line.{Line}
 use Rattle.just_syntax.specs.declared.ast.AstItem.{AstItem}
 use Rattle.just_syntax.specs.declared.ast.AstItem.TheVariants as item
 use Rattle.just_syntax.specs.declared.entry.Entry.{Entry}
-use Rattle.just_syntax.specs.File.{blank_line, gather_blank, gather_one, gathered, items_of}
+use Rattle.just_syntax.specs.File.{blank_line, gather_blank, gather_one, gathered}
 
 -- entries in front of what was gathered behind them
 unfoldable pub onto : List Entry → List Line → List AstItem → List Line × List AstItem
 onto [] lines items = (lines, items)
 onto (x ∷ xs) lines items = gather_one x (onto xs lines items).0 (onto xs lines items).1
 
+-- entries in front of nothing are gathered alone
 pub gather_begin : (xs : List Entry) → onto xs [] [] ≡ gathered xs
 unfolding onto
 gather_begin [] = refl
@@ -24,12 +25,14 @@ unfolding onto
 gather_last [] x lines items = refl
 gather_last (y ∷ xs) x lines items = ap (λ (s : List Line × List AstItem). gather_one y s.0 s.1) (gather_last xs x lines items)
 
+-- no entries in front leave what was gathered
 pub gather_end : (lines : List Line) (items : List AstItem) → onto [] lines items ≡ (lines, items)
 unfolding onto
 gather_end lines items = refl
 
 -- ---- lists that are turned round
 
+-- the last one comes first in a list that is turned round
 pub reverse_last : {A : Type 0} (xs : List A) (x : A) → reverse (xs ++ x ∷ []) ≡ x ∷ reverse xs
 reverse_last xs x = reverse-append xs (x ∷ [])
 
@@ -37,19 +40,23 @@ reverse_last xs x = reverse-append xs (x ∷ [])
 pub turned_more : {A : Type 0} (found front : List A) (x : A) → (found ++ x ∷ []) ++ reverse front ≡ found ++ reverse (front ++ x ∷ [])
 turned_more {A} found front x = append_assoc found (x ∷ []) (reverse front) ∙ ap (λ (r : List A). found ++ r) (sym (reverse_last front x))
 
+-- nothing is left to be turned round
 pub turned_end : {A : Type 0} (found : List A) → found ++ reverse [] ≡ found
 turned_end found = append-nil found
 
 -- ---- blank lines
 
+-- a blank line with no line of a body behind it is an item
 pub blank_item : (number : ℕ) (lines : List Line) (items : List AstItem) → lines ≡ []
     → (reverse lines, reverse (items ++ item.Blank ∷ [])) ≡ gather_blank number (reverse lines) (reverse items)
 blank_item number lines items e = rw (e, reverse_last items item.Blank) refl
 
+-- and with lines behind it one of these
 blank_again : (number : ℕ) (lines : List Line) (items : List AstItem) → (lines ≡ [] → ⊥) → (blank_line number ∷ lines, items) ≡ gather_blank number lines items
 blank_again number [] items n = absurd (n refl)
 blank_again number (x ∷ lines) items n = refl
 
+-- a list that is turned round is as empty as before
 reverse_some : (lines : List Line) → (lines ≡ [] → ⊥) → reverse lines ≡ [] → ⊥
 reverse_some [] n e = n refl
 reverse_some (x ∷ lines) n e = not_nil (reverse lines) x (sym (reverse_cons x lines) ∙ e)
@@ -57,9 +64,11 @@ reverse_some (x ∷ lines) n e = not_nil (reverse lines) x (sym (reverse_cons x 
     not_nil : (xs : List Line) (x : Line) → xs ++ x ∷ [] ≡ [] → ⊥
     not_nil [] x e = let no : ⊥ = cc in no
     not_nil (y ∷ xs) x e = let no : ⊥ = cc in no
+
     reverse_cons : (x : Line) (xs : List Line) → reverse (x ∷ xs) ≡ reverse xs ++ x ∷ []
     reverse_cons x xs = reverse-append (x ∷ []) xs
 
+-- a blank line goes to the lines that are turned round as to those that aren't
 pub blank_line_more : (number : ℕ) (lines : List Line) (items : List AstItem) → (lines ≡ [] → ⊥)
     → (reverse (lines ++ blank_line number ∷ []), reverse items) ≡ gather_blank number (reverse lines) (reverse items)
 blank_line_more number lines items n = rw (reverse_last lines (blank_line number)) (blank_again number (reverse lines) (reverse items) (reverse_some lines n))

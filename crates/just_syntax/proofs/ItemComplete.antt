@@ -1,20 +1,14 @@
 -- Items: what the grammar says is read.
-use Rattle.std.proofs.Common.{◌≡◌, ℕ, ◌==◌, Bool, true, false, not, ◌&&◌, ◌||◌, if◌then◌else◌, List, [], ◌∷◌, Option, Some, None, Ok, codes, refl, sym, ap, ◌∙◌}
-use Rattle.just_read.specs.Place.{Place, AreMany, begins}
-use Rattle.just_read.specs.Reader.{pure}
+use Rattle.std.proofs.Common.{◌≡◌, Bool, true, false, List, [], ◌∷◌, Option, None, Ok, codes, refl}
+use Rattle.just_read.specs.Place.{Place, begins}
 use Rattle.just_read.proofs.Laws.{many_again}
-use Rattle.just_syntax.specs.declared.ast.Name.{Name}
 use Rattle.just_syntax.specs.declared.ast.StringLiteral.{StringLiteral}
-use Rattle.just_syntax.specs.declared.ast.Expr.{Expr}
 use Rattle.just_syntax.specs.declared.ast.Attribute.{Attribute}
 use Rattle.just_syntax.specs.declared.ast.SettingValue.{SettingValue}
-use Rattle.just_syntax.specs.declared.ast.SettingValue.TheVariants as value
 use Rattle.just_syntax.specs.declared.ast.AstItem.{AstItem}
 use Rattle.just_syntax.specs.declared.entry.Entry.{Entry}
 use Rattle.just_syntax.specs.declared.form.Sort.{Sort}
 use Rattle.just_syntax.specs.declared.form.Sort.TheVariants as sort
-use Rattle.just_syntax.specs.Places.{IsToken, IsWord}
-use Rattle.just_syntax.specs.Strings.{begins_string, IsString}
 use Rattle.just_syntax.specs.Forms.{sort_of}
 use Rattle.just_syntax.specs.Items.{goes_on, IsTruth, IsFurtherString, AreStrings, IsSettingValue, IsAlias, IsImport, IsModulePath, IsModule, IsAssignment, IsUnexport, IsSetting, IsItem}
 use Rattle.just_syntax.specs.Items.IsTruth.{yes_word, no_word}
@@ -23,7 +17,6 @@ use Rattle.just_syntax.specs.Items.IsSettingValue.{absent as value_absent, flag 
 use Rattle.just_syntax.specs.Items.IsModulePath.{path as path_behind, without as no_path_behind}
 use Rattle.just_syntax.specs.Items.IsItem.{comment as comment_item, alias as alias_item, import as import_item, module_alone, assignment as assignment_item, export as export_item, unexport as unexport_item, setting_item, attributed_module, recipe as recipe_item}
 use Rattle.just_syntax.specs.ItemReaders as item
-use Rattle.just_syntax.specs.Readers as reader
 use Rattle.just_syntax.proofs.Texts.{begins_first, begins_other}
 use Rattle.just_syntax.proofs.Beginnings.{no_string, word_begins}
 use Rattle.just_syntax.proofs.Marks.{token_again, word_again, name_again}
@@ -79,8 +72,11 @@ truth_again : (p q : Place) (x : Bool) → IsTruth p q x → item.truth p ≡ Ok
 unfolding item.truth
 truth_again p q x (yes_word w z) = rw (w.0, word_again (codes "true") p q w, z) refl
 truth_again p q x (no_word w z) =
-    rw (begins_other 102 116 (114 ∷ 117 ∷ 101 ∷ []) p (begins_first 102 (97 ∷ 108 ∷ 115 ∷ 101 ∷ []) p (word_begins (codes "false") p q w)) refl,
-    word_again (codes "false") p q w, z) refl
+    rw (
+      begins_other 102 116 (114 ∷ 117 ∷ 101 ∷ []) p (begins_first 102 (97 ∷ 108 ∷ 115 ∷ 101 ∷ []) p (word_begins (codes "false") p q w)) refl,
+      word_again (codes "false") p q w,
+      z,
+    ) refl
 
 -- a comma and a string that stand there are read
 further_string_again : (p q : Place) (x : StringLiteral) → IsFurtherString p q x → (goes_on p ≡ true) × (item.further_string p ≡ Ok (x, q))
@@ -93,15 +89,22 @@ unfolding item.strings item.some_strings item.string_list
 strings_again p q xs (no_strings m a b z) =
     rw (token_again (codes "[") p m a, no_string 93 [] m b.0 refl refl, token_again (codes "]") m q b, z) refl
 strings_again p q xs (some_strings m n o r first others a i are d c b z) =
-    rw (token_again (codes "[") p m a, string_begins m n first i, string_again m n first i,
-    many_again goes_on item.further_string strings_shorter IsFurtherString further_string_again n o others are d, trailing_again o r c,
-    token_again (codes "]") r q b, z) refl
+    rw (
+      token_again (codes "[") p m a,
+      string_begins m n first i,
+      string_again m n first i,
+      many_again goes_on item.further_string strings_shorter IsFurtherString further_string_again n o others are d,
+      trailing_again o r c,
+      token_again (codes "]") r q b,
+      z,
+    ) refl
 
 -- strings in brackets begin with a bracket
 strings_begin : (p q : Place) (xs : List StringLiteral) → AreStrings p q xs → begins (codes "[") p ≡ true
 strings_begin p q xs (no_strings m a b z) = a.0
 strings_begin p q xs (some_strings m n o r first others a i are d c b z) = a.0
 
+-- a setting of a sort that may have no value is read without one
 absent_again : (kind : Sort) (p : Place) → (kind ≡ sort.Text → ⊥) → (kind ≡ sort.List → ⊥) → item.absent kind p ≡ Ok (None, p)
 absent_again sort.Flag p n m = refl
 absent_again sort.Text p n m = absurd (n refl)

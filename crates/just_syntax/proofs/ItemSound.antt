@@ -1,15 +1,13 @@
 -- Items: what the code reads is what the grammar says.
-use Rattle.std.proofs.Common.{◌≡◌, ℕ, Bool, true, false, not, ◌&&◌, ◌||◌, if◌then◌else◌, List, [], ◌∷◌, Option, Some, None, Ok, Err, codes, refl, sym, ap, ◌∙◌, subst, ⊎_elim}
+use Rattle.std.proofs.Common.{◌≡◌, Bool, true, false, ◌&&◌, ◌||◌, if◌then◌else◌, List, [], ◌∷◌, Option, Some, None, Ok, codes, refl, sym, ap, ◌∙◌, subst, ⊎_elim}
 use Rattle.just_read.specs.Place.{Place, AreMany, sees, begins}
-use Rattle.just_read.specs.Reader.{Outcome, and_then, ◌>>=◌, pure, many}
+use Rattle.just_read.specs.Reader.{Outcome, and_then, pure, many}
 use Rattle.just_read.proofs.Laws.{bind_ok, choose, ok_value, ok_place, many_ok}
-use Rattle.just_syntax.specs.declared.ast.Name.{Name}
 use Rattle.just_syntax.specs.declared.ast.StringLiteral.{StringLiteral}
 use Rattle.just_syntax.specs.declared.ast.Expr.{Expr}
 use Rattle.just_syntax.specs.declared.ast.Attribute.{Attribute}
 use Rattle.just_syntax.specs.declared.ast.SettingValue.{SettingValue}
 use Rattle.just_syntax.specs.declared.ast.SettingValue.TheVariants as value
-use Rattle.just_syntax.specs.declared.ast.AstRecipe.{AstRecipe}
 use Rattle.just_syntax.specs.declared.ast.AstItem.{AstItem}
 use Rattle.just_syntax.specs.declared.ast.AstItem.TheVariants as tree
 use Rattle.just_syntax.specs.declared.entry.Entry.{Entry}
@@ -18,12 +16,12 @@ use Rattle.just_syntax.specs.declared.form.Sort.{Sort}
 use Rattle.just_syntax.specs.declared.form.Sort.TheVariants as sort
 use Rattle.just_syntax.specs.declared.item.Opening.{Opening}
 use Rattle.just_syntax.specs.declared.item.Opening.TheVariants as opening
-use Rattle.just_syntax.specs.Places.{skip, is_word, behind_word, IsToken, IsWord, IsName, IsPath, IsComment, IsRest}
+use Rattle.just_syntax.specs.Places.{is_word, behind_word, IsToken, IsWord, IsComment, IsRest}
 use Rattle.just_syntax.specs.Strings.{begins_string, IsString}
 use Rattle.just_syntax.specs.Exprs.{IsExpr}
 use Rattle.just_syntax.specs.Forms.{sort_of}
 use Rattle.just_syntax.specs.Attributes.{IsTrailing, AreAttributes}
-use Rattle.just_syntax.specs.Recipes.{IsMaybe, IsRecipeLine}
+use Rattle.just_syntax.specs.Recipes.{IsRecipeLine}
 use Rattle.just_syntax.specs.Items.{opening_at, is_assignment, is_last_name, is_module, opens_module, goes_on, IsTruth, IsFurtherString, AreStrings, IsSettingValue, IsAlias, IsImport, IsModulePath, IsModule, IsAssignment, IsUnexport, IsSetting, IsItem}
 use Rattle.just_syntax.specs.Items.IsTruth.{yes_word, no_word}
 use Rattle.just_syntax.specs.Items.AreStrings.{none as no_strings, some as some_strings}
@@ -49,9 +47,21 @@ alias_ok p q x h =
     let (name, n, h2, k2) = bind_ok (reader.name m) _ x q k1 in
     let (v, o, h3, k3) = bind_ok (reader.token (codes ":=") n) _ x q k2 in
     let (target, r, h4, k4) = bind_ok (reader.path o) _ x q k3 in
-    let (c, s, h5, k5) = bind_ok (reader.rest r) _ x q k4 in
-    (m, n, o, r, name, target, c, token_ok (codes "alias") p u m h1, name_ok m name n h2, token_ok (codes ":=") n v o h3, path_ok o r target h4,
-    subst (λ (l : Place). IsRest r l c) (ok_place (tree.Alias name target c) x s q k5) (rest_ok r s c h5), sym (ok_value (tree.Alias name target c) x s q k5))
+    let (c, s, h5, k5) = bind_ok (reader.rest r) _ x q k4 in (
+      m,
+      n,
+      o,
+      r,
+      name,
+      target,
+      c,
+      token_ok (codes "alias") p u m h1,
+      name_ok m name n h2,
+      token_ok (codes ":=") n v o h3,
+      path_ok o r target h4,
+      subst (λ (l : Place). IsRest r l c) (ok_place (tree.Alias name target c) x s q k5) (rest_ok r s c h5),
+      sym (ok_value (tree.Alias name target c) x s q k5),
+    )
 
 -- an import that is read stands there
 import_ok : (p q : Place) (x : AstItem) → item.import p ≡ Ok (x, q) → IsImport p q x
@@ -60,9 +70,19 @@ import_ok p q x h =
     let (u, m, h1, k1) = bind_ok (reader.token (codes "import") p) _ x q h in
     let (optional, n, h2, k2) = bind_ok (reader.maybe (codes "?") m) _ x q k1 in
     let (t, o, h3, k3) = bind_ok (reader.string n) _ x q k2 in
-    let (c, s, h4, k4) = bind_ok (reader.rest o) _ x q k3 in
-    (m, n, o, optional, t, c, token_ok (codes "import") p u m h1, maybe_ok (codes "?") m n optional h2, string_ok n o t h3,
-    subst (λ (l : Place). IsRest o l c) (ok_place (tree.Import optional t c) x s q k4) (rest_ok o s c h4), sym (ok_value (tree.Import optional t c) x s q k4))
+    let (c, s, h4, k4) = bind_ok (reader.rest o) _ x q k3 in (
+      m,
+      n,
+      o,
+      optional,
+      t,
+      c,
+      token_ok (codes "import") p u m h1,
+      maybe_ok (codes "?") m n optional h2,
+      string_ok n o t h3,
+      subst (λ (l : Place). IsRest o l c) (ok_place (tree.Import optional t c) x s q k4) (rest_ok o s c h4),
+      sym (ok_value (tree.Import optional t c) x s q k4),
+    )
 
 -- a string that is read behind a module's name stands there, and none does where none is read
 module_path_ok : (p q : Place) (x : Option StringLiteral) → item.module_path p ≡ Ok (x, q) → IsModulePath p q x
@@ -83,10 +103,22 @@ module_ok attributes p q x h =
     let (optional, n, h2, k2) = bind_ok (reader.maybe (codes "?") m) _ x q k1 in
     let (name, o, h3, k3) = bind_ok (reader.name n) _ x q k2 in
     let (t, r, h4, k4) = bind_ok (item.module_path o) _ x q k3 in
-    let (c, s, h5, k5) = bind_ok (reader.rest r) _ x q k4 in
-    (m, n, o, r, optional, name, t, c, token_ok (codes "mod") p u m h1, maybe_ok (codes "?") m n optional h2, name_ok n name o h3, module_path_ok o r t h4,
-    subst (λ (l : Place). IsRest r l c) (ok_place (tree.Module attributes optional name t c) x s q k5) (rest_ok r s c h5),
-    sym (ok_value (tree.Module attributes optional name t c) x s q k5))
+    let (c, s, h5, k5) = bind_ok (reader.rest r) _ x q k4 in (
+      m,
+      n,
+      o,
+      r,
+      optional,
+      name,
+      t,
+      c,
+      token_ok (codes "mod") p u m h1,
+      maybe_ok (codes "?") m n optional h2,
+      name_ok n name o h3,
+      module_path_ok o r t h4,
+      subst (λ (l : Place). IsRest r l c) (ok_place (tree.Module attributes optional name t c) x s q k5) (rest_ok r s c h5),
+      sym (ok_value (tree.Module attributes optional name t c) x s q k5),
+    )
 
 -- an assignment that is read stands there
 assignment_ok : (export : Bool) (p q : Place) (x : AstItem) → item.assignment export p ≡ Ok (x, q) → IsAssignment export p q x
@@ -95,10 +127,19 @@ assignment_ok export p q x h =
     let (name, m, h1, k1) = bind_ok (reader.name p) _ x q h in
     let (u, n, h2, k2) = bind_ok (reader.token (codes ":=") m) _ x q k1 in
     let (y, o, h3, k3) = bind_ok (item.expr n) _ x q k2 in
-    let (c, s, h4, k4) = bind_ok (reader.rest o) _ x q k3 in
-    (m, n, o, name, y, c, name_ok p name m h1, token_ok (codes ":=") m u n h2, expr_ok n o y h3,
-    subst (λ (l : Place). IsRest o l c) (ok_place (tree.Assignment export name y c) x s q k4) (rest_ok o s c h4),
-    sym (ok_value (tree.Assignment export name y c) x s q k4))
+    let (c, s, h4, k4) = bind_ok (reader.rest o) _ x q k3 in (
+      m,
+      n,
+      o,
+      name,
+      y,
+      c,
+      name_ok p name m h1,
+      token_ok (codes ":=") m u n h2,
+      expr_ok n o y h3,
+      subst (λ (l : Place). IsRest o l c) (ok_place (tree.Assignment export name y c) x s q k4) (rest_ok o s c h4),
+      sym (ok_value (tree.Assignment export name y c) x s q k4),
+    )
 
 -- an `unexport` that is read stands there
 unexport_ok : (p q : Place) (x : AstItem) → item.unexport p ≡ Ok (x, q) → IsUnexport p q x
@@ -106,9 +147,16 @@ unfolding item.unexport
 unexport_ok p q x h =
     let (u, m, h1, k1) = bind_ok (reader.token (codes "unexport") p) _ x q h in
     let (name, n, h2, k2) = bind_ok (reader.name m) _ x q k1 in
-    let (c, s, h3, k3) = bind_ok (reader.rest n) _ x q k2 in
-    (m, n, name, c, token_ok (codes "unexport") p u m h1, name_ok m name n h2,
-    subst (λ (l : Place). IsRest n l c) (ok_place (tree.Unexport name c) x s q k3) (rest_ok n s c h3), sym (ok_value (tree.Unexport name c) x s q k3))
+    let (c, s, h3, k3) = bind_ok (reader.rest n) _ x q k2 in (
+      m,
+      n,
+      name,
+      c,
+      token_ok (codes "unexport") p u m h1,
+      name_ok m name n h2,
+      subst (λ (l : Place). IsRest n l c) (ok_place (tree.Unexport name c) x s q k3) (rest_ok n s c h3),
+      sym (ok_value (tree.Unexport name c) x s q k3),
+    )
 
 -- ---- settings
 
@@ -132,6 +180,7 @@ further_string_ok p q x g h =
     let (u, m, h1, k1) = bind_ok (reader.token (codes ",") p) (λ _. reader.string) x q h in
     (m, g, token_ok (codes ",") p u m h1, string_ok m q x k1)
 
+-- strings that are read between brackets stand there with these
 some_strings_ok : (p m n q : Place) (xs : List StringLiteral) → IsToken (codes "[") p m → item.some_strings m ≡ Ok (xs, n) → IsToken (codes "]") n q → AreStrings p q xs
 unfolding item.some_strings item.string_list
 some_strings_ok p m n q xs a h b =
@@ -170,6 +219,7 @@ list_value_ok m q x h =
     let (ys, n, h1, k1) = bind_ok (item.strings m) (λ ys. pure (value.List ys)) x q h in
     (ys, subst (λ (r : Place). AreStrings m r ys) (ok_place (value.List ys) x n q k1) (strings_ok m n ys h1), ap Some (sym (ok_value (value.List ys) x n q k1)))
 
+-- a value that is read behind `:=` is one of a setting of the sort
 value_of_ok : (kind : Sort) (p m q : Place) (x : SettingValue) → IsToken (codes ":=") p m → item.value_of kind m ≡ Ok (x, q) → IsSettingValue kind p q (Some x)
 value_of_ok sort.Flag p m q x t h =
     let (b, n, h1, k1) = bind_ok (item.truth m) (λ b. pure (value.Bool b)) x q h in
@@ -181,6 +231,7 @@ value_of_ok sort.Open p m q x t h =
     (λ (s : _). let (y, i, z) = text_value_ok m q x s.1 in any_text m y refl t s.0 i z)
     (choose (begins (codes "[") m) (item.list_value m) (item.text_value m) (Ok (x, q)) h)
 
+-- where no value is read a setting of the sort may have none
 absent_ok : (kind : Sort) (p q : Place) (x : Option SettingValue) → begins (codes ":=") p ≡ false → item.absent kind p ≡ Ok (x, q) → IsSettingValue kind p q x
 absent_ok sort.Flag p q x b h =
     value_absent (λ e. let no : ⊥ = cc (e) in no) (λ e. let no : ⊥ = cc (e) in no) b (sym (ok_place None x p q h)) (sym (ok_value None x p q h))
@@ -209,16 +260,28 @@ setting_ok p q x h =
     let (u, m, h1, k1) = bind_ok (reader.token (codes "set") p) _ x q h in
     let (name, n, h2, k2) = bind_ok (reader.name m) _ x q k1 in
     let (y, o, h3, k3) = bind_ok (item.setting_value (sort_of name.text) n) _ x q k2 in
-    let (c, s, h4, k4) = bind_ok (reader.rest o) _ x q k3 in
-    (m, n, o, name, y, c, token_ok (codes "set") p u m h1, name_ok m name n h2, setting_value_ok (sort_of name.text) n o y h3,
-    subst (λ (l : Place). IsRest o l c) (ok_place (tree.Setting name y c) x s q k4) (rest_ok o s c h4), sym (ok_value (tree.Setting name y c) x s q k4))
+    let (c, s, h4, k4) = bind_ok (reader.rest o) _ x q k3 in (
+      m,
+      n,
+      o,
+      name,
+      y,
+      c,
+      token_ok (codes "set") p u m h1,
+      name_ok m name n h2,
+      setting_value_ok (sort_of name.text) n o y h3,
+      subst (λ (l : Place). IsRest o l c) (ok_place (tree.Setting name y c) x s q k4) (rest_ok o s c h4),
+      sym (ok_value (tree.Setting name y c) x s q k4),
+    )
 
 -- ---- which item begins
 
+-- of two openings that are no comment neither is
 no_comment_if : (b : Bool) (x y : Opening) → (x ≡ opening.Comment → ⊥) → (y ≡ opening.Comment → ⊥) → (if b then x else y) ≡ opening.Comment → ⊥
 no_comment_if true x y n m h = n h
 no_comment_if false x y n m h = m h
 
+-- where an opening is a comment, and the other way is none, the test holds
 comment_if : (b : Bool) (y : Opening) → (y ≡ opening.Comment → ⊥) → (if b then opening.Comment else y) ≡ opening.Comment → b ≡ true
 comment_if true y n h = refl
 comment_if false y n h = absurd (n h)
@@ -249,7 +312,7 @@ attributed_ok : (p q : Place) (x : Entry) → opening_at p ≡ opening.Recipe �
 unfolding item.attributed
 attributed_ok p q x e h =
     let (xs, m, h1, k1) = bind_ok (item.attributes p)
-        (λ xs m. if opens_module m then and_then (item.module_item xs m) (λ y. pure (entry.Item y)) else and_then (item.recipe_line xs m) (λ y. pure (entry.Recipe y))) x q h in
+    (λ xs m. if opens_module m then and_then (item.module_item xs m) (λ y. pure (entry.Item y)) else and_then (item.recipe_line xs m) (λ y. pure (entry.Recipe y))) x q h in
     let are : AreAttributes p m xs = attributes_ok p m xs h1 in
     ⊎_elim (λ (s : _). let (y, h2, z) = as_item_ok (item.module_item xs m) q x s.1 in attributed_module m xs y e are s.0 (module_ok xs m q y h2) z)
     (λ (s : _).
@@ -258,6 +321,7 @@ attributed_ok p q x e h =
     (sym (ok_value (entry.Recipe y) x n q k2)))
     (choose (opens_module m) (and_then (item.module_item xs m) (λ y. pure (entry.Item y))) (and_then (item.recipe_line xs m) (λ y. pure (entry.Recipe y))) (Ok (x, q)) k1)
 
+-- an item that is read by what it begins with stands there
 item_of_ok : (o : Opening) (p q : Place) (x : Entry) → opening_at p ≡ o → item.item_of o p ≡ Ok (x, q) → IsItem p q x
 item_of_ok opening.Comment p q x e h =
     let (t, m, h1, k1) = bind_ok (reader.comment p) (λ t. pure (entry.Item (tree.Comment t))) x q h in

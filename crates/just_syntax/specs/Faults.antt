@@ -1,5 +1,5 @@
 -- What a refusal says of a text.
-use Rattle.std.specs.Prelude.{◌≡◌, ◌↔◌, ℕ, List, Option, Some, None}
+use Rattle.std.specs.Prelude.{◌≡◌, ◌↔◌, ℕ, List, Some}
 use Rattle.just_read.specs.Place.{Place}
 use Rattle.just_syntax.specs.declared.ast.Name.{Name}
 use Rattle.just_syntax.specs.declared.ast.AstItem.{AstItem}

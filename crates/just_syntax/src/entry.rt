@@ -175,11 +175,7 @@ fn add_blank(
 }
 
 /// A recipe with these lines as its body, the last one first.
-fn with_body(
-    alloc: Global,
-    recipe: Boxed<AstRecipe>,
-    lines: Vec<Line>,
-) -> Result<AstItem, NoMemory>
+fn with_body(alloc: Global, recipe: Boxed<AstRecipe>, lines: Vec<Line>) -> Result<AstItem, NoMemory>
     ensures { IfOk result (λ x. x ≡ AstItem.Recipe (record recipe { body = reverse lines.items })) }
 {
     let mut recipe = recipe.into_inner();

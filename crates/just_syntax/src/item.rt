@@ -189,10 +189,7 @@ fn module(
 
 /// The string behind a module's name, if there is one.
 #[tactic(auto, unfolding(crate::specs::ItemReaders::module_path))]
-fn module_path(
-    alloc: Global,
-    cursor: &mut Cursor<'_>,
-) -> Result<Option<StringLiteral>, ReadError>
+fn module_path(alloc: Global, cursor: &mut Cursor<'_>) -> Result<Option<StringLiteral>, ReadError>
     ensures { Reads (read.module_path cursor.old) result cursor.new }
 {
     if begins_string(cursor) {
@@ -204,11 +201,7 @@ fn module_path(
 }
 
 #[tactic(auto, unfolding(crate::specs::ItemReaders::assignment))]
-fn assignment(
-    alloc: Global,
-    cursor: &mut Cursor<'_>,
-    export: bool,
-) -> Result<AstItem, ReadError>
+fn assignment(alloc: Global, cursor: &mut Cursor<'_>, export: bool) -> Result<AstItem, ReadError>
     ensures { Reads (read.assignment export cursor.old) result cursor.new }
 {
     let name = name(alloc, cursor)?;
@@ -269,11 +262,7 @@ fn setting_value(
 }
 
 /// A value of that sort.
-fn value_of(
-    alloc: Global,
-    cursor: &mut Cursor<'_>,
-    sort: Sort,
-) -> Result<SettingValue, ReadError>
+fn value_of(alloc: Global, cursor: &mut Cursor<'_>, sort: Sort) -> Result<SettingValue, ReadError>
     ensures { Reads (read.value_of sort cursor.old) result cursor.new }
 {
     match sort {
@@ -361,10 +350,7 @@ fn strings(alloc: Global, cursor: &mut Cursor<'_>) -> Result<Seq<StringLiteral>,
 
 /// Strings with commas between them, and maybe one behind them; or nothing.
 #[tactic(auto, unfolding(crate::specs::ItemReaders::some_strings))]
-fn some_strings(
-    alloc: Global,
-    cursor: &mut Cursor<'_>,
-) -> Result<Seq<StringLiteral>, ReadError>
+fn some_strings(alloc: Global, cursor: &mut Cursor<'_>) -> Result<Seq<StringLiteral>, ReadError>
     ensures { Reads (read.some_strings cursor.old) result cursor.new }
 {
     if !begins_string(cursor) {
@@ -377,10 +363,7 @@ fn some_strings(
 
 /// Strings with commas between them, at least one.
 #[tactic(auto, using(crate::proofs::AttributeLoops::strings_begin, crate::proofs::AttributeLoops::strings_more, crate::proofs::AttributeLoops::strings_done, crate::proofs::AttributeLoops::strings_wrong, crate::proofs::AttributeLoops::strings_shorter, crate::proofs::AttributeLoops::strings_refused))]
-fn string_list(
-    alloc: Global,
-    cursor: &mut Cursor<'_>,
-) -> Result<Seq<StringLiteral>, ReadError>
+fn string_list(alloc: Global, cursor: &mut Cursor<'_>) -> Result<Seq<StringLiteral>, ReadError>
     ensures { Reads (read.string_list cursor.old) result cursor.new }
 {
     let first = string(alloc, cursor)?;

@@ -14,7 +14,7 @@ use std::alloc::Global;
 
 /// The tree of a justfile's text. A text that has none is refused at the line at which its longest front of items and
 /// body lines ends; one that has a tree with a left-out setting or attribute is refused at its name.
-#[tactic(auto, using(crate::proofs::FileLaws::one_tree, crate::proofs::FileFaults::only_memory, crate::proofs::FileFaults::left_out_refuses))]
+#[tactic(auto, using(crate::proofs::FileFaults::only_memory, crate::proofs::FileFaults::only_tree, crate::proofs::FileFaults::left_out_refuses, crate::proofs::FileFaults::only_left_out))]
 pub fn parse(alloc: Global, text: &str) -> Result<Ast, ParseError>
     // What is answered is the tree of the text, and has no left-out name.
     ensures found { IfOk result (λ a. IsFile (chars text.now) a.items × (first_left_out a.items ≡ None)) }
@@ -23,7 +23,10 @@ pub fn parse(alloc: Global, text: &str) -> Result<Ast, ParseError>
     // A fault is where the text stops being entries, or the first left-out name of its tree.
     ensures refused { IfErr result (Refuses (chars text.now)) }
 {
-    let entries = entries_of(alloc, text)?;
+    let entries = match entries_of(alloc, text) {
+        Ok(entries) => entries,
+        Err(refusal) => return Err(refusal),
+    };
     let items = gather(alloc, entries)?;
     match first_left_out(items.as_slice()) {
         Some(name) => Err(ParseError::Fault(Fault {
@@ -59,11 +62,7 @@ fn entries_of(alloc: Global, text: &str) -> Result<Vec<Entry>, ParseError>
 
 /// The entry that begins here and the body behind it, or the fault where it begins.
 #[tactic(auto, unfolding(crate::specs::EntryReaders::entry_or_fault))]
-fn next(
-    alloc: Global,
-    cursor: &mut Cursor<'_>,
-    body: Body,
-) -> Result<(Entry, Body), ParseError>
+fn next(alloc: Global, cursor: &mut Cursor<'_>, body: Body) -> Result<(Entry, Body), ParseError>
     ensures { ReadsEntry (entry_or_fault body cursor.old) result cursor.new }
 {
     let line = cursor.line();
