@@ -2,5 +2,7 @@
 pub mod Exprs
 pub mod Places
 pub mod NamesBack
+pub mod PiecesBack
+pub mod StringsBack
 pub mod Braces
 pub mod Items
