@@ -4,5 +4,8 @@ pub mod Places
 pub mod NamesBack
 pub mod PiecesBack
 pub mod StringsBack
+pub mod BareExprs
+pub mod WordsBack
+pub mod ValuesBack
 pub mod Braces
 pub mod Items

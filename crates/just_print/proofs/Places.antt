@@ -72,7 +72,8 @@ pub run_run : (t : ℕ → Bool) (list rest : List ℕ) → passes t (first_in r
 run_run t [] rest e = run_nothing t rest e
 run_run t (c ∷ list) rest e = run_run_by (t c) t c list rest refl e (run_run t list rest e)
 
-beyond_nothing : (t : ℕ → Bool) (rest : List ℕ) → passes t (first_in rest) ≡ false → beyond t rest ≡ rest
+-- nothing is dropped where no character passes
+pub beyond_nothing : (t : ℕ → Bool) (rest : List ℕ) → passes t (first_in rest) ≡ false → beyond t rest ≡ rest
 beyond_nothing t [] h = refl
 beyond_nothing t (c ∷ rest) h = rw h refl
 

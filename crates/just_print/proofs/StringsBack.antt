@@ -74,7 +74,7 @@ picked false false false true list quote e f g h k = begins_mark Double list h �
 picked false false false false list quote e f g h k = absurd (let no : ⊥ = cc in no)
 
 -- the first character of a place at which a quote stands
-quote_first : (p : Place) (quote : Quote) → quote_at p ≡ Some quote → first p ≡ Some (quote_character quote)
+pub quote_first : (p : Place) (quote : Quote) → quote_at p ≡ Some quote → first p ≡ Some (quote_character quote)
 quote_first p quote h =
     picked (begins (mark SingleBlock) p) (begins (mark Single) p) (begins (mark DoubleBlock) p) (begins (mark Double) p) p.rest quote refl refl refl refl h
 
