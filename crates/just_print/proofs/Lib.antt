@@ -7,5 +7,6 @@ pub mod StringsBack
 pub mod BareExprs
 pub mod WordsBack
 pub mod ValuesBack
+pub mod CallsBack
 pub mod Braces
 pub mod Items

@@ -93,7 +93,7 @@ abbrev pub IsFirst : Rule Expr → Place → Place → Expr → Type 0
 IsFirst Inner p q x = At (IsValue Inner) false p q x
 
 module _ (Inner : Rule Expr) where
-  literal_back : (p q : Place) (s : StringLiteral) (x : Expr) → IsString p q s → x ≡ e.Literal s → Back (IsFirst Inner) bare_expr p q x (printed_expr x)
+  pub literal_back : (p q : Place) (s : StringLiteral) (x : Expr) → IsString p q s → x ≡ e.Literal s → Back (IsFirst Inner) bare_expr p q x (printed_expr x)
   literal_back p q s x i z =
       let b : Back IsString bare_string p q s (printed_string s) = string_back p q s i in
       record {
@@ -110,7 +110,7 @@ module _ (Inner : Rule Expr) where
             bare_literal t ∙ (ap (λ (u : StringLiteral). e.Literal u) shape ∙ (sym (bare_literal s) ∙ sym (ap bare_expr z))))
       }
 
-  variable_back : (p q : Place) (n : Name) (x : Expr) → begins_condition p ≡ false → is_call p ≡ false → IsName p q n → x ≡ e.Variable n
+  pub variable_back : (p q : Place) (n : Name) (x : Expr) → begins_condition p ≡ false → is_call p ≡ false → IsName p q n → x ≡ e.Variable n
       → Back (IsFirst Inner) bare_expr p q x (printed_expr x)
   variable_back p q n x g c i z =
       let (d, f, t) = starts_with begins_name p i.0 in
@@ -135,7 +135,7 @@ module _ (Inner : Rule Expr) where
       }
 
 module _ (Inner : Rule Expr) (back : (p q : Place) (x : Expr) → Inner p q x → Back (At Inner (begins_condition p)) bare_expr p q x (printed_expr x)) where
-  group_back : (p m n q : Place) (y x : Expr) → IsToken (codes "(") p m → Inner m n y → IsToken (codes ")") n q → x ≡ e.Group y
+  pub group_back : (p m n q : Place) (y x : Expr) → IsToken (codes "(") p m → Inner m n y → IsToken (codes ")") n q → x ≡ e.Group y
       → Back (IsFirst Inner) bare_expr p q x (printed_expr x)
   group_back p m n q y x t i u z =
       let b : Back (At Inner (begins_condition m)) bare_expr m n y (printed_expr y) = back m n y i in
