@@ -8,5 +8,6 @@ pub mod BareExprs
 pub mod WordsBack
 pub mod ValuesBack
 pub mod CallsBack
+pub mod ExprsBack
 pub mod Braces
 pub mod Items
