@@ -9,5 +9,7 @@ pub mod WordsBack
 pub mod ValuesBack
 pub mod CallsBack
 pub mod ExprsBack
+pub mod PathsBack
+pub mod LinesBack
 pub mod Braces
 pub mod Items
