@@ -96,4 +96,24 @@ module _ (Inner : Rule Expr) (back : (p q : Place) (x : Expr) → Inner p q x �
   value_back p q x g (literal s i z) = literal_back Inner p q s x i z
   value_back p q x g (group m n y t i u z) = group_back Inner back p m n q y x t i u z
   value_back p q x g (env m n o r key d w t i k u z) = env_back p m n o r q key d x w t i k u z
-  value_back p q x g (variable n s c i z) = variable_back Inner p q n x g c i z
+  value_back p q x g (variable n s c i z) = variable_back Inner p q n x false g c i z
+
+  drop_condition : (p q : Place) (x : Expr) (b : Bool) → Back (At (IsValue Inner) b) bare_expr p q x (printed_expr x) → Back (IsValue Inner) bare_expr p q x (printed_expr x)
+  drop_condition p q x c b =
+      record {
+        letters = b.letters;
+        head = b.head;
+        tail = b.tail;
+        encoded = b.encoded;
+        begins = b.begins;
+        seen = b.seen;
+        dark_head = b.dark_head;
+        again = λ r rest h apart alike. let (s, y, j, left, shape) = b.again r rest h apart alike in (s, y, j.1, left, shape)
+      }
+
+  -- a value, whether a condition begins there or not
+  pub any_value_back : (p q : Place) (x : Expr) → IsValue Inner p q x → Back (IsValue Inner) bare_expr p q x (printed_expr x)
+  any_value_back p q x (literal s i z) = drop_condition p q x false (literal_back Inner p q s x i z)
+  any_value_back p q x (group m n y t i u z) = drop_condition p q x false (group_back Inner back p m n q y x t i u z)
+  any_value_back p q x (env m n o r key d w t i k u z) = drop_condition p q x false (env_back p m n o r q key d x w t i k u z)
+  any_value_back p q x (variable n s c i z) = drop_condition p q x (begins_condition p) (variable_back Inner p q n x (begins_condition p) refl c i z)

@@ -11,5 +11,6 @@ pub mod CallsBack
 pub mod ExprsBack
 pub mod PathsBack
 pub mod LinesBack
+pub mod ParametersBack
 pub mod Braces
 pub mod Items

@@ -110,9 +110,9 @@ module _ (Inner : Rule Expr) where
             bare_literal t ∙ (ap (λ (u : StringLiteral). e.Literal u) shape ∙ (sym (bare_literal s) ∙ sym (ap bare_expr z))))
       }
 
-  pub variable_back : (p q : Place) (n : Name) (x : Expr) → begins_condition p ≡ false → is_call p ≡ false → IsName p q n → x ≡ e.Variable n
-      → Back (IsFirst Inner) bare_expr p q x (printed_expr x)
-  variable_back p q n x g c i z =
+  pub variable_back : (p q : Place) (n : Name) (x : Expr) (b : Bool) → begins_condition p ≡ b → is_call p ≡ false → IsName p q n → x ≡ e.Variable n
+      → Back (At (IsValue Inner) b) bare_expr p q x (printed_expr x)
+  variable_back p q n x b g c i z =
       let (d, f, t) = starts_with begins_name p i.0 in
       record {
         letters = run in_name p.rest;
