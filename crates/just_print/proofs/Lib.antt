@@ -12,5 +12,7 @@ pub mod ExprsBack
 pub mod PathsBack
 pub mod LinesBack
 pub mod ParametersBack
+pub mod DependenciesBack
+pub mod RecipesBack
 pub mod Braces
 pub mod Items

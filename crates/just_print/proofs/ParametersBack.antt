@@ -34,14 +34,15 @@ pub dark_first : (list : List ℕ) (c : ℕ) → first_in list ≡ Some c → is
 dark_first [] c h k = refl
 dark_first (d ∷ list) c h k = let e : d ≡ c = cc (h) in rw (e, k) refl
 
-maybe_here : (b : Bool) (c d : ℕ) (r : Place) (more : List ℕ) → r.rest ≡ only_if b (c ∷ []) ++ more → first_in more ≡ Some d → (d == c) ≡ false → is_blank d ≡ false
+-- a mark is printed and read as it stands, or not
+pub maybe_here : (b : Bool) (c d : ℕ) (r : Place) (more : List ℕ) → r.rest ≡ only_if b (c ∷ []) ++ more → first_in more ≡ Some d → (d == c) ≡ false → is_blank d ≡ false
     → (s : Place) × IsMaybe (c ∷ []) r s b × (s.rest ≡ more)
 maybe_here true c d r more h f n k =
     let (s, t, left) = token_back (c ∷ []) more r h in (s, here t refl, left ∙ dark_first more d f k)
 maybe_here false c d r more h f n k = (r, not_here (begins_other d c [] r (ap first_in h ∙ f) n) refl refl, h)
 
 -- the first character of what stands behind a mark or without it
-maybe_first : (c d : ℕ) (p q : Place) (b : Bool) → IsMaybe (c ∷ []) p q b → first q ≡ Some d → is_blank c ≡ false → is_blank d ≡ false
+pub maybe_first : (c d : ℕ) (p q : Place) (b : Bool) → IsMaybe (c ∷ []) p q b → first q ≡ Some d → is_blank c ≡ false → is_blank d ≡ false
     → (head : ℕ) × ((more : List ℕ) → (tail : List ℕ) × (only_if b (c ∷ []) ++ (d ∷ more) ≡ head ∷ tail)) × (first p ≡ Some head) × (is_blank head ≡ false)
 maybe_first c d p q b (here t z) f k l =
     (c, λ more. (d ∷ more, ap (λ (a : Bool). only_if a (c ∷ []) ++ (d ∷ more)) z), token_first c [] p q t, k)

@@ -108,7 +108,8 @@ closes_by true f t c a b h k g = ap t (eqb-true c 10 h) ∙ a
 closes_by false true t c a b h k g = ap t (eqb-true c 13 k) ∙ b
 closes_by false false t c a b h k g = absurd (false≢true (rw (h, k) at g))
 
-closes_test : (t : ℕ → Bool) (list : List ℕ) → t 10 ≡ false → t 13 ≡ false → closes list ≡ true → passes t (first_in list) ≡ false
+-- no such test passes where a line ends
+pub closes_test : (t : ℕ → Bool) (list : List ℕ) → t 10 ≡ false → t 13 ≡ false → closes list ≡ true → passes t (first_in list) ≡ false
 closes_test t [] a b h = refl
 closes_test t (c ∷ rest) a b h = closes_by (c == 10) (c == 13) t c a b refl refl h
 

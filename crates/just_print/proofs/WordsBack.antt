@@ -30,7 +30,8 @@ begins_first c text p h = let (rest, e) = front_of (c ∷ text) p.rest h in ap f
 pub token_first : (c : ℕ) (text : List ℕ) (p q : Place) → IsToken (c ∷ text) p q → first p ≡ Some c
 token_first c text p q (b, e) = begins_first c text p b
 
-other_in : (c d : ℕ) (text list : List ℕ) → first_in list ≡ Some c → (c == d) ≡ false → begins_in (d ∷ text) list ≡ false
+-- nor in a list
+pub other_in : (c d : ℕ) (text list : List ℕ) → first_in list ≡ Some c → (c == d) ≡ false → begins_in (d ∷ text) list ≡ false
 other_in c d text [] h n = refl
 other_in c d text (x ∷ list) h n = let k : x ≡ c = cc in rw (k, n) refl
 
