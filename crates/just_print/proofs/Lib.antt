@@ -14,5 +14,6 @@ pub mod LinesBack
 pub mod ParametersBack
 pub mod DependenciesBack
 pub mod RecipesBack
+pub mod ItemsBack
 pub mod Braces
 pub mod Items
