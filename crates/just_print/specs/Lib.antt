@@ -1,2 +1,3 @@
 -- The specifications of printed texts.
 pub mod Printed
+pub mod Shapes
