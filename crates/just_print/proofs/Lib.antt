@@ -15,5 +15,7 @@ pub mod ParametersBack
 pub mod DependenciesBack
 pub mod RecipesBack
 pub mod ItemsBack
+pub mod TextsBack
+pub mod FragmentsBack
 pub mod Braces
 pub mod Items

@@ -1,3 +1,4 @@
 -- The specifications of printed texts.
 pub mod Printed
 pub mod Shapes
+pub mod Law
