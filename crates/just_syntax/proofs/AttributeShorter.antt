@@ -75,8 +75,15 @@ behind_further_attribute p q x (m, t, i) = omega (arith, token_lt 44 [] p m t, b
 -- behind a line of attributes
 pub behind_attribute_line : (p q : Place) (xs : List Attribute) → IsAttributeLine p q xs → length q.rest < length p.rest
 behind_attribute_line p q xs (in_brackets m n o r s first others c t i are u v e z) =
-    rw e (omega (arith, token_lt 91 [] p m t, behind_attribute m n first i, are_le IsFurtherAttribute behind_further_attribute n o others are, token_lt 93 [] o r u,
-    behind_rest r s c v, past_le is_blank s))
+    rw e (omega (
+      arith,
+      token_lt 91 [] p m t,
+      behind_attribute m n first i,
+      are_le IsFurtherAttribute behind_further_attribute n o others are,
+      token_lt 93 [] o r u,
+      behind_rest r s c v,
+      past_le is_blank s,
+    ))
 
 -- behind the attributes before an item no more is left
 pub behind_attributes : (p q : Place) (xs : List Attribute) → AreAttributes p q xs → length q.rest ≤ length p.rest
