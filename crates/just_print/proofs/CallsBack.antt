@@ -4,8 +4,8 @@ use Rattle.std.proofs.Common.{◌≡◌, ℕ, Bool, true, false, not, ◌&&◌, 
 use Rattle.just_read.specs.Place.{Place, Rule, first, first_in, starts, begins, behind_text}
 use Rattle.just_syntax.specs.declared.ast.Expr.{Expr}
 use Rattle.just_syntax.specs.declared.ast.Expr.TheVariants as e
-use Rattle.just_syntax.specs.Characters.{is_blank, in_name}
-use Rattle.just_syntax.specs.Places.{IsToken, IsWord}
+use Rattle.just_read.specs.Characters.{is_blank, in_name}
+use Rattle.just_read.specs.Lines.{IsToken, IsWord}
 use Rattle.just_syntax.specs.Exprs.{begins_condition, IsDefault, IsValue}
 use Rattle.just_syntax.specs.Exprs.IsValue.{literal, group, env, variable}
 use Rattle.just_print.specs.Printed.{printed_expr, printed_second}

@@ -4,14 +4,16 @@ use Rattle.std.proofs.lemmas.Bool.{false≢true}
 use Rattle.just_read.specs.Place.{Place, Rule, AreMany, next, run, first, first_in, passes, starts, sees, begins, begins_in}
 use Rattle.just_read.proofs.Laws.{sees_first, starts_with, starts_at}
 use Rattle.just_syntax.specs.declared.ast.Name.{Name}
-use Rattle.just_syntax.specs.declared.ast.Quote.{Quote}
-use Rattle.just_syntax.specs.declared.ast.Quote.TheVariants.{Single, Double, SingleBlock, DoubleBlock}
+use Rattle.just_read.specs.declared.quote.Quote.{Quote}
+use Rattle.just_read.specs.declared.quote.Quote.TheVariants.{Single, Double, SingleBlock, DoubleBlock}
 use Rattle.just_syntax.specs.declared.ast.StringLiteral.{StringLiteral}
 use Rattle.just_syntax.specs.declared.ast.Expr.{Expr}
 use Rattle.just_syntax.specs.declared.ast.AstDependency.{AstDependency}
-use Rattle.just_syntax.specs.Characters.{is_blank, begins_name}
-use Rattle.just_syntax.specs.Places.{IsToken, IsPath}
-use Rattle.just_syntax.specs.Strings.{quote_at, behind_x, IsString}
+use Rattle.just_read.specs.Characters.{is_blank, begins_name}
+use Rattle.just_read.specs.Lines.{IsToken}
+use Rattle.just_syntax.specs.Places.{IsPath}
+use Rattle.just_read.specs.Quotes.{quote_at, behind_x}
+use Rattle.just_syntax.specs.Strings.{IsString}
 use Rattle.just_syntax.specs.Strings.IsString.{string}
 use Rattle.just_syntax.specs.Exprs.{begins_condition, IsValue, IsLevel, IsInner, IsExpr}
 use Rattle.just_syntax.specs.Exprs.IsValue.{literal, group, env, variable}

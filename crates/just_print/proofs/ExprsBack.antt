@@ -5,8 +5,8 @@ use Rattle.just_syntax.specs.declared.ast.Comparison.{Comparison}
 use Rattle.just_syntax.specs.declared.ast.Comparison.TheVariants.{Equal, Unequal}
 use Rattle.just_syntax.specs.declared.ast.Expr.{Expr}
 use Rattle.just_syntax.specs.declared.ast.Expr.TheVariants as e
-use Rattle.just_syntax.specs.Characters.{is_blank, in_name}
-use Rattle.just_syntax.specs.Places.{is_word, behind_word, IsToken, IsWord}
+use Rattle.just_read.specs.Characters.{is_blank, in_name}
+use Rattle.just_read.specs.Lines.{is_word, behind_word, IsToken, IsWord}
 use Rattle.just_syntax.specs.Exprs.{begins_expr, begins_condition, IsComparison, IsValue, IsBlock, IsOtherwise, IsLevel, IsInner, IsExpr}
 use Rattle.just_syntax.specs.Exprs.IsComparison.{equal, unequal}
 use Rattle.just_syntax.specs.Exprs.IsBlock.{block}

@@ -8,8 +8,8 @@ use Rattle.just_read.specs.Place.{Place, AreMany, at, past, first_in, passes, be
 use Rattle.just_syntax.specs.declared.ast.Expr.{Expr}
 use Rattle.just_syntax.specs.declared.ast.Fragment.{Fragment}
 use Rattle.just_syntax.specs.declared.ast.Fragment.TheVariants as fragment
-use Rattle.just_syntax.specs.Characters.{is_blank}
-use Rattle.just_syntax.specs.Places.{skip, ends_line, IsToken}
+use Rattle.just_read.specs.Characters.{is_blank}
+use Rattle.just_read.specs.Lines.{skip, ends_line, IsToken}
 use Rattle.just_syntax.specs.Strings.{concat}
 use Rattle.just_syntax.specs.Exprs.{IsExpr}
 use Rattle.just_syntax.specs.Bodies.{opens, is_text, IsLetter, IsFragment}

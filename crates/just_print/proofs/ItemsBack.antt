@@ -4,15 +4,17 @@ use Rattle.std.proofs.Common.{◌≡◌, ℕ, ◌==◌, Bool, true, false, not, 
 use Rattle.just_read.specs.Place.{Place, Rule, next, run, first, first_in, passes, starts, sees, begins, begins_in}
 use Rattle.just_read.proofs.Laws.{sees_first}
 use Rattle.just_syntax.specs.declared.ast.Name.{Name}
-use Rattle.just_syntax.specs.declared.ast.Quote.{Quote}
-use Rattle.just_syntax.specs.declared.ast.Quote.TheVariants.{Single, Double, SingleBlock, DoubleBlock}
+use Rattle.just_read.specs.declared.quote.Quote.{Quote}
+use Rattle.just_read.specs.declared.quote.Quote.TheVariants.{Single, Double, SingleBlock, DoubleBlock}
 use Rattle.just_syntax.specs.declared.ast.StringLiteral.{StringLiteral}
 use Rattle.just_syntax.specs.declared.ast.Expr.{Expr}
 use Rattle.just_syntax.specs.declared.ast.AstItem.{AstItem}
 use Rattle.just_syntax.specs.declared.ast.AstItem.TheVariants as item
-use Rattle.just_syntax.specs.Characters.{is_blank, begins_name, in_name, is_quote}
-use Rattle.just_syntax.specs.Places.{behind_word, name_at, IsToken, IsName, IsPath, IsRest}
-use Rattle.just_syntax.specs.Strings.{quote_at, behind_x, begins_string, IsString}
+use Rattle.just_read.specs.Characters.{is_blank, begins_name, in_name, is_quote}
+use Rattle.just_read.specs.Lines.{behind_word, IsToken}
+use Rattle.just_syntax.specs.Places.{name_at, IsName, IsPath, IsRest}
+use Rattle.just_read.specs.Quotes.{quote_at, behind_x, begins_string}
+use Rattle.just_syntax.specs.Strings.{IsString}
 use Rattle.just_syntax.specs.Strings.IsString.{string}
 use Rattle.just_syntax.specs.Exprs.{begins_condition, IsExpr}
 use Rattle.just_syntax.specs.Recipes.{IsMaybe}

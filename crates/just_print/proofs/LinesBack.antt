@@ -3,9 +3,10 @@ use Rattle.std.proofs.Common.{◌≡◌, ℕ, ◌==◌, Bool, true, false, not, 
 use Rattle.std.proofs.lemmas.Bool.{false≢true}
 use Rattle.just_read.specs.Place.{Place, IsCharacter, next, past, run, first, first_in, passes, starts, sees, begins, begins_in, behind_text, is_empty, is_end}
 use Rattle.just_read.proofs.Laws.{sees_first, starts_at}
-use Rattle.just_syntax.specs.Characters.{is_blank, in_line}
-use Rattle.just_syntax.specs.Places.{crlf, put, without_returns, IsNewline, IsComment, IsRest}
-use Rattle.just_syntax.specs.Places.IsNewline.{last, feed, return_feed}
+use Rattle.just_read.specs.Characters.{is_blank, in_line}
+use Rattle.just_read.specs.Lines.{crlf, put, without_returns, IsNewline}
+use Rattle.just_syntax.specs.Places.{IsComment, IsRest}
+use Rattle.just_read.specs.Lines.IsNewline.{last, feed, return_feed}
 use Rattle.just_syntax.specs.Places.IsRest.{ended, commented}
 use Rattle.just_print.specs.Printed.{newline, printed_end}
 use Rattle.just_print.proofs.Places.{beyond, past_rest, next_rest, run_run, beyond_run, closes, Alike, one_first, both_close, IsApart}

@@ -3,8 +3,9 @@ use Rattle.std.proofs.Common.{◌≡◌, ℕ, Bool, true, false, ◌||◌, List,
 use Rattle.just_read.specs.Place.{Place, Rule, past, run, first, first_in, passes, starts, next}
 use Rattle.just_read.proofs.Laws.{starts_at, starts_with, run_next}
 use Rattle.just_syntax.specs.declared.ast.Name.{Name}
-use Rattle.just_syntax.specs.Characters.{is_blank, begins_name, in_name}
-use Rattle.just_syntax.specs.Places.{skip, behind_word, name_at, IsName}
+use Rattle.just_read.specs.Characters.{is_blank, begins_name, in_name}
+use Rattle.just_read.specs.Lines.{skip, behind_word}
+use Rattle.just_syntax.specs.Places.{name_at, IsName}
 use Rattle.just_print.specs.Shapes.{bare_name}
 use Rattle.just_print.proofs.Places.{beyond, past_rest, run_run, beyond_run, dark, Alike, IsApart}
 

@@ -9,8 +9,9 @@ use Rattle.just_syntax.specs.declared.ast.Expr.{Expr}
 use Rattle.just_syntax.specs.declared.ast.ParameterKind.{ParameterKind}
 use Rattle.just_syntax.specs.declared.ast.ParameterKind.TheVariants.{Singular, Plus, Star}
 use Rattle.just_syntax.specs.declared.ast.AstParameter.{AstParameter}
-use Rattle.just_syntax.specs.Characters.{is_blank, begins_name, in_name}
-use Rattle.just_syntax.specs.Places.{behind_word, name_at, IsToken, IsName}
+use Rattle.just_read.specs.Characters.{is_blank, begins_name, in_name}
+use Rattle.just_read.specs.Lines.{behind_word, IsToken}
+use Rattle.just_syntax.specs.Places.{name_at, IsName}
 use Rattle.just_syntax.specs.Exprs.{IsInner, IsValue}
 use Rattle.just_syntax.specs.Recipes.{begins_parameter, listed, IsMaybe, IsDefault, IsParameter, IsVariadic, IsSingular, AreParameters}
 use Rattle.just_syntax.specs.Recipes.IsMaybe.{here, not_here}

@@ -3,8 +3,9 @@ use Rattle.std.proofs.Common.{◌≡◌, ℕ, Bool, true, false, List, [], ◌�
 use Rattle.just_read.specs.Place.{Place, AreMany, run, first, first_in, starts, next, begins, begins_in}
 use Rattle.just_read.proofs.Laws.{starts_at, starts_with, run_next}
 use Rattle.just_syntax.specs.declared.ast.Name.{Name}
-use Rattle.just_syntax.specs.Characters.{is_blank, begins_name, in_name, is_quote}
-use Rattle.just_syntax.specs.Places.{behind_word, name_at, IsToken, IsName, IsFurtherName, IsPath}
+use Rattle.just_read.specs.Characters.{is_blank, begins_name, in_name, is_quote}
+use Rattle.just_read.specs.Lines.{behind_word, IsToken}
+use Rattle.just_syntax.specs.Places.{name_at, IsName, IsFurtherName, IsPath}
 use Rattle.just_syntax.specs.Places.IsPath.{names}
 use Rattle.just_print.specs.Printed.{led, separated, printed_name, printed_path}
 use Rattle.just_print.specs.Shapes.{bare_name}

@@ -4,11 +4,11 @@ use Rattle.std.proofs.Math.Seq.{take-append_seam}
 use Rattle.std.proofs.lemmas.Bool.{false≢true, eqb-true}
 use Rattle.just_read.specs.Place.{Place, AreMany, IsCharacter, next, past, run, first, first_in, passes, starts, sees, begins, begins_in, behind_text, between, is_empty, is_end}
 use Rattle.just_read.proofs.Laws.{starts_at, starts_with, sees_first, first_is, run_next}
-use Rattle.just_syntax.specs.declared.ast.Quote.{Quote}
-use Rattle.just_syntax.specs.Characters.{is_hex}
-use Rattle.just_syntax.specs.Strings.{mark, is_cooked, letter_meant, number_from, goes_on, IsEscape, IsPiece, IsPieceOf}
-use Rattle.just_syntax.specs.Strings.IsEscape.{letter, unicode, feed, return_feed}
-use Rattle.just_syntax.specs.Strings.IsPiece.{itself, escaped}
+use Rattle.just_read.specs.declared.quote.Quote.{Quote}
+use Rattle.just_read.specs.Characters.{is_hex}
+use Rattle.just_read.specs.Quotes.{mark, is_cooked, letter_meant, number_from, goes_on, IsEscape, IsPiece, IsPieceOf}
+use Rattle.just_read.specs.Quotes.IsEscape.{letter, unicode, feed, return_feed}
+use Rattle.just_read.specs.Quotes.IsPiece.{itself, escaped}
 use Rattle.just_print.proofs.Places.{beyond, past_rest, run_run, beyond_run, same, next_rest, and_true}
 
 -- the front of a text and what follows it; the front stands for x wherever it stands

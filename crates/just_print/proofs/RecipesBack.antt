@@ -8,8 +8,9 @@ use Rattle.just_syntax.specs.declared.ast.Attribute.{Attribute}
 use Rattle.just_syntax.specs.declared.ast.AstParameter.{AstParameter}
 use Rattle.just_syntax.specs.declared.ast.AstDependency.{AstDependency}
 use Rattle.just_syntax.specs.declared.ast.AstRecipe.{AstRecipe}
-use Rattle.just_syntax.specs.Characters.{is_blank, begins_name, in_name}
-use Rattle.just_syntax.specs.Places.{behind_word, name_at, IsToken, IsName, IsNewline, IsRest}
+use Rattle.just_read.specs.Characters.{is_blank, begins_name, in_name}
+use Rattle.just_read.specs.Lines.{behind_word, IsToken, IsNewline}
+use Rattle.just_syntax.specs.Places.{name_at, IsName, IsRest}
 use Rattle.just_syntax.specs.Places.IsRest.{ended, commented}
 use Rattle.just_syntax.specs.Recipes.{begins_dependency, IsMaybe, AreParameters, AreDependencies, AreSubsequents, IsRecipeLine}
 use Rattle.just_syntax.specs.Recipes.AreDependencies.{dependencies}

@@ -5,12 +5,13 @@ use Rattle.std.proofs.lemmas.Bool.{false≢true}
 use Rattle.std.proofs.lemmas.Str.{encodes-append}
 use Rattle.just_read.specs.Place.{Place, AreMany, next, past, first, first_in, passes, starts, sees, begins, begins_in, behind_text, between}
 use Rattle.just_read.proofs.Laws.{starts_at, sees_first, first_is}
-use Rattle.just_syntax.specs.declared.ast.Quote.{Quote}
-use Rattle.just_syntax.specs.declared.ast.Quote.TheVariants.{Single, Double, SingleBlock, DoubleBlock}
+use Rattle.just_read.specs.declared.quote.Quote.{Quote}
+use Rattle.just_read.specs.declared.quote.Quote.TheVariants.{Single, Double, SingleBlock, DoubleBlock}
 use Rattle.just_syntax.specs.declared.ast.StringLiteral.{StringLiteral}
-use Rattle.just_syntax.specs.Characters.{is_blank, is_quote}
-use Rattle.just_syntax.specs.Places.{skip}
-use Rattle.just_syntax.specs.Strings.{mark, quote_at, behind_x, literal_at, IsPieceOf, IsRaw, IsString}
+use Rattle.just_read.specs.Characters.{is_blank, is_quote}
+use Rattle.just_read.specs.Lines.{skip}
+use Rattle.just_read.specs.Quotes.{mark, quote_at, behind_x, IsPieceOf}
+use Rattle.just_syntax.specs.Strings.{literal_at, IsRaw, IsString}
 use Rattle.just_syntax.specs.Strings.IsRaw.{closed}
 use Rattle.just_syntax.specs.Strings.IsString.{string}
 use Rattle.just_print.specs.Printed.{only_if, printed_string}

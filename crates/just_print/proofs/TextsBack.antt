@@ -4,7 +4,7 @@ use Rattle.std.proofs.Common.{◌≡◌, ℕ, ◌==◌, ◌<◌, Bool, true, fal
 use Rattle.std.proofs.lemmas.Bool.{false≢true, eqb-true}
 use Rattle.just_read.specs.Place.{Place, AreMany, next, first, first_in, passes, begins_in, behind_text, is_empty}
 use Rattle.just_read.proofs.Laws.{first_is}
-use Rattle.just_syntax.specs.Places.{crlf}
+use Rattle.just_read.specs.Lines.{crlf}
 use Rattle.just_syntax.specs.Strings.{concat}
 use Rattle.just_syntax.specs.Bodies.{is_text, IsLetter}
 use Rattle.just_syntax.specs.Bodies.IsLetter.{braces, itself}

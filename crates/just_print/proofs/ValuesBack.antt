@@ -5,14 +5,16 @@ use Rattle.std.proofs.lemmas.Bool.{false≢true}
 use Rattle.just_read.specs.Place.{Place, Rule, next, run, first, first_in, passes, starts, sees, begins, begins_in}
 use Rattle.just_read.proofs.Laws.{starts_at, starts_with, run_next, sees_first}
 use Rattle.just_syntax.specs.declared.ast.Name.{Name}
-use Rattle.just_syntax.specs.declared.ast.Quote.{Quote}
-use Rattle.just_syntax.specs.declared.ast.Quote.TheVariants.{Single, Double, SingleBlock, DoubleBlock}
+use Rattle.just_read.specs.declared.quote.Quote.{Quote}
+use Rattle.just_read.specs.declared.quote.Quote.TheVariants.{Single, Double, SingleBlock, DoubleBlock}
 use Rattle.just_syntax.specs.declared.ast.StringLiteral.{StringLiteral}
 use Rattle.just_syntax.specs.declared.ast.Expr.{Expr}
 use Rattle.just_syntax.specs.declared.ast.Expr.TheVariants as e
-use Rattle.just_syntax.specs.Characters.{is_blank, begins_name, in_name, is_quote}
-use Rattle.just_syntax.specs.Places.{is_word, behind_word, name_at, IsToken, IsWord, IsName}
-use Rattle.just_syntax.specs.Strings.{quote_at, behind_x, begins_string, IsString}
+use Rattle.just_read.specs.Characters.{is_blank, begins_name, in_name, is_quote}
+use Rattle.just_read.specs.Lines.{is_word, behind_word, IsToken, IsWord}
+use Rattle.just_syntax.specs.Places.{name_at, IsName}
+use Rattle.just_read.specs.Quotes.{quote_at, behind_x, begins_string}
+use Rattle.just_syntax.specs.Strings.{IsString}
 use Rattle.just_syntax.specs.Strings.IsString.{string}
 use Rattle.just_syntax.specs.Exprs.{begins_expr, begins_condition, is_call, IsDefault, IsValue}
 use Rattle.just_syntax.specs.Exprs.IsValue.{literal, group, env, variable}

@@ -2,7 +2,7 @@
 use Rattle.std.specs.Prelude.{◌≡◌, ℕ, Bool, true, false, not, ◌&&◌, ◌==◌, List, [], ◌∷◌, chars}
 use Rattle.std.specs.List.{list_all}
 use Rattle.just_read.specs.Place.{is_empty}
-use Rattle.just_syntax.specs.Characters.{is_blank}
+use Rattle.just_read.specs.Characters.{is_blank}
 use Rattle.just_syntax.specs.declared.ast.Fragment.{Fragment}
 use Rattle.just_syntax.specs.declared.ast.Fragment.TheVariants as fragment
 use Rattle.just_syntax.specs.declared.ast.Line.{Line}

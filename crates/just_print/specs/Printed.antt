@@ -22,7 +22,7 @@ use Rattle.just_syntax.specs.declared.ast.SettingValue.{SettingValue}
 use Rattle.just_syntax.specs.declared.ast.SettingValue.TheVariants as setting
 use Rattle.just_syntax.specs.declared.ast.AstItem.{AstItem}
 use Rattle.just_syntax.specs.declared.ast.AstItem.TheVariants as item
-use Rattle.just_syntax.specs.Strings.{mark}
+use Rattle.just_read.specs.Quotes.{mark}
 
 -- ---- lists
 

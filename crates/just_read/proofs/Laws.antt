@@ -1,11 +1,17 @@
 -- What the crate offers to the proofs of crates above: laws of places, of outcomes and of loops over readers.
-use Rattle.std.proofs.Common.{◌≡◌, ℕ, ◌<◌, ◌≤◌, Bool, true, false, if◌then◌else◌, ◌⊎◌, List, [], ◌∷◌, ◌++◌, length, Some, None, Ok, Err}
-use Rattle.just_read.specs.Place.{Place, next, past, run, first, starts, sees, is_end, IsCharacter, Rule, AreMany}
+use Rattle.std.proofs.Common.{◌≡◌, ℕ, ◌<◌, ◌≤◌, Bool, true, false, if◌then◌else◌, ◌⊎◌, List, [], ◌∷◌, ◌++◌, length, Some, None, Ok, Err, ◌==◌, ◌&&◌}
+use Rattle.just_read.specs.Place.{Place, next, past, run, first, starts, sees, is_end, IsCharacter, Rule, AreMany, begins, behind_text}
 use Rattle.just_read.specs.Reader.{Outcome, Reader, and_then, pure, expect, step, many}
 use Rattle.just_read.specs.declared.error.ReadError.{ReadError}
+use Rattle.just_read.specs.Quotes.{is_cooked, goes_on, IsEscape, IsPiece}
+use Rattle.just_read.specs.declared.quote.Quote.{Quote}
 use Rattle.just_read.proofs.Steps as steps
 use Rattle.just_read.proofs.Outcomes as outcomes
 use Rattle.just_read.proofs.Many as loop
+use Rattle.just_read.proofs.PieceLaws as piece_laws
+use Rattle.just_read.proofs.PieceLoop as piece_loop
+use Rattle.just_read.proofs.Texts as texts
+use Rattle.just_read.specs.Tokens as tokens
 
 -- ---- places
 
@@ -159,3 +165,67 @@ pub many_ok : {A : Type 0} (more : Place → Bool) (one : Reader A) (Is : Rule A
     → ((p q : Place) (x : A) → more p ≡ true → one p ≡ Ok (x, q) → Is p q x)
     → (p q : Place) (xs : List A) → many more one p ≡ Ok (xs, q) → AreMany Is p q xs × (more q ≡ false)
 many_ok more one Is reads p q xs h = loop.many_ok more one Is reads p q xs h
+
+-- ---- texts that come first
+
+-- both of two tests that hold together hold
+pub and_true : (a b : Bool) → (a && b) ≡ true → (a ≡ true) × (b ≡ true)
+and_true = texts.and_true
+
+-- the first character of a text that comes first
+pub begins_first : (c : ℕ) (text : List ℕ) (p : Place) → begins (c ∷ text) p ≡ true → first p ≡ Some c
+begins_first = texts.begins_first
+
+-- what a test says of it
+pub begins_starts : (t : ℕ → Bool) (c : ℕ) (text : List ℕ) (p : Place) → begins (c ∷ text) p ≡ true → starts t p ≡ t c
+begins_starts = texts.begins_starts
+
+-- where another character comes first a text doesn't
+pub begins_other : (c d : ℕ) (text : List ℕ) (p : Place) → first p ≡ Some c → (c == d) ≡ false → begins (d ∷ text) p ≡ false
+begins_other = texts.begins_other
+
+-- nor where a character comes first that passes a test which its own doesn't
+pub starts_other : (t : ℕ → Bool) (d : ℕ) (text : List ℕ) (p : Place) → starts t p ≡ true → t d ≡ false → begins (d ∷ text) p ≡ false
+starts_other = texts.starts_other
+
+-- a character is itself
+pub same : (c : ℕ) → (c == c) ≡ true
+same = texts.same
+
+-- before the end of the text a step takes a character
+pub next_takes : (p : Place) → is_end p ≡ false → length (next p).rest < length p.rest
+next_takes = texts.next_takes
+
+-- a step takes nothing back
+pub next_le : (p : Place) → length (next p).rest ≤ length p.rest
+next_le = texts.next_le
+
+-- nor a text
+pub behind_le : (text : List ℕ) (p : Place) → length (behind_text text p).rest ≤ length p.rest
+behind_le = texts.behind_le
+
+-- a text that comes first takes a character
+pub behind_shorter : (c : ℕ) (text : List ℕ) (p : Place) → begins (c ∷ text) p ≡ true → length (behind_text (c ∷ text) p).rest < length p.rest
+behind_shorter = texts.behind_shorter
+
+-- ---- the pieces of strings
+
+-- characters that the test calls equal are
+pub is_of : (c d : ℕ) → (c == d) ≡ true → c ≡ d
+is_of = piece_laws.is_of
+
+-- what is read behind a backslash is an escape
+pub escape_ok : (p q : Place) (x : List ℕ) → tokens.escape p ≡ Ok (x, q) → IsEscape p q x
+escape_ok = piece_laws.escape_ok
+
+-- a piece that is read stands there
+pub piece_ok : (cooked : Bool) (p q : Place) (x : List ℕ) → tokens.piece cooked p ≡ Ok (x, q) → IsPiece cooked p q x
+piece_ok = piece_laws.piece_ok
+
+-- a piece takes a character
+pub piece_lt : (cooked : Bool) (p q : Place) (x : List ℕ) → IsPiece cooked p q x → length q.rest < length p.rest
+piece_lt = piece_laws.piece_lt
+
+-- where the string goes on a piece takes a character
+pub pieces_shorter : (quote : Quote) (p q : Place) (x : List ℕ) → goes_on quote p ≡ true → tokens.piece (is_cooked quote) p ≡ Ok (x, q) → length q.rest < length p.rest
+pieces_shorter = piece_loop.shorter

@@ -2,4 +2,10 @@
 pub mod Steps
 pub mod Outcomes
 pub mod Many
+pub mod Texts
+pub mod Lines
+pub mod Digits
+pub mod PieceLaws
+pub mod PieceLoop
+pub mod SharedBlanks
 pub mod Laws

@@ -3,3 +3,9 @@ pub mod formers
 pub mod Place
 pub mod Cursor
 pub mod Reader
+pub mod Characters
+pub mod Lines
+pub mod Indentation
+pub mod Quotes
+pub mod Given
+pub mod Tokens

@@ -11,7 +11,7 @@ use Rattle.just_syntax.specs.declared.form.Form.{Form}
 use Rattle.just_syntax.specs.declared.form.Form.TheVariants.{Bare, MaybeText, Text, Texts, Arg, Cache, Open}
 use Rattle.just_syntax.specs.declared.form.KeyForm.{KeyForm}
 use Rattle.just_syntax.specs.declared.form.KeyForm.TheVariants.{Alone, Either, Value, Number, Unknown}
-use Rattle.just_syntax.specs.Places.{IsToken}
+use Rattle.just_read.specs.Lines.{IsToken}
 use Rattle.just_syntax.specs.Forms.{form_of, key_form, has_text}
 use Rattle.just_syntax.specs.Attributes.{is_keyed, takes_text, is_first, behind_first}
 use Rattle.just_syntax.specs.Attributes.{IsPlain, IsKey, IsOption, IsArgument, AreFurther, AreArguments, IsAttribute, IsFurtherAttribute, IsAttributeLine, AreAttributes}
@@ -23,7 +23,7 @@ use Rattle.just_syntax.specs.Attributes.IsAttribute.{bare, behind_colon, grouped
 use Rattle.just_syntax.specs.Attributes.IsAttributeLine.{in_brackets}
 use Rattle.just_syntax.specs.Attributes.AreAttributes.{line_by_line}
 use Rattle.just_syntax.specs.ItemReaders as item
-use Rattle.just_syntax.proofs.Texts.{begins_first, begins_other}
+use Rattle.just_read.proofs.Laws.{begins_first, begins_other}
 use Rattle.just_syntax.proofs.Marks.{token_again, name_again}
 use Rattle.just_syntax.proofs.LineLaws.{rest_again, trailing_again}
 use Rattle.just_syntax.proofs.StringLaws.{string_again}

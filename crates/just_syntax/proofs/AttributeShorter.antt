@@ -7,7 +7,7 @@ use Rattle.just_syntax.specs.declared.ast.StringLiteral.{StringLiteral}
 use Rattle.just_syntax.specs.declared.ast.Argument.{Argument}
 use Rattle.just_syntax.specs.declared.ast.Attribute.{Attribute}
 use Rattle.just_syntax.specs.declared.form.Form.{Form}
-use Rattle.just_syntax.specs.Characters.{is_blank}
+use Rattle.just_read.specs.Characters.{is_blank}
 use Rattle.just_syntax.specs.Exprs.{IsInner}
 use Rattle.just_syntax.specs.Forms.{form_of}
 use Rattle.just_syntax.specs.Attributes.{behind_first, IsPlain, IsKey, IsOption, IsArgument, AreFurther, AreArguments, IsAttribute, IsFurtherAttribute, IsAttributeLine, AreAttributes}
@@ -20,6 +20,7 @@ use Rattle.just_syntax.specs.Attributes.IsAttributeLine.{in_brackets}
 use Rattle.just_syntax.specs.Attributes.AreAttributes.{line_by_line}
 use Rattle.just_syntax.specs.ItemReaders as item
 use Rattle.just_syntax.specs.Readers as reader
+use Rattle.just_read.specs.Tokens as tokens
 use Rattle.just_syntax.proofs.Marks.{token_ok, token_lt}
 use Rattle.just_syntax.proofs.LineLaws.{behind_rest, behind_trailing}
 use Rattle.just_syntax.proofs.StringLaws.{string_ok, string_lt}
@@ -95,7 +96,7 @@ behind_attributes p q xs (line_by_line lines are n z) = are_le IsAttributeLine b
 pub further_argument_lt : (form : Form) (earlier : List Argument) (p q : Place) (x : Argument) → item.further_argument form earlier p ≡ Ok (x, q) → length q.rest < length p.rest
 unfolding item.further_argument
 further_argument_lt form earlier p q x h =
-    let (u, m, h1, k1) = bind_ok (reader.token (codes ",") p) (λ _. item.argument form earlier) x q h in
+    let (u, m, h1, k1) = bind_ok (tokens.token (codes ",") p) (λ _. item.argument form earlier) x q h in
     omega (arith, token_lt 44 [] p m (token_ok (codes ",") p u m h1), behind_argument form earlier m q x (argument_ok form earlier m q x k1))
 
 -- a comma and an attribute take a character
@@ -110,5 +111,5 @@ attribute_line_lt p q xs h = behind_attribute_line p q xs (attribute_line_ok p q
 pub further_string_lt : (p q : Place) (x : StringLiteral) → item.further_string p ≡ Ok (x, q) → length q.rest < length p.rest
 unfolding item.further_string
 further_string_lt p q x h =
-    let (u, m, h1, k1) = bind_ok (reader.token (codes ",") p) (λ _. reader.string) x q h in
+    let (u, m, h1, k1) = bind_ok (tokens.token (codes ",") p) (λ _. reader.string) x q h in
     omega (arith, token_lt 44 [] p m (token_ok (codes ",") p u m h1), string_lt m q x (string_ok m q x k1))

@@ -14,7 +14,8 @@ use Rattle.just_syntax.specs.declared.form.Form.{Form}
 use Rattle.just_syntax.specs.declared.form.Form.TheVariants.{Bare, MaybeText, Text, Texts, Arg, Cache, Open}
 use Rattle.just_syntax.specs.declared.form.KeyForm.{KeyForm}
 use Rattle.just_syntax.specs.declared.form.KeyForm.TheVariants.{Alone, Either, Value, Number, Unknown}
-use Rattle.just_syntax.specs.Places.{skip, IsToken, IsName}
+use Rattle.just_read.specs.Lines.{skip, IsToken}
+use Rattle.just_syntax.specs.Places.{IsName}
 use Rattle.just_syntax.specs.Strings.{IsString, IsTextOf}
 use Rattle.just_syntax.specs.Exprs.{IsExpr}
 use Rattle.just_syntax.specs.Forms.{form_of, may_be_bare, has_colon, key_form, may_stand_alone, has_text}
@@ -30,6 +31,7 @@ use Rattle.just_syntax.specs.Attributes.AreAttributes.{line_by_line}
 use Rattle.just_syntax.specs.Meanings.{text_of}
 use Rattle.just_syntax.specs.ItemReaders as item
 use Rattle.just_syntax.specs.Readers as reader
+use Rattle.just_read.specs.Tokens as tokens
 use Rattle.just_syntax.proofs.Marks.{token_ok, name_ok}
 use Rattle.just_syntax.proofs.LineLaws.{rest_ok, trailing_ok}
 use Rattle.just_syntax.proofs.StringLaws.{string_ok}
@@ -46,17 +48,17 @@ plain_ok key p q x h =
     (y, subst (λ (r : Place). IsExpr p r y) (ok_place (argument_at key p y) x m q k1) (expr_ok p m y h1), sym (ok_value (argument_at key p y) x m q k1))
 
 -- so do `=` and an expression
-signed_ok : (k : Name) (p q : Place) (x : Argument) → and_then (reader.token (codes "=") p) (λ _. item.plain (Some k)) ≡ Ok (x, q)
+signed_ok : (k : Name) (p q : Place) (x : Argument) → and_then (tokens.token (codes "=") p) (λ _. item.plain (Some k)) ≡ Ok (x, q)
     → (m : Place) × IsToken (codes "=") p m × IsPlain (Some k) m q x
 signed_ok k p q x h =
-    let (u, m, h1, k1) = bind_ok (reader.token (codes "=") p) (λ _. item.plain (Some k)) x q h in
+    let (u, m, h1, k1) = bind_ok (tokens.token (codes "=") p) (λ _. item.plain (Some k)) x q h in
     (m, token_ok (codes "=") p u m h1, plain_ok (Some k) m q x k1)
 
 -- and a key, `=` and an expression
 pub keyed_ok : (p q : Place) (x : Argument) → item.keyed p ≡ Ok (x, q) → (m : Place) × (k : Name) × IsKey p m k × IsPlain (Some k) m q x
 unfolding item.keyed
 keyed_ok p q x h =
-    let (k, m, h1, k1) = bind_ok (reader.name p) (λ k m. and_then (reader.token (codes "=") m) (λ _. item.plain (Some k))) x q h in
+    let (k, m, h1, k1) = bind_ok (reader.name p) (λ k m. and_then (tokens.token (codes "=") m) (λ _. item.plain (Some k))) x q h in
     let (n, t, i) = signed_ok k m q x k1 in
     (n, k, key_sign m (name_ok p k m h1) t, i)
 
@@ -120,7 +122,7 @@ valued_ok Alone earlier p m q k x f b i h = absurd (let no : ⊥ = cc (h) in no)
 valued_ok Either earlier p m q k x f b i h = let (n, t, v) = signed_ok k m q x h in valued n k (key_sign m i t) b (ap has_text f) v
 valued_ok Value earlier p m q k x f b i h = let (n, t, v) = signed_ok k m q x h in valued n k (key_sign m i t) b (ap has_text f) v
 valued_ok Number earlier p m q k x f b i h =
-    let (u, n, h1, k1) = bind_ok (reader.token (codes "=") m) (λ _. item.number_argument k) x q h in
+    let (u, n, h1, k1) = bind_ok (tokens.token (codes "=") m) (λ _. item.number_argument k) x q h in
     let v = number_ok k n q x k1 in
     number n k v.s v.digits (key_sign m i (token_ok (codes "=") m u n h1)) b f v.stands v.means v.decimal v.is
 valued_ok Unknown earlier p m q k x f b i h = absurd (let no : ⊥ = cc (h) in no)
@@ -183,7 +185,7 @@ further_turn form others are earlier p q xs h =
     ⊎_elim
     (λ (s : _).
     let (x, n, h1, k1) = bind_ok (item.further_argument form earlier p) (λ x n. and_then (others (earlier ++ x ∷ []) n) (λ ys. pure (x ∷ ys))) xs q s.1 in
-    let (u, m, h2, k2) = bind_ok (reader.token (codes ",") p) (λ _. item.argument form earlier) x n h1 in
+    let (u, m, h2, k2) = bind_ok (tokens.token (codes ",") p) (λ _. item.argument form earlier) x n h1 in
     let (ys, o, h3, k3) = bind_ok (others (earlier ++ x ∷ []) n) (λ ys. pure (x ∷ ys)) xs q k1 in
     let end : o ≡ q = ok_place (x ∷ ys) xs o q k3 in
     subst (λ (zs : List Argument). AreFurther form earlier p q zs) (ok_value (x ∷ ys) xs o q k3) (
@@ -211,10 +213,10 @@ further_ok form earlier p q xs h = bounded_ok form (length p.rest) earlier p q x
 pub arguments_ok : (form : Form) (p q : Place) (xs : List Argument) → item.arguments form p ≡ Ok (xs, q) → AreArguments form p q xs
 unfolding item.arguments item.argument_list
 arguments_ok form p q xs h =
-    let (u, m, h1, k1) = bind_ok (reader.token (codes "(") p) _ xs q h in
+    let (u, m, h1, k1) = bind_ok (tokens.token (codes "(") p) _ xs q h in
     let (ys, o, h2, k2) = bind_ok (item.argument_list form m) _ xs q k1 in
     let (v, r, h3, k3) = bind_ok (item.trailing o) _ xs q k2 in
-    let (w, l, h4, k4) = bind_ok (reader.token (codes ")") r) _ xs q k3 in
+    let (w, l, h4, k4) = bind_ok (tokens.token (codes ")") r) _ xs q k3 in
     let (x, n, h5, k5) = bind_ok (item.argument form [] m) (λ x n. and_then (item.further form (x ∷ []) n) (λ zs. pure (x ∷ zs))) ys o h2 in
     let (zs, i, h6, k6) = bind_ok (item.further form (x ∷ []) n) (λ zs. pure (x ∷ zs)) ys o k5 in
     let end : l ≡ q = ok_place ys xs l q k4 in
@@ -229,13 +231,13 @@ colon_ok : (n : Name) (p m q : Place) (xs : List Argument) → IsName p m n → 
 colon_ok n p m q xs i h =
     ⊎_elim
     (λ (s : _).
-    let (u, o, h1, k1) = bind_ok (reader.token (codes ":") m) (λ _ o. and_then (reader.string o) (λ t. pure (argument_at None o (e.Literal t) ∷ []))) xs q s.1 in
+    let (u, o, h1, k1) = bind_ok (tokens.token (codes ":") m) (λ _ o. and_then (reader.string o) (λ t. pure (argument_at None o (e.Literal t) ∷ []))) xs q s.1 in
     let (t, l, h2, k2) = bind_ok (reader.string o) (λ t. pure (argument_at None o (e.Literal t) ∷ [])) xs q k1 in
     let found = argument_at None o (e.Literal t) ∷ [] in
     behind_colon m o n t i s.0 (token_ok (codes ":") m u o h1) (subst (λ (r : Place). IsString o r t) (ok_place found xs l q k2) (string_ok o l t h2))
     (ap (attribute_of n true) (sym (ok_value found xs l q k2))))
     (λ (s : _). absurd (let no : ⊥ = cc (s.1) in no))
-    (choose (has_colon (form_of n.text)) (and_then (reader.token (codes ":") m) (λ _ o. and_then (reader.string o) (λ t. pure (argument_at None o (e.Literal t) ∷ []))))
+    (choose (has_colon (form_of n.text)) (and_then (tokens.token (codes ":") m) (λ _ o. and_then (reader.string o) (λ t. pure (argument_at None o (e.Literal t) ∷ []))))
     (Err Syntax) (Ok (xs, q)) h)
 
 -- what is read behind the name of an attribute stands there
@@ -277,16 +279,16 @@ attribute_ok p q x h =
 pub further_attribute_ok : (p q : Place) (x : Attribute) → item.further_attribute p ≡ Ok (x, q) → IsFurtherAttribute p q x
 unfolding item.further_attribute
 further_attribute_ok p q x h =
-    let (u, m, h1, k1) = bind_ok (reader.token (codes ",") p) (λ _. item.attribute) x q h in
+    let (u, m, h1, k1) = bind_ok (tokens.token (codes ",") p) (λ _. item.attribute) x q h in
     (m, token_ok (codes ",") p u m h1, attribute_ok m q x k1)
 
 -- a line of attributes that is read stands there
 pub attribute_line_ok : (p q : Place) (xs : List Attribute) → item.attribute_line p ≡ Ok (xs, q) → IsAttributeLine p q xs
 unfolding item.attribute_line item.attribute_list
 attribute_line_ok p q xs h =
-    let (u, m, h1, k1) = bind_ok (reader.token (codes "[") p) _ xs q h in
+    let (u, m, h1, k1) = bind_ok (tokens.token (codes "[") p) _ xs q h in
     let (ys, o, h2, k2) = bind_ok (item.attribute_list m) _ xs q k1 in
-    let (v, r, h3, k3) = bind_ok (reader.token (codes "]") o) _ xs q k2 in
+    let (v, r, h3, k3) = bind_ok (tokens.token (codes "]") o) _ xs q k2 in
     let (c, s, h4, k4) = bind_ok (reader.rest r) (λ c s. Ok (with_comment c ys, skip s)) xs q k3 in
     let (x, n, h5, k5) = bind_ok (item.attribute m) (λ x n. and_then (many (begins (codes ",")) item.further_attribute n) (λ zs. pure (x ∷ zs))) ys o h2 in
     let (zs, i, h6, k6) = bind_ok (many (begins (codes ",")) item.further_attribute n) (λ zs. pure (x ∷ zs)) ys o k5 in

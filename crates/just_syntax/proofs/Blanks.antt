@@ -3,7 +3,7 @@ use Rattle.std.proofs.Common.{◌≡◌, ℕ, ◌==◌, Bool, true, false, ◌||
 use Rattle.std.proofs.lemmas.Bool.{false≢true}
 use Rattle.just_read.specs.Place.{Place, next, run, first, starts, sees}
 use Rattle.just_read.proofs.Laws.{starts_with, starts_at, run_next, run_none, sees_first}
-use Rattle.just_syntax.specs.Characters.{is_blank}
+use Rattle.just_read.specs.Characters.{is_blank}
 
 -- a blank that is no space is a tab
 tab_of : (c : ℕ) → is_blank c ≡ true → (c == 32) ≡ false → c ≡ 9

@@ -5,14 +5,14 @@ use Rattle.just_read.specs.Reader.{pure}
 use Rattle.just_read.proofs.Laws.{many_again, not_end_where_starts, ok_value, ok_place}
 use Rattle.just_syntax.specs.declared.ast.Fragment.{Fragment}
 use Rattle.just_syntax.specs.declared.ast.Line.{Line}
-use Rattle.just_syntax.specs.Places.{ends_line}
+use Rattle.just_read.specs.Lines.{ends_line}
 use Rattle.just_syntax.specs.Strings.{concat}
 use Rattle.just_syntax.specs.Bodies.{opens, is_text, is_body_line, IsLetter, IsFragment, IsBodyLine}
 use Rattle.just_syntax.specs.Bodies.IsLetter.{braces, itself}
 use Rattle.just_syntax.specs.Bodies.IsFragment.{text, value}
 use Rattle.just_syntax.specs.Bodies.IsBodyLine.{line}
 use Rattle.just_syntax.specs.ItemReaders as item
-use Rattle.just_syntax.proofs.Texts.{and_true, begins_starts, begins_first, begins_other}
+use Rattle.just_read.proofs.Laws.{and_true, begins_starts, begins_first, begins_other}
 use Rattle.just_syntax.proofs.Beginnings.{not_true}
 use Rattle.just_syntax.proofs.Marks.{token_again}
 use Rattle.just_syntax.proofs.Shorter.{letter_lt}

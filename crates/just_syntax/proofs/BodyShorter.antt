@@ -5,13 +5,13 @@ use Rattle.just_read.specs.Place.{Place, AreMany, first_in, begins, behind_text,
 use Rattle.just_read.proofs.Laws.{starts_none, past_stays, character_shorter}
 use Rattle.just_syntax.specs.declared.ast.Fragment.{Fragment}
 use Rattle.just_syntax.specs.declared.ast.Line.{Line}
-use Rattle.just_syntax.specs.Characters.{is_blank}
-use Rattle.just_syntax.specs.Places.{skip, ends_line, IsNewline}
-use Rattle.just_syntax.specs.Places.IsNewline.{last, feed, return_feed}
+use Rattle.just_read.specs.Characters.{is_blank}
+use Rattle.just_read.specs.Lines.{skip, ends_line, IsNewline}
+use Rattle.just_read.specs.Lines.IsNewline.{last, feed, return_feed}
 use Rattle.just_syntax.specs.Bodies.{is_body_line, IsFragment, IsBodyLine}
 use Rattle.just_syntax.specs.Bodies.IsBodyLine.{line}
 use Rattle.just_syntax.specs.ItemReaders as item
-use Rattle.just_syntax.proofs.Texts.{and_true, behind_shorter, behind_le}
+use Rattle.just_read.proofs.Laws.{and_true, behind_shorter, behind_le}
 use Rattle.just_syntax.proofs.Beginnings.{not_true}
 use Rattle.just_syntax.proofs.LineLaws.{behind_newline}
 use Rattle.just_syntax.proofs.PathLoop.{are_le}

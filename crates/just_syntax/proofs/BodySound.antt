@@ -9,14 +9,14 @@ use Rattle.just_syntax.specs.declared.ast.Expr.{Expr}
 use Rattle.just_syntax.specs.declared.ast.Fragment.{Fragment}
 use Rattle.just_syntax.specs.declared.ast.Fragment.TheVariants as fragment
 use Rattle.just_syntax.specs.declared.ast.Line.{Line}
-use Rattle.just_syntax.specs.Places.{ends_line, IsToken, IsNewline}
+use Rattle.just_read.specs.Lines.{ends_line, IsToken, IsNewline}
 use Rattle.just_syntax.specs.Exprs.{IsExpr}
 use Rattle.just_syntax.specs.Strings.{concat}
 use Rattle.just_syntax.specs.Bodies.{opens, is_text, is_body_line, IsLetter, IsFragment, IsBodyLine}
 use Rattle.just_syntax.specs.Bodies.IsLetter.{braces, itself}
 use Rattle.just_syntax.specs.Bodies.IsFragment.{text, value}
 use Rattle.just_syntax.specs.Bodies.IsBodyLine.{line}
-use Rattle.just_syntax.specs.Readers as reader
+use Rattle.just_read.specs.Tokens as tokens
 use Rattle.just_syntax.specs.ItemReaders as item
 use Rattle.just_syntax.proofs.Marks.{token_ok}
 use Rattle.just_syntax.proofs.LineLaws.{newline_ok}
@@ -78,7 +78,7 @@ unfolding item.fragment_at
 fragment_ok p q x g h =
     ⊎_elim
     (λ (s : _).
-    let (u, m, h1, k1) = bind_ok (reader.token (codes "{{") p) _ x q s.1 in
+    let (u, m, h1, k1) = bind_ok (tokens.token (codes "{{") p) _ x q s.1 in
     let (y, n, h2, k2) = bind_ok (item.expr m) _ x q k1 in
     closed_ok p m n q y x s.0 (token_ok (codes "{{") p u m h1) (expr_ok m n y h2) k2)
     (λ (s : _).
@@ -87,7 +87,7 @@ fragment_ok p q x g h =
     let end : m ≡ q = ok_place (fragment.Text t) x m q k1 in
     text read.letters (goes_text (ends_line p) (opens p) g s.0) (subst (λ (l : Place). AreMany IsLetter p l read.letters) end read.are) (ap is_text (sym end) ∙ read.done)
     (sym (ok_value (fragment.Text t) x m q k1) ∙ ap (λ (r : List ℕ). fragment.Text r) read.means))
-    (choose (opens p) (and_then (reader.token (codes "{{") p) (λ _ n. and_then (item.expr n) item.closed)) (and_then (item.text p) (λ t. pure (fragment.Text t))) (Ok (x, q)) h)
+    (choose (opens p) (and_then (tokens.token (codes "{{") p) (λ _ n. and_then (item.expr n) item.closed)) (and_then (item.text p) (λ t. pure (fragment.Text t))) (Ok (x, q)) h)
 
 -- the fragments up to the line's end
 pub fragments_ok : (p q : Place) (xs : List Fragment) → item.fragments p ≡ Ok (xs, q) → AreMany IsFragment p q xs × (item.line_goes_on q ≡ false)
@@ -105,7 +105,7 @@ pub body_line_ok : (indentation : List ℕ) (p q : Place) (x : Line) → is_body
 unfolding item.body_line
 body_line_ok indentation p q x i h =
     let (fs, m, h1, k1) = bind_ok (item.fragments (behind_text indentation p)) _ x q h in
-    let (u, n, h2, k2) = bind_ok (reader.newline m) _ x q k1 in
+    let (u, n, h2, k2) = bind_ok (tokens.newline m) _ x q k1 in
     let made : Line = record { number = p.line; fragments = fs } in
     let (are, done) = fragments_ok (behind_text indentation p) m fs h1 in
     line m fs i are (not_false (ends_line m) done) (subst (λ (l : Place). IsNewline m l) (ok_place made x n q k2) (newline_ok m n u h2)) (sym (ok_value made x n q k2))

@@ -12,7 +12,8 @@ use Rattle.just_syntax.specs.declared.form.Form.{Form}
 use Rattle.just_syntax.specs.declared.form.Form.TheVariants.{Bare, MaybeText, Text, Texts, Arg, Cache, Open}
 use Rattle.just_syntax.specs.declared.form.KeyForm.{KeyForm}
 use Rattle.just_syntax.specs.declared.form.KeyForm.TheVariants.{Alone, Either, Value, Number, Unknown}
-use Rattle.just_syntax.specs.Places.{IsToken, IsName}
+use Rattle.just_read.specs.Lines.{IsToken}
+use Rattle.just_syntax.specs.Places.{IsName}
 use Rattle.just_syntax.specs.Forms.{form_of, may_be_bare, key_form, may_stand_alone, has_text}
 use Rattle.just_syntax.specs.Attributes.{is_keyed, may_cache, may_have, is_first, behind_first, takes_text, goes_on, IsKey, IsArgument, IsAttribute, IsFurtherAttribute, IsAttributeLine}
 use Rattle.just_syntax.specs.Attributes.IsKey.{key_sign}
@@ -23,7 +24,8 @@ use Rattle.just_syntax.specs.Deep.IsDeepFurtherAttribute.{further}
 use Rattle.just_syntax.specs.Deep.IsDeepAttributeLine.{first_attribute, other_attribute}
 use Rattle.just_syntax.specs.ItemReaders as item
 use Rattle.just_syntax.specs.Readers as reader
-use Rattle.just_syntax.proofs.Texts.{begins_first, begins_other}
+use Rattle.just_read.specs.Tokens as tokens
+use Rattle.just_read.proofs.Laws.{begins_first, begins_other}
 use Rattle.just_syntax.proofs.Marks.{token_ok, token_again, name_ok, name_again}
 use Rattle.just_syntax.proofs.AttributeLoops.{list_shorter, lines_shorter, further_is}
 use Rattle.just_syntax.proofs.AttributeSound.{argument_ok, attribute_ok, further_attribute_ok, attribute_line_ok}
@@ -40,10 +42,10 @@ unfolding item.plain
 plain_deep_ok key p h = expr_deep_ok p (depth_first (item.expr p) _ (λ x m k. shallow_ok _ k) h)
 
 -- what stands behind `=` likewise
-signed_deep_ok : (key : Option Name) (p : Place) → and_then (reader.token (codes "=") p) (λ _. item.plain key) ≡ Err Depth
+signed_deep_ok : (key : Option Name) (p : Place) → and_then (tokens.token (codes "=") p) (λ _. item.plain key) ≡ Err Depth
     → (m : Place) × IsToken (codes "=") p m × IsDeepExpr m
 signed_deep_ok key p h =
-    let (u, m, t, k) = depth_behind (reader.token (codes "=") p) _ (token_shallow (codes "=") p) h in
+    let (u, m, t, k) = depth_behind (tokens.token (codes "=") p) _ (token_shallow (codes "=") p) h in
     (m, token_ok (codes "=") p u m t, plain_deep_ok key m k)
 
 -- so is an argument with a key
@@ -75,7 +77,7 @@ valued_deep_ok Alone k p h = absurd (shallow_refuse p h)
 valued_deep_ok Either k p h = (refl, signed_deep_ok (Some k) p h)
 valued_deep_ok Value k p h = (refl, signed_deep_ok (Some k) p h)
 valued_deep_ok Number k p h =
-    absurd (shallow_then (reader.token (codes "=") p) _ (token_shallow (codes "=") p) (λ u m j. number_argument_shallow k m j) h)
+    absurd (shallow_then (tokens.token (codes "=") p) _ (token_shallow (codes "=") p) (λ u m j. number_argument_shallow k m j) h)
 valued_deep_ok Unknown k p h = absurd (shallow_refuse p h)
 
 -- behind the name of a key that may stand there
@@ -135,7 +137,7 @@ further_argument_deep_ok : (form : Form) (earlier : List Argument) (p : Place) �
     → (m : Place) × IsToken (codes ",") p m × IsDeepArgument form earlier m
 unfolding item.further_argument
 further_argument_deep_ok form earlier p h =
-    let (u, m, t, k) = depth_behind (reader.token (codes ",") p) _ (token_shallow (codes ",") p) h in
+    let (u, m, t, k) = depth_behind (tokens.token (codes ",") p) _ (token_shallow (codes ",") p) h in
     (m, token_ok (codes ",") p u m t, argument_deep_ok form earlier m k)
 
 -- an argument behind a comma that is read stands there
@@ -143,7 +145,7 @@ further_argument_ok : (form : Form) (earlier : List Argument) (p q : Place) (x :
     → (m : Place) × IsToken (codes ",") p m × IsArgument form earlier m q x
 unfolding item.further_argument
 further_argument_ok form earlier p q x h =
-    let (u, m, t, k) = bind_ok (reader.token (codes ",") p) _ x q h in
+    let (u, m, t, k) = bind_ok (tokens.token (codes ",") p) _ x q h in
     (m, token_ok (codes ",") p u m t, argument_ok form earlier m q x k)
 
 -- one turn of the loop that is found too deep is, if the turns behind it are
@@ -191,10 +193,10 @@ list_deep_ok p m n name i t h =
 arguments_deep_ok : (p m : Place) (name : Name) → IsName p m name → item.arguments (form_of name.text) m ≡ Err Depth → IsDeepAttribute p
 unfolding item.arguments
 arguments_deep_ok p m name i h =
-    let (u, n, t, k) = depth_behind (reader.token (codes "(") m) _ (token_shallow (codes "(") m) h in
+    let (u, n, t, k) = depth_behind (tokens.token (codes "(") m) _ (token_shallow (codes "(") m) h in
     list_deep_ok p m n name i (token_ok (codes "(") m u n t)
     (depth_first (item.argument_list (form_of name.text) n) _
-    (λ xs o j. shallow_then (item.trailing o) _ (trailing_shallow o) (λ v r l. shallow_gives (reader.token (codes ")") r) _ (token_shallow (codes ")") r) l) j) k)
+    (λ xs o j. shallow_then (item.trailing o) _ (trailing_shallow o) (λ v r l. shallow_gives (tokens.token (codes ")") r) _ (token_shallow (codes ")") r) l) j) k)
 
 -- an attribute that is found too deep behind its name is
 attribute_as_deep_ok : (p m : Place) (name : Name) → IsName p m name → item.attribute_as name m ≡ Err Depth → IsDeepAttribute p
@@ -219,7 +221,7 @@ attribute_deep_ok p h =
 further_attribute_deep_ok : (p : Place) → begins (codes ",") p ≡ true → item.further_attribute p ≡ Err Depth → IsDeepFurtherAttribute p
 unfolding item.further_attribute
 further_attribute_deep_ok p b h =
-    let (u, m, t, k) = depth_behind (reader.token (codes ",") p) _ (token_shallow (codes ",") p) h in
+    let (u, m, t, k) = depth_behind (tokens.token (codes ",") p) _ (token_shallow (codes ",") p) h in
     further m (token_ok (codes ",") p u m t) (attribute_deep_ok m k)
 
 -- attributes in brackets that are found too deep are
@@ -239,10 +241,10 @@ attribute_list_deep_ok p m t h =
 attribute_line_deep_ok : (p : Place) → begins (codes "[") p ≡ true → item.attribute_line p ≡ Err Depth → IsDeepAttributeLine p
 unfolding item.attribute_line
 attribute_line_deep_ok p b h =
-    let (u, m, t, k) = depth_behind (reader.token (codes "[") p) _ (token_shallow (codes "[") p) h in
+    let (u, m, t, k) = depth_behind (tokens.token (codes "[") p) _ (token_shallow (codes "[") p) h in
     attribute_list_deep_ok p m (token_ok (codes "[") p u m t)
     (depth_first (item.attribute_list m) _
-    (λ xs n i. shallow_then (reader.token (codes "]") n) _ (token_shallow (codes "]") n)
+    (λ xs n i. shallow_then (tokens.token (codes "]") n) _ (token_shallow (codes "]") n)
     (λ v o j. shallow_then (reader.rest o) _ (rest_shallow o) (λ c r l. shallow_ok _ l) j) i) k)
 
 -- where the code finds attributes too deep some lines of them stand, and behind these one that is

@@ -9,7 +9,7 @@ use Rattle.just_syntax.specs.Deep.{IsDeepBehind, IsDeepFragment, IsDeepBodyLine}
 use Rattle.just_syntax.specs.Deep.IsDeepFragment.{value}
 use Rattle.just_syntax.specs.Deep.IsDeepBodyLine.{line}
 use Rattle.just_syntax.specs.ItemReaders as item
-use Rattle.just_syntax.specs.Readers as reader
+use Rattle.just_read.specs.Tokens as tokens
 use Rattle.just_syntax.proofs.Marks.{token_ok, token_again}
 use Rattle.just_syntax.proofs.Loops.{fragments_shorter}
 use Rattle.just_syntax.proofs.BodySound.{fragment_ok}
@@ -28,7 +28,7 @@ unfolding item.fragment_at
 fragment_deep_ok p h =
     ⊎_elim
     (λ (s : _).
-    let (u, m, t, k) = depth_behind (reader.token (codes "{{") p) _ (token_shallow (codes "{{") p) s.1 in
+    let (u, m, t, k) = depth_behind (tokens.token (codes "{{") p) _ (token_shallow (codes "{{") p) s.1 in
     value m s.0 (token_ok (codes "{{") p u m t) (expr_deep_ok m (depth_first (item.expr m) _ (λ x n j. closed_shallow x n j) k)))
     (λ (s : _). absurd (shallow_gives (item.text p) _ (text_shallow p) s.1))
     (choose (opens p) _ _ (Err Depth) h)
@@ -45,7 +45,7 @@ pub body_line_deep_ok : (indentation : List ℕ) (p : Place) → is_body_line in
 unfolding item.body_line
 body_line_deep_ok indentation p b h =
     line b (fragments_deep_ok (behind_text indentation p)
-    (depth_first (item.fragments (behind_text indentation p)) _ (λ fs m j. shallow_gives (reader.newline m) _ (newline_shallow m) j) h))
+    (depth_first (item.fragments (behind_text indentation p)) _ (λ fs m j. shallow_gives (tokens.newline m) _ (newline_shallow m) j) h))
 
 -- a fragment that is too deep is found so
 fragment_deep_again : (p : Place) → IsDeepFragment p → (item.line_goes_on p ≡ true) × (item.fragment_at p ≡ Err Depth)

@@ -6,9 +6,9 @@ use Rattle.just_read.specs.declared.error.ReadError.TheVariants.{Depth}
 use Rattle.just_read.proofs.Laws.{choose}
 use Rattle.just_syntax.specs.declared.ast.Comparison.{Comparison}
 use Rattle.just_syntax.specs.declared.ast.Expr.{Expr}
-use Rattle.just_syntax.specs.Characters.{begins_name}
-use Rattle.just_syntax.specs.Places.{behind_word, IsToken, IsWord}
-use Rattle.just_syntax.specs.Strings.{begins_string}
+use Rattle.just_read.specs.Characters.{begins_name}
+use Rattle.just_read.specs.Lines.{behind_word, IsToken, IsWord}
+use Rattle.just_read.specs.Quotes.{begins_string}
 use Rattle.just_syntax.specs.Exprs.{begins_condition, is_call, IsComparison, IsValue, IsBlock, IsInner}
 use Rattle.just_syntax.specs.Deep.{IsDeepValue, IsDeepBlock, IsDeepLevel, IsTooDeep, IsDeepExpr}
 use Rattle.just_syntax.specs.Deep.IsDeepValue.{group, env_key, env_default}
@@ -16,7 +16,8 @@ use Rattle.just_syntax.specs.Deep.IsDeepBlock.{block}
 use Rattle.just_syntax.specs.Deep.IsDeepLevel.{left_side, right_side, consequent, alternative, further, root, value, joined, concatenated}
 use Rattle.just_syntax.specs.ItemReaders as item
 use Rattle.just_syntax.specs.Readers as reader
-use Rattle.just_syntax.proofs.Texts.{begins_first, begins_starts, begins_other}
+use Rattle.just_read.specs.Tokens as tokens
+use Rattle.just_read.proofs.Laws.{begins_first, begins_starts, begins_other}
 use Rattle.just_syntax.proofs.Beginnings.{no_string, word_behind, word_begins}
 use Rattle.just_syntax.proofs.Marks.{token_ok, token_again, word_ok, word_again}
 use Rattle.just_syntax.proofs.ExprSound.{comparison_ok, value_ok, block_ok, Sides, condition_ok, inner_ok}
@@ -31,9 +32,9 @@ module _ (inner : Reader Expr) (Inner : Rule Expr) (Deep : Place → Type 0)
   group_deep_ok : (p : Place) → reader.group inner p ≡ Err Depth → IsDeepValue Inner Deep p
   unfolding reader.group
   group_deep_ok p h =
-      let (u, m, t, k) = depth_behind (reader.token (codes "(") p) _ (token_shallow (codes "(") p) h in
+      let (u, m, t, k) = depth_behind (tokens.token (codes "(") p) _ (token_shallow (codes "(") p) h in
       group m (token_ok (codes "(") p u m t)
-      (deep m (depth_first (inner m) _ (λ y n j. shallow_gives (reader.token (codes ")") n) _ (token_shallow (codes ")") n) j) k))
+      (deep m (depth_first (inner m) _ (λ y n j. shallow_gives (tokens.token (codes ")") n) _ (token_shallow (codes ")") n) j) k))
 
   -- a second argument of `env` that the code finds too deep is
   default_deep_ok : (p : Place) → reader.default inner p ≡ Err Depth → (m : Place) × IsToken (codes ",") p m × Deep m
@@ -41,7 +42,7 @@ module _ (inner : Reader Expr) (Inner : Rule Expr) (Deep : Place → Type 0)
   default_deep_ok p h =
       ⊎_elim
       (λ (s : _).
-      let (u, m, t, k) = depth_behind (reader.token (codes ",") p) _ (token_shallow (codes ",") p) s.1 in
+      let (u, m, t, k) = depth_behind (tokens.token (codes ",") p) _ (token_shallow (codes ",") p) s.1 in
       (m, token_ok (codes ",") p u m t, deep m (depth_first (inner m) _ (λ y n j. shallow_ok _ j) k)))
       (λ (s : _). absurd (shallow_ok _ s.1))
       (choose (begins (codes ",") p) _ _ (Err Depth) h)
@@ -50,14 +51,14 @@ module _ (inner : Reader Expr) (Inner : Rule Expr) (Deep : Place → Type 0)
   env_deep_ok : (p : Place) → reader.env inner p ≡ Err Depth → IsDeepValue Inner Deep p
   unfolding reader.env
   env_deep_ok p h =
-      let (u, m, w, k) = depth_behind (reader.word (codes "env") p) _ (word_shallow (codes "env") p) h in
-      let (v, n, t, i) = depth_behind (reader.token (codes "(") m) _ (token_shallow (codes "(") m) k in
+      let (u, m, w, k) = depth_behind (tokens.word (codes "env") p) _ (word_shallow (codes "env") p) h in
+      let (v, n, t, i) = depth_behind (tokens.token (codes "(") m) _ (token_shallow (codes "(") m) k in
       let call : IsWord (codes "env") p m = word_ok (codes "env") p u m w in
       let opens : IsToken (codes "(") m n = token_ok (codes "(") m v n t in
       ⊎_elim (λ (s : _). env_key m n call opens (deep n s))
       (λ (s : _).
       let (key, o, l, j) = s in
-      let (r, c, d) = default_deep_ok o (depth_first (reader.default inner o) _ (λ x r g. shallow_gives (reader.token (codes ")") r) _ (token_shallow (codes ")") r) g) j) in
+      let (r, c, d) = default_deep_ok o (depth_first (reader.default inner o) _ (λ x r g. shallow_gives (tokens.token (codes ")") r) _ (token_shallow (codes ")") r) g) j) in
       env_default m n o r key call opens (reads n o key l) c d)
       (depth_either (inner n) _ i)
 
@@ -78,9 +79,9 @@ module _ (inner : Reader Expr) (Inner : Rule Expr) (Deep : Place → Type 0)
   block_deep_ok : (p : Place) → reader.block inner p ≡ Err Depth → IsDeepBlock Inner Deep p
   unfolding reader.block
   block_deep_ok p h =
-      let (u, m, t, k) = depth_behind (reader.token (codes "{") p) _ (token_shallow (codes "{") p) h in
+      let (u, m, t, k) = depth_behind (tokens.token (codes "{") p) _ (token_shallow (codes "{") p) h in
       block m (token_ok (codes "{") p u m t)
-      (deep m (depth_first (inner m) _ (λ y n j. shallow_gives (reader.token (codes "}") n) _ (token_shallow (codes "}") n) j) k))
+      (deep m (depth_first (inner m) _ (λ y n j. shallow_gives (tokens.token (codes "}") n) _ (token_shallow (codes "}") n) j) k))
 
   -- what follows `else` is found too deep as a further `if` or in its braces
   otherwise_deep_ok : (p : Place) → reader.otherwise inner p ≡ Err Depth
@@ -106,7 +107,7 @@ module _ (inner : Reader Expr) (Inner : Rule Expr) (Deep : Place → Type 0)
   conditional_deep_ok : (p : Place) → begins_condition p ≡ true → reader.conditional inner p ≡ Err Depth → IsDeepLevel Inner Deep p
   unfolding reader.conditional
   conditional_deep_ok p b h =
-      let (u, m, t, k) = depth_behind (reader.token (codes "if") p) _ (token_shallow (codes "if") p) h in
+      let (u, m, t, k) = depth_behind (tokens.token (codes "if") p) _ (token_shallow (codes "if") p) h in
       let opens : IsToken (codes "if") p m = token_ok (codes "if") p u m t in
       ⊎_elim (λ (s : _). condition_deep_ok p m b opens s)
       (λ (s : _).
@@ -115,7 +116,7 @@ module _ (inner : Reader Expr) (Inner : Rule Expr) (Deep : Place → Type 0)
       ⊎_elim (λ (d : _). consequent m sides.m sides.n r c.0 c.2 c.1 b opens sides.left sides.sign sides.right (block_deep_ok r d))
       (λ (d : _).
       let (y, o, l, j) = d in
-      let (v, q, w, a) = depth_behind (reader.word (codes "else") o) _ (word_shallow (codes "else") o) j in
+      let (v, q, w, a) = depth_behind (tokens.word (codes "else") o) _ (word_shallow (codes "else") o) j in
       let then_part : IsBlock Inner r o y = block_ok inner Inner reads r o y l in
       let last : IsWord (codes "else") o q = word_ok (codes "else") o v q w in
       ⊎_elim
@@ -129,7 +130,7 @@ module _ (inner : Reader Expr) (Inner : Rule Expr) (Deep : Place → Type 0)
   root_deep_ok : (p : Place) → reader.root inner p ≡ Err Depth → IsDeepLevel Inner Deep p
   unfolding reader.root
   root_deep_ok p h =
-      let (u, m, t, k) = depth_behind (reader.token (codes "/") p) _ (token_shallow (codes "/") p) h in
+      let (u, m, t, k) = depth_behind (tokens.token (codes "/") p) _ (token_shallow (codes "/") p) h in
       root m (token_ok (codes "/") p u m t) (deep m (depth_first (inner m) _ (λ y n j. shallow_ok _ j) k))
 
   -- what follows a value and is found too deep is
@@ -138,12 +139,12 @@ module _ (inner : Reader Expr) (Inner : Rule Expr) (Deep : Place → Type 0)
   tail_deep_ok p m a c v h =
       ⊎_elim
       (λ (s : _).
-      let (u, n, t, k) = depth_behind (reader.token (codes "/") m) _ (token_shallow (codes "/") m) s.1 in
+      let (u, n, t, k) = depth_behind (tokens.token (codes "/") m) _ (token_shallow (codes "/") m) s.1 in
       joined m n a c v (token_ok (codes "/") m u n t) (deep n (depth_first (inner n) _ (λ y o j. shallow_ok _ j) k)))
       (λ (s : _).
       ⊎_elim
       (λ (t : _).
-      let (u, n, i, k) = depth_behind (reader.token (codes "+") m) _ (token_shallow (codes "+") m) t.1 in
+      let (u, n, i, k) = depth_behind (tokens.token (codes "+") m) _ (token_shallow (codes "+") m) t.1 in
       concatenated m n a c v (token_ok (codes "+") m u n i) (deep n (depth_first (inner n) _ (λ y o j. shallow_ok _ j) k)))
       (λ (t : _). absurd (shallow_ok _ t.1))
       (choose (begins (codes "+") m) _ _ (Err Depth) s.1))

@@ -10,7 +10,8 @@ use Rattle.just_syntax.specs.declared.form.Sort.TheVariants as sort
 use Rattle.just_syntax.specs.declared.item.Opening.{Opening}
 use Rattle.just_syntax.specs.declared.item.Opening.TheVariants as opening
 use Rattle.just_syntax.specs.declared.entry.Body.{Body}
-use Rattle.just_syntax.specs.Places.{skip, is_blank_line, IsToken, IsName}
+use Rattle.just_read.specs.Lines.{skip, is_blank_line, IsToken}
+use Rattle.just_syntax.specs.Places.{IsName}
 use Rattle.just_syntax.specs.Forms.{sort_of}
 use Rattle.just_syntax.specs.Attributes.{AreAttributes}
 use Rattle.just_syntax.specs.Bodies.{is_body_line}
@@ -23,6 +24,7 @@ use Rattle.just_syntax.specs.Deep.IsDeepItem.{assignment as assignment_item, exp
 use Rattle.just_syntax.specs.Deep.IsDeepEntry.{line, item as item_entry}
 use Rattle.just_syntax.specs.ItemReaders as item
 use Rattle.just_syntax.specs.Readers as reader
+use Rattle.just_read.specs.Tokens as tokens
 use Rattle.just_syntax.proofs.Marks.{token_ok, token_again, name_ok, name_again}
 use Rattle.just_syntax.proofs.AttributeSound.{attributes_ok}
 use Rattle.just_syntax.proofs.AttributeComplete.{attributes_again}
@@ -40,7 +42,7 @@ assignment_deep_ok : (export : Bool) (p : Place) → item.assignment export p �
 unfolding item.assignment
 assignment_deep_ok b p h =
     let (name, m, i, k) = depth_behind (reader.name p) _ (name_shallow p) h in
-    let (u, n, t, j) = depth_behind (reader.token (codes ":=") m) _ (token_shallow (codes ":=") m) k in
+    let (u, n, t, j) = depth_behind (tokens.token (codes ":=") m) _ (token_shallow (codes ":=") m) k in
     assignment m n name (name_ok p name m i) (token_ok (codes ":=") m u n t)
     (expr_deep_ok n (depth_first (item.expr n) _ (λ x o l. shallow_gives (reader.rest o) _ (rest_shallow o) l) j))
 
@@ -76,7 +78,7 @@ unfolding item.setting_value
 setting_value_deep_ok p m n name t i h =
     ⊎_elim
     (λ (s : _).
-    let (u, o, c, k) = depth_behind (reader.token (codes ":=") n) _ (token_shallow (codes ":=") n) s.1 in
+    let (u, o, c, k) = depth_behind (tokens.token (codes ":=") n) _ (token_shallow (codes ":=") n) s.1 in
     value_deep_ok (sort_of name.text) p m n o name t i (token_ok (codes ":=") n u o c) refl
     (depth_first (item.value_of (sort_of name.text) o) _ (λ x r j. shallow_ok _ j) k))
     (λ (s : _). absurd (absent_shallow (sort_of name.text) n s.1))
@@ -86,7 +88,7 @@ setting_value_deep_ok p m n name t i h =
 setting_deep_ok : (p : Place) → item.setting_item p ≡ Err Depth → IsDeepSetting p
 unfolding item.setting_item
 setting_deep_ok p h =
-    let (u, m, t, k) = depth_behind (reader.token (codes "set") p) _ (token_shallow (codes "set") p) h in
+    let (u, m, t, k) = depth_behind (tokens.token (codes "set") p) _ (token_shallow (codes "set") p) h in
     let (name, n, i, j) = depth_behind (reader.name m) _ (name_shallow m) k in
     setting_value_deep_ok p m n name (token_ok (codes "set") p u m t) (name_ok m name n i)
     (depth_first (item.setting_value (sort_of name.text) n) _ (λ x o l. shallow_gives (reader.rest o) _ (rest_shallow o) l) j)
@@ -112,7 +114,7 @@ item_of_deep_ok opening.Alias p e h = absurd (shallow_gives (item.alias p) _ (al
 item_of_deep_ok opening.Import p e h = absurd (shallow_gives (item.import p) _ (import_shallow p) h)
 item_of_deep_ok opening.Module p e h = absurd (shallow_gives (item.module_item [] p) _ (module_shallow [] p) h)
 item_of_deep_ok opening.Export p e h =
-    let (u, m, t, k) = depth_behind (reader.token (codes "export") p) _ (token_shallow (codes "export") p) h in
+    let (u, m, t, k) = depth_behind (tokens.token (codes "export") p) _ (token_shallow (codes "export") p) h in
     export m e (token_ok (codes "export") p u m t) (assignment_deep_ok true m (depth_first (item.assignment true m) _ (λ x n j. shallow_ok _ j) k))
 item_of_deep_ok opening.Assignment p e h = assignment_item e (assignment_deep_ok false p (depth_first (item.assignment false p) _ (λ x n j. shallow_ok _ j) h))
 item_of_deep_ok opening.Unexport p e h = absurd (shallow_gives (item.unexport p) _ (unexport_shallow p) h)
@@ -186,8 +188,8 @@ item_deep_again p d = item_of_deep_again p d
 -- ---- entries
 
 -- a blank line is not too deep
-blank_shallow : (p : Place) → reader.blank_line p ≡ Err Depth → ⊥
-unfolding reader.blank_line
+blank_shallow : (p : Place) → tokens.blank_line p ≡ Err Depth → ⊥
+unfolding tokens.blank_line
 blank_shallow p h = newline_shallow (skip p) h
 
 -- an entry that is an item and is found too deep is
@@ -208,7 +210,7 @@ in_body_deep_ok (Some indentation) b p n e h =
 pub entry_deep_ok : (b : Body) (p : Place) → item.entry_at b p ≡ Err Depth → IsDeepEntry b p
 unfolding item.entry_at
 entry_deep_ok b p h =
-    ⊎_elim (λ (s : _). absurd (shallow_gives (reader.blank_line p) _ (blank_shallow p) s.1))
+    ⊎_elim (λ (s : _). absurd (shallow_gives (tokens.blank_line p) _ (blank_shallow p) s.1))
     (λ (s : _). in_body_deep_ok (indentation_at b p) b p s.0 refl s.1)
     (choose (is_blank_line p) _ _ (Err Depth) h)
 

@@ -4,18 +4,19 @@ use Rattle.just_read.specs.Place.{Place, next, past, run, between, first, starts
 use Rattle.just_read.specs.Reader.{expect, many}
 use Rattle.just_read.specs.declared.error.ReadError.TheVariants.{Depth}
 use Rattle.just_syntax.specs.declared.ast.Name.{Name}
-use Rattle.just_syntax.specs.declared.ast.Quote.{Quote}
+use Rattle.just_read.specs.declared.quote.Quote.{Quote}
 use Rattle.just_syntax.specs.declared.ast.Attribute.{Attribute}
 use Rattle.just_syntax.specs.declared.form.Form.{Form}
-use Rattle.just_syntax.specs.Characters.{begins_name, is_hex, in_line}
-use Rattle.just_syntax.specs.Places.{is_word, crlf}
-use Rattle.just_syntax.specs.Strings.{mark, is_cooked, quote_at, behind_x, begins_string, letter_meant, goes_on}
+use Rattle.just_read.specs.Characters.{begins_name, is_hex, in_line}
+use Rattle.just_read.specs.Lines.{is_word, crlf}
+use Rattle.just_read.specs.Quotes.{mark, is_cooked, quote_at, behind_x, begins_string, letter_meant, goes_on}
 use Rattle.just_syntax.specs.Forms.{has_colon}
 use Rattle.just_syntax.specs.Bodies.{is_text}
 use Rattle.just_syntax.specs.Items.{goes_on as goes_on_string}
 use Rattle.just_syntax.specs.Meanings.{text_of}
 use Rattle.just_syntax.specs.ItemReaders as item
 use Rattle.just_syntax.specs.Readers as reader
+use Rattle.just_read.specs.Tokens as tokens
 use Rattle.just_syntax.proofs.DeepChains.{shallow_ok, shallow_refuse, shallow_if, shallow_then, shallow_gives, shallow_many}
 
 -- ---- marks, names and lines
@@ -26,13 +27,13 @@ unfolding expect
 expect_shallow c p h = shallow_if (sees c p) _ _ (λ k. shallow_ok _ k) (λ k. shallow_refuse p k) h
 
 -- nor a mark
-pub token_shallow : (mark : List ℕ) (p : Place) → reader.token mark p ≡ Err Depth → ⊥
-unfolding reader.token
+pub token_shallow : (mark : List ℕ) (p : Place) → tokens.token mark p ≡ Err Depth → ⊥
+unfolding tokens.token
 token_shallow mark p h = shallow_if (begins mark p) _ _ (λ k. shallow_ok _ k) (λ k. shallow_refuse p k) h
 
 -- nor a word
-pub word_shallow : (text : List ℕ) (p : Place) → reader.word text p ≡ Err Depth → ⊥
-unfolding reader.word
+pub word_shallow : (text : List ℕ) (p : Place) → tokens.word text p ≡ Err Depth → ⊥
+unfolding tokens.word
 word_shallow text p h = shallow_if (is_word text p) _ _ (λ k. shallow_ok _ k) (λ k. shallow_refuse p k) h
 
 -- nor a name
@@ -41,15 +42,15 @@ unfolding reader.name
 name_shallow p h = shallow_if (starts begins_name p) _ _ (λ k. shallow_ok _ k) (λ k. shallow_refuse p k) h
 
 -- nor a mark that may be left out
-pub maybe_shallow : (mark : List ℕ) (p : Place) → reader.maybe mark p ≡ Err Depth → ⊥
-unfolding reader.maybe
+pub maybe_shallow : (mark : List ℕ) (p : Place) → tokens.maybe mark p ≡ Err Depth → ⊥
+unfolding tokens.maybe
 maybe_shallow mark p h =
-    shallow_if (begins mark p) _ _ (λ k. shallow_gives (reader.token mark p) (λ _. true) (token_shallow mark p) k) (λ k. shallow_ok _ k) h
+    shallow_if (begins mark p) _ _ (λ k. shallow_gives (tokens.token mark p) (λ _. true) (token_shallow mark p) k) (λ k. shallow_ok _ k) h
 
 -- nor `::` and a name
 further_name_shallow : (p : Place) → reader.further_name p ≡ Err Depth → ⊥
 unfolding reader.further_name
-further_name_shallow p h = shallow_then (reader.token (codes "::") p) _ (token_shallow (codes "::") p) (λ u m k. name_shallow m k) h
+further_name_shallow p h = shallow_then (tokens.token (codes "::") p) _ (token_shallow (codes "::") p) (λ u m k. name_shallow m k) h
 
 -- nor a path
 pub path_shallow : (p : Place) → reader.path p ≡ Err Depth → ⊥
@@ -59,8 +60,8 @@ path_shallow p h =
     (λ n m k. shallow_gives (many (begins (codes "::")) reader.further_name m) (λ ns. n ∷ ns) (shallow_many (begins (codes "::")) reader.further_name further_name_shallow m) k) h
 
 -- nor the end of a line
-pub newline_shallow : (p : Place) → reader.newline p ≡ Err Depth → ⊥
-unfolding reader.newline
+pub newline_shallow : (p : Place) → tokens.newline p ≡ Err Depth → ⊥
+unfolding tokens.newline
 newline_shallow p h =
     shallow_if (is_end p) _ _ (λ k. shallow_ok _ k)
     (λ k. shallow_if (sees 10 p) _ _ (λ i. shallow_ok _ i) (λ i. shallow_if (begins crlf p) _ _ (λ j. shallow_ok _ j) (λ j. shallow_refuse p j) i) k) h
@@ -68,36 +69,36 @@ newline_shallow p h =
 -- nor a comment
 pub comment_shallow : (p : Place) → reader.comment p ≡ Err Depth → ⊥
 unfolding reader.comment
-comment_shallow p h = shallow_gives (reader.newline (past in_line p)) _ (newline_shallow (past in_line p)) h
+comment_shallow p h = shallow_gives (tokens.newline (past in_line p)) _ (newline_shallow (past in_line p)) h
 
 -- nor the rest of a line
 pub rest_shallow : (p : Place) → reader.rest p ≡ Err Depth → ⊥
 unfolding reader.rest
 rest_shallow p h =
     shallow_if (sees 35 p) _ _ (λ k. shallow_gives (reader.comment p) (λ t. Some t) (comment_shallow p) k)
-    (λ k. shallow_gives (reader.newline p) (λ _. None) (newline_shallow p) k) h
+    (λ k. shallow_gives (tokens.newline p) (λ _. None) (newline_shallow p) k) h
 
 -- ---- strings
 
 -- the digits of an escape aren't too deep
-number_shallow : (p : Place) → reader.number p ≡ Err Depth → ⊥
-unfolding reader.number
-number_shallow p h = shallow_if (starts is_hex p && reader.is_number (run is_hex p.rest)) _ _ (λ k. shallow_ok _ k) (λ k. shallow_refuse p k) h
+number_shallow : (p : Place) → tokens.number p ≡ Err Depth → ⊥
+unfolding tokens.number
+number_shallow p h = shallow_if (starts is_hex p && tokens.is_number (run is_hex p.rest)) _ _ (λ k. shallow_ok _ k) (λ k. shallow_refuse p k) h
 
 -- nor a character by its number
-unicode_shallow : (p : Place) → reader.unicode p ≡ Err Depth → ⊥
-unfolding reader.unicode
+unicode_shallow : (p : Place) → tokens.unicode p ≡ Err Depth → ⊥
+unfolding tokens.unicode
 unicode_shallow p h =
     shallow_then (expect 123 p) _ (expect_shallow 123 p)
-    (λ u m k. shallow_then (reader.number m) _ (number_shallow m) (λ c n i. shallow_gives (expect 125 n) (λ _. c ∷ []) (expect_shallow 125 n) i) k) h
+    (λ u m k. shallow_then (tokens.number m) _ (number_shallow m) (λ c n i. shallow_gives (expect 125 n) (λ _. c ∷ []) (expect_shallow 125 n) i) k) h
 
 -- nor a letter that an escape has
-letter_shallow : (o : Option ℕ) (p : Place) → reader.letter_of o p ≡ Err Depth → ⊥
+letter_shallow : (o : Option ℕ) (p : Place) → tokens.letter_of o p ≡ Err Depth → ⊥
 letter_shallow None p h = shallow_refuse p h
 letter_shallow (Some d) p h = shallow_ok _ h
 
 -- nor what begins with that character behind a backslash
-escape_of_shallow : (o : Option ℕ) (p : Place) → reader.escape_of o p ≡ Err Depth → ⊥
+escape_of_shallow : (o : Option ℕ) (p : Place) → tokens.escape_of o p ≡ Err Depth → ⊥
 escape_of_shallow None p h = shallow_refuse p h
 escape_of_shallow (Some c) p h =
     shallow_if (c == 117) _ _ (λ k. unicode_shallow (next p) k)
@@ -106,25 +107,25 @@ escape_of_shallow (Some c) p h =
     (λ i. shallow_if (c == 13) _ _ (λ j. shallow_gives (expect 10 (next p)) (λ _. []) (expect_shallow 10 (next p)) j) (λ j. letter_shallow (letter_meant c) p j) i) k) h
 
 -- nor an escape
-escape_shallow : (p : Place) → reader.escape p ≡ Err Depth → ⊥
-unfolding reader.escape
+escape_shallow : (p : Place) → tokens.escape p ≡ Err Depth → ⊥
+unfolding tokens.escape
 escape_shallow p h = escape_of_shallow (first p) p h
 
 -- nor a piece that begins with that character
-piece_of_shallow : (cooked : Bool) (o : Option ℕ) (p : Place) → reader.piece_of cooked o p ≡ Err Depth → ⊥
+piece_of_shallow : (cooked : Bool) (o : Option ℕ) (p : Place) → tokens.piece_of cooked o p ≡ Err Depth → ⊥
 piece_of_shallow cooked None p h = shallow_refuse p h
 piece_of_shallow cooked (Some c) p h = shallow_if (cooked && c == 92) _ _ (λ k. escape_shallow (next p) k) (λ k. shallow_ok _ k) h
 
 -- nor a piece of a string
-piece_shallow : (cooked : Bool) (p : Place) → reader.piece cooked p ≡ Err Depth → ⊥
-unfolding reader.piece
+piece_shallow : (cooked : Bool) (p : Place) → tokens.piece cooked p ≡ Err Depth → ⊥
+unfolding tokens.piece
 piece_shallow cooked p h = piece_of_shallow cooked (first p) p h
 
 -- nor its pieces
-pieces_shallow : (quote : Quote) (p : Place) → reader.pieces quote p ≡ Err Depth → ⊥
-unfolding reader.pieces
+pieces_shallow : (quote : Quote) (p : Place) → tokens.pieces quote p ≡ Err Depth → ⊥
+unfolding tokens.pieces
 pieces_shallow quote p h =
-    shallow_gives (reader.many_pieces quote p) (λ _. tt) (shallow_many (goes_on quote) (reader.piece (is_cooked quote)) (piece_shallow (is_cooked quote)) p) h
+    shallow_gives (tokens.many_pieces quote p) (λ _. tt) (shallow_many (goes_on quote) (tokens.piece (is_cooked quote)) (piece_shallow (is_cooked quote)) p) h
 
 -- nor the closing quote
 close_shallow : (quote : Quote) (raw : List ℕ) (p : Place) → reader.close quote raw p ≡ Err Depth → ⊥
@@ -133,7 +134,7 @@ close_shallow quote raw p h = shallow_if (begins (mark quote) p) _ _ (λ k. shal
 -- nor what stands up to it
 raw_shallow : (quote : Quote) (p : Place) → reader.raw_text quote p ≡ Err Depth → ⊥
 unfolding reader.raw_text
-raw_shallow quote p h = shallow_then (reader.pieces quote p) _ (pieces_shallow quote p) (λ u m k. close_shallow quote (encode_utf8_all (between p m)) m k) h
+raw_shallow quote p h = shallow_then (tokens.pieces quote p) _ (pieces_shallow quote p) (λ u m k. close_shallow quote (encode_utf8_all (between p m)) m k) h
 
 -- nor a string with that quote
 quoted_shallow : (o : Option Quote) (p m : Place) → reader.quoted p o m ≡ Err Depth → ⊥
@@ -150,8 +151,8 @@ string_shallow p h = quoted_shallow (quote_at (behind_x p)) p (behind_x p) h
 pub comparison_shallow : (p : Place) → reader.comparison p ≡ Err Depth → ⊥
 unfolding reader.comparison
 comparison_shallow p h =
-    shallow_if (begins (codes "==") p) _ _ (λ k. shallow_gives (reader.token (codes "==") p) _ (token_shallow (codes "==") p) k)
-    (λ k. shallow_gives (reader.token (codes "!=") p) _ (token_shallow (codes "!=") p) k) h
+    shallow_if (begins (codes "==") p) _ _ (λ k. shallow_gives (tokens.token (codes "==") p) _ (token_shallow (codes "==") p) k)
+    (λ k. shallow_gives (tokens.token (codes "!=") p) _ (token_shallow (codes "!=") p) k) h
 
 -- ---- parts of items
 
@@ -170,7 +171,7 @@ number_argument_shallow n p h =
 pub colon_shallow : (form : Form) (p : Place) → item.colon_argument form p ≡ Err Depth → ⊥
 colon_shallow form p h =
     shallow_if (has_colon form) _ _
-    (λ k. shallow_then (reader.token (codes ":") p) _ (token_shallow (codes ":") p) (λ u m i. shallow_gives (reader.string m) _ (string_shallow m) i) k)
+    (λ k. shallow_then (tokens.token (codes ":") p) _ (token_shallow (codes ":") p) (λ u m i. shallow_gives (reader.string m) _ (string_shallow m) i) k)
     (λ k. shallow_refuse p k) h
 
 -- nor a letter of a text
@@ -194,20 +195,20 @@ text_shallow p h = shallow_gives (many is_text item.letter p) _ (shallow_many is
 pub alias_shallow : (p : Place) → item.alias p ≡ Err Depth → ⊥
 unfolding item.alias
 alias_shallow p h =
-    shallow_then (reader.token (codes "alias") p) _ (token_shallow (codes "alias") p)
+    shallow_then (tokens.token (codes "alias") p) _ (token_shallow (codes "alias") p)
     (λ u m i.
     shallow_then (reader.name m) _ (name_shallow m)
     (λ n o j.
-    shallow_then (reader.token (codes ":=") o) _ (token_shallow (codes ":=") o)
+    shallow_then (tokens.token (codes ":=") o) _ (token_shallow (codes ":=") o)
     (λ v r k. shallow_then (reader.path r) _ (path_shallow r) (λ target s l. shallow_gives (reader.rest s) _ (rest_shallow s) l) k) j) i) h
 
 -- nor an import
 pub import_shallow : (p : Place) → item.import p ≡ Err Depth → ⊥
 unfolding item.import
 import_shallow p h =
-    shallow_then (reader.token (codes "import") p) _ (token_shallow (codes "import") p)
+    shallow_then (tokens.token (codes "import") p) _ (token_shallow (codes "import") p)
     (λ u m i.
-    shallow_then (reader.maybe (codes "?") m) _ (maybe_shallow (codes "?") m)
+    shallow_then (tokens.maybe (codes "?") m) _ (maybe_shallow (codes "?") m)
     (λ b n j. shallow_then (reader.string n) _ (string_shallow n) (λ s o k. shallow_gives (reader.rest o) _ (rest_shallow o) k) j) i) h
 
 -- nor the string behind a module
@@ -220,9 +221,9 @@ module_path_shallow p h =
 pub module_shallow : (xs : List Attribute) (p : Place) → item.module_item xs p ≡ Err Depth → ⊥
 unfolding item.module_item
 module_shallow xs p h =
-    shallow_then (reader.token (codes "mod") p) _ (token_shallow (codes "mod") p)
+    shallow_then (tokens.token (codes "mod") p) _ (token_shallow (codes "mod") p)
     (λ u m i.
-    shallow_then (reader.maybe (codes "?") m) _ (maybe_shallow (codes "?") m)
+    shallow_then (tokens.maybe (codes "?") m) _ (maybe_shallow (codes "?") m)
     (λ b n j.
     shallow_then (reader.name n) _ (name_shallow n)
     (λ x o k. shallow_then (item.module_path o) _ (module_path_shallow o) (λ s r l. shallow_gives (reader.rest r) _ (rest_shallow r) l) k) j) i) h
@@ -231,20 +232,20 @@ module_shallow xs p h =
 pub unexport_shallow : (p : Place) → item.unexport p ≡ Err Depth → ⊥
 unfolding item.unexport
 unexport_shallow p h =
-    shallow_then (reader.token (codes "unexport") p) _ (token_shallow (codes "unexport") p)
+    shallow_then (tokens.token (codes "unexport") p) _ (token_shallow (codes "unexport") p)
     (λ u m i. shallow_then (reader.name m) _ (name_shallow m) (λ n o j. shallow_gives (reader.rest o) _ (rest_shallow o) j) i) h
 
 -- nor the value of a flag
 pub truth_shallow : (p : Place) → item.truth p ≡ Err Depth → ⊥
 unfolding item.truth
 truth_shallow p h =
-    shallow_if (is_word (codes "true") p) _ _ (λ k. shallow_gives (reader.word (codes "true") p) (λ _. true) (word_shallow (codes "true") p) k)
-    (λ k. shallow_gives (reader.word (codes "false") p) (λ _. false) (word_shallow (codes "false") p) k) h
+    shallow_if (is_word (codes "true") p) _ _ (λ k. shallow_gives (tokens.word (codes "true") p) (λ _. true) (word_shallow (codes "true") p) k)
+    (λ k. shallow_gives (tokens.word (codes "false") p) (λ _. false) (word_shallow (codes "false") p) k) h
 
 -- nor a string behind a comma
 further_string_shallow : (p : Place) → item.further_string p ≡ Err Depth → ⊥
 unfolding item.further_string
-further_string_shallow p h = shallow_then (reader.token (codes ",") p) _ (token_shallow (codes ",") p) (λ u m k. string_shallow m k) h
+further_string_shallow p h = shallow_then (tokens.token (codes ",") p) _ (token_shallow (codes ",") p) (λ u m k. string_shallow m k) h
 
 -- nor strings behind commas
 string_list_shallow : (p : Place) → item.string_list p ≡ Err Depth → ⊥
@@ -265,7 +266,7 @@ some_strings_shallow p h =
 pub strings_shallow : (p : Place) → item.strings p ≡ Err Depth → ⊥
 unfolding item.strings
 strings_shallow p h =
-    shallow_then (reader.token (codes "[") p) _ (token_shallow (codes "[") p)
+    shallow_then (tokens.token (codes "[") p) _ (token_shallow (codes "[") p)
     (λ u m i.
     shallow_then (item.some_strings m) _ (some_strings_shallow m)
-    (λ xs n j. shallow_gives (reader.token (codes "]") n) _ (token_shallow (codes "]") n) j) i) h
+    (λ xs n j. shallow_gives (tokens.token (codes "]") n) _ (token_shallow (codes "]") n) j) i) h

@@ -8,7 +8,8 @@ use Rattle.just_syntax.specs.declared.ast.ParameterKind.{ParameterKind}
 use Rattle.just_syntax.specs.declared.ast.ParameterKind.TheVariants.{Singular, Plus, Star}
 use Rattle.just_syntax.specs.declared.ast.AstParameter.{AstParameter}
 use Rattle.just_syntax.specs.declared.ast.AstDependency.{AstDependency}
-use Rattle.just_syntax.specs.Places.{IsToken, IsName}
+use Rattle.just_read.specs.Lines.{IsToken}
+use Rattle.just_syntax.specs.Places.{IsName}
 use Rattle.just_syntax.specs.Exprs.{IsInner}
 use Rattle.just_syntax.specs.Recipes.{begins_parameter, begins_dependency, IsMaybe, IsSingular, AreParameters, IsDependencyValue, IsDependency}
 use Rattle.just_syntax.specs.Deep.{IsDeepBehind, IsTooDeep, IsDeepDefault, IsDeepParameter, IsDeepSingular, AreDeepParameters, IsDeepDependencyValue, IsDeepDependency, IsDeepRecipeLine}
@@ -22,7 +23,8 @@ use Rattle.just_syntax.specs.Deep.IsDeepDependency.{grouped}
 use Rattle.just_syntax.specs.Deep.IsDeepRecipeLine.{parameters, priors, subsequents}
 use Rattle.just_syntax.specs.ItemReaders as item
 use Rattle.just_syntax.specs.Readers as reader
-use Rattle.just_syntax.proofs.Texts.{begins_first, begins_other}
+use Rattle.just_read.specs.Tokens as tokens
+use Rattle.just_read.proofs.Laws.{begins_first, begins_other}
 use Rattle.just_syntax.proofs.Beginnings.{not_true}
 use Rattle.just_syntax.proofs.Marks.{token_ok, token_again, name_ok, name_again}
 use Rattle.just_syntax.proofs.LineLaws.{maybe_ok, maybe_again, path_ok, path_again}
@@ -43,7 +45,7 @@ unfolding item.parameter_default
 default_deep_ok p h =
     ⊎_elim
     (λ (s : _).
-    let (u, m, t, k) = depth_behind (reader.token (codes "=") p) _ (token_shallow (codes "=") p) s.1 in
+    let (u, m, t, k) = depth_behind (tokens.token (codes "=") p) _ (token_shallow (codes "=") p) s.1 in
     default m (token_ok (codes "=") p u m t)
     (value_deep_ok (reader.inner 256) (IsInner 256) (IsTooDeep 256) (inner_ok 256) (inner_deep_ok 256) m
     (depth_first (reader.value (reader.inner 256) m) _ (λ x n j. shallow_ok _ j) k)))
@@ -54,7 +56,7 @@ default_deep_ok p h =
 parameter_deep_ok : (kind : ParameterKind) (p : Place) → item.parameter kind p ≡ Err Depth → IsDeepParameter p
 unfolding item.parameter
 parameter_deep_ok kind p h =
-    let (b, m, t, k) = depth_behind (reader.maybe (codes "$") p) _ (maybe_shallow (codes "$") p) h in
+    let (b, m, t, k) = depth_behind (tokens.maybe (codes "$") p) _ (maybe_shallow (codes "$") p) h in
     let (name, n, i, j) = depth_behind (reader.name m) _ (name_shallow m) k in
     parameter m n b name (maybe_ok (codes "$") p m b t) (name_ok m name n i)
     (default_deep_ok n (depth_first (item.parameter_default n) _ (λ x o l. shallow_ok _ l) j))
@@ -73,12 +75,12 @@ unfolding item.variadic
 variadic_deep_ok p m xs are done h =
     ⊎_elim
     (λ (s : _).
-    let (u, n, t, k) = depth_behind (reader.token (codes "*") m) _ (token_shallow (codes "*") m) s.1 in
+    let (u, n, t, k) = depth_behind (tokens.token (codes "*") m) _ (token_shallow (codes "*") m) s.1 in
     star m n xs are done (token_ok (codes "*") m u n t) (parameter_deep_ok Star n (depth_first (item.parameter Star n) _ (λ x o l. shallow_ok _ l) k)))
     (λ (s : _).
     ⊎_elim
     (λ (r : _).
-    let (u, n, t, k) = depth_behind (reader.token (codes "+") m) _ (token_shallow (codes "+") m) r.1 in
+    let (u, n, t, k) = depth_behind (tokens.token (codes "+") m) _ (token_shallow (codes "+") m) r.1 in
     plus m n xs are done (token_ok (codes "+") m u n t) (parameter_deep_ok Plus n (depth_first (item.parameter Plus n) _ (λ x o l. shallow_ok _ l) k)))
     (λ (r : _). absurd (shallow_ok _ r.1))
     (choose (begins (codes "+") m) _ _ (Err Depth) s.1))
@@ -110,10 +112,10 @@ unfolding item.dependency
 dependency_deep_ok p h =
     ⊎_elim
     (λ (s : _).
-    let (u, m, t, k) = depth_behind (reader.token (codes "(") p) _ (token_shallow (codes "(") p) s.1 in
+    let (u, m, t, k) = depth_behind (tokens.token (codes "(") p) _ (token_shallow (codes "(") p) s.1 in
     let (path, n, i, j) = depth_behind (reader.path m) _ (path_shallow m) k in
     grouped m n path (token_ok (codes "(") p u m t) (path_ok m n path i)
-    (values_deep_ok n (depth_first (item.dependency_values n) _ (λ xs o l. shallow_gives (reader.token (codes ")") o) _ (token_shallow (codes ")") o) l) j)))
+    (values_deep_ok n (depth_first (item.dependency_values n) _ (λ xs o l. shallow_gives (tokens.token (codes ")") o) _ (token_shallow (codes ")") o) l) j)))
     (λ (s : _). absurd (shallow_gives (reader.path p) _ (path_shallow p) s.1))
     (choose (begins (codes "(") p) _ _ (Err Depth) h)
 
@@ -129,7 +131,7 @@ unfolding item.subsequents
 subsequents_deep_ok p h =
     ⊎_elim
     (λ (s : _).
-    let (u, m, t, k) = depth_behind (reader.token (codes "&&") p) _ (token_shallow (codes "&&") p) s.1 in
+    let (u, m, t, k) = depth_behind (tokens.token (codes "&&") p) _ (token_shallow (codes "&&") p) s.1 in
     ⊎_elim (λ (r : _). (m, token_ok (codes "&&") p u m t, dependencies_deep_ok m r.1)) (λ (r : _). absurd (shallow_refuse m r.1))
     (choose (begins_dependency m) _ _ (Err Depth) k))
     (λ (s : _). absurd (shallow_ok _ s.1))
@@ -141,14 +143,14 @@ subsequents_deep_ok p h =
 pub recipe_line_deep_ok : (attributes : List Attribute) (p : Place) → item.recipe_line attributes p ≡ Err Depth → IsDeepRecipeLine p
 unfolding item.recipe_line
 recipe_line_deep_ok attributes p h =
-    let (quiet, m, t, k) = depth_behind (reader.maybe (codes "@") p) _ (maybe_shallow (codes "@") p) h in
+    let (quiet, m, t, k) = depth_behind (tokens.maybe (codes "@") p) _ (maybe_shallow (codes "@") p) h in
     let (name, n, i, j) = depth_behind (reader.name m) _ (name_shallow m) k in
     let may : IsMaybe (codes "@") p m quiet = maybe_ok (codes "@") p m quiet t in
     let named : IsName m n name = name_ok m name n i in
     ⊎_elim (λ (s : _). parameters m n quiet name may named (parameters_deep_ok n s))
     (λ (s : _).
     let (xs, o, l, a) = s in
-    let (u, r, c, b) = depth_behind (reader.token (codes ":") o) _ (token_shallow (codes ":") o) a in
+    let (u, r, c, b) = depth_behind (tokens.token (codes ":") o) _ (token_shallow (codes ":") o) a in
     let have : AreParameters n o xs = parameters_ok n o xs l in
     let sign : IsToken (codes ":") o r = token_ok (codes ":") o u r c in
     ⊎_elim (λ (d : _). priors m n o r quiet name xs may named have sign (dependencies_deep_ok r d))

@@ -7,13 +7,13 @@ use Rattle.just_syntax.specs.declared.entry.Entry.{Entry}
 use Rattle.just_syntax.specs.declared.entry.Entry.TheVariants as entry
 use Rattle.just_syntax.specs.declared.entry.Body.{Body}
 use Rattle.just_syntax.specs.declared.entry.Body.TheVariants as body
-use Rattle.just_syntax.specs.Places.{is_blank_line, IsBlankLine}
+use Rattle.just_read.specs.Lines.{is_blank_line, IsBlankLine}
 use Rattle.just_syntax.specs.Bodies.{is_body_line, IsBodyLine}
 use Rattle.just_syntax.specs.Items.{IsItem}
 use Rattle.just_syntax.specs.File.{indentation_at, goes_into, is_in_body, behind_blank, behind_item, IsEntry}
 use Rattle.just_syntax.specs.File.IsEntry.{blank, body_line, further}
 use Rattle.just_syntax.specs.ItemReaders as item
-use Rattle.just_syntax.specs.Readers as reader
+use Rattle.just_read.specs.Tokens as tokens
 use Rattle.just_syntax.proofs.LineLaws.{blank_line_ok, blank_line_again, blank_line_lt}
 use Rattle.just_syntax.proofs.BodySound.{body_line_ok}
 use Rattle.just_syntax.proofs.BodyComplete.{body_line_again, body_line_begins}
@@ -54,12 +54,12 @@ unfolding item.entry_at
 entry_ok b p q x c h =
     ⊎_elim
     (λ (s : _).
-    let (u, r, h1, k1) = bind_ok (reader.blank_line p) (λ _. pure (entry.Blank p.line, behind_blank b)) (x, c) q s.1 in
+    let (u, r, h1, k1) = bind_ok (tokens.blank_line p) (λ _. pure (entry.Blank p.line, behind_blank b)) (x, c) q s.1 in
     let both : (entry.Blank p.line, behind_blank b) ≡ (x, c) = ok_value (entry.Blank p.line, behind_blank b) (x, c) r q k1 in
     blank (subst (λ (o : Place). IsBlankLine p o) (ok_place (entry.Blank p.line, behind_blank b) (x, c) r q k1) (blank_line_ok p r u s.0 h1))
     (sym (ap (λ (s : Entry × Body). s.0) both)) (sym (ap (λ (s : Entry × Body). s.1) both)))
     (λ (s : _). in_body_ok (indentation_at b p) b p q x c refl s.0 s.1)
-    (choose (is_blank_line p) (and_then (reader.blank_line p) (λ _. pure (entry.Blank p.line, behind_blank b))) (item.in_body (indentation_at b p) p) (Ok ((x, c), q)) h)
+    (choose (is_blank_line p) (and_then (tokens.blank_line p) (λ _. pure (entry.Blank p.line, behind_blank b))) (item.in_body (indentation_at b p) p) (Ok ((x, c), q)) h)
 
 -- ---- what stands there is read
 

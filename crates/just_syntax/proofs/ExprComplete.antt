@@ -6,8 +6,8 @@ use Rattle.just_read.proofs.Laws.{ok_value, ok_place}
 use Rattle.just_syntax.specs.declared.ast.Comparison.{Comparison}
 use Rattle.just_syntax.specs.declared.ast.Expr.{Expr}
 use Rattle.just_syntax.specs.declared.ast.Expr.TheVariants as e
-use Rattle.just_syntax.specs.Characters.{begins_name}
-use Rattle.just_syntax.specs.Places.{behind_word, IsToken, IsWord}
+use Rattle.just_read.specs.Characters.{begins_name}
+use Rattle.just_read.specs.Lines.{behind_word, IsToken, IsWord}
 use Rattle.just_syntax.specs.Exprs.{begins_condition, IsComparison, IsDefault, IsValue, IsBlock, IsOtherwise, IsLevel, IsInner, IsExpr}
 use Rattle.just_syntax.specs.Exprs.IsComparison.{equal, unequal}
 use Rattle.just_syntax.specs.Exprs.IsValue.{literal, group, env, variable}
@@ -15,7 +15,7 @@ use Rattle.just_syntax.specs.Exprs.IsBlock.{block}
 use Rattle.just_syntax.specs.Exprs.IsOtherwise.{last, further}
 use Rattle.just_syntax.specs.Exprs.IsLevel.{conditional, root, value, joined, concatenated}
 use Rattle.just_syntax.specs.Readers as reader
-use Rattle.just_syntax.proofs.Texts.{begins_first, begins_starts, begins_other, starts_other}
+use Rattle.just_read.proofs.Laws.{begins_first, begins_starts, begins_other, starts_other}
 use Rattle.just_syntax.proofs.Beginnings.{no_string, string_other, word_behind, word_begins}
 use Rattle.just_syntax.proofs.Marks.{token_again, word_again, name_again}
 use Rattle.just_syntax.proofs.StringLaws.{string_again, string_begins}

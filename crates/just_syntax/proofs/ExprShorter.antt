@@ -5,7 +5,7 @@ use Rattle.just_read.proofs.Laws.{past_le, next_shorter, past_next, starts_with,
 use Rattle.just_syntax.specs.declared.ast.Name.{Name}
 use Rattle.just_syntax.specs.declared.ast.Comparison.{Comparison}
 use Rattle.just_syntax.specs.declared.ast.Expr.{Expr}
-use Rattle.just_syntax.specs.Characters.{is_blank, begins_name, in_name}
+use Rattle.just_read.specs.Characters.{is_blank, begins_name, in_name}
 use Rattle.just_syntax.specs.Places.{IsName}
 use Rattle.just_syntax.specs.Exprs.{IsComparison, IsDefault, IsValue, IsBlock, IsOtherwise, IsLevel, IsInner}
 use Rattle.just_syntax.specs.Exprs.IsComparison.{equal, unequal}

@@ -8,8 +8,10 @@ use Rattle.just_syntax.specs.declared.ast.Comparison.{Comparison}
 use Rattle.just_syntax.specs.declared.ast.Comparison.TheVariants.{Equal, Unequal}
 use Rattle.just_syntax.specs.declared.ast.Expr.{Expr}
 use Rattle.just_syntax.specs.declared.ast.Expr.TheVariants as e
-use Rattle.just_syntax.specs.Places.{skip, IsToken, IsWord, IsName}
-use Rattle.just_syntax.specs.Strings.{begins_string, IsString}
+use Rattle.just_read.specs.Lines.{skip, IsToken, IsWord}
+use Rattle.just_syntax.specs.Places.{IsName}
+use Rattle.just_read.specs.Quotes.{begins_string}
+use Rattle.just_syntax.specs.Strings.{IsString}
 use Rattle.just_syntax.specs.Exprs.{begins_condition, is_call, IsComparison, IsDefault, IsValue, IsBlock, IsOtherwise, IsLevel, IsInner}
 use Rattle.just_syntax.specs.Exprs.IsComparison.{equal, unequal}
 use Rattle.just_syntax.specs.Exprs.IsValue.{literal, group, env, variable}
@@ -17,6 +19,7 @@ use Rattle.just_syntax.specs.Exprs.IsBlock.{block}
 use Rattle.just_syntax.specs.Exprs.IsOtherwise.{last, further}
 use Rattle.just_syntax.specs.Exprs.IsLevel.{conditional, root, value, joined, concatenated}
 use Rattle.just_syntax.specs.Readers as reader
+use Rattle.just_read.specs.Tokens as tokens
 use Rattle.just_syntax.proofs.Marks.{token_ok, word_ok, name_ok}
 use Rattle.just_syntax.proofs.StringLaws.{string_ok}
 
@@ -26,21 +29,21 @@ unfolding reader.comparison
 comparison_ok p q x h =
     ⊎_elim
     (λ (s : _).
-    let (u, m, t, k) = bind_ok (reader.token (codes "==") p) (λ _. pure Equal) x q s.1 in
+    let (u, m, t, k) = bind_ok (tokens.token (codes "==") p) (λ _. pure Equal) x q s.1 in
     equal (subst (λ (r : Place). IsToken (codes "==") p r) (ok_place Equal x m q k) (token_ok (codes "==") p u m t)) (sym (ok_value Equal x m q k)))
     (λ (s : _).
-    let (u, m, t, k) = bind_ok (reader.token (codes "!=") p) (λ _. pure Unequal) x q s.1 in
+    let (u, m, t, k) = bind_ok (tokens.token (codes "!=") p) (λ _. pure Unequal) x q s.1 in
     unequal (subst (λ (r : Place). IsToken (codes "!=") p r) (ok_place Unequal x m q k) (token_ok (codes "!=") p u m t)) (sym (ok_value Unequal x m q k)))
-    (choose (begins (codes "==") p) (and_then (reader.token (codes "==") p) (λ _. pure Equal)) (and_then (reader.token (codes "!=") p) (λ _. pure Unequal)) (Ok (x, q)) h)
+    (choose (begins (codes "==") p) (and_then (tokens.token (codes "==") p) (λ _. pure Equal)) (and_then (tokens.token (codes "!=") p) (λ _. pure Unequal)) (Ok (x, q)) h)
 
 module _ (inner : Reader Expr) (Inner : Rule Expr) (reads : (p q : Place) (x : Expr) → inner p ≡ Ok (x, q) → Inner p q x) where
   -- an expression in parentheses that is read stands there
   group_ok : (p q : Place) (x : Expr) → reader.group inner p ≡ Ok (x, q) → IsValue Inner p q x
   unfolding reader.group
   group_ok p q x h =
-      let (u, m, h1, k1) = bind_ok (reader.token (codes "(") p) _ x q h in
+      let (u, m, h1, k1) = bind_ok (tokens.token (codes "(") p) _ x q h in
       let (y, n, h2, k2) = bind_ok (inner m) _ x q k1 in
-      let (v, o, h3, k3) = bind_ok (reader.token (codes ")") n) _ x q k2 in
+      let (v, o, h3, k3) = bind_ok (tokens.token (codes ")") n) _ x q k2 in
       group m n y (token_ok (codes "(") p u m h1) (reads m n y h2)
       (subst (λ (r : Place). IsToken (codes ")") n r) (ok_place (e.Group y) x o q k3) (token_ok (codes ")") n v o h3)) (sym (ok_value (e.Group y) x o q k3))
 
@@ -50,22 +53,22 @@ module _ (inner : Reader Expr) (Inner : Rule Expr) (reads : (p q : Place) (x : E
   default_ok p q x h =
       ⊎_elim
       (λ (s : _).
-      let (u, m, h1, k1) = bind_ok (reader.token (codes ",") p) _ x q s.1 in
+      let (u, m, h1, k1) = bind_ok (tokens.token (codes ",") p) _ x q s.1 in
       let (y, n, h2, k2) = bind_ok (inner m) _ x q k1 in
       subst (λ (z : Option Expr). IsDefault Inner p q z) (ok_value (Some y) x n q k2)
       (m, token_ok (codes ",") p u m h1, subst (λ (r : Place). Inner m r y) (ok_place (Some y) x n q k2) (reads m n y h2)))
       (λ (s : _). subst (λ (z : Option Expr). IsDefault Inner p q z) (ok_value None x p q s.1) (s.0, sym (ok_place None x p q s.1)))
-      (choose (begins (codes ",") p) (and_then (reader.token (codes ",") p) (λ _ m. and_then (inner m) (λ y. pure (Some y)))) (Ok (None, p)) (Ok (x, q)) h)
+      (choose (begins (codes ",") p) (and_then (tokens.token (codes ",") p) (λ _ m. and_then (inner m) (λ y. pure (Some y)))) (Ok (None, p)) (Ok (x, q)) h)
 
   -- a call of `env` that is read stands there
   env_ok : (p q : Place) (x : Expr) → reader.env inner p ≡ Ok (x, q) → IsValue Inner p q x
   unfolding reader.env
   env_ok p q x h =
-      let (u, m, h1, k1) = bind_ok (reader.word (codes "env") p) _ x q h in
-      let (v, n, h2, k2) = bind_ok (reader.token (codes "(") m) _ x q k1 in
+      let (u, m, h1, k1) = bind_ok (tokens.word (codes "env") p) _ x q h in
+      let (v, n, h2, k2) = bind_ok (tokens.token (codes "(") m) _ x q k1 in
       let (key, o, h3, k3) = bind_ok (inner n) _ x q k2 in
       let (d, r, h4, k4) = bind_ok (reader.default inner o) _ x q k3 in
-      let (w, s, h5, k5) = bind_ok (reader.token (codes ")") r) _ x q k4 in
+      let (w, s, h5, k5) = bind_ok (tokens.token (codes ")") r) _ x q k4 in
       env m n o r key d (word_ok (codes "env") p u m h1) (token_ok (codes "(") m v n h2) (reads n o key h3) (default_ok o r d h4)
       (subst (λ (l : Place). IsToken (codes ")") r l) (ok_place (e.Env p.line p.column key d) x s q k5) (token_ok (codes ")") r w s h5))
       (sym (ok_value (e.Env p.line p.column key d) x s q k5))
@@ -95,9 +98,9 @@ module _ (inner : Reader Expr) (Inner : Rule Expr) (reads : (p q : Place) (x : E
   pub block_ok : (p q : Place) (x : Expr) → reader.block inner p ≡ Ok (x, q) → IsBlock Inner p q x
   unfolding reader.block
   block_ok p q x h =
-      let (u, m, h1, k1) = bind_ok (reader.token (codes "{") p) _ x q h in
+      let (u, m, h1, k1) = bind_ok (tokens.token (codes "{") p) _ x q h in
       let (y, n, h2, k2) = bind_ok (inner m) _ x q k1 in
-      let (v, o, h3, k3) = bind_ok (reader.token (codes "}") n) _ x q k2 in
+      let (v, o, h3, k3) = bind_ok (tokens.token (codes "}") n) _ x q k2 in
       let t : IsToken (codes "}") n q = subst (λ (r : Place). IsToken (codes "}") n r) (ok_place y x o q k3) (token_ok (codes "}") n v o h3) in
       block m n (token_ok (codes "{") p u m h1) (subst (λ (z : Expr). Inner m n z) (ok_value y x o q k3) (reads m n y h2)) t
 
@@ -141,10 +144,10 @@ module _ (inner : Reader Expr) (Inner : Rule Expr) (reads : (p q : Place) (x : E
   conditional_ok : (p q : Place) (x : Expr) → begins_condition p ≡ true → reader.conditional inner p ≡ Ok (x, q) → IsLevel Inner p q x
   unfolding reader.conditional
   conditional_ok p q x b h =
-      let (u, m, h1, k1) = bind_ok (reader.token (codes "if") p) _ x q h in
+      let (u, m, h1, k1) = bind_ok (tokens.token (codes "if") p) _ x q h in
       let (c, r, h2, k2) = bind_ok (reader.condition inner m) _ x q k1 in
       let (y, s, h3, k3) = bind_ok (reader.block inner r) _ x q k2 in
-      let (v, t, h4, k4) = bind_ok (reader.word (codes "else") s) _ x q k3 in
+      let (v, t, h4, k4) = bind_ok (tokens.word (codes "else") s) _ x q k3 in
       let (o, l, h5, k5) = bind_ok (reader.otherwise inner t) _ x q k4 in
       let sides = condition_ok m r c h2 in
       let end : l ≡ q = ok_place (e.If c.0 c.1 c.2 y o.0 o.1) x l q k5 in
@@ -156,7 +159,7 @@ module _ (inner : Reader Expr) (Inner : Rule Expr) (reads : (p q : Place) (x : E
   root_ok : (p q : Place) (x : Expr) → reader.root inner p ≡ Ok (x, q) → IsLevel Inner p q x
   unfolding reader.root
   root_ok p q x h =
-      let (u, m, h1, k1) = bind_ok (reader.token (codes "/") p) _ x q h in
+      let (u, m, h1, k1) = bind_ok (tokens.token (codes "/") p) _ x q h in
       let (y, n, h2, k2) = bind_ok (inner m) _ x q k1 in
       root m y (token_ok (codes "/") p u m h1) (subst (λ (r : Place). Inner m r y) (ok_place (e.Root y) x n q k2) (reads m n y h2)) (sym (ok_value (e.Root y) x n q k2))
 
@@ -166,13 +169,13 @@ module _ (inner : Reader Expr) (Inner : Rule Expr) (reads : (p q : Place) (x : E
   tail_ok p m q a x c v h =
       ⊎_elim
       (λ (s : _).
-      let (u, n, h1, k1) = bind_ok (reader.token (codes "/") m) _ x q s.1 in
+      let (u, n, h1, k1) = bind_ok (tokens.token (codes "/") m) _ x q s.1 in
       let (b, o, h2, k2) = bind_ok (inner n) _ x q k1 in
       joined m n a b c v (token_ok (codes "/") m u n h1) (subst (λ (r : Place). Inner n r b) (ok_place (e.Join a b) x o q k2) (reads n o b h2)) (sym (ok_value (e.Join a b) x o q k2)))
       (λ (s : _).
       ⊎_elim
       (λ (t : _).
-      let (u, n, h1, k1) = bind_ok (reader.token (codes "+") m) _ x q t.1 in
+      let (u, n, h1, k1) = bind_ok (tokens.token (codes "+") m) _ x q t.1 in
       let (b, o, h2, k2) = bind_ok (inner n) _ x q k1 in
       concatenated m n a b c v (token_ok (codes "+") m u n h1) (subst (λ (r : Place). Inner n r b) (ok_place (e.Concat a b) x o q k2) (reads n o b h2))
       (sym (ok_value (e.Concat a b) x o q k2)))
@@ -180,9 +183,9 @@ module _ (inner : Reader Expr) (Inner : Rule Expr) (reads : (p q : Place) (x : E
       let end : m ≡ q = ok_place a x m q t.1 in
       value c (subst (λ (z : Expr). IsValue Inner p q z) (ok_value a x m q t.1) (subst (λ (r : Place). IsValue Inner p r a) end v))
       (ap (begins (codes "/")) (sym end) ∙ s.0) (ap (begins (codes "+")) (sym end) ∙ t.0))
-      (choose (begins (codes "+") m) (and_then (reader.token (codes "+") m) (λ _ n. and_then (inner n) (λ b. pure (e.Concat a b)))) (Ok (a, m)) (Ok (x, q)) s.1))
-      (choose (begins (codes "/") m) (and_then (reader.token (codes "/") m) (λ _ n. and_then (inner n) (λ b. pure (e.Join a b))))
-      (if begins (codes "+") m then and_then (reader.token (codes "+") m) (λ _ n. and_then (inner n) (λ b. pure (e.Concat a b))) else Ok (a, m)) (Ok (x, q)) h)
+      (choose (begins (codes "+") m) (and_then (tokens.token (codes "+") m) (λ _ n. and_then (inner n) (λ b. pure (e.Concat a b)))) (Ok (a, m)) (Ok (x, q)) s.1))
+      (choose (begins (codes "/") m) (and_then (tokens.token (codes "/") m) (λ _ n. and_then (inner n) (λ b. pure (e.Join a b))))
+      (if begins (codes "+") m then and_then (tokens.token (codes "+") m) (λ _ n. and_then (inner n) (λ b. pure (e.Concat a b))) else Ok (a, m)) (Ok (x, q)) h)
 
   -- an expression that is read stands there, if those inside it do
   pub level_ok : (p q : Place) (x : Expr) → reader.level inner p ≡ Ok (x, q) → IsLevel Inner p q x

@@ -17,7 +17,7 @@ use Rattle.just_syntax.specs.Items.IsSettingValue.{absent as value_absent, flag 
 use Rattle.just_syntax.specs.Items.IsModulePath.{path as path_behind, without as no_path_behind}
 use Rattle.just_syntax.specs.Items.IsItem.{comment as comment_item, alias as alias_item, import as import_item, module_alone, assignment as assignment_item, export as export_item, unexport as unexport_item, setting_item, attributed_module, recipe as recipe_item}
 use Rattle.just_syntax.specs.ItemReaders as item
-use Rattle.just_syntax.proofs.Texts.{begins_first, begins_other}
+use Rattle.just_read.proofs.Laws.{begins_first, begins_other}
 use Rattle.just_syntax.proofs.Beginnings.{no_string, word_begins}
 use Rattle.just_syntax.proofs.Marks.{token_again, word_again, name_again}
 use Rattle.just_syntax.proofs.LineLaws.{maybe_again, trailing_again, path_again, comment_again, rest_again}

@@ -16,8 +16,10 @@ use Rattle.just_syntax.specs.declared.form.Sort.{Sort}
 use Rattle.just_syntax.specs.declared.form.Sort.TheVariants as sort
 use Rattle.just_syntax.specs.declared.item.Opening.{Opening}
 use Rattle.just_syntax.specs.declared.item.Opening.TheVariants as opening
-use Rattle.just_syntax.specs.Places.{is_word, behind_word, IsToken, IsWord, IsComment, IsRest}
-use Rattle.just_syntax.specs.Strings.{begins_string, IsString}
+use Rattle.just_read.specs.Lines.{is_word, behind_word, IsToken, IsWord}
+use Rattle.just_syntax.specs.Places.{IsComment, IsRest}
+use Rattle.just_read.specs.Quotes.{begins_string}
+use Rattle.just_syntax.specs.Strings.{IsString}
 use Rattle.just_syntax.specs.Exprs.{IsExpr}
 use Rattle.just_syntax.specs.Forms.{sort_of}
 use Rattle.just_syntax.specs.Attributes.{IsTrailing, AreAttributes}
@@ -30,6 +32,7 @@ use Rattle.just_syntax.specs.Items.IsModulePath.{path as path_behind, without as
 use Rattle.just_syntax.specs.Items.IsItem.{comment as comment_item, alias as alias_item, import as import_item, module_alone, assignment as assignment_item, export as export_item, unexport as unexport_item, setting_item, attributed_module, recipe as recipe_item}
 use Rattle.just_syntax.specs.ItemReaders as item
 use Rattle.just_syntax.specs.Readers as reader
+use Rattle.just_read.specs.Tokens as tokens
 use Rattle.just_syntax.proofs.Marks.{token_ok, word_ok, name_ok}
 use Rattle.just_syntax.proofs.LineLaws.{maybe_ok, trailing_ok, path_ok, comment_ok, rest_ok}
 use Rattle.just_syntax.proofs.StringLaws.{string_ok}
@@ -43,9 +46,9 @@ use Rattle.just_syntax.proofs.RecipeSound.{recipe_line_ok}
 alias_ok : (p q : Place) (x : AstItem) → item.alias p ≡ Ok (x, q) → IsAlias p q x
 unfolding item.alias
 alias_ok p q x h =
-    let (u, m, h1, k1) = bind_ok (reader.token (codes "alias") p) _ x q h in
+    let (u, m, h1, k1) = bind_ok (tokens.token (codes "alias") p) _ x q h in
     let (name, n, h2, k2) = bind_ok (reader.name m) _ x q k1 in
-    let (v, o, h3, k3) = bind_ok (reader.token (codes ":=") n) _ x q k2 in
+    let (v, o, h3, k3) = bind_ok (tokens.token (codes ":=") n) _ x q k2 in
     let (target, r, h4, k4) = bind_ok (reader.path o) _ x q k3 in
     let (c, s, h5, k5) = bind_ok (reader.rest r) _ x q k4 in (
       m,
@@ -67,8 +70,8 @@ alias_ok p q x h =
 import_ok : (p q : Place) (x : AstItem) → item.import p ≡ Ok (x, q) → IsImport p q x
 unfolding item.import
 import_ok p q x h =
-    let (u, m, h1, k1) = bind_ok (reader.token (codes "import") p) _ x q h in
-    let (optional, n, h2, k2) = bind_ok (reader.maybe (codes "?") m) _ x q k1 in
+    let (u, m, h1, k1) = bind_ok (tokens.token (codes "import") p) _ x q h in
+    let (optional, n, h2, k2) = bind_ok (tokens.maybe (codes "?") m) _ x q k1 in
     let (t, o, h3, k3) = bind_ok (reader.string n) _ x q k2 in
     let (c, s, h4, k4) = bind_ok (reader.rest o) _ x q k3 in (
       m,
@@ -99,8 +102,8 @@ module_path_ok p q x h =
 module_ok : (attributes : List Attribute) (p q : Place) (x : AstItem) → item.module_item attributes p ≡ Ok (x, q) → IsModule attributes p q x
 unfolding item.module_item
 module_ok attributes p q x h =
-    let (u, m, h1, k1) = bind_ok (reader.token (codes "mod") p) _ x q h in
-    let (optional, n, h2, k2) = bind_ok (reader.maybe (codes "?") m) _ x q k1 in
+    let (u, m, h1, k1) = bind_ok (tokens.token (codes "mod") p) _ x q h in
+    let (optional, n, h2, k2) = bind_ok (tokens.maybe (codes "?") m) _ x q k1 in
     let (name, o, h3, k3) = bind_ok (reader.name n) _ x q k2 in
     let (t, r, h4, k4) = bind_ok (item.module_path o) _ x q k3 in
     let (c, s, h5, k5) = bind_ok (reader.rest r) _ x q k4 in (
@@ -125,7 +128,7 @@ assignment_ok : (export : Bool) (p q : Place) (x : AstItem) → item.assignment 
 unfolding item.assignment
 assignment_ok export p q x h =
     let (name, m, h1, k1) = bind_ok (reader.name p) _ x q h in
-    let (u, n, h2, k2) = bind_ok (reader.token (codes ":=") m) _ x q k1 in
+    let (u, n, h2, k2) = bind_ok (tokens.token (codes ":=") m) _ x q k1 in
     let (y, o, h3, k3) = bind_ok (item.expr n) _ x q k2 in
     let (c, s, h4, k4) = bind_ok (reader.rest o) _ x q k3 in (
       m,
@@ -145,7 +148,7 @@ assignment_ok export p q x h =
 unexport_ok : (p q : Place) (x : AstItem) → item.unexport p ≡ Ok (x, q) → IsUnexport p q x
 unfolding item.unexport
 unexport_ok p q x h =
-    let (u, m, h1, k1) = bind_ok (reader.token (codes "unexport") p) _ x q h in
+    let (u, m, h1, k1) = bind_ok (tokens.token (codes "unexport") p) _ x q h in
     let (name, n, h2, k2) = bind_ok (reader.name m) _ x q k1 in
     let (c, s, h3, k3) = bind_ok (reader.rest n) _ x q k2 in (
       m,
@@ -166,18 +169,18 @@ unfolding item.truth
 truth_ok p q x h =
     ⊎_elim
     (λ (s : _).
-    let (u, m, h1, k1) = bind_ok (reader.word (codes "true") p) (λ _. pure true) x q s.1 in
+    let (u, m, h1, k1) = bind_ok (tokens.word (codes "true") p) (λ _. pure true) x q s.1 in
     yes_word (subst (λ (r : Place). IsWord (codes "true") p r) (ok_place true x m q k1) (word_ok (codes "true") p u m h1)) (sym (ok_value true x m q k1)))
     (λ (s : _).
-    let (u, m, h1, k1) = bind_ok (reader.word (codes "false") p) (λ _. pure false) x q s.1 in
+    let (u, m, h1, k1) = bind_ok (tokens.word (codes "false") p) (λ _. pure false) x q s.1 in
     no_word (subst (λ (r : Place). IsWord (codes "false") p r) (ok_place false x m q k1) (word_ok (codes "false") p u m h1)) (sym (ok_value false x m q k1)))
-    (choose (is_word (codes "true") p) (and_then (reader.word (codes "true") p) (λ _. pure true)) (and_then (reader.word (codes "false") p) (λ _. pure false)) (Ok (x, q)) h)
+    (choose (is_word (codes "true") p) (and_then (tokens.word (codes "true") p) (λ _. pure true)) (and_then (tokens.word (codes "false") p) (λ _. pure false)) (Ok (x, q)) h)
 
 -- a comma and a string that are read stand there
 further_string_ok : (p q : Place) (x : StringLiteral) → goes_on p ≡ true → item.further_string p ≡ Ok (x, q) → IsFurtherString p q x
 unfolding item.further_string
 further_string_ok p q x g h =
-    let (u, m, h1, k1) = bind_ok (reader.token (codes ",") p) (λ _. reader.string) x q h in
+    let (u, m, h1, k1) = bind_ok (tokens.token (codes ",") p) (λ _. reader.string) x q h in
     (m, g, token_ok (codes ",") p u m h1, string_ok m q x k1)
 
 -- strings that are read between brackets stand there with these
@@ -201,9 +204,9 @@ some_strings_ok p m n q xs a h b =
 strings_ok : (p q : Place) (xs : List StringLiteral) → item.strings p ≡ Ok (xs, q) → AreStrings p q xs
 unfolding item.strings
 strings_ok p q xs h =
-    let (u, m, h1, k1) = bind_ok (reader.token (codes "[") p) _ xs q h in
+    let (u, m, h1, k1) = bind_ok (tokens.token (codes "[") p) _ xs q h in
     let (ys, n, h2, k2) = bind_ok (item.some_strings m) _ xs q k1 in
-    let (v, o, h3, k3) = bind_ok (reader.token (codes "]") n) _ xs q k2 in
+    let (v, o, h3, k3) = bind_ok (tokens.token (codes "]") n) _ xs q k2 in
     subst (λ (zs : List StringLiteral). AreStrings p q zs) (ok_value ys xs o q k3)
     (some_strings_ok p m n q ys (token_ok (codes "[") p u m h1) h2 (subst (λ (w : Place). IsToken (codes "]") n w) (ok_place ys xs o q k3) (token_ok (codes "]") n v o h3)))
 
@@ -246,18 +249,18 @@ unfolding item.setting_value
 setting_value_ok kind p q x h =
     ⊎_elim
     (λ (s : _).
-    let (u, m, h1, k1) = bind_ok (reader.token (codes ":=") p) (λ _ m. and_then (item.value_of kind m) (λ y. pure (Some y))) x q s.1 in
+    let (u, m, h1, k1) = bind_ok (tokens.token (codes ":=") p) (λ _ m. and_then (item.value_of kind m) (λ y. pure (Some y))) x q s.1 in
     let (y, n, h2, k2) = bind_ok (item.value_of kind m) (λ y. pure (Some y)) x q k1 in
     subst (λ (z : Option SettingValue). IsSettingValue kind p q z) (ok_value (Some y) x n q k2)
     (subst (λ (r : Place). IsSettingValue kind p r (Some y)) (ok_place (Some y) x n q k2) (value_of_ok kind p m n y (token_ok (codes ":=") p u m h1) h2)))
     (λ (s : _). absent_ok kind p q x s.0 s.1)
-    (choose (begins (codes ":=") p) (and_then (reader.token (codes ":=") p) (λ _ m. and_then (item.value_of kind m) (λ y. pure (Some y)))) (item.absent kind p) (Ok (x, q)) h)
+    (choose (begins (codes ":=") p) (and_then (tokens.token (codes ":=") p) (λ _ m. and_then (item.value_of kind m) (λ y. pure (Some y)))) (item.absent kind p) (Ok (x, q)) h)
 
 -- a setting that is read stands there
 setting_ok : (p q : Place) (x : AstItem) → item.setting_item p ≡ Ok (x, q) → IsSetting p q x
 unfolding item.setting_item
 setting_ok p q x h =
-    let (u, m, h1, k1) = bind_ok (reader.token (codes "set") p) _ x q h in
+    let (u, m, h1, k1) = bind_ok (tokens.token (codes "set") p) _ x q h in
     let (name, n, h2, k2) = bind_ok (reader.name m) _ x q k1 in
     let (y, o, h3, k3) = bind_ok (item.setting_value (sort_of name.text) n) _ x q k2 in
     let (c, s, h4, k4) = bind_ok (reader.rest o) _ x q k3 in (
@@ -331,7 +334,7 @@ item_of_ok opening.Alias p q x e h = let (y, k, z) = as_item_ok (item.alias p) q
 item_of_ok opening.Import p q x e h = let (y, k, z) = as_item_ok (item.import p) q x h in import_item y e (import_ok p q y k) z
 item_of_ok opening.Module p q x e h = let (y, k, z) = as_item_ok (item.module_item [] p) q x h in module_alone y e (module_ok [] p q y k) z
 item_of_ok opening.Export p q x e h =
-    let (u, m, h1, k1) = bind_ok (reader.token (codes "export") p) (λ _ m. and_then (item.assignment true m) (λ y. pure (entry.Item y))) x q h in
+    let (u, m, h1, k1) = bind_ok (tokens.token (codes "export") p) (λ _ m. and_then (item.assignment true m) (λ y. pure (entry.Item y))) x q h in
     let (y, k, z) = as_item_ok (item.assignment true m) q x k1 in
     export_item m y e (token_ok (codes "export") p u m h1) (assignment_ok true m q y k) z
 item_of_ok opening.Assignment p q x e h = let (y, k, z) = as_item_ok (item.assignment false p) q x h in assignment_item y e (assignment_ok false p q y k) z

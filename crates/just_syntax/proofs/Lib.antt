@@ -1,14 +1,9 @@
 -- The laws of the language.
-pub mod Texts
 pub mod Collect
 pub mod Marks
 pub mod LineLaws
 pub mod TextLaws
-pub mod Lines
-pub mod Digits
 pub mod PathLoop
-pub mod Pieces
-pub mod PiecesLoop
 pub mod Levels
 pub mod StringLaws
 pub mod Beginnings
@@ -20,7 +15,6 @@ pub mod Loops
 pub mod TextLoop
 pub mod CookedLoop
 pub mod Blanks
-pub mod SharedBlanks
 pub mod Comments
 pub mod AttributeShorter
 pub mod AttributeLoops

@@ -9,10 +9,11 @@ use Rattle.just_read.proofs.Laws.{bind_ok, choose, ok_value, ok_place}
 use Rattle.just_read.proofs.Laws.{many_ok, many_again}
 use Rattle.just_read.proofs.Laws.{past_le, character_shorter, starts_seen, past_next, next_shorter, length_at_end, length_before_end, not_end_where_starts}
 use Rattle.just_syntax.specs.declared.ast.Name.{Name}
-use Rattle.just_syntax.specs.Characters.{is_blank, in_line}
-use Rattle.just_syntax.specs.Places.{skip, crlf, ends_line, is_blank_line, is_rest, without_returns, IsToken, IsFurtherName, IsPath, IsNewline, IsBlankLine, IsComment, IsRest}
+use Rattle.just_read.specs.Characters.{is_blank, in_line}
+use Rattle.just_read.specs.Lines.{skip, crlf, ends_line, is_blank_line, is_rest, without_returns, IsToken, IsNewline, IsBlankLine}
+use Rattle.just_syntax.specs.Places.{IsFurtherName, IsPath, IsComment, IsRest}
 use Rattle.just_syntax.specs.Places.IsPath.{names}
-use Rattle.just_syntax.specs.Places.IsNewline.{last, feed, return_feed}
+use Rattle.just_read.specs.Lines.IsNewline.{last, feed, return_feed}
 use Rattle.just_syntax.specs.Places.IsRest.{ended, commented}
 use Rattle.just_syntax.specs.Recipes.{IsMaybe}
 use Rattle.just_syntax.specs.Recipes.IsMaybe.{here, not_here}
@@ -20,7 +21,8 @@ use Rattle.just_syntax.specs.Attributes.{IsTrailing}
 use Rattle.just_syntax.specs.Attributes.IsTrailing.{comma, nothing}
 use Rattle.just_syntax.specs.ItemReaders as item
 use Rattle.just_syntax.specs.Readers as reader
-use Rattle.just_syntax.proofs.Texts.{and_true, begins_starts, behind_shorter, behind_le}
+use Rattle.just_read.specs.Tokens as tokens
+use Rattle.just_read.proofs.Laws.{and_true, begins_starts, behind_shorter, behind_le}
 use Rattle.just_syntax.proofs.Beginnings.{not_true}
 use Rattle.just_syntax.proofs.Marks.{token_ok, token_again, token_lt, name_ok, name_again}
 use Rattle.just_syntax.proofs.ExprShorter.{name_lt}
@@ -29,19 +31,19 @@ use Rattle.just_syntax.proofs.PathLoop.{shorter, are_le}
 -- ---- marks that may stand
 
 -- whether a mark was read is whether it stands there
-pub maybe_ok : (mark : List ℕ) (p q : Place) (b : Bool) → reader.maybe mark p ≡ Ok (b, q) → IsMaybe mark p q b
-unfolding reader.maybe
+pub maybe_ok : (mark : List ℕ) (p q : Place) (b : Bool) → tokens.maybe mark p ≡ Ok (b, q) → IsMaybe mark p q b
+unfolding tokens.maybe
 maybe_ok mark p q b h =
     ⊎_elim
     (λ (s : _).
-    let (u, m, t, k) = bind_ok (reader.token mark p) (λ _. pure true) b q s.1 in
+    let (u, m, t, k) = bind_ok (tokens.token mark p) (λ _. pure true) b q s.1 in
     here (subst (λ (r : Place). IsToken mark p r) (ok_place true b m q k) (token_ok mark p u m t)) (sym (ok_value true b m q k)))
     (λ (s : _). not_here s.0 (sym (ok_place false b p q s.1)) (sym (ok_value false b p q s.1)))
-    (choose (begins mark p) (and_then (reader.token mark p) (λ _. pure true)) (Ok (false, p)) (Ok (b, q)) h)
+    (choose (begins mark p) (and_then (tokens.token mark p) (λ _. pure true)) (Ok (false, p)) (Ok (b, q)) h)
 
 -- a mark that may stand is read
-pub maybe_again : (mark : List ℕ) (p q : Place) (b : Bool) → IsMaybe mark p q b → reader.maybe mark p ≡ Ok (b, q)
-unfolding reader.maybe
+pub maybe_again : (mark : List ℕ) (p q : Place) (b : Bool) → IsMaybe mark p q b → tokens.maybe mark p ≡ Ok (b, q)
+unfolding tokens.maybe
 maybe_again mark p q b (here t z) = rw (t.0, token_again mark p q t, z) refl
 maybe_again mark p q b (not_here n e z) = rw (n, e, z) refl
 
@@ -50,7 +52,7 @@ pub trailing_ok : (p q : Place) (u : Unit {0}) → item.trailing p ≡ Ok (u, q)
 unfolding item.trailing
 trailing_ok p q u h =
     ⊎_elim (λ (s : _). comma (token_ok (codes ",") p u q s.1)) (λ (s : _). nothing s.0 (sym (ok_place tt u p q s.1)))
-    (choose (begins (codes ",") p) (reader.token (codes ",") p) (Ok (tt, p)) (Ok (u, q)) h)
+    (choose (begins (codes ",") p) (tokens.token (codes ",") p) (Ok (tt, p)) (Ok (u, q)) h)
 
 -- a comma behind a list is read
 pub trailing_again : (p q : Place) → IsTrailing p q → item.trailing p ≡ Ok (tt, q)
@@ -64,7 +66,7 @@ trailing_again p q (nothing n e) = rw (n, e) refl
 pub further_name_ok : (p q : Place) (x : Name) → reader.further_name p ≡ Ok (x, q) → IsFurtherName p q x
 unfolding reader.further_name
 further_name_ok p q x h =
-    let (u, m, t, k) = bind_ok (reader.token (codes "::") p) (λ _. reader.name) x q h in
+    let (u, m, t, k) = bind_ok (tokens.token (codes "::") p) (λ _. reader.name) x q h in
     (m, token_ok (codes "::") p u m t, name_ok m x q k)
 
 -- `::` and a name that stand there are read
@@ -92,8 +94,8 @@ path_again p q xs (names m n ys i are done z) =
 -- ---- the ends of lines
 
 -- the end of a line that is read stands there
-pub newline_ok : (p q : Place) (u : Unit {0}) → reader.newline p ≡ Ok (u, q) → IsNewline p q
-unfolding reader.newline
+pub newline_ok : (p q : Place) (u : Unit {0}) → tokens.newline p ≡ Ok (u, q) → IsNewline p q
+unfolding tokens.newline
 newline_ok p q u h =
     ⊎_elim (λ (s : _). last s.0 (sym (ok_place tt u p q s.1)))
     (λ (s : _).
@@ -110,8 +112,8 @@ return_no_end : (p : Place) → begins crlf p ≡ true → is_end p ≡ false
 return_no_end p b = not_end_where_starts (λ d. d == 13) p (begins_starts (λ d. d == 13) 13 (10 ∷ []) p b)
 
 -- the end of a line that stands there is read
-pub newline_again : (p q : Place) → IsNewline p q → reader.newline p ≡ Ok (tt, q)
-unfolding reader.newline
+pub newline_again : (p q : Place) → IsNewline p q → tokens.newline p ≡ Ok (tt, q)
+unfolding tokens.newline
 newline_again p q (last e z) = rw (e, z) refl
 newline_again p q (feed s) = rw (not_end_where_starts (λ d. d == 10) p s.0, s.0, s.1) refl
 newline_again p q (return_feed b z) = rw (return_no_end p b, begins_starts (λ d. d == 10) 13 (10 ∷ []) p b, b, z) refl
@@ -142,13 +144,13 @@ newline_lt p q (return_feed b z) n = rw z (behind_shorter 13 (10 ∷ []) p b)
 -- ---- lines with nothing but blanks
 
 -- a line with nothing but blanks that is read stands there
-pub blank_line_ok : (p q : Place) (u : Unit {0}) → is_blank_line p ≡ true → reader.blank_line p ≡ Ok (u, q) → IsBlankLine p q
-unfolding reader.blank_line
+pub blank_line_ok : (p q : Place) (u : Unit {0}) → is_blank_line p ≡ true → tokens.blank_line p ≡ Ok (u, q) → IsBlankLine p q
+unfolding tokens.blank_line
 blank_line_ok p q u b h = (not_true (is_end p) (and_true (not (is_end p)) (ends_line (skip p)) b).0, newline_ok (skip p) q u h)
 
 -- a line with nothing but blanks that stands there is read
-pub blank_line_again : (p q : Place) → IsBlankLine p q → (is_blank_line p ≡ true) × (reader.blank_line p ≡ Ok (tt, q))
-unfolding reader.blank_line
+pub blank_line_again : (p q : Place) → IsBlankLine p q → (is_blank_line p ≡ true) × (tokens.blank_line p ≡ Ok (tt, q))
+unfolding tokens.blank_line
 blank_line_again p q (n, i) = (rw (n, newline_ends (skip p) q i) refl, newline_again (skip p) q i)
 
 -- behind the end of a line of blanks less is left
@@ -169,7 +171,7 @@ pub comment_ok : (p q : Place) (x : List ℕ) → sees 35 p ≡ true → reader.
 unfolding reader.comment
 comment_ok p q x s h =
     let text = encode_utf8_all (without_returns (run in_line p.rest)) in
-    let (u, m, h1, k1) = bind_ok (reader.newline (past in_line p)) (λ _. pure text) x q h in
+    let (u, m, h1, k1) = bind_ok (tokens.newline (past in_line p)) (λ _. pure text) x q h in
     (s, sym (ok_value text x m q k1), subst (λ (r : Place). IsNewline (past in_line p) r) (ok_place text x m q k1) (newline_ok (past in_line p) m u h1))
 
 -- a comment that stands there is read
@@ -186,9 +188,9 @@ rest_ok p q x h =
     let (t, m, h1, k1) = bind_ok (reader.comment p) (λ t. pure (Some t)) x q s.1 in
     commented t (subst (λ (r : Place). IsComment p r t) (ok_place (Some t) x m q k1) (comment_ok p m t s.0 h1)) (sym (ok_value (Some t) x m q k1)))
     (λ (s : _).
-    let (u, m, h1, k1) = bind_ok (reader.newline p) (λ _. pure None) x q s.1 in
+    let (u, m, h1, k1) = bind_ok (tokens.newline p) (λ _. pure None) x q s.1 in
     ended (subst (λ (r : Place). IsNewline p r) (ok_place None x m q k1) (newline_ok p m u h1)) (sym (ok_value None x m q k1)))
-    (choose (sees 35 p) (and_then (reader.comment p) (λ t. pure (Some t))) (and_then (reader.newline p) (λ _. pure None)) (Ok (x, q)) h)
+    (choose (sees 35 p) (and_then (reader.comment p) (λ t. pure (Some t))) (and_then (tokens.newline p) (λ _. pure None)) (Ok (x, q)) h)
 
 -- what stands behind an item is read
 pub rest_again : (p q : Place) (x : Option (List ℕ)) → IsRest p q x → reader.rest p ≡ Ok (x, q)

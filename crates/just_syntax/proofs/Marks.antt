@@ -5,22 +5,24 @@ use Rattle.just_read.specs.declared.error.ReadError.TheVariants.{Syntax}
 use Rattle.just_read.proofs.Laws.{bind_ok, choose, ok_value, ok_place}
 use Rattle.just_read.proofs.Laws.{past_le, next_shorter}
 use Rattle.just_syntax.specs.declared.ast.Name.{Name}
-use Rattle.just_syntax.specs.Characters.{is_blank, begins_name, in_name}
-use Rattle.just_syntax.specs.Places.{skip, is_word, behind_word, name_at, IsToken, IsWord, IsName, IsFurtherName}
+use Rattle.just_read.specs.Characters.{is_blank, begins_name, in_name}
+use Rattle.just_read.specs.Lines.{skip, is_word, behind_word, IsToken, IsWord}
+use Rattle.just_syntax.specs.Places.{name_at, IsName, IsFurtherName}
 use Rattle.just_syntax.specs.Readers as reader
-use Rattle.just_syntax.proofs.Texts.{and_true, behind_le, behind_shorter}
+use Rattle.just_read.specs.Tokens as tokens
+use Rattle.just_read.proofs.Laws.{and_true, behind_le, behind_shorter}
 
 -- a mark that is read stands there
-pub token_ok : (mark : List ℕ) (p : Place) (u : Unit {0}) (q : Place) → reader.token mark p ≡ Ok (u, q) → IsToken mark p q
-unfolding reader.token
+pub token_ok : (mark : List ℕ) (p : Place) (u : Unit {0}) (q : Place) → tokens.token mark p ≡ Ok (u, q) → IsToken mark p q
+unfolding tokens.token
 token_ok mark p u q h =
     ⊎_elim (λ (s : _). (s.0, sym (ok_place tt u (skip (behind_text mark p)) q s.1)))
     (λ (s : _). absurd (let no : ⊥ = cc (s.1) in no))
     (choose (begins mark p) (Ok (tt, skip (behind_text mark p))) (Err Syntax) (Ok (u, q)) h)
 
 -- a mark that stands there is read
-pub token_again : (mark : List ℕ) (p q : Place) → IsToken mark p q → reader.token mark p ≡ Ok (tt, q)
-unfolding reader.token
+pub token_again : (mark : List ℕ) (p q : Place) → IsToken mark p q → tokens.token mark p ≡ Ok (tt, q)
+unfolding tokens.token
 token_again mark p q s = rw (s.0, s.1) refl
 
 -- a mark takes a character
@@ -28,16 +30,16 @@ pub token_lt : (c : ℕ) (mark : List ℕ) (p q : Place) → IsToken (c ∷ mark
 token_lt c mark p q s = rw (s.1) (omega (arith, past_le is_blank (behind_text (c ∷ mark) p), behind_shorter c mark p s.0))
 
 -- a word that is read stands there
-pub word_ok : (text : List ℕ) (p : Place) (u : Unit {0}) (q : Place) → reader.word text p ≡ Ok (u, q) → IsWord text p q
-unfolding reader.word
+pub word_ok : (text : List ℕ) (p : Place) (u : Unit {0}) (q : Place) → tokens.word text p ≡ Ok (u, q) → IsWord text p q
+unfolding tokens.word
 word_ok text p u q h =
     ⊎_elim (λ (s : _). (s.0, sym (ok_place tt u (skip (behind_text text p)) q s.1)))
     (λ (s : _). absurd (let no : ⊥ = cc (s.1) in no))
     (choose (is_word text p) (Ok (tt, skip (behind_text text p))) (Err Syntax) (Ok (u, q)) h)
 
 -- a word that stands there is read
-pub word_again : (text : List ℕ) (p q : Place) → IsWord text p q → reader.word text p ≡ Ok (tt, q)
-unfolding reader.word
+pub word_again : (text : List ℕ) (p q : Place) → IsWord text p q → tokens.word text p ≡ Ok (tt, q)
+unfolding tokens.word
 word_again text p q s = rw (s.0, s.1) refl
 
 -- a word takes a character

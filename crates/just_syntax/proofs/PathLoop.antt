@@ -5,11 +5,12 @@ use Rattle.just_read.specs.Reader.{Reader}
 use Rattle.just_read.specs.declared.error.ReadError.{ReadError}
 use Rattle.just_read.proofs.Laws.{bind_ok}
 use Rattle.just_read.proofs.Laws.{past_le, next_shorter, starts_at}
-use Rattle.just_syntax.proofs.Texts.{same}
+use Rattle.just_read.proofs.Laws.{same}
 use Rattle.just_syntax.specs.declared.ast.Name.{Name}
-use Rattle.just_syntax.specs.Characters.{is_blank, in_name}
+use Rattle.just_read.specs.Characters.{is_blank, in_name}
 use Rattle.just_syntax.specs.Places.{IsName}
 use Rattle.just_syntax.specs.Readers as reader
+use Rattle.just_read.specs.Tokens as tokens
 use Rattle.just_syntax.proofs.Collect.{to_come, more_is, end_is, wrong_is}
 use Rattle.just_syntax.proofs.Marks.{token_ok, token_lt, name_ok}
 
@@ -31,7 +32,7 @@ name_le p q x (b, e, z) = rw e (omega (arith, past_le is_blank (past in_name p),
 pub shorter : (p q : Place) (x : Name) → begins (codes "::") p ≡ true → reader.further_name p ≡ Ok (x, q) → length q.rest < length p.rest
 unfolding reader.further_name
 shorter p q x m h =
-    let (u, n, t, k) = bind_ok (reader.token (codes "::") p) (λ _. reader.name) x q h in
+    let (u, n, t, k) = bind_ok (tokens.token (codes "::") p) (λ _. reader.name) x q h in
     omega (arith, token_lt 58 (58 ∷ []) p n (token_ok (codes "::") p u n t), name_le n q x (name_ok n x q k))
 
 -- the names that were found, and those to come

@@ -11,7 +11,7 @@ use Rattle.just_syntax.specs.declared.ast.ParameterKind.TheVariants.{Singular, P
 use Rattle.just_syntax.specs.declared.ast.AstParameter.{AstParameter}
 use Rattle.just_syntax.specs.declared.ast.AstDependency.{AstDependency}
 use Rattle.just_syntax.specs.declared.ast.AstRecipe.{AstRecipe}
-use Rattle.just_syntax.specs.Characters.{begins_name}
+use Rattle.just_read.specs.Characters.{begins_name}
 use Rattle.just_syntax.specs.Places.{IsPath}
 use Rattle.just_syntax.specs.Places.IsPath.{names}
 use Rattle.just_syntax.specs.Exprs.{IsInner}
@@ -26,7 +26,7 @@ use Rattle.just_syntax.specs.Recipes.AreSubsequents.{none as no_subsequents, som
 use Rattle.just_syntax.specs.Recipes.IsRecipeLine.{line}
 use Rattle.just_syntax.specs.Readers as reader
 use Rattle.just_syntax.specs.ItemReaders as item
-use Rattle.just_syntax.proofs.Texts.{begins_first, begins_other, starts_other}
+use Rattle.just_read.proofs.Laws.{begins_first, begins_other, starts_other}
 use Rattle.just_syntax.proofs.Marks.{token_again, name_again}
 use Rattle.just_syntax.proofs.LineLaws.{maybe_again, path_again, rest_again}
 use Rattle.just_syntax.proofs.ExprComplete.{value_again, inner_again, expr_again}

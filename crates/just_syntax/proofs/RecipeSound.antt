@@ -11,7 +11,8 @@ use Rattle.just_syntax.specs.declared.ast.ParameterKind.TheVariants.{Singular, P
 use Rattle.just_syntax.specs.declared.ast.AstParameter.{AstParameter}
 use Rattle.just_syntax.specs.declared.ast.AstDependency.{AstDependency}
 use Rattle.just_syntax.specs.declared.ast.AstRecipe.{AstRecipe}
-use Rattle.just_syntax.specs.Places.{IsToken, IsPath, IsRest}
+use Rattle.just_read.specs.Lines.{IsToken}
+use Rattle.just_syntax.specs.Places.{IsPath, IsRest}
 use Rattle.just_syntax.specs.Exprs.{IsInner, IsValue}
 use Rattle.just_syntax.specs.Recipes.{begins_parameter, begins_dependency, listed, IsDefault, IsParameter, IsSingular, IsVariadic, AreParameters, IsDependencyValue, IsDependency, AreDependencies, AreSubsequents, IsRecipeLine}
 use Rattle.just_syntax.specs.Recipes.IsDefault.{default, without}
@@ -23,6 +24,7 @@ use Rattle.just_syntax.specs.Recipes.AreDependencies.{dependencies}
 use Rattle.just_syntax.specs.Recipes.AreSubsequents.{none as no_subsequents, some as some_subsequents}
 use Rattle.just_syntax.specs.Recipes.IsRecipeLine.{line}
 use Rattle.just_syntax.specs.Readers as reader
+use Rattle.just_read.specs.Tokens as tokens
 use Rattle.just_syntax.specs.ItemReaders as item
 use Rattle.just_syntax.proofs.Beginnings.{not_true}
 use Rattle.just_syntax.proofs.Marks.{token_ok, name_ok}
@@ -38,19 +40,19 @@ unfolding item.parameter_default
 parameter_default_ok p q x h =
     ⊎_elim
     (λ (s : _).
-    let (u, m, t, k) = bind_ok (reader.token (codes "=") p) _ x q s.1 in
+    let (u, m, t, k) = bind_ok (tokens.token (codes "=") p) _ x q s.1 in
     let (y, n, v, j) = bind_ok (reader.value (reader.inner 256) m) _ x q k in
     default m y (token_ok (codes "=") p u m t)
     (subst (λ (r : Place). IsValue (IsInner 256) m r y) (ok_place (Some y) x n q j) (value_ok (reader.inner 256) (IsInner 256) (inner_ok 256) m n y v))
     (sym (ok_value (Some y) x n q j)))
     (λ (s : _). without s.0 (sym (ok_place None x p q s.1)) (sym (ok_value None x p q s.1)))
-    (choose (begins (codes "=") p) (and_then (reader.token (codes "=") p) (λ _ m. and_then (reader.value (reader.inner 256) m) (λ y. pure (Some y)))) (Ok (None, p)) (Ok (x, q)) h)
+    (choose (begins (codes "=") p) (and_then (tokens.token (codes "=") p) (λ _ m. and_then (reader.value (reader.inner 256) m) (λ y. pure (Some y)))) (Ok (None, p)) (Ok (x, q)) h)
 
 -- a parameter behind the sign of its kind
 pub parameter_ok : (kind : ParameterKind) (p q : Place) (x : AstParameter) → item.parameter kind p ≡ Ok (x, q) → IsParameter kind p q x
 unfolding item.parameter
 parameter_ok kind p q x h =
-    let (b, m, h1, k1) = bind_ok (reader.maybe (codes "$") p) _ x q h in
+    let (b, m, h1, k1) = bind_ok (tokens.maybe (codes "$") p) _ x q h in
     let (n, r, h2, k2) = bind_ok (reader.name m) _ x q k1 in
     let (d, s, h3, k3) = bind_ok (item.parameter_default r) _ x q k2 in
     let made : AstParameter = record { kind = kind; export = b; name = n; default = d } in
@@ -59,10 +61,10 @@ parameter_ok kind p q x h =
 
 -- a parameter behind the sign that it takes several values
 signed_ok : (kind : ParameterKind) (mark : List ℕ) (p q : Place) (x : Option AstParameter)
-    → and_then (reader.token mark p) (λ _ m. and_then (item.parameter kind m) (λ y. pure (Some y))) ≡ Ok (x, q)
+    → and_then (tokens.token mark p) (λ _ m. and_then (item.parameter kind m) (λ y. pure (Some y))) ≡ Ok (x, q)
     → (m : Place) × (y : AstParameter) × IsToken mark p m × IsParameter kind m q y × (x ≡ Some y)
 signed_ok kind mark p q x h =
-    let (u, m, t, k) = bind_ok (reader.token mark p) _ x q h in
+    let (u, m, t, k) = bind_ok (tokens.token mark p) _ x q h in
     let (y, n, v, j) = bind_ok (item.parameter kind m) _ x q k in
     (m, y, token_ok mark p u m t, subst (λ (r : Place). IsParameter kind m r y) (ok_place (Some y) x n q j) (parameter_ok kind m n y v), sym (ok_value (Some y) x n q j))
 
@@ -76,9 +78,9 @@ variadic_ok p q x h =
     ⊎_elim
     (λ (t : _). let (m, y, o, i, z) = signed_ok Plus (codes "+") p q x t.1 in plus m y o i z)
     (λ (t : _). no_variadic s.0 t.0 (sym (ok_place None x p q t.1)) (sym (ok_value None x p q t.1)))
-    (choose (begins (codes "+") p) (and_then (reader.token (codes "+") p) (λ _ m. and_then (item.parameter Plus m) (λ y. pure (Some y)))) (Ok (None, p)) (Ok (x, q)) s.1))
-    (choose (begins (codes "*") p) (and_then (reader.token (codes "*") p) (λ _ m. and_then (item.parameter Star m) (λ y. pure (Some y))))
-    (if begins (codes "+") p then and_then (reader.token (codes "+") p) (λ _ m. and_then (item.parameter Plus m) (λ y. pure (Some y))) else Ok (None, p)) (Ok (x, q)) h)
+    (choose (begins (codes "+") p) (and_then (tokens.token (codes "+") p) (λ _ m. and_then (item.parameter Plus m) (λ y. pure (Some y)))) (Ok (None, p)) (Ok (x, q)) s.1))
+    (choose (begins (codes "*") p) (and_then (tokens.token (codes "*") p) (λ _ m. and_then (item.parameter Star m) (λ y. pure (Some y))))
+    (if begins (codes "+") p then and_then (tokens.token (codes "+") p) (λ _ m. and_then (item.parameter Plus m) (λ y. pure (Some y))) else Ok (None, p)) (Ok (x, q)) h)
 
 -- the parameters that take one value
 pub singular_ok : (p q : Place) (xs : List AstParameter) → item.singular p ≡ Ok (xs, q) → AreMany IsSingular p q xs × (begins_parameter q ≡ false)
@@ -104,13 +106,13 @@ dependency_values_ok p q xs h = many_ok item.is_open item.expr IsDependencyValue
 
 -- a dependency in parentheses
 grouped_ok : (p q : Place) (x : AstDependency)
-    → and_then (reader.token (codes "(") p) (λ _ m. and_then (reader.path m) (λ ns n. and_then (item.dependency_values n) (λ xs o. and_then (reader.token (codes ")") o)
+    → and_then (tokens.token (codes "(") p) (λ _ m. and_then (reader.path m) (λ ns n. and_then (item.dependency_values n) (λ xs o. and_then (tokens.token (codes ")") o)
     (λ _. pure (record { path = ns; grouped = true; arguments = xs }))))) ≡ Ok (x, q) → IsDependency p q x
 grouped_ok p q x h =
-    let (u, m, h1, k1) = bind_ok (reader.token (codes "(") p) _ x q h in
+    let (u, m, h1, k1) = bind_ok (tokens.token (codes "(") p) _ x q h in
     let (ns, n, h2, k2) = bind_ok (reader.path m) _ x q k1 in
     let (xs, o, h3, k3) = bind_ok (item.dependency_values n) _ x q k2 in
-    let (v, r, h4, k4) = bind_ok (reader.token (codes ")") o) _ x q k3 in
+    let (v, r, h4, k4) = bind_ok (tokens.token (codes ")") o) _ x q k3 in
     let made : AstDependency = record { path = ns; grouped = true; arguments = xs } in
     let (are, done) = dependency_values_ok n o xs h3 in
     grouped m n o ns xs (token_ok (codes "(") p u m h1) (path_ok m n ns h2) are
@@ -126,7 +128,7 @@ dependency_ok p q x h =
     let made : AstDependency = record { path = ns; grouped = false; arguments = [] } in
     bare ns (subst (λ (l : Place). IsPath p l ns) (ok_place made x m q k1) (path_ok p m ns h1)) (sym (ok_value made x m q k1)))
     (choose (begins (codes "(") p)
-    (and_then (reader.token (codes "(") p) (λ _ m. and_then (reader.path m) (λ ns n. and_then (item.dependency_values n) (λ xs o. and_then (reader.token (codes ")") o)
+    (and_then (tokens.token (codes "(") p) (λ _ m. and_then (reader.path m) (λ ns n. and_then (item.dependency_values n) (λ xs o. and_then (tokens.token (codes ")") o)
     (λ _. pure (record { path = ns; grouped = true; arguments = xs }))))))
     (and_then (reader.path p) (λ ns. pure (record { path = ns; grouped = false; arguments = [] }))) (Ok (x, q)) h)
 
@@ -149,9 +151,9 @@ pub subsequents_ok : (p q : Place) (xs : List AstDependency) → item.subsequent
 unfolding item.subsequents
 subsequents_ok p q xs h =
     ⊎_elim
-    (λ (s : _). let (u, m, t, k) = bind_ok (reader.token (codes "&&") p) (λ _. item.some_dependencies) xs q s.1 in some_ok p m q xs (token_ok (codes "&&") p u m t) k)
+    (λ (s : _). let (u, m, t, k) = bind_ok (tokens.token (codes "&&") p) (λ _. item.some_dependencies) xs q s.1 in some_ok p m q xs (token_ok (codes "&&") p u m t) k)
     (λ (s : _). no_subsequents s.0 (sym (ok_place [] xs p q s.1)) (sym (ok_value [] xs p q s.1)))
-    (choose (begins (codes "&&") p) (and_then (reader.token (codes "&&") p) (λ _. item.some_dependencies)) (Ok ([], p)) (Ok (xs, q)) h)
+    (choose (begins (codes "&&") p) (and_then (tokens.token (codes "&&") p) (λ _. item.some_dependencies)) (Ok ([], p)) (Ok (xs, q)) h)
 
 -- ---- the line
 
@@ -159,10 +161,10 @@ subsequents_ok p q xs h =
 pub recipe_line_ok : (attributes : List Attribute) (p q : Place) (x : AstRecipe) → item.recipe_line attributes p ≡ Ok (x, q) → IsRecipeLine attributes p q x
 unfolding item.recipe_line
 recipe_line_ok attributes p q x h =
-    let (quiet, m, h1, k1) = bind_ok (reader.maybe (codes "@") p) _ x q h in
+    let (quiet, m, h1, k1) = bind_ok (tokens.maybe (codes "@") p) _ x q h in
     let (name, n, h2, k2) = bind_ok (reader.name m) _ x q k1 in
     let (ps, o, h3, k3) = bind_ok (item.parameters n) _ x q k2 in
-    let (u, r, h4, k4) = bind_ok (reader.token (codes ":") o) _ x q k3 in
+    let (u, r, h4, k4) = bind_ok (tokens.token (codes ":") o) _ x q k3 in
     let (a, s, h5, k5) = bind_ok (item.dependencies r) _ x q k4 in
     let (b, t, h6, k6) = bind_ok (item.subsequents s) _ x q k5 in
     let (c, w, h7, k7) = bind_ok (reader.rest t) _ x q k6 in

@@ -16,7 +16,7 @@ use Rattle.just_syntax.specs.Bodies.{is_text, IsLetter, IsFragment}
 use Rattle.just_syntax.specs.Bodies.IsLetter.{braces, itself}
 use Rattle.just_syntax.specs.Bodies.IsFragment.{text, value}
 use Rattle.just_syntax.specs.ItemReaders as item
-use Rattle.just_syntax.proofs.Texts.{behind_le, behind_shorter}
+use Rattle.just_read.proofs.Laws.{behind_le, behind_shorter}
 use Rattle.just_syntax.proofs.Marks.{token_lt}
 use Rattle.just_syntax.proofs.LineLaws.{behind_maybe, behind_path}
 use Rattle.just_syntax.proofs.ExprComplete.{expr_ok}

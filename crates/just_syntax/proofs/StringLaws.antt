@@ -8,20 +8,22 @@ use Rattle.just_read.specs.declared.error.ReadError.TheVariants.{Syntax}
 use Rattle.just_read.proofs.Laws.{bind_ok, choose, ok_value, ok_place, expect_ok, expect_again}
 use Rattle.just_read.proofs.Laws.{starts_at, past_le, character_shorter, sees_first}
 use Rattle.just_read.proofs.Laws.{many_ok, many_again}
-use Rattle.just_syntax.specs.declared.ast.Quote.{Quote}
-use Rattle.just_syntax.specs.declared.ast.Quote.TheVariants.{Single, Double, SingleBlock, DoubleBlock}
+use Rattle.just_read.specs.declared.quote.Quote.{Quote}
+use Rattle.just_read.specs.declared.quote.Quote.TheVariants.{Single, Double, SingleBlock, DoubleBlock}
 use Rattle.just_syntax.specs.declared.ast.StringLiteral.{StringLiteral}
-use Rattle.just_syntax.specs.Characters.{is_blank, is_hex, is_quote}
-use Rattle.just_syntax.specs.Places.{skip}
-use Rattle.just_syntax.specs.Strings.{mark, is_cooked, quote_at, behind_x, begins_string, letter_meant, number_from, goes_on, literal_at, IsEscape, IsPiece, IsPieceOf, IsRaw, IsString}
-use Rattle.just_syntax.specs.Strings.IsEscape.{letter, unicode, feed, return_feed}
-use Rattle.just_syntax.specs.Strings.IsPiece.{itself, escaped}
+use Rattle.just_read.specs.Characters.{is_blank, is_hex, is_quote}
+use Rattle.just_read.specs.Lines.{skip}
+use Rattle.just_read.specs.Quotes.{mark, is_cooked, quote_at, behind_x, begins_string, letter_meant, number_from, goes_on, IsEscape, IsPiece, IsPieceOf}
+use Rattle.just_syntax.specs.Strings.{literal_at, IsRaw, IsString}
+use Rattle.just_read.specs.Quotes.IsEscape.{letter, unicode, feed, return_feed}
+use Rattle.just_read.specs.Quotes.IsPiece.{itself, escaped}
 use Rattle.just_syntax.specs.Strings.IsRaw.{closed}
 use Rattle.just_syntax.specs.Strings.IsString.{string}
 use Rattle.just_syntax.specs.Readers as reader
-use Rattle.just_syntax.proofs.Texts.{and_true, begins_starts, behind_shorter, behind_le, next_le}
-use Rattle.just_syntax.proofs.Pieces.{is_of, piece_ok, piece_lt}
-use Rattle.just_syntax.proofs.PiecesLoop.{shorter}
+use Rattle.just_read.specs.Tokens as tokens
+use Rattle.just_read.proofs.Laws.{and_true, begins_starts, behind_shorter, behind_le, next_le}
+use Rattle.just_read.proofs.Laws.{is_of, piece_ok, piece_lt}
+use Rattle.just_read.proofs.Laws.{pieces_shorter as shorter}
 
 -- ---- pieces are read again
 
@@ -40,13 +42,13 @@ le_true a b h = grind (arith)
 
 -- digits that make the number of a character are read
 number_again : (n : Place) → starts is_hex n ≡ true → length (run is_hex n.rest) ≤ 6 → scalar (number_from 0 (run is_hex n.rest)) ≡ true
-    → reader.number n ≡ Ok (number_from 0 (run is_hex n.rest), past is_hex n)
-unfolding reader.number
+    → tokens.number n ≡ Ok (number_from 0 (run is_hex n.rest), past is_hex n)
+unfolding tokens.number
 number_again n b l k = rw (b, le_true (length (run is_hex n.rest)) 6 l, k) refl
 
 -- an escape that stands behind a backslash is read
-escape_again : (p q : Place) (x : List ℕ) → IsEscape p q x → reader.escape p ≡ Ok (x, q)
-unfolding reader.escape reader.unicode
+escape_again : (p q : Place) (x : List ℕ) → IsEscape p q x → tokens.escape p ≡ Ok (x, q)
+unfolding tokens.escape tokens.unicode
 escape_again p q x (letter c d f m e g) =
     rw (f, letter_not c d 117 m refl, letter_not c d 10 m refl, letter_not c d 13 m refl, m, e, g) refl
 escape_again p q x (unicode m n c s t b l v k o g) =
@@ -56,35 +58,35 @@ escape_again p q x (feed s g) = rw (sees_first 10 p s.0, s.1, g) refl
 escape_again p q x (return_feed m s t g) = rw (sees_first 13 p s.0, ← s.1, expect_again 10 m q t, g) refl
 
 -- a piece that stands there is read
-pub piece_again : (cooked : Bool) (p q : Place) (x : List ℕ) → IsPiece cooked p q x → reader.piece cooked p ≡ Ok (x, q)
-unfolding reader.piece
+pub piece_again : (cooked : Bool) (p q : Place) (x : List ℕ) → IsPiece cooked p q x → tokens.piece cooked p ≡ Ok (x, q)
+unfolding tokens.piece
 piece_again cooked p q x (itself c f n e g) = rw (f, n, e, g) refl
 piece_again cooked p q x (escaped m a s i) = rw (sees_first 92 p s.0, a, ← s.1) (escape_again m q x i)
 
 -- ---- what stands between the quotes
 
 -- pieces that are read stand there, and the string doesn't go on behind them
-pieces_ok : (quote : Quote) (p m : Place) (u : Unit {0}) → reader.pieces quote p ≡ Ok (u, m)
+pieces_ok : (quote : Quote) (p m : Place) (u : Unit {0}) → tokens.pieces quote p ≡ Ok (u, m)
     → (pieces : List (List ℕ)) × AreMany (IsPieceOf quote) p m pieces × (goes_on quote m ≡ false)
-unfolding reader.pieces
+unfolding tokens.pieces
 pieces_ok quote p m u h =
-    let (ps, n, r, k) = bind_ok (reader.many_pieces quote p) (λ _. pure tt) u m h in
-    let (are, done) = many_ok (goes_on quote) (reader.piece (is_cooked quote)) (IsPieceOf quote) (λ a b x g o. (g, piece_ok (is_cooked quote) a b x o)) p n ps r in
+    let (ps, n, r, k) = bind_ok (tokens.many_pieces quote p) (λ _. pure tt) u m h in
+    let (are, done) = many_ok (goes_on quote) (tokens.piece (is_cooked quote)) (IsPieceOf quote) (λ a b x g o. (g, piece_ok (is_cooked quote) a b x o)) p n ps r in
     let end : n ≡ m = ok_place tt u n m k in
     subst (λ (l : Place). (pieces : List (List ℕ)) × AreMany (IsPieceOf quote) p l pieces × (goes_on quote l ≡ false)) end (ps, are, done)
 
 -- pieces that stand there are read, where the string doesn't go on behind them
-pieces_again : (quote : Quote) (p m : Place) (pieces : List (List ℕ)) → AreMany (IsPieceOf quote) p m pieces → goes_on quote m ≡ false → reader.pieces quote p ≡ Ok (tt, m)
-unfolding reader.pieces
+pieces_again : (quote : Quote) (p m : Place) (pieces : List (List ℕ)) → AreMany (IsPieceOf quote) p m pieces → goes_on quote m ≡ false → tokens.pieces quote p ≡ Ok (tt, m)
+unfolding tokens.pieces
 pieces_again quote p m pieces are done =
-    rw (many_again (goes_on quote) (reader.piece (is_cooked quote)) (shorter quote) (IsPieceOf quote)
+    rw (many_again (goes_on quote) (tokens.piece (is_cooked quote)) (shorter quote) (IsPieceOf quote)
     (λ a b x i. (i.0, piece_again (is_cooked quote) a b x i.1)) p m pieces are done) refl
 
 -- what is read up to the closing quote stands there
 raw_ok : (quote : Quote) (p q : Place) (raw : List ℕ) → reader.raw_text quote p ≡ Ok (raw, q) → IsRaw quote p q raw
 unfolding reader.raw_text
 raw_ok quote p q raw h =
-    let (u, m, r, k) = bind_ok (reader.pieces quote p) (λ _ m. reader.close quote (encode_utf8_all (between p m)) m) raw q h in
+    let (u, m, r, k) = bind_ok (tokens.pieces quote p) (λ _ m. reader.close quote (encode_utf8_all (between p m)) m) raw q h in
     let (ps, are, done) = pieces_ok quote p m u r in
     let text = encode_utf8_all (between p m) in
     ⊎_elim

@@ -13,8 +13,9 @@ use Rattle.just_syntax.specs.declared.form.Form.{Form}
 use Rattle.just_syntax.specs.declared.form.Form.TheVariants.{Bare, MaybeText, Text, Texts, Arg, Cache, Open}
 use Rattle.just_syntax.specs.declared.form.KeyForm.{KeyForm}
 use Rattle.just_syntax.specs.declared.form.KeyForm.TheVariants.{Number}
-use Rattle.just_syntax.specs.Characters.{begins_name, is_digit}
-use Rattle.just_syntax.specs.Places.{skip, behind_word, IsToken, IsName, IsRest}
+use Rattle.just_read.specs.Characters.{begins_name, is_digit}
+use Rattle.just_read.specs.Lines.{skip, behind_word, IsToken}
+use Rattle.just_syntax.specs.Places.{IsName, IsRest}
 use Rattle.just_syntax.specs.Strings.{IsString, IsTextOf}
 use Rattle.just_syntax.specs.Exprs.{IsExpr}
 use Rattle.just_syntax.specs.Forms.{form_of, may_be_bare, has_colon, key_form, may_stand_alone, has_text, is_cache_key}

@@ -5,7 +5,7 @@ use Rattle.just_syntax.specs.declared.ast.Expr.{Expr}
 use Rattle.just_syntax.specs.declared.ast.Fragment.{Fragment}
 use Rattle.just_syntax.specs.declared.ast.Fragment.TheVariants as fragment
 use Rattle.just_syntax.specs.declared.ast.Line.{Line}
-use Rattle.just_syntax.specs.Places.{skip, ends_line, IsToken, IsNewline}
+use Rattle.just_read.specs.Lines.{skip, ends_line, IsToken, IsNewline}
 use Rattle.just_syntax.specs.Strings.{concat}
 use Rattle.just_syntax.specs.Exprs.{IsExpr}
 

@@ -14,7 +14,8 @@ use Rattle.just_syntax.specs.declared.form.Form.TheVariants.{Arg, Cache, Open}
 use Rattle.just_syntax.specs.declared.form.Sort.TheVariants as sort
 use Rattle.just_syntax.specs.declared.item.Opening.TheVariants as opening
 use Rattle.just_syntax.specs.declared.entry.Body.{Body}
-use Rattle.just_syntax.specs.Places.{is_blank_line, IsToken, IsWord, IsName, IsPath}
+use Rattle.just_read.specs.Lines.{is_blank_line, IsToken, IsWord}
+use Rattle.just_syntax.specs.Places.{IsName, IsPath}
 use Rattle.just_syntax.specs.Exprs.{begins_condition, IsComparison, IsValue, IsBlock, IsInner}
 use Rattle.just_syntax.specs.Forms.{form_of, has_text, key_form, sort_of}
 use Rattle.just_syntax.specs.Attributes.{is_keyed, may_cache, may_have, is_first, behind_first, takes_text, goes_on, IsKey, IsArgument, IsAttribute, IsFurtherAttribute, IsAttributeLine, AreAttributes}

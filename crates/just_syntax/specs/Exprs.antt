@@ -7,9 +7,11 @@ use Rattle.just_syntax.specs.declared.ast.Comparison.{Comparison}
 use Rattle.just_syntax.specs.declared.ast.Comparison.TheVariants.{Equal, Unequal}
 use Rattle.just_syntax.specs.declared.ast.Expr.{Expr}
 use Rattle.just_syntax.specs.declared.ast.Expr.TheVariants as e
-use Rattle.just_syntax.specs.Characters.{begins_name, is_quote}
-use Rattle.just_syntax.specs.Places.{is_word, behind_word, IsToken, IsWord, IsName}
-use Rattle.just_syntax.specs.Strings.{begins_string, IsString}
+use Rattle.just_read.specs.Characters.{begins_name, is_quote}
+use Rattle.just_read.specs.Lines.{is_word, behind_word, IsToken, IsWord}
+use Rattle.just_syntax.specs.Places.{IsName}
+use Rattle.just_read.specs.Quotes.{begins_string}
+use Rattle.just_syntax.specs.Strings.{IsString}
 
 -- whether an expression may begin here
 abbrev pub begins_expr : Place → Bool

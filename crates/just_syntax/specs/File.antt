@@ -10,8 +10,8 @@ use Rattle.just_syntax.specs.declared.entry.Entry.{Entry}
 use Rattle.just_syntax.specs.declared.entry.Entry.TheVariants as entry
 use Rattle.just_syntax.specs.declared.entry.Body.{Body}
 use Rattle.just_syntax.specs.declared.entry.Body.TheVariants as body
-use Rattle.just_syntax.specs.Characters.{is_blank}
-use Rattle.just_syntax.specs.Places.{is_blank_line, IsBlankLine}
+use Rattle.just_read.specs.Characters.{is_blank}
+use Rattle.just_read.specs.Lines.{is_blank_line, IsBlankLine}
 use Rattle.just_syntax.specs.Forms.{is_left_out_setting, is_left_out_attribute}
 use Rattle.just_syntax.specs.Bodies.{is_body_line, IsBodyLine}
 use Rattle.just_syntax.specs.Items.{IsItem}

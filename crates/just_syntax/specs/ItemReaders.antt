@@ -34,9 +34,10 @@ use Rattle.just_syntax.specs.declared.form.Sort.{Sort}
 use Rattle.just_syntax.specs.declared.form.Sort.TheVariants as sort
 use Rattle.just_syntax.specs.declared.item.Opening.{Opening}
 use Rattle.just_syntax.specs.declared.item.Opening.TheVariants as opening
-use Rattle.just_syntax.specs.Characters.{begins_name}
-use Rattle.just_syntax.specs.Places.{skip, is_word, behind_word, ends_line, is_blank_line}
-use Rattle.just_syntax.specs.Strings.{begins_string, concat}
+use Rattle.just_read.specs.Characters.{begins_name}
+use Rattle.just_read.specs.Lines.{skip, is_word, behind_word, ends_line, is_blank_line}
+use Rattle.just_read.specs.Quotes.{begins_string}
+use Rattle.just_syntax.specs.Strings.{concat}
 use Rattle.just_syntax.specs.Forms.{form_of, may_be_bare, has_colon, key_form, may_stand_alone, sort_of}
 use Rattle.just_syntax.specs.Attributes.{argument_at, is_keyed, may_cache, may_have, is_decimal, goes_on, attribute_of, with_comment, concat as concat_lines}
 use Rattle.just_syntax.specs.Recipes.{begins_parameter, begins_dependency, listed}
@@ -44,7 +45,8 @@ use Rattle.just_syntax.specs.Bodies.{opens, is_text, is_body_line}
 use Rattle.just_syntax.specs.Items.{opening_at, opens_module, goes_on as goes_on_string}
 use Rattle.just_syntax.specs.File.{indentation_at, is_in_body, behind_blank, behind_item}
 use Rattle.just_syntax.specs.Meanings.{text_of}
-use Rattle.just_syntax.specs.Readers.{token, word, maybe, name, path, newline, blank_line, comment, rest, piece, string, value, level, inner}
+use Rattle.just_read.specs.Tokens.{token, word, maybe, newline, blank_line, piece}
+use Rattle.just_syntax.specs.Readers.{name, path, comment, rest, string, value, level, inner}
 
 -- an expression, in which at most 256 levels are open at a place
 abbrev pub expr : Reader Expr

@@ -16,9 +16,11 @@ use Rattle.just_syntax.specs.declared.form.Sort.{Sort}
 use Rattle.just_syntax.specs.declared.form.Sort.TheVariants as sort
 use Rattle.just_syntax.specs.declared.item.Opening.{Opening}
 use Rattle.just_syntax.specs.declared.item.Opening.TheVariants as opening
-use Rattle.just_syntax.specs.Characters.{begins_name}
-use Rattle.just_syntax.specs.Places.{skip, is_word, behind_word, is_rest, IsToken, IsWord, IsName, IsPath, IsComment, IsRest}
-use Rattle.just_syntax.specs.Strings.{begins_string, IsString}
+use Rattle.just_read.specs.Characters.{begins_name}
+use Rattle.just_read.specs.Lines.{skip, is_word, behind_word, is_rest, IsToken, IsWord}
+use Rattle.just_syntax.specs.Places.{IsName, IsPath, IsComment, IsRest}
+use Rattle.just_read.specs.Quotes.{begins_string}
+use Rattle.just_syntax.specs.Strings.{IsString}
 use Rattle.just_syntax.specs.Exprs.{IsExpr}
 use Rattle.just_syntax.specs.Forms.{sort_of}
 use Rattle.just_syntax.specs.Attributes.{IsTrailing, AreAttributes}

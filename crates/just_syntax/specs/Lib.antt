@@ -1,7 +1,5 @@
 -- The specifications of the language.
-pub mod Characters
 pub mod Places
-pub mod Indentation
 pub mod Strings
 pub mod Exprs
 pub mod Forms
@@ -12,7 +10,6 @@ pub mod Items
 pub mod File
 pub mod Readers
 pub mod Meanings
-pub mod Given
 pub mod Collected
 pub mod ItemReaders
 pub mod EntryReaders

@@ -5,8 +5,9 @@ use Rattle.just_read.specs.Reader.{Outcome, many}
 use Rattle.just_read.specs.declared.error.ReadError.{ReadError}
 use Rattle.just_read.specs.declared.error.ReadError.TheVariants.{Syntax, NoMemory}
 use Rattle.just_syntax.specs.declared.ast.StringLiteral.{StringLiteral}
-use Rattle.just_syntax.specs.Strings.{is_cooked, plain_text, concat}
-use Rattle.just_syntax.specs.Readers.{piece}
+use Rattle.just_read.specs.Quotes.{is_cooked}
+use Rattle.just_syntax.specs.Strings.{plain_text, concat}
+use Rattle.just_read.specs.Tokens.{piece}
 
 abbrev pub is_on : Place → Bool
 is_on p = not (is_end p)

@@ -1,29 +1,26 @@
 -- What the code reads from a place on, step by step: names, strings, expressions and the ends of lines. That this is what
 -- the grammar says is proved in proofs/.
-use Rattle.std.specs.Prelude.{◌≡◌, ℕ, zero, suc, ◌<◌, Bool, true, false, not, ◌&&◌, ◌||◌, ◌==◌, nat_le, if◌then◌else◌, List, [], ◌∷◌, ◌++◌, length, Option, Some, None, Result, Ok, Err, codes, encode_utf8_all}
+use Rattle.std.specs.Prelude.{ℕ, zero, suc, Bool, true, false, ◌==◌, if◌then◌else◌, List, ◌∷◌, Option, Some, None, Ok, Err, codes, encode_utf8_all}
 use lib.Utf8.{scalar}
-use Rattle.just_read.specs.Place.{Place, next, past, run, first, starts, sees, begins, behind_text, between, is_end}
-use Rattle.just_read.specs.Reader.{Outcome, Reader, and_then, ◌>>=◌, ◌>>◌, pure, refuse, expect, many}
+use Rattle.just_read.specs.Place.{Place, past, run, first, starts, sees, begins, behind_text, between}
+use Rattle.just_read.specs.Reader.{Reader, and_then, ◌>>=◌, ◌>>◌, pure, refuse, many}
 use Rattle.just_read.specs.declared.error.ReadError.TheVariants.{Syntax, Depth}
 use Rattle.just_syntax.specs.declared.ast.Name.{Name}
-use Rattle.just_syntax.specs.declared.ast.Quote.{Quote}
+use Rattle.just_read.specs.declared.quote.Quote.{Quote}
 use Rattle.just_syntax.specs.declared.ast.StringLiteral.{StringLiteral}
 use Rattle.just_syntax.specs.declared.ast.Comparison.{Comparison}
 use Rattle.just_syntax.specs.declared.ast.Comparison.TheVariants.{Equal, Unequal}
 use Rattle.just_syntax.specs.declared.ast.Expr.{Expr}
 use Rattle.just_syntax.specs.declared.ast.Expr.TheVariants as e
-use Rattle.just_syntax.specs.Characters.{is_hex, in_name, begins_name, in_line}
-use Rattle.just_syntax.specs.Places.{skip, is_word, behind_word, name_at, ends_line, crlf, without_returns}
-use Rattle.just_syntax.specs.Strings.{mark, is_cooked, quote_at, behind_x, begins_string, letter_meant, number_from, goes_on, literal_at}
+use Rattle.just_read.specs.Characters.{begins_name, in_line}
+use Rattle.just_read.specs.Lines.{skip, behind_word, without_returns}
+use Rattle.just_syntax.specs.Places.{name_at}
+use Rattle.just_read.specs.Quotes.{mark, quote_at, behind_x, begins_string}
+use Rattle.just_syntax.specs.Strings.{literal_at}
 use Rattle.just_syntax.specs.Exprs.{begins_condition, is_call}
+use Rattle.just_read.specs.Tokens.{token, word, newline, pieces}
 
--- ---- marks, names and lines
-
-unfoldable pub token : List ℕ → Reader (Unit {0})
-token mark = λ p. if begins mark p then Ok (tt, skip (behind_text mark p)) else Err Syntax
-
-unfoldable pub word : List ℕ → Reader (Unit {0})
-word text = λ p. if is_word text p then Ok (tt, skip (behind_text text p)) else Err Syntax
+-- ---- names and the ends of items
 
 unfoldable pub name : Reader Name
 name = λ p. if starts begins_name p then Ok (name_at p, behind_word p) else Err Syntax
@@ -37,14 +34,6 @@ path = do
   others ← many (begins (codes "::")) further_name
   pure (first ∷ others)
 
-unfoldable pub newline : Reader (Unit {0})
-newline = λ p.
-    if is_end p then Ok (tt, p)
-    else (if sees 10 p then Ok (tt, next p) else (if begins crlf p then Ok (tt, behind_text crlf p) else Err Syntax))
-
-unfoldable pub blank_line : Reader (Unit {0})
-blank_line = λ p. newline (skip p)
-
 -- behind the `#` and what follows it
 unfoldable pub comment : Reader (List ℕ)
 comment = λ p. (newline >> pure (encode_utf8_all (without_returns (run in_line p.rest)))) (past in_line p)
@@ -56,55 +45,7 @@ rest = λ p.
       pure (Some text)) p
     else (newline >> pure None) p
 
--- this mark, or nothing
-unfoldable pub maybe : List ℕ → Reader Bool
-maybe mark = λ p. if begins mark p then (token mark >> pure true) p else Ok (false, p)
-
 -- ---- strings
-
--- one to six digits that are the number of a character
-abbrev pub is_number : List ℕ → Bool
-is_number digits = nat_le (length digits) 6 && scalar (number_from 0 digits)
-
--- the digits of an escape, behind the brace
-unfoldable pub number : Reader ℕ
-number = λ p. if starts is_hex p && is_number (run is_hex p.rest) then Ok (number_from 0 (run is_hex p.rest), past is_hex p) else Err Syntax
-
--- behind the `u`
-unfoldable pub unicode : Reader (List ℕ)
-unicode = do
-  expect 123
-  c ← number
-  expect 125
-  pure (c ∷ [])
-
-abbrev pub letter_of : Option ℕ → Reader (List ℕ)
-letter_of None = refuse
-letter_of (Some d) = λ p. Ok (d ∷ [], next p)
-
-abbrev pub escape_of : Option ℕ → Reader (List ℕ)
-escape_of None = refuse
-escape_of (Some c) = λ p.
-    if c == 117 then unicode (next p)
-    else (if c == 10 then Ok ([], next p) else (if c == 13 then (expect 10 >> pure []) (next p) else letter_of (letter_meant c) p))
-
--- behind the backslash
-unfoldable pub escape : Reader (List ℕ)
-escape = λ p. escape_of (first p) p
-
-abbrev pub piece_of : Bool → Option ℕ → Reader (List ℕ)
-piece_of cooked None = refuse
-piece_of cooked (Some c) = λ p. if cooked && c == 92 then escape (next p) else Ok (c ∷ [], next p)
-
-unfoldable pub piece : Bool → Reader (List ℕ)
-piece cooked = λ p. piece_of cooked (first p) p
-
-abbrev pub many_pieces : Quote → Reader (List (List ℕ))
-many_pieces quote = many (goes_on quote) (piece (is_cooked quote))
-
--- up to the closing quote
-unfoldable pub pieces : Quote → Reader (Unit {0})
-pieces quote = many_pieces quote >> pure tt
 
 abbrev pub close : Quote → List ℕ → Reader (List ℕ)
 close quote raw = λ m. if begins (mark quote) m then Ok (raw, behind_text (mark quote) m) else Err Syntax

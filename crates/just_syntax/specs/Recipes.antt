@@ -9,8 +9,9 @@ use Rattle.just_syntax.specs.declared.ast.ParameterKind.TheVariants.{Singular, P
 use Rattle.just_syntax.specs.declared.ast.AstParameter.{AstParameter}
 use Rattle.just_syntax.specs.declared.ast.AstDependency.{AstDependency}
 use Rattle.just_syntax.specs.declared.ast.AstRecipe.{AstRecipe}
-use Rattle.just_syntax.specs.Characters.{begins_name}
-use Rattle.just_syntax.specs.Places.{IsToken, IsName, IsPath, IsRest}
+use Rattle.just_read.specs.Characters.{begins_name}
+use Rattle.just_read.specs.Lines.{IsToken}
+use Rattle.just_syntax.specs.Places.{IsName, IsPath, IsRest}
 use Rattle.just_syntax.specs.Exprs.{IsInner, IsValue, IsExpr}
 
 -- this mark, or nothing where it doesn't stand

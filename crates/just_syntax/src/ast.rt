@@ -1,7 +1,7 @@
 //! The tree of a justfile: one variant for each form of an item and of an expression, one field for each of its parts in
 //! their order. Lines and columns count from 1, columns in characters.
 use just_path::{Seq, Text};
-use just_read::Boxed;
+use just_read::{Boxed, Quote};
 
 /// The items of a justfile in their order.
 #[derive(Drop)]
@@ -71,19 +71,6 @@ pub enum SettingValue {
     Bool(bool),
     Text(Expr),
     List(Seq<StringLiteral>),
-}
-
-/// The quotes of a string, by their characters.
-#[derive(Clone, Copy, Debug, PartialEq, Eq)]
-pub enum Quote {
-    /// `'`
-    Single,
-    /// `"`
-    Double,
-    /// `'''`
-    SingleBlock,
-    /// `"""`
-    DoubleBlock,
 }
 
 /// A string as it is written, with the place of its first character.

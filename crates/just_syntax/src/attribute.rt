@@ -2,18 +2,17 @@
 ghost use Rattle.std.specs.Prelude.{◌≡◌, ◌++◌, ◌+◌, ◌*◌, ◌-◌, ◌^◌, ◌&&◌, nat_lt, true, false, [], IfOk, MatchOption};
 ghost use Rattle.just_read.specs.Reader.{Reads};
 ghost use Rattle.just_syntax.specs.Attributes.{goes_on, is_keyed, with_comment, decimal_from, has_key, is_decimal, is_key_or, may_cache, may_have};
-ghost use Rattle.just_syntax.specs.Characters.{is_digit};
+ghost use Rattle.just_read.specs.Characters.{is_digit};
 ghost use Rattle.just_syntax.specs.Collected.{ReadsVec};
 ghost use Rattle.just_syntax.specs.ItemReaders as read;
 
-use super::class::NameStart;
 use super::expr::{LEVELS, expr};
 use super::form::{Form, KeyForm, form_of, is_cache_key, key_form};
 use super::string::string;
-use super::token::{behind_word, name, rest, skip, token};
+use super::token::{name, rest};
 use super::{Argument, Attribute, Expr, Name};
 use just_path::{Seq, Text};
-use just_read::{Cursor, ReadError};
+use just_read::{Cursor, NameStart, ReadError, behind_word, skip, token};
 use std::alloc::{AllocError, Global};
 
 /// The attributes before an item, line by line.

@@ -2,17 +2,15 @@
 ghost use Rattle.std.specs.Prelude.{◌≡◌, IfOk};
 ghost use Rattle.just_read.specs.Place.{run};
 ghost use Rattle.just_read.specs.Reader.{Reads};
-ghost use Rattle.just_syntax.specs.Characters.{is_blank};
+ghost use Rattle.just_read.specs.Characters.{is_blank};
 ghost use Rattle.just_syntax.specs.Bodies.{opens, is_text, is_body_line};
 ghost use Rattle.just_syntax.specs.Collected.{ReadsLetter};
 ghost use Rattle.just_syntax.specs.ItemReaders as read;
 
-use super::class::Blank;
 use super::expr::{LEVELS, expr};
-use super::token::{ends_line, newline, skip, token};
 use super::{Fragment, Line};
 use just_path::{Seq, Text};
-use just_read::{Cursor, ReadError};
+use just_read::{Blank, Cursor, ReadError, ends_line, newline, skip, token};
 use std::alloc::{AllocError, Global};
 
 /// The blanks that stand here.

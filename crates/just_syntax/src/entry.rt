@@ -5,12 +5,10 @@ ghost use Rattle.just_syntax.specs.File.{items_of, gather_blank};
 ghost use Rattle.just_syntax.specs.ItemReaders as read;
 
 use super::body::{blanks, body_line, is_body_line};
-use super::class::Blank;
 use super::item::item;
-use super::token::{blank_line, is_blank_line};
 use super::{AstItem, AstRecipe, Line};
 use just_path::{NoMemory, Seq};
-use just_read::{Boxed, Cursor, ReadError};
+use just_read::{Blank, Boxed, Cursor, ReadError, blank_line, is_blank_line};
 use std::alloc::{AllocError, Global};
 
 /// An entry of a text.

@@ -4,11 +4,13 @@ ghost use Rattle.just_read.specs.Reader.{Reads};
 ghost use Rattle.just_syntax.specs.Exprs.{begins_expr, begins_condition, is_call};
 ghost use Rattle.just_syntax.specs.Readers as read;
 
-use super::class::{NameStart, QuoteMark};
-use super::string::{begins_string, string};
-use super::token::{behind_word, is_word, name, token, word};
+use super::string::string;
+use super::token::name;
 use super::{Comparison, Expr};
-use just_read::{Boxed, Cursor, ReadError};
+use just_read::{
+    Boxed, Cursor, NameStart, QuoteMark, ReadError, begins_string, behind_word, is_word, token,
+    word,
+};
 use std::alloc::{AllocFailed, Global};
 
 /// How many levels may be open at a place of an expression.

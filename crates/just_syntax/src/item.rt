@@ -5,18 +5,18 @@ ghost use Rattle.just_syntax.specs.Items.{is_assignment, is_last_name, is_module
 ghost use Rattle.just_syntax.specs.ItemReaders as read;
 
 use super::attribute::{attributes, trailing};
-use super::class::NameStart;
 use super::entry::Entry;
 use super::expr::{LEVELS, expr};
 use super::form::{Sort, sort_of};
 use super::recipe::recipe_line;
-use super::string::{begins_string, string};
-use super::token::{
-    behind_word, comment, is_rest, is_word, maybe, name, path, rest, skip, token, word,
-};
+use super::string::string;
+use super::token::{comment, name, path, rest};
 use super::{AstItem, Attribute, SettingValue, StringLiteral};
 use just_path::Seq;
-use just_read::{Boxed, Cursor, ReadError};
+use just_read::{
+    Boxed, Cursor, NameStart, ReadError, begins_string, behind_word, is_rest, is_word, maybe, skip,
+    token, word,
+};
 use std::alloc::Global;
 
 /// The items by what they begin with.

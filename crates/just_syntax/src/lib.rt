@@ -4,16 +4,15 @@
 mod ast;
 mod attribute;
 mod body;
-mod class;
 mod entry;
 mod error;
 mod expr;
 mod form;
-mod indentation;
 mod item;
 mod left_out;
 mod recipe;
 mod string;
+mod text;
 mod token;
 mod whole;
 
@@ -22,5 +21,6 @@ pub use ast::{
     Fragment, Line, Name, ParameterKind, Quote, SettingValue, StringLiteral,
 };
 pub use error::{Fault, FaultKind, ParseError};
-pub use indentation::unindent;
+pub use just_read::Quote;
+pub use text::unindent;
 pub use whole::parse;

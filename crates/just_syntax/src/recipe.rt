@@ -5,12 +5,11 @@ ghost use Rattle.just_syntax.specs.Recipes.{begins_parameter, begins_dependency}
 ghost use Rattle.just_syntax.specs.Collected.{ReadsVec};
 ghost use Rattle.just_syntax.specs.ItemReaders as read;
 
-use super::class::NameStart;
 use super::expr::{LEVELS, expr, value};
-use super::token::{maybe, name, path, rest, token};
+use super::token::{name, path, rest};
 use super::{AstDependency, AstParameter, AstRecipe, Attribute, Expr, ParameterKind};
 use just_path::Seq;
-use just_read::{Cursor, ReadError};
+use just_read::{Cursor, NameStart, ReadError, maybe, token};
 use std::alloc::Global;
 
 /// A recipe's line, behind its attributes; the body is empty.

@@ -6,10 +6,9 @@ ghost use Rattle.just_syntax.specs.Faults.{Refuses};
 ghost use Rattle.just_syntax.specs.EntryReaders.{entry_or_fault, ReadsEntry};
 
 use super::entry::{Body, Entry, gather, read_entry};
-use super::indentation::characters;
 use super::left_out::first_left_out;
 use super::{Ast, Fault, FaultKind, ParseError};
-use just_read::{Cursor, ReadError};
+use just_read::{Cursor, ReadError, characters_of};
 use std::alloc::Global;
 
 /// The tree of a justfile's text. A text that has none is refused at the line at which its longest front of items and
@@ -44,7 +43,7 @@ fn entries_of(alloc: Global, text: &str) -> Result<Vec<Entry>, ParseError>
     ensures found { IfOk result (λ v. IsFile (chars text.now) (items_of v.items)) }
     ensures refused { IfErr result (Refuses (chars text.now)) }
 {
-    let characters = characters(alloc, text)?;
+    let characters = characters_of(alloc, text)?;
     let mut cursor = Cursor::new(characters.as_slice());
     let mut body = Body::Closed;
     let mut entries = Vec::new(alloc);

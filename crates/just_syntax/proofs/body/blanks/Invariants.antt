@@ -1,7 +1,7 @@
 -- What is left of the run follows what was taken.
 use Rattle.std.proofs.Common.{◌≡◌, ◌++◌, length}
 use Rattle.just_read.specs.Place.{run}
-use Rattle.just_syntax.specs.Characters.{is_blank}
+use Rattle.just_read.specs.Characters.{is_blank}
 use Rattle.just_syntax.proofs.body.blanks.Given as goal
 
 abbrev pub invariant-blanks : goal.invariant-blanks
