@@ -115,10 +115,10 @@ unnamed above (x ∷ xs) e s i =
     elim (shape x) [
       | other n h ↦ (not_named above x s.name (unnamed (above ++ x ∷ []) xs (rest above x xs e) s (behind x xs s n i))).0
       | recipe r is ↦
-        elim (subst (λ y. In s (recipes_of (y ∷ xs))) is i) [
-          | inl same ↦ subst (λ y. is_named above y.name ≡ false) same (first_fits above r xs (subst (λ y. first_from above (y ∷ xs) ≡ None) is e)).named
-          | inr j ↦ (not_named above x s.name (unnamed (above ++ x ∷ []) xs (rest above x xs e) s j)).0
-        ]
+          elim (subst (λ y. In s (recipes_of (y ∷ xs))) is i) [
+            | inl same ↦ subst (λ y. is_named above y.name ≡ false) same (first_fits above r xs (subst (λ y. first_from above (y ∷ xs) ≡ None) is e)).named
+            | inr j ↦ (not_named above x s.name (unnamed (above ++ x ∷ []) xs (rest above x xs e) s j)).0
+          ]
     ]
 
 -- texts that are told apart differ
@@ -132,11 +132,11 @@ named_path (x ∷ xs) name e =
     elim (shape x) [
       | other n h ↦ subst (λ o. In (path_of name) (map (λ s. s.path) (cons_option o (recipes_of xs)))) (sym n) (named_path xs name (subst (λ b. (b || is_named xs name) ≡ true) (h name) e))
       | recipe r is ↦
-        subst (λ y. In (path_of name) (map (λ s. s.path) (recipes_of (y ∷ xs)))) (sym is)
-        (elim (bytes_eq r.name.text name) as (λ b. bytes_eq r.name.text name ≡ b → (b || is_named xs name) ≡ true → In (path_of name) (map (λ s. s.path) (recipe_from r ∷ recipes_of xs))) [
-          | true ↦ λ t f. inl (ap (λ n. path_of n) (bytes_is r.name.text name t))
-          | false ↦ λ t f. inr (named_path xs name f)
-        ] refl (subst (λ y. (has_name name y || is_named xs name) ≡ true) is e))
+          subst (λ y. In (path_of name) (map (λ s. s.path) (recipes_of (y ∷ xs)))) (sym is)
+          (elim (bytes_eq r.name.text name) as (λ b. bytes_eq r.name.text name ≡ b → (b || is_named xs name) ≡ true → In (path_of name) (map (λ s. s.path) (recipe_from r ∷ recipes_of xs))) [
+            | true ↦ λ t f. inl (ap (λ n. path_of n) (bytes_is r.name.text name t))
+            | false ↦ λ t f. inr (named_path xs name f)
+          ] refl (subst (λ y. (has_name name y || is_named xs name) ≡ true) is e))
     ]
 
 -- a path that is known among items is the path of a recipe among them
@@ -164,11 +164,12 @@ names_from above (x ∷ xs) e =
     elim (shape x) [
       | other n h ↦ subst (λ o. NamesFit (cons_option o (recipes_of xs))) (sym n) (names_from (above ++ x ∷ []) xs (rest above x xs e))
       | recipe r is ↦
-        subst (λ y. NamesFit (recipes_of (y ∷ xs))) (sym is)
-        (let f = subst (λ y. first_from above (y ∷ xs) ≡ None) is e in
-        (in_all (λ s. s.name ≢ r.name.text) (recipes_of xs) (λ s i. differ r.name.text s.name (not_named above (item.Recipe r) s.name (unnamed (above ++ item.Recipe r ∷ []) xs (rest above (item.Recipe r) xs f) s i)).1),
-        all_known xs r.priors (first_fits above r xs f).known,
-        names_from (above ++ item.Recipe r ∷ []) xs (rest above (item.Recipe r) xs f)))
+          subst (λ y. NamesFit (recipes_of (y ∷ xs))) (sym is)
+          (let f = subst (λ y. first_from above (y ∷ xs) ≡ None) is e in (
+            in_all (λ s. s.name ≢ r.name.text) (recipes_of xs) (λ s i. differ r.name.text s.name (not_named above (item.Recipe r) s.name (unnamed (above ++ item.Recipe r ∷ []) xs (rest above (item.Recipe r) xs f) s i)).1),
+            all_known xs r.priors (first_fits above r xs f).known,
+            names_from (above ++ item.Recipe r ∷ []) xs (rest above (item.Recipe r) xs f),
+          ))
     ]
 
 -- each recipe of items that are assembled is of the root module
@@ -178,12 +179,12 @@ root_from above (x ∷ xs) e s i =
     elim (shape x) [
       | other n h ↦ root_from (above ++ x ∷ []) xs (rest above x xs e) s (behind x xs s n i)
       | recipe r is ↦
-        elim (subst (λ y. In s (recipes_of (y ∷ xs))) is i) [
-          | inl same ↦
-            subst (λ y. IsRootRecipe y) same
-            (record { path_is = refl; subsequents_are = ap (λ ds. map dependency_from ds) (first_fits above r xs (subst (λ y. first_from above (y ∷ xs) ≡ None) is e)).last })
-          | inr j ↦ root_from (above ++ x ∷ []) xs (rest above x xs e) s j
-        ]
+          elim (subst (λ y. In s (recipes_of (y ∷ xs))) is i) [
+            | inl same ↦
+                subst (λ y. IsRootRecipe y) same
+                (record { path_is = refl; subsequents_are = ap (λ ds. map dependency_from ds) (first_fits above r xs (subst (λ y. first_from above (y ∷ xs) ≡ None) is e)).last })
+            | inr j ↦ root_from (above ++ x ∷ []) xs (rest above x xs e) s j
+          ]
     ]
 
 -- the names of the recipes of an assembled tree fit

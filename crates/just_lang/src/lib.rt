@@ -28,8 +28,8 @@ pub use body::body_lines;
 pub use constants::constant;
 pub use error::{CompileError, CompileKind, LangError};
 pub use just_syntax::{
-    Argument, Ast, AstDependency, AstItem, AstParameter, AstRecipe, Attribute, Comparison, Expr, Fragment, Line, Name,
-    ParameterKind, Quote, SettingValue, StringLiteral,
+    Argument, Ast, AstDependency, AstItem, AstParameter, AstRecipe, Attribute, Comparison, Expr,
+    Fragment, Line, Name, ParameterKind, Quote, SettingValue, StringLiteral,
 };
 pub use justfile::Justfile;
 pub use key::{Key, Value};

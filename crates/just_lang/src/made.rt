@@ -87,10 +87,7 @@ fn parameter_from(parameter: AstParameter) -> Parameter
     }
 }
 
-fn parameters_from(
-    alloc: Global,
-    parameters: Seq<AstParameter>,
-) -> Result<Seq<Parameter>, NoMemory>
+fn parameters_from(alloc: Global, parameters: Seq<AstParameter>) -> Result<Seq<Parameter>, NoMemory>
     ensures { IfOk result (λ ps. ps ≡ map parameter_from parameters) }
 {
     let mut made = Vec::new(alloc);

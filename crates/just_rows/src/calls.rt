@@ -43,9 +43,12 @@ fn files(alloc: Global, text: &str) -> Result<Seq<FileRef>, LangError> {
 /// The path of the file of that number, empty where it has none.
 fn path_of(files: &[FileRef], number: usize) -> &str {
     match files.get(number) {
-        Some(FileRef {
-            path: Some(path), ..
-        }) => path.as_str(),
+        Some(
+            FileRef {
+                path: Some(path),
+                ..
+            },
+        ) => path.as_str(),
         _ => "",
     }
 }
