@@ -1,5 +1,5 @@
 -- What the proofs of crates above rest on: laws of justfiles, of their closures, and of lists.
-use Rattle.std.proofs.Common.{◌≡◌, ℕ, ◌<◌, ◌≤◌, inl, inr, Bool, true, List, length, find, Option, Some, None, ap, sym, ◌∙◌, arith, chars}
+use Rattle.std.proofs.Common.{◌≡◌, ℕ, ◌<◌, ◌≤◌, inl, inr, Bool, true, List, length, find, Some, None, ap, sym, ◌∙◌, arith, chars}
 use Rattle.std.specs.List.{All, Contains}
 use Rattle.just_syntax.specs.declared.ast.AstItem.{AstItem}
 use Rattle.just_syntax.specs.declared.error.Fault.{Fault}

@@ -1,5 +1,5 @@
 -- Bodies whose lines can be counted in 32 bits.
-use Rattle.std.proofs.Common.{◌≡◌, ℕ, ◌^◌, ◌<◌, true, List, length, arith}
+use Rattle.std.proofs.Common.{◌≡◌, ◌^◌, ◌<◌, true, List, length, arith}
 use Rattle.std.specs.List.{All, list_all}
 use Rattle.std.proofs.lemmas.Grind.{common_steps}
 use Rattle.std.proofs.lemmas.List.Sums.{AllPass-from_list_all}

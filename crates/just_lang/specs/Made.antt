@@ -1,5 +1,5 @@
 -- The recipes that a tree makes.
-use Rattle.std.specs.Prelude.{ℕ, false, List, [], ◌∷◌, map, filter_map, Option, Some, None}
+use Rattle.std.specs.Prelude.{false, List, map, filter_map, Option, Some, None}
 use Rattle.just_syntax.specs.declared.ast.AstDependency.{AstDependency}
 use Rattle.just_syntax.specs.declared.ast.AstItem.{AstItem}
 use Rattle.just_syntax.specs.declared.ast.AstItem.TheVariants as item

@@ -1,6 +1,6 @@
 -- What isn't assembled yet, and where it stands: all that isn't a blank line, a comment, or a recipe with nothing but a name, priors
 -- further down, and a body of plain text.
-use Rattle.std.specs.Prelude.{◌≡◌, ℕ, Bool, true, false, not, ◌&&◌, ◌||◌, ◌==◌, if◌then◌else◌, List, [], ◌∷◌, ◌++◌, Option, Some, None, bytes_eq, nat_eq, codes}
+use Rattle.std.specs.Prelude.{ℕ, Bool, true, false, not, ◌&&◌, ◌||◌, ◌==◌, if◌then◌else◌, List, [], ◌∷◌, ◌++◌, Option, Some, None, bytes_eq, nat_eq, codes}
 use Rattle.std.specs.List.{list_any, list_all, starts_with, ends_with}
 use Rattle.just_path.specs.Comps.{is_empty}
 use Rattle.just_syntax.specs.declared.ast.AstDependency.{AstDependency}

@@ -1,5 +1,5 @@
 -- The files that a tree names.
-use Rattle.std.specs.Prelude.{◌≡◌, ℕ, List, filter_map, Option, Some, None, option_map}
+use Rattle.std.specs.Prelude.{ℕ, List, filter_map, Option, Some, None}
 use Rattle.just_syntax.specs.declared.ast.AstItem.{AstItem}
 use Rattle.just_syntax.specs.declared.ast.AstItem.TheVariants as item
 use Rattle.just_syntax.specs.declared.ast.StringLiteral.{StringLiteral}

@@ -1,5 +1,5 @@
 -- A recipe's position is that of the item.
-use Rattle.std.proofs.Common.{◌≡◌, ap, sym, ◌∙◌}
+use Rattle.std.proofs.Common.{ap, sym, ◌∙◌}
 use Rattle.just_lang.specs.NotAssembled.{recipe_position, item_position}
 use Rattle.just_lang.proofs.assembled.item_position.Goals as goal
 

@@ -1,8 +1,8 @@
 -- The recipes of an assembled tree have fitting names, and are of the root module.
-use Rattle.std.proofs.Common.{◌≡◌, [], None, ap, sym, ◌∙◌, subst}
+use Rattle.std.proofs.Common.{ap, sym, ◌∙◌, subst}
 use Rattle.std.specs.List.{All}
 use Rattle.just_lang.specs.Names.{NamesFit}
-use Rattle.just_lang.specs.NotAssembled.{first_from, first_not_assembled}
+use Rattle.just_lang.specs.NotAssembled.{first_not_assembled}
 use Rattle.just_lang.specs.Root.{IsRootRecipe}
 use Rattle.just_lang.proofs.Fit.{names_fit, roots_are}
 use Rattle.just_lang.proofs.sound.assemble.Goals as goal

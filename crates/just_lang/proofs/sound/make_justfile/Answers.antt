@@ -1,5 +1,5 @@
 -- Recipes whose names fit are sound, and their lines can be counted.
-use Rattle.std.proofs.Common.{◌≡◌, ap, sym, ◌∙◌}
+use Rattle.std.proofs.Common.{ap, sym, ◌∙◌}
 use Rattle.std.specs.List.{list_all}
 use Rattle.just_lang.specs.Sound.{is_short}
 use Rattle.just_lang.proofs.Forward.{forward_fits}
