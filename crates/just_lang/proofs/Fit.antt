@@ -47,7 +47,7 @@ both_false : (a b : Bool) → (a || b) ≡ false → (a ≡ false) × (b ≡ fal
 both_false false b e = (refl, e)
 both_false true b e = absurd (let no : ⊥ = cc in no)
 
--- no subsequent is more than a name where there is none
+-- where no subsequent has a position there is none
 no_subsequent : (name : Name) (ds : List AstDependency) → subsequents_position name ds ≡ None → ds ≡ []
 no_subsequent name [] e = refl
 no_subsequent name (d ∷ ds) e = absurd (let no : ⊥ = cc in no)
@@ -77,6 +77,7 @@ data Shape (x : AstItem) : Type 0 where
   other : recipe_in x ≡ None → ((name : List ℕ) → has_name name x ≡ false) → Shape x
   recipe : (r : AstRecipe) → x ≡ item.Recipe r → Shape x
 
+-- each item is a recipe, or has no name of one
 shape : (x : AstItem) → Shape x
 shape item.Blank = other refl (λ name. refl)
 shape (item.Comment text) = other refl (λ name. refl)
