@@ -1,6 +1,6 @@
 -- The first word that breaks the form, by its place.
 use Rattle.std.proofs.Common.{ℕ, ◌<◌, List, [], ◌∷◌, map, length, slice_index_or, refl, arith}
-use Rattle.just_lang.specs.Form.{IsName}
+use Rattle.just_lang.specs.Names.{IsName}
 use Rattle.just_cli.specs.Words.{BreaksForm, no_name, one_more}
 
 pub first_breaks : {R : Type 0} (f : R → List ℕ) (ws : List R) (d : R) → 0 < length ws → (IsName (f (slice_index_or ws 0 d)) → ⊥) → BreaksForm (map f ws) (f (slice_index_or ws 0 d))

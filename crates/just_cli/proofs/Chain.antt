@@ -2,7 +2,7 @@
 use Rattle.std.proofs.Common.{◌≡◌, inl, inr, ℕ, List, [], Option, option_map, Result, Ok, Err, refl, subst}
 use Rattle.just_outside.specs.declared.entry.Call.TheVariants as call
 use Rattle.just_outside.specs.World.{World}
-use Rattle.just_lang.specs.declared.ast.Source.{Source}
+use Rattle.just_lang.specs.declared.source.Source.{Source}
 use Rattle.just_cli.specs.declared.error.Error.{Error}
 use Rattle.just_cli.specs.Faults.{CallGives}
 use Rattle.just_cli.specs.Request.{Outline, Plans, folder_shown, source_in, HostReads, AsksOver, OrMemory}

@@ -1,20 +1,19 @@
 -- The steps from a source to its plan, from what the calls of just_lang ensure.
-use Rattle.std.proofs.Common.{◌≡◌, ◌≢◌, ◌≤◌, inl, inr, ℕ, List, [], ◌∷◌, length, Option, None, Result, Ok, Err, IfOk, IfErr, refl, sym, ◌∙◌, ap, subst, arith}
+use Rattle.std.proofs.Common.{◌≡◌, ◌≤◌, inl, inr, ℕ, List, [], ◌∷◌, length, Option, None, Result, Ok, Err, IfOk, IfErr, refl, sym, ◌∙◌, ap, subst, arith}
 use Rattle.std.specs.Prelude.{All, is_some, true}
 use Rattle.std.specs.Result.{IsErrAnd}
 use Rattle.just_lang.specs.declared.TheConstants.{CLOSURE_LIMIT}
-use Rattle.just_lang.specs.declared.ast.Recipe.{Recipe}
-use Rattle.just_lang.specs.declared.ast.Source.{Source}
+use Rattle.just_lang.specs.declared.recipe.Recipe.{Recipe}
+use Rattle.just_lang.specs.declared.source.Source.{Source}
 use Rattle.just_lang.specs.declared.error.LangError.{LangError}
 use Rattle.just_lang.specs.declared.error.LangError.TheVariants as lang
 use Rattle.just_lang.specs.declared.justfile.Justfile.{Justfile}
 use Rattle.just_lang.specs.declared.key.Key.{Key}
 use Rattle.just_lang.specs.declared.node.Closure.{Closure}
 use Rattle.just_lang.specs.Asked.{NamesRecipe, RefusesWords, key_named}
-use Rattle.just_lang.specs.Assembled.{IsJustfileOf}
-use Rattle.just_lang.specs.Form.{recipes_of}
+use Rattle.just_lang.specs.Assembled.{IsJustfileOf, RefusesJustfile}
+use Rattle.just_lang.specs.Made.{recipes_of}
 use Rattle.just_lang.specs.Keys.{recipe_of}
-use Rattle.just_lang.specs.Outside.{IsUnsupported}
 use Rattle.just_lang.specs.Walk.{walk, closure_of, RefusesNodes}
 use Rattle.just_lang.proofs.Laws.{closure_length}
 use Rattle.just_sched.specs.declared.plan.Plan.{Plan}
@@ -36,11 +35,11 @@ pub refused_from : {T E : Type 0} (r : Result T E) (P Q : E → Type 0) → ((e 
 refused_from (Ok x) P Q h no_error = absurd no_error
 refused_from (Err e) P Q h given = h e given
 
--- a source whose text is outside the form
-pub unread : (name : List ℕ) (source : Source) (l : LangError) → (l ≢ lang.NoMemory → IsUnsupported source l) → RefusesPlan name source l
-unread name source (lang.Compile c) why = inr (stops (error.Compile c) (c, why (λ is. let no : ⊥ = cc in no), refl) refl)
-unread name source (lang.UnknownRecipe recipe) why = absurd (why (λ is. let no : ⊥ = cc in no))
-unread name source lang.ClosureLimit why = absurd (why (λ is. let no : ⊥ = cc in no))
+-- a source that makes no justfile
+pub unread : (name : List ℕ) (source : Source) (l : LangError) → RefusesJustfile source l → RefusesPlan name source l
+unread name source (lang.Compile c) why = inr (stops (error.Compile c) (c, why, refl) refl)
+unread name source (lang.UnknownRecipe recipe) why = absurd why
+unread name source lang.ClosureLimit why = absurd why
 unread name source lang.NoMemory why = inl refl
 
 -- the recipes of the source, behind which other steps go on
@@ -50,7 +49,7 @@ justfile_request name source recipes = record { name = name; root = source.root;
 read_on : (name : List ℕ) (source : Source) (j : Justfile) (two : JustfileRequest → Result Outline Error → Type 0) (r : Result Outline Error) → IsJustfileOf source j → two (record { name = name; root = source.root; recipes = j.recipes }) r → Then ReadsJustfile two (source_request name source) r
 read_on name source j two r from more =
     let there : JustfileRequest = record { name = name; root = source.root; recipes = recipes_of from.items } in
-    goes_on there (from.items, from.text_is, refl) (subst (λ rs. two (record { name = name; root = source.root; recipes = rs }) r) from.recipes_are more)
+    goes_on there (from.items, from.tree, refl) (subst (λ rs. two (record { name = name; root = source.root; recipes = rs }) r) from.recipes_are more)
 
 nothing_there : (o : Option Recipe) → o ≡ None → is_some o ≡ true → ⊥
 nothing_there o none some = let no : ⊥ = cc (ap (λ x. is_some x) none) in no

@@ -3,12 +3,11 @@ use Rattle.std.proofs.Common.{◌≡◌, ℕ, List, [], ◌∷◌, Result, Ok, E
 use Rattle.just_path.specs.declared.host.Miss.{Miss}
 use Rattle.just_outside.specs.declared.entry.HostFault.TheVariants as fault
 use Rattle.just_outside.specs.World.{World}
-use Rattle.just_lang.specs.declared.ast.AstItem.{AstItem}
-use Rattle.just_lang.specs.declared.error.LangError.{LangError}
-use Rattle.just_lang.specs.declared.error.LangError.TheVariants as lang
+use Rattle.just_syntax.specs.declared.ast.AstItem.{AstItem}
 use Rattle.just_lang.specs.declared.usage.UsageKind.TheVariants as usage
-use Rattle.just_lang.specs.Form.{IsName, recipes_of}
-use Rattle.just_lang.proofs.Laws.{one_reading, never_both, one_fault}
+use Rattle.just_lang.specs.Made.{recipes_of}
+use Rattle.just_lang.specs.Names.{IsName}
+use Rattle.just_lang.proofs.Laws.{one_tree, never_both, one_error}
 use Rattle.just_cli.specs.declared.error.Error.{Error}
 use Rattle.just_cli.specs.declared.error.Error.TheVariants as error
 use Rattle.just_cli.specs.Faults.{ShowsAt}
@@ -87,16 +86,14 @@ source_one read one k (Err e) (Err f) p q = same_refusal e f (one k.folder (Err 
 
 -- ---- the steps behind
 
--- a source is read as one justfile, or is outside the form by one error
+-- a source makes one justfile, or is refused with one error
 justfile_one : GivesOne ReadsJustfile
 justfile_one s (Ok a) (Ok b) p q =
-    ap (λ x. Ok x) (p.2 ∙ ap (λ (xs : List AstItem). let j : JustfileRequest = record { name = s.name; root = s.source.root; recipes = recipes_of xs } in j) (one_reading s.source.text p.0 q.0 p.1 q.1) ∙ sym q.2)
-justfile_one s (Ok a) (Err f) p q = absurd (never_both s.source p.0 (lang.Compile q.0) p.1 q.1)
-justfile_one s (Err e) (Ok b) p q = absurd (never_both s.source q.0 (lang.Compile p.0) q.1 p.1)
+    ap (λ x. Ok x) (p.2 ∙ ap (λ (xs : List AstItem). let j : JustfileRequest = record { name = s.name; root = s.source.root; recipes = recipes_of xs } in j) (one_tree s.source.text p.0 q.0 p.1.0 q.1.0) ∙ sym q.2)
+justfile_one s (Ok a) (Err f) p q = absurd (never_both s.source p.0 q.0 p.1 q.1)
+justfile_one s (Err e) (Ok b) p q = absurd (never_both s.source q.0 p.0 q.1 p.1)
 justfile_one s (Err e) (Err f) p q =
-    let both : ◌≡◌ {A = LangError} (lang.Compile p.0) (lang.Compile q.0) = one_fault s.source (lang.Compile p.0) (lang.Compile q.0) p.1 q.1 in
-    let same : p.0 ≡ q.0 = cc in
-    ap (λ x. Err x) (p.2 ∙ ap (λ c. error.Compile c) same ∙ sym q.2)
+    ap (λ x. Err x) (p.2 ∙ ap (λ c. error.Compile c) (one_error s.source p.0 q.0 p.1 q.1) ∙ sym q.2)
 
 -- a name has its keys, or names no recipe
 keys_one : GivesOne NamesKeys

@@ -8,9 +8,9 @@ use Rattle.just_outside.specs.declared.entry.Call.TheVariants as call
 use Rattle.just_outside.specs.declared.entry.HostFault.TheVariants as fault
 use Rattle.just_outside.specs.declared.outside.TheConstants.{MAX_BYTES}
 use Rattle.just_outside.specs.World.{World, told_read}
-use Rattle.just_lang.specs.declared.ast.AstItem.{AstItem}
-use Rattle.just_lang.specs.declared.ast.Recipe.{Recipe}
-use Rattle.just_lang.specs.declared.ast.Source.{Source}
+use Rattle.just_syntax.specs.declared.ast.AstItem.{AstItem}
+use Rattle.just_lang.specs.declared.recipe.Recipe.{Recipe}
+use Rattle.just_lang.specs.declared.source.Source.{Source}
 use Rattle.just_lang.specs.declared.error.CompileError.{CompileError}
 use Rattle.just_lang.specs.declared.error.LangError.{LangError}
 use Rattle.just_lang.specs.declared.error.LangError.TheVariants as lang
@@ -18,8 +18,8 @@ use Rattle.just_lang.specs.declared.key.Key.{Key}
 use Rattle.just_lang.specs.declared.node.Closure.{Closure}
 use Rattle.just_lang.specs.declared.TheConstants.{CLOSURE_LIMIT}
 use Rattle.just_lang.specs.Asked.{key_named, NamesRecipe}
-use Rattle.just_lang.specs.Form.{IsJustfile, recipes_of}
-use Rattle.just_lang.specs.Outside.{IsUnsupported}
+use Rattle.just_lang.specs.Assembled.{IsAssembledTree, RefusesJustfile}
+use Rattle.just_lang.specs.Made.{recipes_of}
 use Rattle.just_lang.specs.Walk.{walk, closure_of}
 use Rattle.just_sched.specs.declared.plan.Plan.{Plan}
 use Rattle.just_sched.specs.declared.plan_node.PlanNode.{PlanNode}
@@ -88,10 +88,10 @@ abbrev pub ReadsSource : (List ℕ → Result (List ℕ) Error → Type 0) → F
 ReadsSource read q (Ok s) = (text : List ℕ) × read q.folder (Ok text) × (s ≡ record { name = q.name; source = source_in q.folder text })
 ReadsSource read q (Err e) = read q.folder (Err e)
 
--- the text is a justfile, or outside the form at the place that the error tells
+-- the text has a tree whose recipes are the justfile's, or makes no justfile for the reason that the error tells
 abbrev pub ReadsJustfile : SourceRequest → Result JustfileRequest Error → Type 0
-ReadsJustfile s (Ok j) = (items : List AstItem) × IsJustfile s.source.text items × (j ≡ record { name = s.name; root = s.source.root; recipes = recipes_of items })
-ReadsJustfile s (Err e) = (c : CompileError) × IsUnsupported s.source (lang.Compile c) × (e ≡ error.Compile c)
+ReadsJustfile s (Ok j) = (items : List AstItem) × IsAssembledTree s.source.text items × (j ≡ record { name = s.name; root = s.source.root; recipes = recipes_of items })
+ReadsJustfile s (Err e) = (c : CompileError) × RefusesJustfile s.source (lang.Compile c) × (e ≡ error.Compile c)
 
 -- a recipe has the name, or none has
 abbrev pub NamesKeys : JustfileRequest → Result KeyRequest Error → Type 0

@@ -1,7 +1,7 @@
 -- What words ask for, as far as they are read yet.
 use Rattle.std.specs.Prelude.{ℕ, ◌≡◌, List, [], ◌∷◌, Result, Ok, Err}
 use Rattle.just_lang.specs.declared.usage.UsageKind.TheVariants as usage
-use Rattle.just_lang.specs.Form.{IsName}
+use Rattle.just_lang.specs.Names.{IsName}
 use Rattle.just_cli.specs.declared.error.Error.{Error}
 use Rattle.just_cli.specs.declared.error.Error.TheVariants as error
 

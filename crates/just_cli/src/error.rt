@@ -92,7 +92,33 @@ fn kind_text(kind: CompileKind) -> &'static str
     ensures { result.now ≡ kind_text kind }
 {
     match kind {
+        CompileKind::Syntax => "Syntax",
         CompileKind::Unsupported => "Unsupported",
+        CompileKind::Depth => "Depth",
+        CompileKind::SourceLimit => "SourceLimit",
+        CompileKind::ShellExpansion => "ShellExpansion",
+        CompileKind::UnknownSetting => "UnknownSetting",
+        CompileKind::DuplicateSetting => "DuplicateSetting",
+        CompileKind::UnknownAttribute => "UnknownAttribute",
+        CompileKind::DuplicateAttribute => "DuplicateAttribute",
+        CompileKind::AttributeConflict => "AttributeConflict",
+        CompileKind::DuplicateRecipe => "DuplicateRecipe",
+        CompileKind::DuplicateVariable => "DuplicateVariable",
+        CompileKind::DuplicateAlias => "DuplicateAlias",
+        CompileKind::DuplicateParameter => "DuplicateParameter",
+        CompileKind::RequiredParameterFollowsDefault => "RequiredParameterFollowsDefault",
+        CompileKind::UndefinedVariable => "UndefinedVariable",
+        CompileKind::UnknownAliasTarget => "UnknownAliasTarget",
+        CompileKind::UnknownDependency => "UnknownDependency",
+        CompileKind::DependencyArgumentCount => "DependencyArgumentCount",
+        CompileKind::DependencyIsOption => "DependencyIsOption",
+        CompileKind::CircularVariable => "CircularVariable",
+        CompileKind::CircularRecipe => "CircularRecipe",
+        CompileKind::UnknownArgParameter => "UnknownArgParameter",
+        CompileKind::ArgumentPatternRegex => "ArgumentPatternRegex",
+        CompileKind::ArgumentPatternSize => "ArgumentPatternSize",
+        CompileKind::GuardAndInfallible => "GuardAndInfallible",
+        CompileKind::DuplicateDefault => "DuplicateDefault",
     }
 }
 

@@ -2,7 +2,7 @@
 use Rattle.std.proofs.Common.{◌≡◌, ℕ, Bool, true, false, ◌&&◌, List, [], ◌∷◌, refl, ap, ◌∙◌, bytes_eq}
 use Rattle.std.proofs.lemmas.Slice.Eq.{bytes_eq-Decides}
 use Rattle.std.specs.Cmp.Lexicographic.{pointwise}
-use Rattle.just_lang.specs.declared.ast.Modulepath.{Modulepath}
+use Rattle.just_lang.specs.declared.recipe.Modulepath.{Modulepath}
 use Rattle.just_lang.specs.declared.key.Key.{Key}
 use Rattle.just_lang.specs.declared.key.Value.{Value}
 use Rattle.just_lang.specs.Keys.{same_path, same_value, same_key}

@@ -2,8 +2,8 @@
 use Rattle.std.proofs.Common.{◌≡◌, ◌≢◌, ℕ, zero, suc, inl, inr, true, false, cond, List, [], ◌∷◌, map, length, is_some, Some, refl, ap, sym, ◌∙◌, subst}
 use Rattle.std.specs.List.{All, Contains, list_all}
 use Rattle.std.proofs.lemmas.List.Sums.{list_all-from_AllPass}
-use Rattle.just_lang.specs.declared.ast.Dependency.{Dependency}
-use Rattle.just_lang.specs.declared.ast.Recipe.{Recipe}
+use Rattle.just_lang.specs.declared.recipe.Dependency.{Dependency}
+use Rattle.just_lang.specs.declared.recipe.Recipe.{Recipe}
 use Rattle.just_lang.specs.declared.key.Key.{Key}
 use Rattle.just_lang.specs.Keys.{same_path, key_of, key_of_recipe, recipe_of, prior_keys, subsequent_keys, priors_of, subsequents_of}
 use Rattle.just_lang.specs.Names.{path_of, NamesFit}

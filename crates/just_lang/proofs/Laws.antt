@@ -1,51 +1,52 @@
 -- What the proofs of crates above rest on: laws of justfiles, of their closures, and of lists.
-use Rattle.std.proofs.Common.{◌≡◌, ℕ, ◌<◌, ◌≤◌, Bool, true, List, length, find, Some, ap, sym, ◌∙◌, arith}
+use Rattle.std.proofs.Common.{◌≡◌, ℕ, ◌<◌, ◌≤◌, inl, inr, Bool, true, List, length, find, Some, None, ap, sym, ◌∙◌, arith, chars}
 use Rattle.std.specs.List.{All, Contains}
-use Rattle.std.specs.Str.Lines.{lines}
+use Rattle.just_syntax.specs.declared.ast.AstItem.{AstItem}
+use Rattle.just_syntax.specs.declared.error.Fault.{Fault}
+use Rattle.just_syntax.proofs.Laws.{one_file, one_refusal, found_or_refused}
 use Rattle.just_lang.specs.declared.TheConstants.{CLOSURE_LIMIT}
-use Rattle.just_lang.specs.declared.ast.AstItem.{AstItem}
-use Rattle.just_lang.specs.declared.ast.Recipe.{Recipe}
-use Rattle.just_lang.specs.declared.ast.Source.{Source}
+use Rattle.just_lang.specs.declared.assembled.Position.{Position}
+use Rattle.just_lang.specs.declared.recipe.Recipe.{Recipe}
+use Rattle.just_lang.specs.declared.source.Source.{Source}
 use Rattle.just_lang.specs.declared.error.CompileError.{CompileError}
-use Rattle.just_lang.specs.declared.error.LangError.{LangError}
+use Rattle.just_lang.specs.declared.error.CompileKind.TheVariants.{Unsupported}
 use Rattle.just_lang.specs.declared.error.LangError.TheVariants as error
 use Rattle.just_lang.specs.declared.key.Key.{Key}
-use Rattle.just_lang.specs.Form.{IsJustfile}
+use Rattle.just_lang.specs.Assembled.{IsAssembledTree, RefusesJustfile}
 use Rattle.just_lang.specs.Keys.{priors_of, subsequents_of}
-use Rattle.just_lang.specs.Outside.{IsUnsupported}
+use Rattle.just_lang.specs.NotAssembled.{first_not_assembled}
+use Rattle.just_lang.specs.Trees.{IsTree, kind_of, position_of, compile_error}
 use Rattle.just_lang.specs.Walk.{walk, closure_of}
 use Rattle.just_lang.proofs.Closed.{nodes_length}
 use Rattle.just_lang.proofs.Items as items
-use Rattle.just_lang.proofs.Readings as readings
 
--- A text is the form of one list of items.
-pub one_reading : (text : List ℕ) (xs ys : List AstItem) → IsJustfile text xs → IsJustfile text ys → xs ≡ ys
-one_reading text xs ys h g = readings.one_reading text xs ys h g
+-- A text has one tree.
+pub one_tree : (text : List ℕ) (xs ys : List AstItem) → IsTree text xs → IsTree text ys → xs ≡ ys
+one_tree text xs ys h g = one_file (chars text) xs ys h.0 g.0
 
--- A text that is the form of some items isn't outside the form.
-pub never_both : (source : Source) (xs : List AstItem) (e : LangError) → IsJustfile source.text xs → IsUnsupported source e → ⊥
-never_both source xs (error.Compile c) h out = readings.not_both source.text xs c.line h out.3
-never_both source xs (error.UnknownRecipe recipe) h out = out
-never_both source xs error.ClosureLimit h out = out
-never_both source xs error.NoMemory h out = out
+-- one position is some position
+one_position : (p q : Position) → Some p ≡ Some q → p ≡ q
+one_position p q e = cc
 
-same_error : (c d : CompileError) → c.kind ≡ d.kind → c.path ≡ d.path → c.line ≡ d.line → c.column ≡ d.column → c ≡ d
-same_error c d kind path line column =
-    ap (λ k. let x : CompileError = record { kind = k; path = c.path; line = c.line; column = c.column } in x) kind
-    ∙ ap (λ p. let x : CompileError = record { kind = d.kind; path = p; line = c.line; column = c.column } in x) path
-    ∙ ap (λ n. let x : CompileError = record { kind = d.kind; path = d.path; line = n; column = c.column } in x) line
-    ∙ ap (λ n. let x : CompileError = record { kind = d.kind; path = d.path; line = d.line; column = n } in x) column
+-- a position is there, or is none
+no_position : (p : Position) → Some p ≡ None → ⊥
+no_position p e = let no : ⊥ = cc in no
 
--- A source whose text is outside the form is so by one error.
-pub one_fault : (source : Source) (e f : LangError) → IsUnsupported source e → IsUnsupported source f → e ≡ f
-one_fault source (error.Compile c) (error.Compile d) a b =
-    ap (λ x. error.Compile x) (same_error c d (a.0 ∙ sym b.0) (a.1 ∙ sym b.1) (readings.one_first (lines source.text) c.line d.line a.3 b.3) (a.2 ∙ sym b.2))
-one_fault source (error.Compile c) (error.UnknownRecipe recipe) a b = absurd b
-one_fault source (error.Compile c) error.ClosureLimit a b = absurd b
-one_fault source (error.Compile c) error.NoMemory a b = absurd b
-one_fault source (error.UnknownRecipe recipe) f a b = absurd a
-one_fault source error.ClosureLimit f a b = absurd a
-one_fault source error.NoMemory f a b = absurd a
+-- A source that makes a justfile isn't refused.
+pub never_both : (root : Source) (xs : List AstItem) (c : CompileError) → IsAssembledTree root.text xs → RefusesJustfile root (error.Compile c) → ⊥
+never_both root xs c h (inl fault) = found_or_refused (chars root.text) xs fault.0 h.0.0 h.0.1 fault.1
+never_both root xs c h (inr late) =
+    no_position late.position (sym late.first ∙ ap (λ ys. first_not_assembled ys) (one_tree root.text late.items xs late.tree h.0) ∙ h.1)
+
+-- A source is refused with one error at most.
+pub one_error : (root : Source) (c d : CompileError) → RefusesJustfile root (error.Compile c) → RefusesJustfile root (error.Compile d) → c ≡ d
+one_error root c d (inl a) (inl b) =
+    a.2 ∙ ap (λ (f : Fault). compile_error root.path (kind_of f.kind) (position_of f)) (one_refusal (chars root.text) a.0 b.0 a.1 b.1) ∙ sym b.2
+one_error root c d (inl a) (inr b) = absurd (found_or_refused (chars root.text) b.items a.0 b.tree.0 b.tree.1 a.1)
+one_error root c d (inr a) (inl b) = absurd (found_or_refused (chars root.text) a.items b.0 a.tree.0 a.tree.1 b.1)
+one_error root c d (inr a) (inr b) =
+    let same = ap (λ xs. first_not_assembled xs) (one_tree root.text a.items b.items a.tree b.tree) in
+    a.told ∙ ap (λ p. compile_error root.path Unsupported p) (one_position a.position b.position (sym a.first ∙ same ∙ b.first)) ∙ sym b.told
 
 -- The closure of some keys has a node for each visit of their walk.
 pub closure_length : (recipes : List Recipe) (keys : List Key) → length (closure_of recipes keys).nodes ≡ length (walk recipes keys)

@@ -2,7 +2,7 @@
 use Rattle.std.proofs.Common.{◌≡◌, ℕ, zero, suc, ◌+◌, ◌-◌, ◌<◌, ◌≤◌, true, false, List, [], ◌∷◌, ◌++◌, length, get_or, drop, drop-cons, Option, Some, Result, Ok, Err, IfErr, refl, ap, sym, ◌∙◌, subst, arith, fold, length-append, if◌then◌else◌}
 use Rattle.std.specs.Result.{IsErrAnd}
 use Rattle.std.specs.List.{All}
-use Rattle.just_lang.specs.declared.ast.Recipe.{Recipe}
+use Rattle.just_lang.specs.declared.recipe.Recipe.{Recipe}
 use Rattle.just_lang.specs.declared.error.LangError.{LangError}
 use Rattle.just_lang.specs.declared.error.LangError.TheVariants as error
 use Rattle.just_lang.specs.declared.key.Key.{Key}

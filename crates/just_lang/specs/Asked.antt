@@ -1,6 +1,6 @@
 -- What is asked of a justfile: keys of its recipes, and the keys that words name.
 use Rattle.std.specs.Prelude.{ℕ, ◌≡◌, true, List, [], ◌∷◌, is_some, None}
-use Rattle.just_lang.specs.declared.ast.Recipe.{Recipe}
+use Rattle.just_lang.specs.declared.recipe.Recipe.{Recipe}
 use Rattle.just_lang.specs.declared.error.LangError.{LangError}
 use Rattle.just_lang.specs.declared.error.LangError.TheVariants as error
 use Rattle.just_lang.specs.declared.key.Key.{Key}

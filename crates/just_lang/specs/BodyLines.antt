@@ -1,17 +1,18 @@
 -- The lines of a recipe's body as they are run.
 use Rattle.std.specs.Prelude.{ℕ, false, List, [], ◌∷◌, ◌++◌, map, Option, Some, None}
-use Rattle.just_lang.specs.declared.ast.Fragment.{Fragment}
-use Rattle.just_lang.specs.declared.ast.Fragment.TheVariants as f
-use Rattle.just_lang.specs.declared.ast.Line.{Line}
-use Rattle.just_lang.specs.declared.ast.Recipe.{Recipe}
+use Rattle.just_syntax.specs.declared.ast.Fragment.{Fragment}
+use Rattle.just_syntax.specs.declared.ast.Fragment.TheVariants as f
+use Rattle.just_syntax.specs.declared.ast.Line.{Line}
+use Rattle.just_lang.specs.declared.recipe.Recipe.{Recipe}
 use Rattle.just_lang.specs.declared.key.Key.{Key}
 use Rattle.just_lang.specs.declared.node.BodyLine.{BodyLine}
 use Rattle.just_lang.specs.Keys.{recipe_of}
 
--- the text of some fragments, one behind the other
+-- the text of some fragments, one behind the other; no justfile has values yet
 abbrev pub text_of_fragments : List Fragment → List ℕ
 text_of_fragments [] = []
 text_of_fragments (f.Text t ∷ fs) = t ++ text_of_fragments fs
+text_of_fragments (f.Value v ∷ fs) = text_of_fragments fs
 
 -- a line without sigils
 abbrev pub plain_line : Line → BodyLine

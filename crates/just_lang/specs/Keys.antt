@@ -1,9 +1,9 @@
 -- Keys and the recipes that they name.
 use Rattle.std.specs.Prelude.{◌&&◌, Bool, List, [], map, Option, Some, None, bytes_eq, find}
 use Rattle.std.specs.Cmp.Lexicographic.{pointwise}
-use Rattle.just_lang.specs.declared.ast.Modulepath.{Modulepath}
-use Rattle.just_lang.specs.declared.ast.Dependency.{Dependency}
-use Rattle.just_lang.specs.declared.ast.Recipe.{Recipe}
+use Rattle.just_lang.specs.declared.recipe.Modulepath.{Modulepath}
+use Rattle.just_lang.specs.declared.recipe.Dependency.{Dependency}
+use Rattle.just_lang.specs.declared.recipe.Recipe.{Recipe}
 use Rattle.just_lang.specs.declared.key.Key.{Key}
 use Rattle.just_lang.specs.declared.key.Value.{Value}
 

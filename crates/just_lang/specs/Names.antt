@@ -1,7 +1,14 @@
--- The rule on names, until recipes may stand in any order.
-use Rattle.std.specs.Prelude.{ℕ, ◌≢◌, List, [], ◌∷◌, map, All, Contains}
-use Rattle.just_lang.specs.declared.ast.Modulepath.{Modulepath}
-use Rattle.just_lang.specs.declared.ast.Recipe.{Recipe}
+-- Names of recipes, and the rule on them until recipes may stand in any order.
+use Rattle.std.specs.Prelude.{◌≡◌, ◌≢◌, ℕ, true, List, [], ◌∷◌, map, All, Contains}
+use Rattle.std.specs.List.{list_all}
+use Rattle.just_syntax.specs.Characters.{begins_name, in_name}
+use Rattle.just_lang.specs.declared.recipe.Modulepath.{Modulepath}
+use Rattle.just_lang.specs.declared.recipe.Recipe.{Recipe}
+
+-- a whole text is a name
+abbrev pub IsName : List ℕ → Type 0
+IsName [] = ⊥
+IsName (c ∷ cs) = (begins_name c ≡ true) × (list_all in_name cs ≡ true)
 
 -- the path of a recipe of the root module
 abbrev pub path_of : List ℕ → Modulepath

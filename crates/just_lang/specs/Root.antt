@@ -1,6 +1,6 @@
 -- What holds of each recipe until modules and subsequents come.
 use Rattle.std.specs.Prelude.{◌≡◌, []}
-use Rattle.just_lang.specs.declared.ast.Recipe.{Recipe}
+use Rattle.just_lang.specs.declared.recipe.Recipe.{Recipe}
 use Rattle.just_lang.specs.Names.{path_of}
 
 -- a recipe of the root module, with nothing that comes behind it

@@ -1,11 +1,12 @@
 //! What is asked of a justfile: the keys that words name, and the keys around a key.
 
-ghost use Rattle.std.specs.Prelude.{◌≡◌, [], ◌∷◌, length, map, All, IfOk, IfErr};
+ghost use Rattle.std.specs.Prelude.{◌≡◌, length, map, All, IfOk, IfErr};
 ghost use Rattle.std.specs.Option.{option_copied};
 ghost use Rattle.just_lang.specs.Asked.{NamesRecipe, key_named, RefusesWords};
 ghost use Rattle.just_lang.specs.Keys.{recipe_of, key_of, priors_of, subsequents_of};
 
-use super::{Dependency, Justfile, Key, LangError, Modulepath, Recipe};
+use super::made::path_of;
+use super::{Dependency, Justfile, Key, LangError, Recipe};
 use just_path::{Seq, Text, TryClone};
 use std::alloc::Global;
 
@@ -22,7 +23,7 @@ pub fn invocations(
 {
     let word = words[0];
     let key = Key {
-        recipe: root_path(alloc, word)?,
+        recipe: path_of(alloc, word)?,
         arguments: Seq::new(alloc),
     };
     match find_recipe(justfile.recipes.as_slice(), &key) {
@@ -97,16 +98,4 @@ fn keys_of(alloc: Global, dependencies: &[Dependency]) -> Result<Seq<Key>, LangE
         })?;
     }
     Ok(Seq::from(keys))
-}
-
-/// The path of the recipe of that name in the root module.
-fn root_path(alloc: Global, name: &str) -> Result<Modulepath, LangError>
-    ensures path { IfOk result (λ p. p.components ≡ name.now ∷ []) }
-    ensures refused { IfErr result (λ e. e ≡ LangError.NoMemory) }
-{
-    let mut components = Vec::new(alloc);
-    components.push(Text::from_str(alloc, name)?)?;
-    Ok(Modulepath {
-        components: Seq::from(components),
-    })
 }

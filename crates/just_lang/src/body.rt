@@ -4,9 +4,10 @@ ghost use Rattle.std.specs.Prelude.{◌≡◌, true, IfOk, IfErr, is_some, map};
 ghost use Rattle.just_lang.specs.Keys.{recipe_of};
 ghost use Rattle.just_lang.specs.BodyLines.{text_of_fragments, plain_line, body_lines_of};
 
-use crate::asked::find_recipe;
-use crate::{BodyLine, Fragment, Justfile, Key, LangError, Line};
+use super::asked::find_recipe;
+use super::{BodyLine, Justfile, Key, LangError};
 use just_path::{NoMemory, Seq, Text};
+use just_syntax::{Fragment, Line};
 use std::alloc::Global;
 
 /// The lines of the body of the recipe that a key names, as they are run.
@@ -48,8 +49,9 @@ fn text_of_fragments(alloc: Global, fragments: &[Fragment]) -> Result<Text, NoMe
 {
     let mut text = String::new(alloc);
     for fragment in fragments {
-        let Fragment::Text(part) = fragment;
-        text.push_str(part.as_str())?;
+        if let Fragment::Text(part) = fragment {
+            text.push_str(part.as_str())?;
+        }
     }
     Ok(text.into())
 }

@@ -8,7 +8,7 @@ use just_path::{Seq, Utf8PathBuf};
 
 /// A justfile that breaks no rule: each dependency names a recipe, no chain of dependencies is longer than the
 /// number of recipes (so there is no cycle), and its lines can be counted in 32 bits.
-#[derive(Debug, Drop)]
+#[derive(Drop)]
 pub struct Justfile {
     pub source: Utf8PathBuf,
     pub recipes: Seq<Recipe>,

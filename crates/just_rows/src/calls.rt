@@ -5,7 +5,9 @@
 
 use crate::hosts::memory;
 use just_host::{Host, HostFault};
-use just_lang::{AstItem, LangError, Source, assemble, dependencies, invocations, parse};
+use just_lang::{
+    AstItem, FileRef, LangError, Source, assemble, dependencies, invocations, parse, references,
+};
 use just_path::{Environ, NoMemory, Seq, Text, TryClone, Utf8Path};
 use std::alloc::Global;
 use std::test::Fail;
@@ -25,10 +27,30 @@ fn items(alloc: Global, text: &str) -> Result<(usize, Vec<usize>), LangError> {
     let mut lines = Vec::new(alloc);
     for item in ast.items.as_slice() {
         if let AstItem::Recipe(recipe) = item {
-            lines.push(recipe.line)?;
+            lines.push(recipe.get().name.line)?;
         }
     }
     Ok((ast.items.len(), lines))
+}
+
+/// The files that a text names.
+fn files(alloc: Global, text: &str) -> Result<Seq<FileRef>, LangError> {
+    let source = source(alloc, text)?;
+    let ast = parse(alloc, &source)?;
+    Ok(references(alloc, &ast)?)
+}
+
+/// The path of the file of that number, empty where it has none.
+fn path_of(files: &[FileRef], number: usize) -> &str {
+    match files.get(number) {
+        Some(
+            FileRef {
+                path: Some(path),
+                ..
+            },
+        ) => path.as_str(),
+        _ => "",
+    }
 }
 
 /// How many priors a recipe of a text has, and how many of its keys are copied as they are.
@@ -68,6 +90,10 @@ fn every_call_answers(rt: HostRuntime) -> Result<(), Fail> {
     assert_eq!(rt; count, 4);
     assert_eq!(rt; lines.as_slice(), [1usize, 7].as_slice());
     assert!(rt; counts(alloc, text, "b")? == (1, 1));
+    let files = files(alloc, "import 'a'\nmod? b\nmod c \"\\u{64}\"\n")?;
+    assert_eq!(rt; files.len(), 3);
+    assert_eq!(rt; path_of(files.as_slice(), 0), "a");
+    assert_eq!(rt; path_of(files.as_slice(), 2), "d");
     assert_eq!(rt; home(alloc)?.as_str(), "/h");
     Ok(())
 }

@@ -1,6 +1,6 @@
 -- The plan of a closure.
 use Rattle.std.specs.Prelude.{ℕ, false, List, [], map, None}
-use Rattle.just_lang.specs.declared.ast.Recipe.{Recipe}
+use Rattle.just_lang.specs.declared.recipe.Recipe.{Recipe}
 use Rattle.just_lang.specs.declared.node.Node.{Node}
 use Rattle.just_lang.specs.BodyLines.{body_lines_of}
 use Rattle.just_sched.specs.declared.plan_node.PlanNode.{PlanNode}

@@ -20,7 +20,7 @@ pub returns-in_err-justfile-clause-refused : goal.returns-in_err-justfile-clause
 returns-in_err-justfile-clause-refused c =
     let refuses = RefusesPlan c.args.name.now c.args.source in
     let error = c.in_err-justfile.field-0.0 in
-    let given = unread c.args.name.now c.args.source error c.in_err-justfile.ensures.err in
+    let given = unread c.args.name.now c.args.source error c.in_err-justfile.ensures.refused in
     refused_from c.from_residual.result _ (λ e. refuses e) (λ e is. let same : error ≡ e = cc in subst (λ x. refuses x) same given) c.from_residual.ensures.1
 
 pub returns-in_err-keys-clause-refused : goal.returns-in_err-keys-clause-refused

@@ -3,7 +3,7 @@ use Rattle.std.proofs.Common.{◌≡◌, ℕ, true, List, length, subst, sym, If
 use Rattle.std.specs.List.{All}
 use Rattle.std.proofs.Math.Bool.{Bool-set}
 use Rattle.std.proofs.Math.Logic.{∥∥₁_elim}
-use Rattle.just_lang.specs.declared.ast.Recipe.{Recipe}
+use Rattle.just_lang.specs.declared.recipe.Recipe.{Recipe}
 use Rattle.just_lang.specs.declared.key.Key.{Key}
 use Rattle.just_lang.specs.Asked.{NamesRecipe}
 use Rattle.just_lang.specs.Keys.{priors_of, subsequents_of}
