@@ -115,8 +115,14 @@ further_again form earlier p q (x ∷ xs) (m, n, g, t, i, are) =
 pub arguments_again : (form : Form) (p q : Place) (xs : List Argument) → AreArguments form p q xs → item.arguments form p ≡ Ok (xs, q)
 unfolding item.arguments item.argument_list
 arguments_again form p q xs (in_parentheses m n o r first others a i are c b z) =
-    rw (token_again (codes "(") p m a, argument_again form [] m n first i, further_again form (first ∷ []) n o others are, trailing_again o r c,
-    token_again (codes ")") r q b, z) refl
+    rw (
+      token_again (codes "(") p m a,
+      argument_again form [] m n first i,
+      further_again form (first ∷ []) n o others are,
+      trailing_again o r c,
+      token_again (codes ")") r q b,
+      z,
+    ) refl
 
 -- and begin with a parenthesis
 pub arguments_begin : (form : Form) (p q : Place) (xs : List Argument) → AreArguments form p q xs → begins (codes "(") p ≡ true
@@ -142,10 +148,18 @@ further_attribute_again p q x (m, t, i) = (t.0, rw (token_again (codes ",") p m 
 pub attribute_line_again : (p q : Place) (xs : List Attribute) → IsAttributeLine p q xs → (begins (codes "[") p ≡ true) × (item.attribute_line p ≡ Ok (xs, q))
 unfolding item.attribute_line item.attribute_list
 attribute_line_again p q xs (in_brackets m n o r s first others c t i are u v e z) =
-    let no_comma : begins (codes ",") o ≡ false = begins_other 93 44 [] o (begins_first 93 [] o u.0) refl in
-    (t.0, rw (token_again (codes "[") p m t, attribute_again m n first i,
-    many_again (begins (codes ",")) item.further_attribute list_shorter IsFurtherAttribute further_attribute_again n o others are no_comma,
-    token_again (codes "]") o r u, rest_again r s c v, e, z) refl)
+    let no_comma : begins (codes ",") o ≡ false = begins_other 93 44 [] o (begins_first 93 [] o u.0) refl in (
+      t.0,
+      rw (
+        token_again (codes "[") p m t,
+        attribute_again m n first i,
+        many_again (begins (codes ",")) item.further_attribute list_shorter IsFurtherAttribute further_attribute_again n o others are no_comma,
+        token_again (codes "]") o r u,
+        rest_again r s c v,
+        e,
+        z,
+      ) refl,
+    )
 
 -- the attributes before an item that stand there are read
 pub attributes_again : (p q : Place) (xs : List Attribute) → AreAttributes p q xs → item.attributes p ≡ Ok (xs, q)

@@ -1,5 +1,5 @@
 -- Attributes and strings in lists take characters.
-use Rattle.std.proofs.Common.{◌≡◌, ℕ, ◌<◌, ◌≤◌, List, [], ◌∷◌, ◌++◌, length, Option, Some, None, Ok, codes, arith}
+use Rattle.std.proofs.Common.{◌≡◌, ◌<◌, ◌≤◌, List, [], ◌∷◌, ◌++◌, length, Option, Some, None, Ok, codes, arith}
 use Rattle.just_read.specs.Place.{Place}
 use Rattle.just_read.proofs.Laws.{bind_ok, past_le}
 use Rattle.just_syntax.specs.declared.ast.Name.{Name}
@@ -21,11 +21,11 @@ use Rattle.just_syntax.specs.Attributes.AreAttributes.{line_by_line}
 use Rattle.just_syntax.specs.ItemReaders as item
 use Rattle.just_syntax.specs.Readers as reader
 use Rattle.just_syntax.proofs.Marks.{token_ok, token_lt}
-use Rattle.just_syntax.proofs.LineLaws.{newline_ok, rest_ok, trailing_ok, behind_newline, behind_rest, behind_trailing}
+use Rattle.just_syntax.proofs.LineLaws.{behind_rest, behind_trailing}
 use Rattle.just_syntax.proofs.StringLaws.{string_ok, string_lt}
 use Rattle.just_syntax.proofs.ExprShorter.{name_lt, level_lt, inner_lt}
 use Rattle.just_syntax.proofs.PathLoop.{are_le}
-use Rattle.just_syntax.proofs.AttributeSound.{argument_ok, further_attribute_ok, attribute_line_ok, attributes_ok}
+use Rattle.just_syntax.proofs.AttributeSound.{argument_ok, further_attribute_ok, attribute_line_ok}
 
 -- ---- over what stands there
 
@@ -75,26 +75,21 @@ behind_further_attribute p q x (m, t, i) = omega (arith, token_lt 44 [] p m t, b
 -- behind a line of attributes
 pub behind_attribute_line : (p q : Place) (xs : List Attribute) → IsAttributeLine p q xs → length q.rest < length p.rest
 behind_attribute_line p q xs (in_brackets m n o r s first others c t i are u v e z) =
-    rw e (omega (arith, token_lt 91 [] p m t, behind_attribute m n first i, are_le IsFurtherAttribute behind_further_attribute n o others are, token_lt 93 [] o r u,
-    behind_rest r s c v, past_le is_blank s))
+    rw e (omega (
+      arith,
+      token_lt 91 [] p m t,
+      behind_attribute m n first i,
+      are_le IsFurtherAttribute behind_further_attribute n o others are,
+      token_lt 93 [] o r u,
+      behind_rest r s c v,
+      past_le is_blank s,
+    ))
 
 -- behind the attributes before an item no more is left
 pub behind_attributes : (p q : Place) (xs : List Attribute) → AreAttributes p q xs → length q.rest ≤ length p.rest
 behind_attributes p q xs (line_by_line lines are n z) = are_le IsAttributeLine behind_attribute_line p q lines are
 
 -- ---- over what is read
-
--- the end of a line takes nothing back
-pub newline_le : (p q : Place) (u : Unit {0}) → reader.newline p ≡ Ok (u, q) → length q.rest ≤ length p.rest
-newline_le p q u h = behind_newline p q (newline_ok p q u h)
-
--- nor does what may stand behind an item
-pub rest_le : (p q : Place) (x : Option (List ℕ)) → reader.rest p ≡ Ok (x, q) → length q.rest ≤ length p.rest
-rest_le p q x h = behind_rest p q x (rest_ok p q x h)
-
--- nor a comma that may stand
-pub trailing_le : (p q : Place) (u : Unit {0}) → item.trailing p ≡ Ok (u, q) → length q.rest ≤ length p.rest
-trailing_le p q u h = behind_trailing p q (trailing_ok p q u h)
 
 -- a comma and an argument take a character
 pub further_argument_lt : (form : Form) (earlier : List Argument) (p q : Place) (x : Argument) → item.further_argument form earlier p ≡ Ok (x, q) → length q.rest < length p.rest
@@ -110,10 +105,6 @@ further_attribute_lt p q x h = behind_further_attribute p q x (further_attribute
 -- a line of attributes takes a character
 pub attribute_line_lt : (p q : Place) (xs : List Attribute) → item.attribute_line p ≡ Ok (xs, q) → length q.rest < length p.rest
 attribute_line_lt p q xs h = behind_attribute_line p q xs (attribute_line_ok p q xs h)
-
--- the attributes before an item take nothing back
-pub attributes_le : (p q : Place) (xs : List Attribute) → item.attributes p ≡ Ok (xs, q) → length q.rest ≤ length p.rest
-attributes_le p q xs h = behind_attributes p q xs (attributes_ok p q xs h)
 
 -- a comma and a string take a character
 pub further_string_lt : (p q : Place) (x : StringLiteral) → item.further_string p ≡ Ok (x, q) → length q.rest < length p.rest

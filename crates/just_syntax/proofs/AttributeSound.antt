@@ -102,8 +102,14 @@ number_ok k p q x h =
     ⊎_elim
     (λ (c : _).
     let (t, means, d) = decimal_ok s (text_of s) refl c.0 in
-    record { s = s; digits = t; stands = subst (λ (r : Place). IsString p r s) (ok_place found x m q c.1) (string_ok p m s h1); means = means; decimal = d;
-    is = sym (ok_value found x m q c.1) })
+    record {
+      s = s;
+      digits = t;
+      stands = subst (λ (r : Place). IsString p r s) (ok_place found x m q c.1) (string_ok p m s h1);
+      means = means;
+      decimal = d;
+      is = sym (ok_value found x m q c.1);
+    })
     (λ (c : _). absurd (let no : ⊥ = cc (c.1) in no))
     (choose (item.is_some_decimal (text_of s)) (Ok (found, m)) (Err Syntax) (Ok (x, q)) k1)
 
@@ -180,9 +186,14 @@ further_turn form others are earlier p q xs h =
     let (u, m, h2, k2) = bind_ok (reader.token (codes ",") p) (λ _. item.argument form earlier) x n h1 in
     let (ys, o, h3, k3) = bind_ok (others (earlier ++ x ∷ []) n) (λ ys. pure (x ∷ ys)) xs q k1 in
     let end : o ≡ q = ok_place (x ∷ ys) xs o q k3 in
-    subst (λ (zs : List Argument). AreFurther form earlier p q zs) (ok_value (x ∷ ys) xs o q k3)
-    (m, n, s.0, token_ok (codes ",") p u m h2, argument_ok form earlier m n x k2,
-    subst (λ (r : Place). AreFurther form (earlier ++ x ∷ []) n r ys) end (are (earlier ++ x ∷ []) n o ys h3)))
+    subst (λ (zs : List Argument). AreFurther form earlier p q zs) (ok_value (x ∷ ys) xs o q k3) (
+      m,
+      n,
+      s.0,
+      token_ok (codes ",") p u m h2,
+      argument_ok form earlier m n x k2,
+      subst (λ (r : Place). AreFurther form (earlier ++ x ∷ []) n r ys) end (are (earlier ++ x ∷ []) n o ys h3),
+    ))
     (λ (s : _). subst (λ (zs : List Argument). AreFurther form earlier p q zs) (ok_value [] xs p q s.1) (s.0, sym (ok_place [] xs p q s.1)))
     (choose (goes_on p) (and_then (item.further_argument form earlier p) (λ x n. and_then (others (earlier ++ x ∷ []) n) (λ ys. pure (x ∷ ys)))) (Ok ([], p)) (Ok (xs, q)) h)
 

@@ -55,8 +55,14 @@ module _ (inner : Reader Expr) (Inner : Rule Expr) (again : (p q : Place) (x : E
   value_again p q x (env m n o r key d w t i k u z) =
       let b : begins (codes "env") p ≡ true = word_begins (codes "env") p m w in
       let call : begins (codes "(") (behind_word p) ≡ true = ap (begins (codes "(")) (word_behind (codes "env") p m refl w) ∙ t.0 in
-      rw (no_string 101 (110 ∷ 118 ∷ []) p b refl refl, begins_other 101 40 [] p (begins_first 101 (110 ∷ 118 ∷ []) p b) refl,
-      begins_starts begins_name 101 (110 ∷ 118 ∷ []) p b, call, env_again p m n o r q key d w t i k u, z) refl
+      rw (
+        no_string 101 (110 ∷ 118 ∷ []) p b refl refl,
+        begins_other 101 40 [] p (begins_first 101 (110 ∷ 118 ∷ []) p b) refl,
+        begins_starts begins_name 101 (110 ∷ 118 ∷ []) p b,
+        call,
+        env_again p m n o r q key d w t i k u,
+        z,
+      ) refl
   value_again p q x (variable n s c i z) = rw (s, starts_other begins_name 40 [] p i.0 refl, c, name_again p q n i, z) refl
 
   -- a block that stands there is read
@@ -81,8 +87,13 @@ module _ (inner : Reader Expr) (Inner : Rule Expr) (again : (p q : Place) (x : E
       → IsOtherwise Inner t q chained alternative → reader.conditional inner p ≡ Ok (e.If left c right consequent chained alternative, q)
   unfolding reader.conditional
   conditional_again p m n o r s t q left right consequent alternative c chained i l k g y w a =
-      rw (token_again (codes "if") p m i, condition_again m n o r left right c l k g, block_again r s consequent y, word_again (codes "else") s t w,
-      otherwise_again t q chained alternative a) refl
+      rw (
+        token_again (codes "if") p m i,
+        condition_again m n o r left right c l k g,
+        block_again r s consequent y,
+        word_again (codes "else") s t w,
+        otherwise_again t q chained alternative a,
+      ) refl
 
   -- a slash and an expression that stand there are read
   root_again : (p m q : Place) (y : Expr) → IsToken (codes "/") p m → Inner m q y → reader.root inner p ≡ Ok (e.Root y, q)

@@ -59,8 +59,16 @@ module _ (Inner : Rule Expr) (less : (p q : Place) (x : Expr) → Inner p q x �
   -- an expression takes a character, if those inside it do
   pub level_lt : (p q : Place) (x : Expr) → IsLevel Inner p q x → length q.rest < length p.rest
   level_lt p q x (conditional m n o r s t left right consequent alternative c chained b i l k g y w a z) =
-      omega (arith, token_lt 105 (102 ∷ []) p m i, less m n left l, comparison_lt n o c k, less o r right g, block_lt r s consequent y,
-      word_lt 101 (108 ∷ 115 ∷ 101 ∷ []) s t w, otherwise_lt t q chained alternative a)
+      omega (
+        arith,
+        token_lt 105 (102 ∷ []) p m i,
+        less m n left l,
+        comparison_lt n o c k,
+        less o r right g,
+        block_lt r s consequent y,
+        word_lt 101 (108 ∷ 115 ∷ 101 ∷ []) s t w,
+        otherwise_lt t q chained alternative a,
+      )
   level_lt p q x (root m y t i z) = omega (arith, token_lt 47 [] p m t, less m q y i)
   level_lt p q x (value b v k l) = value_lt p q x v
   level_lt p q x (joined m n a c b v t i z) = omega (arith, value_lt p m a v, token_lt 47 [] m n t, less n q c i)

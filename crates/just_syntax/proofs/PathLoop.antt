@@ -1,16 +1,14 @@
 -- The loop over the names of a path.
-use Rattle.std.proofs.Common.{◌≡◌, ℕ, ◌<◌, ◌≤◌, ◌==◌, Bool, true, false, List, [], ◌∷◌, ◌++◌, length, Some, Ok, Err, codes, refl, sym, ap, ◌∙◌, arith}
-use Rattle.std.proofs.lemmas.Bool.{false≢true}
-use Rattle.just_read.specs.Place.{Place, Rule, AreMany, next, past, first, begins, behind_text}
-use Rattle.just_read.specs.Reader.{Reader, many}
+use Rattle.std.proofs.Common.{◌≡◌, ℕ, ◌<◌, ◌≤◌, ◌==◌, true, false, List, [], ◌∷◌, ◌++◌, length, Some, Ok, Err, codes, refl, ◌∙◌, arith}
+use Rattle.just_read.specs.Place.{Place, Rule, AreMany, next, past, first, begins}
+use Rattle.just_read.specs.Reader.{Reader}
 use Rattle.just_read.specs.declared.error.ReadError.{ReadError}
 use Rattle.just_read.proofs.Laws.{bind_ok}
-use Rattle.just_read.proofs.Laws.{many_ok}
 use Rattle.just_read.proofs.Laws.{past_le, next_shorter, starts_at}
-use Rattle.just_syntax.proofs.Texts.{same, behind_shorter}
+use Rattle.just_syntax.proofs.Texts.{same}
 use Rattle.just_syntax.specs.declared.ast.Name.{Name}
 use Rattle.just_syntax.specs.Characters.{is_blank, in_name}
-use Rattle.just_syntax.specs.Places.{skip, behind_word, IsName}
+use Rattle.just_syntax.specs.Places.{IsName}
 use Rattle.just_syntax.specs.Readers as reader
 use Rattle.just_syntax.proofs.Collect.{to_come, more_is, end_is, wrong_is}
 use Rattle.just_syntax.proofs.Marks.{token_ok, token_lt, name_ok}
@@ -19,38 +17,11 @@ use Rattle.just_syntax.proofs.Marks.{token_ok, token_lt, name_ok}
 pub first_lt : (p : Place) (c : ℕ) → first p ≡ Some c → length (next p).rest < length p.rest
 first_lt p c f = next_shorter (λ d. d == c) p (starts_at (λ d. d == c) p c f ∙ same c)
 
--- a text that comes first takes a character
-pub text_lt : (c : ℕ) (text : List ℕ) (p : Place) → begins (c ∷ text) p ≡ true → length (behind_text (c ∷ text) p).rest < length p.rest
-text_lt c text p h = behind_shorter c text p h
-
 -- behind a chain no more is left, if each of its links takes a character
 pub are_le : {A : Type 0} (Is : Rule A) (less : (p q : Place) (x : A) → Is p q x → length q.rest < length p.rest) (p q : Place) (xs : List A)
     → AreMany Is p q xs → length q.rest ≤ length p.rest
 are_le Is less p q [] e = rw e (omega arith)
 are_le Is less p q (x ∷ xs) (m, i, are) = omega (arith, less p m x i, are_le Is less m q xs are)
-
--- a loop takes nothing back
-pub many_le : {A : Type 0} (more : Place → Bool) (one : Reader A) (shorter : (p q : Place) (x : A) → more p ≡ true → one p ≡ Ok (x, q) → length q.rest < length p.rest)
-    (p q : Place) (xs : List A) → many more one p ≡ Ok (xs, q) → length q.rest ≤ length p.rest
-many_le {A} more one shorter p q xs h =
-    let Is : Rule A = λ a b x. (more a ≡ true) × (one a ≡ Ok (x, b)) in
-    let (are, done) = many_ok more one Is (λ a b x m o. (m, o)) p q xs h in
-    are_le Is (λ a b x i. shorter a b x i.0 i.1) p q xs are
-
--- a loop whose first turn begins takes a character
-turned : {A : Type 0} (more : Place → Bool) (one : Reader A) (shorter : (p q : Place) (x : A) → more p ≡ true → one p ≡ Ok (x, q) → length q.rest < length p.rest)
-    (p q : Place) (xs : List A) → more p ≡ true → AreMany (λ a b x. (more a ≡ true) × (one a ≡ Ok (x, b))) p q xs → more q ≡ false → length q.rest < length p.rest
-turned more one shorter p q [] m e n = absurd (false≢true (sym n ∙ (ap more e ∙ m)))
-turned more one shorter p q (x ∷ xs) m (r, i, are) n =
-    omega (arith, shorter p r x i.0 i.1, are_le (λ a b x. (more a ≡ true) × (one a ≡ Ok (x, b))) (λ a b x i. shorter a b x i.0 i.1) r q xs are)
-
--- and something where it turns once
-pub many_lt : {A : Type 0} (more : Place → Bool) (one : Reader A) (shorter : (p q : Place) (x : A) → more p ≡ true → one p ≡ Ok (x, q) → length q.rest < length p.rest)
-    (p q : Place) (xs : List A) → more p ≡ true → many more one p ≡ Ok (xs, q) → length q.rest < length p.rest
-many_lt {A} more one shorter p q xs m h =
-    let Is : Rule A = λ a b x. (more a ≡ true) × (one a ≡ Ok (x, b)) in
-    let (are, done) = many_ok more one Is (λ a b x m o. (m, o)) p q xs h in
-    turned more one shorter p q xs m are done
 
 -- a name takes nothing back
 pub name_le : (p q : Place) (x : Name) → IsName p q x → length q.rest ≤ length p.rest
@@ -62,10 +33,6 @@ unfolding reader.further_name
 shorter p q x m h =
     let (u, n, t, k) = bind_ok (reader.token (codes "::") p) (λ _. reader.name) x q h in
     omega (arith, token_lt 58 (58 ∷ []) p n (token_ok (codes "::") p u n t), name_le n q x (name_ok n x q k))
-
--- the further names of a path take nothing back
-pub names_le : (p q : Place) (xs : List Name) → many (begins (codes "::")) reader.further_name p ≡ Ok (xs, q) → length q.rest ≤ length p.rest
-names_le p q xs h = many_le (begins (codes "::")) reader.further_name shorter p q xs h
 
 -- the names that were found, and those to come
 unfoldable pub names_to_come : List Name → Reader (List Name)

@@ -46,8 +46,16 @@ behind_subsequents p q xs (some_subsequents m t b i) = omega (arith, token_lt 38
 -- behind a recipe line less is left
 pub behind_recipe_line : (attributes : List Attribute) (p q : Place) (x : AstRecipe) → IsRecipeLine attributes p q x → length q.rest < length p.rest
 behind_recipe_line attributes p q x (line m n o r s t quiet name ps a b c k i j u d g l z) =
-    omega (arith, behind_maybe (codes "@") p m quiet k, name_lt m n name i, behind_parameters n o ps j, token_lt 58 [] o r u, behind_dependencies r s a d,
-    behind_subsequents s t b g, behind_rest t q c l)
+    omega (
+      arith,
+      behind_maybe (codes "@") p m quiet k,
+      name_lt m n name i,
+      behind_parameters n o ps j,
+      token_lt 58 [] o r u,
+      behind_dependencies r s a d,
+      behind_subsequents s t b g,
+      behind_rest t q c l,
+    )
 
 -- a recipe line takes a character
 pub recipe_line_lt : (attributes : List Attribute) (p q : Place) (x : AstRecipe) → item.recipe_line attributes p ≡ Ok (x, q) → length q.rest < length p.rest

@@ -1,8 +1,7 @@
 -- Parameters, dependencies and fragments take characters.
-use Rattle.std.proofs.Common.{◌≡◌, ℕ, ◌<◌, ◌≤◌, Bool, true, false, List, [], ◌∷◌, length, Option, Ok, codes, sym, ap, ◌∙◌, subst, arith}
+use Rattle.std.proofs.Common.{◌≡◌, ℕ, ◌<◌, ◌≤◌, true, false, List, [], ◌∷◌, length, Option, Ok, codes, sym, ap, ◌∙◌, arith}
 use Rattle.std.proofs.lemmas.Bool.{false≢true}
 use Rattle.just_read.specs.Place.{Place, AreMany}
-use Rattle.just_syntax.specs.declared.ast.Name.{Name}
 use Rattle.just_syntax.specs.declared.ast.Expr.{Expr}
 use Rattle.just_syntax.specs.declared.ast.ParameterKind.{ParameterKind}
 use Rattle.just_syntax.specs.declared.ast.AstParameter.{AstParameter}
@@ -17,10 +16,9 @@ use Rattle.just_syntax.specs.Bodies.{is_text, IsLetter, IsFragment}
 use Rattle.just_syntax.specs.Bodies.IsLetter.{braces, itself}
 use Rattle.just_syntax.specs.Bodies.IsFragment.{text, value}
 use Rattle.just_syntax.specs.ItemReaders as item
-use Rattle.just_syntax.specs.Readers as reader
 use Rattle.just_syntax.proofs.Texts.{behind_le, behind_shorter}
 use Rattle.just_syntax.proofs.Marks.{token_lt}
-use Rattle.just_syntax.proofs.LineLaws.{maybe_ok, path_ok, behind_maybe, behind_path}
+use Rattle.just_syntax.proofs.LineLaws.{behind_maybe, behind_path}
 use Rattle.just_syntax.proofs.ExprComplete.{expr_ok}
 use Rattle.just_syntax.proofs.ExprShorter.{name_lt, level_lt, value_lt, inner_lt}
 use Rattle.just_syntax.proofs.PathLoop.{first_lt, are_le}
@@ -69,14 +67,6 @@ behind_fragment p q x (text letters t are n z) = behind_letters p q letters t ar
 behind_fragment p q x (value m n y o t i b e z) = rw e (omega (arith, token_lt 123 (123 ∷ []) p m t, behind_expr m n y i, behind_le (codes "}}") n))
 
 -- ---- over what is read
-
--- a mark that may stand takes nothing back
-pub maybe_le : (c : ℕ) (mark : List ℕ) (p q : Place) (b : Bool) → reader.maybe (c ∷ mark) p ≡ Ok (b, q) → length q.rest ≤ length p.rest
-maybe_le c mark p q b h = behind_maybe (c ∷ mark) p q b (maybe_ok (c ∷ mark) p q b h)
-
--- a path takes a character
-pub path_lt : (p q : Place) (xs : List Name) → reader.path p ≡ Ok (xs, q) → length q.rest < length p.rest
-path_lt p q xs h = behind_path p q xs (path_ok p q xs h)
 
 -- an expression takes a character
 pub expr_shorter : (p q : Place) (x : Expr) → item.expr p ≡ Ok (x, q) → length q.rest < length p.rest

@@ -111,7 +111,7 @@ quoted_ok p m q x None e w h = absurd (let no : ⊥ = cc (h) in no)
 quoted_ok p m q x (Some quote) e w h =
     let (raw, n, r, k) = bind_ok (reader.raw_text quote (behind_text (mark quote) m)) (λ raw n. Ok (literal_at p quote raw, skip n)) x q h in
     let is : IsRaw quote (behind_text (mark quote) (behind_x p)) n raw =
-        subst (λ (l : Place). IsRaw quote (behind_text (mark quote) l) n raw) w (raw_ok quote (behind_text (mark quote) m) n raw r) in
+    subst (λ (l : Place). IsRaw quote (behind_text (mark quote) l) n raw) w (raw_ok quote (behind_text (mark quote) m) n raw r) in
     string n quote raw (ap quote_at (sym w) ∙ e) is (sym (ok_place (literal_at p quote raw) x (skip n) q k)) (sym (ok_value (literal_at p quote raw) x (skip n) q k))
 
 -- a string that is read stands there
@@ -175,8 +175,13 @@ x_le false p = omega arith
 -- a string takes a character
 pub string_lt : (p q : Place) (x : StringLiteral) → IsString p q x → length q.rest < length p.rest
 string_lt p q x (string m quote raw o r e z) =
-    rw e (omega (arith, past_le is_blank m, raw_le quote (behind_text (mark quote) (behind_x p)) m raw r,
-    mark_lt quote (behind_x p) (quote_begins (behind_x p) quote o), x_le (sees 120 p) p))
+    rw e (omega (
+      arith,
+      past_le is_blank m,
+      raw_le quote (behind_text (mark quote) (behind_x p)) m raw r,
+      mark_lt quote (behind_x p) (quote_begins (behind_x p) quote o),
+      x_le (sees 120 p) p,
+    ))
 
 -- where a string stands one begins
 pub string_begins : (p q : Place) (x : StringLiteral) → IsString p q x → begins_string p ≡ true

@@ -40,6 +40,7 @@ not_first t d text (x ∷ rest) h n = other_test t x d (begins_in text rest) h n
     split : (b : Bool) (t : ℕ → Bool) (x d : ℕ) (more : Bool) → (x == d) ≡ b → t x ≡ true → t d ≡ false → (b && more) ≡ false
     split true t x d more e h n = let k : x ≡ d = grind (arith) in absurd (false≢true (sym n ∙ ap t (sym k) ∙ h))
     split false t x d more e h n = refl
+
     -- characters of which a test says different things are different
     other_test : (t : ℕ → Bool) (x d : ℕ) (more : Bool) → t x ≡ true → t d ≡ false → ((x == d) && more) ≡ false
     other_test t x d more h n = split (x == d) t x d more refl h n

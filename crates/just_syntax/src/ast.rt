@@ -44,7 +44,10 @@ pub enum AstItem {
         comment: Option<Text>,
     },
     /// `unexport NAME`
-    Unexport { name: Name, comment: Option<Text> },
+    Unexport {
+        name: Name,
+        comment: Option<Text>,
+    },
     /// `set NAME`, or `set NAME := VALUE`
     Setting {
         name: Name,

@@ -178,11 +178,7 @@ pub fn trailing(cursor: &mut Cursor<'_>) -> Result<(), ReadError>
 
 /// The arguments of an attribute in parentheses.
 #[tactic(auto, unfolding(crate::specs::ItemReaders::arguments))]
-fn arguments(
-    alloc: Global,
-    cursor: &mut Cursor<'_>,
-    form: Form,
-) -> Result<Seq<Argument>, ReadError>
+fn arguments(alloc: Global, cursor: &mut Cursor<'_>, form: Form) -> Result<Seq<Argument>, ReadError>
     ensures { Reads (read.arguments form cursor.old) result cursor.new }
 {
     token(cursor, b"(")?;
@@ -273,11 +269,7 @@ fn first_text(
 
 /// An expression as the argument with that key.
 #[tactic(auto, unfolding(crate::specs::ItemReaders::plain))]
-fn plain(
-    alloc: Global,
-    cursor: &mut Cursor<'_>,
-    key: Option<Name>,
-) -> Result<Argument, ReadError>
+fn plain(alloc: Global, cursor: &mut Cursor<'_>, key: Option<Name>) -> Result<Argument, ReadError>
     ensures { Reads (read.plain key cursor.old) result cursor.new }
 {
     let line = cursor.line();

@@ -8,7 +8,6 @@ use super::class::{NameStart, QuoteMark};
 use super::string::{begins_string, string};
 use super::token::{behind_word, is_word, name, token, word};
 use super::{Comparison, Expr};
-
 use just_read::{Boxed, Cursor, ReadError};
 use std::alloc::{AllocFailed, Global};
 
@@ -136,11 +135,7 @@ fn block(alloc: Global, cursor: &mut Cursor<'_>, left: usize) -> Result<Expr, Re
 /// What stands behind `else`: a further `if`, or a block.
 #[cycle(expr)]
 #[tactic(auto, unfolding(crate::specs::Readers::otherwise))]
-fn otherwise(
-    alloc: Global,
-    cursor: &mut Cursor<'_>,
-    left: usize,
-) -> Result<(bool, Expr), ReadError>
+fn otherwise(alloc: Global, cursor: &mut Cursor<'_>, left: usize) -> Result<(bool, Expr), ReadError>
     ensures { Reads (read.otherwise (read.inner left) cursor.old) result cursor.new }
 {
     if begins_condition(cursor) {
@@ -228,11 +223,7 @@ fn env(alloc: Global, cursor: &mut Cursor<'_>, left: usize) -> Result<Expr, Read
 /// What stands behind the comma of `env`, if there is one.
 #[cycle(expr)]
 #[tactic(auto, unfolding(crate::specs::Readers::default))]
-fn default(
-    alloc: Global,
-    cursor: &mut Cursor<'_>,
-    left: usize,
-) -> Result<Option<Expr>, ReadError>
+fn default(alloc: Global, cursor: &mut Cursor<'_>, left: usize) -> Result<Option<Expr>, ReadError>
     ensures { Reads (read.default (read.inner left) cursor.old) result cursor.new }
 {
     if !cursor.begins(b",") {
@@ -269,12 +260,7 @@ fn join_env(
 /// What follows the first value of an expression.
 #[cycle(expr)]
 #[tactic(auto, unfolding(crate::specs::Readers::tail))]
-fn tail(
-    alloc: Global,
-    cursor: &mut Cursor<'_>,
-    left: usize,
-    first: Expr,
-) -> Result<Expr, ReadError>
+fn tail(alloc: Global, cursor: &mut Cursor<'_>, left: usize, first: Expr) -> Result<Expr, ReadError>
     ensures { Reads (read.tail (read.inner left) first cursor.old) result cursor.new }
 {
     if cursor.begins(b"/") {

@@ -158,7 +158,11 @@ pub fn sort_of(name: &str) -> Sort
     ensures { result ≡ sort_of name.now }
 {
     match name {
-        "dotenv-command" | "dotenv-filename" | "dotenv-path" | "indentation" | "tempdir"
+        "dotenv-command"
+        | "dotenv-filename"
+        | "dotenv-path"
+        | "indentation"
+        | "tempdir"
         | "working-directory" => Sort::Text,
         "shell" | "script-interpreter" | "windows-shell" => Sort::List,
         _ => {

@@ -142,8 +142,7 @@ fn line_length(text: &[char]) -> usize
 fn is_blank(line: &[char]) -> bool
     ensures { result ≡ is_blank_text line.now }
 {
-    line.iter()
-        .all(|c| matches!(*c, ' ' | '\t' | '\r' | '\n'))
+    line.iter().all(|c| matches!(*c, ' ' | '\t' | '\r' | '\n'))
 }
 
 /// The longest front of blanks that all lines share which aren't blank.

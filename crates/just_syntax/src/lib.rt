@@ -9,17 +9,17 @@ mod entry;
 mod error;
 mod expr;
 mod form;
+mod indentation;
 mod item;
 mod left_out;
 mod recipe;
 mod string;
 mod token;
-mod indentation;
 mod whole;
 
 pub use ast::{
-    Argument, Ast, AstDependency, AstItem, AstParameter, AstRecipe, Attribute, Comparison, Expr, Fragment, Line, Name,
-    ParameterKind, Quote, SettingValue, StringLiteral,
+    Argument, Ast, AstDependency, AstItem, AstParameter, AstRecipe, Attribute, Comparison, Expr,
+    Fragment, Line, Name, ParameterKind, Quote, SettingValue, StringLiteral,
 };
 pub use error::{Fault, FaultKind, ParseError};
 pub use indentation::unindent;

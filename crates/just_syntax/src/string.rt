@@ -9,8 +9,8 @@ ghost use Rattle.just_syntax.specs.Meanings.{cooked_text, text_of, TellsText};
 ghost use Rattle.just_syntax.specs.Readers as read;
 
 use super::class::QuoteMark;
-use super::token::skip;
 use super::indentation::{characters, text_of, unindented};
+use super::token::skip;
 use super::{Quote, StringLiteral};
 use just_path::Text;
 use just_read::{Cursor, ReadError};

@@ -7,8 +7,8 @@ ghost use Rattle.just_syntax.specs.Places.{skip, is_word, behind_word, ends_line
 ghost use Rattle.just_syntax.specs.Readers as read;
 
 use super::Name;
-use super::indentation::text_of;
 use super::class::{Blank, InLine, InName, NameStart};
+use super::indentation::text_of;
 use just_path::{Seq, Text};
 use just_read::{Cursor, ReadError};
 use std::alloc::{AllocError, Global};

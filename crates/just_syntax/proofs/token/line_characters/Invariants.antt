@@ -7,7 +7,7 @@ use Rattle.just_syntax.proofs.token.line_characters.Given as goal
 abbrev pub invariant-characters : goal.invariant-characters
 invariant-characters l = record {
   place : past in_line l.cursor ≡ past in_line l.initial.cursor;
-  characters : l.found.items ++ run in_line l.cursor.rest ≡ run in_line l.initial.cursor.rest
+  characters : l.found.items ++ run in_line l.cursor.rest ≡ run in_line l.initial.cursor.rest;
 }
 
 abbrev pub decreases-characters : goal.decreases-characters
