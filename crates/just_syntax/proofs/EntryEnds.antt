@@ -1,12 +1,13 @@
 -- Entries end where lines do: the next line begins there in the first column, or the text ends.
-use Rattle.std.proofs.Common.{◌≡◌, ℕ, ◌==◌, Bool, true, false, ◌⊎◌, inl, inr, List, [], ◌∷◌, Option, refl, sym, ap, ◌∙◌, subst, ⊎_elim}
+use Rattle.std.proofs.Common.{◌≡◌, ℕ, ◌==◌, true, ◌⊎◌, inl, inr, List, [], ◌∷◌, Option, refl, sym, ap, ◌∙◌, subst, ⊎_elim}
 use Rattle.std.proofs.lemmas.Bool.{false≢true}
 use Rattle.just_read.specs.Place.{Place, start, next, next_in, passes, first_in, sees, is_end}
 use Rattle.just_syntax.specs.declared.entry.Entry.{Entry}
 use Rattle.just_syntax.specs.declared.entry.Body.{Body}
 use Rattle.just_syntax.specs.declared.entry.Body.TheVariants as body
-use Rattle.just_syntax.specs.Places.{IsNewline, IsRest}
-use Rattle.just_syntax.specs.Places.IsNewline.{last, feed, return_feed}
+use Rattle.just_read.specs.Lines.{IsNewline}
+use Rattle.just_syntax.specs.Places.{IsRest}
+use Rattle.just_read.specs.Lines.IsNewline.{last, feed, return_feed}
 use Rattle.just_syntax.specs.Places.IsRest.{ended, commented}
 use Rattle.just_syntax.specs.Recipes.IsRecipeLine.{line as recipe_line}
 use Rattle.just_syntax.specs.Bodies.IsBodyLine.{line as line_of_body}
@@ -14,7 +15,7 @@ use Rattle.just_syntax.specs.Items.{IsItem}
 use Rattle.just_syntax.specs.Items.IsItem.{comment as comment_item, alias as alias_item, import as import_item, module_alone, assignment as assignment_item, export as export_item, unexport as unexport_item, setting_item, attributed_module, recipe as recipe_item}
 use Rattle.just_syntax.specs.File.{IsEntry, AreEntries, Stops}
 use Rattle.just_syntax.specs.File.IsEntry.{blank, body_line, further}
-use Rattle.just_syntax.proofs.Texts.{begins_starts}
+use Rattle.just_read.proofs.Laws.{begins_starts}
 use Rattle.just_syntax.proofs.Beginnings.{begins_next}
 
 -- the place is in the first column, or the text ends there
