@@ -1,11 +1,11 @@
 -- What the first characters of strings and words exclude.
-use Rattle.std.proofs.Common.{◌≡◌, ℕ, ◌==◌, Bool, true, false, not, ◌&&◌, if◌then◌else◌, List, [], ◌∷◌, Some, refl, sym, ap, ◌∙◌, subst}
+use Rattle.std.proofs.Common.{◌≡◌, ℕ, ◌==◌, Bool, true, false, not, ◌&&◌, if◌then◌else◌, List, [], ◌∷◌, refl, sym, ap, ◌∙◌, subst}
 use Rattle.std.proofs.lemmas.Bool.{false≢true}
-use Rattle.just_read.specs.Place.{Place, next, past, first, starts, sees, begins, begins_in, behind_text}
-use Rattle.just_read.proofs.Laws.{starts_at, past_next, past_stays, first_is, sees_first}
-use Rattle.just_read.specs.Characters.{begins_name, in_name, is_quote}
-use Rattle.just_read.specs.Lines.{skip, is_word, behind_word, IsWord}
-use Rattle.just_read.specs.Quotes.{behind_x, begins_string}
+use Rattle.just_read.specs.Place.{Place, next, past, starts, sees, begins, begins_in, behind_text}
+use Rattle.just_read.proofs.Laws.{past_next, past_stays, first_is, sees_first}
+use Rattle.just_read.specs.Characters.{in_name, is_quote}
+use Rattle.just_read.specs.Lines.{skip, behind_word, IsWord}
+use Rattle.just_read.specs.Quotes.{begins_string}
 use Rattle.just_read.proofs.Laws.{and_true, begins_first, begins_starts, begins_other, starts_other}
 
 -- what isn't so is false

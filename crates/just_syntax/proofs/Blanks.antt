@@ -1,6 +1,5 @@
 -- The blanks in front of a line, as a loop collects them.
-use Rattle.std.proofs.Common.{◌≡◌, ℕ, ◌==◌, Bool, true, false, ◌||◌, List, [], ◌∷◌, ◌++◌, Some, append-nil, append_assoc, refl, sym, ap, ◌∙◌, subst, arith}
-use Rattle.std.proofs.lemmas.Bool.{false≢true}
+use Rattle.std.proofs.Common.{◌≡◌, ℕ, ◌==◌, true, false, List, [], ◌∷◌, ◌++◌, Some, append-nil, append_assoc, sym, ap, ◌∙◌, arith}
 use Rattle.just_read.specs.Place.{Place, next, run, first, starts, sees}
 use Rattle.just_read.proofs.Laws.{starts_with, starts_at, run_next, run_none, sees_first}
 use Rattle.just_read.specs.Characters.{is_blank}

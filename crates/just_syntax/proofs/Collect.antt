@@ -1,5 +1,5 @@
 -- A loop that collects what a reader gives: what is still to come, behind what was found.
-use Rattle.std.proofs.Common.{◌≡◌, ℕ, ◌<◌, Bool, true, false, List, [], ◌∷◌, ◌++◌, length, Ok, Err, append-nil, append_assoc, refl, ap, ◌∙◌}
+use Rattle.std.proofs.Common.{◌≡◌, ◌<◌, Bool, true, false, List, [], ◌∷◌, ◌++◌, length, Ok, Err, append-nil, append_assoc, refl, ap, ◌∙◌}
 use Rattle.just_read.specs.Place.{Place}
 use Rattle.just_read.specs.Reader.{Outcome, Reader, and_then, pure, many}
 use Rattle.just_read.specs.declared.error.ReadError.{ReadError}

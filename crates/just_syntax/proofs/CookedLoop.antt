@@ -1,5 +1,5 @@
 -- The loop over the pieces of a text with escapes.
-use Rattle.std.proofs.Common.{◌≡◌, ℕ, ◌<◌, true, false, not, List, [], ◌∷◌, ◌++◌, length, Option, Some, None, Ok, Err, encode_utf8, encode_utf8_all, append-nil, append_assoc, refl, sym, ap, ◌∙◌}
+use Rattle.std.proofs.Common.{◌≡◌, ℕ, ◌<◌, true, false, not, List, [], ◌∷◌, ◌++◌, length, Some, None, Ok, Err, encode_utf8, encode_utf8_all, append-nil, append_assoc, refl, ap, ◌∙◌}
 use Rattle.just_read.specs.Place.{Place, is_end}
 use Rattle.just_read.specs.Reader.{Outcome, and_then, pure, many}
 use Rattle.just_read.specs.declared.error.ReadError.{ReadError}

@@ -1,14 +1,13 @@
 -- Expressions: what the code reads is what the grammar says.
-use Rattle.std.proofs.Common.{◌≡◌, ℕ, zero, suc, Bool, true, false, if◌then◌else◌, List, Option, Some, None, Ok, Err, codes, refl, sym, ap, ◌∙◌, subst, ⊎_elim}
+use Rattle.std.proofs.Common.{◌≡◌, ℕ, zero, suc, Bool, true, false, if◌then◌else◌, Option, Some, None, Ok, codes, sym, ap, ◌∙◌, subst, ⊎_elim}
 use Rattle.just_read.specs.Place.{Place, Rule, begins}
-use Rattle.just_read.specs.Reader.{Reader, and_then, ◌>>=◌, pure}
+use Rattle.just_read.specs.Reader.{Reader, and_then, pure}
 use Rattle.just_read.proofs.Laws.{bind_ok, choose, ok_value, ok_place}
-use Rattle.just_syntax.specs.declared.ast.Name.{Name}
 use Rattle.just_syntax.specs.declared.ast.Comparison.{Comparison}
 use Rattle.just_syntax.specs.declared.ast.Comparison.TheVariants.{Equal, Unequal}
 use Rattle.just_syntax.specs.declared.ast.Expr.{Expr}
 use Rattle.just_syntax.specs.declared.ast.Expr.TheVariants as e
-use Rattle.just_read.specs.Lines.{skip, IsToken, IsWord}
+use Rattle.just_read.specs.Lines.{IsToken}
 use Rattle.just_syntax.specs.Places.{IsName}
 use Rattle.just_read.specs.Quotes.{begins_string}
 use Rattle.just_syntax.specs.Strings.{IsString}

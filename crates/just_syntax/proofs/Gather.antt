@@ -1,5 +1,5 @@
 -- Entries gathered into items, from the last one on.
-use Rattle.std.proofs.Common.{◌≡◌, ℕ, List, [], ◌∷◌, ◌++◌, reverse, append-nil, append_assoc, refl, sym, ap, ◌∙◌}
+use Rattle.std.proofs.Common.{◌≡◌, ℕ, List, [], ◌∷◌, ◌++◌, reverse, refl, sym, ap, ◌∙◌}
 use Rattle.std.proofs.lemmas.List.{reverse-append}
 use Rattle.just_syntax.specs.declared.ast.Line.{Line}
 use Rattle.just_syntax.specs.declared.ast.AstItem.{AstItem}
@@ -35,14 +35,6 @@ gather_end lines items = refl
 -- the last one comes first in a list that is turned round
 pub reverse_last : {A : Type 0} (xs : List A) (x : A) → reverse (xs ++ x ∷ []) ≡ x ∷ reverse xs
 reverse_last xs x = reverse-append xs (x ∷ [])
-
--- one item is taken from the end and added to what was found
-pub turned_more : {A : Type 0} (found front : List A) (x : A) → (found ++ x ∷ []) ++ reverse front ≡ found ++ reverse (front ++ x ∷ [])
-turned_more {A} found front x = append_assoc found (x ∷ []) (reverse front) ∙ ap (λ (r : List A). found ++ r) (sym (reverse_last front x))
-
--- nothing is left to be turned round
-pub turned_end : {A : Type 0} (found : List A) → found ++ reverse [] ≡ found
-turned_end found = append-nil found
 
 -- ---- blank lines
 

@@ -1,5 +1,5 @@
 -- What the crate offers to the proofs of crates above: a text has one tree at most, and one refusal.
-use Rattle.std.proofs.Common.{◌≡◌, ◌↔◌, ℕ, List, None}
+use Rattle.std.proofs.Common.{◌≡◌, ◌↔◌, ◌∙◌, ℕ, List, None}
 use Rattle.just_read.specs.Place.{Place}
 use Rattle.just_syntax.specs.declared.ast.AstItem.{AstItem}
 use Rattle.just_syntax.specs.declared.entry.Body.{Body}
@@ -8,6 +8,7 @@ use Rattle.just_syntax.specs.declared.error.Fault.{Fault}
 use Rattle.just_syntax.specs.declared.error.ParseError.TheVariants as error
 use Rattle.just_syntax.specs.File.{IsFile, first_left_out}
 use Rattle.just_syntax.specs.Faults.{IsFaultAt, Refuses}
+use Rattle.just_syntax.proofs.EntryEnds as ends
 use Rattle.just_syntax.proofs.FileLaws as file
 use Rattle.just_syntax.proofs.FileFaults as faults
 
@@ -31,3 +32,7 @@ one_refusal = faults.same_refusal
 -- a text that has a tree without a left-out name isn't refused
 pub found_or_refused : (text : List ℕ) (xs : List AstItem) (f : Fault) → IsFile text xs → first_left_out xs ≡ None → Refuses text (error.Fault f) → ⊥
 found_or_refused = faults.not_refused
+
+-- a fault where a text stops is in the first column of its line
+pub fault_column : (text : List ℕ) (f : Fault) (p : Place) (b : Body) → IsFaultAt text f p b → f.column ≡ 1
+fault_column text f p b at = at.column ∙ ends.stop_column text p b at.stops

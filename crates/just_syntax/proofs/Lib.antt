@@ -30,6 +30,7 @@ pub mod ItemSound
 pub mod ItemComplete
 pub mod ItemShorter
 pub mod EntryLaws
+pub mod EntryEnds
 pub mod FileLaws
 pub mod Gather
 pub mod DeepChains

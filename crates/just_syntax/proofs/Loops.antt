@@ -1,24 +1,16 @@
 -- The loops over parameters, dependencies, their values and fragments.
-use Rattle.std.proofs.Common.{◌≡◌, ℕ, ◌<◌, ◌≤◌, Bool, true, false, not, ◌&&◌, ◌||◌, if◌then◌else◌, List, [], ◌∷◌, ◌++◌, length, Option, Some, None, Ok, Err, codes, encode_utf8_all, refl, sym, ap, ◌∙◌, subst, ⊎_elim, arith}
-use Rattle.just_read.specs.Place.{Place, starts, begins, behind_text, first, next}
+use Rattle.std.proofs.Common.{◌≡◌, ◌<◌, true, false, List, [], ◌∷◌, ◌++◌, length, Ok, Err, refl}
+use Rattle.just_read.specs.Place.{Place}
 use Rattle.just_read.specs.Reader.{Outcome, Reader, and_then, pure, many}
 use Rattle.just_read.specs.declared.error.ReadError.{ReadError}
-use Rattle.just_read.specs.declared.error.ReadError.TheVariants.{Syntax}
-use Rattle.just_read.proofs.Laws.{bind_ok, choose, ok_value, ok_place}
-use Rattle.just_syntax.specs.declared.ast.Name.{Name}
 use Rattle.just_syntax.specs.declared.ast.Expr.{Expr}
-use Rattle.just_syntax.specs.declared.ast.ParameterKind.{ParameterKind}
 use Rattle.just_syntax.specs.declared.ast.ParameterKind.TheVariants.{Singular}
 use Rattle.just_syntax.specs.declared.ast.AstParameter.{AstParameter}
 use Rattle.just_syntax.specs.declared.ast.AstDependency.{AstDependency}
 use Rattle.just_syntax.specs.declared.ast.Fragment.{Fragment}
-use Rattle.just_syntax.specs.declared.ast.Fragment.TheVariants as fragment
-use Rattle.just_syntax.specs.Exprs.{IsInner}
 use Rattle.just_syntax.specs.Recipes.{begins_parameter, begins_dependency}
 use Rattle.just_syntax.specs.ItemReaders as item
-use Rattle.just_syntax.specs.Readers as reader
 use Rattle.just_syntax.proofs.Collect.{to_come, more_is, end_is, wrong_is}
-use Rattle.just_syntax.proofs.Marks.{token_ok, token_lt, name_ok}
 use Rattle.just_syntax.proofs.Shorter.{expr_shorter, parameter_lt, dependency_lt, fragment_lt}
 
 -- where nothing was found, all is still to come

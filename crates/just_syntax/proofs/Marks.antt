@@ -1,16 +1,16 @@
 -- Marks, words and names: what the code reads is what the grammar says, and it takes characters.
-use Rattle.std.proofs.Common.{◌≡◌, ℕ, ◌<◌, ◌≤◌, Bool, true, false, not, ◌&&◌, if◌then◌else◌, List, [], ◌∷◌, length, Ok, Err, codes, refl, sym, ap, ◌∙◌, ⊎_elim, arith}
-use Rattle.just_read.specs.Place.{Place, past, starts, begins, behind_text}
+use Rattle.std.proofs.Common.{◌≡◌, ℕ, ◌<◌, not, List, ◌∷◌, length, Ok, Err, refl, sym, ⊎_elim, arith}
+use Rattle.just_read.specs.Place.{Place, starts, begins, behind_text}
 use Rattle.just_read.specs.declared.error.ReadError.TheVariants.{Syntax}
-use Rattle.just_read.proofs.Laws.{bind_ok, choose, ok_value, ok_place}
-use Rattle.just_read.proofs.Laws.{past_le, next_shorter}
+use Rattle.just_read.proofs.Laws.{choose, ok_value, ok_place}
+use Rattle.just_read.proofs.Laws.{past_le}
 use Rattle.just_syntax.specs.declared.ast.Name.{Name}
 use Rattle.just_read.specs.Characters.{is_blank, begins_name, in_name}
 use Rattle.just_read.specs.Lines.{skip, is_word, behind_word, IsToken, IsWord}
-use Rattle.just_syntax.specs.Places.{name_at, IsName, IsFurtherName}
+use Rattle.just_syntax.specs.Places.{name_at, IsName}
 use Rattle.just_syntax.specs.Readers as reader
 use Rattle.just_read.specs.Tokens as tokens
-use Rattle.just_read.proofs.Laws.{and_true, behind_le, behind_shorter}
+use Rattle.just_read.proofs.Laws.{and_true, behind_shorter}
 
 -- a mark that is read stands there
 pub token_ok : (mark : List ℕ) (p : Place) (u : Unit {0}) (q : Place) → tokens.token mark p ≡ Ok (u, q) → IsToken mark p q

@@ -1,12 +1,11 @@
 -- Strings: what the code reads is what the grammar says, and nothing else.
 use lib.Utf8.{scalar}
 use Rattle.std.proofs.Common.{◌≡◌, ℕ, ◌<◌, ◌≤◌, ◌==◌, nat_le, Bool, true, false, not, ◌&&◌, if◌then◌else◌, List, [], ◌∷◌, length, Option, Some, None, Ok, Err, encode_utf8_all, refl, sym, ap, ◌∙◌, subst, ⊎_elim, arith}
-use Rattle.std.proofs.lemmas.Bool.{false≢true}
-use Rattle.just_read.specs.Place.{Place, AreMany, IsCharacter, next, past, run, first, starts, sees, begins, behind_text, between, is_end}
-use Rattle.just_read.specs.Reader.{Outcome, and_then, pure, expect, many}
+use Rattle.just_read.specs.Place.{Place, AreMany, next, past, run, starts, sees, begins, behind_text, between, is_end}
+use Rattle.just_read.specs.Reader.{pure}
 use Rattle.just_read.specs.declared.error.ReadError.TheVariants.{Syntax}
-use Rattle.just_read.proofs.Laws.{bind_ok, choose, ok_value, ok_place, expect_ok, expect_again}
-use Rattle.just_read.proofs.Laws.{starts_at, past_le, character_shorter, sees_first}
+use Rattle.just_read.proofs.Laws.{bind_ok, choose, ok_value, ok_place, expect_again}
+use Rattle.just_read.proofs.Laws.{past_le, sees_first}
 use Rattle.just_read.proofs.Laws.{many_ok, many_again}
 use Rattle.just_read.specs.declared.quote.Quote.{Quote}
 use Rattle.just_read.specs.declared.quote.Quote.TheVariants.{Single, Double, SingleBlock, DoubleBlock}
@@ -21,7 +20,7 @@ use Rattle.just_syntax.specs.Strings.IsRaw.{closed}
 use Rattle.just_syntax.specs.Strings.IsString.{string}
 use Rattle.just_syntax.specs.Readers as reader
 use Rattle.just_read.specs.Tokens as tokens
-use Rattle.just_read.proofs.Laws.{and_true, begins_starts, behind_shorter, behind_le, next_le}
+use Rattle.just_read.proofs.Laws.{begins_starts, behind_shorter, behind_le, next_le}
 use Rattle.just_read.proofs.Laws.{is_of, piece_ok, piece_lt}
 use Rattle.just_read.proofs.Laws.{pieces_shorter as shorter}
 

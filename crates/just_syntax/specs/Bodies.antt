@@ -1,5 +1,5 @@
 -- Lines of bodies.
-use Rattle.std.specs.Prelude.{◌≡◌, ℕ, Bool, true, false, not, ◌&&◌, List, [], ◌∷◌, ◌++◌, Option, Some, codes, encode_utf8_all}
+use Rattle.std.specs.Prelude.{◌≡◌, ℕ, Bool, true, false, not, ◌&&◌, List, [], ◌∷◌, Some, codes, encode_utf8_all}
 use Rattle.just_read.specs.Place.{Place, AreMany, next, first, begins, behind_text}
 use Rattle.just_syntax.specs.declared.ast.Expr.{Expr}
 use Rattle.just_syntax.specs.declared.ast.Fragment.{Fragment}

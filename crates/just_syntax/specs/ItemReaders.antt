@@ -1,8 +1,8 @@
 -- What the code reads from a place on, step by step: attributes, recipes, bodies and items. That this is what the grammar
 -- says is proved in proofs/.
-use Rattle.std.specs.Prelude.{◌≡◌, ℕ, zero, suc, Bool, true, false, not, ◌&&◌, ◌||◌, ◌==◌, if◌then◌else◌, List, [], ◌∷◌, ◌++◌, length, Option, Some, None, Result, Ok, Err, chars, codes, encode_utf8_all}
-use Rattle.just_read.specs.Place.{Place, start, next, run, first, starts, sees, begins, behind_text, is_end}
-use Rattle.just_read.specs.Reader.{Outcome, Reader, and_then, ◌>>=◌, ◌>>◌, pure, refuse, many}
+use Rattle.std.specs.Prelude.{ℕ, zero, suc, Bool, true, false, not, if◌then◌else◌, List, [], ◌∷◌, ◌++◌, length, Option, Some, None, Ok, Err, codes, encode_utf8_all}
+use Rattle.just_read.specs.Place.{Place, next, first, begins, behind_text}
+use Rattle.just_read.specs.Reader.{Reader, and_then, ◌>>=◌, ◌>>◌, pure, refuse, many}
 use Rattle.just_read.specs.declared.error.ReadError.TheVariants.{Syntax}
 use Rattle.just_syntax.specs.declared.ast.Name.{Name}
 use Rattle.just_syntax.specs.declared.ast.StringLiteral.{StringLiteral}
@@ -34,8 +34,7 @@ use Rattle.just_syntax.specs.declared.form.Sort.{Sort}
 use Rattle.just_syntax.specs.declared.form.Sort.TheVariants as sort
 use Rattle.just_syntax.specs.declared.item.Opening.{Opening}
 use Rattle.just_syntax.specs.declared.item.Opening.TheVariants as opening
-use Rattle.just_read.specs.Characters.{begins_name}
-use Rattle.just_read.specs.Lines.{skip, is_word, behind_word, ends_line, is_blank_line}
+use Rattle.just_read.specs.Lines.{skip, is_word, ends_line, is_blank_line}
 use Rattle.just_read.specs.Quotes.{begins_string}
 use Rattle.just_syntax.specs.Strings.{concat}
 use Rattle.just_syntax.specs.Forms.{form_of, may_be_bare, has_colon, key_form, may_stand_alone, sort_of}
@@ -43,9 +42,9 @@ use Rattle.just_syntax.specs.Attributes.{argument_at, is_keyed, may_cache, may_h
 use Rattle.just_syntax.specs.Recipes.{begins_parameter, begins_dependency, listed}
 use Rattle.just_syntax.specs.Bodies.{opens, is_text, is_body_line}
 use Rattle.just_syntax.specs.Items.{opening_at, opens_module, goes_on as goes_on_string}
-use Rattle.just_syntax.specs.File.{indentation_at, is_in_body, behind_blank, behind_item}
+use Rattle.just_syntax.specs.File.{indentation_at, behind_blank, behind_item}
 use Rattle.just_syntax.specs.Meanings.{text_of}
-use Rattle.just_read.specs.Tokens.{token, word, maybe, newline, blank_line, piece}
+use Rattle.just_read.specs.Tokens.{token, word, maybe, newline, blank_line}
 use Rattle.just_syntax.specs.Readers.{name, path, comment, rest, string, value, level, inner}
 
 -- an expression, in which at most 256 levels are open at a place

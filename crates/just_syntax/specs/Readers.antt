@@ -1,7 +1,6 @@
 -- What the code reads from a place on, step by step: names, strings, expressions and the ends of lines. That this is what
 -- the grammar says is proved in proofs/.
-use Rattle.std.specs.Prelude.{ℕ, zero, suc, Bool, true, false, ◌==◌, if◌then◌else◌, List, ◌∷◌, Option, Some, None, Ok, Err, codes, encode_utf8_all}
-use lib.Utf8.{scalar}
+use Rattle.std.specs.Prelude.{ℕ, zero, suc, Bool, true, false, if◌then◌else◌, List, ◌∷◌, Option, Some, None, Ok, Err, codes, encode_utf8_all}
 use Rattle.just_read.specs.Place.{Place, past, run, first, starts, sees, begins, behind_text, between}
 use Rattle.just_read.specs.Reader.{Reader, and_then, ◌>>=◌, ◌>>◌, pure, refuse, many}
 use Rattle.just_read.specs.declared.error.ReadError.TheVariants.{Syntax, Depth}

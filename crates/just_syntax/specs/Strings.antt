@@ -1,5 +1,5 @@
 -- Strings: as they are written, and the texts that they mean.
-use Rattle.std.specs.Prelude.{◌≡◌, ℕ, ◌+◌, true, false, if◌then◌else◌, List, [], ◌∷◌, ◌++◌, Some, chars, encode_utf8_all}
+use Rattle.std.specs.Prelude.{◌≡◌, ℕ, true, false, if◌then◌else◌, List, [], ◌∷◌, ◌++◌, Some, chars, encode_utf8_all}
 use Rattle.just_read.specs.Place.{Place, AreMany, start, sees, begins, behind_text, between, is_end}
 use Rattle.just_read.specs.declared.quote.Quote.{Quote}
 use Rattle.just_syntax.specs.declared.ast.StringLiteral.{StringLiteral}

@@ -136,19 +136,8 @@ pub fn gather(alloc: Global, mut entries: Vec<Entry>) -> Result<Seq<AstItem>, No
             Entry::Line(line) => lines.push(line)?,
         }
     }
-    Ok(turned(alloc, items)?)
-}
-
-/// The items of a list from the last one on.
-#[tactic(auto, using(crate::proofs::Gather::turned_more, crate::proofs::Gather::turned_end))]
-fn turned<T: Drop>(alloc: Global, mut from: Vec<T>) -> Result<Seq<T>, AllocError>
-    ensures { IfOk result (λ s. s ≡ reverse from.items) }
-{
-    let mut found = Vec::new(alloc);
-    'items: while let Some(item) = from.pop() {
-        found.push(item)?;
-    }
-    Ok(Seq::from(found))
+    items.reverse();
+    Ok(Seq::from(items))
 }
 
 /// Adds a blank line: to the lines of a body, the last one first, where there are any, else to the items.
@@ -173,10 +162,15 @@ fn add_blank(
 }
 
 /// A recipe with these lines as its body, the last one first.
-fn with_body(alloc: Global, recipe: Boxed<AstRecipe>, lines: Vec<Line>) -> Result<AstItem, NoMemory>
+fn with_body(
+    alloc: Global,
+    recipe: Boxed<AstRecipe>,
+    mut lines: Vec<Line>,
+) -> Result<AstItem, NoMemory>
     ensures { IfOk result (λ x. x ≡ AstItem.Recipe (record recipe { body = reverse lines.items })) }
 {
     let mut recipe = recipe.into_inner();
-    recipe.body = turned(alloc, lines)?;
+    lines.reverse();
+    recipe.body = Seq::from(lines);
     Ok(AstItem::Recipe(Boxed::new(alloc, recipe)?))
 }

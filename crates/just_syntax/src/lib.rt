@@ -18,7 +18,7 @@ mod whole;
 
 pub use ast::{
     Argument, Ast, AstDependency, AstItem, AstParameter, AstRecipe, Attribute, Comparison, Expr,
-    Fragment, Line, Name, ParameterKind, Quote, SettingValue, StringLiteral,
+    Fragment, Line, Name, ParameterKind, SettingValue, StringLiteral,
 };
 pub use error::{Fault, FaultKind, ParseError};
 pub use just_read::Quote;
