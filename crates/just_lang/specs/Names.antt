@@ -1,7 +1,7 @@
 -- Names of recipes, and the rule on them until recipes may stand in any order.
 use Rattle.std.specs.Prelude.{◌≡◌, ◌≢◌, ℕ, true, List, [], ◌∷◌, map, All, Contains}
 use Rattle.std.specs.List.{list_all}
-use Rattle.just_syntax.specs.Characters.{begins_name, in_name}
+use Rattle.just_read.specs.Characters.{begins_name, in_name}
 use Rattle.just_lang.specs.declared.recipe.Modulepath.{Modulepath}
 use Rattle.just_lang.specs.declared.recipe.Recipe.{Recipe}
 

@@ -2,7 +2,7 @@
 
 ghost use Rattle.std.specs.Prelude.{◌≡◌, ◌↔◌, IsTrue};
 ghost use Rattle.std.specs.List.{list_all};
-ghost use Rattle.just_syntax.specs.Characters.{begins_name, in_name};
+ghost use Rattle.just_read.specs.Characters.{begins_name, in_name};
 ghost use Rattle.just_lang.specs.Names.{IsName};
 
 fn is_name_start(byte: u8) -> bool

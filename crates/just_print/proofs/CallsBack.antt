@@ -1,6 +1,6 @@
 -- What is printed of calls, and so of values, is read again, where it is so of the expressions inside.
 use Rattle.std.specs.Option.{option_map}
-use Rattle.std.proofs.Common.{◌≡◌, ℕ, Bool, true, false, not, ◌&&◌, List, [], ◌∷◌, ◌++◌, Option, Some, None, codes, encode_utf8_all, refl, sym, ap, ◌∙◌, subst, append_assoc}
+use Rattle.std.proofs.Common.{◌≡◌, ℕ, Bool, false, not, List, [], ◌∷◌, ◌++◌, Option, Some, None, codes, encode_utf8_all, refl, sym, ap, ◌∙◌, append_assoc}
 use Rattle.just_read.specs.Place.{Place, Rule, first, first_in, starts, begins, behind_text}
 use Rattle.just_syntax.specs.declared.ast.Expr.{Expr}
 use Rattle.just_syntax.specs.declared.ast.Expr.TheVariants as e
@@ -40,7 +40,7 @@ module _ (Inner : Rule Expr) (back : (p q : Place) (x : Expr) → Inner p q x �
         apart = λ rest. (refl, refl);
         alike = λ rest. one_first (sym (ap first (sym e) ∙ token_first 41 [] r q u));
         dark = λ rest. refl;
-        again = λ s rest h. (s, None, (begins_other 41 44 [] s (ap first_in h) refl, refl), h, refl)
+        again = λ s rest h. (s, None, (begins_other 41 44 [] s (ap first_in h) refl, refl), h, refl);
       }
   second_back o r q (Some x) (m, t, i) u =
       let b : Back (At Inner (begins_condition m)) bare_expr m r x (printed_expr x) = back m r x i in
@@ -54,7 +54,7 @@ module _ (Inner : Rule Expr) (back : (p q : Place) (x : Expr) → Inner p q x �
             let (w, t1, l1) = token_back (codes ",") (codes " " ++ (b.letters ++ (codes ")" ++ rest))) s h in
             let here : w.rest ≡ b.letters ++ (codes ")" ++ rest) = l1 ∙ beyond_dark b.letters b.head b.tail (codes ")" ++ rest) b.begins b.dark_head in
             let (v, y, j, l2, shape) = b.again w (codes ")" ++ rest) here (refl, refl) (one_first (sym (token_first 41 [] r q u))) in
-            (v, Some y, (w, t1, j.1), l2, ap (λ (c : Expr). Some c) shape)
+            (v, Some y, (w, t1, j.1), l2, ap (λ (c : Expr). Some c) shape);
       }
 
   env_back : (p m n o r q : Place) (key : Expr) (d : Option Expr) (x : Expr) → IsWord (codes "env") p m → IsToken (codes "(") m n → Inner n o key → IsDefault Inner o r d
@@ -78,17 +78,20 @@ module _ (Inner : Rule Expr) (back : (p q : Place) (x : Expr) → Inner p q x �
             let (l, w1, l1) = word_back (codes "env") (codes "(" ++ ((b.letters ++ (c.letters ++ codes ")")) ++ rest)) s h refl in
             let (f, t1, l2) = token_back (codes "(") ((b.letters ++ (c.letters ++ codes ")")) ++ rest) l l1 in
             let spread : (b.letters ++ (c.letters ++ codes ")")) ++ rest ≡ b.letters ++ (c.letters ++ (codes ")" ++ rest)) =
-                append_assoc b.letters (c.letters ++ codes ")") rest ∙ ap (λ (a : List ℕ). b.letters ++ a) (append_assoc c.letters (codes ")") rest) in
+            append_assoc b.letters (c.letters ++ codes ")") rest ∙ ap (λ (a : List ℕ). b.letters ++ a) (append_assoc c.letters (codes ")") rest) in
             let here : f.rest ≡ b.letters ++ (c.letters ++ (codes ")" ++ rest)) =
-                l2 ∙ (ap (beyond is_blank) spread ∙ beyond_dark b.letters b.head b.tail (c.letters ++ (codes ")" ++ rest)) b.begins b.dark_head) in
+            l2 ∙ (ap (beyond is_blank) spread ∙ beyond_dark b.letters b.head b.tail (c.letters ++ (codes ")" ++ rest)) b.begins b.dark_head) in
             let (g, key2, j, l3, shape) = b.again f (c.letters ++ (codes ")" ++ rest)) here (c.apart rest) (c.alike rest) in
             let (v, d2, a, l4, shape2) = c.again g rest (l3 ∙ c.dark rest) in
-            let (end, t2, l5) = token_back (codes ")") rest v l4 in
-            (end, e.Env s.line s.column key2 d2,
-            (no_if 101 s (word_first 101 (codes "nv") s l w1) refl, env l f g v key2 d2 w1 t1 j.1 a t2 refl), l5,
-            bare_env s.line s.column key2 d2
-            ∙ (ap (λ (y : Expr). e.Env 0 0 y (option_map bare_expr d2)) shape
-            ∙ (ap (λ (y : Option Expr). e.Env 0 0 (bare_expr key) y) shape2 ∙ (sym (bare_env p.line p.column key d) ∙ sym (ap bare_expr z)))))
+            let (end, t2, l5) = token_back (codes ")") rest v l4 in (
+              end,
+              e.Env s.line s.column key2 d2,
+              (no_if 101 s (word_first 101 (codes "nv") s l w1) refl, env l f g v key2 d2 w1 t1 j.1 a t2 refl),
+              l5,
+              bare_env s.line s.column key2 d2
+                  ∙ (ap (λ (y : Expr). e.Env 0 0 y (option_map bare_expr d2)) shape
+                  ∙ (ap (λ (y : Option Expr). e.Env 0 0 (bare_expr key) y) shape2 ∙ (sym (bare_env p.line p.column key d) ∙ sym (ap bare_expr z)))),
+            );
       }
 
   -- a value at which no condition begins
@@ -108,7 +111,7 @@ module _ (Inner : Rule Expr) (back : (p q : Place) (x : Expr) → Inner p q x �
         begins = b.begins;
         seen = b.seen;
         dark_head = b.dark_head;
-        again = λ r rest h apart alike. let (s, y, j, left, shape) = b.again r rest h apart alike in (s, y, j.1, left, shape)
+        again = λ r rest h apart alike. let (s, y, j, left, shape) = b.again r rest h apart alike in (s, y, j.1, left, shape);
       }
 
   -- a value, whether a condition begins there or not

@@ -1,8 +1,7 @@
 -- What is printed of dependencies is read again.
-use Rattle.std.proofs.Common.{◌≡◌, ℕ, ◌==◌, Bool, true, false, not, ◌&&◌, ◌||◌, if◌then◌else◌, List, [], ◌∷◌, ◌++◌, map, Option, Some, None, codes, encode_utf8_all, refl, sym, ap, ◌∙◌, subst, append_assoc}
-use Rattle.std.proofs.lemmas.Bool.{false≢true}
-use Rattle.just_read.specs.Place.{Place, Rule, AreMany, next, run, first, first_in, passes, starts, sees, begins, begins_in}
-use Rattle.just_read.proofs.Laws.{sees_first, starts_with, starts_at}
+use Rattle.std.proofs.Common.{◌≡◌, ℕ, ◌==◌, Bool, true, false, ◌||◌, if◌then◌else◌, List, [], ◌∷◌, ◌++◌, map, Some, codes, encode_utf8_all, refl, sym, ap, ◌∙◌, subst, append_assoc}
+use Rattle.just_read.specs.Place.{Place, Rule, AreMany, next, first, first_in, starts, sees, begins, begins_in}
+use Rattle.just_read.proofs.Laws.{sees_first, starts_with}
 use Rattle.just_syntax.specs.declared.ast.Name.{Name}
 use Rattle.just_read.specs.declared.quote.Quote.{Quote}
 use Rattle.just_read.specs.declared.quote.Quote.TheVariants.{Single, Double, SingleBlock, DoubleBlock}
@@ -21,7 +20,7 @@ use Rattle.just_syntax.specs.Exprs.IsLevel.{conditional, root, value, joined, co
 use Rattle.just_syntax.specs.Recipes.{begins_dependency, IsDependencyValue, IsDependency, AreDependencies}
 use Rattle.just_syntax.specs.Recipes.IsDependency.{bare, grouped}
 use Rattle.just_syntax.specs.Recipes.AreDependencies.{dependencies}
-use Rattle.just_print.specs.Printed.{led, printed_expr, printed_path, printed_values, printed_dependency, printed_dependencies}
+use Rattle.just_print.specs.Printed.{printed_expr, printed_path, printed_values, printed_dependency, printed_dependencies}
 use Rattle.just_print.specs.Shapes.{bare_name, bare_expr, bare_dependency}
 use Rattle.just_print.proofs.Places.{beyond, beyond_dark, not_that, Alike, one_first, alike_test, IsApart, token_back}
 use Rattle.just_print.proofs.NamesBack.{Back}
@@ -30,7 +29,7 @@ use Rattle.just_print.proofs.WordsBack.{joined_text, plain_text, token_first, ot
 use Rattle.just_print.proofs.PathsBack.{PathBack, path_back}
 use Rattle.just_print.proofs.ValuesBack.{At}
 use Rattle.just_print.proofs.CallsBack.{word_first}
-use Rattle.just_print.proofs.ExprsBack.{expr_back, alike_front}
+use Rattle.just_print.proofs.ExprsBack.{expr_back}
 
 -- ---- no expression begins with a colon
 
@@ -87,16 +86,16 @@ values_back n o q [] e u =
       letters = [];
       encoded = refl;
       follows = λ rest. record { apart = (refl, refl); alike = one_first (sym (ap first (sym e) ∙ token_first 41 [] o q u)); no_path = refl };
-      again = λ s rest h. (s, [], refl, h, refl)
+      again = λ s rest h. (s, [], refl, h, refl);
     }
 values_back n o q (x ∷ xs) (k, (c, i), are) u =
     let O : ValuesBack k xs = values_back k o q xs are u in
     let b : Back (At IsExpr (begins_condition n)) bare_expr n k x (printed_expr x) = expr_back n k x i in
     let starts_so : (rest : List ℕ) → beyond is_blank ((b.letters ++ O.letters) ++ (codes ")" ++ rest)) ≡ b.letters ++ (O.letters ++ (codes ")" ++ rest)) =
-        λ rest. ap (beyond is_blank) (append_assoc b.letters O.letters (codes ")" ++ rest))
-        ∙ beyond_dark b.letters b.head b.tail (O.letters ++ (codes ")" ++ rest)) b.begins b.dark_head in
+    λ rest. ap (beyond is_blank) (append_assoc b.letters O.letters (codes ")" ++ rest))
+    ∙ beyond_dark b.letters b.head b.tail (O.letters ++ (codes ")" ++ rest)) b.begins b.dark_head in
     let heads : (rest : List ℕ) → first_in (b.letters ++ (O.letters ++ (codes ")" ++ rest))) ≡ Some b.head =
-        λ rest. ap (λ (l : List ℕ). first_in (l ++ (O.letters ++ (codes ")" ++ rest)))) b.begins in
+    λ rest. ap (λ (l : List ℕ). first_in (l ++ (O.letters ++ (codes ")" ++ rest)))) b.begins in
     let (d, f, none_there) = level_colon (IsInner 256) n k x i in
     let is_head : Some d ≡ Some b.head = sym f ∙ b.seen in
     let head : d ≡ b.head = cc (is_head) in
@@ -105,18 +104,18 @@ values_back n o q (x ∷ xs) (k, (c, i), are) u =
       encoded = joined_text (codes " ") (printed_expr x ++ printed_values xs) (codes " ") (b.letters ++ O.letters) (plain_text (codes " ") refl)
           (joined_text (printed_expr x) (printed_values xs) b.letters O.letters b.encoded O.encoded);
       follows = λ rest. record {
-            apart = (refl, refl);
-            alike = one_first (ap first_in (starts_so rest) ∙ (heads rest ∙ sym b.seen));
-            no_path = other_in b.head 58 (58 ∷ []) (beyond is_blank ((b.letters ++ O.letters) ++ (codes ")" ++ rest))) (ap first_in (starts_so rest) ∙ heads rest)
-                (ap (λ (e : ℕ). e == 58) (sym head) ∙ none_there)
-          };
+        apart = (refl, refl);
+        alike = one_first (ap first_in (starts_so rest) ∙ (heads rest ∙ sym b.seen));
+        no_path = other_in b.head 58 (58 ∷ []) (beyond is_blank ((b.letters ++ O.letters) ++ (codes ")" ++ rest))) (ap first_in (starts_so rest) ∙ heads rest)
+            (ap (λ (e : ℕ). e == 58) (sym head) ∙ none_there);
+      };
       again = λ s rest h.
           let start : s.rest ≡ b.letters ++ (O.letters ++ (codes ")" ++ rest)) = h ∙ starts_so rest in
           let F : Follows (O.letters ++ (codes ")" ++ rest)) k = O.follows rest in
           let (v, y, j, l1, shape) = b.again s (O.letters ++ (codes ")" ++ rest)) start F.apart F.alike in
           let (t, ys, many, l2, shapes) = O.again v rest l1 in
           let closes_not : begins (codes ")") s ≡ false = begins_alike 41 s n refl refl (one_first (ap first_in start ∙ (heads rest ∙ sym b.seen))) ∙ c in
-          (t, y ∷ ys, (v, (closes_not, j.1), many), l2, ap (λ (a : Expr). a ∷ map bare_expr ys) shape ∙ ap (λ (l : List Expr). bare_expr x ∷ l) shapes)
+          (t, y ∷ ys, (v, (closes_not, j.1), many), l2, ap (λ (a : Expr). a ∷ map bare_expr ys) shape ∙ ap (λ (l : List Expr). bare_expr x ∷ l) shapes);
     }
 
 -- ---- a dependency
@@ -150,7 +149,7 @@ bare_back p q path i =
       no_colon = not_that begins_name P.head 58 P.letter refl;
       again = λ r rest h f.
           let (s, ys, j, left, shapes) = P.again r rest h f.apart f.no_path in
-          (s, dependency_of ys false [], bare ys j refl, left, ap (λ (l : List Name). record { path = l; grouped = false; arguments = [] }) shapes)
+          (s, dependency_of ys false [], bare ys j refl, left, ap (λ (l : List Name). record { path = l; grouped = false; arguments = [] }) shapes);
     }
 
 grouped_back : (p m n o q : Place) (path : List Name) (arguments : List Expr) → IsToken (codes "(") p m → IsPath m n path → AreMany IsDependencyValue n o arguments
@@ -172,15 +171,19 @@ grouped_back p m n o q path arguments t i are u =
       again = λ r rest h f.
           let (m2, t2, l1) = token_back (codes "(") ((P.letters ++ (V.letters ++ codes ")")) ++ rest) r h in
           let start : m2.rest ≡ P.letters ++ (V.letters ++ (codes ")" ++ rest)) =
-              l1 ∙ (ap (beyond is_blank) (append_assoc P.letters (V.letters ++ codes ")") rest ∙ ap (λ (l : List ℕ). P.letters ++ l) (append_assoc V.letters (codes ")") rest))
-              ∙ beyond_dark P.letters P.head P.tail (V.letters ++ (codes ")" ++ rest)) P.begins P.dark_head) in
+          l1 ∙ (ap (beyond is_blank) (append_assoc P.letters (V.letters ++ codes ")") rest ∙ ap (λ (l : List ℕ). P.letters ++ l) (append_assoc V.letters (codes ")") rest))
+          ∙ beyond_dark P.letters P.head P.tail (V.letters ++ (codes ")" ++ rest)) P.begins P.dark_head) in
           let F : Follows (V.letters ++ (codes ")" ++ rest)) n = V.follows rest in
           let (n2, ys, j, l2, shapes) = P.again m2 (V.letters ++ (codes ")" ++ rest)) start F.apart F.no_path in
           let (o2, zs, many, l3, shapes2) = V.again n2 rest l2 in
-          let (q2, u2, l4) = token_back (codes ")") rest o2 l3 in
-          (q2, dependency_of ys true zs, grouped m2 n2 o2 ys zs t2 j many u2 refl, l4,
-          ap (λ (l : List Name). record { path = l; grouped = true; arguments = map bare_expr zs }) shapes
-          ∙ ap (λ (l : List Expr). record { path = map bare_name path; grouped = true; arguments = l }) shapes2)
+          let (q2, u2, l4) = token_back (codes ")") rest o2 l3 in (
+            q2,
+            dependency_of ys true zs,
+            grouped m2 n2 o2 ys zs t2 j many u2 refl,
+            l4,
+            ap (λ (l : List Name). record { path = l; grouped = true; arguments = map bare_expr zs }) shapes
+                ∙ ap (λ (l : List Expr). record { path = map bare_name path; grouped = true; arguments = l }) shapes2,
+          );
     }
 
 -- a dependency is printed and read as it is
@@ -204,28 +207,28 @@ many_back p q [] e =
       letters = [];
       encoded = refl;
       follows = λ more f. subst (λ (r : Place). Follows more r) e f;
-      again = λ s more h f. (s, [], refl, h, refl)
+      again = λ s more h f. (s, [], refl, h, refl);
     }
 many_back p q (x ∷ xs) (k, i, are) =
     let O : DependenciesBack k q xs = many_back k q xs are in
     let b : DependencyBack p k x = dependency_back p k x i in
     let starts_so : (more : List ℕ) → beyond is_blank ((b.letters ++ O.letters) ++ more) ≡ b.letters ++ (O.letters ++ more) =
-        λ more. ap (beyond is_blank) (append_assoc b.letters O.letters more) ∙ beyond_dark b.letters b.head b.tail (O.letters ++ more) b.begins b.dark_head in
+    λ more. ap (beyond is_blank) (append_assoc b.letters O.letters more) ∙ beyond_dark b.letters b.head b.tail (O.letters ++ more) b.begins b.dark_head in
     let heads : (more : List ℕ) → first_in (b.letters ++ (O.letters ++ more)) ≡ Some b.head =
-        λ more. ap (λ (l : List ℕ). first_in (l ++ (O.letters ++ more))) b.begins in
+    λ more. ap (λ (l : List ℕ). first_in (l ++ (O.letters ++ more))) b.begins in
     record {
       letters = codes " " ++ (b.letters ++ O.letters);
       encoded = joined_text (codes " ") (printed_dependency x ++ printed_dependencies xs) (codes " ") (b.letters ++ O.letters) (plain_text (codes " ") refl)
           (joined_text (printed_dependency x) (printed_dependencies xs) b.letters O.letters b.encoded O.encoded);
       follows = λ more f. record {
-            apart = (refl, refl);
-            alike = one_first (ap first_in (starts_so more) ∙ (heads more ∙ sym b.seen));
-            no_path = other_in b.head 58 (58 ∷ []) (beyond is_blank ((b.letters ++ O.letters) ++ more)) (ap first_in (starts_so more) ∙ heads more) b.no_colon
-          };
+        apart = (refl, refl);
+        alike = one_first (ap first_in (starts_so more) ∙ (heads more ∙ sym b.seen));
+        no_path = other_in b.head 58 (58 ∷ []) (beyond is_blank ((b.letters ++ O.letters) ++ more)) (ap first_in (starts_so more) ∙ heads more) b.no_colon;
+      };
       again = λ s more h f.
           let (v, y, j, l1, shape) = b.again s (O.letters ++ more) (h ∙ starts_so more) (O.follows more f) in
           let (t, ys, many, l2, shapes) = O.again v more l1 f in
-          (t, y ∷ ys, (v, j, many), l2, ap (λ (a : AstDependency). a ∷ map bare_dependency ys) shape ∙ ap (λ (l : List AstDependency). bare_dependency x ∷ l) shapes)
+          (t, y ∷ ys, (v, j, many), l2, ap (λ (a : AstDependency). a ∷ map bare_dependency ys) shape ∙ ap (λ (l : List AstDependency). bare_dependency x ∷ l) shapes);
     }
 
 -- whether a dependency begins is the same of places that begin alike
@@ -242,6 +245,7 @@ pub record AllBack (p q : Place) (xs : List AstDependency) : Type 0 where
   pub again : (s : Place) (more : List ℕ) → s.rest ≡ beyond is_blank (letters ++ more) → Follows more q
       → (t : Place) × (ys : List AstDependency) × AreDependencies s t ys × (t.rest ≡ beyond is_blank more) × (map bare_dependency ys ≡ map bare_dependency xs)
 
+-- dependencies, as long as one begins, are printed and read as they are
 pub dependencies_back : (p q : Place) (xs : List AstDependency) → AreDependencies p q xs → AllBack p q xs
 dependencies_back p q xs (dependencies are n) =
     let O : DependenciesBack p q xs = many_back p q xs are in
@@ -252,5 +256,5 @@ dependencies_back p q xs (dependencies are n) =
       again = λ s more h f.
           let (t, ys, many, left, shapes) = O.again s more h f in
           let stops : begins_dependency t ≡ false = dependency_alike t q (subst (λ (l : List ℕ). Alike l q.rest) (sym left) f.alike) ∙ n in
-          (t, ys, dependencies many stops, left, shapes)
+          (t, ys, dependencies many stops, left, shapes);
     }

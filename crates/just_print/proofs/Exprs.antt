@@ -1,14 +1,14 @@
 -- The texts of expressions, one law a variant.
 use Rattle.std.specs.Option.{option_map}
-use Rattle.std.proofs.Common.{◌≡◌, ℕ, Bool, List, ◌++◌, map, Option, Some, None, codes, refl, sym, ap, ◌∙◌, append_assoc}
+use Rattle.std.proofs.Common.{◌≡◌, ℕ, Bool, List, ◌++◌, Option, Some, None, codes, sym, ap, ◌∙◌, append_assoc}
 use Rattle.just_syntax.specs.declared.ast.Name.{Name}
 use Rattle.just_syntax.specs.declared.ast.StringLiteral.{StringLiteral}
 use Rattle.just_syntax.specs.declared.ast.Comparison.{Comparison}
 use Rattle.just_syntax.specs.declared.ast.Expr.{Expr}
 use Rattle.just_syntax.specs.declared.ast.Expr.TheOpen.{Expr-F}
-use Rattle.just_syntax.specs.declared.ast.Expr.TheFolds.{fold-Expr, fold-roll-Expr}
+use Rattle.just_syntax.specs.declared.ast.Expr.TheFolds.{fold-roll-Expr}
 use Rattle.just_syntax.specs.declared.ast.Expr.TheVariants as e
-use Rattle.just_print.specs.Printed.{printed_string, printed_name, printed_comparison, otherwise, printed_second, expr_of, printed_expr}
+use Rattle.just_print.specs.Printed.{printed_string, printed_comparison, otherwise, printed_second, expr_of, printed_expr}
 
 -- the text of a condition
 pub printed_if : (a : Expr) (c : Comparison) (b d : Expr) (chained : Bool) (x : Expr) → printed_expr (e.If a c b d chained x)
@@ -46,23 +46,29 @@ printed_env l c a (Some d) = ap printed_expr (sym (e.rolls-Env l c a (Some d))) 
 
 -- ---- what the code adds one after the other is that text
 
+-- a condition
 pub if_behind : (out : List ℕ) (a : Expr) (c : Comparison) (b d : Expr) (chained : Bool) (x : Expr)
     → (((((((out ++ codes "if ") ++ printed_expr a) ++ printed_comparison c) ++ printed_expr b) ++ codes " { ") ++ printed_expr d) ++ codes " } else ") ++ otherwise chained (printed_expr x)
     ≡ out ++ printed_expr (e.If a c b d chained x)
 if_behind out a c b d chained x = simp append_assoc (ap (λ (t : List ℕ). out ++ t) (sym (printed_if a c b d chained x)))
 
+-- `/ EXPR`
 pub root_behind : (out : List ℕ) (a : Expr) → (out ++ codes "/ ") ++ printed_expr a ≡ out ++ printed_expr (e.Root a)
 root_behind out a = simp append_assoc (ap (λ (t : List ℕ). out ++ t) (sym (printed_root a)))
 
+-- `VALUE / EXPR`
 pub join_behind : (out : List ℕ) (a b : Expr) → ((out ++ printed_expr a) ++ codes " / ") ++ printed_expr b ≡ out ++ printed_expr (e.Join a b)
 join_behind out a b = simp append_assoc (ap (λ (t : List ℕ). out ++ t) (sym (printed_join a b)))
 
+-- `VALUE + EXPR`
 pub concat_behind : (out : List ℕ) (a b : Expr) → ((out ++ printed_expr a) ++ codes " + ") ++ printed_expr b ≡ out ++ printed_expr (e.Concat a b)
 concat_behind out a b = simp append_assoc (ap (λ (t : List ℕ). out ++ t) (sym (printed_concat a b)))
 
+-- an expression in parentheses
 pub group_behind : (out : List ℕ) (a : Expr) → ((out ++ codes "(") ++ printed_expr a) ++ codes ")" ≡ out ++ printed_expr (e.Group a)
 group_behind out a = simp append_assoc (ap (λ (t : List ℕ). out ++ t) (sym (printed_group a)))
 
+-- a call
 pub env_behind : (out : List ℕ) (l c : ℕ) (a : Expr) (d : Option Expr)
     → (((out ++ codes "env(") ++ printed_expr a) ++ printed_second (option_map printed_expr d)) ++ codes ")" ≡ out ++ printed_expr (e.Env l c a d)
 env_behind out l c a d = simp append_assoc (ap (λ (t : List ℕ). out ++ t) (sym (printed_env l c a d)))

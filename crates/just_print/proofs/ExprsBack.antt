@@ -1,5 +1,5 @@
 -- What is printed of an expression is read again as an expression of the same shape.
-use Rattle.std.proofs.Common.{◌≡◌, ℕ, zero, suc, Bool, true, false, not, ◌&&◌, if◌then◌else◌, List, [], ◌∷◌, ◌++◌, Some, codes, encode_utf8_all, refl, sym, ap, ◌∙◌, subst, append_assoc}
+use Rattle.std.proofs.Common.{◌≡◌, ℕ, zero, suc, Bool, true, false, not, ◌&&◌, List, [], ◌∷◌, ◌++◌, codes, encode_utf8_all, refl, sym, ap, ◌∙◌, subst, append_assoc}
 use Rattle.just_read.specs.Place.{Place, Rule, first, first_in, starts, begins, behind_text}
 use Rattle.just_syntax.specs.declared.ast.Comparison.{Comparison}
 use Rattle.just_syntax.specs.declared.ast.Comparison.TheVariants.{Equal, Unequal}
@@ -43,7 +43,7 @@ equal_back n o t =
       encoded = plain_text (codes " == ") refl;
       apart = λ more. (refl, refl);
       alike = λ more. one_first (sym (token_first 61 (61 ∷ []) n o t));
-      again = λ s more h. let (v, t1, l) = token_back (codes "==") (codes " " ++ more) s h in (v, equal t1 refl, l)
+      again = λ s more h. let (v, t1, l) = token_back (codes "==") (codes " " ++ more) s h in (v, equal t1 refl, l);
     }
 
 unequal_back : (n o : Place) → IsToken (codes "!=") n o → Compares n Unequal
@@ -52,7 +52,7 @@ unequal_back n o t =
       encoded = plain_text (codes " != ") refl;
       apart = λ more. (refl, refl);
       alike = λ more. one_first (sym (token_first 33 (61 ∷ []) n o t));
-      again = λ s more h. let (v, t1, l) = token_back (codes "!=") (codes " " ++ more) s h in (v, unequal t1 refl, l)
+      again = λ s more h. let (v, t1, l) = token_back (codes "!=") (codes " " ++ more) s h in (v, unequal t1 refl, l);
     }
 
 comparison_back : (n o : Place) (c : Comparison) → IsComparison n o c → Compares n c
@@ -77,10 +77,10 @@ module _ (Inner : Rule Expr) (back : (p q : Place) (x : Expr) → Inner p q x �
         again = λ r rest h apart alike.
             let (s, t1, l1) = token_back (codes "{") (codes " " ++ ((b.letters ++ codes " }") ++ rest)) r h in
             let here : s.rest ≡ b.letters ++ (codes " }" ++ rest) =
-                l1 ∙ (ap (beyond is_blank) (append_assoc b.letters (codes " }") rest) ∙ beyond_dark b.letters b.head b.tail (codes " }" ++ rest) b.begins b.dark_head) in
+            l1 ∙ (ap (beyond is_blank) (append_assoc b.letters (codes " }") rest) ∙ beyond_dark b.letters b.head b.tail (codes " }" ++ rest) b.begins b.dark_head) in
             let (o, w, j, l2, shape) = b.again s (codes " }" ++ rest) here (refl, refl) (one_first (sym (token_first 125 [] n q u))) in
             let (v, t2, l3) = token_back (codes "}") rest o l2 in
-            (v, w, block s o t1 j.1 t2, l3, shape)
+            (v, w, block s o t1 j.1 t2, l3, shape);
       }
 
   block_no_if : (p q : Place) (x : Expr) → IsBlock Inner p q x → begins_condition p ≡ false
@@ -98,7 +98,7 @@ module _ (Inner : Rule Expr) (back : (p q : Place) (x : Expr) → Inner p q x �
         seen = b.seen;
         dark_head = b.dark_head;
         again = λ r rest h apart alike.
-            let (s, y, j, left, shape) = b.again r rest h apart alike in (s, y, last (block_no_if r s y j) j refl, left, shape)
+            let (s, y, j, left, shape) = b.again r rest h apart alike in (s, y, last (block_no_if r s y j) j refl, left, shape);
       }
 
   further_back : (p q : Place) (x : Expr) → begins_condition p ≡ true → Inner p q x
@@ -114,7 +114,7 @@ module _ (Inner : Rule Expr) (back : (p q : Place) (x : Expr) → Inner p q x �
         seen = b.seen;
         dark_head = b.dark_head;
         again = λ r rest h apart alike.
-            let (s, y, j, left, shape) = b.again r rest h apart alike in (s, y, further (j.0 ∙ g) j.1 refl, left, shape)
+            let (s, y, j, left, shape) = b.again r rest h apart alike in (s, y, further (j.0 ∙ g) j.1 refl, left, shape);
       }
 
   otherwise_back : (p q : Place) (chained : Bool) (x : Expr) → IsOtherwise Inner p q chained x
@@ -138,9 +138,13 @@ module _ (Inner : Rule Expr) (back : (p q : Place) (x : Expr) → Inner p q x �
         again = λ r rest h apart alike.
             let (s, t1, l1) = token_back (codes "/") (codes " " ++ (b.letters ++ rest)) r h in
             let here : s.rest ≡ b.letters ++ rest = l1 ∙ beyond_dark b.letters b.head b.tail rest b.begins b.dark_head in
-            let (v, w, j, l2, shape) = b.again s rest here apart alike in
-            (v, e.Root w, (no_if 47 r (token_first 47 [] r s t1) refl, root s w t1 j.1 refl), l2,
-            bare_root w ∙ (ap (λ (c : Expr). e.Root c) shape ∙ (sym (bare_root y) ∙ sym (ap bare_expr z))))
+            let (v, w, j, l2, shape) = b.again s rest here apart alike in (
+              v,
+              e.Root w,
+              (no_if 47 r (token_first 47 [] r s t1) refl, root s w t1 j.1 refl),
+              l2,
+              bare_root w ∙ (ap (λ (c : Expr). e.Root c) shape ∙ (sym (bare_root y) ∙ sym (ap bare_expr z))),
+            );
       }
 
   alone_back : (p q : Place) (x : Expr) → begins_condition p ≡ false → IsValue Inner p q x → begins (codes "/") q ≡ false → begins (codes "+") q ≡ false
@@ -158,7 +162,7 @@ module _ (Inner : Rule Expr) (back : (p q : Place) (x : Expr) → Inner p q x �
         again = λ r rest h apart alike.
             let (s, y, j, left, shape) = b.again r rest h apart alike in
             let follows : Alike s.rest q.rest = subst (λ (l : List ℕ). Alike l q.rest) (sym left) alike in
-            (s, y, (j.0, value j.0 j.1 (begins_alike 47 s q refl refl follows ∙ n) (begins_alike 43 s q refl refl follows ∙ k)), left, shape)
+            (s, y, (j.0, value j.0 j.1 (begins_alike 47 s q refl refl follows ∙ n) (begins_alike 43 s q refl refl follows ∙ k)), left, shape);
       }
 
   joined_back : (p m n q : Place) (a b x : Expr) → begins_condition p ≡ false → IsValue Inner p m a → IsToken (codes "/") m n → Inner n q b → x ≡ e.Join a b
@@ -178,13 +182,17 @@ module _ (Inner : Rule Expr) (back : (p q : Place) (x : Expr) → Inner p q x �
         dark_head = f.dark_head;
         again = λ r rest h apart alike.
             let (s, a2, j, l1, shape) = f.again r (codes " / " ++ (k.letters ++ rest)) (h ∙ append_assoc f.letters (codes " / " ++ k.letters) rest) (refl, refl)
-                (one_first (sym (token_first 47 [] m n t))) in
+            (one_first (sym (token_first 47 [] m n t))) in
             let (o, t1, l2) = token_back (codes "/") (codes " " ++ (k.letters ++ rest)) s l1 in
             let here : o.rest ≡ k.letters ++ rest = l2 ∙ beyond_dark k.letters k.head k.tail rest k.begins k.dark_head in
-            let (w, b2, l, l3, shape2) = k.again o rest here apart alike in
-            (w, e.Join a2 b2, (j.0, joined s o a2 b2 j.0 j.1 t1 l.1 refl), l3,
-            bare_join a2 b2 ∙ (ap (λ (c : Expr). e.Join c (bare_expr b2)) shape
-            ∙ (ap (λ (c : Expr). e.Join (bare_expr a) c) shape2 ∙ (sym (bare_join a b) ∙ sym (ap bare_expr z)))))
+            let (w, b2, l, l3, shape2) = k.again o rest here apart alike in (
+              w,
+              e.Join a2 b2,
+              (j.0, joined s o a2 b2 j.0 j.1 t1 l.1 refl),
+              l3,
+              bare_join a2 b2 ∙ (ap (λ (c : Expr). e.Join c (bare_expr b2)) shape
+                  ∙ (ap (λ (c : Expr). e.Join (bare_expr a) c) shape2 ∙ (sym (bare_join a b) ∙ sym (ap bare_expr z)))),
+            );
       }
 
   concatenated_back : (p m n q : Place) (a b x : Expr) → begins_condition p ≡ false → IsValue Inner p m a → IsToken (codes "+") m n → Inner n q b → x ≡ e.Concat a b
@@ -204,13 +212,17 @@ module _ (Inner : Rule Expr) (back : (p q : Place) (x : Expr) → Inner p q x �
         dark_head = f.dark_head;
         again = λ r rest h apart alike.
             let (s, a2, j, l1, shape) = f.again r (codes " + " ++ (k.letters ++ rest)) (h ∙ append_assoc f.letters (codes " + " ++ k.letters) rest) (refl, refl)
-                (one_first (sym (token_first 43 [] m n t))) in
+            (one_first (sym (token_first 43 [] m n t))) in
             let (o, t1, l2) = token_back (codes "+") (codes " " ++ (k.letters ++ rest)) s l1 in
             let here : o.rest ≡ k.letters ++ rest = l2 ∙ beyond_dark k.letters k.head k.tail rest k.begins k.dark_head in
-            let (w, b2, l, l3, shape2) = k.again o rest here apart alike in
-            (w, e.Concat a2 b2, (j.0, concatenated s o a2 b2 j.0 j.1 t1 l.1 refl), l3,
-            bare_concat a2 b2 ∙ (ap (λ (c : Expr). e.Concat c (bare_expr b2)) shape
-            ∙ (ap (λ (c : Expr). e.Concat (bare_expr a) c) shape2 ∙ (sym (bare_concat a b) ∙ sym (ap bare_expr z)))))
+            let (w, b2, l, l3, shape2) = k.again o rest here apart alike in (
+              w,
+              e.Concat a2 b2,
+              (j.0, concatenated s o a2 b2 j.0 j.1 t1 l.1 refl),
+              l3,
+              bare_concat a2 b2 ∙ (ap (λ (c : Expr). e.Concat c (bare_expr b2)) shape
+                  ∙ (ap (λ (c : Expr). e.Concat (bare_expr a) c) shape2 ∙ (sym (bare_concat a b) ∙ sym (ap bare_expr z)))),
+            );
       }
 
   conditional_back : (p m n o r s t q : Place) (left right consequent alternative x : Expr) (c : Comparison) (chained : Bool) → begins_condition p ≡ true
@@ -222,7 +234,7 @@ module _ (Inner : Rule Expr) (back : (p q : Place) (x : Expr) → Inner p q x �
       let B : Back (At Inner (begins_condition o)) bare_expr o r right (printed_expr right) = back o r right b in
       let D : Back (IsBlock Inner) bare_expr r s consequent (codes "{ " ++ (printed_expr consequent ++ codes " }")) = block_back r s consequent d in
       let Y : Back (λ u v f. IsOtherwise Inner u v chained f) bare_expr t q alternative (otherwise chained (printed_expr alternative)) =
-          otherwise_back t q chained alternative y in
+      otherwise_back t q chained alternative y in
       let sign : List ℕ = printed_comparison c in
       let other : List ℕ = otherwise chained (printed_expr alternative) in
       let t5 : List ℕ = codes " else " ++ Y.letters in
@@ -232,7 +244,7 @@ module _ (Inner : Rule Expr) (back : (p q : Place) (x : Expr) → Inner p q x �
       let t1 : List ℕ = sign ++ t2 in
       let braces : List ℕ = codes "{ " ++ (printed_expr consequent ++ codes " }") in
       let moved : codes " { " ++ (printed_expr consequent ++ (codes " } else " ++ other)) ≡ codes " " ++ (braces ++ (codes " else " ++ other)) =
-          ap (λ (l : List ℕ). codes " { " ++ l) (sym (append_assoc (printed_expr consequent) (codes " }") (codes " else " ++ other))) in
+      ap (λ (l : List ℕ). codes " { " ++ l) (sym (append_assoc (printed_expr consequent) (codes " }") (codes " else " ++ other))) in
       record {
         letters = codes "if " ++ (A.letters ++ t1);
         head = 105;
@@ -259,36 +271,41 @@ module _ (Inner : Rule Expr) (back : (p q : Place) (x : Expr) → Inner p q x �
             let r1 : List ℕ = sign ++ r2 in
             let r0 : List ℕ = A.letters ++ r1 in
             let spread : (A.letters ++ t1) ++ rest ≡ r0 =
-                append_assoc A.letters t1 rest ∙ ap (λ (l : List ℕ). A.letters ++ l) (append_assoc sign t2 rest ∙ ap (λ (l : List ℕ). sign ++ l)
-                (append_assoc B.letters t3 rest ∙ ap (λ (l : List ℕ). B.letters ++ (codes " " ++ l)) (append_assoc D.letters t5 rest))) in
+            append_assoc A.letters t1 rest ∙ ap (λ (l : List ℕ). A.letters ++ l) (append_assoc sign t2 rest ∙ ap (λ (l : List ℕ). sign ++ l)
+            (append_assoc B.letters t3 rest ∙ ap (λ (l : List ℕ). B.letters ++ (codes " " ++ l)) (append_assoc D.letters t5 rest))) in
             let start : u.rest ≡ codes "if" ++ (codes " " ++ r0) = h ∙ ap (λ (l : List ℕ). codes "if " ++ l) spread in
             let (m2, w2, l0) = word_back (codes "if") (codes " " ++ r0) u start refl in
             let i2 : IsToken (codes "if") u m2 = ((and_true (begins (codes "if") u) (not (starts in_name (behind_text (codes "if") u))) w2.0).0, w2.1) in
             let here0 : m2.rest ≡ r0 = l0 ∙ beyond_dark A.letters A.head A.tail r1 A.begins A.dark_head in
             let (word, opens) = and_true (is_word (codes "if") p) (begins_expr (behind_word p)) g in
             let same_start : first (behind_word u) ≡ first (behind_word p) =
-                ap first_in (behind_if u m2 w2.0 i2 ∙ here0) ∙ (ap (λ (l : List ℕ). first_in (l ++ r1)) A.begins ∙ (sym A.seen ∙ sym (ap first_in (behind_if p m word i)))) in
+            ap first_in (behind_if u m2 w2.0 i2 ∙ here0) ∙ (ap (λ (l : List ℕ). first_in (l ++ r1)) A.begins ∙ (sym A.seen ∙ sym (ap first_in (behind_if p m word i)))) in
             let condition : begins_condition u ≡ true =
-                ap (λ (v : Bool). v && begins_expr (behind_word u)) w2.0 ∙ (expr_alike (behind_word u) (behind_word p) (one_first same_start) ∙ opens) in
+            ap (λ (v : Bool). v && begins_expr (behind_word u)) w2.0 ∙ (expr_alike (behind_word u) (behind_word p) (one_first same_start) ∙ opens) in
             let (n2, a2, ja, l1, shape_a) = A.again m2 r1 here0 (C.apart r2) (C.alike r2) in
             let (o2, k2, l2) = C.again n2 r2 l1 in
             let here2 : o2.rest ≡ r2 = l2 ∙ beyond_dark B.letters B.head B.tail r3 B.begins B.dark_head in
             let (s2, b2, jb, l3, shape_b) =
-                B.again o2 r3 here2 (refl, refl) (alike_front (IsBlock Inner) bare_expr r s consequent (codes "{ " ++ (printed_expr consequent ++ codes " }")) D r5) in
+            B.again o2 r3 here2 (refl, refl) (alike_front (IsBlock Inner) bare_expr r s consequent (codes "{ " ++ (printed_expr consequent ++ codes " }")) D r5) in
             let here3 : s2.rest ≡ r4 = l3 ∙ beyond_dark D.letters D.head D.tail r5 D.begins D.dark_head in
             let (v2, d2, jd, l4, shape_d) = D.again s2 r5 here3 (refl, refl) (one_first (sym (word_first 101 (codes "lse") s t w))) in
             let (f2, e2, l5) = word_back (codes "else") (codes " " ++ r6) v2 l4 refl in
             let here5 : f2.rest ≡ r6 = l5 ∙ beyond_dark Y.letters Y.head Y.tail rest Y.begins Y.dark_head in
-            let (q2, y2, jy, l6, shape_y) = Y.again f2 rest here5 apart alike in
-            (q2, e.If a2 c b2 d2 chained y2, (condition, conditional m2 n2 o2 s2 v2 f2 a2 b2 d2 y2 c chained condition i2 ja.1 k2 jb.1 jd e2 jy refl), l6,
-            bare_if a2 c b2 d2 chained y2
-            ∙ (ap (λ (v : Expr). e.If v c (bare_expr b2) (bare_expr d2) chained (bare_expr y2)) shape_a
-            ∙ (ap (λ (v : Expr). e.If (bare_expr left) c v (bare_expr d2) chained (bare_expr y2)) shape_b
-            ∙ (ap (λ (v : Expr). e.If (bare_expr left) c (bare_expr right) v chained (bare_expr y2)) shape_d
-            ∙ (ap (λ (v : Expr). e.If (bare_expr left) c (bare_expr right) (bare_expr consequent) chained v) shape_y
-            ∙ (sym (bare_if left c right consequent chained alternative) ∙ sym (ap bare_expr z)))))))
+            let (q2, y2, jy, l6, shape_y) = Y.again f2 rest here5 apart alike in (
+              q2,
+              e.If a2 c b2 d2 chained y2,
+              (condition, conditional m2 n2 o2 s2 v2 f2 a2 b2 d2 y2 c chained condition i2 ja.1 k2 jb.1 jd e2 jy refl),
+              l6,
+              bare_if a2 c b2 d2 chained y2
+                  ∙ (ap (λ (v : Expr). e.If v c (bare_expr b2) (bare_expr d2) chained (bare_expr y2)) shape_a
+                  ∙ (ap (λ (v : Expr). e.If (bare_expr left) c v (bare_expr d2) chained (bare_expr y2)) shape_b
+                  ∙ (ap (λ (v : Expr). e.If (bare_expr left) c (bare_expr right) v chained (bare_expr y2)) shape_d
+                  ∙ (ap (λ (v : Expr). e.If (bare_expr left) c (bare_expr right) (bare_expr consequent) chained v) shape_y
+                  ∙ (sym (bare_if left c right consequent chained alternative) ∙ sym (ap bare_expr z)))))),
+            );
       }
 
+  -- an expression of any form is printed and read as one of its shape
   pub level_back : (p q : Place) (x : Expr) → IsLevel Inner p q x → Back (At (IsLevel Inner) (begins_condition p)) bare_expr p q x (printed_expr x)
   level_back p q x (conditional m n o r s t left right consequent alternative c chained g i a k b d w y z) =
       subst (λ (v : Bool). Back (At (IsLevel Inner) v) bare_expr p q x (printed_expr x)) (sym g)

@@ -1,57 +1,28 @@
 -- What is printed of the fragments of a body line is read again as fragments of the same shape.
-use lib.Utf8.{scalar, scalars}
-use Rattle.std.proofs.Common.{◌≡◌, ℕ, ◌==◌, Bool, true, false, not, ◌&&◌, ◌||◌, ◌⊎◌, inl, inr, ⊎_elim, if◌then◌else◌, List, [], ◌∷◌, ◌++◌, map, Some, codes, chars, encode_utf8_all, refl, sym, ap, ◌∙◌, subst, append_assoc}
+use lib.Utf8.{scalars}
+use Rattle.std.proofs.Common.{◌≡◌, ℕ, ◌==◌, Bool, true, false, not, ◌&&◌, ◌||◌, ◌⊎◌, inl, inr, ⊎_elim, List, [], ◌∷◌, ◌++◌, map, Some, codes, chars, encode_utf8_all, refl, sym, ap, ◌∙◌, subst, append_assoc}
 use Rattle.std.proofs.lemmas.Bool.{false≢true}
 use Rattle.std.proofs.lemmas.Str.{chars-encodes}
 use Rattle.std.specs.List.{flat_map}
-use Rattle.just_read.specs.Place.{Place, AreMany, at, past, first_in, passes, begins, begins_in, behind_text}
+use Rattle.just_read.specs.Place.{Place, AreMany, at, first_in, begins, begins_in, behind_text}
 use Rattle.just_syntax.specs.declared.ast.Expr.{Expr}
 use Rattle.just_syntax.specs.declared.ast.Fragment.{Fragment}
 use Rattle.just_syntax.specs.declared.ast.Fragment.TheVariants as fragment
 use Rattle.just_read.specs.Characters.{is_blank}
-use Rattle.just_read.specs.Lines.{skip, ends_line, IsToken}
+use Rattle.just_read.specs.Lines.{ends_line, IsToken}
 use Rattle.just_syntax.specs.Strings.{concat}
 use Rattle.just_syntax.specs.Exprs.{IsExpr}
 use Rattle.just_syntax.specs.Bodies.{opens, is_text, IsLetter, IsFragment}
 use Rattle.just_syntax.specs.Bodies.IsLetter.{braces, itself}
 use Rattle.just_syntax.specs.Bodies.IsFragment.{text, value}
 use Rattle.just_print.specs.Printed.{printed_expr, printed_fragment, doubled}
-use Rattle.just_print.specs.Shapes.{bare_expr, bare_fragment}
+use Rattle.just_print.specs.Shapes.{bare_fragment}
 use Rattle.just_print.specs.Law.{ends_in_return, fragment_returns, line_returns}
-use Rattle.just_print.proofs.Places.{beyond, past_rest, behind_front, token_back, beyond_run, beyond_dark, closes, Alike, one_first, both_close, alike_test, and_true}
-use Rattle.just_print.proofs.PiecesBack.{front_of}
+use Rattle.just_print.proofs.Places.{beyond, behind_front, token_back, beyond_run, beyond_dark, closes, Alike, one_first, both_close, alike_test}
 use Rattle.just_print.proofs.WordsBack.{joined_text, plain_text, begins_first, begins_alike}
 use Rattle.just_print.proofs.ExprsBack.{expr_back}
+use Rattle.just_print.proofs.Scalars.{Keeps, same_keeps, text_keeps, token_keeps, many_keep, expr_keeps}
 use Rattle.just_print.proofs.TextsBack.{leads, ends_in, opens_in, text_in, doubled_returns, feed_same, return_tail, letters_back}
-
--- ---- scalar values
-
--- what is left behind a front has scalar values alone where the whole does
-scalars_behind : (front rest : List ℕ) → scalars (front ++ rest) ≡ true → scalars rest ≡ true
-scalars_behind [] rest h = h
-scalars_behind (c ∷ front) rest h = scalars_behind front rest (and_true (scalar c) (scalars (front ++ rest)) h).1
-
--- and so behind a text that stands there
-pub scalars_text : (front : List ℕ) (p : Place) → begins front p ≡ true → scalars p.rest ≡ true → scalars (behind_text front p).rest ≡ true
-scalars_text front p b s =
-    let (rest, h) = front_of front p.rest b in
-    ap scalars (behind_front front rest p h) ∙ scalars_behind front rest (ap scalars (sym h) ∙ s)
-
-scalars_by : (b : Bool) (t : ℕ → Bool) (c : ℕ) (list : List ℕ) → t c ≡ b → scalars (c ∷ list) ≡ true → scalars (beyond t list) ≡ true
-    → scalars (beyond t (c ∷ list)) ≡ true
-scalars_by true t c list h s k = rw h k
-scalars_by false t c list h s k = rw h s
-
--- and behind a run
-pub scalars_beyond : (t : ℕ → Bool) (list : List ℕ) → scalars list ≡ true → scalars (beyond t list) ≡ true
-scalars_beyond t [] s = refl
-scalars_beyond t (c ∷ list) s = scalars_by (t c) t c list refl s (scalars_beyond t list (and_true (scalar c) (scalars list) s).1)
-
--- and behind a mark and the blanks that follow it
-pub scalars_token : (front : List ℕ) (p q : Place) → IsToken front p q → scalars p.rest ≡ true → scalars q.rest ≡ true
-scalars_token front p q (b, e) s =
-    ap (λ (r : Place). scalars r.rest) e
-    ∙ (ap scalars (past_rest is_blank (behind_text front p)) ∙ scalars_beyond is_blank (behind_text front p).rest (scalars_text front p b s))
 
 -- ---- the ends of lines
 
@@ -156,7 +127,7 @@ none_back p q e end =
       opened = λ rest o. absurd (brace_ends p.rest (opens_first p o) (ends_closes p.rest ends));
       no_text = λ rest n. refl;
       dark = λ rest n. absurd (false≢true (sym n ∙ (ap ends_in (ends_stay p.rest ends) ∙ ends)));
-      again = λ r rest h. (r, [], refl, h, refl)
+      again = λ r rest h. (r, [], refl, h, refl);
     }
 
 -- a text before others
@@ -167,14 +138,14 @@ text_back p m letters x xs t are d z s ends n f =
     let l = letters_back p m letters are in
     let read : chars (encode_utf8_all (concat letters)) ≡ concat letters = chars-encodes (concat letters) (l.scalar_too s).0 in
     let made : printed_fragment x ≡ encode_utf8_all l.whole =
-        ap printed_fragment z ∙ ap encode_utf8_all (ap doubled read ∙ l.written) in
+    ap printed_fragment z ∙ ap encode_utf8_all (ap doubled read ∙ l.written) in
     let returns : ends_in_return l.whole ≡ fragment_returns x =
-        ap ends_in_return (sym l.written) ∙ (doubled_returns (concat letters) ∙ (ap ends_in_return (sym read) ∙ ap fragment_returns (sym z))) in
+    ap ends_in_return (sym l.written) ∙ (doubled_returns (concat letters) ∙ (ap ends_in_return (sym read) ∙ ap fragment_returns (sym z))) in
     let fits : (rest : List ℕ) → (ends_in_return l.whole && leads 10 (f.letters ++ 10 ∷ rest)) ≡ false = λ rest.
-        ⊎_elim
-        (λ (e : xs ≡ []). let no : ends_in_return l.whole ≡ false = returns ∙ (ap (λ (ys : List Fragment). line_returns (x ∷ ys)) (sym e) ∙ n) in rw no refl)
-        (λ (o : opens m ≡ true). and_false (ends_in_return l.whole) (leads 10 (f.letters ++ 10 ∷ rest)) (f.opened rest o))
-        ends in
+    ⊎_elim
+    (λ (e : xs ≡ []). let no : ends_in_return l.whole ≡ false = returns ∙ (ap (λ (ys : List Fragment). line_returns (x ∷ ys)) (sym e) ∙ n) in rw no refl)
+    (λ (o : opens m ≡ true). and_false (ends_in_return l.whole) (leads 10 (f.letters ++ 10 ∷ rest)) (f.opened rest o))
+    ends in
     let parts : (rest : List ℕ) → (l.whole ++ f.letters) ++ 10 ∷ rest ≡ l.whole ++ (f.letters ++ 10 ∷ rest) = λ rest. append_assoc l.whole f.letters (10 ∷ rest) in
     record {
       letters = l.whole ++ f.letters;
@@ -190,10 +161,14 @@ text_back p m letters x xs t are d z s ends n f =
           ∙ dark_text l.whole m.rest (f.letters ++ 10 ∷ rest) (ap (λ (k : List ℕ). ends_in (beyond is_blank k)) (sym l.source) ∙ e) (fits rest) (f.dark rest);
       again = λ r rest h.
           let (a, letters_are, left) =
-              l.again r (f.letters ++ 10 ∷ rest) (h ∙ parts rest) (begins_alike 123 (at (f.letters ++ 10 ∷ rest) 1 1) m refl refl (f.alike rest)) (fits rest) in
-          let (b, ys, others, behind, shape) = f.again a rest left in
-          (b, x ∷ ys, (a, text letters (text_first p m r a letters are t d letters_are) letters_are (ap text_in left ∙ f.no_text rest d) z, others), behind,
-          ap (λ (ws : List Fragment). bare_fragment x ∷ ws) shape)
+          l.again r (f.letters ++ 10 ∷ rest) (h ∙ parts rest) (begins_alike 123 (at (f.letters ++ 10 ∷ rest) 1 1) m refl refl (f.alike rest)) (fits rest) in
+          let (b, ys, others, behind, shape) = f.again a rest left in (
+            b,
+            x ∷ ys,
+            (a, text letters (text_first p m r a letters are t d letters_are) letters_are (ap text_in left ∙ f.no_text rest d) z, others),
+            behind,
+            ap (λ (ws : List Fragment). bare_fragment x ∷ ws) shape,
+          );
     }
   where
     and_false : (a b : Bool) → b ≡ false → (a && b) ≡ false
@@ -210,12 +185,12 @@ value_back : (p m n q : Place) (y : Expr) (x : Fragment) (xs : List Fragment) �
 value_back p m n q y x xs o t i b z f =
     let e = expr_back m n y i in
     let parts : (rest : List ℕ) → (in_braces e.letters ++ f.letters) ++ 10 ∷ rest ≡ codes "{{ " ++ (e.letters ++ (codes " }}" ++ (f.letters ++ 10 ∷ rest))) = λ rest.
-        append_assoc (in_braces e.letters) f.letters (10 ∷ rest)
-        ∙ ap (λ (k : List ℕ). codes "{{ " ++ k) (append_assoc e.letters (codes " }}") (f.letters ++ 10 ∷ rest)) in
+    append_assoc (in_braces e.letters) f.letters (10 ∷ rest)
+    ∙ ap (λ (k : List ℕ). codes "{{ " ++ k) (append_assoc e.letters (codes " }}") (f.letters ++ 10 ∷ rest)) in
     let made : printed_fragment x ≡ encode_utf8_all (in_braces e.letters) =
-        ap printed_fragment z
-        ∙ joined_text (codes "{{ ") (printed_expr y ++ codes " }}") (codes "{{ ") (e.letters ++ codes " }}") (plain_text (codes "{{ ") refl)
-        (joined_text (printed_expr y) (codes " }}") e.letters (codes " }}") e.encoded (plain_text (codes " }}") refl)) in
+    ap printed_fragment z
+    ∙ joined_text (codes "{{ ") (printed_expr y ++ codes " }}") (codes "{{ ") (e.letters ++ codes " }}") (plain_text (codes "{{ ") refl)
+    (joined_text (printed_expr y) (codes " }}") e.letters (codes " }}") e.encoded (plain_text (codes " }}") refl)) in
     record {
       letters = in_braces e.letters ++ f.letters;
       encoded = joined_text (printed_fragment x) (flat_map printed_fragment xs) (in_braces e.letters) f.letters made f.encoded;
@@ -229,31 +204,32 @@ value_back p m n q y x xs o t i b z f =
           let (a, token, left) = token_back (codes "{{") (codes " " ++ (e.letters ++ (codes " }}" ++ more))) r from in
           let here : a.rest ≡ e.letters ++ (codes " }}" ++ more) = left ∙ beyond_dark e.letters e.head e.tail (codes " }}" ++ more) e.begins e.dark_head in
           let (c, w, is, behind, shape) = e.again a (codes " }}" ++ more) here (refl, refl) (one_first (sym (begins_first 125 (codes "}") n b))) in
-          let (v, ys, others, end, same_rest) = f.again (behind_text (codes "}}") c) rest (behind_front (codes "}}") more c behind) in
-          (v, fragment.Value w ∷ ys,
-          (behind_text (codes "}}") c, value a c w (ap opens_in from) token is.1 (ap (begins_in (codes "}}")) behind) refl refl, others), end,
-          ap (λ (k : Fragment). k ∷ map bare_fragment ys) (ap (λ (k : Expr). fragment.Value k) shape ∙ sym (ap bare_fragment z))
-          ∙ ap (λ (ws : List Fragment). bare_fragment x ∷ ws) same_rest)
+          let (v, ys, others, end, same_rest) = f.again (behind_text (codes "}}") c) rest (behind_front (codes "}}") more c behind) in (
+            v,
+            fragment.Value w ∷ ys,
+            (behind_text (codes "}}") c, value a c w (ap opens_in from) token is.1 (ap (begins_in (codes "}}")) behind) refl refl, others),
+            end,
+            ap (λ (k : Fragment). k ∷ map bare_fragment ys) (ap (λ (k : Expr). fragment.Value k) shape ∙ sym (ap bare_fragment z))
+                ∙ ap (λ (ws : List Fragment). bare_fragment x ∷ ws) same_rest,
+          );
     }
 
-module _ (expr_scalar : (p q : Place) (x : Expr) → IsExpr p q x → scalars p.rest ≡ true → scalars q.rest ≡ true) where
-  -- behind a fragment there are scalar values alone, where there are from it on
-  fragment_scalar : (p q : Place) (x : Fragment) → IsFragment p q x → scalars p.rest ≡ true → scalars q.rest ≡ true
-  fragment_scalar p q x (text letters t are d z) s = ((letters_back p q letters are).scalar_too s).1
-  fragment_scalar p q x (value m n y o t i b e z) s =
-      ap (λ (r : Place). scalars r.rest) e ∙ scalars_text (codes "}}") n b (expr_scalar m n y i (scalars_token (codes "{{") p m t s))
+-- behind a fragment there are scalar values alone, where there are from it on
+fragment_keeps : (p q : Place) (x : Fragment) → IsFragment p q x → Keeps p q
+fragment_keeps p q x (text letters t are d z) s = ((letters_back p q letters are).scalar_too s).1
+fragment_keeps p q x (value m n y o t i b e z) s =
+    same_keeps p q (behind_text (codes "}}") n) e (λ k. text_keeps (codes "}}") n (expr_keeps m n y i (token_keeps (codes "{{") p m t k))) s
 
-  -- and behind fragments
-  pub fragments_scalar : (p q : Place) (xs : List Fragment) → AreMany IsFragment p q xs → scalars p.rest ≡ true → scalars q.rest ≡ true
-  fragments_scalar p q [] e s = ap (λ (r : Place). scalars r.rest) e ∙ s
-  fragments_scalar p q (x ∷ xs) (m, i, are) s = fragments_scalar m q xs are (fragment_scalar p m x i s)
+-- and behind fragments
+pub fragments_keep : (p q : Place) (xs : List Fragment) → AreMany IsFragment p q xs → Keeps p q
+fragments_keep p q xs are s = many_keep IsFragment fragment_keeps p q xs are s
 
-  -- the fragments of a line are printed and read with the same shape
-  pub fragments_back : (p q : Place) (xs : List Fragment) → AreMany IsFragment p q xs → ends_line q ≡ true → scalars p.rest ≡ true → line_returns xs ≡ false → Fragments p xs
-  fragments_back p q [] e end s n = none_back p q e end
-  fragments_back p q (x ∷ xs) (m, text letters t l d z, are) end s n =
-      text_back p m letters x xs t l d z s (last_or_opens m q xs are d) n
-      (fragments_back m q xs are end (fragment_scalar p m x (text letters t l d z) s) (returns_more x xs n))
-  fragments_back p q (x ∷ xs) (m, value a b y o t i c e z, are) end s n =
-      value_back p a b m y x xs o t i c z
-      (fragments_back m q xs are end (fragment_scalar p m x (value a b y o t i c e z) s) (returns_more x xs n))
+-- the fragments of a line are printed and read with the same shape
+pub fragments_back : (p q : Place) (xs : List Fragment) → AreMany IsFragment p q xs → ends_line q ≡ true → scalars p.rest ≡ true → line_returns xs ≡ false → Fragments p xs
+fragments_back p q [] e end s n = none_back p q e end
+fragments_back p q (x ∷ xs) (m, text letters t l d z, are) end s n =
+    text_back p m letters x xs t l d z s (last_or_opens m q xs are d) n
+    (fragments_back m q xs are end (fragment_keeps p m x (text letters t l d z) s) (returns_more x xs n))
+fragments_back p q (x ∷ xs) (m, value a b y o t i c e z, are) end s n =
+    value_back p a b m y x xs o t i c z
+    (fragments_back m q xs are end (fragment_keeps p m x (value a b y o t i c e z) s) (returns_more x xs n))

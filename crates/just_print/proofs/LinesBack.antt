@@ -1,15 +1,15 @@
 -- What is printed of the end of an item's line is read again, with its comment.
-use Rattle.std.proofs.Common.{◌≡◌, ℕ, ◌==◌, Bool, true, false, not, if◌then◌else◌, List, [], ◌∷◌, ◌++◌, Option, Some, None, codes, encode_utf8_all, refl, sym, ap, ◌∙◌, subst, append_assoc}
+use Rattle.std.proofs.Common.{◌≡◌, ℕ, ◌==◌, Bool, true, false, List, [], ◌∷◌, ◌++◌, Option, Some, None, codes, encode_utf8_all, refl, sym, ap, ◌∙◌, subst, append_assoc}
 use Rattle.std.proofs.lemmas.Bool.{false≢true}
-use Rattle.just_read.specs.Place.{Place, IsCharacter, next, past, run, first, first_in, passes, starts, sees, begins, begins_in, behind_text, is_empty, is_end}
+use Rattle.just_read.specs.Place.{Place, next, past, run, first, first_in, passes, is_empty}
 use Rattle.just_read.proofs.Laws.{sees_first, starts_at}
 use Rattle.just_read.specs.Characters.{is_blank, in_line}
-use Rattle.just_read.specs.Lines.{crlf, put, without_returns, IsNewline}
+use Rattle.just_read.specs.Lines.{put, without_returns, IsNewline}
 use Rattle.just_syntax.specs.Places.{IsComment, IsRest}
 use Rattle.just_read.specs.Lines.IsNewline.{last, feed, return_feed}
 use Rattle.just_syntax.specs.Places.IsRest.{ended, commented}
 use Rattle.just_print.specs.Printed.{newline, printed_end}
-use Rattle.just_print.proofs.Places.{beyond, past_rest, next_rest, run_run, beyond_run, closes, Alike, one_first, both_close, IsApart}
+use Rattle.just_print.proofs.Places.{beyond, past_rest, next_rest, beyond_run, closes, Alike, one_first, both_close, IsApart}
 use Rattle.just_print.proofs.PiecesBack.{sees_at}
 use Rattle.just_print.proofs.WordsBack.{joined_text, plain_text, begins_first}
 
@@ -114,7 +114,7 @@ ended_back p q n =
       encoded = plain_text newline refl;
       apart = λ rest. (refl, refl);
       alike = λ rest. both_close refl (newline_closes p q n);
-      again = λ s rest h. let (ends, left) = newline_back s rest h in (next s, ended ends refl, left)
+      again = λ s rest h. let (ends, left) = newline_back s rest h in (next s, ended ends refl, left);
     }
 
 commented_back : (p q : Place) (text : List ℕ) → IsComment p q text → EndBack p (Some text)
@@ -122,7 +122,7 @@ commented_back p q text i =
     let w : List ℕ = comment_letters p in
     let hash : first_in w ≡ Some 35 = hash_first p.rest (sees_first 35 p i.0) in
     let dropped : (rest : List ℕ) → beyond is_blank ((w ++ newline) ++ rest) ≡ w ++ (10 ∷ rest) =
-        λ rest. ap (beyond is_blank) (append_assoc w newline rest) ∙ hash_beyond w (10 ∷ rest) hash in
+    λ rest. ap (beyond is_blank) (append_assoc w newline rest) ∙ hash_beyond w (10 ∷ rest) hash in
     record {
       letters = codes " " ++ (w ++ newline);
       encoded = joined_text (codes " ") (text ++ newline) (codes " ") (w ++ newline) (plain_text (codes " ") refl)
@@ -130,7 +130,7 @@ commented_back p q text i =
       apart = λ rest. (refl, refl);
       alike = λ rest. one_first (ap first_in (dropped rest) ∙ (hash_append w (10 ∷ rest) hash ∙ sym (sees_first 35 p i.0)));
       again = λ s rest h.
-          let (t, is, left) = comment_stands p q text i s rest (h ∙ dropped rest) in (t, commented text is refl, left)
+          let (t, is, left) = comment_stands p q text i s rest (h ∙ dropped rest) in (t, commented text is refl, left);
     }
 
 -- the end of an item's line is printed and read as it is

@@ -1,10 +1,10 @@
 -- What is printed of a name is read again as that name.
-use Rattle.std.proofs.Common.{◌≡◌, ℕ, Bool, true, false, ◌||◌, List, [], ◌∷◌, ◌++◌, Some, encode_utf8_all, refl, sym, ap, ◌∙◌}
-use Rattle.just_read.specs.Place.{Place, Rule, past, run, first, first_in, passes, starts, next}
+use Rattle.std.proofs.Common.{◌≡◌, ℕ, true, false, List, ◌∷◌, ◌++◌, Some, encode_utf8_all, refl, sym, ap, ◌∙◌}
+use Rattle.just_read.specs.Place.{Place, Rule, past, run, first, first_in, passes, next}
 use Rattle.just_read.proofs.Laws.{starts_at, starts_with, run_next}
 use Rattle.just_syntax.specs.declared.ast.Name.{Name}
 use Rattle.just_read.specs.Characters.{is_blank, begins_name, in_name}
-use Rattle.just_read.specs.Lines.{skip, behind_word}
+use Rattle.just_read.specs.Lines.{behind_word}
 use Rattle.just_syntax.specs.Places.{name_at, IsName}
 use Rattle.just_print.specs.Shapes.{bare_name}
 use Rattle.just_print.proofs.Places.{beyond, past_rest, run_run, beyond_run, dark, Alike, IsApart}
@@ -34,10 +34,10 @@ name_stands p q x (b, e, z) r rest h apart =
     let more : run in_name p.rest ≡ c ∷ run in_name (next p).rest = run_next in_name p c f (starts_at in_name p c f ∙ in_name_first c t) in
     let g : first r ≡ Some c = ap first_in (h ∙ ap (λ (l : List ℕ). l ++ rest) more) in
     let left : (behind_word r).rest ≡ beyond is_blank rest =
-        past_rest is_blank (past in_name r) ∙ ap (beyond is_blank) (past_rest in_name r ∙ (ap (beyond in_name) h ∙ beyond_run in_name p.rest rest apart)) in
+    past_rest is_blank (past in_name r) ∙ ap (beyond is_blank) (past_rest in_name r ∙ (ap (beyond in_name) h ∙ beyond_run in_name p.rest rest apart)) in
     let text : run in_name r.rest ≡ run in_name p.rest = ap (run in_name) h ∙ run_run in_name p.rest rest apart in
     let shape : bare_name (name_at r) ≡ bare_name x =
-        ap (λ (l : List ℕ). record { text = encode_utf8_all l; line = 0; column = 0 }) text ∙ sym (ap bare_name z) in
+    ap (λ (l : List ℕ). record { text = encode_utf8_all l; line = 0; column = 0 }) text ∙ sym (ap bare_name z) in
     ((starts_at begins_name r c g ∙ t, refl, refl), left, shape)
 
 -- a name is printed and read as it is
@@ -54,5 +54,5 @@ name_back p q x (b, e, z) =
       dark_head = dark begins_name c t refl refl;
       again = λ r rest h apart alike.
           let (is, left, shape) = name_stands p q x (b, e, z) r rest h apart.0 in
-          (behind_word r, name_at r, is, left, shape)
+          (behind_word r, name_at r, is, left, shape);
     }

@@ -1,8 +1,8 @@
 -- What is printed of parameters is read again.
 use Rattle.std.specs.Option.{option_map}
-use Rattle.std.proofs.Common.{◌≡◌, ℕ, ◌==◌, Bool, true, false, not, ◌&&◌, ◌||◌, if◌then◌else◌, List, [], ◌∷◌, ◌++◌, map, Option, Some, None, codes, encode_utf8_all, refl, sym, ap, ◌∙◌, subst, append_assoc}
+use Rattle.std.proofs.Common.{◌≡◌, ℕ, ◌==◌, Bool, true, false, ◌||◌, List, [], ◌∷◌, ◌++◌, map, Option, Some, None, codes, encode_utf8_all, refl, sym, ap, ◌∙◌, subst, append_assoc}
 use Rattle.std.proofs.lemmas.List.{map-append}
-use Rattle.just_read.specs.Place.{Place, AreMany, next, run, first, first_in, passes, starts, begins, begins_in}
+use Rattle.just_read.specs.Place.{Place, AreMany, next, run, first, first_in, starts, begins}
 use Rattle.just_read.proofs.Laws.{starts_at}
 use Rattle.just_syntax.specs.declared.ast.Name.{Name}
 use Rattle.just_syntax.specs.declared.ast.Expr.{Expr}
@@ -11,7 +11,7 @@ use Rattle.just_syntax.specs.declared.ast.ParameterKind.TheVariants.{Singular, P
 use Rattle.just_syntax.specs.declared.ast.AstParameter.{AstParameter}
 use Rattle.just_read.specs.Characters.{is_blank, begins_name, in_name}
 use Rattle.just_read.specs.Lines.{behind_word, IsToken}
-use Rattle.just_syntax.specs.Places.{name_at, IsName}
+use Rattle.just_syntax.specs.Places.{name_at}
 use Rattle.just_syntax.specs.Exprs.{IsInner, IsValue}
 use Rattle.just_syntax.specs.Recipes.{begins_parameter, listed, IsMaybe, IsDefault, IsParameter, IsVariadic, IsSingular, AreParameters}
 use Rattle.just_syntax.specs.Recipes.IsMaybe.{here, not_here}
@@ -19,9 +19,9 @@ use Rattle.just_syntax.specs.Recipes.IsDefault.{default, without}
 use Rattle.just_syntax.specs.Recipes.IsParameter.{parameter}
 use Rattle.just_syntax.specs.Recipes.IsVariadic.{star, plus, none}
 use Rattle.just_syntax.specs.Recipes.AreParameters.{parameters}
-use Rattle.just_print.specs.Printed.{led, only_if, kind_sign, printed_expr, printed_default, printed_parameter, printed_parameters}
+use Rattle.just_print.specs.Printed.{only_if, kind_sign, printed_expr, printed_default, printed_parameter, printed_parameters}
 use Rattle.just_print.specs.Shapes.{bare_name, bare_expr, bare_parameter}
-use Rattle.just_print.proofs.Places.{beyond, beyond_dark, dark, not_that, Alike, one_first, alike_test, IsApart, token_back}
+use Rattle.just_print.proofs.Places.{beyond, beyond_dark, not_that, Alike, one_first, alike_test, IsApart, token_back}
 use Rattle.just_print.proofs.NamesBack.{Back, name_stands}
 use Rattle.just_print.proofs.PathsBack.{name_cell}
 use Rattle.just_print.proofs.WordsBack.{joined_text, plain_text, token_first, begins_other, begins_alike}
@@ -74,7 +74,7 @@ given_back p m q y t i =
       again = λ s rest h apart alike.
           let (o, t1, l1) = token_back (codes "=") (b.letters ++ rest) s h in
           let (v, w, j, l2, shape) = b.again o rest (l1 ∙ beyond_dark b.letters b.head b.tail rest b.begins b.dark_head) apart alike in
-          (v, Some w, default o w t1 j refl, l2, ap (λ (c : Expr). Some c) shape)
+          (v, Some w, default o w t1 j refl, l2, ap (λ (c : Expr). Some c) shape);
     }
 
 not_given_back : (p q : Place) → begins (codes "=") p ≡ false → q ≡ p → DefaultBack q None
@@ -84,7 +84,7 @@ not_given_back p q n e =
       encoded = refl;
       apart = λ rest a. a;
       again = λ s rest h apart alike.
-          (s, None, without (begins_alike 61 s q refl refl (subst (λ (l : List ℕ). Alike l q.rest) (sym h) alike) ∙ (ap (begins (codes "=")) e ∙ n)) refl refl, h, refl)
+          (s, None, without (begins_alike 61 s q refl refl (subst (λ (l : List ℕ). Alike l q.rest) (sym h) alike) ∙ (ap (begins (codes "=")) e ∙ n)) refl refl, h, refl);
     }
 
 default_back : (p q : Place) (d : Option Expr) → IsDefault p q d → DefaultBack q d
@@ -99,6 +99,7 @@ unsigned x = only_if x.export (codes "$") ++ (x.name.text ++ printed_default x.d
 abbrev pub parameter_of : ParameterKind → Bool → Name → Option Expr → AstParameter
 parameter_of kind export name d = record { kind = kind; export = export; name = name; default = d }
 
+-- a parameter behind the sign of its kind is printed and read as it is
 pub parameter_back : (kind : ParameterKind) (p q : Place) (x : AstParameter) → IsParameter kind p q x → Back (IsParameter kind) bare_parameter p q x (unsigned x)
 parameter_back kind p q x (parameter m n export name d i k g z) =
     let D : DefaultBack q d = default_back n q d g in
@@ -118,14 +119,18 @@ parameter_back kind p q x (parameter m n export name d i k g z) =
       dark_head = dark_one;
       again = λ r rest h apart alike.
           let spread : r.rest ≡ only_if export (codes "$") ++ (word ++ (D.letters ++ rest)) =
-              h ∙ (append_assoc (only_if export (codes "$")) (word ++ D.letters) rest ∙ ap (λ (l : List ℕ). only_if export (codes "$") ++ l) (append_assoc word D.letters rest)) in
+          h ∙ (append_assoc (only_if export (codes "$")) (word ++ D.letters) rest ∙ ap (λ (l : List ℕ). only_if export (codes "$") ++ l) (append_assoc word D.letters rest)) in
           let (m2, i2, l1) = maybe_here export 36 c r (word ++ (D.letters ++ rest)) spread (ap (λ (l : List ℕ). first_in (l ++ (D.letters ++ rest))) cell)
-              (not_that begins_name c 36 is_letter refl) is_dark in
+          (not_that begins_name c 36 is_letter refl) is_dark in
           let (is, l2, shape) = name_stands m n name k m2 (D.letters ++ rest) l1 (D.apart rest apart).0 in
-          let (q2, d2, g2, l3, shape2) = D.again (behind_word m2) rest l2 apart alike in
-          (q2, parameter_of kind export (name_at m2) d2, parameter m2 (behind_word m2) export (name_at m2) d2 i2 is g2 refl, l3,
-          ap (λ (a : Name). record { kind = kind; export = export; name = a; default = option_map bare_expr d2 }) shape
-          ∙ (ap (λ (a : Option Expr). record { kind = kind; export = export; name = bare_name name; default = a }) shape2 ∙ sym (ap bare_parameter z)))
+          let (q2, d2, g2, l3, shape2) = D.again (behind_word m2) rest l2 apart alike in (
+            q2,
+            parameter_of kind export (name_at m2) d2,
+            parameter m2 (behind_word m2) export (name_at m2) d2 i2 is g2 refl,
+            l3,
+            ap (λ (a : Name). record { kind = kind; export = export; name = a; default = option_map bare_expr d2 }) shape
+                ∙ (ap (λ (a : Option Expr). record { kind = kind; export = export; name = bare_name name; default = a }) shape2 ∙ sym (ap bare_parameter z)),
+          );
     }
 
 -- the sign of a parameter is that of its kind
@@ -154,7 +159,7 @@ none_back p q x e f z =
       apart = λ rest. (refl, refl);
       alike = λ rest. one_first (sym (ap first (sym e) ∙ f));
       again = λ s rest h.
-          (s, None, no_parameter 58 s (ap first_in h) refl refl, none (begins_other 58 42 [] s (ap first_in h) refl) (begins_other 58 43 [] s (ap first_in h) refl) refl refl, h, refl)
+          (s, None, no_parameter 58 s (ap first_in h) refl refl, none (begins_other 58 42 [] s (ap first_in h) refl) (begins_other 58 43 [] s (ap first_in h) refl) refl refl, h, refl);
     }
 
 star_back : (p m q : Place) (x : AstParameter) → IsToken (codes "*") p m → IsParameter Star m q x → first q ≡ Some 58 → LastBack p (Some x)
@@ -169,9 +174,9 @@ star_back p m q x t i f =
       again = λ s rest h.
           let (o, t1, l1) = token_back (codes "*") ((b.letters ++ []) ++ (codes ":" ++ rest)) s h in
           let start : o.rest ≡ b.letters ++ (codes ":" ++ rest) =
-              l1 ∙ (ap (beyond is_blank) (append_assoc b.letters [] (codes ":" ++ rest)) ∙ beyond_dark b.letters b.head b.tail (codes ":" ++ rest) b.begins b.dark_head) in
+          l1 ∙ (ap (beyond is_blank) (append_assoc b.letters [] (codes ":" ++ rest)) ∙ beyond_dark b.letters b.head b.tail (codes ":" ++ rest) b.begins b.dark_head) in
           let (v, y, j, l2, shape) = b.again o (codes ":" ++ rest) start (refl, refl) (one_first (sym f)) in
-          (v, Some y, no_parameter 42 s (ap first_in h) refl refl, star o y t1 j refl, l2, ap (λ (a : AstParameter). Some a) shape)
+          (v, Some y, no_parameter 42 s (ap first_in h) refl refl, star o y t1 j refl, l2, ap (λ (a : AstParameter). Some a) shape);
     }
 
 plus_back : (p m q : Place) (x : AstParameter) → IsToken (codes "+") p m → IsParameter Plus m q x → first q ≡ Some 58 → LastBack p (Some x)
@@ -186,9 +191,9 @@ plus_back p m q x t i f =
       again = λ s rest h.
           let (o, t1, l1) = token_back (codes "+") ((b.letters ++ []) ++ (codes ":" ++ rest)) s h in
           let start : o.rest ≡ b.letters ++ (codes ":" ++ rest) =
-              l1 ∙ (ap (beyond is_blank) (append_assoc b.letters [] (codes ":" ++ rest)) ∙ beyond_dark b.letters b.head b.tail (codes ":" ++ rest) b.begins b.dark_head) in
+          l1 ∙ (ap (beyond is_blank) (append_assoc b.letters [] (codes ":" ++ rest)) ∙ beyond_dark b.letters b.head b.tail (codes ":" ++ rest) b.begins b.dark_head) in
           let (v, y, j, l2, shape) = b.again o (codes ":" ++ rest) start (refl, refl) (one_first (sym f)) in
-          (v, Some y, no_parameter 43 s (ap first_in h) refl refl, plus o y t1 j refl, l2, ap (λ (a : AstParameter). Some a) shape)
+          (v, Some y, no_parameter 43 s (ap first_in h) refl refl, plus o y t1 j refl, l2, ap (λ (a : AstParameter). Some a) shape);
     }
 
 last_back : (p q : Place) (x : Option AstParameter) → IsVariadic p q x → first q ≡ Some 58 → LastBack p x
@@ -221,7 +226,7 @@ singulars_back p m [] last e L =
       encoded = L.encoded;
       apart = L.apart;
       alike = λ rest. subst (λ (q : Place). Alike (beyond is_blank (L.letters ++ (codes ":" ++ rest))) q.rest) e (L.alike rest);
-      again = λ s rest h. let (t, y, n, v, left, shape) = L.again s rest h in (s, t, [], y, refl, n, v, left, refl, shape)
+      again = λ s rest h. let (t, y, n, v, left, shape) = L.again s rest h in (s, t, [], y, refl, n, v, left, refl, shape);
     }
 singulars_back p m (x ∷ xs) last (o, (g, i), are) L =
     let O : SingularsBack o xs last = singulars_back o m xs last are L in
@@ -236,13 +241,23 @@ singulars_back p m (x ∷ xs) last (o, (g, i), are) L =
           (alike_front (IsParameter Singular) bare_parameter p o x (unsigned x) b (O.letters ++ (codes ":" ++ rest)));
       again = λ s rest h.
           let start : s.rest ≡ b.letters ++ (O.letters ++ (codes ":" ++ rest)) =
-              h ∙ (ap (beyond is_blank) (append_assoc b.letters O.letters (codes ":" ++ rest))
-              ∙ beyond_dark b.letters b.head b.tail (O.letters ++ (codes ":" ++ rest)) b.begins b.dark_head) in
+          h ∙ (ap (beyond is_blank) (append_assoc b.letters O.letters (codes ":" ++ rest))
+          ∙ beyond_dark b.letters b.head b.tail (O.letters ++ (codes ":" ++ rest)) b.begins b.dark_head) in
           let (v, y, j, l1, shape) = b.again s (O.letters ++ (codes ":" ++ rest)) start (O.apart rest) (O.alike rest) in
           let (k, t, ys, w, many, n, variadic, l2, shapes, shape2) = O.again v rest l1 in
-          let opens : begins_parameter s ≡ true = begins_same s p b.head (ap first_in (start ∙ ap (λ (l : List ℕ). l ++ (O.letters ++ (codes ":" ++ rest))) b.begins)) b.seen ∙ g in
-          (k, t, y ∷ ys, w, (v, (opens, j), many), n, variadic, l2, ap (λ (a : AstParameter). a ∷ map bare_parameter ys) shape
-          ∙ ap (λ (l : List AstParameter). bare_parameter x ∷ l) shapes, shape2)
+          let opens : begins_parameter s ≡ true = begins_same s p b.head (ap first_in (start ∙ ap (λ (l : List ℕ). l ++ (O.letters ++ (codes ":" ++ rest))) b.begins)) b.seen ∙ g in (
+            k,
+            t,
+            y ∷ ys,
+            w,
+            (v, (opens, j), many),
+            n,
+            variadic,
+            l2,
+            ap (λ (a : AstParameter). a ∷ map bare_parameter ys) shape
+                ∙ ap (λ (l : List AstParameter). bare_parameter x ∷ l) shapes,
+            shape2,
+          );
     }
 
 mapped : (x : Option AstParameter) → map bare_parameter (listed x) ≡ listed (option_map bare_parameter x)
@@ -260,6 +275,7 @@ pub record ParametersBack (p : Place) (xs : List AstParameter) : Type 0 where
   pub again : (s : Place) (rest : List ℕ) → s.rest ≡ beyond is_blank (letters ++ (codes ":" ++ rest))
       → (t : Place) × (ys : List AstParameter) × AreParameters s t ys × (t.rest ≡ codes ":" ++ rest) × (map bare_parameter ys ≡ map bare_parameter xs)
 
+-- parameters before a colon are printed and read as they are
 pub parameters_back : (p q : Place) (xs : List AstParameter) → AreParameters p q xs → first q ≡ Some 58 → ParametersBack p xs
 parameters_back p q xs (parameters m singular last are n v z) f =
     let S : SingularsBack p singular last = singulars_back p m singular last are (last_back m q last v f) in
@@ -268,9 +284,13 @@ parameters_back p q xs (parameters m singular last are n v z) f =
       encoded = ap printed_parameters z ∙ S.encoded;
       apart = S.apart;
       again = λ s rest h.
-          let (k, t, ys, w, many, stops, variadic, left, shapes, shape) = S.again s rest h in
-          (t, ys ++ listed w, parameters k ys w many stops variadic refl, left,
-          map-append bare_parameter ys (listed w) ∙ (ap (λ (l : List AstParameter). l ++ map bare_parameter (listed w)) shapes
-          ∙ (ap (λ (l : List AstParameter). map bare_parameter singular ++ l) (listed_same w last shape) ∙ (sym (map-append bare_parameter singular (listed last))
-          ∙ sym (ap (map bare_parameter) z)))))
+          let (k, t, ys, w, many, stops, variadic, left, shapes, shape) = S.again s rest h in (
+            t,
+            ys ++ listed w,
+            parameters k ys w many stops variadic refl,
+            left,
+            map-append bare_parameter ys (listed w) ∙ (ap (λ (l : List AstParameter). l ++ map bare_parameter (listed w)) shapes
+                ∙ (ap (λ (l : List AstParameter). map bare_parameter singular ++ l) (listed_same w last shape) ∙ (sym (map-append bare_parameter singular (listed last))
+                ∙ sym (ap (map bare_parameter) z)))),
+          );
     }

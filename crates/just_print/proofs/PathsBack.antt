@@ -1,13 +1,13 @@
 -- What is printed of a path is read again as that path.
-use Rattle.std.proofs.Common.{◌≡◌, ℕ, Bool, true, false, List, [], ◌∷◌, ◌++◌, map, Some, codes, encode_utf8_all, refl, sym, ap, ◌∙◌, append_assoc}
-use Rattle.just_read.specs.Place.{Place, AreMany, run, first, first_in, starts, next, begins, begins_in}
+use Rattle.std.proofs.Common.{◌≡◌, ℕ, true, false, List, [], ◌∷◌, ◌++◌, map, Some, codes, encode_utf8_all, refl, sym, ap, ◌∙◌, append_assoc}
+use Rattle.just_read.specs.Place.{Place, AreMany, run, first, next, begins_in}
 use Rattle.just_read.proofs.Laws.{starts_at, starts_with, run_next}
 use Rattle.just_syntax.specs.declared.ast.Name.{Name}
-use Rattle.just_read.specs.Characters.{is_blank, begins_name, in_name, is_quote}
-use Rattle.just_read.specs.Lines.{behind_word, IsToken}
+use Rattle.just_read.specs.Characters.{is_blank, begins_name, in_name}
+use Rattle.just_read.specs.Lines.{behind_word}
 use Rattle.just_syntax.specs.Places.{name_at, IsName, IsFurtherName, IsPath}
 use Rattle.just_syntax.specs.Places.IsPath.{names}
-use Rattle.just_print.specs.Printed.{led, separated, printed_name, printed_path}
+use Rattle.just_print.specs.Printed.{led, printed_name, printed_path}
 use Rattle.just_print.specs.Shapes.{bare_name}
 use Rattle.just_print.proofs.Places.{beyond, beyond_dark, dark, IsApart, token_back}
 use Rattle.just_print.proofs.NamesBack.{in_name_first, name_stands}
@@ -42,12 +42,16 @@ further_back m q (x ∷ xs) (k, (o, t, i), are) =
       again = λ s rest h a.
           let (o2, t2, l1) = token_back (codes "::") ((name ++ others.letters) ++ rest) s h in
           let here : o2.rest ≡ name ++ (others.letters ++ rest) =
-              l1 ∙ (ap (beyond is_blank) (append_assoc name others.letters rest)
-              ∙ beyond_dark name c (run in_name (next o).rest) (others.letters ++ rest) cell is_dark) in
+          l1 ∙ (ap (beyond is_blank) (append_assoc name others.letters rest)
+          ∙ beyond_dark name c (run in_name (next o).rest) (others.letters ++ rest) cell is_dark) in
           let (is, left, shape) = name_stands o k x i o2 (others.letters ++ rest) here (others.apart rest a).0 in
-          let (t, ys, many, end, shapes) = others.again (behind_word o2) rest left a in
-          (t, name_at o2 ∷ ys, (behind_word o2, (o2, t2, is), many), end,
-          ap (λ (n : Name). n ∷ map bare_name ys) shape ∙ ap (λ (ns : List Name). bare_name x ∷ ns) shapes)
+          let (t, ys, many, end, shapes) = others.again (behind_word o2) rest left a in (
+            t,
+            name_at o2 ∷ ys,
+            (behind_word o2, (o2, t2, is), many),
+            end,
+            ap (λ (n : Name). n ∷ map bare_name ys) shape ∙ ap (λ (ns : List Name). bare_name x ∷ ns) shapes,
+          );
     }
 
 -- a path that is printed and read again, where no further name follows
@@ -82,7 +86,11 @@ path_back p q xs (names m first_name others i are n z) =
       again = λ r rest h a k.
           let here : r.rest ≡ name ++ (more.letters ++ rest) = h ∙ append_assoc name more.letters rest in
           let (is, left, shape) = name_stands p m first_name i r (more.letters ++ rest) here (more.apart rest a).0 in
-          let (s, ys, many, end, shapes) = more.again (behind_word r) rest left a in
-          (s, name_at r ∷ ys, names (behind_word r) (name_at r) ys is many (ap (begins_in (codes "::")) end ∙ k) refl, end,
-          ap (λ (n : Name). n ∷ map bare_name ys) shape ∙ (ap (λ (ns : List Name). bare_name first_name ∷ ns) shapes ∙ sym (ap (map bare_name) z)))
+          let (s, ys, many, end, shapes) = more.again (behind_word r) rest left a in (
+            s,
+            name_at r ∷ ys,
+            names (behind_word r) (name_at r) ys is many (ap (begins_in (codes "::")) end ∙ k) refl,
+            end,
+            ap (λ (n : Name). n ∷ map bare_name ys) shape ∙ (ap (λ (ns : List Name). bare_name first_name ∷ ns) shapes ∙ sym (ap (map bare_name) z)),
+          );
     }

@@ -1,12 +1,12 @@
 -- What stands between the quotes of a string stands there again when it is printed.
-use Rattle.std.proofs.Common.{◌≡◌, ℕ, suc, ◌+◌, ◌-◌, ◌≤◌, ◌<◌, ◌==◌, Bool, true, false, not, ◌&&◌, List, [], ◌∷◌, ◌++◌, length, take, Some, ◌⊎◌, inl, inr, refl, sym, ap, ◌∙◌, append_assoc, append-nil, length-append, arith}
+use Rattle.std.proofs.Common.{◌≡◌, ℕ, ◌+◌, ◌-◌, ◌≤◌, ◌==◌, Bool, true, false, not, ◌&&◌, List, [], ◌∷◌, ◌++◌, length, ◌⊎◌, inl, inr, refl, sym, ap, ◌∙◌, append_assoc, length-append, arith}
 use Rattle.std.proofs.Math.Seq.{take-append_seam}
 use Rattle.std.proofs.lemmas.Bool.{false≢true, eqb-true}
-use Rattle.just_read.specs.Place.{Place, AreMany, IsCharacter, next, past, run, first, first_in, passes, starts, sees, begins, begins_in, behind_text, between, is_empty, is_end}
+use Rattle.just_read.specs.Place.{Place, AreMany, IsCharacter, next, past, run, first_in, starts, sees, begins, begins_in, between, is_end}
 use Rattle.just_read.proofs.Laws.{starts_at, starts_with, sees_first, first_is, run_next}
 use Rattle.just_read.specs.declared.quote.Quote.{Quote}
 use Rattle.just_read.specs.Characters.{is_hex}
-use Rattle.just_read.specs.Quotes.{mark, is_cooked, letter_meant, number_from, goes_on, IsEscape, IsPiece, IsPieceOf}
+use Rattle.just_read.specs.Quotes.{mark, is_cooked, goes_on, IsEscape, IsPiece, IsPieceOf}
 use Rattle.just_read.specs.Quotes.IsEscape.{letter, unicode, feed, return_feed}
 use Rattle.just_read.specs.Quotes.IsPiece.{itself, escaped}
 use Rattle.just_print.proofs.Places.{beyond, past_rest, run_run, beyond_run, same, next_rest, and_true}
@@ -40,7 +40,7 @@ escape_back p q x (letter c d f m e g) =
     record {
       front = c ∷ [];
       splits = first_is p c f ∙ ap (λ (k : Place). c ∷ k.rest) (sym e);
-      again = λ r rest h. (next r, letter c d (ap first_in h) m refl g, next_rest r c rest h)
+      again = λ r rest h. (next r, letter c d (ap first_in h) m refl g, next_rest r c rest h);
     }
 escape_back p q x (unicode m n c s t b l v k o g) =
     let hex : List ℕ = run is_hex n.rest in
@@ -57,17 +57,18 @@ escape_back p q x (unicode m n c s t b l v k o g) =
           let left : (past is_hex n').rest ≡ 125 ∷ rest = past_rest is_hex n' ∙ (ap (beyond is_hex) j ∙ beyond_run is_hex n.rest (125 ∷ rest) refl) in
           let (d, f, w) = starts_with is_hex n b in
           let cell : hex ≡ d ∷ run is_hex (next n).rest = run_next is_hex n d f b in
-          let here : starts is_hex n' ≡ true = starts_at is_hex n' d (ap first_in (j ∙ ap (λ (u : List ℕ). u ++ (125 ∷ rest)) cell)) ∙ w in
-          (next (past is_hex n'),
-          unicode (next r) n' c (sees_at 117 r (123 ∷ ((hex ++ 125 ∷ []) ++ rest)) h, refl) (sees_at 123 (next r) ((hex ++ 125 ∷ []) ++ rest) i, refl) here
-          (rw same_run l) (rw same_run v) k (sees_at 125 (past is_hex n') rest left, refl) g,
-          next_rest (past is_hex n') 125 rest left)
+          let here : starts is_hex n' ≡ true = starts_at is_hex n' d (ap first_in (j ∙ ap (λ (u : List ℕ). u ++ (125 ∷ rest)) cell)) ∙ w in (
+            next (past is_hex n'),
+            unicode (next r) n' c (sees_at 117 r (123 ∷ ((hex ++ 125 ∷ []) ++ rest)) h, refl) (sees_at 123 (next r) ((hex ++ 125 ∷ []) ++ rest) i, refl) here
+                (rw same_run l) (rw same_run v) k (sees_at 125 (past is_hex n') rest left, refl) g,
+            next_rest (past is_hex n') 125 rest left,
+          );
     }
 escape_back p q x (feed s g) =
     record {
       front = 10 ∷ [];
       splits = character_rest 10 p q s;
-      again = λ r rest h. (next r, feed (sees_at 10 r rest h, refl) g, next_rest r 10 rest h)
+      again = λ r rest h. (next r, feed (sees_at 10 r rest h, refl) g, next_rest r 10 rest h);
     }
 escape_back p q x (return_feed m s t g) =
     record {
@@ -75,7 +76,7 @@ escape_back p q x (return_feed m s t g) =
       splits = character_rest 13 p m s ∙ ap (λ (w : List ℕ). 13 ∷ w) (character_rest 10 m q t);
       again = λ r rest h.
           let i : (next r).rest ≡ 10 ∷ rest = next_rest r 13 (10 ∷ rest) h in
-          (next (next r), return_feed (next r) (sees_at 13 r (10 ∷ rest) h, refl) (sees_at 10 (next r) rest i, refl) g, next_rest (next r) 10 rest i)
+          (next (next r), return_feed (next r) (sees_at 13 r (10 ∷ rest) h, refl) (sees_at 10 (next r) rest i, refl) g, next_rest (next r) 10 rest i);
     }
 
 -- a piece stands there again, and it is not empty
@@ -84,12 +85,15 @@ pub piece_back : (cooked : Bool) (p q : Place) (x : List ℕ) → IsPiece cooked
 piece_back cooked p q x (itself c f n e g) =
     (c, [], first_is p c f ∙ ap (λ (k : Place). c ∷ k.rest) (sym e), λ r rest h. (next r, itself c (ap first_in h) n refl g, next_rest r c rest h))
 piece_back cooked p q x (escaped m a s i) =
-    let w = escape_back m q x i in
-    (92, w.front, character_rest 92 p m s ∙ ap (λ (k : List ℕ). 92 ∷ k) w.splits,
-    λ r rest h.
-    let j : (next r).rest ≡ w.front ++ rest = next_rest r 92 (w.front ++ rest) h in
-    let (o, is, left) = w.again (next r) rest j in
-    (o, escaped (next r) a (sees_at 92 r (w.front ++ rest) h, refl) is, left))
+    let w = escape_back m q x i in (
+      92,
+      w.front,
+      character_rest 92 p m s ∙ ap (λ (k : List ℕ). 92 ∷ k) w.splits,
+      λ r rest h.
+          let j : (next r).rest ≡ w.front ++ rest = next_rest r 92 (w.front ++ rest) h in
+          let (o, is, left) = w.again (next r) rest j in
+          (o, escaped (next r) a (sees_at 92 r (w.front ++ rest) h, refl) is, left),
+    )
 
 -- ---- pieces up to the closing quote
 
@@ -127,6 +131,7 @@ pub record Inside (quote : Quote) (p k : Place) (pieces : List (List ℕ)) : Typ
   pub first_piece : (body ≡ []) ⊎ ((rest : List ℕ) → begins_in (mark quote) (body ++ (mark quote ++ rest)) ≡ false)
   pub again : (r : Place) (rest : List ℕ) → r.rest ≡ body ++ (mark quote ++ rest) → (s : Place) × AreMany (IsPieceOf quote) r s pieces × (s.rest ≡ mark quote ++ rest)
 
+-- the pieces of a string stand again between its quotes
 pub pieces_back : (quote : Quote) (p k : Place) (pieces : List (List ℕ)) → AreMany (IsPieceOf quote) p k pieces → begins (mark quote) k ≡ true → Inside quote p k pieces
 pieces_back quote p k [] e b = record { body = []; splits = ap (λ (m : Place). m.rest) (sym e); first_piece = inl refl; again = λ r rest h. (r, refl, h) }
 pieces_back quote p k (x ∷ xs) (m, i, are) b =
@@ -135,12 +140,12 @@ pieces_back quote p k (x ∷ xs) (m, i, are) b =
     let body : List ℕ = (c ∷ front) ++ others.body in
     let (behind, e) = front_of (mark quote) k.rest b in
     let whole : p.rest ≡ (body ++ mark quote) ++ behind =
-        split ∙ (ap (λ (w : List ℕ). (c ∷ front) ++ w) (others.splits ∙ ap (λ (w : List ℕ). others.body ++ w) e)
-        ∙ (sym (append_assoc (c ∷ front) others.body (mark quote ++ behind)) ∙ sym (append_assoc body (mark quote) behind))) in
+    split ∙ (ap (λ (w : List ℕ). (c ∷ front) ++ w) (others.splits ∙ ap (λ (w : List ℕ). others.body ++ w) e)
+    ∙ (sym (append_assoc (c ∷ front) others.body (mark quote ++ behind)) ∙ sym (append_assoc body (mark quote) behind))) in
     let long : length (mark quote) ≤ length (body ++ mark quote) = (let n : length (body ++ mark quote) ≡ length body + length (mark quote) = length-append body (mark quote) in omega arith) in
     let closed : (rest : List ℕ) → begins_in (mark quote) (body ++ (mark quote ++ rest)) ≡ false =
-        λ rest. ap (begins_in (mark quote)) (sym (append_assoc body (mark quote) rest))
-        ∙ (begins_local (mark quote) (body ++ mark quote) rest behind long ∙ (ap (begins_in (mark quote)) (sym whole) ∙ goes_on_not quote p i.0)) in
+    λ rest. ap (begins_in (mark quote)) (sym (append_assoc body (mark quote) rest))
+    ∙ (begins_local (mark quote) (body ++ mark quote) rest behind long ∙ (ap (begins_in (mark quote)) (sym whole) ∙ goes_on_not quote p i.0)) in
     record {
       body = body;
       splits = split ∙ (ap (λ (w : List ℕ). (c ∷ front) ++ w) others.splits ∙ sym (append_assoc (c ∷ front) others.body k.rest));
@@ -150,7 +155,7 @@ pieces_back quote p k (x ∷ xs) (m, i, are) b =
           let (s, is, left) = stands r (others.body ++ (mark quote ++ rest)) j in
           let (t, further, end) = others.again s rest left in
           let goes : goes_on quote r ≡ true = goes_on_at quote r c (front ++ (others.body ++ (mark quote ++ rest))) j (ap (begins_in (mark quote)) h ∙ closed rest) in
-          (t, (s, (goes, is), further), end)
+          (t, (s, (goes, is), further), end);
     }
 
 -- what stands between two places is the front of the first that the second doesn't have

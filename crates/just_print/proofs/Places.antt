@@ -1,9 +1,9 @@
 -- Texts put before others: where they end, and what is read of them.
-use Rattle.std.proofs.Common.{◌≡◌, ℕ, ◌+◌, ◌==◌, ◌≤◌, ◌<◌, nat_lt, Bool, true, false, not, ◌&&◌, ◌||◌, if◌then◌else◌, List, [], ◌∷◌, ◌++◌, length, Option, Some, None, encode_utf8, encode_utf8_all, refl, sym, ap, ◌∙◌, append_assoc, arith}
+use Rattle.std.proofs.Common.{◌≡◌, ℕ, ◌+◌, ◌==◌, ◌<◌, nat_lt, Bool, true, false, ◌&&◌, ◌||◌, if◌then◌else◌, List, [], ◌∷◌, ◌++◌, Some, encode_utf8_all, refl, sym, ap, ◌∙◌, arith}
 use Rattle.std.proofs.lemmas.Bool.{false≢true, eqb-true}
 use Rattle.std.proofs.lemmas.Str.{encode_ascii}
 use Rattle.std.specs.List.{list_all}
-use Rattle.just_read.specs.Place.{Place, at, next, past, past_in, run, first, first_in, passes, starts, sees, begins, begins_in, behind_text}
+use Rattle.just_read.specs.Place.{Place, at, next, past, past_in, run, first, first_in, passes, begins_in, behind_text}
 use Rattle.just_read.proofs.Laws.{first_is}
 use Rattle.just_read.specs.Characters.{is_blank, in_name, is_quote}
 use Rattle.just_read.specs.Lines.{skip, IsToken}
@@ -133,6 +133,7 @@ begins_one c (d ∷ rest) = and_self (d == c)
 
 -- ---- tests
 
+-- both parts of a truth are true
 pub and_true : (a b : Bool) → (a && b) ≡ true → (a ≡ true) × (b ≡ true)
 and_true true b h = (refl, h)
 and_true false b h = absurd (false≢true h)

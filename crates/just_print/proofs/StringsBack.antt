@@ -1,22 +1,22 @@
 -- What is printed of a string is read again as that string.
-use Rattle.std.proofs.Common.{◌≡◌, ℕ, ◌==◌, Bool, true, false, not, ◌&&◌, ◌||◌, if◌then◌else◌, List, [], ◌∷◌, ◌++◌, Option, Some, None, ◌⊎◌, inl, inr, codes, encode_utf8_all, refl, sym, ap, ◌∙◌, subst, append_assoc}
+use Rattle.std.proofs.Common.{◌≡◌, ℕ, ◌==◌, Bool, true, false, ◌&&◌, ◌||◌, if◌then◌else◌, List, [], ◌∷◌, ◌++◌, Some, None, ◌⊎◌, inl, inr, codes, encode_utf8_all, refl, sym, ap, ◌∙◌, append_assoc}
 use Rattle.std.specs.Option.{option_map}
 use Rattle.std.proofs.lemmas.Bool.{false≢true}
 use Rattle.std.proofs.lemmas.Str.{encodes-append}
-use Rattle.just_read.specs.Place.{Place, AreMany, next, past, first, first_in, passes, starts, sees, begins, begins_in, behind_text, between}
-use Rattle.just_read.proofs.Laws.{starts_at, sees_first, first_is}
+use Rattle.just_read.specs.Place.{Place, next, first, first_in, passes, sees, begins, begins_in, behind_text, between}
+use Rattle.just_read.proofs.Laws.{sees_first, first_is}
 use Rattle.just_read.specs.declared.quote.Quote.{Quote}
 use Rattle.just_read.specs.declared.quote.Quote.TheVariants.{Single, Double, SingleBlock, DoubleBlock}
 use Rattle.just_syntax.specs.declared.ast.StringLiteral.{StringLiteral}
 use Rattle.just_read.specs.Characters.{is_blank, is_quote}
 use Rattle.just_read.specs.Lines.{skip}
-use Rattle.just_read.specs.Quotes.{mark, quote_at, behind_x, IsPieceOf}
+use Rattle.just_read.specs.Quotes.{mark, quote_at, behind_x}
 use Rattle.just_syntax.specs.Strings.{literal_at, IsRaw, IsString}
 use Rattle.just_syntax.specs.Strings.IsRaw.{closed}
 use Rattle.just_syntax.specs.Strings.IsString.{string}
 use Rattle.just_print.specs.Printed.{only_if, printed_string}
 use Rattle.just_print.specs.Shapes.{bare_string}
-use Rattle.just_print.proofs.Places.{beyond, past_rest, next_rest, same, and_true, begins_front, behind_front, begins_one, encoded_plain, Alike, IsApart}
+use Rattle.just_print.proofs.Places.{beyond, past_rest, next_rest, same, begins_front, behind_front, begins_one, encoded_plain, IsApart}
 use Rattle.just_print.proofs.NamesBack.{Back}
 use Rattle.just_print.proofs.PiecesBack.{Inside, sees_at, front_of, pieces_back, between_is}
 
@@ -159,17 +159,33 @@ string_encoded b quote body = sym
 cells : (b : Bool) (quote : Quote) (more : List ℕ) → (head : ℕ) × (tail : List ℕ) × (only_if b (codes "x") ++ (mark quote ++ more) ≡ head ∷ tail) × (is_blank head ≡ false)
     × ((p : Place) → sees 120 p ≡ b → first (behind_x p) ≡ Some (quote_character quote) → first p ≡ Some head)
 cells true quote more = (120, mark quote ++ more, refl, refl, λ p s f. sees_first 120 p s)
-cells false quote more =
-    (quote_character quote, behind_first quote ++ more, ap (λ (m : List ℕ). m ++ more) (mark_is quote), quote_dark quote,
-    λ p s f. ap (λ (b : Bool). first (if b then next p else p)) (sym s) ∙ f)
+cells false quote more = (
+  quote_character quote,
+  behind_first quote ++ more,
+  ap (λ (m : List ℕ). m ++ more) (mark_is quote),
+  quote_dark quote,
+  λ p s f. ap (λ (b : Bool). first (if b then next p else p)) (sym s) ∙ f,
+)
 
 regroup : (a m b c rest : List ℕ) → (a ++ (m ++ (b ++ c))) ++ rest ≡ a ++ (m ++ (b ++ (c ++ rest)))
 regroup a m b c rest =
     append_assoc a (m ++ (b ++ c)) rest ∙ ap (λ (t : List ℕ). a ++ t) (append_assoc m (b ++ c) rest ∙ ap (λ (t : List ℕ). m ++ t) (append_assoc b c rest))
 
+-- a string is printed and read as it is, whatever follows it that is apart from it
+pub record StringStands (p : Place) (x : StringLiteral) : Type 0 where
+  pub letters : List ℕ
+  pub head : ℕ
+  pub tail : List ℕ
+  pub encoded : printed_string x ≡ encode_utf8_all letters
+  pub begins : letters ≡ head ∷ tail
+  pub seen : first p ≡ Some head
+  pub dark_head : is_blank head ≡ false
+  pub again : (r : Place) (rest : List ℕ) → r.rest ≡ letters ++ rest → IsApart rest
+      → (s : Place) × (y : StringLiteral) × IsString r s y × (s.rest ≡ beyond is_blank rest) × (bare_string y ≡ bare_string x)
+
 -- a string is printed and read as it is
-pub string_back : (p q : Place) (x : StringLiteral) → IsString p q x → Back IsString bare_string p q x (printed_string x)
-string_back p q x (string m quote raw o (closed k pieces are w v u) e z) =
+pub string_stands : (p q : Place) (x : StringLiteral) → IsString p q x → StringStands p x
+string_stands p q x (string m quote raw o (closed k pieces are w v u) e z) =
     let b0 : Place = behind_text (mark quote) (behind_x p) in
     let i : Inside quote b0 k pieces = pieces_back quote b0 k pieces are w in
     let b : Bool = sees 120 p in
@@ -184,7 +200,7 @@ string_back p q x (string m quote raw o (closed k pieces are w v u) e z) =
       begins = cell;
       seen = firsts p refl (quote_first (behind_x p) quote o);
       dark_head = dark_head;
-      again = λ r rest h apart alike.
+      again = λ r rest h apart.
           let (sees_x, here) = x_back b quote r (body ++ (mark quote ++ rest)) (h ∙ regroup (only_if b (codes "x")) (mark quote) body (mark quote) rest) in
           let same_quote : quote_at (behind_x r) ≡ Some quote = quote_back quote body rest (behind_x r) here i.first_piece apart.1 in
           let c0 : Place = behind_text (mark quote) (behind_x r) in
@@ -192,11 +208,30 @@ string_back p q x (string m quote raw o (closed k pieces are w v u) e z) =
           let (s, further, left) = i.again c0 rest inside in
           let text : List ℕ = encode_utf8_all (between c0 s) in
           let is : IsRaw quote c0 (behind_text (mark quote) s) text =
-              closed s pieces further (ap (begins_in (mark quote)) left ∙ begins_front (mark quote) rest) refl refl in
+          closed s pieces further (ap (begins_in (mark quote)) left ∙ begins_front (mark quote) rest) refl refl in
           let same_text : text ≡ raw = ap encode_utf8_all (between_is c0 s body (inside ∙ ap (λ (t : List ℕ). body ++ t) (sym left))) ∙ sym raw_is in
           let shape : bare_string (literal_at r quote text) ≡ bare_string x =
-              ap (λ (c : Bool). record { expands = c; quote = quote; raw = text; line = 0; column = 0 }) sees_x
-              ∙ (ap (λ (t : List ℕ). record { expands = b; quote = quote; raw = t; line = 0; column = 0 }) same_text ∙ sym (ap bare_string z)) in
-          (skip (behind_text (mark quote) s), literal_at r quote text, string (behind_text (mark quote) s) quote text same_quote is refl refl,
-          past_rest is_blank (behind_text (mark quote) s) ∙ ap (beyond is_blank) (behind_front (mark quote) rest s left), shape)
+          ap (λ (c : Bool). record { expands = c; quote = quote; raw = text; line = 0; column = 0 }) sees_x
+          ∙ (ap (λ (t : List ℕ). record { expands = b; quote = quote; raw = t; line = 0; column = 0 }) same_text ∙ sym (ap bare_string z)) in (
+            skip (behind_text (mark quote) s),
+            literal_at r quote text,
+            string (behind_text (mark quote) s) quote text same_quote is refl refl,
+            past_rest is_blank (behind_text (mark quote) s) ∙ ap (beyond is_blank) (behind_front (mark quote) rest s left),
+            shape,
+          );
+    }
+
+-- the same as of any value
+pub string_back : (p q : Place) (x : StringLiteral) → IsString p q x → Back IsString bare_string p q x (printed_string x)
+string_back p q x i =
+    let b : StringStands p x = string_stands p q x i in
+    record {
+      letters = b.letters;
+      head = b.head;
+      tail = b.tail;
+      encoded = b.encoded;
+      begins = b.begins;
+      seen = b.seen;
+      dark_head = b.dark_head;
+      again = λ r rest h apart alike. b.again r rest h apart;
     }

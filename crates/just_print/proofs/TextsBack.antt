@@ -1,8 +1,8 @@
 -- What is printed of a text of a body is what stands there, and is read again as its letters.
 use lib.Utf8.{scalar, scalars, low_scalar}
-use Rattle.std.proofs.Common.{◌≡◌, ℕ, ◌==◌, ◌<◌, Bool, true, false, not, ◌&&◌, ◌||◌, if◌then◌else◌, List, [], ◌∷◌, ◌++◌, codes, refl, sym, ap, ◌∙◌, arith}
+use Rattle.std.proofs.Common.{◌≡◌, ℕ, ◌==◌, Bool, true, false, not, ◌&&◌, ◌||◌, List, [], ◌∷◌, ◌++◌, codes, refl, sym, ap, ◌∙◌, arith}
 use Rattle.std.proofs.lemmas.Bool.{false≢true, eqb-true}
-use Rattle.just_read.specs.Place.{Place, AreMany, next, first, first_in, passes, begins_in, behind_text, is_empty}
+use Rattle.just_read.specs.Place.{Place, AreMany, next, first_in, passes, begins_in, behind_text, is_empty}
 use Rattle.just_read.proofs.Laws.{first_is}
 use Rattle.just_read.specs.Lines.{crlf}
 use Rattle.just_syntax.specs.Strings.{concat}
@@ -84,7 +84,7 @@ doubled_one c [] whole rest h k = ap (λ (l : List ℕ). c ∷ l) h
 doubled_one c (d ∷ list) whole rest h k =
     let (more, e) = doubled_head d list in
     let n : (c == 123 && d == 123) ≡ false =
-        sym (and_alone (c == 123) (d == 123)) ∙ (ap (λ (l : List ℕ). c == 123 && leads 123 (l ++ rest)) (sym e ∙ h) ∙ k) in
+    sym (and_alone (c == 123) (d == 123)) ∙ (ap (λ (l : List ℕ). c == 123 && leads 123 (l ++ rest)) (sym e ∙ h) ∙ k) in
     rw n (ap (λ (l : List ℕ). c ∷ l) h)
 
 returns_by : (a b : Bool) (c d : ℕ) (list : List ℕ) → (c == 123) ≡ a → (d == 123) ≡ b → ends_in_return (doubled list) ≡ ends_in_return list
@@ -152,7 +152,7 @@ itself_back p m q c x xs t b e z l =
           let brace : (c == 123 && leads 123 (l.whole ++ rest)) ≡ false = ap (λ (v : Bool). c == 123 && v) (leads_same 123 l.whole rest q.rest f) ∙ no_brace in
           let (stands, four) = text_made c (l.whole ++ rest) no_feed (feed_same c l.whole rest q.rest no_return g) brace in
           let (s, are, behind) = l.again (next r) rest left f (return_tail c l.whole (leads 10 rest) g) in
-          (s, (next r, itself c (ap text_in h ∙ stands) (ap (begins_in (codes "{{{{")) h ∙ four) (ap first_in h) refl z, are), behind)
+          (s, (next r, itself c (ap text_in h ∙ stands) (ap (begins_in (codes "{{{{")) h ∙ four) (ap first_in h) refl z, are), behind);
     }
 
 -- four braces, before others
@@ -176,9 +176,9 @@ braces_back p m q x xs e z l =
           let left : (behind_text (codes "{{{{") r).rest ≡ l.whole ++ rest = behind_front (codes "{{{{") (l.whole ++ rest) r h in
           let b = leads 10 rest in
           let less : (ends_in_return l.whole && b) ≡ false =
-              return_tail 123 l.whole b (return_tail 123 (codes "{" ++ l.whole) b (return_tail 123 (codes "{{" ++ l.whole) b (return_tail 123 (codes "{{{" ++ l.whole) b g))) in
+          return_tail 123 l.whole b (return_tail 123 (codes "{" ++ l.whole) b (return_tail 123 (codes "{{" ++ l.whole) b (return_tail 123 (codes "{{{" ++ l.whole) b g))) in
           let (s, are, behind) = l.again (behind_text (codes "{{{{") r) rest left f less in
-          (s, (behind_text (codes "{{{{") r, braces (ap text_in h) (ap (begins_in (codes "{{{{")) h) refl z, are), behind)
+          (s, (behind_text (codes "{{{{") r, braces (ap text_in h) (ap (begins_in (codes "{{{{")) h) refl z, are), behind);
     }
 
 -- the letters of a text are printed and read as they are
@@ -189,7 +189,7 @@ letters_back p q [] e =
       source = ap (λ (m : Place). m.rest) (sym e);
       written = refl;
       scalar_too = λ s. (refl, ap (λ (m : Place). scalars m.rest) e ∙ s);
-      again = λ r rest h f g. (r, refl, h)
+      again = λ r rest h f g. (r, refl, h);
     }
 letters_back p q (x ∷ xs) (m, braces t b e z, are) =
     let (rest, h) = front_of (codes "{{{{") p.rest b in

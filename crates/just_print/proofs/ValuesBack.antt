@@ -1,8 +1,7 @@
 -- What is printed of strings, names and expressions in parentheses is read again, where it is so of the expressions inside.
-use Rattle.std.specs.Option.{option_map}
-use Rattle.std.proofs.Common.{◌≡◌, ℕ, ◌==◌, Bool, true, false, not, ◌&&◌, ◌||◌, if◌then◌else◌, List, [], ◌∷◌, ◌++◌, Option, Some, None, codes, refl, sym, ap, ◌∙◌, subst, append_assoc}
+use Rattle.std.proofs.Common.{◌≡◌, ℕ, ◌==◌, Bool, true, false, ◌&&◌, if◌then◌else◌, List, [], ◌∷◌, ◌++◌, Some, codes, refl, sym, ap, ◌∙◌, subst, append_assoc}
 use Rattle.std.proofs.lemmas.Bool.{false≢true}
-use Rattle.just_read.specs.Place.{Place, Rule, next, run, first, first_in, passes, starts, sees, begins, begins_in}
+use Rattle.just_read.specs.Place.{Place, Rule, next, run, first_in, passes, starts, sees, begins}
 use Rattle.just_read.proofs.Laws.{starts_at, starts_with, run_next, sees_first}
 use Rattle.just_syntax.specs.declared.ast.Name.{Name}
 use Rattle.just_read.specs.declared.quote.Quote.{Quote}
@@ -11,21 +10,21 @@ use Rattle.just_syntax.specs.declared.ast.StringLiteral.{StringLiteral}
 use Rattle.just_syntax.specs.declared.ast.Expr.{Expr}
 use Rattle.just_syntax.specs.declared.ast.Expr.TheVariants as e
 use Rattle.just_read.specs.Characters.{is_blank, begins_name, in_name, is_quote}
-use Rattle.just_read.specs.Lines.{is_word, behind_word, IsToken, IsWord}
+use Rattle.just_read.specs.Lines.{is_word, behind_word, IsToken}
 use Rattle.just_syntax.specs.Places.{name_at, IsName}
 use Rattle.just_read.specs.Quotes.{quote_at, behind_x, begins_string}
 use Rattle.just_syntax.specs.Strings.{IsString}
 use Rattle.just_syntax.specs.Strings.IsString.{string}
-use Rattle.just_syntax.specs.Exprs.{begins_expr, begins_condition, is_call, IsDefault, IsValue}
-use Rattle.just_syntax.specs.Exprs.IsValue.{literal, group, env, variable}
-use Rattle.just_print.specs.Printed.{printed_string, printed_expr, printed_second}
-use Rattle.just_print.specs.Shapes.{bare_name, bare_string, bare_expr}
-use Rattle.just_print.proofs.Exprs.{literal_is, variable_is, printed_group, printed_env}
-use Rattle.just_print.proofs.BareExprs.{bare_literal, bare_variable, bare_group, bare_env}
-use Rattle.just_print.proofs.Places.{beyond, beyond_dark, next_rest, not_that, dark, Alike, one_first, IsApart, token_back}
+use Rattle.just_syntax.specs.Exprs.{begins_expr, begins_condition, is_call, IsValue}
+use Rattle.just_syntax.specs.Exprs.IsValue.{literal, group, variable}
+use Rattle.just_print.specs.Printed.{printed_string, printed_expr}
+use Rattle.just_print.specs.Shapes.{bare_string, bare_expr}
+use Rattle.just_print.proofs.Exprs.{literal_is, variable_is, printed_group}
+use Rattle.just_print.proofs.BareExprs.{bare_literal, bare_variable, bare_group}
+use Rattle.just_print.proofs.Places.{beyond, beyond_dark, next_rest, not_that, dark, Alike, one_first, token_back}
 use Rattle.just_print.proofs.NamesBack.{Back, in_name_first, name_stands}
 use Rattle.just_print.proofs.StringsBack.{quote_character, quote_first, string_back}
-use Rattle.just_print.proofs.WordsBack.{joined_text, plain_text, begins_first, token_first, begins_other, no_if, begins_alike, expr_alike, is_word_in, word_in, same_words, word_back}
+use Rattle.just_print.proofs.WordsBack.{joined_text, plain_text, token_first, no_if, begins_alike, expr_alike, is_word_in, word_in, same_words}
 
 -- an expression at which a condition begins, or none
 abbrev pub At : Rule Expr → Bool → Place → Place → Expr → Type 0
@@ -70,9 +69,9 @@ name_no_string : (p : Place) → starts begins_name p ≡ true → (r : Place) (
 name_no_string p b r rest h k =
     let (c, f, t) = starts_with begins_name p b in
     let cell : r.rest ≡ c ∷ (run in_name (next p).rest ++ rest) =
-        h ∙ ap (λ (l : List ℕ). l ++ rest) (run_next in_name p c f (starts_at in_name p c f ∙ in_name_first c t)) in
+    h ∙ ap (λ (l : List ℕ). l ++ rest) (run_next in_name p c f (starts_at in_name p c f ∙ in_name_first c t)) in
     let behind : starts is_quote (next r) ≡ false =
-        ap (λ (l : List ℕ). passes is_quote (first_in l)) (next_rest r c (run in_name (next p).rest ++ rest) cell) ∙ no_quote (next p).rest rest k in
+    ap (λ (l : List ℕ). passes is_quote (first_in l)) (next_rest r c (run in_name (next p).rest ++ rest) cell) ∙ no_quote (next p).rest rest k in
     let here : starts is_quote r ≡ false = starts_at is_quote r c (ap first_in cell) ∙ quote_no_name c begins_name t refl refl in
     x_or (sees 120 r) r behind here
 
@@ -85,7 +84,7 @@ name_condition : (p q r : Place) (rest : List ℕ) → r.rest ≡ run in_name p.
     → Alike (behind_word r).rest q.rest → begins_condition r ≡ begins_condition p
 name_condition p q r rest h k u alike =
     let words : is_word (codes "if") r ≡ is_word (codes "if") p =
-        is_word_in (codes "if") r ∙ (ap (word_in (codes "if")) h ∙ (same_words (codes "if") p.rest rest refl k ∙ sym (is_word_in (codes "if") p))) in
+    is_word_in (codes "if") r ∙ (ap (word_in (codes "if")) h ∙ (same_words (codes "if") p.rest rest refl k ∙ sym (is_word_in (codes "if") p))) in
     let others : begins_expr (behind_word r) ≡ begins_expr (behind_word p) = expr_alike (behind_word r) q alike ∙ ap begins_expr u in
     ap (λ (b : Bool). b && begins_expr (behind_word r)) words ∙ ap (λ (b : Bool). is_word (codes "if") p && b) others
 
@@ -95,6 +94,7 @@ abbrev pub IsFirst : Rule Expr → Place → Place → Expr → Type 0
 IsFirst Inner p q x = At (IsValue Inner) false p q x
 
 module _ (Inner : Rule Expr) where
+  -- a string as an expression
   pub literal_back : (p q : Place) (s : StringLiteral) (x : Expr) → IsString p q s → x ≡ e.Literal s → Back (IsFirst Inner) bare_expr p q x (printed_expr x)
   literal_back p q s x i z =
       let b : Back IsString bare_string p q s (printed_string s) = string_back p q s i in
@@ -107,11 +107,16 @@ module _ (Inner : Rule Expr) where
         seen = b.seen;
         dark_head = b.dark_head;
         again = λ r rest h apart alike.
-            let (o, t, is, left, shape) = b.again r rest h apart alike in
-            (o, e.Literal t, (string_no_if r o t is, literal t is refl), left,
-            bare_literal t ∙ (ap (λ (u : StringLiteral). e.Literal u) shape ∙ (sym (bare_literal s) ∙ sym (ap bare_expr z))))
+            let (o, t, is, left, shape) = b.again r rest h apart alike in (
+              o,
+              e.Literal t,
+              (string_no_if r o t is, literal t is refl),
+              left,
+              bare_literal t ∙ (ap (λ (u : StringLiteral). e.Literal u) shape ∙ (sym (bare_literal s) ∙ sym (ap bare_expr z))),
+            );
       }
 
+  -- a name as an expression
   pub variable_back : (p q : Place) (n : Name) (x : Expr) (b : Bool) → begins_condition p ≡ b → is_call p ≡ false → IsName p q n → x ≡ e.Variable n
       → Back (At (IsValue Inner) b) bare_expr p q x (printed_expr x)
   variable_back p q n x b g c i z =
@@ -128,15 +133,19 @@ module _ (Inner : Rule Expr) where
             let (is, left, shape) = name_stands p q n i r rest h apart.0 in
             let follows : Alike (behind_word r).rest q.rest = subst (λ (l : List ℕ). Alike l q.rest) (sym left) alike in
             let call : is_call r ≡ false =
-                ap (λ (b : Bool). b && begins (codes "(") (behind_word r)) is.0
-                ∙ (begins_alike 40 (behind_word r) q refl refl follows
-                ∙ (ap (begins (codes "(")) i.1 ∙ second_false (starts begins_name p) (begins (codes "(") (behind_word p)) c i.0)) in
-            (behind_word r, e.Variable (name_at r),
-            (name_condition p q r rest h apart.0 i.1 follows ∙ g, variable (name_at r) (name_no_string p i.0 r rest h apart.1) call is refl), left,
-            bare_variable (name_at r) ∙ (ap (λ (u : Name). e.Variable u) shape ∙ (sym (bare_variable n) ∙ sym (ap bare_expr z))))
+            ap (λ (b : Bool). b && begins (codes "(") (behind_word r)) is.0
+            ∙ (begins_alike 40 (behind_word r) q refl refl follows
+            ∙ (ap (begins (codes "(")) i.1 ∙ second_false (starts begins_name p) (begins (codes "(") (behind_word p)) c i.0)) in (
+              behind_word r,
+              e.Variable (name_at r),
+              (name_condition p q r rest h apart.0 i.1 follows ∙ g, variable (name_at r) (name_no_string p i.0 r rest h apart.1) call is refl),
+              left,
+              bare_variable (name_at r) ∙ (ap (λ (u : Name). e.Variable u) shape ∙ (sym (bare_variable n) ∙ sym (ap bare_expr z))),
+            );
       }
 
 module _ (Inner : Rule Expr) (back : (p q : Place) (x : Expr) → Inner p q x → Back (At Inner (begins_condition p)) bare_expr p q x (printed_expr x)) where
+  -- an expression in parentheses
   pub group_back : (p m n q : Place) (y x : Expr) → IsToken (codes "(") p m → Inner m n y → IsToken (codes ")") n q → x ≡ e.Group y
       → Back (IsFirst Inner) bare_expr p q x (printed_expr x)
   group_back p m n q y x t i u z =
@@ -154,9 +163,13 @@ module _ (Inner : Rule Expr) (back : (p q : Place) (x : Expr) → Inner p q x �
         again = λ r rest h apart alike.
             let (s, t1, l1) = token_back (codes "(") ((b.letters ++ codes ")") ++ rest) r h in
             let here : s.rest ≡ b.letters ++ (codes ")" ++ rest) =
-                l1 ∙ (ap (beyond is_blank) (append_assoc b.letters (codes ")") rest) ∙ beyond_dark b.letters b.head b.tail (codes ")" ++ rest) b.begins b.dark_head) in
+            l1 ∙ (ap (beyond is_blank) (append_assoc b.letters (codes ")") rest) ∙ beyond_dark b.letters b.head b.tail (codes ")" ++ rest) b.begins b.dark_head) in
             let (o, w, j, l2, shape) = b.again s (codes ")" ++ rest) here (refl, refl) (one_first (sym (token_first 41 [] n q u))) in
-            let (v, t2, l3) = token_back (codes ")") rest o l2 in
-            (v, e.Group w, (no_if 40 r (token_first 40 [] r s t1) refl, group s o w t1 j.1 t2 refl), l3,
-            bare_group w ∙ (ap (λ (c : Expr). e.Group c) shape ∙ (sym (bare_group y) ∙ sym (ap bare_expr z))))
+            let (v, t2, l3) = token_back (codes ")") rest o l2 in (
+              v,
+              e.Group w,
+              (no_if 40 r (token_first 40 [] r s t1) refl, group s o w t1 j.1 t2 refl),
+              l3,
+              bare_group w ∙ (ap (λ (c : Expr). e.Group c) shape ∙ (sym (bare_group y) ∙ sym (ap bare_expr z))),
+            );
       }

@@ -3,11 +3,11 @@ use Rattle.std.proofs.Common.{◌≡◌, ℕ, ◌==◌, Bool, true, false, not, 
 use Rattle.std.specs.List.{list_all}
 use Rattle.std.proofs.lemmas.Bool.{false≢true, eqb-true}
 use Rattle.std.proofs.lemmas.Str.{encodes-append}
-use Rattle.just_read.specs.Place.{Place, next, next_in, past, run, first, first_in, passes, starts, begins, begins_in, behind_text, at}
+use Rattle.just_read.specs.Place.{Place, next, past, run, first, first_in, passes, starts, begins, begins_in, behind_text}
 use Rattle.just_read.specs.Characters.{is_blank, begins_name, in_name, is_quote}
 use Rattle.just_read.specs.Lines.{is_word, behind_word, IsToken, IsWord}
 use Rattle.just_syntax.specs.Exprs.{begins_expr, begins_condition}
-use Rattle.just_print.proofs.Places.{beyond, past_rest, beyond_nothing, next_rest, begins_one, begins_front, behind_front, encoded_plain, is_plain, and_true, not_that, Alike, one_first, alike_test, token_back}
+use Rattle.just_print.proofs.Places.{beyond, past_rest, beyond_nothing, next_rest, begins_one, behind_front, encoded_plain, is_plain, and_true, Alike, alike_test, token_back}
 use Rattle.just_print.proofs.PiecesBack.{front_of}
 
 -- ---- texts encoded
@@ -81,6 +81,7 @@ behind_less (c ∷ word) (d ∷ list) p h = behind_less word list (next p) (next
 abbrev pub word_in : List ℕ → List ℕ → Bool
 word_in word list = begins_in word list && not (passes in_name (first_in (less word list)))
 
+-- whether a word stands at a place is what the text from there says
 pub is_word_in : (word : List ℕ) (p : Place) → is_word word p ≡ word_in word p.rest
 is_word_in word p = ap (λ (list : List ℕ). begins word p && not (passes in_name (first_in list))) (behind_less word p.rest p refl)
 
@@ -143,7 +144,7 @@ behind_if p m h t =
     let (rest, e) = front_of (codes "if") p.rest a in
     let left : (behind_text (codes "if") p).rest ≡ rest = behind_front (codes "if") rest p e in
     let stops : passes in_name (first_in rest) ≡ false =
-        ap (λ (list : List ℕ). passes in_name (first_in list)) (sym left) ∙ not_true (starts in_name (behind_text (codes "if") p)) b in
+    ap (λ (list : List ℕ). passes in_name (first_in list)) (sym left) ∙ not_true (starts in_name (behind_text (codes "if") p)) b in
     let name : (past in_name p).rest ≡ rest = past_rest in_name p ∙ (ap (beyond in_name) e ∙ beyond_nothing in_name rest stops) in
     past_rest is_blank (past in_name p) ∙ (ap (beyond is_blank) (name ∙ sym left)
     ∙ (sym (past_rest is_blank (behind_text (codes "if") p)) ∙ ap (λ (q : Place). q.rest) (sym t.1)))

@@ -1,5 +1,5 @@
 -- What the law of printed trees asks: of an indentation, and of the lines of bodies.
-use Rattle.std.specs.Prelude.{◌≡◌, ℕ, Bool, true, false, not, ◌&&◌, ◌==◌, List, [], ◌∷◌, chars}
+use Rattle.std.specs.Prelude.{◌≡◌, ℕ, Bool, true, false, not, ◌==◌, List, [], ◌∷◌, chars}
 use Rattle.std.specs.List.{list_all}
 use Rattle.just_read.specs.Place.{is_empty}
 use Rattle.just_read.specs.Characters.{is_blank}

@@ -2,3 +2,4 @@
 pub mod Printed
 pub mod Shapes
 pub mod Law
+pub mod Entries

@@ -1,5 +1,5 @@
 -- When two trees have the same shape: they are equal apart from places, line numbers and how many blank lines stand together.
-use Rattle.std.specs.Prelude.{◌≡◌, ℕ, false, List, map, Option}
+use Rattle.std.specs.Prelude.{◌≡◌, false, List, map}
 use Rattle.std.specs.Option.{option_map}
 use Rattle.just_syntax.specs.declared.ast.Name.{Name}
 use Rattle.just_syntax.specs.declared.ast.StringLiteral.{StringLiteral}
@@ -73,7 +73,7 @@ bare_recipe x = record {
   priors = map bare_dependency x.priors;
   subsequents = map bare_dependency x.subsequents;
   comment = x.comment;
-  body = map bare_line x.body
+  body = map bare_line x.body;
 }
 
 abbrev pub bare_value : SettingValue → SettingValue
