@@ -24,6 +24,7 @@ pub mod PlanShape
 pub mod Plans
 pub mod Range
 pub mod Reasons
+pub mod RowLaws
 pub mod Settling
 pub mod Stretch
 pub mod Sums

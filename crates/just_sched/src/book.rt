@@ -8,6 +8,7 @@ ghost use Rattle.just_sched.specs.Account.{IsAccount};
 ghost use Rattle.just_sched.specs.Codes.{plan_code};
 ghost use Rattle.just_sched.specs.Start.{IsKept, run_of};
 ghost use Rattle.just_sched.specs.Room.{slots, total_commands};
+ghost use Rattle.just_sched.specs.Rows.{IsTable};
 ghost use Rattle.just_sched.specs.State.{IsReady, is_open, is_running, is_begun, is_over as over_of, has_taken, has_caught, caught_signal, last_start as start_of, next_step as step_of};
 ghost use Rattle.just_sched.specs.Legal.{Run, IsClosed, IsComplete, May, open_bodies, in_body};
 ghost use Rattle.just_sched.specs.Match.{StandsFor};
@@ -17,9 +18,9 @@ ghost use Rattle.just_sched.specs.Moves.{GrowsBy, IsMove, RunsWith, Rests, Match
 ghost use base.Stored.{Coded-set};
 
 use super::calls::{banner, planned, start_child, tell};
-use super::look::{is_over, last_start, next_step};
 use super::room::{command_count, event_count};
-use super::tables::Tables;
+use super::steps::judge;
+use super::tables::{Tables, note};
 use super::{
     Driven, Event, HeldBody, Idle, Named, Naming, Next, OpenBody, Outcome, Plan, Reason, Step,
     Verdict, WaitedBody,
@@ -49,6 +50,7 @@ pub struct Book<H: Host + Drop, P: Naming> {
     ghost account: { ∥ IsAccount P.start history.items (H.entries host) (H.world host) (H.spare host) taken caught ∥₁ },
     ghost roomy: { slots P.start.plan.nodes ≤ vec_capacity history },
     ghost sized: { tables.size ≡ length P.start.plan.nodes },
+    ghost table: { ∥ IsTable history.items tables.rows.items ∥₁ },
 }
 
 /// What a book takes memory for.
@@ -65,6 +67,7 @@ fn make_room<H: Host>(alloc: Global, plan: &Plan, host: &mut H) -> Result<Room, 
     ensures room { IfOk result (λ r. slots plan.now.nodes ≤ vec_capacity r.history) }
     ensures spare { OnOk result (total_commands plan.now.nodes ≤ H.spare host.new) }
     ensures size { IfOk result (λ r. r.tables.size ≡ length plan.now.nodes) }
+    ensures table { IfOk result (λ r. ∥ IsTable [] r.tables.rows.items ∥₁) }
 {
     let Some(commands) = command_count(plan) else {
         return Err(NoMemory);
@@ -188,7 +191,7 @@ impl<H: Host + Drop, P: Naming> Book<H, P> {
         self.advance(body.into_node())
     }
 
-    /// Closes the book of a run in which no body is open. It takes no memory, and time for one pass over nodes and events.
+    /// Closes the book of a run in which no body is open. It takes no memory, and time for one pass over the nodes.
     pub fn close(self) -> Driven<H>
         requires { IsClosed (run_of P.start) self.history.items }
         ensures host { result.host ≡ self.host }
@@ -250,9 +253,10 @@ impl<H: Host + Drop, P: Naming> Book<H, P> {
 
     /// The place of the command that the node runs.
     fn place(&self, node: u32) -> u32
+        requires { is_open self.now.history.items node ≡ true }
         ensures { (i c : ℕ) → start_of self.now.history.items node ≡ Some (i, c) → result ≡ i }
     {
-        match last_start(self.history.as_slice(), node) {
+        match self.tables.row(node).started {
             Some((place, _)) => place,
             None => 0,
         }
@@ -260,11 +264,19 @@ impl<H: Host + Drop, P: Naming> Book<H, P> {
 
     /// Whether the node's body was begun.
     fn is_begun(&self, node: u32) -> bool
+        requires { is_open self.now.history.items node ≡ true }
         ensures { result ≡ is_begun self.now.history.items node }
     {
-        self.history
-            .iter()
-            .any(|e| matches!(e, Event::Begun(n) if *n == node))
+        self.tables.row(node).begun
+    }
+
+    /// Whether the node's body was skipped or is done.
+    fn is_over(&self, node: u32) -> bool
+        requires { is_open self.now.history.items node ≡ true }
+        ensures { result ≡ over_of self.now.history.items node }
+    {
+        let row = self.tables.row(node);
+        row.skipped || row.done
     }
 
     /// The next step of the node's body.
@@ -272,7 +284,9 @@ impl<H: Host + Drop, P: Naming> Book<H, P> {
         requires { is_open self.now.history.items node ≡ true }
         ensures { result ≡ step_of P.start.plan.nodes self.now.history.items node }
     {
-        next_step(&self.plan, self.history.as_slice(), node)
+        let row = self.tables.row(node);
+        let nodes = self.plan.nodes.as_slice();
+        judge(&nodes[node as usize].work, row.ended, row.last)
     }
 
     /// The node's body takes a job.
@@ -289,7 +303,7 @@ impl<H: Host + Drop, P: Naming> Book<H, P> {
         ensures still { is_running self.new.history.items node ≡ false }
     {
         self.taken += 1;
-        self.history.push_reserved(Event::Took(node));
+        note(&mut self.history, &mut self.tables, Event::Took(node));
     }
 
     /// The node's body gives its job back.
@@ -302,7 +316,7 @@ impl<H: Host + Drop, P: Naming> Book<H, P> {
         ensures rests { Rests self.new.history.items node }
     {
         self.taken -= 1;
-        self.history.push_reserved(Event::Gave(node));
+        note(&mut self.history, &mut self.tables, Event::Gave(node));
     }
 
     /// The node's body is done with no entry of its own: by its statuses, or since a signal was caught.
@@ -316,7 +330,11 @@ impl<H: Host + Drop, P: Naming> Book<H, P> {
         ensures opened { is_open self.new.history.items node ≡ true }
         ensures over { over_of self.new.history.items node ≡ true }
     {
-        self.history.push_reserved(Event::Done(node, outcome));
+        note(
+            &mut self.history,
+            &mut self.tables,
+            Event::Done(node, outcome),
+        );
     }
 
     /// Begins the node's body, and prints its banner; false where that failed, by which the body is done.
@@ -335,12 +353,15 @@ impl<H: Host + Drop, P: Naming> Book<H, P> {
         let plan = &self.plan;
         match tell(&mut self.host, banner(plan, node)) {
             Ok(()) => {
-                self.history.push_reserved(Event::Begun(node));
+                note(&mut self.history, &mut self.tables, Event::Begun(node));
                 true
             }
             Err(reason) => {
-                self.history
-                    .push_reserved(Event::Done(node, Outcome::Failed(reason)));
+                note(
+                    &mut self.history,
+                    &mut self.tables,
+                    Event::Done(node, Outcome::Failed(reason)),
+                );
                 false
             }
         }
@@ -367,13 +388,19 @@ impl<H: Host + Drop, P: Naming> Book<H, P> {
         match start_child(&mut self.host, command) {
             Ok(inner) => {
                 let child = H::number(&inner);
-                self.history
-                    .push_reserved(Event::Started(node, place as u32, child));
+                note(
+                    &mut self.history,
+                    &mut self.tables,
+                    Event::Started(node, place as u32, child),
+                );
                 Some(OpenBody::new(node, child, inner))
             }
             Err(reason) => {
-                self.history
-                    .push_reserved(Event::Done(node, Outcome::Failed(reason)));
+                note(
+                    &mut self.history,
+                    &mut self.tables,
+                    Event::Done(node, Outcome::Failed(reason)),
+                );
                 None
             }
         }
@@ -391,13 +418,16 @@ impl<H: Host + Drop, P: Naming> Book<H, P> {
     {
         let place = self.place(node);
         match self.host.settle(child, ended) {
-            Ok(status) => self
-                .history
-                .push_reserved(Event::Ended(node, place, child, status)),
-            Err(_) => self.history.push_reserved(Event::Done(
-                node,
-                Outcome::Failed(Reason::Fault(Call::Wait)),
-            )),
+            Ok(status) => note(
+                &mut self.history,
+                &mut self.tables,
+                Event::Ended(node, place, child, status),
+            ),
+            Err(_) => note(
+                &mut self.history,
+                &mut self.tables,
+                Event::Done(node, Outcome::Failed(Reason::Fault(Call::Wait))),
+            ),
         }
     }
 
@@ -440,7 +470,7 @@ impl<H: Host + Drop, P: Naming> Book<H, P> {
             (λ n child. (n ≡ node) × RunsWith self.new.history.items n child)
             (λ i. ⊥) }
     {
-        if is_over(self.history.as_slice(), node) {
+        if self.is_over(node) {
             self.give(node);
             return Next::Moved;
         }

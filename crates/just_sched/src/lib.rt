@@ -16,6 +16,7 @@ mod plan;
 mod plan_node;
 mod planning;
 mod room;
+mod row;
 mod steps;
 mod tables;
 mod token;

@@ -1,6 +1,7 @@
 -- The verdict is that of the history, and where all went well and nothing is left, the history is complete.
 use Rattle.std.proofs.Common.{◌<◌, List, length, ap, sym, ◌∙◌, subst, inr}
 use Rattle.just_sched.specs.declared.plan_node.PlanNode.{PlanNode}
+use Rattle.just_sched.specs.Rows.{IsTable}
 use Rattle.just_sched.specs.Start.{IsKept, run_of}
 use Rattle.just_sched.specs.State.{is_open, caught_signal}
 use Rattle.just_sched.specs.Verdict.{IsVerdict}
@@ -11,6 +12,9 @@ use Rattle.just_sched.proofs.book.Book.close.Goals as goal
 pub verdict-verdict-requires-clause-closed : goal.verdict-verdict-requires-clause-closed
 verdict-verdict-requires-clause-closed g c = λ n lt.
     ap (λ h. is_open h n) c.as_slice.ensures.value ∙ c.requires n (subst (λ (xs : List PlanNode). n < length xs) (ap (λ p. p.nodes) c.args.self.plan_named) lt)
+
+pub verdict-verdict-requires-clause-table : goal.verdict-verdict-requires-clause-table
+verdict-verdict-requires-clause-table g c = subst (λ h. ∥ IsTable h c.args.self.tables.rows.items ∥₁) (sym c.as_slice.ensures.value) c.args.self.table
 
 pub verdict-verdict-requires-clause-caught : goal.verdict-verdict-requires-clause-caught
 verdict-verdict-requires-clause-caught g c = signalled_of c.args.self.account ∙ ap caught_signal (sym c.as_slice.ensures.value)

@@ -6,20 +6,20 @@ use Rattle.just_sched.proofs.Grows.{grows_one}
 use Rattle.just_sched.proofs.Behind.{open_as, over_now}
 use Rattle.just_sched.proofs.book.Book.end.Goals as goal
 
-pub push_reserved-requires : goal.push_reserved-requires
-push_reserved-requires g c =
+pub note-requires-clause-room : goal.note-requires-clause-room
+note-requires-clause-room g c =
     let s = c.args.self.now in
     omega (arith, room_for s.account (event.Done c.args.node c.args.outcome) c.requires.may, s.roomy, s.history.ok.0)
 
 pub invariant_of-self-clause-account : goal.invariant_of-self-clause-account
-invariant_of-self-clause-account g c = noted_alone c.args.self.now.account _ (event.Done c.args.node c.args.outcome) c.push_reserved.ensures.items c.requires.may c.requires.stands refl
+invariant_of-self-clause-account g c = noted_alone c.args.self.now.account _ (event.Done c.args.node c.args.outcome) c.note.ensures.items c.requires.may c.requires.stands refl
 
 pub returns-clause-grown : goal.returns-clause-grown
-returns-clause-grown g c = grows_one c.args.self.now.history.items _ (event.Done c.args.node c.args.outcome) c.args.node c.push_reserved.ensures.items (eq-eqb c.args.node c.args.node refl)
+returns-clause-grown g c = grows_one c.args.self.now.history.items _ (event.Done c.args.node c.args.outcome) c.args.node c.note.ensures.items (eq-eqb c.args.node c.args.node refl)
 
 pub returns-clause-opened : goal.returns-clause-opened
 returns-clause-opened g c =
-    open_as c.args.self.now.history.items _ (event.Done c.args.node c.args.outcome) c.args.node c.push_reserved.ensures.items refl refl ∙ c.requires.opened
+    open_as c.args.self.now.history.items _ (event.Done c.args.node c.args.outcome) c.args.node c.note.ensures.items refl refl ∙ c.requires.opened
 
 pub returns-clause-over : goal.returns-clause-over
-returns-clause-over g c = over_now c.args.self.now.history.items _ c.args.node c.args.outcome c.push_reserved.ensures.items
+returns-clause-over g c = over_now c.args.self.now.history.items _ c.args.node c.args.outcome c.note.ensures.items
