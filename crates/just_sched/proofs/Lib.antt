@@ -7,6 +7,7 @@ pub mod Causes
 pub mod Choices
 pub mod Complete
 pub mod Counts
+pub mod Deciding
 pub mod Due
 pub mod Ended
 pub mod EventRoom
@@ -29,5 +30,6 @@ pub mod Settling
 pub mod Stretch
 pub mod Sums
 pub mod TableLaws
+pub mod TablesLaws
 pub mod Tests
 pub mod WantedLaws

@@ -1,5 +1,5 @@
 -- Laws of the rows of nodes.
-use Rattle.std.proofs.Common.{◌≡◌, ℕ, ◌+◌, ◌<◌, ◌≤◌, ◌⊎◌, inl, inr, ⊎_elim, ◌||◌, false, cond, List, [], ◌∷◌, ◌++◌, length, set, get_or, get_or-set_same, get_or-set_other, length-append, refl, sym, ap, ap₂, ◌∙◌, arith}
+use Rattle.std.proofs.Common.{Bool, true, ◌≡◌, ℕ, ◌+◌, ◌<◌, ◌≤◌, ◌⊎◌, inl, inr, ⊎_elim, ◌||◌, false, cond, List, [], ◌∷◌, ◌++◌, length, set, get_or, get_or-set_same, get_or-set_other, length-append, refl, sym, ap, ap₂, ◌∙◌, arith}
 use Rattle.std.proofs.Math.ListN.{length-set, replicate, length-replicate}
 use Rattle.std.proofs.lemmas.List.{get_or-replicate}
 use Rattle.std.proofs.Math.Bool.{Bool-set}
@@ -17,7 +17,7 @@ use Rattle.std.specs.List.{last_or, cons_option}
 use Rattle.just_sched.specs.declared.event.Event.{Event}
 use Rattle.just_sched.specs.declared.row.Row.{Row}
 use Rattle.just_sched.specs.Rows.{IsRow, IsTable, IsTurned}
-use Rattle.just_sched.specs.State.{is_of, takes, gives, begins, skips, concludes, concludes_well, status_of, start_of, reason_in, is_begun, is_over, statuses, last_start, reason_of}
+use Rattle.just_sched.specs.State.{is_of, takes, gives, begins, skips, concludes, concludes_well, status_of, start_of, reason_in, has_taken, is_begun, is_done, is_over, is_over_well, statuses, last_start, reason_of}
 use Rattle.just_sched.specs.Tables.{or_first}
 use Rattle.just_sched.proofs.OneMore.{took_more, gave_more, done_more}
 use Rattle.just_sched.proofs.Others.{others_stay}
@@ -156,3 +156,34 @@ reason_in_row h rows table n d lt = ∥∥₁_elim table (reasons_set _ _) (λ t
 -- a node has no more ends than there are events
 pub few_ended : (h : List Event) (rows : List Row) → ∥ IsTable h rows ∥₁ → (n : ℕ) (d : Row) → n < length rows → (get_or rows n d).ended ≤ length h
 few_ended h rows table n d lt = ∥∥₁_elim table le_prop (λ t. omega (arith, (t n d lt).ended, few_items (status_of n) h))
+
+-- whether a node took a job
+pub taken_in_row : (h : List Event) (rows : List Row) → ∥ IsTable h rows ∥₁ → (n : ℕ) (d : Row) → n < length rows → (get_or rows n d).taken ≡ has_taken h n
+taken_in_row h rows table n d lt = ∥∥₁_elim table (Bool-set _ _) (λ t. (t n d lt).taken)
+
+-- whether its body is done
+pub done_in_row : (h : List Event) (rows : List Row) → ∥ IsTable h rows ∥₁ → (n : ℕ) (d : Row) → n < length rows → (get_or rows n d).done ≡ is_done h n
+done_in_row h rows table n d lt = ∥∥₁_elim table (Bool-set _ _) (λ t. (t n d lt).done)
+
+-- whether it is over well
+pub well_in_row : (h : List Event) (rows : List Row) → ∥ IsTable h rows ∥₁ → (n : ℕ) (d : Row) → n < length rows → (get_or rows n d).well ≡ is_over_well h n
+well_in_row h rows table n d lt = ∥∥₁_elim table (Bool-set _ _) (λ t. (t n d lt).well)
+
+-- flags say it of one node more
+pub flag_more : (f : ℕ → Bool) (flags : List Bool) (at : ℕ) (b : Bool) → at < length flags → ((k : ℕ) → k < at → get_or flags k false ≡ f k) → b ≡ f at → (k : ℕ) → k < at + 1 → get_or (set flags at b) k false ≡ f k
+flag_more f flags at b within so_far here k lt =
+    ⊎_elim (λ (same : k ≡ at). rw same (get_or-set_same flags at b false within ∙ here))
+    (λ (other : k ≡ at → ⊥). rw get_or-set_other (so_far k (omega (arith, other, lt))))
+    (same_or k at)
+
+-- whether it took a job or is done
+pub taken_or_done : (h : List Event) (rows : List Row) → ∥ IsTable h rows ∥₁ → (n : ℕ) (d : Row) → n < length rows → ((get_or rows n d).taken || (get_or rows n d).done) ≡ (has_taken h n || is_done h n)
+taken_or_done h rows table n d lt = ap₂ (λ a b. a || b) (taken_in_row h rows table n d lt) (done_in_row h rows table n d lt)
+
+-- the first of two truth values, where it is true
+pub or_left : (a b c : Bool) → (a || b) ≡ c → a ≡ true → a ≡ c
+or_left a b c e up = up ∙ ap (λ x. x || b) (sym up) ∙ e
+
+-- the second, where the first is false
+pub or_right : (a b c : Bool) → (a || b) ≡ c → a ≡ false → b ≡ c
+or_right a b c e down = ap (λ x. x || b) (sym down) ∙ e

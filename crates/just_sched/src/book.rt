@@ -8,7 +8,7 @@ ghost use Rattle.just_sched.specs.Account.{IsAccount};
 ghost use Rattle.just_sched.specs.Codes.{plan_code};
 ghost use Rattle.just_sched.specs.Start.{IsKept, run_of};
 ghost use Rattle.just_sched.specs.Room.{slots, total_commands};
-ghost use Rattle.just_sched.specs.Rows.{IsTable};
+ghost use Rattle.just_sched.specs.Rows.{IsNoted};
 ghost use Rattle.just_sched.specs.State.{IsReady, is_open, is_running, is_begun, is_over as over_of, has_taken, has_caught, caught_signal, last_start as start_of, next_step as step_of};
 ghost use Rattle.just_sched.specs.Legal.{Run, IsClosed, IsComplete, May, open_bodies, in_body};
 ghost use Rattle.just_sched.specs.Match.{StandsFor};
@@ -18,9 +18,10 @@ ghost use Rattle.just_sched.specs.Moves.{GrowsBy, IsMove, RunsWith, Rests, Match
 ghost use base.Stored.{Coded-set};
 
 use super::calls::{banner, planned, start_child, tell};
+use super::noting::note;
 use super::room::{command_count, event_count};
 use super::steps::judge;
-use super::tables::{Tables, note};
+use super::tables::Tables;
 use super::{
     Driven, Event, HeldBody, Idle, Named, Naming, Next, OpenBody, Outcome, Plan, Reason, Step,
     Verdict, WaitedBody,
@@ -49,8 +50,8 @@ pub struct Book<H: Host + Drop, P: Naming> {
     pub ghost jobs_named: { option_map non_zero_u64_get jobs ≡ P.start.jobs } by { Prim.hlevel props },
     ghost account: { ∥ IsAccount P.start history.items (H.entries host) (H.world host) (H.spare host) taken caught ∥₁ },
     ghost roomy: { slots P.start.plan.nodes ≤ vec_capacity history },
-    ghost sized: { tables.size ≡ length P.start.plan.nodes },
-    ghost table: { ∥ IsTable history.items tables.rows.items ∥₁ },
+    ghost sized: { tables.size ≡ length plan.nodes },
+    ghost noted: { ∥ IsNoted plan.nodes plan.invocations history.items tables ∥₁ },
 }
 
 /// What a book takes memory for.
@@ -67,7 +68,7 @@ fn make_room<H: Host>(alloc: Global, plan: &Plan, host: &mut H) -> Result<Room, 
     ensures room { IfOk result (λ r. slots plan.now.nodes ≤ vec_capacity r.history) }
     ensures spare { OnOk result (total_commands plan.now.nodes ≤ H.spare host.new) }
     ensures size { IfOk result (λ r. r.tables.size ≡ length plan.now.nodes) }
-    ensures table { IfOk result (λ r. ∥ IsTable [] r.tables.rows.items ∥₁) }
+    ensures noted { IfOk result (λ r. ∥ IsNoted plan.now.nodes plan.now.invocations [] r.tables ∥₁) }
 {
     let Some(commands) = command_count(plan) else {
         return Err(NoMemory);
@@ -76,7 +77,7 @@ fn make_room<H: Host>(alloc: Global, plan: &Plan, host: &mut H) -> Result<Room, 
         return Err(NoMemory);
     };
     let history = Vec::with_capacity(alloc, events)?;
-    let tables = Tables::new(alloc, plan.nodes.len())?;
+    let tables = Tables::new(alloc, plan)?;
     match host.room(commands) {
         Ok(()) => Ok(Room { history, tables }),
         Err(NoMemory) => Err(NoMemory),
@@ -208,7 +209,7 @@ impl<H: Host + Drop, P: Naming> Book<H, P> {
             history,
             caught,
             taken: _,
-            mut tables,
+            tables,
             of: _,
         } = self;
         let verdict = tables.verdict(&plan, history.as_slice(), caught);
@@ -303,7 +304,12 @@ impl<H: Host + Drop, P: Naming> Book<H, P> {
         ensures still { is_running self.new.history.items node ≡ false }
     {
         self.taken += 1;
-        note(&mut self.history, &mut self.tables, Event::Took(node));
+        note(
+            &self.plan,
+            &mut self.history,
+            &mut self.tables,
+            Event::Took(node),
+        );
     }
 
     /// The node's body gives its job back.
@@ -316,7 +322,12 @@ impl<H: Host + Drop, P: Naming> Book<H, P> {
         ensures rests { Rests self.new.history.items node }
     {
         self.taken -= 1;
-        note(&mut self.history, &mut self.tables, Event::Gave(node));
+        note(
+            &self.plan,
+            &mut self.history,
+            &mut self.tables,
+            Event::Gave(node),
+        );
     }
 
     /// The node's body is done with no entry of its own: by its statuses, or since a signal was caught.
@@ -331,6 +342,7 @@ impl<H: Host + Drop, P: Naming> Book<H, P> {
         ensures over { over_of self.new.history.items node ≡ true }
     {
         note(
+            &self.plan,
             &mut self.history,
             &mut self.tables,
             Event::Done(node, outcome),
@@ -353,11 +365,17 @@ impl<H: Host + Drop, P: Naming> Book<H, P> {
         let plan = &self.plan;
         match tell(&mut self.host, banner(plan, node)) {
             Ok(()) => {
-                note(&mut self.history, &mut self.tables, Event::Begun(node));
+                note(
+                    &self.plan,
+                    &mut self.history,
+                    &mut self.tables,
+                    Event::Begun(node),
+                );
                 true
             }
             Err(reason) => {
                 note(
+                    &self.plan,
                     &mut self.history,
                     &mut self.tables,
                     Event::Done(node, Outcome::Failed(reason)),
@@ -389,6 +407,7 @@ impl<H: Host + Drop, P: Naming> Book<H, P> {
             Ok(inner) => {
                 let child = H::number(&inner);
                 note(
+                    &self.plan,
                     &mut self.history,
                     &mut self.tables,
                     Event::Started(node, place as u32, child),
@@ -397,6 +416,7 @@ impl<H: Host + Drop, P: Naming> Book<H, P> {
             }
             Err(reason) => {
                 note(
+                    &self.plan,
                     &mut self.history,
                     &mut self.tables,
                     Event::Done(node, Outcome::Failed(reason)),
@@ -419,11 +439,13 @@ impl<H: Host + Drop, P: Naming> Book<H, P> {
         let place = self.place(node);
         match self.host.settle(child, ended) {
             Ok(status) => note(
+                &self.plan,
                 &mut self.history,
                 &mut self.tables,
                 Event::Ended(node, place, child, status),
             ),
             Err(_) => note(
+                &self.plan,
                 &mut self.history,
                 &mut self.tables,
                 Event::Done(node, Outcome::Failed(Reason::Fault(Call::Wait))),

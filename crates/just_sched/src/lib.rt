@@ -12,6 +12,7 @@ mod flags;
 mod look;
 mod named;
 mod naming;
+mod noting;
 mod plan;
 mod plan_node;
 mod planning;

@@ -6,12 +6,13 @@ use Rattle.just_sched.specs.State.{next_step}
 use Rattle.just_sched.proofs.Accounts.{node_in}
 use Rattle.just_sched.proofs.AfterLaws.{judged_node}
 use Rattle.just_sched.proofs.RowLaws.{ended_in, last_in}
+use Rattle.just_sched.proofs.TablesLaws.{rows_of}
 use Rattle.just_sched.proofs.book.Book.next_step.Goals as goal
 
 pub row-row-requires : goal.row-row-requires
 row-row-requires g c =
     let s = c.args.self.now in
-    omega (arith, node_in s.account c.args.node c.requires, s.sized)
+    omega (arith, node_in s.account c.args.node c.requires, s.sized, ap (λ p. length p.nodes) s.plan_named)
 
 pub returns : goal.returns
 returns g c =
@@ -22,7 +23,7 @@ returns g c =
     let within : c.args.node < length nodes = omega (arith, node_in s.account c.args.node c.requires, ap (λ (xs : List PlanNode). length xs) named) in
     c.judge.ensures
     ∙ judged_node nodes s.history.items c.args.node r.ended r.last (get_or nodes c.args.node c.index-nodes-node.result)
-    (ended_in s.history.items s.tables.rows.items s.table c.args.node r c.row-row.ensures.is c.row-row.ensures.within)
-    (last_in s.history.items s.tables.rows.items s.table c.args.node r c.row-row.ensures.is c.row-row.ensures.within)
+    (ended_in s.history.items s.tables.rows.items (rows_of s.noted) c.args.node r c.row-row.ensures.is c.row-row.ensures.within)
+    (last_in s.history.items s.tables.rows.items (rows_of s.noted) c.args.node r c.row-row.ensures.is c.row-row.ensures.within)
     (slice_get-get_or nodes c.args.node c.index-nodes-node.result within)
     ∙ ap (λ (xs : List PlanNode). next_step xs s.history.items c.args.node) named

@@ -1,7 +1,8 @@
 -- A book of no events yet has a right account, and room for all.
 use Rattle.std.proofs.Common.{arith, ap, sym, subst, ◌∙◌, length}
 use Rattle.just_sched.specs.Room.{slots, total_commands}
-use Rattle.just_sched.specs.Rows.{IsTable}
+use Rattle.just_sched.specs.Rows.{IsNoted}
+use Rattle.just_sched.specs.declared.plan.Plan.{Plan}
 use Rattle.just_sched.proofs.Accounts.{account_none}
 use Rattle.just_sched.proofs.book.Book.open.Goals as goal
 
@@ -14,7 +15,9 @@ pub invariant_of-result-clause-roomy : goal.invariant_of-result-clause-roomy
 invariant_of-result-clause-roomy g c = omega (arith, c.in-Ok.ensures.room, ap (λ p. slots p.nodes) c.args.plan.named)
 
 pub invariant_of-result-clause-sized : goal.invariant_of-result-clause-sized
-invariant_of-result-clause-sized g c = c.in-Ok.ensures.size ∙ ap (λ p. length p.nodes) c.args.plan.named
+invariant_of-result-clause-sized g c = c.in-Ok.ensures.size ∙ ap (λ p. length p.nodes) (sym c.into_plan.ensures)
 
-pub invariant_of-result-clause-table : goal.invariant_of-result-clause-table
-invariant_of-result-clause-table g c = subst (λ h. ∥ IsTable h c.in-Ok.field-0.tables.rows.items ∥₁) (sym c.in-Ok.ensures.empty) c.in-Ok.ensures.table
+pub invariant_of-result-clause-noted : goal.invariant_of-result-clause-noted
+invariant_of-result-clause-noted g c =
+    subst (λ (p : Plan). ∥ IsNoted p.nodes p.invocations c.in-Ok.field-0.history.items c.in-Ok.field-0.tables ∥₁) (sym c.into_plan.ensures)
+    (subst (λ h. ∥ IsNoted c.args.plan.plan.nodes c.args.plan.plan.invocations h c.in-Ok.field-0.tables ∥₁) (sym c.in-Ok.ensures.empty) c.in-Ok.ensures.noted)
