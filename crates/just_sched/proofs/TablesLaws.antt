@@ -1,17 +1,25 @@
 -- Laws of what a book's tables say of each node.
-use Rattle.std.proofs.Common.{◌≡◌, ℕ, ◌<◌, ◌⊎◌, inl, inr, ⊎_elim, ◌||◌, Bool, true, false, List, [], ◌∷◌, ◌++◌, length, refl, sym, ap, subst, ◌∙◌}
+use Rattle.std.proofs.Common.{◌==◌, ◌&&◌, not, if◌then◌else◌, get_or, ap₂, ◌≡◌, ℕ, ◌<◌, ◌||◌, Bool, true, false, List, [], ◌∷◌, ◌++◌, length, refl, sym, ap, subst, ◌∙◌}
+use Rattle.std.proofs.Math.Bool.{Bool-set}
 use Rattle.std.proofs.Math.Logic.{∥∥₁_elim, ∥∥₁_map}
-use Rattle.std.specs.Prelude.{Option, Some, None, is_some, Contains, slice_index, All, is_none}
+use Rattle.std.specs.Prelude.{filter_map, Option, Some, None, is_some, slice_index, All, is_none}
+use Rattle.std.specs.List.{cons_option}
 use Rattle.just_lang.specs.WellFormed.{IsWellFormed}
 use Rattle.just_sched.specs.declared.event.Event.{Event}
+use Rattle.just_sched.specs.declared.event.Event.TheVariants as event
+use Rattle.just_sched.specs.declared.event.Outcome.TheVariants as outcome
+use Rattle.just_sched.specs.declared.event.Reason.{Reason}
+use Rattle.just_sched.specs.declared.row.Row.{Row}
 use Rattle.just_sched.specs.declared.plan_node.PlanNode.{PlanNode}
 use Rattle.just_sched.specs.declared.tables.Tables.{Tables}
 use Rattle.just_sched.specs.Nodes.{priors_at, subsequents_at, parallel_at}
 use Rattle.just_sched.specs.Rows.{IsTable, IsNoted}
-use Rattle.just_sched.specs.State.{names, skips, concludes_well, is_over_well, IsFinished, IsWanted, MayComeNext, finished, invoked, prior, subsequent}
+use Rattle.just_sched.specs.State.{names, skips, concludes_well, first, reason_in, reason_of, has_failed, is_open, IsToAsk, is_over_well, IsFinished, IsWanted, MayComeNext, finished, invoked, prior, subsequent}
 use Rattle.just_sched.specs.Tables.{FlagsMean}
 use Rattle.just_sched.proofs.Deciding.{meant, told_finished, told_wanted}
 use Rattle.just_sched.proofs.PlanLaws.{shapes, confirmed_all}
+use Rattle.just_sched.proofs.Reasons.{none_to_ask}
+use Rattle.just_sched.proofs.RowLaws.{reason_in_row}
 use Rattle.just_sched.proofs.Tests.{any_none}
 use Rattle.just_sched.proofs.WantedLaws.{leads_weaker}
 
@@ -77,3 +85,28 @@ module _ (nodes : List PlanNode) (invocations : List ℕ) (h : List Event) (t : 
   -- the flags of the wanted nodes
   pub wanted_of : FlagsMean t.wanted.items (IsWanted nodes invocations h)
   wanted_of = meant t.wanted.items (IsWanted nodes invocations h) (told_wanted nodes invocations well h) (∥∥₁_map noted (λ n. n.wanted))
+
+-- a node failed where there is a reason of it, by the first event
+failed_at : (b c : Bool) (r : Reason) (rs : List Reason) → is_some (first rs) ≡ c → is_some (first (cons_option (if b then Some r else None) rs)) ≡ (b || c)
+failed_at true c r rs e = refl
+failed_at false c r rs e = e
+
+-- a node failed where there is a reason of it
+failed_reason : (h : List Event) (n : ℕ) → is_some (reason_of h n) ≡ has_failed h n
+failed_reason [] n = refl
+failed_reason (event.Done m outcome.Well ∷ h) n = failed_reason h n
+failed_reason (event.Done m (outcome.Failed r) ∷ h) n = failed_at (m == n) (has_failed h n) r (filter_map (reason_in n) h) (failed_reason h n)
+failed_reason (_ ∷ h) n = failed_reason h n
+
+-- whether a node failed, by its row
+pub failed_row : (h : List Event) (rows : List Row) → ∥ IsTable h rows ∥₁ → (n : ℕ) (d : Row) → n < length rows → is_some (get_or rows n d).reason ≡ has_failed h n
+failed_row h rows table n d lt = ap (λ o. is_some o) (reason_in_row h rows table n d lt) ∙ failed_reason h n
+
+-- whether its body is open
+pub open_row : (h : List Event) (rows : List Row) → ∥ IsTable h rows ∥₁ → (n : ℕ) (d : Row) → n < length rows → ((get_or rows n d).taken && not (get_or rows n d).given) ≡ is_open h n
+open_row h rows table n d lt = ∥∥₁_elim table (Bool-set _ _) (λ t. ap₂ (λ a b. a && not b) (t n d lt).taken (t n d lt).given)
+
+-- no node is to be asked
+pub never_to_ask : (nodes : List PlanNode) (invocations : List ℕ) (h : List Event) (n : ℕ) → ∥ All (λ (x : PlanNode). is_none x.prompt ≡ true) nodes ∥₁ → IsToAsk nodes invocations h n → ⊥
+never_to_ask nodes invocations h n unprompted asked =
+    ∥∥₁_elim unprompted (λ x. absurd x) (λ all. none_to_ask (record { nodes = nodes; invocations = invocations; jobs = None; base = 0 }) h all n asked)

@@ -10,6 +10,7 @@ pub mod Idle
 pub mod Legal
 pub mod Match
 pub mod Moves
+pub mod NodeStates
 pub mod Nodes
 pub mod Nowhere
 pub mod Planning

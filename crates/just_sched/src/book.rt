@@ -13,6 +13,7 @@ ghost use Rattle.just_sched.specs.State.{IsReady, is_open, is_running, is_begun,
 ghost use Rattle.just_sched.specs.Legal.{Run, IsClosed, IsComplete, May, open_bodies, in_body};
 ghost use Rattle.just_sched.specs.Match.{StandsFor};
 ghost use Rattle.just_sched.specs.Idle.{IsIdle, CanMove, HasWork};
+ghost use Rattle.just_sched.specs.NodeStates.{IsState};
 ghost use Rattle.just_sched.specs.Verdict.{IsVerdict};
 ghost use Rattle.just_sched.specs.Moves.{GrowsBy, IsMove, RunsWith, Rests, MatchNext};
 ghost use base.Stored.{Coded-set};
@@ -23,8 +24,8 @@ use super::room::{command_count, event_count};
 use super::steps::judge;
 use super::tables::Tables;
 use super::{
-    Driven, Event, HeldBody, Idle, Named, Naming, Next, OpenBody, Outcome, Plan, Reason, Step,
-    Verdict, WaitedBody,
+    Driven, Event, HeldBody, Idle, Named, Naming, Next, NodeState, OpenBody, Outcome, Plan, Reason,
+    Step, Verdict, WaitedBody,
 };
 use just_outside::{Call, Host, Signal};
 use just_path::{NoMemory, Seq};
@@ -137,6 +138,14 @@ impl<H: Host + Drop, P: Naming> Book<H, P> {
         ensures { result ≡ caught_signal self.now.history.items }
     {
         self.caught
+    }
+
+    /// The state of a node. It takes no memory.
+    pub fn state(&self, node: u32) -> NodeState
+        requires { node < length P.start.plan.nodes }
+        ensures { IsState P.start.plan.nodes P.start.plan.invocations self.now.history.items node result }
+    {
+        self.tables.state(&self.plan, self.history.as_slice(), node)
     }
 
     /// Makes one move, if there is one: the ready node of least number takes a job, and its body is begun and gone on with,

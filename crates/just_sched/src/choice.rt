@@ -21,7 +21,7 @@ fn is_taken(history: &[Event], rows: &[Row], at: usize) -> bool
 }
 
 /// Whether the node is ready, by the table and the flags of the wanted and the finished nodes.
-fn is_ready(
+pub(crate) fn is_ready(
     plan: &Plan,
     history: &[Event],
     at: usize,

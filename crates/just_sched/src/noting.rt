@@ -1,21 +1,29 @@
 //! What a book notes in its tables, and what it reads there. Only the making of the tables takes memory.
 
-ghost use Rattle.std.specs.Prelude.{◌≡◌, ◌<◌, ◌++◌, ◌∷◌, [], ℕ, false, length, vec_len, vec_capacity, slice_index_or, IfOk, IfSome, IfNone};
+ghost use Rattle.std.specs.Prelude.{◌≡◌, ◌&&◌, not, ◌<◌, ◌++◌, ◌∷◌, [], ℕ, false, length, vec_len, vec_capacity, slice_index_or, IfOk, IfSome, IfNone};
 ghost use Rattle.just_sched.specs.Rows.{IsTable, IsNoted};
-ghost use Rattle.just_sched.specs.State.{is_open, caught_signal, IsReady};
+ghost use Rattle.just_sched.specs.State.{is_open as opened, caught_signal, IsReady};
+ghost use Rattle.just_sched.specs.NodeStates.{IsState};
 ghost use Rattle.just_sched.specs.Legal.{Run};
 ghost use Rattle.just_sched.specs.Verdict.{IsVerdict};
 
-use super::choice::first_by;
+use super::choice::{first_by, is_ready};
 use super::flags::{mark_finished, mark_over, over_by};
 use super::row::{BLANK, Row, mark};
 use super::tables::Tables;
 use super::verdict::verdict_by;
 use super::wanted::mark_wanted;
-use super::{Event, Plan, Verdict};
+use super::{Event, NodeState, Plan, Verdict};
 use just_outside::Signal;
 use just_path::NoMemory;
 use std::alloc::Global;
+
+/// Whether the body of the node with this row is open.
+fn is_open(row: Row) -> bool
+    ensures { result ≡ (row.taken && not row.given) }
+{
+    row.taken && !row.given
+}
 
 impl Tables {
     /// Room for so many nodes.
@@ -88,11 +96,38 @@ impl Tables {
         )
     }
 
+    /// The state of a node. It takes no memory.
+    pub(crate) fn state(&self, plan: &Plan, history: &[Event], node: u32) -> NodeState
+        requires within { node < length plan.now.nodes }
+        requires size { self.now.size ≡ length plan.now.nodes }
+        requires noted { ∥ IsNoted plan.now.nodes plan.now.invocations history.now self.now ∥₁ }
+        ensures { IsState plan.now.nodes plan.now.invocations history.now node result }
+    {
+        let at = node as usize;
+        let rows = self.rows.as_slice();
+        let finished = self.finished.as_slice();
+        let wanted = self.wanted.as_slice();
+        let row = rows[at];
+        if row.reason.is_some() {
+            NodeState::Failed
+        } else if finished[at] {
+            NodeState::Finished
+        } else if row.well {
+            NodeState::Over
+        } else if is_open(row) {
+            NodeState::Open
+        } else if is_ready(plan, history, at, wanted, rows, finished) {
+            NodeState::Ready
+        } else {
+            NodeState::Waiting
+        }
+    }
+
     /// How the run of a closed history went. It takes no memory.
     pub(crate) fn verdict(&self, plan: &Plan, history: &[Event], caught: Option<Signal>) -> Verdict
         requires size { self.now.size ≡ length plan.now.nodes }
         requires noted { ∥ IsNoted plan.now.nodes plan.now.invocations history.now self.now ∥₁ }
-        requires closed { (n : ℕ) → n < length plan.now.nodes → is_open history.now n ≡ false }
+        requires closed { (n : ℕ) → n < length plan.now.nodes → opened history.now n ≡ false }
         requires caught { caught ≡ caught_signal history.now }
         ensures { (s : Run) → s.nodes ≡ plan.now.nodes → IsVerdict s history.now result }
     {
