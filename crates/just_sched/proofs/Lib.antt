@@ -24,9 +24,11 @@ pub mod PlanShape
 pub mod Plans
 pub mod Range
 pub mod Reasons
+pub mod Runners
 pub mod Settling
 pub mod Stretch
 pub mod Sums
 pub mod TableLaws
+pub mod Tallies
 pub mod Tests
 pub mod WantedLaws

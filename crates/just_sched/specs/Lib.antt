@@ -14,6 +14,7 @@ pub mod Nodes
 pub mod Nowhere
 pub mod Planning
 pub mod Room
+pub mod Running
 pub mod Start
 pub mod State
 pub mod Tables
