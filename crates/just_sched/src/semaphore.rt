@@ -45,6 +45,7 @@ impl Jobs {
 
 /// A number of jobs. Whenever its lock is free, the jobs that are free and the guards that are out are together the number
 /// that it was made with.
+#[derive(Drop)]
 pub struct Semaphore {
     jobs: Mutex<Jobs>,
     freed: Condvar,
