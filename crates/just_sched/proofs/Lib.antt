@@ -26,10 +26,12 @@ pub mod Plans
 pub mod Range
 pub mod Reasons
 pub mod RowLaws
+pub mod Runners
 pub mod Settling
 pub mod Stretch
 pub mod Sums
 pub mod TableLaws
 pub mod TablesLaws
+pub mod Tallies
 pub mod Tests
 pub mod WantedLaws

@@ -16,6 +16,7 @@ pub mod Nowhere
 pub mod Planning
 pub mod Room
 pub mod Rows
+pub mod Running
 pub mod Start
 pub mod State
 pub mod Tables

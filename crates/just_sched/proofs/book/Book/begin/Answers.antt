@@ -11,6 +11,7 @@ use Rattle.just_sched.proofs.Gained.{begin_fails}
 use Rattle.just_sched.proofs.Grows.{grows_one}
 use Rattle.just_sched.proofs.Behind.{over_now}
 use Rattle.just_sched.proofs.Due.{inside}
+use Rattle.just_sched.proofs.Tallies.{tally_more, tally_done, told_end}
 use Rattle.just_sched.proofs.book.Book.begin.Goals as goal
 
 pub banner-requires : goal.banner-requires
@@ -53,3 +54,11 @@ returns-in-Err-clause-grown g c = grows_one c.args.self.now.history.items _ (eve
 
 pub returns-in-Err-clause-did : goal.returns-in-Err-clause-did
 returns-in-Err-clause-did g c = over_now c.args.self.now.history.items _ c.args.node (outcome.Failed c.in-Err.reason) c.note-in-Err.ensures.items
+
+pub invariant_of-self-clause-tallied : goal.invariant_of-self-clause-tallied
+invariant_of-self-clause-tallied g c = tally_more c.args.self.now.history.items _ (event.Begun c.args.node) _ _ c.note.ensures.items c.args.self.now.tallied refl
+
+pub invariant_of-self-in-Err-clause-tallied : goal.invariant_of-self-in-Err-clause-tallied
+invariant_of-self-in-Err-clause-tallied g c =
+    let s = c.args.self.now in
+    tally_done s.history.items _ c.args.node (outcome.Failed c.in-Err.reason) _ c.note-in-Err.ensures.items (told_end (Unit {0}) _ c.args.node c.in-Err.reason c.in-Err.ensures.gains.0 c.in-Err.ensures.gains.2) s.tallied

@@ -4,6 +4,8 @@ use Rattle.just_sched.specs.declared.event.Event.TheVariants as event
 use Rattle.just_sched.proofs.Accounts.{room_for, noted_alone}
 use Rattle.just_sched.proofs.Grows.{grows_one}
 use Rattle.just_sched.proofs.Behind.{open_as, over_now}
+use Rattle.just_sched.specs.Start.{run_of}
+use Rattle.just_sched.proofs.Tallies.{silent_end, tally_done}
 use Rattle.just_sched.proofs.book.Book.end.Goals as goal
 
 pub note-requires-clause-room : goal.note-requires-clause-room
@@ -23,3 +25,8 @@ returns-clause-opened g c =
 
 pub returns-clause-over : goal.returns-clause-over
 returns-clause-over g c = over_now c.args.self.now.history.items _ c.args.node c.args.outcome c.note.ensures.items
+
+pub invariant_of-self-clause-tallied : goal.invariant_of-self-clause-tallied
+invariant_of-self-clause-tallied g c =
+    let s = c.args.self.now in
+    tally_done s.history.items _ c.args.node c.args.outcome _ c.note.ensures.items (silent_end (run_of g.P.Naming.start) s.history.items c.args.node c.args.outcome c.requires.stands) s.tallied

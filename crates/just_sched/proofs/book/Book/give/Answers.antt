@@ -4,6 +4,7 @@ use Rattle.just_sched.specs.declared.event.Event.TheVariants as event
 use Rattle.just_sched.proofs.Accounts.{some_taken, room_for, noted_alone, over_rests}
 use Rattle.just_sched.proofs.Grows.{grows_one}
 use Rattle.just_sched.proofs.Behind.{gave_closes, running_as}
+use Rattle.just_sched.proofs.Tallies.{tally_more}
 use Rattle.just_sched.proofs.book.Book.give.Goals as goal
 
 pub overflow_sub-self : goal.overflow_sub-self
@@ -27,3 +28,6 @@ returns-clause-rests g c =
       closed = gave_closes s.history.items _ c.args.node c.note.ensures.items;
       still = running_as s.history.items _ (event.Gave c.args.node) c.args.node c.note.ensures.items refl refl refl ∙ over_rests s.account c.args.node c.requires.over;
     }
+
+pub invariant_of-self-clause-tallied : goal.invariant_of-self-clause-tallied
+invariant_of-self-clause-tallied g c = tally_more c.args.self.now.history.items _ (event.Gave c.args.node) _ _ c.note.ensures.items c.args.self.now.tallied refl

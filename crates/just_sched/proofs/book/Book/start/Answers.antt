@@ -11,6 +11,7 @@ use Rattle.just_sched.proofs.Gained.{start_stands, start_fails, started_not_none
 use Rattle.just_sched.proofs.Grows.{grows_one}
 use Rattle.just_sched.proofs.Behind.{open_as, over_now, place_fits, started_runs}
 use Rattle.just_sched.proofs.Due.{inside}
+use Rattle.just_sched.proofs.Tallies.{tally_more, tally_done, unstarted_end}
 use Rattle.just_sched.proofs.book.Book.start.Goals as goal
 
 pub overflow_cast-place : goal.overflow_cast-place
@@ -61,3 +62,13 @@ returns-in-Err-clause-did g c =
     let s = c.args.self.now in
     let e = event.Done c.args.node (outcome.Failed c.in-Err.reason) in
     (open_as s.history.items _ e c.args.node c.note-in-Err.ensures.items refl refl ∙ (inside s.history.items c.args.node c.requires.inside).is_open, over_now s.history.items _ c.args.node (outcome.Failed c.in-Err.reason) c.note-in-Err.ensures.items)
+
+pub invariant_of-self-clause-tallied : goal.invariant_of-self-clause-tallied
+invariant_of-self-clause-tallied g c =
+    let s = c.args.self.now in
+    tally_more s.history.items _ (event.Started c.args.node c.args.place c.number-child.result) s.tally.total _ c.note.ensures.items s.tallied (omega (arith, c.add.ensures.total))
+
+pub invariant_of-self-in-Err-clause-tallied : goal.invariant_of-self-in-Err-clause-tallied
+invariant_of-self-in-Err-clause-tallied g c =
+    let s = c.args.self.now in
+    tally_done s.history.items _ c.args.node (outcome.Failed c.in-Err.reason) _ c.note-in-Err.ensures.items (unstarted_end g.H.Host.child_number c.in-Some.command.now c.args.node c.in-Err.reason c.in-Err.ensures.gains.0 c.in-Err.ensures.gains.2) s.tallied

@@ -6,6 +6,7 @@ use Rattle.just_sched.proofs.Accounts.{counted_few, room_for, noted_alone, not_g
 use Rattle.just_sched.proofs.Grows.{grows_one}
 use Rattle.just_sched.proofs.Behind.{running_as, took_opens}
 use Rattle.just_sched.proofs.Tests.{any_now}
+use Rattle.just_sched.proofs.Tallies.{tally_more}
 use Rattle.just_sched.proofs.book.Book.take.Goals as goal
 
 pub overflow_add-self : goal.overflow_add-self
@@ -35,3 +36,6 @@ pub returns-clause-still : goal.returns-clause-still
 returns-clause-still g c =
     let s = c.args.self.now in
     running_as s.history.items _ (event.Took c.args.node) c.args.node c.note.ensures.items refl refl refl ∙ not_running s.account c.args.node c.requires.ready.not_taken
+
+pub invariant_of-self-clause-tallied : goal.invariant_of-self-clause-tallied
+invariant_of-self-clause-tallied g c = tally_more c.args.self.now.history.items _ (event.Took c.args.node) _ _ c.note.ensures.items c.args.self.now.tallied refl
