@@ -8,7 +8,7 @@ use Rattle.just_lang.specs.WellFormed.{IsWellFormed}
 use Rattle.just_sched.specs.declared.plan_node.PlanNode.{PlanNode}
 use Rattle.just_sched.specs.Works.{commands_of}
 use Rattle.just_rows.specs.Beside.{beside_of}
-use Rattle.just_rows.proofs.books.beside.Goals as goal
+use Rattle.just_rows.proofs.plans.beside.Goals as goal
 
 pub invariant_of-result : goal.invariant_of-result
 invariant_of-result c =
