@@ -26,8 +26,7 @@ use super::steps::judge;
 use super::tables::Tables;
 use super::{
     Driven, Event, HeldBody, Idle, Named, Naming, Next, NodeState, OpenBody, Outcome, Plan, Reason,
-    Seat,
-    Step, Verdict, WaitedBody,
+    Seat, Step, Verdict, WaitedBody,
 };
 use just_outside::{Call, Host, Signal};
 use just_path::{NoMemory, Seq};

@@ -16,11 +16,11 @@ pub invariant_of-book-clause-roomy : goal.invariant_of-book-clause-roomy
 invariant_of-book-clause-roomy g c = omega (arith, c.in-Ok.ensures.room, ap (λ p. slots p.nodes) c.args.plan.named)
 
 pub invariant_of-book-clause-sized : goal.invariant_of-book-clause-sized
-invariant_of-book-clause-sized g c = c.in-Ok.ensures.size ∙ ap (λ p. length p.nodes) (sym c.into_plan.ensures)
+invariant_of-book-clause-sized g c = c.in-Ok.ensures.size ∙ ap (λ p. length p.nodes) (sym c.take_apart-plan.ensures.plan)
 
 pub invariant_of-book-clause-noted : goal.invariant_of-book-clause-noted
 invariant_of-book-clause-noted g c =
-    subst (λ (p : Plan). ∥ IsNoted p.nodes p.invocations c.in-Ok.field-0.history.items c.in-Ok.field-0.tables ∥₁) (sym c.into_plan.ensures)
+    subst (λ (p : Plan). ∥ IsNoted p.nodes p.invocations c.in-Ok.field-0.history.items c.in-Ok.field-0.tables ∥₁) (sym c.take_apart-plan.ensures.plan)
     (subst (λ h. ∥ IsNoted c.args.plan.plan.nodes c.args.plan.plan.invocations h c.in-Ok.field-0.tables ∥₁) (sym c.in-Ok.ensures.empty) c.in-Ok.ensures.noted)
 
 pub invariant_of-book-clause-tallied : goal.invariant_of-book-clause-tallied
