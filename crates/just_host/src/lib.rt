@@ -4,6 +4,7 @@
 mod child;
 mod command;
 mod files;
+mod gate;
 mod items;
 mod memory;
 mod place;
@@ -15,6 +16,7 @@ mod text;
 
 pub use child::{RealChild, RealDone};
 pub use files::Tree;
+pub use gate::{GateChild, GateHost};
 pub use just_outside::{
     Call, Entry, Host, HostFault, Look, MAX_BYTES, Script, Signal, Spec, Status, Stream, Thing,
 };

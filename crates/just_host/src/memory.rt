@@ -30,7 +30,7 @@ use std::alloc::Global;
 /// A host in memory, which does what its plot says. It tells its world.
 #[derive(Debug, Drop)]
 pub struct MemHost {
-    alloc: Global,
+    pub(crate) alloc: Global,
     log: Log,
     tree: Tree,
     folder: Place,
@@ -45,15 +45,15 @@ pub struct MemHost {
 /// A child over a `MemHost`.
 #[derive(Debug, Drop)]
 pub struct MemChild {
-    number: u32,
+    pub(crate) number: u32,
     status: Option<Status>,
 }
 
 /// A child over a `MemHost` that was waited for.
 #[derive(Debug, Drop)]
 pub struct MemDone {
-    number: u32,
-    status: Option<Status>,
+    pub(crate) number: u32,
+    pub(crate) status: Option<Status>,
 }
 
 impl MemHost {

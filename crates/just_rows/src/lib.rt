@@ -8,10 +8,16 @@ mod calls;
 #[cfg(test)]
 mod hosts;
 #[cfg(test)]
+mod plans;
+#[cfg(test)]
 mod real;
 #[cfg(test)]
 mod real_edges;
 #[cfg(test)]
+mod semaphores;
+#[cfg(test)]
 mod sights;
 #[cfg(test)]
 mod trees;
+#[cfg(test)]
+mod workers;

@@ -1,8 +1,6 @@
 -- The step after some statuses, by their number and the last of them.
-use Rattle.std.proofs.Common.{◌≡◌, ℕ, suc, ◌+◌, ◌-◌, List, [], ◌∷◌, length, ◌≤◌, drop, refl, sym, ◌∙◌, ap, sub-one}
-use native.Mathlib.Numerals.{unary_clauses}
-use Rattle.std.specs.Prelude.{Option, Some, None, slice_get, filter_map}
-use Rattle.std.proofs.lemmas.List.{drop_all}
+use Rattle.std.proofs.Common.{◌≡◌, ℕ, suc, ◌-◌, List, [], ◌∷◌, length, refl, sym, ◌∙◌, ap, sub-one}
+use Rattle.std.specs.Prelude.{Option, Some, None, slice_get}
 use Rattle.std.specs.List.{last_or}
 use Rattle.just_outside.specs.declared.entry.Status.{Status}
 use Rattle.just_sched.specs.declared.work.Command.{Command}
@@ -10,7 +8,7 @@ use Rattle.just_sched.specs.declared.work.Work.{Work}
 use Rattle.just_sched.specs.declared.event.Event.{Event}
 use Rattle.just_sched.specs.declared.plan_node.PlanNode.{PlanNode}
 use Rattle.just_sched.specs.Nodes.{work_in}
-use Rattle.just_sched.specs.State.{status_of, statuses, next_step}
+use Rattle.just_sched.specs.State.{statuses, next_step}
 use Rattle.just_sched.specs.Works.{after, step_behind, commands_of, start_or_well}
 
 -- the last item by its place
@@ -33,15 +31,12 @@ after_judged w (s ∷ ss) =
 pub judged_is : (w : Work) (ss : List Status) (n : ℕ) (last : Option Status) → n ≡ length ss → last ≡ last_or None ss → step_behind w n (slice_get (commands_of w) (n - 1)) last ≡ after w ss
 judged_is w ss n last e f = rw (e, f) (after_judged w ss)
 
--- the step of a node once the whole history was gone over
+-- the step of a node, by what its row says
 pub judged_node :
-    (nodes : List PlanNode) (h : List Event) (n count i : ℕ) (last : Option Status) (x : PlanNode)
-    → length h ≤ i
-    → count + length (filter_map (status_of n) (drop i h)) ≡ length (statuses h n)
-    → last_or last (filter_map (status_of n) (drop i h)) ≡ last_or None (statuses h n)
+    (nodes : List PlanNode) (h : List Event) (n count : ℕ) (last : Option Status) (x : PlanNode)
+    → count ≡ length (statuses h n)
+    → last ≡ last_or None (statuses h n)
     → slice_get nodes n ≡ Some x
     → step_behind x.work count (slice_get (commands_of x.work) (count - 1)) last ≡ next_step nodes h n
-judged_node nodes h n count i last x past counted last_is found =
-    let rest = drop_all i h past in
-    let number : count ≡ length (statuses h n) = simp unary_clauses at (rw rest at counted) in
-    judged_is x.work (statuses h n) count last number (rw rest at last_is) ∙ ap (λ o. after (work_in o) (statuses h n)) (sym found)
+judged_node nodes h n count last x number last_is found =
+    judged_is x.work (statuses h n) count last number last_is ∙ ap (λ o. after (work_in o) (statuses h n)) (sym found)

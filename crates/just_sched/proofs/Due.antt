@@ -88,7 +88,7 @@ fail_due s h n call.Wait m = (Ended, m)
 fail_due s h n _ m = absurd m
 
 -- a node that may fail isn't done
-by_not_done : (s : Run) (h : List Event) (n : ℕ) (r : Reason) → MayFailBy s h n r → is_done h n ≡ false
+pub by_not_done : (s : Run) (h : List Event) (n : ℕ) (r : Reason) → MayFailBy s h n r → is_done h n ≡ false
 by_not_done s h n reason.Status m = m.not_done
 by_not_done s h n reason.NotConfirmed m = m.1
 by_not_done s h n (reason.Input j x) m = absurd m

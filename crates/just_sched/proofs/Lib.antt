@@ -7,6 +7,7 @@ pub mod Causes
 pub mod Choices
 pub mod Complete
 pub mod Counts
+pub mod Deciding
 pub mod Due
 pub mod Ended
 pub mod EventRoom
@@ -24,9 +25,13 @@ pub mod PlanShape
 pub mod Plans
 pub mod Range
 pub mod Reasons
+pub mod RowLaws
+pub mod Runners
 pub mod Settling
 pub mod Stretch
 pub mod Sums
 pub mod TableLaws
+pub mod TablesLaws
+pub mod Tallies
 pub mod Tests
 pub mod WantedLaws

@@ -10,10 +10,13 @@ pub mod Idle
 pub mod Legal
 pub mod Match
 pub mod Moves
+pub mod NodeStates
 pub mod Nodes
 pub mod Nowhere
 pub mod Planning
 pub mod Room
+pub mod Rows
+pub mod Running
 pub mod Start
 pub mod State
 pub mod Tables

@@ -1,6 +1,5 @@
--- Tables of nodes: lists with one flag, or one reason, for each node of a plan.
+-- Flags of nodes: lists with one flag for each node of a plan.
 use Rattle.std.specs.Prelude.{ℕ, ◌≡◌, ◌<◌, Bool, true, false, List, length, slice_index, slice_index_or, Option, Some, None}
-use Rattle.just_sched.specs.declared.event.Reason.{Reason}
 
 -- the flag of a node; false past the last one
 abbrev pub flag : List Bool → ℕ → Bool
@@ -17,10 +16,6 @@ FlagsMean flags P = (k : ℕ) → k < length flags → (flag flags k ≡ true �
 -- each number of the list is that of a flag
 abbrev pub InRange : List ℕ → List Bool → Type 0
 InRange xs flags = (j : ℕ) → j < length xs → slice_index xs j < length flags
-
--- the reason that is noted of a node; none past the last one
-abbrev pub reason_at : List (Option Reason) → ℕ → Option Reason
-reason_at reasons n = slice_index_or reasons n None
 
 -- the first of two, where there is one, else the second
 abbrev pub or_first : {A : Type 0} → Option A → Option A → Option A

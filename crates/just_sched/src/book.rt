@@ -1,34 +1,39 @@
 //! The book of a run: its history, kept legal, and the moves that go on with it.
 
-ghost use Rattle.std.specs.Prelude.{◌≡◌, ◌≢◌, ◌+◌, ◌<◌, ◌≤◌, ℕ, Bool, true, false, List, [], ◌∷◌, ◌++◌, Option, Some, None, length, option_map, IfOk, IfErr, IfSome, IfNone, OnOk, MatchOption, MatchBool, vec_len, vec_capacity};
+ghost use Rattle.std.specs.Prelude.{◌≡◌, ◌≢◌, ◌+◌, ◌<◌, ◌≤◌, ◌⊎◌, ℕ, Bool, true, false, List, [], ◌∷◌, ◌++◌, Option, Some, None, length, option_map, IfOk, IfErr, IfSome, IfNone, OnOk, MatchOption, MatchBool, vec_len, vec_capacity};
 ghost use Rattle.std.specs.Int.NonZero.{non_zero_u64_get};
 ghost use Rattle.std.proofs.Props.{props};
 ghost use Rattle.just_outside.specs.Record.{children};
 ghost use Rattle.just_sched.specs.Account.{IsAccount};
 ghost use Rattle.just_sched.specs.Codes.{plan_code};
 ghost use Rattle.just_sched.specs.Start.{IsKept, run_of};
-ghost use Rattle.just_sched.specs.Room.{slots, total_commands};
+ghost use Rattle.just_sched.specs.Room.{slots, total_commands, settle_count};
+ghost use Rattle.just_sched.specs.Rows.{IsNoted};
+ghost use Rattle.just_sched.specs.Running.{running_bodies, IsNotedFor};
 ghost use Rattle.just_sched.specs.State.{IsReady, is_open, is_running, is_begun, is_over as over_of, has_taken, has_caught, caught_signal, last_start as start_of, next_step as step_of};
-ghost use Rattle.just_sched.specs.Legal.{Run, IsClosed, IsComplete, May, open_bodies, in_body};
-ghost use Rattle.just_sched.specs.Match.{StandsFor};
+ghost use Rattle.just_sched.specs.Legal.{Run, IsClosed, IsComplete, May, open_bodies, all_starts, in_body};
+ghost use Rattle.just_sched.specs.Match.{StandsFor, IsStranger};
 ghost use Rattle.just_sched.specs.Idle.{IsIdle, CanMove, HasWork};
+ghost use Rattle.just_sched.specs.NodeStates.{IsState};
 ghost use Rattle.just_sched.specs.Verdict.{IsVerdict};
 ghost use Rattle.just_sched.specs.Moves.{GrowsBy, IsMove, RunsWith, Rests, MatchNext};
 ghost use base.Stored.{Coded-set};
 
 use super::calls::{banner, planned, start_child, tell};
-use super::look::{is_over, last_start, next_step};
+use super::noting::note;
 use super::room::{command_count, event_count};
+use super::steps::judge;
 use super::tables::Tables;
 use super::{
-    Driven, Event, HeldBody, Idle, Named, Naming, Next, OpenBody, Outcome, Plan, Reason, Step,
-    Verdict, WaitedBody,
+    Driven, Event, HeldBody, Idle, Named, Naming, Next, NodeState, OpenBody, Outcome, Plan, Reason,
+    Seat, Step, Verdict, WaitedBody,
 };
 use just_outside::{Call, Host, Signal};
 use just_path::{NoMemory, Seq};
 use std::alloc::Global;
 use std::marker::PhantomData;
 use std::num::NonZeroU64;
+use std::sync::ledger;
 
 /// A run that goes on: its plan, its host, and the history so far, which is legal and matches what the host's record
 /// gained since the book was opened. It has room for every event, so only the host's calls take memory.
@@ -43,12 +48,16 @@ pub struct Book<H: Host + Drop, P: Naming> {
     /// How many bodies are open.
     taken: usize,
     tables: Tables,
+    /// The ledger of the running bodies.
+    tally: ledger::Book<P>,
     of: PhantomData<P>,
     pub ghost plan_named: { plan ≡ P.start.plan } by { Coded-set plan_code plan P.start.plan },
     pub ghost jobs_named: { option_map non_zero_u64_get jobs ≡ P.start.jobs } by { Prim.hlevel props },
     ghost account: { ∥ IsAccount P.start history.items (H.entries host) (H.world host) (H.spare host) taken caught ∥₁ },
     ghost roomy: { slots P.start.plan.nodes ≤ vec_capacity history },
-    ghost sized: { tables.size ≡ length P.start.plan.nodes },
+    ghost sized: { tables.size ≡ length plan.nodes },
+    ghost noted: { ∥ IsNoted plan.nodes plan.invocations history.items tables ∥₁ },
+    ghost tallied: { settle_count history.items + tally.total ≡ all_starts history.items },
 }
 
 /// What a book takes memory for.
@@ -65,6 +74,7 @@ fn make_room<H: Host>(alloc: Global, plan: &Plan, host: &mut H) -> Result<Room, 
     ensures room { IfOk result (λ r. slots plan.now.nodes ≤ vec_capacity r.history) }
     ensures spare { OnOk result (total_commands plan.now.nodes ≤ H.spare host.new) }
     ensures size { IfOk result (λ r. r.tables.size ≡ length plan.now.nodes) }
+    ensures noted { IfOk result (λ r. ∥ IsNoted plan.now.nodes plan.now.invocations [] r.tables ∥₁) }
 {
     let Some(commands) = command_count(plan) else {
         return Err(NoMemory);
@@ -73,7 +83,7 @@ fn make_room<H: Host>(alloc: Global, plan: &Plan, host: &mut H) -> Result<Room, 
         return Err(NoMemory);
     };
     let history = Vec::with_capacity(alloc, events)?;
-    let tables = Tables::new(alloc, plan.nodes.len())?;
+    let tables = Tables::new(alloc, plan)?;
     match host.room(commands) {
         Ok(()) => Ok(Room { history, tables }),
         Err(NoMemory) => Err(NoMemory),
@@ -81,34 +91,41 @@ fn make_room<H: Host>(alloc: Global, plan: &Plan, host: &mut H) -> Result<Room, 
 }
 
 impl<H: Host + Drop, P: Naming> Book<H, P> {
-    /// A book of no events yet. It takes room for every event, and asks the host for its own; where memory is wanting,
-    /// host and plan come back.
+    /// A book of no events yet, and a seat with every part. It takes room for every event, and asks the host for its own;
+    /// where memory is wanting, host and plan come back.
     pub fn open(
         alloc: Global,
         plan: Named<P>,
         host: H,
         jobs: Option<NonZeroU64>,
-    ) -> Result<Book<H, P>, (H, Named<P>)>
+    ) -> Result<(Book<H, P>, Seat<P>), (H, Named<P>)>
         requires jobs { option_map non_zero_u64_get jobs ≡ P.start.jobs }
         requires entries { H.entries host ≡ P.start.entries }
         requires world { H.world host ≡ P.start.world }
-        ensures empty { IfOk result (λ b. b.history.items ≡ []) }
-        ensures plan { IfOk result (λ b. b.plan ≡ plan.plan) }
-        ensures jobs { IfOk result (λ b. b.jobs ≡ jobs) }
+        ensures empty { IfOk result (λ r. r.0.history.items ≡ []) }
+        ensures plan { IfOk result (λ r. r.0.plan ≡ plan.plan) }
+        ensures jobs { IfOk result (λ r. r.0.jobs ≡ jobs) }
+        ensures seat { IfOk result (λ r. (r.1.share.parts ≡ P.parts) × (r.1.share.amount ≡ 0)) }
         ensures back { IfErr result (λ r. (H.entries r.0 ≡ H.entries host) × (H.world r.0 ≡ H.world host) × (r.1.plan ≡ plan.plan)) }
     {
         let mut host = host;
         match make_room(alloc, &plan.plan, &mut host) {
-            Ok(Room { history, tables }) => Ok(Book {
-                plan: plan.into_plan(),
-                jobs,
-                host,
-                history,
-                caught: None,
-                taken: 0,
-                tables,
-                of: PhantomData,
-            }),
+            Ok(Room { history, tables }) => {
+                let (plan, blank) = plan.take_apart();
+                let (tally, share) = blank.open::<P>();
+                let book = Book {
+                    plan,
+                    jobs,
+                    host,
+                    history,
+                    caught: None,
+                    taken: 0,
+                    tables,
+                    tally,
+                    of: PhantomData,
+                };
+                Ok((book, Seat::new(share)))
+            }
             Err(NoMemory) => Err((host, plan)),
         }
     }
@@ -135,11 +152,31 @@ impl<H: Host + Drop, P: Naming> Book<H, P> {
         self.caught
     }
 
+    /// The state of a node. It takes no memory.
+    pub fn state(&self, node: u32) -> NodeState
+        requires { node < length P.start.plan.nodes }
+        ensures { IsState P.start.plan.nodes P.start.plan.invocations self.now.history.items node result }
+    {
+        self.tables.state(&self.plan, self.history.as_slice(), node)
+    }
+
+    /// Shows that the units of a seat with every part are the number of running bodies. It changes nothing.
+    pub fn audit(&mut self, seat: &mut Seat<P>)
+        requires { seat.old.share.parts ≡ P.parts }
+        ensures same { (self.new.plan ≡ self.old.plan) × (self.new.jobs ≡ self.old.jobs) × (self.new.host ≡ self.old.host) × (self.new.history ≡ self.old.history) }
+        ensures seat { (seat.new.share.parts ≡ seat.old.share.parts) × (seat.new.share.amount ≡ seat.old.share.amount) }
+        ensures units { seat.new.share.amount ≡ running_bodies (run_of P.start) self.new.history.items }
+    {
+        self.tally.audit(&mut seat.share);
+    }
+
     /// Makes one move, if there is one: the ready node of least number takes a job, and its body is begun and gone on with,
-    /// until a child runs or the job is given back. It waits for no child.
-    pub fn next(&mut self) -> Next<H>
+    /// until a child runs, for which the seat gains a unit, or the job is given back. It waits for no child.
+    pub fn next(&mut self, seat: &mut Seat<P>) -> Next<H>
         ensures plan { self.new.plan ≡ self.old.plan }
         ensures jobs { self.new.jobs ≡ self.old.jobs }
+        ensures parts { seat.new.share.parts ≡ seat.old.share.parts }
+        ensures units { MatchNext result (seat.new.share.amount ≡ seat.old.share.amount) (λ node child. seat.new.share.amount ≡ seat.old.share.amount + 1) (λ i. seat.new.share.amount ≡ seat.old.share.amount) }
         ensures can { MatchNext result (CanMove (run_of P.start) self.old.history.items) (λ node child. CanMove (run_of P.start) self.old.history.items) (λ i. IsIdle (run_of P.start) self.new.history.items i) }
         ensures did { MatchNext result
             ((n : ℕ) × IsMove (run_of P.start) self.old.history.items self.new.history.items n × Rests self.new.history.items n)
@@ -156,39 +193,46 @@ impl<H: Host + Drop, P: Naming> Book<H, P> {
             return Next::Idle(Idle::Jobs);
         }
         self.take(node);
-        self.advance(node)
+        self.advance(seat, node)
     }
 
-    /// Notes how the body's child ended. It takes no memory.
-    pub fn note_end(&mut self, body: WaitedBody<H>) -> HeldBody
-        requires runs { RunsWith self.old.history.items body.node body.child }
+    /// Notes how a body's child ended, for which the seat gives a unit: of the node that runs with that child, else of the
+    /// running node of least number, for which waiting has failed then. It takes no memory.
+    pub fn note_end(&mut self, seat: &mut Seat<P>, body: WaitedBody<H>) -> HeldBody
+        requires unit { 0 < seat.old.share.amount }
         ensures plan { self.new.plan ≡ self.old.plan }
         ensures jobs { self.new.jobs ≡ self.old.jobs }
-        ensures node { result.node ≡ body.node }
-        ensures grown { GrowsBy self.old.history.items self.new.history.items body.node }
-        ensures opened { is_open self.new.history.items body.node ≡ true }
-        ensures still { is_running self.new.history.items body.node ≡ false }
+        ensures parts { seat.new.share.parts ≡ seat.old.share.parts }
+        ensures units { seat.new.share.amount + 1 ≡ seat.old.share.amount }
+        ensures node { IsNotedFor self.old.history.items body.child result.node }
+        ensures grown { GrowsBy self.old.history.items self.new.history.items result.node }
+        ensures opened { is_open self.new.history.items result.node ≡ true }
+        ensures still { is_running self.new.history.items result.node ≡ false }
     {
-        let (node, child, ended) = body.take_apart();
-        self.settle(node, child, ended);
+        self.tally.audit(&mut seat.share);
+        let (told, child, ended) = body.take_apart();
+        let (node, own) = self.ending(told, child);
+        self.settle(seat, node, own, ended);
         HeldBody::new(node)
     }
 
-    /// Goes on with a body that runs no child, until one runs or the job is given back.
-    pub fn go_on(&mut self, body: HeldBody) -> Next<H>
+    /// Goes on with a body that runs no child, until one runs, for which the seat gains a unit, or the job is given back.
+    pub fn go_on(&mut self, seat: &mut Seat<P>, body: HeldBody) -> Next<H>
         requires opened { is_open self.old.history.items body.node ≡ true }
         requires still { is_running self.old.history.items body.node ≡ false }
         ensures plan { self.new.plan ≡ self.old.plan }
         ensures jobs { self.new.jobs ≡ self.old.jobs }
+        ensures parts { seat.new.share.parts ≡ seat.old.share.parts }
+        ensures units { MatchNext result (seat.new.share.amount ≡ seat.old.share.amount) (λ node child. seat.new.share.amount ≡ seat.old.share.amount + 1) (λ i. ⊥) }
         ensures grown { GrowsBy self.old.history.items self.new.history.items body.node }
         ensures did { MatchNext result (Rests self.new.history.items body.node)
             (λ node child. (node ≡ body.node) × RunsWith self.new.history.items node child)
             (λ i. ⊥) }
     {
-        self.advance(body.into_node())
+        self.advance(seat, body.into_node())
     }
 
-    /// Closes the book of a run in which no body is open. It takes no memory, and time for one pass over nodes and events.
+    /// Closes the book of a run in which no body is open. It takes no memory, and time for one pass over the nodes.
     pub fn close(self) -> Driven<H>
         requires { IsClosed (run_of P.start) self.history.items }
         ensures host { result.host ≡ self.host }
@@ -205,7 +249,8 @@ impl<H: Host + Drop, P: Naming> Book<H, P> {
             history,
             caught,
             taken: _,
-            mut tables,
+            tables,
+            tally: _,
             of: _,
         } = self;
         let verdict = tables.verdict(&plan, history.as_slice(), caught);
@@ -250,9 +295,10 @@ impl<H: Host + Drop, P: Naming> Book<H, P> {
 
     /// The place of the command that the node runs.
     fn place(&self, node: u32) -> u32
+        requires { is_open self.now.history.items node ≡ true }
         ensures { (i c : ℕ) → start_of self.now.history.items node ≡ Some (i, c) → result ≡ i }
     {
-        match last_start(self.history.as_slice(), node) {
+        match self.tables.row(node).started {
             Some((place, _)) => place,
             None => 0,
         }
@@ -260,11 +306,19 @@ impl<H: Host + Drop, P: Naming> Book<H, P> {
 
     /// Whether the node's body was begun.
     fn is_begun(&self, node: u32) -> bool
+        requires { is_open self.now.history.items node ≡ true }
         ensures { result ≡ is_begun self.now.history.items node }
     {
-        self.history
-            .iter()
-            .any(|e| matches!(e, Event::Begun(n) if *n == node))
+        self.tables.row(node).begun
+    }
+
+    /// Whether the node's body was skipped or is done.
+    fn is_over(&self, node: u32) -> bool
+        requires { is_open self.now.history.items node ≡ true }
+        ensures { result ≡ over_of self.now.history.items node }
+    {
+        let row = self.tables.row(node);
+        row.skipped || row.done
     }
 
     /// The next step of the node's body.
@@ -272,7 +326,9 @@ impl<H: Host + Drop, P: Naming> Book<H, P> {
         requires { is_open self.now.history.items node ≡ true }
         ensures { result ≡ step_of P.start.plan.nodes self.now.history.items node }
     {
-        next_step(&self.plan, self.history.as_slice(), node)
+        let row = self.tables.row(node);
+        let nodes = self.plan.nodes.as_slice();
+        judge(&nodes[node as usize].work, row.ended, row.last)
     }
 
     /// The node's body takes a job.
@@ -289,7 +345,12 @@ impl<H: Host + Drop, P: Naming> Book<H, P> {
         ensures still { is_running self.new.history.items node ≡ false }
     {
         self.taken += 1;
-        self.history.push_reserved(Event::Took(node));
+        note(
+            &self.plan,
+            &mut self.history,
+            &mut self.tables,
+            Event::Took(node),
+        );
     }
 
     /// The node's body gives its job back.
@@ -302,7 +363,12 @@ impl<H: Host + Drop, P: Naming> Book<H, P> {
         ensures rests { Rests self.new.history.items node }
     {
         self.taken -= 1;
-        self.history.push_reserved(Event::Gave(node));
+        note(
+            &self.plan,
+            &mut self.history,
+            &mut self.tables,
+            Event::Gave(node),
+        );
     }
 
     /// The node's body is done with no entry of its own: by its statuses, or since a signal was caught.
@@ -316,7 +382,12 @@ impl<H: Host + Drop, P: Naming> Book<H, P> {
         ensures opened { is_open self.new.history.items node ≡ true }
         ensures over { over_of self.new.history.items node ≡ true }
     {
-        self.history.push_reserved(Event::Done(node, outcome));
+        note(
+            &self.plan,
+            &mut self.history,
+            &mut self.tables,
+            Event::Done(node, outcome),
+        );
     }
 
     /// Begins the node's body, and prints its banner; false where that failed, by which the body is done.
@@ -335,19 +406,28 @@ impl<H: Host + Drop, P: Naming> Book<H, P> {
         let plan = &self.plan;
         match tell(&mut self.host, banner(plan, node)) {
             Ok(()) => {
-                self.history.push_reserved(Event::Begun(node));
+                note(
+                    &self.plan,
+                    &mut self.history,
+                    &mut self.tables,
+                    Event::Begun(node),
+                );
                 true
             }
             Err(reason) => {
-                self.history
-                    .push_reserved(Event::Done(node, Outcome::Failed(reason)));
+                note(
+                    &self.plan,
+                    &mut self.history,
+                    &mut self.tables,
+                    Event::Done(node, Outcome::Failed(reason)),
+                );
                 false
             }
         }
     }
 
     /// Starts a command of the node; None where that failed, by which the body is done.
-    fn start(&mut self, node: u32, place: usize) -> Option<OpenBody<H>>
+    fn start(&mut self, seat: &mut Seat<P>, node: u32, place: usize) -> Option<OpenBody<H>>
         requires inside { in_body self.old.history.items node ≡ true }
         requires begun { is_begun self.old.history.items node ≡ true }
         requires still { is_running self.old.history.items node ≡ false }
@@ -355,6 +435,8 @@ impl<H: Host + Drop, P: Naming> Book<H, P> {
         requires calm { has_caught self.old.history.items ≡ false }
         ensures plan { self.new.plan ≡ self.old.plan }
         ensures jobs { self.new.jobs ≡ self.old.jobs }
+        ensures parts { seat.new.share.parts ≡ seat.old.share.parts }
+        ensures units { MatchOption result (seat.new.share.amount ≡ seat.old.share.amount) (λ b. seat.new.share.amount ≡ seat.old.share.amount + 1) }
         ensures grown { GrowsBy self.old.history.items self.new.history.items node }
         ensures did { MatchOption result
             ((is_open self.new.history.items node ≡ true) × (over_of self.new.history.items node ≡ true))
@@ -367,48 +449,68 @@ impl<H: Host + Drop, P: Naming> Book<H, P> {
         match start_child(&mut self.host, command) {
             Ok(inner) => {
                 let child = H::number(&inner);
-                self.history
-                    .push_reserved(Event::Started(node, place as u32, child));
+                note(
+                    &self.plan,
+                    &mut self.history,
+                    &mut self.tables,
+                    Event::Started(node, place as u32, child),
+                );
+                self.tally.add(&mut seat.share, 1);
                 Some(OpenBody::new(node, child, inner))
             }
             Err(reason) => {
-                self.history
-                    .push_reserved(Event::Done(node, Outcome::Failed(reason)));
+                note(
+                    &self.plan,
+                    &mut self.history,
+                    &mut self.tables,
+                    Event::Done(node, Outcome::Failed(reason)),
+                );
                 None
             }
         }
     }
 
-    /// Settles the child that the node runs; where waiting failed, the body is done.
-    fn settle(&mut self, node: u32, child: u32, ended: H::Done)
+    /// Settles the child that the node runs; where waiting failed, or another child's end was given, the body is done.
+    fn settle(&mut self, seat: &mut Seat<P>, node: u32, child: u32, ended: H::Done)
+        requires unit { 0 < seat.old.share.amount }
         requires runs { RunsWith self.old.history.items node child }
-        requires own { H.done_number ended ≡ child }
+        requires own { (child ≡ H.done_number ended) ⊎ IsStranger self.old.history.items (H.done_number ended) }
         ensures plan { self.new.plan ≡ self.old.plan }
         ensures jobs { self.new.jobs ≡ self.old.jobs }
+        ensures parts { seat.new.share.parts ≡ seat.old.share.parts }
+        ensures units { seat.new.share.amount + 1 ≡ seat.old.share.amount }
         ensures grown { GrowsBy self.old.history.items self.new.history.items node }
         ensures opened { is_open self.new.history.items node ≡ true }
         ensures still { is_running self.new.history.items node ≡ false }
     {
         let place = self.place(node);
+        self.tally.sub(&mut seat.share, 1);
         match self.host.settle(child, ended) {
-            Ok(status) => self
-                .history
-                .push_reserved(Event::Ended(node, place, child, status)),
-            Err(_) => self.history.push_reserved(Event::Done(
-                node,
-                Outcome::Failed(Reason::Fault(Call::Wait)),
-            )),
+            Ok(status) => note(
+                &self.plan,
+                &mut self.history,
+                &mut self.tables,
+                Event::Ended(node, place, child, status),
+            ),
+            Err(_) => note(
+                &self.plan,
+                &mut self.history,
+                &mut self.tables,
+                Event::Done(node, Outcome::Failed(Reason::Fault(Call::Wait))),
+            ),
         }
     }
 
     /// Starts the next command of a body that was begun, or ends it and gives its job back. Once a signal was caught, no
     /// command is started.
-    fn step(&mut self, node: u32) -> Next<H>
+    fn step(&mut self, seat: &mut Seat<P>, node: u32) -> Next<H>
         requires inside { in_body self.old.history.items node ≡ true }
         requires begun { is_begun self.old.history.items node ≡ true }
         requires still { is_running self.old.history.items node ≡ false }
         ensures plan { self.new.plan ≡ self.old.plan }
         ensures jobs { self.new.jobs ≡ self.old.jobs }
+        ensures parts { seat.new.share.parts ≡ seat.old.share.parts }
+        ensures units { MatchNext result (seat.new.share.amount ≡ seat.old.share.amount) (λ node child. seat.new.share.amount ≡ seat.old.share.amount + 1) (λ i. ⊥) }
         ensures grown { GrowsBy self.old.history.items self.new.history.items node }
         ensures did { MatchNext result (Rests self.new.history.items node)
             (λ n child. (n ≡ node) × RunsWith self.new.history.items n child)
@@ -418,7 +520,7 @@ impl<H: Host + Drop, P: Naming> Book<H, P> {
             Step::Start(place) => {
                 if self.is_caught() {
                     self.end(node, Outcome::Failed(Reason::Interrupted));
-                } else if let Some(body) = self.start(node, place) {
+                } else if let Some(body) = self.start(seat, node, place) {
                     return Next::Body(body);
                 }
             }
@@ -430,17 +532,19 @@ impl<H: Host + Drop, P: Naming> Book<H, P> {
     }
 
     /// Goes on with an open body that runs no child: it is begun, where it wasn't, and then makes a step.
-    fn advance(&mut self, node: u32) -> Next<H>
+    fn advance(&mut self, seat: &mut Seat<P>, node: u32) -> Next<H>
         requires opened { is_open self.old.history.items node ≡ true }
         requires still { is_running self.old.history.items node ≡ false }
         ensures plan { self.new.plan ≡ self.old.plan }
         ensures jobs { self.new.jobs ≡ self.old.jobs }
+        ensures parts { seat.new.share.parts ≡ seat.old.share.parts }
+        ensures units { MatchNext result (seat.new.share.amount ≡ seat.old.share.amount) (λ node child. seat.new.share.amount ≡ seat.old.share.amount + 1) (λ i. ⊥) }
         ensures grown { GrowsBy self.old.history.items self.new.history.items node }
         ensures did { MatchNext result (Rests self.new.history.items node)
             (λ n child. (n ≡ node) × RunsWith self.new.history.items n child)
             (λ i. ⊥) }
     {
-        if is_over(self.history.as_slice(), node) {
+        if self.is_over(node) {
             self.give(node);
             return Next::Moved;
         }
@@ -448,6 +552,6 @@ impl<H: Host + Drop, P: Naming> Book<H, P> {
             self.give(node);
             return Next::Moved;
         }
-        self.step(node)
+        self.step(seat, node)
     }
 }

@@ -1,59 +1,72 @@
 //! Which node a book takes next, by the flags of the nodes.
 
 ghost use Rattle.std.specs.Prelude.{◌≡◌, ◌<◌, ◌||◌, ℕ, true, false, length, IfSome, IfNone};
-ghost use Rattle.just_sched.specs.Tables.{FlagsAre, FlagsMean};
+ghost use Rattle.just_sched.specs.Rows.{IsTable};
+ghost use Rattle.just_sched.specs.Tables.{FlagsMean};
 ghost use Rattle.just_sched.specs.State.{has_taken, is_done, IsFinished, IsWanted, IsReady};
 
 use super::flags::all_flagged;
+use super::row::Row;
 use super::{Event, Plan};
 
-/// Whether the node is ready, by the flags of the wanted, the taken and the finished nodes.
-fn is_ready(
+/// Whether the node took a job or is done.
+fn is_taken(history: &[Event], rows: &[Row], at: usize) -> bool
+    requires within { at < length rows.now }
+    requires table { ∥ IsTable history.now rows.now ∥₁ }
+    ensures { result ≡ (has_taken history.now at || is_done history.now at) }
+{
+    let _events = history.len();
+    let row = rows[at];
+    row.taken || row.done
+}
+
+/// Whether the node is ready, by the table and the flags of the wanted and the finished nodes.
+pub(crate) fn is_ready(
     plan: &Plan,
     history: &[Event],
     at: usize,
     wanted: &[bool],
-    taken: &[bool],
+    rows: &[Row],
     finished: &[bool],
 ) -> bool
     requires within { at < length plan.now.nodes }
     requires wanted_sized { length wanted.now ≡ length plan.now.nodes }
-    requires taken_sized { length taken.now ≡ length plan.now.nodes }
+    requires rows_sized { length rows.now ≡ length plan.now.nodes }
     requires finished_sized { length finished.now ≡ length plan.now.nodes }
     requires wanted { FlagsMean wanted.now (IsWanted plan.now.nodes plan.now.invocations history.now) }
-    requires taken { FlagsAre taken.now (λ n. has_taken history.now n || is_done history.now n) }
+    requires table { ∥ IsTable history.now rows.now ∥₁ }
     requires finished { FlagsMean finished.now (IsFinished plan.now.nodes history.now) }
     ensures is { result ≡ true → IsReady plan.now.nodes plan.now.invocations history.now at }
     ensures not_so { result ≡ false → IsReady plan.now.nodes plan.now.invocations history.now at → ⊥ }
 {
     let _events = history.len();
-    if !wanted[at] || taken[at] {
+    if !wanted[at] || is_taken(history, rows, at) {
         return false;
     }
     let node = &plan.nodes.as_slice()[at];
     all_flagged(node.node.priors.as_slice(), finished)
 }
 
-/// The ready node of least number, by the flags of the wanted, the taken and the finished nodes.
+/// The ready node of least number, by the table and the flags of the wanted and the finished nodes.
 pub(crate) fn first_by(
     plan: &Plan,
     history: &[Event],
     wanted: &[bool],
-    taken: &[bool],
+    rows: &[Row],
     finished: &[bool],
 ) -> Option<u32>
     requires wanted_sized { length wanted.now ≡ length plan.now.nodes }
-    requires taken_sized { length taken.now ≡ length plan.now.nodes }
+    requires rows_sized { length rows.now ≡ length plan.now.nodes }
     requires finished_sized { length finished.now ≡ length plan.now.nodes }
     requires wanted { FlagsMean wanted.now (IsWanted plan.now.nodes plan.now.invocations history.now) }
-    requires taken { FlagsAre taken.now (λ n. has_taken history.now n || is_done history.now n) }
+    requires table { ∥ IsTable history.now rows.now ∥₁ }
     requires finished { FlagsMean finished.now (IsFinished plan.now.nodes history.now) }
     ensures ready { IfSome result (λ n. (n < length plan.now.nodes) × IsReady plan.now.nodes plan.now.invocations history.now n) }
     ensures least { IfSome result (λ n. (m : ℕ) → m < n → IsReady plan.now.nodes plan.now.invocations history.now m → ⊥) }
     ensures none { IfNone result ((n : ℕ) → n < length plan.now.nodes → IsReady plan.now.nodes plan.now.invocations history.now n → ⊥) }
 {
     for at in 0..plan.nodes.len() {
-        if is_ready(plan, history, at, wanted, taken, finished) {
+        if is_ready(plan, history, at, wanted, rows, finished) {
             return Some(at as u32);
         }
     }

@@ -1,40 +1,20 @@
-//! Flags of nodes, made by one pass over the history or over the plan. Nothing here takes memory.
+//! Flags of nodes, made by one pass over the table or over the plan. Nothing here takes memory.
 
 ghost use Rattle.std.specs.Prelude.{◌≡◌, ◌||◌, ◌==◌, ◌&&◌, ◌<◌, ◌⊎◌, ℕ, Bool, true, false, Option, Some, None, length, IfOk, IfSome, IfNone, Contains, replicate, slice_index};
+ghost use Rattle.just_sched.specs.Rows.{IsTable};
 ghost use Rattle.just_sched.specs.Tables.{flag, FlagsAre, FlagsMean, InRange};
-ghost use Rattle.just_sched.specs.State.{names, skips, concludes_well, takes, concludes, is_over_well, has_taken, is_done, IsFinished, MayComeNext};
+ghost use Rattle.just_sched.specs.State.{names, skips, concludes_well, is_over_well, IsFinished, MayComeNext};
 
+use super::row::Row;
 use super::{Event, Outcome, Plan};
 
 /// The node that the event shows to be over well.
-fn over_by(event: &Event) -> Option<u32>
+pub(crate) fn over_by(event: &Event) -> Option<u32>
     ensures { (n : ℕ) → names result n ≡ (skips n event.now || concludes_well n event.now) }
 {
     match event {
         Event::Skipped(node) | Event::Done(node, Outcome::Well) => Some(*node),
         _ => None,
-    }
-}
-
-/// The node that the event shows to be taken or done.
-fn taken_by(event: &Event) -> Option<u32>
-    ensures { (n : ℕ) → names result n ≡ (takes n event.now || concludes n event.now) }
-{
-    match event {
-        Event::Took(node) | Event::Done(node, _) => Some(*node),
-        _ => None,
-    }
-}
-
-/// Sets the flag of a node, if it has one.
-fn set(flags: &mut [bool], node: Option<u32>)
-    ensures { (k : ℕ) → k < length flags.old → flag flags.new k ≡ (flag flags.old k || names node k) }
-{
-    if let Some(node) = node {
-        let at = node as usize;
-        if at < flags.len() {
-            flags[at] = true;
-        }
     }
 }
 
@@ -48,22 +28,14 @@ pub(crate) fn clear(flags: &mut [bool])
 }
 
 /// Flags the nodes that are over well.
-pub(crate) fn mark_over(history: &[Event], flags: &mut [bool])
+pub(crate) fn mark_over(history: &[Event], rows: &[Row], flags: &mut [bool])
+    requires sized { length rows.now ≡ length flags.old }
+    requires table { ∥ IsTable history.now rows.now ∥₁ }
     ensures { FlagsAre flags.new (is_over_well history.now) }
 {
-    clear(flags);
-    for event in history {
-        set(flags, over_by(event));
-    }
-}
-
-/// Flags the nodes that took a job or are done.
-pub(crate) fn mark_taken(history: &[Event], flags: &mut [bool])
-    ensures { FlagsAre flags.new (λ n. has_taken history.now n || is_done history.now n) }
-{
-    clear(flags);
-    for event in history {
-        set(flags, taken_by(event));
+    let _events = history.len();
+    for at in 0..flags.len() {
+        flags[at] = rows[at].well;
     }
 }
 
@@ -91,11 +63,13 @@ fn stays(nodes: &[u32], own: bool, flags: &[bool]) -> bool
 }
 
 /// Flags the nodes that are finished: over well, with all their subsequents finished.
-pub(crate) fn mark_finished(plan: &Plan, history: &[Event], flags: &mut [bool])
-    requires { length flags.old ≡ length plan.now.nodes }
+pub(crate) fn mark_finished(plan: &Plan, history: &[Event], rows: &[Row], flags: &mut [bool])
+    requires sized { length flags.old ≡ length plan.now.nodes }
+    requires rows_sized { length rows.now ≡ length plan.now.nodes }
+    requires table { ∥ IsTable history.now rows.now ∥₁ }
     ensures { FlagsMean flags.new (IsFinished plan.now.nodes history.now) }
 {
-    mark_over(history, flags);
+    mark_over(history, rows, flags);
     let nodes = plan.nodes.as_slice();
     for back in 0..nodes.len() {
         let at = nodes.len() - 1 - back;

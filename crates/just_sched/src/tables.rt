@@ -1,91 +1,20 @@
-//! The tables of a book: room for what is noted of each node, taken once.
+//! The tables of a book: what is noted of each node, in room that is taken once.
 
-ghost use Rattle.std.specs.Prelude.{◌≡◌, ◌<◌, ℕ, false, length, vec_len, IfOk, IfSome, IfNone};
-ghost use Rattle.just_sched.specs.State.{is_open, caught_signal, IsReady};
-ghost use Rattle.just_sched.specs.Legal.{Run};
-ghost use Rattle.just_sched.specs.Verdict.{IsVerdict};
+ghost use Rattle.std.specs.Prelude.{◌≡◌, vec_len};
 
-use super::choice::first_by;
-use super::flags::{mark_finished, mark_over, mark_taken};
-use super::verdict::{mark_reasons, verdict_by};
-use super::wanted::mark_wanted;
-use super::{Event, Plan, Reason, Verdict};
-use just_outside::Signal;
-use just_path::NoMemory;
-use std::alloc::Global;
+use super::row::Row;
 
-/// Room for what is noted of each node of a plan.
+/// What is noted of each node of a plan.
 #[derive(Debug, Drop)]
 pub(crate) struct Tables {
-    over: Vec<bool>,
-    taken: Vec<bool>,
-    finished: Vec<bool>,
-    wanted: Vec<bool>,
-    reasons: Vec<Option<Reason>>,
+    pub rows: Vec<Row>,
+    pub finished: Vec<bool>,
+    pub wanted: Vec<bool>,
+    /// Room for a pass over the plan.
+    pub over: Vec<bool>,
     pub size: usize,
-    ghost over_sized: { vec_len over ≡ size },
-    ghost taken_sized: { vec_len taken ≡ size },
-    ghost finished_sized: { vec_len finished ≡ size },
-    ghost wanted_sized: { vec_len wanted ≡ size },
-    ghost reasons_sized: { vec_len reasons ≡ size },
-}
-
-impl Tables {
-    /// Room for so many nodes.
-    pub(crate) fn new(alloc: Global, count: usize) -> Result<Tables, NoMemory>
-        ensures { IfOk result (λ t. t.size ≡ count) }
-    {
-        let over = vec![in alloc; false; count]?;
-        let taken = vec![in alloc; false; count]?;
-        let finished = vec![in alloc; false; count]?;
-        let wanted = vec![in alloc; false; count]?;
-        let reasons = vec![in alloc; None; count]?;
-        Ok(Tables {
-            over,
-            taken,
-            finished,
-            wanted,
-            reasons,
-            size: count,
-        })
-    }
-
-    /// The ready node of least number. It takes no memory.
-    pub(crate) fn first_ready(&mut self, plan: &Plan, history: &[Event]) -> Option<u32>
-        requires { self.old.size ≡ length plan.now.nodes }
-        ensures size { self.new.size ≡ self.old.size }
-        ensures ready { IfSome result (λ n. (n < length plan.now.nodes) × IsReady plan.now.nodes plan.now.invocations history.now n) }
-        ensures least { IfSome result (λ n. (m : ℕ) → m < n → IsReady plan.now.nodes plan.now.invocations history.now m → ⊥) }
-        ensures none { IfNone result ((n : ℕ) → n < length plan.now.nodes → IsReady plan.now.nodes plan.now.invocations history.now n → ⊥) }
-    {
-        let over = self.over.as_mut_slice();
-        let taken = self.taken.as_mut_slice();
-        let finished = self.finished.as_mut_slice();
-        let wanted = self.wanted.as_mut_slice();
-        mark_over(history, over);
-        mark_taken(history, taken);
-        mark_finished(plan, history, finished);
-        mark_wanted(plan, history, over, finished, wanted);
-        first_by(plan, history, wanted, taken, finished)
-    }
-
-    /// How the run of a closed history went. It takes no memory.
-    pub(crate) fn verdict(
-        &mut self,
-        plan: &Plan,
-        history: &[Event],
-        caught: Option<Signal>,
-    ) -> Verdict
-        requires size { self.old.size ≡ length plan.now.nodes }
-        requires closed { (n : ℕ) → n < length plan.now.nodes → is_open history.now n ≡ false }
-        requires caught { caught ≡ caught_signal history.now }
-        ensures size { self.new.size ≡ self.old.size }
-        ensures verdict { (s : Run) → s.nodes ≡ plan.now.nodes → IsVerdict s history.now result }
-    {
-        let finished = self.finished.as_mut_slice();
-        let reasons = self.reasons.as_mut_slice();
-        mark_finished(plan, history, finished);
-        mark_reasons(history, reasons);
-        verdict_by(plan, history, finished, reasons, caught)
-    }
+    pub ghost rows_sized: { vec_len rows ≡ size },
+    pub ghost finished_sized: { vec_len finished ≡ size },
+    pub ghost wanted_sized: { vec_len wanted ≡ size },
+    pub ghost over_sized: { vec_len over ≡ size },
 }

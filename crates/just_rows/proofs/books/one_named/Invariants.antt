@@ -1,8 +1,11 @@
--- One body is run under the name of the run that begins at the plan, the limit and the host as they are.
+-- The run is driven under the name of the run that begins at the plan, the limit and the host as they are.
 use Rattle.std.proofs.Common.{option_map}
 use Rattle.std.specs.Int.NonZero.{non_zero_u64_get}
 use Rattle.just_sched.specs.Start.{start_with}
 use Rattle.just_rows.proofs.books.one_named.Given as goal
 
-abbrev pub ghosts-one_body : goal.ghosts-one_body
-ghosts-one_body g a = record { start = start_with a.plan (option_map non_zero_u64_get a.jobs) (g.H.Host.entries a.host) (g.H.Host.world a.host) }
+abbrev pub ghosts-one_body-P-Naming : goal.ghosts-one_body-P-Naming
+ghosts-one_body-P-Naming g a = record { start = start_with a.plan (option_map non_zero_u64_get a.jobs) (g.H.Host.entries a.host) (g.H.Host.world a.host) }
+
+abbrev pub ghosts-one_body-P-Ledger : goal.ghosts-one_body-P-Ledger
+ghosts-one_body-P-Ledger g a = record { name = a.blank.name; parts = 65 }

@@ -1,8 +1,11 @@
--- Two bodies are run under the name of the run that begins at the plan, the limit and the host as they are.
+-- The run is driven under the name of the run that begins at the plan, the limit and the host as they are.
 use Rattle.std.proofs.Common.{option_map}
 use Rattle.std.specs.Int.NonZero.{non_zero_u64_get}
 use Rattle.just_sched.specs.Start.{start_with}
 use Rattle.just_rows.proofs.books.two_named.Given as goal
 
-abbrev pub ghosts-two_bodies : goal.ghosts-two_bodies
-ghosts-two_bodies g a = record { start = start_with a.plan (option_map non_zero_u64_get a.jobs) (g.H.Host.entries a.host) (g.H.Host.world a.host) }
+abbrev pub ghosts-two_bodies-P-Naming : goal.ghosts-two_bodies-P-Naming
+ghosts-two_bodies-P-Naming g a = record { start = start_with a.plan (option_map non_zero_u64_get a.jobs) (g.H.Host.entries a.host) (g.H.Host.world a.host) }
+
+abbrev pub ghosts-two_bodies-P-Ledger : goal.ghosts-two_bodies-P-Ledger
+ghosts-two_bodies-P-Ledger g a = record { name = a.blank.name; parts = 65 }

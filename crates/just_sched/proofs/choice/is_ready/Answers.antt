@@ -27,7 +27,7 @@ all_flagged-requires c =
 pub returns-clause-is : goal.returns-clause-is
 returns-clause-is c = λ e.
     let plan = c.args.plan.now in
-    let apart = or_parts (has_taken c.args.history.now c.args.at) (is_done c.args.history.now c.args.at) (sym (c.requires.taken c.args.at (omega (arith, c.requires.within, c.requires.taken_sized))) ∙ c.if-taken-at.false) in
+    let apart = or_parts (has_taken c.args.history.now c.args.at) (is_done c.args.history.now c.args.at) (sym c.if-is_taken.ensures) in
     record {
       wanted = (c.requires.wanted c.args.at (omega (arith, c.requires.within, c.requires.wanted_sized))).0 c.if-not-wanted-at.false;
       confirmed = confirmed_all plan.nodes c.args.history.now c.args.at plan.unprompted;

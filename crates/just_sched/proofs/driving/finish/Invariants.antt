@@ -1,12 +1,9 @@
--- The body runs, and the history grew by events of its node.
+-- The body's seat has its unit.
 use Rattle.std.proofs.Common.{◌≡◌}
-use Rattle.just_sched.specs.Moves.{GrowsBy, RunsWith}
 use Rattle.just_sched.proofs.driving.finish.Given as goal
 
-abbrev pub invariant-steps : goal.invariant-steps
-invariant-steps g l = record {
-  runs : RunsWith l.book.history.items l.body.node l.body.child;
-  same : l.body.node ≡ l.fn.first.node;
-  grown : GrowsBy l.initial.book.history.items l.book.history.items l.fn.first.node;
-  plan : l.book.plan ≡ l.initial.book.plan;
+abbrev pub invariant-turns : goal.invariant-turns
+invariant-turns g l = record {
+  units : l.seat.share.amount ≡ 1;
+  parts : l.seat.share.parts ≡ l.initial.seat.share.parts;
 }

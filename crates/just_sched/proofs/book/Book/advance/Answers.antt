@@ -1,6 +1,5 @@
 -- A body goes on: given back where it is over, else begun where it is fresh, and then stepped.
 use Rattle.std.proofs.Common.{ap, sym, ◌∙◌}
-use Rattle.just_sched.specs.State.{is_over}
 use Rattle.just_sched.specs.Legal.{in_body}
 use Rattle.just_sched.proofs.Grows.{grows_none, grows_two, grows_on}
 use Rattle.just_sched.proofs.Due.{is_inside}
@@ -10,7 +9,7 @@ use Rattle.just_sched.proofs.book.Book.advance.Goals as goal
 pub begin-requires-clause-inside : goal.begin-requires-clause-inside
 begin-requires-clause-inside g c _ _ =
     let s = c.args.self.now in
-    is_inside s.history.items c.args.node c.requires.opened (ap (λ h. is_over h c.args.node) (sym c.as_slice.ensures.value) ∙ sym c.if-is_over.ensures)
+    is_inside s.history.items c.args.node c.requires.opened (sym c.if-is_over.ensures)
 
 pub returns-then-not-begin-clause-grown : goal.returns-then-not-begin-clause-grown
 returns-then-not-begin-clause-grown g c = grows_two c.args.self.now.history.items _ _ c.args.node c.begin.ensures.grown c.give-then-not-begin.ensures.grown
@@ -20,7 +19,7 @@ step-requires-clause-inside g c _ _ =
     let s = c.args.self.now in
     elim c.else-not-is_begun.branch [
       | else-not-is_begun-via-then-not-is_begun+else-not-begin w ↦ ap (λ b. in_body b.history.items c.args.node) w.self-is ∙ w.if-not-begin.ensures.did.0
-      | else-not-is_begun-via-else-not-is_begun w ↦ ap (λ b. in_body b.history.items c.args.node) w.self-is ∙ is_inside s.history.items c.args.node c.requires.opened (ap (λ h. is_over h c.args.node) (sym c.as_slice.ensures.value) ∙ sym c.if-is_over.ensures)
+      | else-not-is_begun-via-else-not-is_begun w ↦ ap (λ b. in_body b.history.items c.args.node) w.self-is ∙ is_inside s.history.items c.args.node c.requires.opened (sym c.if-is_over.ensures)
     ]
 
 pub returns-clause-grown : goal.returns-clause-grown

@@ -11,6 +11,7 @@ use Rattle.just_sched.proofs.Gained.{begin_fails}
 use Rattle.just_sched.proofs.Grows.{grows_one}
 use Rattle.just_sched.proofs.Behind.{over_now}
 use Rattle.just_sched.proofs.Due.{inside}
+use Rattle.just_sched.proofs.Tallies.{tally_more, tally_done, told_end}
 use Rattle.just_sched.proofs.book.Book.begin.Goals as goal
 
 pub banner-requires : goal.banner-requires
@@ -18,13 +19,13 @@ banner-requires g c =
     let s = c.args.self.now in
     omega (arith, node_in s.account c.args.node (inside s.history.items c.args.node c.requires.inside).is_open, ap (λ p. length p.nodes) s.plan_named)
 
-pub push_reserved-requires : goal.push_reserved-requires
-push_reserved-requires g c =
+pub note-requires-clause-room : goal.note-requires-clause-room
+note-requires-clause-room g c =
     let s = c.args.self.now in
     omega (arith, room_for s.account (event.Begun c.args.node) (c.requires.inside, c.requires.fresh), s.roomy, s.history.ok.0)
 
-pub push_reserved-requires-in-Err : goal.push_reserved-requires-in-Err
-push_reserved-requires-in-Err g c =
+pub note-requires-in-Err-clause-room : goal.note-requires-in-Err-clause-room
+note-requires-in-Err-clause-room g c =
     let s = c.args.self.now in
     let at = c.banner.ensures ∙ ap (λ p. banner_at p.nodes c.args.node) s.plan_named in
     let fails = begin_fails (Unit {0}) (run_of g.P.Naming.start) s.history.items c.args.node c.in-Err.reason c.in-Err.ensures.gains.0 (c.requires.inside, c.requires.fresh) (subst (λ b. TellGains {A = Unit {0}} b (Err c.in-Err.reason) c.in-Err.ensures.gains.0) at c.in-Err.ensures.gains.2) in
@@ -34,7 +35,7 @@ pub invariant_of-self-clause-account : goal.invariant_of-self-clause-account
 invariant_of-self-clause-account g c =
     let s = c.args.self.now in
     let at = c.banner.ensures ∙ ap (λ p. banner_at p.nodes c.args.node) s.plan_named in
-    noted s.account _ c.in-Ok.ensures.gains.0 _ _ _ (event.Begun c.args.node) c.push_reserved.ensures.items c.in-Ok.ensures.gains.1 (c.requires.inside, c.requires.fresh)
+    noted s.account _ c.in-Ok.ensures.gains.0 _ _ _ (event.Begun c.args.node) c.note.ensures.items c.in-Ok.ensures.gains.1 (c.requires.inside, c.requires.fresh)
     (c.in-Ok.ensures.gains.2 ∙ ap printed_entries at) (λ _ _. c.in-Ok.ensures.world) (omega (arith, c.in-Ok.ensures.spare)) refl
 
 pub invariant_of-self-in-Err-clause-account : goal.invariant_of-self-in-Err-clause-account
@@ -42,14 +43,22 @@ invariant_of-self-in-Err-clause-account g c =
     let s = c.args.self.now in
     let at = c.banner.ensures ∙ ap (λ p. banner_at p.nodes c.args.node) s.plan_named in
     let fails = begin_fails (Unit {0}) (run_of g.P.Naming.start) s.history.items c.args.node c.in-Err.reason c.in-Err.ensures.gains.0 (c.requires.inside, c.requires.fresh) (subst (λ b. TellGains {A = Unit {0}} b (Err c.in-Err.reason) c.in-Err.ensures.gains.0) at c.in-Err.ensures.gains.2) in
-    noted s.account _ c.in-Err.ensures.gains.0 _ _ _ (event.Done c.args.node (outcome.Failed c.in-Err.reason)) c.push_reserved-in-Err.ensures.items c.in-Err.ensures.gains.1 fails.0 fails.1
+    noted s.account _ c.in-Err.ensures.gains.0 _ _ _ (event.Done c.args.node (outcome.Failed c.in-Err.reason)) c.note-in-Err.ensures.items c.in-Err.ensures.gains.1 fails.0 fails.1
     (λ _ _. c.in-Err.ensures.world) (omega (arith, c.in-Err.ensures.spare)) refl
 
 pub returns-in-Ok-clause-grown : goal.returns-in-Ok-clause-grown
-returns-in-Ok-clause-grown g c = grows_one c.args.self.now.history.items _ (event.Begun c.args.node) c.args.node c.push_reserved.ensures.items (eq-eqb c.args.node c.args.node refl)
+returns-in-Ok-clause-grown g c = grows_one c.args.self.now.history.items _ (event.Begun c.args.node) c.args.node c.note.ensures.items (eq-eqb c.args.node c.args.node refl)
 
 pub returns-in-Err-clause-grown : goal.returns-in-Err-clause-grown
-returns-in-Err-clause-grown g c = grows_one c.args.self.now.history.items _ (event.Done c.args.node (outcome.Failed c.in-Err.reason)) c.args.node c.push_reserved-in-Err.ensures.items (eq-eqb c.args.node c.args.node refl)
+returns-in-Err-clause-grown g c = grows_one c.args.self.now.history.items _ (event.Done c.args.node (outcome.Failed c.in-Err.reason)) c.args.node c.note-in-Err.ensures.items (eq-eqb c.args.node c.args.node refl)
 
 pub returns-in-Err-clause-did : goal.returns-in-Err-clause-did
-returns-in-Err-clause-did g c = over_now c.args.self.now.history.items _ c.args.node (outcome.Failed c.in-Err.reason) c.push_reserved-in-Err.ensures.items
+returns-in-Err-clause-did g c = over_now c.args.self.now.history.items _ c.args.node (outcome.Failed c.in-Err.reason) c.note-in-Err.ensures.items
+
+pub invariant_of-self-clause-tallied : goal.invariant_of-self-clause-tallied
+invariant_of-self-clause-tallied g c = tally_more c.args.self.now.history.items _ (event.Begun c.args.node) _ _ c.note.ensures.items c.args.self.now.tallied refl
+
+pub invariant_of-self-in-Err-clause-tallied : goal.invariant_of-self-in-Err-clause-tallied
+invariant_of-self-in-Err-clause-tallied g c =
+    let s = c.args.self.now in
+    tally_done s.history.items _ c.args.node (outcome.Failed c.in-Err.reason) _ c.note-in-Err.ensures.items (told_end (Unit {0}) _ c.args.node c.in-Err.reason c.in-Err.ensures.gains.0 c.in-Err.ensures.gains.2) s.tallied

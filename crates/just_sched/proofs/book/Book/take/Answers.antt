@@ -6,32 +6,36 @@ use Rattle.just_sched.proofs.Accounts.{counted_few, room_for, noted_alone, not_g
 use Rattle.just_sched.proofs.Grows.{grows_one}
 use Rattle.just_sched.proofs.Behind.{running_as, took_opens}
 use Rattle.just_sched.proofs.Tests.{any_now}
+use Rattle.just_sched.proofs.Tallies.{tally_more}
 use Rattle.just_sched.proofs.book.Book.take.Goals as goal
 
 pub overflow_add-self : goal.overflow_add-self
 overflow_add-self g c = omega (arith, counted_few c.args.self.now.account)
 
-pub push_reserved-requires : goal.push_reserved-requires
-push_reserved-requires g c =
+pub note-requires-clause-room : goal.note-requires-clause-room
+note-requires-clause-room g c =
     let s = c.args.self.now in
     omega (arith, room_for s.account (event.Took c.args.node) (c.requires.ready, c.requires.calm, c.requires.free), s.roomy, s.history.ok.0)
 
 pub invariant_of-self-clause-account : goal.invariant_of-self-clause-account
-invariant_of-self-clause-account g c = noted_alone c.args.self.now.account _ (event.Took c.args.node) c.push_reserved.ensures.items (c.requires.ready, c.requires.calm, c.requires.free) refl refl
+invariant_of-self-clause-account g c = noted_alone c.args.self.now.account _ (event.Took c.args.node) c.note.ensures.items (c.requires.ready, c.requires.calm, c.requires.free) refl refl
 
 pub returns-clause-grown : goal.returns-clause-grown
-returns-clause-grown g c = grows_one c.args.self.now.history.items _ (event.Took c.args.node) c.args.node c.push_reserved.ensures.items (eq-eqb c.args.node c.args.node refl)
+returns-clause-grown g c = grows_one c.args.self.now.history.items _ (event.Took c.args.node) c.args.node c.note.ensures.items (eq-eqb c.args.node c.args.node refl)
 
 pub returns-clause-taken : goal.returns-clause-taken
 returns-clause-taken g c =
-    ap (λ h. has_taken h c.args.node) c.push_reserved.ensures.items ∙ any_now (takes c.args.node) c.args.self.now.history.items (event.Took c.args.node) (eq-eqb c.args.node c.args.node refl)
+    ap (λ h. has_taken h c.args.node) c.note.ensures.items ∙ any_now (takes c.args.node) c.args.self.now.history.items (event.Took c.args.node) (eq-eqb c.args.node c.args.node refl)
 
 pub returns-clause-opened : goal.returns-clause-opened
 returns-clause-opened g c =
     let s = c.args.self.now in
-    took_opens s.history.items _ c.args.node c.push_reserved.ensures.items (not_given s.account c.args.node c.requires.ready.not_taken)
+    took_opens s.history.items _ c.args.node c.note.ensures.items (not_given s.account c.args.node c.requires.ready.not_taken)
 
 pub returns-clause-still : goal.returns-clause-still
 returns-clause-still g c =
     let s = c.args.self.now in
-    running_as s.history.items _ (event.Took c.args.node) c.args.node c.push_reserved.ensures.items refl refl refl ∙ not_running s.account c.args.node c.requires.ready.not_taken
+    running_as s.history.items _ (event.Took c.args.node) c.args.node c.note.ensures.items refl refl refl ∙ not_running s.account c.args.node c.requires.ready.not_taken
+
+pub invariant_of-self-clause-tallied : goal.invariant_of-self-clause-tallied
+invariant_of-self-clause-tallied g c = tally_more c.args.self.now.history.items _ (event.Took c.args.node) _ _ c.note.ensures.items c.args.self.now.tallied refl

@@ -1,0 +1,112 @@
+-- Laws of what a book's tables say of each node.
+use Rattle.std.proofs.Common.{◌==◌, ◌&&◌, not, if◌then◌else◌, get_or, ap₂, ◌≡◌, ℕ, ◌<◌, ◌||◌, Bool, true, false, List, [], ◌∷◌, ◌++◌, length, refl, sym, ap, subst, ◌∙◌}
+use Rattle.std.proofs.Math.Bool.{Bool-set}
+use Rattle.std.proofs.Math.Logic.{∥∥₁_elim, ∥∥₁_map}
+use Rattle.std.specs.Prelude.{filter_map, Option, Some, None, is_some, slice_index, All, is_none}
+use Rattle.std.specs.List.{cons_option}
+use Rattle.just_lang.specs.WellFormed.{IsWellFormed}
+use Rattle.just_sched.specs.declared.event.Event.{Event}
+use Rattle.just_sched.specs.declared.event.Event.TheVariants as event
+use Rattle.just_sched.specs.declared.event.Outcome.TheVariants as outcome
+use Rattle.just_sched.specs.declared.event.Reason.{Reason}
+use Rattle.just_sched.specs.declared.row.Row.{Row}
+use Rattle.just_sched.specs.declared.plan_node.PlanNode.{PlanNode}
+use Rattle.just_sched.specs.declared.tables.Tables.{Tables}
+use Rattle.just_sched.specs.Nodes.{priors_at, subsequents_at, parallel_at}
+use Rattle.just_sched.specs.Rows.{IsTable, IsNoted}
+use Rattle.just_sched.specs.State.{names, skips, concludes_well, first, reason_in, reason_of, has_failed, is_open, IsToAsk, is_over_well, IsFinished, IsWanted, MayComeNext, finished, invoked, prior, subsequent}
+use Rattle.just_sched.specs.Tables.{FlagsMean}
+use Rattle.just_sched.proofs.Deciding.{meant, told_finished, told_wanted}
+use Rattle.just_sched.proofs.PlanLaws.{shapes, confirmed_all}
+use Rattle.just_sched.proofs.Reasons.{none_to_ask}
+use Rattle.just_sched.proofs.RowLaws.{reason_in_row}
+use Rattle.just_sched.proofs.Tests.{any_none}
+use Rattle.just_sched.proofs.WantedLaws.{leads_weaker}
+
+-- the rows of tables that say what the history says
+pub rows_of : {nodes : List PlanNode} {invocations : List ℕ} {h : List Event} {t : Tables} → ∥ IsNoted nodes invocations h t ∥₁ → ∥ IsTable h t.rows.items ∥₁
+rows_of noted = ∥∥₁_map noted (λ n. n.rows)
+
+module _ (nodes : List PlanNode) (invocations : List ℕ) (h k : List Event) (same : (n : ℕ) → is_over_well h n ≡ true → is_over_well k n ≡ true) where
+  -- a finished node is so by each history that has no fewer nodes over well
+  pub finished_as : (n : ℕ) → IsFinished nodes h n → IsFinished nodes k n
+  finished_as n (finished m over behind) = finished m (same m over) (λ q c. finished_as q (behind q c))
+
+  leads_as : (together : Bool) (xs : List ℕ) (n : ℕ) → MayComeNext (IsFinished nodes h) together xs n → MayComeNext (IsFinished nodes k) together xs n
+  leads_as together xs n = leads_weaker (IsFinished nodes h) (IsFinished nodes k) together xs n (λ j lt f. finished_as (slice_index xs j) f)
+
+  -- so is a wanted node, where no node has a prompt
+  pub wanted_as : ∥ All (λ (x : PlanNode). is_none x.prompt ≡ true) nodes ∥₁ → (n : ℕ) → IsWanted nodes invocations h n → IsWanted nodes invocations k n
+  wanted_as unprompted n (invoked m leads) = invoked m (leads_as false invocations m leads)
+  wanted_as unprompted n (prior m q wanted is_confirmed leads) =
+      prior m q (wanted_as unprompted m wanted) (confirmed_all nodes k m unprompted) (leads_as (parallel_at nodes m) (priors_at nodes m) q leads)
+  wanted_as unprompted n (subsequent m q over leads) =
+      subsequent m q (same m over) (leads_as (parallel_at nodes m) (subsequents_at nodes m) q leads)
+
+-- flags that mean one fact mean another that holds of the same nodes
+means_as : (flags : List Bool) (P Q : ℕ → Type 0) → ((n : ℕ) → P n → Q n) → ((n : ℕ) → Q n → P n) → FlagsMean flags P → FlagsMean flags Q
+means_as flags P Q there back means k lt = (λ up. there k ((means k lt).0 up), λ down q. (means k lt).1 down (back k q))
+
+-- no number is that of none
+names_none : (o : Option ℕ) → is_some o ≡ false → (n : ℕ) → names o n ≡ false
+names_none None e n = refl
+names_none (Some m) e n = absurd (cc)
+
+-- an event by which no node is over well leaves the flags
+pub noted_stays :
+    (nodes : List PlanNode) (invocations : List ℕ) (h later : List Event) (e : Event) (t : Tables) (o : Option ℕ)
+    → ∥ All (λ (x : PlanNode). is_none x.prompt ≡ true) nodes ∥₁
+    → later ≡ h ++ e ∷ []
+    → ((n : ℕ) → names o n ≡ (skips n e || concludes_well n e))
+    → is_some o ≡ false
+    → IsTable (h ++ e ∷ []) t.rows.items
+    → FlagsMean t.finished.items (IsFinished nodes h)
+    → FlagsMean t.wanted.items (IsWanted nodes invocations h)
+    → IsNoted nodes invocations later t
+noted_stays nodes invocations h later e t o unprompted grew by none rows is_finished is_wanted =
+    let as_before : (n : ℕ) → is_over_well later n ≡ is_over_well h n = λ n.
+    ap (λ k. is_over_well k n) grew ∙ any_none (λ x. skips n x || concludes_well n x) h e (sym (by n) ∙ names_none o none n) in
+    let on : (n : ℕ) → is_over_well h n ≡ true → is_over_well later n ≡ true = λ n over. as_before n ∙ over in
+    let back : (n : ℕ) → is_over_well later n ≡ true → is_over_well h n ≡ true = λ n over. sym (as_before n) ∙ over in
+    record {
+      rows = subst (λ k. IsTable k t.rows.items) (sym grew) rows;
+      finished = means_as t.finished.items (IsFinished nodes h) (IsFinished nodes later) (finished_as nodes invocations h later on) (finished_as nodes invocations later h back) is_finished;
+      wanted = means_as t.wanted.items (IsWanted nodes invocations h) (IsWanted nodes invocations later)
+          (wanted_as nodes invocations h later on unprompted) (wanted_as nodes invocations later h back unprompted) is_wanted;
+    }
+
+-- ---- what the tables give
+
+module _ (nodes : List PlanNode) (invocations : List ℕ) (h : List Event) (t : Tables) (well : ∥ IsWellFormed (shapes nodes) invocations ∥₁) (noted : ∥ IsNoted nodes invocations h t ∥₁) where
+  -- the flags of the finished nodes
+  pub finished_of : FlagsMean t.finished.items (IsFinished nodes h)
+  finished_of = meant t.finished.items (IsFinished nodes h) (told_finished nodes invocations well h) (∥∥₁_map noted (λ n. n.finished))
+
+  -- the flags of the wanted nodes
+  pub wanted_of : FlagsMean t.wanted.items (IsWanted nodes invocations h)
+  wanted_of = meant t.wanted.items (IsWanted nodes invocations h) (told_wanted nodes invocations well h) (∥∥₁_map noted (λ n. n.wanted))
+
+-- a node failed where there is a reason of it, by the first event
+failed_at : (b c : Bool) (r : Reason) (rs : List Reason) → is_some (first rs) ≡ c → is_some (first (cons_option (if b then Some r else None) rs)) ≡ (b || c)
+failed_at true c r rs e = refl
+failed_at false c r rs e = e
+
+-- a node failed where there is a reason of it
+failed_reason : (h : List Event) (n : ℕ) → is_some (reason_of h n) ≡ has_failed h n
+failed_reason [] n = refl
+failed_reason (event.Done m outcome.Well ∷ h) n = failed_reason h n
+failed_reason (event.Done m (outcome.Failed r) ∷ h) n = failed_at (m == n) (has_failed h n) r (filter_map (reason_in n) h) (failed_reason h n)
+failed_reason (_ ∷ h) n = failed_reason h n
+
+-- whether a node failed, by its row
+pub failed_row : (h : List Event) (rows : List Row) → ∥ IsTable h rows ∥₁ → (n : ℕ) (d : Row) → n < length rows → is_some (get_or rows n d).reason ≡ has_failed h n
+failed_row h rows table n d lt = ap (λ o. is_some o) (reason_in_row h rows table n d lt) ∙ failed_reason h n
+
+-- whether its body is open
+pub open_row : (h : List Event) (rows : List Row) → ∥ IsTable h rows ∥₁ → (n : ℕ) (d : Row) → n < length rows → ((get_or rows n d).taken && not (get_or rows n d).given) ≡ is_open h n
+open_row h rows table n d lt = ∥∥₁_elim table (Bool-set _ _) (λ t. ap₂ (λ a b. a && not b) (t n d lt).taken (t n d lt).given)
+
+-- no node is to be asked
+pub never_to_ask : (nodes : List PlanNode) (invocations : List ℕ) (h : List Event) (n : ℕ) → ∥ All (λ (x : PlanNode). is_none x.prompt ≡ true) nodes ∥₁ → IsToAsk nodes invocations h n → ⊥
+never_to_ask nodes invocations h n unprompted asked =
+    ∥∥₁_elim unprompted (λ x. absurd x) (λ all. none_to_ask (record { nodes = nodes; invocations = invocations; jobs = None; base = 0 }) h all n asked)

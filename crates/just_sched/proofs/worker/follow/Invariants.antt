@@ -1,0 +1,9 @@
+-- The seat has the body's unit.
+use Rattle.std.proofs.Common.{◌≡◌}
+use Rattle.just_sched.proofs.worker.follow.Given as goal
+
+abbrev pub invariant-turns : goal.invariant-turns
+invariant-turns g l = record {
+  units : l.seat.share.amount ≡ 1;
+  parts : l.seat.share.parts ≡ l.initial.seat.share.parts;
+}

@@ -1,0 +1,45 @@
+-- What a book's table says of each node.
+use Rattle.std.specs.Prelude.{ℕ, ◌≡◌, ◌+◌, ◌<◌, ◌||◌, cond, List, length, slice_index_or, is_some, None}
+use Rattle.std.specs.List.{last_or}
+use Rattle.just_sched.specs.declared.event.Event.{Event}
+use Rattle.just_sched.specs.declared.plan_node.PlanNode.{PlanNode}
+use Rattle.just_sched.specs.declared.row.Row.{Row}
+use Rattle.just_sched.specs.declared.tables.Tables.{Tables}
+use Rattle.just_sched.specs.State.{takes, gives, begins, skips, concludes, concludes_well, status_of, start_of, reason_in, has_taken, has_given, is_begun, is_skipped, is_done, is_over_well, statuses, last_start, reason_of, IsFinished, IsWanted}
+use Rattle.just_sched.specs.Tables.{FlagsMean, or_first}
+
+-- the row says of the node what the history says
+pub record IsRow (h : List Event) (n : ℕ) (r : Row) : Type 0 where
+  pub taken : r.taken ≡ has_taken h n
+  pub given : r.given ≡ has_given h n
+  pub begun : r.begun ≡ is_begun h n
+  pub skipped : r.skipped ≡ is_skipped h n
+  pub done : r.done ≡ is_done h n
+  pub well : r.well ≡ is_over_well h n
+  pub started : r.started ≡ last_start h n
+  pub ended : r.ended ≡ length (statuses h n)
+  pub last : r.last ≡ last_or None (statuses h n)
+  pub reason : r.reason ≡ reason_of h n
+
+-- each row says of its node what the history says
+abbrev pub IsTable : List Event → List Row → Type 0
+IsTable h rows = (n : ℕ) (d : Row) → n < length rows → IsRow h n (slice_index_or rows n d)
+
+-- what an event changes in the row of its node
+pub record IsTurned (n : ℕ) (e : Event) (old new : Row) : Type 0 where
+  pub taken : new.taken ≡ (old.taken || takes n e)
+  pub given : new.given ≡ (old.given || gives n e)
+  pub begun : new.begun ≡ (old.begun || begins n e)
+  pub skipped : new.skipped ≡ (old.skipped || skips n e)
+  pub done : new.done ≡ (old.done || concludes n e)
+  pub well : new.well ≡ (old.well || (skips n e || concludes_well n e))
+  pub started : new.started ≡ or_first (start_of n e) old.started
+  pub ended : new.ended ≡ old.ended + cond (is_some (status_of n e)) 1 0
+  pub last : new.last ≡ or_first (status_of n e) old.last
+  pub reason : new.reason ≡ or_first old.reason (reason_in n e)
+
+-- the tables of a book say of each node what the history says: its row, whether it is finished, and whether it is wanted
+pub record IsNoted (nodes : List PlanNode) (invocations : List ℕ) (h : List Event) (t : Tables) : Type 0 where
+  pub rows : IsTable h t.rows.items
+  pub finished : FlagsMean t.finished.items (IsFinished nodes h)
+  pub wanted : FlagsMean t.wanted.items (IsWanted nodes invocations h)

@@ -1,0 +1,160 @@
+//! What a book notes in its tables, and what it reads there. Only the making of the tables takes memory.
+
+ghost use Rattle.std.specs.Prelude.{◌≡◌, ◌&&◌, not, ◌<◌, ◌++◌, ◌∷◌, [], ℕ, false, length, vec_len, vec_capacity, slice_index_or, IfOk, IfSome, IfNone};
+ghost use Rattle.just_sched.specs.Rows.{IsTable, IsNoted};
+ghost use Rattle.just_sched.specs.State.{is_open as opened, caught_signal, IsReady};
+ghost use Rattle.just_sched.specs.NodeStates.{IsState};
+ghost use Rattle.just_sched.specs.Legal.{Run};
+ghost use Rattle.just_sched.specs.Verdict.{IsVerdict};
+
+use super::choice::{first_by, is_ready};
+use super::flags::{mark_finished, mark_over, over_by};
+use super::row::{BLANK, Row, mark};
+use super::tables::Tables;
+use super::verdict::verdict_by;
+use super::wanted::mark_wanted;
+use super::{Event, NodeState, Plan, Verdict};
+use just_outside::Signal;
+use just_path::NoMemory;
+use std::alloc::Global;
+
+/// Whether the body of the node with this row is open.
+fn is_open(row: Row) -> bool
+    ensures { result ≡ (row.taken && not row.given) }
+{
+    row.taken && !row.given
+}
+
+impl Tables {
+    /// Room for so many nodes.
+    fn room(alloc: Global, count: usize) -> Result<Tables, NoMemory>
+        ensures size { IfOk result (λ t. t.size ≡ count) }
+        ensures table { IfOk result (λ t. ∥ IsTable [] t.rows.items ∥₁) }
+    {
+        let rows = vec![in alloc; BLANK; count]?;
+        let finished = vec![in alloc; false; count]?;
+        let wanted = vec![in alloc; false; count]?;
+        let over = vec![in alloc; false; count]?;
+        Ok(Tables {
+            rows,
+            finished,
+            wanted,
+            over,
+            size: count,
+        })
+    }
+
+    /// The tables of a plan of which no event speaks yet.
+    pub(crate) fn new(alloc: Global, plan: &Plan) -> Result<Tables, NoMemory>
+        ensures size { IfOk result (λ t. t.size ≡ length plan.now.nodes) }
+        ensures noted { IfOk result (λ t. ∥ IsNoted plan.now.nodes plan.now.invocations [] t ∥₁) }
+    {
+        let mut tables = Tables::room(alloc, plan.nodes.len())?;
+        tables.settle(plan, &[]);
+        Ok(tables)
+    }
+
+    /// The row of a node.
+    pub(crate) fn row(&self, node: u32) -> Row
+        requires { node < self.now.size }
+        ensures is { result ≡ slice_index_or self.now.rows.items node result }
+        ensures within { node < length self.now.rows.items }
+    {
+        self.rows.as_slice()[node as usize]
+    }
+
+    /// Notes which nodes are finished and which are wanted, by the rows.
+    fn settle(&mut self, plan: &Plan, history: &[Event])
+        requires size { self.old.size ≡ length plan.now.nodes }
+        requires table { ∥ IsTable history.now self.old.rows.items ∥₁ }
+        ensures size { self.new.size ≡ self.old.size }
+        ensures noted { ∥ IsNoted plan.now.nodes plan.now.invocations history.now self.new ∥₁ }
+    {
+        let rows = self.rows.as_slice();
+        let over = self.over.as_mut_slice();
+        let finished = self.finished.as_mut_slice();
+        let wanted = self.wanted.as_mut_slice();
+        mark_over(history, rows, over);
+        mark_finished(plan, history, rows, finished);
+        mark_wanted(plan, history, over, finished, wanted);
+    }
+
+    /// The ready node of least number. It takes no memory.
+    pub(crate) fn first_ready(&self, plan: &Plan, history: &[Event]) -> Option<u32>
+        requires size { self.now.size ≡ length plan.now.nodes }
+        requires noted { ∥ IsNoted plan.now.nodes plan.now.invocations history.now self.now ∥₁ }
+        ensures ready { IfSome result (λ n. (n < length plan.now.nodes) × IsReady plan.now.nodes plan.now.invocations history.now n) }
+        ensures least { IfSome result (λ n. (m : ℕ) → m < n → IsReady plan.now.nodes plan.now.invocations history.now m → ⊥) }
+        ensures none { IfNone result ((n : ℕ) → n < length plan.now.nodes → IsReady plan.now.nodes plan.now.invocations history.now n → ⊥) }
+    {
+        first_by(
+            plan,
+            history,
+            self.wanted.as_slice(),
+            self.rows.as_slice(),
+            self.finished.as_slice(),
+        )
+    }
+
+    /// The state of a node. It takes no memory.
+    pub(crate) fn state(&self, plan: &Plan, history: &[Event], node: u32) -> NodeState
+        requires within { node < length plan.now.nodes }
+        requires size { self.now.size ≡ length plan.now.nodes }
+        requires noted { ∥ IsNoted plan.now.nodes plan.now.invocations history.now self.now ∥₁ }
+        ensures { IsState plan.now.nodes plan.now.invocations history.now node result }
+    {
+        let at = node as usize;
+        let rows = self.rows.as_slice();
+        let finished = self.finished.as_slice();
+        let wanted = self.wanted.as_slice();
+        let row = rows[at];
+        if row.reason.is_some() {
+            NodeState::Failed
+        } else if finished[at] {
+            NodeState::Finished
+        } else if row.well {
+            NodeState::Over
+        } else if is_open(row) {
+            NodeState::Open
+        } else if is_ready(plan, history, at, wanted, rows, finished) {
+            NodeState::Ready
+        } else {
+            NodeState::Waiting
+        }
+    }
+
+    /// How the run of a closed history went. It takes no memory.
+    pub(crate) fn verdict(&self, plan: &Plan, history: &[Event], caught: Option<Signal>) -> Verdict
+        requires size { self.now.size ≡ length plan.now.nodes }
+        requires noted { ∥ IsNoted plan.now.nodes plan.now.invocations history.now self.now ∥₁ }
+        requires closed { (n : ℕ) → n < length plan.now.nodes → opened history.now n ≡ false }
+        requires caught { caught ≡ caught_signal history.now }
+        ensures { (s : Run) → s.nodes ≡ plan.now.nodes → IsVerdict s history.now result }
+    {
+        verdict_by(
+            plan,
+            history,
+            self.finished.as_slice(),
+            self.rows.as_slice(),
+            caught,
+        )
+    }
+}
+
+/// Adds an event to a history with room for it, and notes it in the tables.
+pub(crate) fn note(plan: &Plan, history: &mut Vec<Event>, tables: &mut Tables, event: Event)
+    requires room { vec_len history.old < vec_capacity history.old }
+    requires size { tables.old.size ≡ length plan.now.nodes }
+    requires noted { ∥ IsNoted plan.now.nodes plan.now.invocations history.old.items tables.old ∥₁ }
+    ensures items { history.new.items ≡ history.old.items ++ event ∷ [] }
+    ensures capacity { vec_capacity history.new ≡ vec_capacity history.old }
+    ensures size { tables.new.size ≡ tables.old.size }
+    ensures noted { ∥ IsNoted plan.now.nodes plan.now.invocations history.new.items tables.new ∥₁ }
+{
+    mark(&mut tables.rows, &event);
+    let grows = over_by(&event).is_some();
+    history.push_reserved(event);
+    if grows {
+        tables.settle(plan, history.as_slice());
+    }
+}

@@ -1,0 +1,112 @@
+//! What the events so far say of one node.
+
+ghost use Rattle.std.specs.Prelude.{◌≡◌, ◌+◌, ◌<◌, ◌^◌, ◌++◌, ◌∷◌, [], ℕ, true, false, List, length, vec_len, slice_index_or};
+ghost use Rattle.just_sched.specs.declared.event.Event.{Event};
+ghost use Rattle.just_sched.specs.declared.row.Row.{Row};
+ghost use Rattle.just_sched.specs.State.{is_of, node_of};
+ghost use Rattle.just_sched.specs.Rows.{IsTable, IsTurned};
+
+use super::{Event, Outcome, Reason};
+use just_outside::Status;
+
+/// What the events so far say of one node.
+#[derive(Clone, Copy, Debug)]
+pub(crate) struct Row {
+    pub taken: bool,
+    pub given: bool,
+    pub begun: bool,
+    pub skipped: bool,
+    pub done: bool,
+    /// Whether it was skipped, or its body ended well.
+    pub well: bool,
+    /// The place and the child of the command that it started last.
+    pub started: Option<(u32, u32)>,
+    /// How many of its commands have ended.
+    pub ended: usize,
+    /// How the command that ended last has ended.
+    pub last: Option<Status>,
+    /// Why it failed, if it did.
+    pub reason: Option<Reason>,
+}
+
+/// The row of a node of which no event speaks yet.
+pub(crate) const BLANK: Row = Row {
+    taken: false,
+    given: false,
+    begun: false,
+    skipped: false,
+    done: false,
+    well: false,
+    started: None,
+    ended: 0,
+    last: None,
+    reason: None,
+};
+
+/// The row of a node behind an event of it.
+pub(crate) fn turned(row: Row, node: u32, event: &Event) -> Row
+    requires own { is_of node event.now ≡ true }
+    requires few { row.ended < 2 ^ 63 }
+    ensures { IsTurned node event.now row result }
+{
+    let mut row = row;
+    match event {
+        Event::Took(_) => row.taken = true,
+        Event::Gave(_) => row.given = true,
+        Event::Begun(_) => row.begun = true,
+        Event::Skipped(_) => {
+            row.skipped = true;
+            row.well = true;
+        }
+        Event::Started(_, place, child) => row.started = Some((*place, *child)),
+        Event::Ended(_, _, _, status) => {
+            row.ended += 1;
+            row.last = Some(*status);
+        }
+        Event::Done(_, Outcome::Well) => {
+            row.done = true;
+            row.well = true;
+        }
+        Event::Done(_, Outcome::Failed(reason)) => {
+            row.done = true;
+            if row.reason.is_none() {
+                row.reason = Some(*reason);
+            }
+        }
+        Event::Asked(_, _) | Event::Looked(_, _, _) | Event::Saved(_) | Event::Caught(_) => {}
+    }
+    row
+}
+
+/// The node that the event is one of.
+pub(crate) fn node_of(event: &Event) -> Option<u32>
+    ensures { result ≡ node_of event.now }
+{
+    match event {
+        Event::Asked(node, _)
+        | Event::Took(node)
+        | Event::Looked(node, _, _)
+        | Event::Skipped(node)
+        | Event::Begun(node)
+        | Event::Started(node, _, _)
+        | Event::Ended(node, _, _, _)
+        | Event::Saved(node)
+        | Event::Done(node, _)
+        | Event::Gave(node) => Some(*node),
+        Event::Caught(_) => None,
+    }
+}
+
+/// Notes an event in the row of its node.
+pub(crate) fn mark(rows: &mut Vec<Row>, event: &Event)
+    requires few { (n : ℕ) → (d : Row) → n < length rows.old.items → (slice_index_or rows.old.items n d).ended < 2 ^ 63 }
+    ensures size { vec_len rows.new ≡ vec_len rows.old }
+    ensures table { (h : List Event) → IsTable h rows.old.items → IsTable (h ++ event.now ∷ []) rows.new.items }
+{
+    if let Some(node) = node_of(event) {
+        let at = node as usize;
+        if at < rows.len() {
+            rows[at] = turned(rows[at], node, event);
+        }
+    }
+}
