@@ -2,7 +2,7 @@
 use Rattle.std.proofs.Common.{◌≡◌, Bool, true, false, cond, ℕ, List, [], ◌∷◌, map, Option, Some, None, option_map, refl, sym, ap, subst, ◌∙◌}
 use Rattle.std.specs.Ordering.{nat_cmp, eq_by_cmp}
 use Rattle.std.specs.Cmp.Lexicographic.{slice_cmp}
-use Rattle.std.specs.FinMap.{find, get, entries, get-from_entries, get-entries}
+use Rattle.std.specs.FinMap.{find, get, get-from_entries}
 use Rattle.std.proofs.lemmas.Cmp.{nat_list_cmp_total}
 use Rattle.just_path.specs.Clean.{is_clean_absolute}
 use Rattle.just_path.specs.View.{Sight, HasCleanPlaces, meta_of, sight, meta_seen, target_of, target_seen}
@@ -11,29 +11,10 @@ use Rattle.just_outside.specs.declared.tree.Thing.TheVariants as things
 use Rattle.just_outside.specs.Sights.{Tree, sight_of, seen}
 use Rattle.just_host.specs.declared.place.Place.{Place}
 use Rattle.just_host.specs.Files.{by_text, files_in}
+use Rattle.just_outside.proofs.Laws.{sight_seen}
 use Rattle.just_host.proofs.Things.{same_text}
 
--- to look at the chosen of two is to choose among what is looked at
-mapped_cond : (b : Bool) (t : Thing) (o : Option Thing) → cond b (Some (sight_of t)) (option_map sight_of o) ≡ option_map sight_of (cond b (Some t) o)
-mapped_cond true t o = refl
-mapped_cond false t o = refl
-
--- to find among things as they look is to find the thing, and to look at it
-find_seen : (q : List ℕ) (es : List (List ℕ × Thing)) → find (slice_cmp nat_cmp) q (map (λ e. (e.0, sight_of e.1)) es) ≡ option_map sight_of (find (slice_cmp nat_cmp) q es)
-find_seen q [] = refl
-find_seen q (e ∷ es) =
-    ap (λ o. cond (eq_by_cmp (slice_cmp nat_cmp) q e.0) (Some (sight_of e.1)) o) (find_seen q es)
-    ∙ mapped_cond (eq_by_cmp (slice_cmp nat_cmp) q e.0) e.1 (find (slice_cmp nat_cmp) q es)
-
--- what stands at a place is shown as it looks
-pub sight_seen : (tree : Tree) (q : List ℕ) → sight q (seen tree) ≡ option_map sight_of (get tree q)
-unfolding seen
-sight_seen tree q =
-    get-from_entries nat_list_cmp_total (map (λ e. (e.0, sight_of e.1)) (entries tree)) q
-    ∙ find_seen q (entries tree)
-    ∙ ap (λ o. option_map sight_of o) (sym (get-entries tree q))
-
--- the same, where it is known what stands there
+-- what stands at a place is shown as it looks, where it is known what stands there
 sight_as : (tree : Tree) (place : List ℕ) (o : Option Thing) → get tree place ≡ o → sight place (seen tree) ≡ option_map sight_of o
 sight_as tree place o is = sight_seen tree place ∙ ap (λ x. option_map sight_of x) is
 

@@ -1,7 +1,7 @@
 //! What the paths of a tree show.
 ghost use Rattle.std.specs.Prelude.{◌≡◌, ◌≤◌, true, IfOk, Ok, map, option_copied, length, string_bytes};
 ghost use Rattle.just_path.specs.Path.{text_of, is_absolute};
-ghost use Rattle.just_path.specs.View.{meta_of, meta_seen, target_seen, sees_file, sees_folder, asks_folder, goes_through_file, absence, filled_place, named_place, folder_place, asked_place, last_place, target_place, followed_place, place_told, meta_told, canonical_told, folder_told, link_told, AreInOrder, AreItemsOf};
+ghost use Rattle.just_path.specs.View.{meta_of, meta_at, meta_seen, target_seen, sees_file, sees_folder, asks_folder, goes_through_file, absence, filled_place, named_place, folder_place, asked_place, last_place, target_place, followed_place, place_told, meta_told, canonical_told, folder_told, link_told, AreInOrder, AreItemsOf};
 ghost use Rattle.just_outside.specs.declared.outside.TheConstants.{MAX_BYTES};
 ghost use Rattle.just_outside.specs.Sights.{sight_of, seen};
 ghost use Rattle.just_outside.specs.World.{text_in, text_at};
@@ -17,7 +17,7 @@ use just_path::{Item, Kind, Meta, Miss, NoMemory, Text, Utf8Path};
 use std::alloc::Global;
 
 /// Why a tree has no answer.
-#[derive(Debug, Clone, Copy)]
+#[derive(Clone, Copy)]
 pub(crate) enum TreeFault {
     Missed(Miss),
     NoMemory,
@@ -236,6 +236,16 @@ impl Tree {
         self.asked_place(text, found)
     }
 
+    /// What stands at a place, or that nothing does.
+    fn meta_of_place(&self, place: &Place) -> Result<Meta, TreeFault>
+        ensures { Shows (λ m. m) (meta_at (seen (files_of self.now)) (Ok place.now.path)) result }
+    {
+        match self.meta_at(place.as_str().as_bytes()) {
+            Some(meta) => Ok(meta),
+            None => Err(TreeFault::Missed(Miss::NotFound)),
+        }
+    }
+
     /// What stands where a path leads.
     pub(crate) fn meta(
         &self,
@@ -247,10 +257,7 @@ impl Tree {
         ensures { Shows (λ m. m) (meta_told (text_of path.entry) follow (view_from folder.now.path (files_of self.now))) result }
     {
         let place = self.place(alloc, folder, path, follow)?;
-        match self.meta_at(place.as_str().as_bytes()) {
-            Some(meta) => Ok(meta),
-            None => Err(TreeFault::Missed(Miss::NotFound)),
-        }
+        self.meta_of_place(&place)
     }
 
     /// Where a path leads that is to lead to a folder.

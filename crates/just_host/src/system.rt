@@ -2,6 +2,7 @@
 //! Nothing is claimed of what the system answers, so most of these functions have no clause.
 
 ghost use Rattle.std.specs.Prelude.{◌≡◌, ◌≤◌, ◌++◌, IfOk, OnOk, IfSome, length, string_bytes};
+ghost use Rattle.std.specs.Path.{path_buf_bytes};
 ghost use Rattle.just_path.specs.View.{AreInOrder};
 ghost use Rattle.just_outside.specs.declared.outside.TheConstants.{MAX_BYTES};
 ghost use Rattle.just_outside.specs.World.{text_in};
@@ -14,10 +15,11 @@ use just_path::{Item, Kind, Meta, Miss, NoMemory, Seq, Text, Utf8PathBuf};
 use std::alloc::Global;
 use std::env;
 use std::env::FillError;
-use std::fs::{self, FileType, Files};
-use std::io::{self, ErrorKind, Read};
+use std::fs::{self, DirEntry, FileType, Files};
+use std::io::{self, Eprint, ErrorKind, Print, Read};
 use std::os::unix::fs::PermissionsExt;
-use std::rt::{Env, Runtime};
+use std::path::PathBuf;
+use std::rt::Env;
 
 fn kind_of(file_type: &FileType) -> Kind {
     if file_type.is_symlink() {
@@ -53,10 +55,17 @@ pub fn look<F: Files>(files: &F, path: &str, follow: bool) -> io::Result<Meta> {
 }
 
 /// What stands in a folder, by rising names. What vanishes meanwhile is left out.
-pub fn list<R: Runtime>(rt: &R, alloc: Global, path: &str) -> io::Result<Vec<Item>>
+pub fn list<F: Files>(files: &F, alloc: Global, path: &str) -> io::Result<Vec<Item>>
     ensures { IfOk result (λ v. AreInOrder v.items) }
 {
-    let mut items = found(rt, alloc, path)?;
+    sorted(alloc, found(files, alloc, path)?)
+}
+
+/// The items by rising names.
+fn sorted(alloc: Global, found: Vec<Item>) -> io::Result<Vec<Item>>
+    ensures { IfOk result (λ v. AreInOrder v.items) }
+{
+    let mut items = found;
     // sorted, so that each goes to the end of those before it
     items.sort_by(|a, b| a.name.as_str().cmp(b.name.as_str()))?;
     match in_order(alloc, items) {
@@ -66,54 +75,79 @@ pub fn list<R: Runtime>(rt: &R, alloc: Global, path: &str) -> io::Result<Vec<Ite
 }
 
 /// What stands in a folder. A name that isn't UTF-8 makes the call fail.
-fn found<R: Runtime>(rt: &R, alloc: Global, path: &str) -> io::Result<Vec<Item>> {
-    let pair = (rt, alloc);
+fn found<F: Files>(files: &F, alloc: Global, path: &str) -> io::Result<Vec<Item>> {
+    let pair = (files, alloc);
     let mut items = Vec::new(alloc);
     for entry in fs::read_dir(&pair, path)? {
-        let entry = match entry {
-            Ok(entry) => entry,
-            Err(error) if error.kind() == ErrorKind::InvalidFilename => {
-                return Err(io::Error::from(ErrorKind::Other));
-            }
-            Err(error) => return Err(error),
-        };
-        let kind = match entry.file_type() {
-            Ok(file_type) => kind_of(&file_type),
-            Err(error) if error.kind() == ErrorKind::NotFound => continue,
-            Err(error) => return Err(error),
-        };
-        let name = String::from_str(alloc, entry.file_name())?;
-        let name = Text::from(name);
-        items.push(Item { name, kind })?;
+        if let Some(item) = item_of(alloc, entry)? {
+            items.push(item)?;
+        }
     }
     Ok(items)
 }
 
+/// The item of an entry of a folder, or none where the entry vanished.
+fn item_of<F: Files + Drop>(
+    alloc: Global,
+    told: io::Result<DirEntry<F>>,
+) -> io::Result<Option<Item>> {
+    let entry = match told {
+        Ok(entry) => entry,
+        Err(error) => return Err(entry_error(error)),
+    };
+    match entry.file_type() {
+        Ok(file_type) => {
+            let name = String::from_str(alloc, entry.file_name())?;
+            let name = Text::from(name);
+            let kind = kind_of(&file_type);
+            Ok(Some(Item { name, kind }))
+        }
+        Err(error) if error.kind() == ErrorKind::NotFound => Ok(None),
+        Err(error) => Err(error),
+    }
+}
+
+/// The error of a folder whose next entry has that error: that of a name that isn't UTF-8 is no miss.
+fn entry_error(error: io::Error) -> io::Error {
+    match error.kind() {
+        ErrorKind::InvalidFilename => io::Error::from(ErrorKind::Other),
+        _ => error,
+    }
+}
+
 /// The path at which a path is found. It has no clause, since nothing is claimed of what the system answers.
-pub fn canonical<R: Runtime>(rt: &R, alloc: Global, path: &str) -> io::Result<Utf8PathBuf> {
-    let pair = (rt, alloc);
-    let found = fs::canonicalize(&pair, path)?;
-    Ok(Utf8PathBuf::from(found.into_string()))
+pub fn canonical<F: Files>(files: &F, alloc: Global, path: &str) -> io::Result<Utf8PathBuf> {
+    Ok(path_of(files.canonicalize(alloc, path)?))
 }
 
 /// The current folder. It has no clause, since nothing is claimed of what the system answers.
-pub fn here<R: Runtime>(rt: &R, alloc: Global) -> io::Result<Utf8PathBuf> {
-    let pair = (rt, alloc);
-    let found = env::current_dir(&pair)?;
-    Ok(Utf8PathBuf::from(found.into_string()))
+pub fn here<E: Env>(env: &E, alloc: Global) -> io::Result<Utf8PathBuf> {
+    let pair = (env, alloc);
+    Ok(path_of(env::current_dir(&pair)?))
 }
 
 /// The target of a link. Where something else stands, no link is found. It has no clause, since nothing is claimed of what
 /// the system answers.
-pub fn target<R: Runtime>(rt: &R, alloc: Global, path: &str) -> io::Result<Utf8PathBuf> {
-    let pair = (rt, alloc);
-    match fs::read_link(&pair, path) {
-        Ok(found) => Ok(Utf8PathBuf::from(found.into_string())),
-        Err(error) if error.kind() == ErrorKind::InvalidInput => {
-            Err(io::Error::from(ErrorKind::NotFound))
-        }
-        Err(error) => Err(error),
+pub fn target<F: Files>(files: &F, alloc: Global, path: &str) -> io::Result<Utf8PathBuf> {
+    match files.read_link(alloc, path) {
+        Ok(found) => Ok(path_of(found)),
+        Err(error) => Err(link_error(error)),
     }
+}
+
+/// The error of a call that reads a link: where something else stands, no link is found.
+fn link_error(error: io::Error) -> io::Error {
+    match error.kind() {
+        ErrorKind::InvalidInput => io::Error::from(ErrorKind::NotFound),
+        _ => error,
+    }
+}
+
+/// A path of the system as one of ours.
+fn path_of(found: PathBuf) -> Utf8PathBuf
+    ensures { result ≡ path_buf_bytes found }
+{
+    Utf8PathBuf::from(found.into_string())
 }
 
 /// The text of a file, or why it is none that can be read. What is neither a file nor a folder isn't opened, so that
@@ -141,10 +175,10 @@ fn read_text<F: Read + Drop>(alloc: Global, reader: F) -> io::Result<Result<Stri
 }
 
 /// Prints a text. It has no clause, since nothing is claimed of what the system shows.
-pub fn show<R: Runtime>(rt: &R, stream: Stream, text: &str) -> io::Result<()> {
+pub fn show<P: Print + Eprint>(printer: &P, stream: Stream, text: &str) -> io::Result<()> {
     match stream {
-        Stream::Out => rt.print(text),
-        Stream::Err => rt.eprint(text),
+        Stream::Out => printer.print(text),
+        Stream::Err => printer.eprint(text),
     }
 }
 
@@ -196,8 +230,15 @@ fn put_pair_of(alloc: Global, pairs: &mut Vec<(Text, Text)>, text: &str) -> Resu
     if name.is_empty() {
         return Ok(());
     }
+    pairs.push(pair_of(alloc, name, value)?)?;
+    Ok(())
+}
+
+/// The pair of a name and a value.
+fn pair_of(alloc: Global, name: &str, value: &str) -> Result<(Text, Text), NoMemory>
+    ensures { IfOk result (λ p. p ≡ (name.now, value.now)) }
+{
     let name = Text::from_str(alloc, name)?;
     let value = Text::from_str(alloc, value)?;
-    pairs.push((name, value))?;
-    Ok(())
+    Ok((name, value))
 }

@@ -1,12 +1,13 @@
 //! The host in memory and the real one over the same files answer the same: three hundred trees at random, each asked
 //! for all its places by paths of several forms.
+ghost use Rattle.std.specs.Prelude.{◌<◌};
 
 use just_host::{Host, HostFault, MemHost, Plot, RealHost, Thing, Tree};
 use just_path::{Environ, Item, NoMemory, PathFault, PathHost, Seq, Text, Utf8Path, Utf8PathBuf};
 use std::alloc::Global;
-use std::fs;
 use std::os::unix::fs::symlink;
 use std::test::Fail;
+use std::{fs, io};
 
 /// The places of a tree under its root. That of number n stands in that of number n / 2 - 1, the first two in the root.
 const PLACES: [&str; 14] = [
@@ -94,13 +95,33 @@ fn target(
     if all[other] == Stand::Link || !is_before_links(all, other) {
         return Ok(format!(in alloc; "{up}none")?);
     }
-    let text = match random.next() % 4 {
-        0 => format!(in alloc; "{up}{path}")?,
-        1 => format!(in alloc; ".//{up}/{path}")?,
-        2 => format!(in alloc; "{root}/{path}")?,
-        _ => format!(in alloc; "{up}{path}/")?,
-    };
+    target_form(alloc, root, up, path, random.next() % 4)
+}
+
+/// The text of a link to a path in a form of that number.
+fn target_form(
+    alloc: Global,
+    root: &str,
+    up: &str,
+    path: &str,
+    form: u8,
+) -> Result<String, NoMemory> {
+    let text = match form {
+        0 => format!(in alloc; "{up}{path}"),
+        1 => format!(in alloc; ".//{up}/{path}"),
+        2 => format!(in alloc; "{root}/{path}"),
+        _ => format!(in alloc; "{up}{path}/"),
+    }?;
     Ok(text)
+}
+
+/// Makes a thing at a path of the system.
+fn make(rt: &HostRuntime, path: &str, thing: &Thing) -> io::Result<()> {
+    match thing {
+        Thing::Folder => fs::create_dir_all(rt, path),
+        Thing::File { bytes, .. } => fs::write(rt, path, bytes.as_slice()),
+        Thing::Link(target) => symlink(rt, target.as_str(), path),
+    }
 }
 
 /// Puts a thing at a path of both.
@@ -111,11 +132,7 @@ fn put(
     path: &str,
     thing: Thing,
 ) -> Result<(), Fail> {
-    match &thing {
-        Thing::Folder => fs::create_dir_all(rt, path)?,
-        Thing::File { bytes, .. } => fs::write(rt, path, bytes.as_slice())?,
-        Thing::Link(target) => symlink(rt, target.as_str(), path)?,
-    }
+    make(rt, path, &thing)?;
     tree.insert(alloc, path, thing)?;
     Ok(())
 }
@@ -127,6 +144,25 @@ fn file(alloc: Global, random: &mut Random) -> Result<Thing, NoMemory> {
         bytes: Seq::from(bytes),
         executable: false,
     })
+}
+
+/// What stands at a place, as a thing, if anything does.
+fn thing_at(
+    alloc: Global,
+    random: &mut Random,
+    root: &str,
+    all: &[Stand; 14],
+    place: usize,
+) -> Result<Option<Thing>, NoMemory>
+    requires { place < 14 }
+{
+    let thing = match all[place] {
+        Stand::Nothing => return Ok(None),
+        Stand::Folder => Thing::Folder,
+        Stand::File => file(alloc, random)?,
+        Stand::Link => Thing::Link(Text::from(target(alloc, random, root, all, place)?)),
+    };
+    Ok(Some(thing))
 }
 
 /// Lets a tree grow, the same in both.
@@ -142,13 +178,9 @@ fn grow(
     for n in 0..14usize {
         let place = PLACES.get(n).copied().unwrap_or("");
         let path = format!(in alloc; "{root}/{place}")?;
-        let thing = match all[n] {
-            Stand::Nothing => continue,
-            Stand::Folder => Thing::Folder,
-            Stand::File => file(alloc, random)?,
-            Stand::Link => Thing::Link(Text::from(target(alloc, random, root, all, n)?)),
-        };
-        put(rt, alloc, &mut tree, path.as_str(), thing)?;
+        if let Some(thing) = thing_at(alloc, random, root, all, n)? {
+            put(rt, alloc, &mut tree, path.as_str(), thing)?;
+        }
     }
     Ok(tree)
 }
@@ -183,29 +215,41 @@ fn same_texts(a: Result<String, HostFault>, b: Result<String, HostFault>) -> boo
     }
 }
 
+/// Whether two hosts tell the same of what stands at a path.
+fn stand_alike<A: Host, B: Host>(one: &mut A, other: &mut B, path: Utf8Path<'_>) -> bool {
+    one.meta(path, true) == other.meta(path, true)
+        && one.meta(path, false) == other.meta(path, false)
+}
+
+/// Whether a path leads to the same over two hosts.
+fn lead_alike<A: Host, B: Host>(one: &mut A, other: &mut B, path: Utf8Path<'_>) -> bool {
+    same_paths(one.canonical(path), other.canonical(path))
+        && same_paths(one.link(path), other.link(path))
+}
+
+/// Whether two hosts tell the same of what is in a folder or a file.
+fn read_alike<A: Host, B: Host>(one: &mut A, other: &mut B, path: Utf8Path<'_>) -> bool {
+    same_items(one.list(path), other.list(path)) && same_texts(one.read(path), other.read(path))
+}
+
 /// Whether two hosts answer the same of a path.
 fn answer_alike<A: Host, B: Host>(one: &mut A, other: &mut B, path: &str) -> bool {
     let path = Utf8Path::new(path);
-    one.meta(path, true) == other.meta(path, true)
-        && one.meta(path, false) == other.meta(path, false)
-        && same_items(one.list(path), other.list(path))
-        && same_paths(one.canonical(path), other.canonical(path))
-        && same_paths(one.link(path), other.link(path))
-        && same_texts(one.read(path), other.read(path))
+    stand_alike(one, other, path) && lead_alike(one, other, path) && read_alike(one, other, path)
 }
 
 /// A path to a place in a form of that number.
 fn form(alloc: Global, here: &str, number: u32, place: &str, form: u8) -> Result<String, NoMemory> {
     let text = match form {
-        0 => format!(in alloc; "trees/{number}/{place}")?,
-        1 => format!(in alloc; "{here}/trees/{number}/{place}")?,
-        2 => format!(in alloc; ".//trees/./{number}//{place}")?,
-        3 => format!(in alloc; "trees/{number}/../{number}/{place}")?,
-        4 => format!(in alloc; "trees/{number}/{place}/")?,
-        5 => format!(in alloc; "trees/{number}/{place}/.")?,
-        6 => format!(in alloc; "trees/{number}/{place}/x")?,
-        _ => String::new(alloc),
-    };
+        0 => format!(in alloc; "trees/{number}/{place}"),
+        1 => format!(in alloc; "{here}/trees/{number}/{place}"),
+        2 => format!(in alloc; ".//trees/./{number}//{place}"),
+        3 => format!(in alloc; "trees/{number}/../{number}/{place}"),
+        4 => format!(in alloc; "trees/{number}/{place}/"),
+        5 => format!(in alloc; "trees/{number}/{place}/."),
+        6 => format!(in alloc; "trees/{number}/{place}/x"),
+        _ => Ok(String::new(alloc)),
+    }?;
     Ok(text)
 }
 

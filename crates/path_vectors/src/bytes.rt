@@ -36,19 +36,30 @@ fn says_text(alloc: Global, fields: &[&str], beginning: &str, text: &str) -> Res
     }
 }
 
+/// Whether a row says of its broken bytes where they are broken, and that an error's text is that beginning and the row's.
+fn says_broken(
+    alloc: Global,
+    fields: &[&str],
+    beginning: &str,
+    text: &str,
+    place: FromPathError,
+) -> Result<bool, Wrong> {
+    Ok(says_text(alloc, fields, beginning, text)? && says_place(alloc, fields, place)?)
+}
+
 /// What a path of bytes answers.
 fn path_agrees(alloc: Global, fields: &[&str]) -> Result<bool, Wrong> {
     match Utf8PathBuf::try_from_path_buf(bytes(alloc, fields, 0)?) {
         Ok(path) => says_whole(alloc, fields, path.as_str().as_bytes()),
         Err(error) => {
+            let beginning = "PathBuf contains invalid UTF-8: ";
             let text = format!(in alloc; "{error}")?;
-            Ok(
-                says_text(
-                    alloc,
-                    fields,
-                    "PathBuf contains invalid UTF-8: ",
-                    text.as_str(),
-                )? && says_place(alloc, fields, error.from_path_error())?,
+            says_broken(
+                alloc,
+                fields,
+                beginning,
+                text.as_str(),
+                error.from_path_error(),
             )
         }
     }
@@ -59,14 +70,14 @@ fn box_agrees(alloc: Global, fields: &[&str]) -> Result<bool, Wrong> {
     match Utf8PathBuf::try_from_boxed_path(bytes(alloc, fields, 0)?) {
         Ok(path) => says_whole(alloc, fields, path.as_str().as_bytes()),
         Err(error) => {
+            let beginning = "Box<Path> contains invalid UTF-8: ";
             let text = format!(in alloc; "{error}")?;
-            Ok(
-                says_text(
-                    alloc,
-                    fields,
-                    "Box<Path> contains invalid UTF-8: ",
-                    text.as_str(),
-                )? && says_place(alloc, fields, error.from_path_error())?,
+            says_broken(
+                alloc,
+                fields,
+                beginning,
+                text.as_str(),
+                error.from_path_error(),
             )
         }
     }
