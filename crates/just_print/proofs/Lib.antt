@@ -30,4 +30,5 @@ pub mod ModulesOutside
 pub mod FileBack
 pub mod Braces
 pub mod Items
+pub mod ListLaws
 pub mod Laws

@@ -3,3 +3,4 @@ pub mod Printed
 pub mod Shapes
 pub mod Law
 pub mod Entries
+pub mod SmallTexts

@@ -1,12 +1,24 @@
-//! Trees of justfiles as texts.
+//! Trees of justfiles as texts, and the small texts that other texts are made of.
 #![tactic(auto)]
 
 mod attribute;
 mod body;
+mod count;
+mod enclosure;
 mod expr;
 mod item;
+mod list;
+mod ordinals;
+mod range;
 mod recipe;
+mod whitespace;
 mod whole;
 
+pub use count::Count;
+pub use enclosure::Enclosure;
 pub use expr::push_expr;
+pub use list::List;
+pub use ordinals::ordinal;
+pub use range::{DisplayRange, display};
+pub use whitespace::ShowWhitespace;
 pub use whole::print;
