@@ -27,6 +27,9 @@ pub mod OutsideBack
 pub mod SettingsOutside
 pub mod ImportsOutside
 pub mod ModulesOutside
+pub mod KeysBack
+pub mod ArgumentsBack
+pub mod ArgumentListsBack
 pub mod FileBack
 pub mod Braces
 pub mod Items

@@ -134,7 +134,7 @@ closes_test t [] a b h = refl
 closes_test t (c ∷ rest) a b h = one_of_by (c == 10) (c == 13) t c 10 13 a b refl refl h
 
 -- nor where a comma or a closing parenthesis comes first
-parts_test : (t : ℕ → Bool) (list : List ℕ) → t 44 ≡ false → t 41 ≡ false → parts list ≡ true → passes t (first_in list) ≡ false
+pub parts_test : (t : ℕ → Bool) (list : List ℕ) → t 44 ≡ false → t 41 ≡ false → parts list ≡ true → passes t (first_in list) ≡ false
 parts_test t [] a b h = refl
 parts_test t (c ∷ rest) a b h = one_of_by (c == 44) (c == 41) t c 44 41 a b refl refl h
 
