@@ -30,6 +30,7 @@ pub mod ModulesOutside
 pub mod KeysBack
 pub mod ArgumentsBack
 pub mod ArgumentListsBack
+pub mod AttributesBack
 pub mod FileBack
 pub mod Braces
 pub mod Items
