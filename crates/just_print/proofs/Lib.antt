@@ -32,6 +32,7 @@ pub mod ArgumentsBack
 pub mod ArgumentListsBack
 pub mod AttributesBack
 pub mod FileBack
+pub mod AttributedOutside
 pub mod Braces
 pub mod Items
 pub mod ListLaws
