@@ -1,5 +1,5 @@
 -- What is printed of the arguments of an attribute in parentheses is read again; a comma before the closing parenthesis is dropped.
-use Rattle.std.proofs.Common.{◌≡◌, ℕ, ◌==◌, Bool, true, false, not, ◌&&◌, ◌||◌, List, [], ◌∷◌, ◌++◌, map, Some, codes, encode_utf8_all, refl, sym, ap, ◌∙◌, subst, append_assoc}
+use Rattle.std.proofs.Common.{◌≡◌, ℕ, Bool, true, false, not, ◌&&◌, List, [], ◌∷◌, ◌++◌, map, Some, codes, encode_utf8_all, refl, sym, ap, ◌∙◌, subst, append_assoc}
 use Rattle.std.proofs.lemmas.Bool.{false≢true}
 use Rattle.std.proofs.lemmas.List.{map-append}
 use Rattle.just_read.specs.Place.{Place, next, first, first_in, begins}
@@ -10,7 +10,7 @@ use Rattle.just_read.specs.Lines.{skip, IsToken}
 use Rattle.just_syntax.specs.Attributes.{IsArgument, goes_on, AreFurther, IsTrailing, AreArguments}
 use Rattle.just_syntax.specs.Attributes.IsTrailing.{comma, nothing}
 use Rattle.just_syntax.specs.Attributes.AreArguments.{in_parentheses}
-use Rattle.just_print.specs.Printed.{led, printed_argument, printed_arguments, behind_attribute}
+use Rattle.just_print.specs.Printed.{led, printed_argument, behind_attribute}
 use Rattle.just_print.specs.Shapes.{bare_argument}
 use Rattle.just_print.proofs.Places.{beyond, beyond_dark, and_true, parts, Near, one_first, both_part, IsApart, token_back}
 use Rattle.just_print.proofs.NamesBack.{Back}

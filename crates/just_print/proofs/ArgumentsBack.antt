@@ -1,7 +1,7 @@
 -- What is printed of an argument of an attribute is read again, where a comma or a closing parenthesis stood behind it.
-use Rattle.std.proofs.Common.{◌≡◌, ℕ, ◌==◌, Bool, true, false, not, ◌&&◌, ◌||◌, if◌then◌else◌, List, [], ◌∷◌, ◌++◌, Option, Some, None, codes, encode_utf8_all, refl, sym, ap, ◌∙◌, subst, append_assoc}
+use Rattle.std.proofs.Common.{◌≡◌, ℕ, ◌==◌, Bool, true, false, not, ◌&&◌, ◌||◌, if◌then◌else◌, List, [], ◌∷◌, ◌++◌, Option, Some, None, codes, refl, sym, ap, ◌∙◌, subst, append_assoc}
 use Rattle.std.proofs.lemmas.Bool.{false≢true}
-use Rattle.just_read.specs.Place.{Place, Rule, next, run, first, first_in, passes, starts, sees, begins, begins_in, behind_text}
+use Rattle.just_read.specs.Place.{Place, Rule, next, run, first_in, passes, starts, sees, begins, begins_in, behind_text}
 use Rattle.just_read.proofs.Laws.{starts_at, sees_first, first_is}
 use Rattle.just_read.specs.declared.quote.Quote.{Quote}
 use Rattle.just_read.specs.declared.quote.Quote.TheVariants.{Single, Double, SingleBlock, DoubleBlock}
@@ -12,10 +12,8 @@ use Rattle.just_syntax.specs.declared.ast.Expr.TheVariants as e
 use Rattle.just_syntax.specs.declared.ast.Argument.{Argument}
 use Rattle.just_syntax.specs.declared.form.Form.{Form}
 use Rattle.just_syntax.specs.declared.form.Form.TheVariants.{Open}
-use Rattle.just_syntax.specs.declared.form.KeyForm.{KeyForm}
-use Rattle.just_syntax.specs.declared.form.KeyForm.TheVariants.{Number}
 use Rattle.just_read.specs.Characters.{is_blank, begins_name, in_name, is_quote}
-use Rattle.just_read.specs.Lines.{is_word, behind_word, IsToken, IsWord}
+use Rattle.just_read.specs.Lines.{is_word, behind_word, IsWord}
 use Rattle.just_read.specs.Quotes.{quote_at}
 use Rattle.just_syntax.specs.Places.{name_at, IsName}
 use Rattle.just_syntax.specs.Strings.{IsString, IsTextOf}
@@ -25,7 +23,7 @@ use Rattle.just_syntax.specs.Exprs.{begins_expr, begins_condition, IsValue, IsLe
 use Rattle.just_syntax.specs.Exprs.IsValue.{literal, group, env, variable}
 use Rattle.just_syntax.specs.Exprs.IsLevel.{conditional, root, value, joined, concatenated}
 use Rattle.just_syntax.specs.Forms.{key_form, may_stand_alone, has_text}
-use Rattle.just_syntax.specs.Attributes.{argument_at, IsPlain, IsKey, is_keyed, may_cache, may_have, is_decimal, behind_first, IsOption, IsArgument}
+use Rattle.just_syntax.specs.Attributes.{argument_at, IsKey, is_keyed, may_cache, may_have, is_decimal, behind_first, IsOption, IsArgument}
 use Rattle.just_syntax.specs.Attributes.IsKey.{key_sign}
 use Rattle.just_syntax.specs.Attributes.IsOption.{alone, valued, number}
 use Rattle.just_syntax.specs.Attributes.IsArgument.{text, option, cached, any, any_key}
@@ -44,9 +42,9 @@ use Rattle.just_print.proofs.ExprsBack.{expr_back}
 use Rattle.just_print.proofs.OutsideBack.{after, behind_in}
 use Rattle.just_print.proofs.SettingsOutside.{token_left}
 
--- what is printed and read again by one rule is so by another that follows from it
-again_as : {A : Type 0} (Is Js : Rule A) (bare : A → A) (p q : Place) (x : A) (printed : List ℕ) → ((r s : Place) (y : A) → Is r s y → Js r s y)
-    → Back Is bare p q x printed → Back Js bare p q x printed
+-- what is printed and read again by one rule is so by another that follows from it before what is near
+again_as : {A : Type 0} (Is Js : Rule A) (bare : A → A) (p q : Place) (x : A) (printed : List ℕ)
+    → ((r s : Place) (y : A) → Near s.rest q.rest → Is r s y → Js r s y) → Back Is bare p q x printed → Back Js bare p q x printed
 again_as Is Js bare p q x printed implies b =
     record {
       letters = b.letters;
@@ -56,7 +54,8 @@ again_as Is Js bare p q x printed implies b =
       begins = b.begins;
       seen = b.seen;
       dark_head = b.dark_head;
-      again = λ r rest h apart near. let (s, y, j, left, shape) = b.again r rest h apart near in (s, y, implies r s y j, left, shape);
+      again = λ r rest h apart near.
+          let (s, y, j, left, shape) = b.again r rest h apart near in (s, y, implies r s y (subst (λ (l : List ℕ). Near l q.rest) (sym left) near) j, left, shape);
     }
 
 -- ---- an expression without a key begins with no key
@@ -237,7 +236,7 @@ keyed_back Is p m q k y (key_sign n i t) b =
 -- an expression by the rule of expressions
 expr_is_back : (p q : Place) (x : Expr) → IsExpr p q x → Back IsExpr bare_expr p q x (printed_expr x)
 expr_is_back p q x i =
-    again_as (At IsExpr (begins_condition p)) IsExpr bare_expr p q x (printed_expr x) (λ r s y j. j.1) (expr_back p q x i)
+    again_as (At IsExpr (begins_condition p)) IsExpr bare_expr p q x (printed_expr x) (λ r s y near j. j.1) (expr_back p q x i)
 
 -- ---- options and arguments
 
@@ -278,36 +277,25 @@ option_back earlier p q x (valued m k i h t (y, v, z)) =
     let a : Argument = argument_at (Some k) m y in
     subst (λ (a : Argument). ArgumentBack (IsOption earlier) p q a) (sym z)
     (again_as (IsKeyed IsExpr k.text) (IsOption earlier) bare_argument p q a (printed_argument a)
-    (λ r s w (m2, k2, y2, i2, same, v2, z2). valued m2 k2 i2 (ap (may_have earlier) same ∙ h) (ap (λ (u : List ℕ). has_text (key_form u)) same ∙ t) (y2, v2, z2))
+    (λ r s w near (m2, k2, y2, i2, same, v2, z2). valued m2 k2 i2 (ap (may_have earlier) same ∙ h) (ap (λ (u : List ℕ). has_text (key_form u)) same ∙ t) (y2, v2, z2))
     (keyed_back IsExpr p m q k y i (expr_is_back m q y v)))
 option_back earlier p q x (number m k s meant i h f j o d z) =
     let a : Argument = argument_at (Some k) m (e.Literal s) in
     subst (λ (a : Argument). ArgumentBack (IsOption earlier) p q a) (sym z)
     (again_as (IsKeyed IsNumber k.text) (IsOption earlier) bare_argument p q a (printed_argument a)
-    (λ r u w (m2, k2, y2, i2, same, (s2, meant2, j2, o2, d2, v2), z2). number m2 k2 s2 meant2 i2 (ap (may_have earlier) same ∙ h)
-        (ap key_form same ∙ f) j2 o2 d2 (z2 ∙ ap (λ (v : Expr). argument_at (Some k2) m2 v) v2))
+    (λ r s w near (m2, k2, y2, i2, same, (s2, meant2, j2, o2, d2, v2), z2). number m2 k2 s2 meant2 i2 (ap (may_have earlier) same ∙ h)
+    (ap key_form same ∙ f) j2 o2 d2 (z2 ∙ ap (λ (v : Expr). argument_at (Some k2) m2 v) v2))
     (keyed_back IsNumber p m q k (e.Literal s) i (number_back m q s meant j o d)))
 
 -- an unknown attribute's argument without a key
 any_back : (earlier : List Argument) (p q : Place) (y : Expr) → parts q.rest ≡ true → IsExpr p q y
     → ArgumentBack (IsArgument Open earlier) p q (argument_at None p y)
 any_back earlier p q y c v =
-    let b : ArgumentBack (IsUnkeyed IsExpr) p q (argument_at None p y) = unkeyed_back IsExpr p q y (expr_is_back p q y v) in
+    let a : Argument = argument_at None p y in
     let unsigned : begins (codes "=") q ≡ false = begins_one 61 q.rest ∙ parts_test (λ d. d == 61) q.rest refl refl c in
-    record {
-      letters = b.letters;
-      head = b.head;
-      tail = b.tail;
-      encoded = b.encoded;
-      begins = b.begins;
-      seen = b.seen;
-      dark_head = b.dark_head;
-      again = λ r rest h apart near.
-          let (s, w, (y2, j, z), left, shape) = b.again r rest h apart near in
-          let follows : Near s.rest q.rest = subst (λ (l : List ℕ). Near l q.rest) (sym left) near in
-          let keyless : is_keyed r ≡ false = unkeyed_level (IsInner 256) r s y2 j (begins_near 61 s q refl refl refl refl follows ∙ unsigned) in
-          (s, w, any refl keyless (y2, j, z), left, shape);
-    }
+    again_as (IsUnkeyed IsExpr) (IsArgument Open earlier) bare_argument p q a (printed_argument a)
+    (λ r s w near (y2, j, z). any refl (unkeyed_level (IsInner 256) r s y2 j (begins_near 61 s q refl refl refl refl near ∙ unsigned)) (y2, j, z))
+    (unkeyed_back IsExpr p q y (expr_is_back p q y v))
 
 -- an argument of any form is printed and read as one of its shape
 pub argument_back : (form : Form) (earlier : List Argument) (p q : Place) (x : Argument) → parts q.rest ≡ true → IsArgument form earlier p q x
@@ -315,16 +303,16 @@ pub argument_back : (form : Form) (earlier : List Argument) (p q : Place) (x : A
 argument_back form earlier p q x c (text t (y, v, z)) =
     let a : Argument = argument_at None p y in
     subst (λ (a : Argument). ArgumentBack (IsArgument form earlier) p q a) (sym z)
-    (again_as (IsUnkeyed IsExpr) (IsArgument form earlier) bare_argument p q a (printed_argument a) (λ r s w j. text t j)
+    (again_as (IsUnkeyed IsExpr) (IsArgument form earlier) bare_argument p q a (printed_argument a) (λ r s w near j. text t j)
     (unkeyed_back IsExpr p q y (expr_is_back p q y v)))
 argument_back form earlier p q x c (option f n i) =
-    again_as (IsOption (behind_first earlier)) (IsArgument form earlier) bare_argument p q x (printed_argument x) (λ r s w j. option f n j)
+    again_as (IsOption (behind_first earlier)) (IsArgument form earlier) bare_argument p q x (printed_argument x) (λ r s w near j. option f n j)
     (option_back (behind_first earlier) p q x i)
 argument_back form earlier p q x c (cached m k f i h (y, v, z)) =
     let a : Argument = argument_at (Some k) m y in
     subst (λ (a : Argument). ArgumentBack (IsArgument form earlier) p q a) (sym z)
     (again_as (IsKeyed IsExpr k.text) (IsArgument form earlier) bare_argument p q a (printed_argument a)
-    (λ r s w (m2, k2, y2, i2, same, v2, z2). cached m2 k2 f i2 (ap (may_cache earlier) same ∙ h) (y2, v2, z2))
+    (λ r s w near (m2, k2, y2, i2, same, v2, z2). cached m2 k2 f i2 (ap (may_cache earlier) same ∙ h) (y2, v2, z2))
     (keyed_back IsExpr p m q k y i (expr_is_back m q y v)))
 argument_back form earlier p q x c (any f n (y, v, z)) =
     subst (λ (a : Argument). ArgumentBack (IsArgument form earlier) p q a) (sym z)
@@ -333,5 +321,5 @@ argument_back form earlier p q x c (any_key m k f i (y, v, z)) =
     let a : Argument = argument_at (Some k) m y in
     subst (λ (a : Argument). ArgumentBack (IsArgument form earlier) p q a) (sym z)
     (again_as (IsKeyed IsExpr k.text) (IsArgument form earlier) bare_argument p q a (printed_argument a)
-    (λ r s w (m2, k2, y2, i2, same, v2, z2). any_key m2 k2 f i2 (y2, v2, z2))
+    (λ r s w near (m2, k2, y2, i2, same, v2, z2). any_key m2 k2 f i2 (y2, v2, z2))
     (keyed_back IsExpr p m q k y i (expr_is_back m q y v)))

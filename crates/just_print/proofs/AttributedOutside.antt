@@ -1,6 +1,6 @@
 -- Modules behind attributes that are printed are read again as entries.
 use lib.Utf8.{scalars}
-use Rattle.std.proofs.Common.{◌≡◌, ℕ, ◌==◌, Bool, true, false, not, ◌&&◌, ◌||◌, List, [], ◌∷◌, ◌++◌, Option, ◌⊎◌, inl, inr, codes, chars, encode_utf8_all, IsUtf8, refl, sym, ap, ◌∙◌, subst, append_assoc}
+use Rattle.std.proofs.Common.{◌≡◌, ℕ, ◌==◌, Bool, true, false, not, ◌&&◌, List, [], ◌∷◌, ◌++◌, ◌⊎◌, inl, inr, codes, chars, encode_utf8_all, IsUtf8, refl, sym, ap, ◌∙◌, subst, append_assoc}
 use Rattle.std.proofs.lemmas.Bool.{false≢true}
 use Rattle.std.proofs.lemmas.List.{append_cancel_left}
 use Rattle.just_read.specs.Place.{Place, next, first_in, passes, starts, sees, begins, begins_in, behind_text}

@@ -1,6 +1,6 @@
 -- What is printed of attributes is read again, each on a line of its own.
-use Rattle.std.proofs.Common.{◌≡◌, ℕ, ◌==◌, Bool, true, false, List, [], ◌∷◌, ◌++◌, map, Option, Some, None, ◌⊎◌, inl, inr, codes, encode_utf8_all, refl, sym, ap, ◌∙◌, subst, append_assoc, append-nil}
-use Rattle.just_read.specs.Place.{Place, AreMany, next, run, first_in, passes, begins, begins_in}
+use Rattle.std.proofs.Common.{◌≡◌, ℕ, true, false, List, [], ◌∷◌, ◌++◌, map, Option, None, ◌⊎◌, inl, inr, codes, encode_utf8_all, refl, sym, ap, ◌∙◌, subst, append_assoc, append-nil}
+use Rattle.just_read.specs.Place.{Place, AreMany, next, run, first_in, passes, begins_in}
 use Rattle.just_syntax.specs.declared.ast.Name.{Name}
 use Rattle.just_syntax.specs.declared.ast.StringLiteral.{StringLiteral}
 use Rattle.just_syntax.specs.declared.ast.Expr.{Expr}
@@ -9,7 +9,7 @@ use Rattle.just_syntax.specs.declared.ast.Argument.{Argument}
 use Rattle.just_syntax.specs.declared.ast.Attribute.{Attribute}
 use Rattle.just_syntax.specs.declared.form.Form.{Form}
 use Rattle.just_read.specs.Characters.{is_blank, in_name}
-use Rattle.just_read.specs.Lines.{skip, behind_word, IsToken}
+use Rattle.just_read.specs.Lines.{skip, behind_word}
 use Rattle.just_syntax.specs.Places.{name_at, IsName, IsRest}
 use Rattle.just_syntax.specs.Places.IsRest.{ended}
 use Rattle.just_syntax.specs.Strings.{IsString}
