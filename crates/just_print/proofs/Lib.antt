@@ -27,7 +27,12 @@ pub mod OutsideBack
 pub mod SettingsOutside
 pub mod ImportsOutside
 pub mod ModulesOutside
+pub mod KeysBack
+pub mod ArgumentsBack
+pub mod ArgumentListsBack
+pub mod AttributesBack
 pub mod FileBack
+pub mod AttributedOutside
 pub mod Braces
 pub mod Items
 pub mod ListLaws
