@@ -27,6 +27,8 @@ pub mod OutsideBack
 pub mod SettingsOutside
 pub mod ImportsOutside
 pub mod ModulesOutside
+pub mod RecipesOpen
+pub mod RecipesOutside
 pub mod FileBack
 pub mod Braces
 pub mod Items
