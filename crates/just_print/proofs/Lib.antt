@@ -29,7 +29,9 @@ pub mod ImportsOutside
 pub mod ModulesOutside
 pub mod RecipesOpen
 pub mod RecipesOutside
+pub mod ModulesBehind
 pub mod FileBack
+pub mod TreesBack
 pub mod Braces
 pub mod Items
 pub mod ListLaws
