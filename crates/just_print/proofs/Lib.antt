@@ -24,14 +24,12 @@ pub mod FragmentsBack
 pub mod BodiesBack
 pub mod EntriesBack
 pub mod OutsideBack
+pub mod RecipesOpen
+pub mod RecipesOutside
 pub mod SettingsOutside
 pub mod ImportsOutside
 pub mod ModulesOutside
-pub mod RecipesOpen
-pub mod RecipesOutside
-pub mod ModulesBehind
 pub mod FileBack
-pub mod TreesBack
 pub mod Braces
 pub mod Items
 pub mod ListLaws
