@@ -24,6 +24,8 @@ pub mod FragmentsBack
 pub mod BodiesBack
 pub mod EntriesBack
 pub mod OutsideBack
+pub mod RecipesOpen
+pub mod RecipesOutside
 pub mod SettingsOutside
 pub mod ImportsOutside
 pub mod ModulesOutside
