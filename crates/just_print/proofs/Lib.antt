@@ -35,6 +35,8 @@ pub mod ArgumentListsBack
 pub mod AttributesBack
 pub mod FileBack
 pub mod AttributedOutside
+pub mod TreesBack
+pub mod LeftOut
 pub mod Braces
 pub mod Items
 pub mod ListLaws
