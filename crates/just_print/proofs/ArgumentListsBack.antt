@@ -20,10 +20,12 @@ use Rattle.just_print.proofs.ArgumentsBack.{argument_back}
 
 -- ---- what stands behind an argument
 
+-- a text of which the first character ends an argument
 parts_first : (list : List ℕ) (c : ℕ) → first_in list ≡ Some c → parts (c ∷ []) ≡ true → parts list ≡ true
 parts_first [] c h k = absurd (let no : ⊥ = cc (h) in no)
 parts_first (d ∷ list) c h k = let e : d ≡ c = cc (h) in ap (λ (x : ℕ). parts (x ∷ [])) e ∙ k
 
+-- a comma ends an argument
 comma_parts : (p : Place) → begins (codes ",") p ≡ true → parts p.rest ≡ true
 comma_parts p h = parts_first p.rest 44 (begins_first 44 [] p h) refl
 
@@ -37,6 +39,7 @@ further_parts : (form : Form) (earlier : List Argument) (p q : Place) (xs : List
 further_parts form earlier p q [] (g, e) c = ap (λ (r : Place). parts r.rest) (sym e) ∙ c
 further_parts form earlier p q (x ∷ xs) (m, n, g, t, i, are) c = comma_parts p t.0
 
+-- arguments of the same shape with one more of the same shape
 added : (others earlier : List Argument) (y x : Argument) → map bare_argument others ≡ map bare_argument earlier → bare_argument y ≡ bare_argument x
     → map bare_argument (others ++ y ∷ []) ≡ map bare_argument (earlier ++ x ∷ [])
 added others earlier y x h k =
@@ -60,6 +63,7 @@ record FurtherBack (form : Form) (earlier xs : List Argument) : Type 0 where
 closing_alike : (p q : Place) → first p ≡ first q → begins (codes ")") p ≡ begins (codes ")") q
 closing_alike p q h = begins_alike 41 p q refl refl (one_first h)
 
+-- what is not so is false
 not_true : (b : Bool) → not b ≡ true → b ≡ false
 not_true true h = absurd (false≢true h)
 not_true false h = refl
@@ -123,6 +127,7 @@ pub record ArgumentsBack (form : Form) (xs : List Argument) : Type 0 where
   pub again : (s : Place) (rest : List ℕ) → s.rest ≡ letters ++ rest
       → (t : Place) × (ys : List Argument) × AreArguments form s t ys × (t.rest ≡ beyond is_blank rest) × (map bare_argument ys ≡ map bare_argument xs)
 
+-- one argument or more
 some_back : (form : Form) (m n o : Place) (x : Argument) (xs : List Argument) → IsArgument form [] m n x → AreFurther form (x ∷ []) n o xs → parts o.rest ≡ true
     → ArgumentsBack form (x ∷ xs)
 some_back form m n o x xs i are c =

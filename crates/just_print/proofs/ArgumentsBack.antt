@@ -60,16 +60,20 @@ again_as Is Js bare p q x printed implies b =
 
 -- ---- an expression without a key begins with no key
 
+-- where no name begins no key stands
 no_name : (p : Place) → starts begins_name p ≡ false → is_keyed p ≡ false
 no_name p h = ap (λ (b : Bool). b && begins (codes "=") (behind_word p)) h
 
+-- nothing holds together with what doesn't
 and_none : (b : Bool) → (b && false) ≡ false
 and_none true = refl
 and_none false = refl
 
+-- where no sign stands behind the word no key stands
 no_sign : (p : Place) → begins (codes "=") (behind_word p) ≡ false → is_keyed p ≡ false
 no_sign p h = ap (λ (b : Bool). starts begins_name p && b) h ∙ and_none (starts begins_name p)
 
+-- where a sign comes first no expression begins
 sign_by : (b : Bool) (p : Place) → begins (codes "=") p ≡ b → begins_expr p ≡ true → b ≡ false
 sign_by false p h g = refl
 sign_by true p h g =
@@ -82,18 +86,21 @@ sign_by true p h g =
 expr_no_sign : (p : Place) → begins_expr p ≡ true → begins (codes "=") p ≡ false
 expr_no_sign p g = sign_by (begins (codes "=") p) p refl g
 
+-- behind an `x` before a quote no sign stands
 quoted_word : (quote : Quote) (rest : List ℕ) → begins_in (codes "=") (after (120 ∷ quote_character quote ∷ rest)) ≡ false
 quoted_word Single rest = refl
 quoted_word Double rest = refl
 quoted_word SingleBlock rest = refl
 quoted_word DoubleBlock rest = refl
 
+-- a quote begins no name
 quote_no_letter : (quote : Quote) → begins_name (quote_character quote) ≡ false
 quote_no_letter Single = refl
 quote_no_letter Double = refl
 quote_no_letter SingleBlock = refl
 quote_no_letter DoubleBlock = refl
 
+-- where a quote comes first, or behind an `x`, no key stands
 unkeyed_by : (b : Bool) (p : Place) (quote : Quote) → sees 120 p ≡ b → quote_at (if b then next p else p) ≡ Some quote → is_keyed p ≡ false
 unkeyed_by true p quote h o =
     let cell : p.rest ≡ 120 ∷ quote_character quote ∷ (next (next p)).rest =
@@ -101,9 +108,11 @@ unkeyed_by true p quote h o =
     no_sign p (ap (begins_in (codes "=")) (behind_in p ∙ ap after cell) ∙ quoted_word quote (next (next p)).rest)
 unkeyed_by false p quote h o = no_name p (starts_at begins_name p (quote_character quote) (quote_first p quote o) ∙ quote_no_letter quote)
 
+-- where a string stands no key does
 unkeyed_string : (p q : Place) (x : StringLiteral) → IsString p q x → is_keyed p ≡ false
 unkeyed_string p q x (string m quote written o r u z) = unkeyed_by (sees 120 p) p quote refl o
 
+-- what is not so is false
 not_true : (b : Bool) → not b ≡ true → b ≡ false
 not_true true h = absurd (false≢true h)
 not_true false h = refl
@@ -120,6 +129,7 @@ behind_env p m w =
     behind_in p ∙ (name ∙ sym (token_left (codes "env") rest p m made (a, w.1)))
 
 module _ (Inner : Rule Expr) where
+  -- where a value stands that has no sign behind it, no key stands
   unkeyed_value : (p q : Place) (x : Expr) → IsValue Inner p q x → begins (codes "=") q ≡ false → is_keyed p ≡ false
   unkeyed_value p q x (literal s i z) h = unkeyed_string p q s i
   unkeyed_value p q x (group m n y t i u z) h = no_name p (starts_at begins_name p 40 (token_first 40 [] p m t))
@@ -138,10 +148,12 @@ module _ (Inner : Rule Expr) where
 
 -- ---- the text that a string means
 
+-- what a string means it means without its place
 to_bare : (x : StringLiteral) (meant : List ℕ) → IsTextOf x meant → IsTextOf (bare_string x) meant
 to_bare x meant (raw c z) = raw c z
 to_bare x meant (cooked gives c i z) = cooked gives c i z
 
+-- and with it
 of_bare : (x : StringLiteral) (meant : List ℕ) → IsTextOf (bare_string x) meant → IsTextOf x meant
 of_bare x meant (raw c z) = raw c z
 of_bare x meant (cooked gives c i z) = cooked gives c i z
@@ -154,6 +166,7 @@ same_text y x meant h i = of_bare y meant (subst (λ (s : StringLiteral). IsText
 abbrev IsNumber : Rule Expr
 IsNumber p q x = (s : StringLiteral) × (meant : List ℕ) × IsString p q s × IsTextOf s meant × (is_decimal meant ≡ true) × (x ≡ e.Literal s)
 
+-- a string that means a number is printed and read as one
 number_back : (p q : Place) (s : StringLiteral) (meant : List ℕ) → IsString p q s → IsTextOf s meant → is_decimal meant ≡ true
     → Back IsNumber bare_expr p q (e.Literal s) (printed_expr (e.Literal s))
 number_back p q s meant i means d =
@@ -190,6 +203,7 @@ IsUnkeyed Is p q x = (y : Expr) × Is p q y × (x ≡ argument_at None p y)
 abbrev IsKeyed : Rule Expr → List ℕ → Rule Argument
 IsKeyed Is key p q x = (m : Place) × (k : Name) × (y : Expr) × IsKey p m k × (k.text ≡ key) × Is m q y × (x ≡ argument_at (Some k) m y)
 
+-- an argument without a key is printed and read as its expression is
 unkeyed_back : (Is : Rule Expr) (p q : Place) (y : Expr) → Back Is bare_expr p q y (printed_expr y)
     → Back (IsUnkeyed Is) bare_argument p q (argument_at None p y) (printed_argument (argument_at None p y))
 unkeyed_back Is p q y b =
@@ -205,6 +219,7 @@ unkeyed_back Is p q y b =
           let (s, v, j, left, shape) = b.again r rest h apart near in (s, argument_at None r v, (v, j, refl), left, ap (λ (a : Expr). placed None a) shape);
     }
 
+-- an argument with a key is printed and read with that key, as its expression is
 keyed_back : (Is : Rule Expr) (p m q : Place) (k : Name) (y : Expr) → IsKey p m k → Back Is bare_expr m q y (printed_expr y)
     → Back (IsKeyed Is k.text) bare_argument p q (argument_at (Some k) m y) (printed_argument (argument_at (Some k) m y))
 keyed_back Is p m q k y (key_sign n i t) b =
@@ -244,6 +259,7 @@ expr_is_back p q x i =
 abbrev ArgumentBack : Rule Argument → Place → Place → Argument → Type 0
 ArgumentBack Is p q x = Back Is bare_argument p q x (printed_argument x)
 
+-- a key alone is printed and read as it is
 alone_back : (earlier : List Argument) (p q : Place) (k : Name) → IsName p q k → may_have earlier k.text ≡ true → may_stand_alone (key_form k.text) ≡ true
     → begins (codes "=") q ≡ false → ArgumentBack (IsOption earlier) p q (argument_at None p (e.Variable k))
 alone_back earlier p q k n m s b =

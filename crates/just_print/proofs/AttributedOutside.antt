@@ -34,6 +34,7 @@ use Rattle.just_print.proofs.FileBack.{reads_back}
 
 -- ---- what begins where
 
+-- where a sign comes first no file or end of a module's line does
 sign_by : (b : Bool) (q : Place) → begins (codes ":=") q ≡ b → is_module q ≡ true → b ≡ false
 sign_by false q h k = refl
 sign_by true q h k =
@@ -84,6 +85,7 @@ module_opens a s attributes y more same word h (m, n, o, r, optional, name, path
 
 -- ---- no attributes
 
+-- a line has an attribute
 line_some : (p q : Place) (line more : List Attribute) → IsAttributeLine p q line → line ++ more ≡ [] → ⊥
 line_some p q line more (in_brackets m n o r s x [] comment t i are u w k z) h =
     let e : _ ∷ more ≡ [] = ap (λ (l : List Attribute). l ++ more) (sym z) ∙ h in let no : ⊥ = cc (e) in no
@@ -99,11 +101,13 @@ no_attributes p q xs (line_by_line (line ∷ lines) (m, i, are) n z) h = absurd 
 
 module _ (new : List ℕ) (p m q : Place) (attributes : List Attribute) (y : AstItem) (o : opening_at p ≡ opening.Recipe) (are : AreAttributes p m attributes)
     (k : opens_module m ≡ true) (i : IsModule attributes m q y) where
+  -- there are attributes, else it were a module alone
   never_alone : attributes ≡ [] → ⊥
   never_alone h =
       let opened : opening_at p ≡ opening.Module = opens_alone p (subst (λ (r : Place). opens_module r ≡ true) (no_attributes p m attributes are h) k) in
       let no : ⊥ = cc (sym opened ∙ o) in no
 
+  -- a module behind what is printed of its attributes
   attributed_by : (b : AttributesBack attributes) → ModuleBack attributes y → (((attributes ≡ []) × (b.letters ≡ [])) ⊎ ((tail : List ℕ) × (b.letters ≡ 91 ∷ tail)))
       → IsModule attributes m q y → OutsideBack new (entry.Item y)
   attributed_by b M (inl (n, z)) j = absurd (never_alone n)

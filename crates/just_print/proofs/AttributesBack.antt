@@ -45,6 +45,7 @@ record AttributeBack (x : Attribute) : Type 0 where
   again : (r : Place) (rest : List ℕ) → r.rest ≡ letters ++ (codes "]" ++ rest)
       → (s : Place) × (y : Attribute) × IsAttribute r s y × (s.rest ≡ codes "]" ++ rest) × (bare_attribute y ≡ bare_attribute x)
 
+-- an attribute that is a name alone
 alone_back : (p q : Place) (n : Name) → IsName p q n → may_be_bare (form_of n.text) ≡ true → AttributeBack (attribute_of n false [])
 alone_back p q n i may =
     let word : List ℕ = run in_name p.rest in
@@ -69,6 +70,7 @@ alone_back p q n i may =
           );
     }
 
+-- an attribute with a string behind a colon
 colon_back : (p m o q : Place) (n : Name) (s : StringLiteral) → IsName p m n → has_colon (form_of n.text) ≡ true → IsString o q s
     → AttributeBack (attribute_of n true (argument_at None o (e.Literal s) ∷ []))
 colon_back p m o q n s i has j =
@@ -102,6 +104,7 @@ colon_back p m o q n s i has j =
           );
     }
 
+-- an attribute with arguments in parentheses
 grouped_back : (p m q : Place) (n : Name) (xs : List Argument) → IsName p m n → AreArguments (form_of n.text) m q xs → AttributeBack (attribute_of n false xs)
 grouped_back p m q n xs i are =
     let word : List ℕ = run in_name p.rest in
@@ -137,6 +140,7 @@ attribute_back p q x (grouped m n xs i are z) = subst AttributeBack (sym z) (gro
 
 -- ---- the end of a line of attributes
 
+-- the end of a line, with this comment, is printed and read as it is
 record LineEnd (comment : Option (List ℕ)) : Type 0 where
   letters : List ℕ
   encoded : printed_end comment ≡ encode_utf8_all letters
@@ -168,14 +172,17 @@ pub record AttributesBack (xs : List Attribute) : Type 0 where
   pub again : (r : Place) (rest : List ℕ) → r.rest ≡ letters ++ rest → passes is_blank (first_in rest) ≡ false
       → (s : Place) × (lines : List (List Attribute)) × AreMany IsAttributeLine r s lines × (s.rest ≡ rest) × (map bare_attribute (concat lines) ≡ map bare_attribute xs)
 
+-- what is printed of attributes begins with no blank where what follows doesn't
 front_dark : (xs : List Attribute) (letters rest : List ℕ) → (((xs ≡ []) × (letters ≡ [])) ⊎ ((tail : List ℕ) × (letters ≡ 91 ∷ tail)))
     → passes is_blank (first_in rest) ≡ false → passes is_blank (first_in (letters ++ rest)) ≡ false
 front_dark xs letters rest (inl (n, z)) h = ap (λ (l : List ℕ). passes is_blank (first_in (l ++ rest))) z ∙ h
 front_dark xs letters rest (inr (tail, z)) h = ap (λ (l : List ℕ). passes is_blank (first_in (l ++ rest))) z
 
+-- no attributes
 nothing_back : AttributesBack []
 nothing_back = record { letters = []; encoded = refl; front = inl (refl, refl); again = λ r rest h d. (r, [], refl, h, refl) }
 
+-- an attribute with this comment
 abbrev commented : Option (List ℕ) → Attribute → Attribute
 commented comment x = record x { comment = comment }
 
@@ -224,11 +231,13 @@ listed_back n o x (y ∷ ys) more comment A (k, (m, t, i), are) E f =
     subst (λ (a : Attribute). AttributesBack (a ∷ others)) A.no_comment
     (one_more None x others A bare_end (listed_back k o y ys more comment (attribute_back m k y i) are E f))
 
+-- the attributes of a line, before others
 line_back : (p q : Place) (line more : List Attribute) → IsAttributeLine p q line → AttributesBack more → AttributesBack (line ++ more)
 line_back p q line more (in_brackets m n o r s x xs comment t i are u w k z) f =
     subst (λ (l : List Attribute). AttributesBack (l ++ more)) (sym z)
     (listed_back n o x xs more comment (attribute_back m n x i) are (rest_end r s comment w) f)
 
+-- the attributes of lines
 lines_back : (p q : Place) (lines : List (List Attribute)) → AreMany IsAttributeLine p q lines → AttributesBack (concat lines)
 lines_back p q [] k = nothing_back
 lines_back p q (line ∷ lines) (m, i, are) = line_back p m line (concat lines) i (lines_back m q lines are)

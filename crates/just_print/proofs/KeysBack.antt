@@ -59,37 +59,46 @@ named_bare key x = ap (λ (v : Expr). is_named key (bare_expr v)) (sym (roll-out
 
 -- ---- keys
 
+-- whether a key is that one doesn't depend on places
 key_bare : (key : List ℕ) (k : Option Name) (x : Expr) → is_key_or key (option_map bare_name k) (bare_expr x) ≡ is_key_or key k x
 key_bare key None x = named_bare key x
 key_bare key (Some n) x = refl
 
+-- nor whether one among arguments is
 keys_bare : (xs : List Argument) (key : List ℕ) → has_key (map bare_argument xs) key ≡ has_key xs key
 keys_bare [] key = refl
 keys_bare (x ∷ xs) key =
     ap (λ (b : Bool). b || has_key (map bare_argument xs) key) (key_bare key x.key x.value) ∙ ap (λ (b : Bool). is_key_or key x.key x.value || b) (keys_bare xs key)
 
+-- nor whether there are arguments
 first_bare : (xs : List Argument) → is_first (map bare_argument xs) ≡ is_first xs
 first_bare [] = refl
 first_bare (x ∷ xs) = refl
 
+-- the arguments behind the first, without places
 behind_bare : (xs : List Argument) → behind_first (map bare_argument xs) ≡ map bare_argument (behind_first xs)
 behind_bare [] = refl
 behind_bare (x ∷ xs) = refl
 
 -- arguments of the same shape
 module _ (others earlier : List Argument) (same : map bare_argument others ≡ map bare_argument earlier) where
+  -- they have the same keys
   same_keys : (key : List ℕ) → has_key others key ≡ has_key earlier key
   same_keys key = sym (keys_bare others key) ∙ (ap (λ (xs : List Argument). has_key xs key) same ∙ keys_bare earlier key)
 
+  -- both are none, or neither is
   same_first : is_first others ≡ is_first earlier
   same_first = sym (first_bare others) ∙ (ap is_first same ∙ first_bare earlier)
 
+  -- `arg` may have the same keys behind them
   same_may_have : (key : List ℕ) → may_have others key ≡ may_have earlier key
   same_may_have key = ap (λ (b : Bool). bytes_eq key (codes "pattern") || not b) (same_keys key)
 
+  -- and so may `cache`
   same_may_cache : (key : List ℕ) → may_cache others key ≡ may_cache earlier key
   same_may_cache key = ap (λ (b : Bool). is_cache_key key && not (bytes_eq key (codes "extra") && b)) (same_keys key)
 
+  -- an expression without a key may stand behind both or behind neither
   same_takes_text : (form : Form) → takes_text form others ≡ takes_text form earlier
   same_takes_text Bare = refl
   same_takes_text MaybeText = same_first
