@@ -12,7 +12,7 @@ use Rattle.just_print.specs.Printed.{printed_expr, printed_second}
 use Rattle.just_print.specs.Shapes.{bare_expr}
 use Rattle.just_print.proofs.Exprs.{printed_env}
 use Rattle.just_print.proofs.BareExprs.{bare_env}
-use Rattle.just_print.proofs.Places.{beyond, beyond_dark, and_true, Alike, one_first, IsApart, token_back}
+use Rattle.just_print.proofs.Places.{beyond, beyond_dark, and_true, Near, one_first, IsApart, token_back}
 use Rattle.just_print.proofs.NamesBack.{Back}
 use Rattle.just_print.proofs.WordsBack.{joined_text, plain_text, begins_first, token_first, begins_other, no_if, word_back}
 use Rattle.just_print.proofs.ValuesBack.{At, IsFirst, literal_back, variable_back, group_back}
@@ -26,7 +26,7 @@ pub record SecondBack (Inner : Rule Expr) (o : Place) (d : Option Expr) : Type 0
   pub letters : List ℕ
   pub encoded : printed_second (option_map printed_expr d) ≡ encode_utf8_all letters
   pub apart : (rest : List ℕ) → IsApart (letters ++ (codes ")" ++ rest))
-  pub alike : (rest : List ℕ) → Alike (beyond is_blank (letters ++ (codes ")" ++ rest))) o.rest
+  pub alike : (rest : List ℕ) → Near (beyond is_blank (letters ++ (codes ")" ++ rest))) o.rest
   pub dark : (rest : List ℕ) → beyond is_blank (letters ++ (codes ")" ++ rest)) ≡ letters ++ (codes ")" ++ rest)
   pub again : (r : Place) (rest : List ℕ) → r.rest ≡ letters ++ (codes ")" ++ rest)
       → (s : Place) × (y : Option Expr) × IsDefault Inner r s y × (s.rest ≡ codes ")" ++ rest) × (option_map bare_expr y ≡ option_map bare_expr d)

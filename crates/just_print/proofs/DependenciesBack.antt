@@ -22,7 +22,7 @@ use Rattle.just_syntax.specs.Recipes.IsDependency.{bare, grouped}
 use Rattle.just_syntax.specs.Recipes.AreDependencies.{dependencies}
 use Rattle.just_print.specs.Printed.{printed_expr, printed_path, printed_values, printed_dependency, printed_dependencies}
 use Rattle.just_print.specs.Shapes.{bare_name, bare_expr, bare_dependency}
-use Rattle.just_print.proofs.Places.{beyond, beyond_dark, not_that, Alike, one_first, alike_test, IsApart, token_back}
+use Rattle.just_print.proofs.Places.{beyond, beyond_dark, not_that, Alike, widen, one_first, alike_test, IsApart, token_back}
 use Rattle.just_print.proofs.NamesBack.{Back}
 use Rattle.just_print.proofs.StringsBack.{quote_character, quote_first}
 use Rattle.just_print.proofs.WordsBack.{joined_text, plain_text, token_first, other_in, begins_alike}
@@ -112,7 +112,7 @@ values_back n o q (x ∷ xs) (k, (c, i), are) u =
       again = λ s rest h.
           let start : s.rest ≡ b.letters ++ (O.letters ++ (codes ")" ++ rest)) = h ∙ starts_so rest in
           let F : Follows (O.letters ++ (codes ")" ++ rest)) k = O.follows rest in
-          let (v, y, j, l1, shape) = b.again s (O.letters ++ (codes ")" ++ rest)) start F.apart F.alike in
+          let (v, y, j, l1, shape) = b.again s (O.letters ++ (codes ")" ++ rest)) start F.apart (widen (beyond is_blank (O.letters ++ (codes ")" ++ rest))) k.rest F.alike) in
           let (t, ys, many, l2, shapes) = O.again v rest l1 in
           let closes_not : begins (codes ")") s ≡ false = begins_alike 41 s n refl refl (one_first (ap first_in start ∙ (heads rest ∙ sym b.seen))) ∙ c in
           (t, y ∷ ys, (v, (closes_not, j.1), many), l2, ap (λ (a : Expr). a ∷ map bare_expr ys) shape ∙ ap (λ (l : List Expr). bare_expr x ∷ l) shapes);

@@ -16,15 +16,15 @@ use Rattle.just_print.specs.Printed.{printed_comparison, otherwise, printed_expr
 use Rattle.just_print.specs.Shapes.{bare_expr}
 use Rattle.just_print.proofs.Exprs.{printed_if, printed_root, printed_join, printed_concat}
 use Rattle.just_print.proofs.BareExprs.{bare_if, bare_root, bare_join, bare_concat}
-use Rattle.just_print.proofs.Places.{beyond, beyond_dark, and_true, Alike, one_first, IsApart, token_back}
+use Rattle.just_print.proofs.Places.{beyond, beyond_dark, and_true, Likeness, Near, one_first, IsApart, token_back}
 use Rattle.just_print.proofs.NamesBack.{Back}
-use Rattle.just_print.proofs.WordsBack.{joined_text, plain_text, token_first, no_if, begins_alike, expr_alike, word_back, behind_if}
+use Rattle.just_print.proofs.WordsBack.{joined_text, plain_text, token_first, no_if, begins_near, expr_alike, word_back, behind_if}
 use Rattle.just_print.proofs.ValuesBack.{At, IsFirst}
 use Rattle.just_print.proofs.CallsBack.{word_first, value_back}
 
 -- what is printed of a value begins as the value does
-pub alike_front : {A : Type 0} (Is : Rule A) (bare : A → A) (p q : Place) (x : A) (text : List ℕ) (b : Back Is bare p q x text) (more : List ℕ)
-    → Alike (beyond is_blank (b.letters ++ more)) p.rest
+pub alike_front : {A : Type 0} {parted : Bool} (Is : Rule A) (bare : A → A) (p q : Place) (x : A) (text : List ℕ) (b : Back Is bare p q x text) (more : List ℕ)
+    → Likeness parted (beyond is_blank (b.letters ++ more)) p.rest
 alike_front Is bare p q x text b more =
     one_first (ap first_in (beyond_dark b.letters b.head b.tail more b.begins b.dark_head) ∙ (ap (λ (l : List ℕ). first_in (l ++ more)) b.begins ∙ sym b.seen))
 
@@ -34,7 +34,7 @@ alike_front Is bare p q x text b more =
 pub record Compares (n : Place) (c : Comparison) : Type 0 where
   pub encoded : printed_comparison c ≡ encode_utf8_all (printed_comparison c)
   pub apart : (more : List ℕ) → IsApart (printed_comparison c ++ more)
-  pub alike : (more : List ℕ) → Alike (beyond is_blank (printed_comparison c ++ more)) n.rest
+  pub alike : (more : List ℕ) → Near (beyond is_blank (printed_comparison c ++ more)) n.rest
   pub again : (s : Place) (more : List ℕ) → s.rest ≡ beyond is_blank (printed_comparison c ++ more) → (t : Place) × IsComparison s t c × (t.rest ≡ beyond is_blank more)
 
 equal_back : (n o : Place) → IsToken (codes "==") n o → Compares n Equal
@@ -161,8 +161,8 @@ module _ (Inner : Rule Expr) (back : (p q : Place) (x : Expr) → Inner p q x �
         dark_head = b.dark_head;
         again = λ r rest h apart alike.
             let (s, y, j, left, shape) = b.again r rest h apart alike in
-            let follows : Alike s.rest q.rest = subst (λ (l : List ℕ). Alike l q.rest) (sym left) alike in
-            (s, y, (j.0, value j.0 j.1 (begins_alike 47 s q refl refl follows ∙ n) (begins_alike 43 s q refl refl follows ∙ k)), left, shape);
+            let follows : Near s.rest q.rest = subst (λ (l : List ℕ). Near l q.rest) (sym left) alike in
+            (s, y, (j.0, value j.0 j.1 (begins_near 47 s q refl refl refl refl follows ∙ n) (begins_near 43 s q refl refl refl refl follows ∙ k)), left, shape);
       }
 
   joined_back : (p m n q : Place) (a b x : Expr) → begins_condition p ≡ false → IsValue Inner p m a → IsToken (codes "/") m n → Inner n q b → x ≡ e.Join a b

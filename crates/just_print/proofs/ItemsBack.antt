@@ -21,7 +21,7 @@ use Rattle.just_syntax.specs.Recipes.IsMaybe.{here, not_here}
 use Rattle.just_syntax.specs.Items.{IsAlias, IsImport, IsAssignment, IsUnexport}
 use Rattle.just_print.specs.Printed.{newline, only_if, printed_string, printed_path, printed_expr, printed_end, printed_word, printed_item}
 use Rattle.just_print.specs.Shapes.{bare_name, bare_string, bare_expr, bare_item}
-use Rattle.just_print.proofs.Places.{beyond, beyond_dark, token_back}
+use Rattle.just_print.proofs.Places.{beyond, beyond_dark, widen, token_back}
 use Rattle.just_print.proofs.NamesBack.{Back, name_stands}
 use Rattle.just_print.proofs.StringsBack.{quote_character, quote_first, string_back}
 use Rattle.just_print.proofs.PathsBack.{name_cell, PathBack, path_back}
@@ -116,7 +116,7 @@ assignment_back export p q x (m, n, o, name, value, comment, k, u, i, w, z) =
           h ∙ (append_assoc word (codes " := " ++ tail) rest ∙ ap (λ (l : List ℕ). word ++ (codes " := " ++ l)) (append_assoc V.letters E.letters rest)) in
           let (is, l2, shape) = name_stands p m name k r0 r1 spread refl in
           let (n2, u2, l3) = token_back (codes ":=") (codes " " ++ r2) (behind_word r0) l2 in
-          let (o2, y2, i2, l4, shape2) = V.again n2 (E.letters ++ rest) (l3 ∙ beyond_dark V.letters V.head V.tail (E.letters ++ rest) V.begins V.dark_head) (E.apart rest) (E.alike rest) in
+          let (o2, y2, i2, l4, shape2) = V.again n2 (E.letters ++ rest) (l3 ∙ beyond_dark V.letters V.head V.tail (E.letters ++ rest) V.begins V.dark_head) (E.apart rest) (widen (beyond is_blank (E.letters ++ rest)) o.rest (E.alike rest)) in
           let (q2, w2, l5) = E.again o2 rest l4 in (
             q2,
             item.Assignment export (name_at r0) y2 comment,
@@ -213,7 +213,7 @@ import_back p q x (m, n, o, optional, path, comment, t, a, i, w, z) =
           let (m2, t2, l1) = token_back (codes "import") (at ++ (codes " " ++ r1)) r0 spread in
           let (n2, a2, l2) = maybe_blank optional B.head m2 r1 l1 (ap (λ (l : List ℕ). first_in (l ++ (E.letters ++ rest))) B.begins)
           (ap (λ (e : ℕ). e == 63) (sym head) ∙ no_mark) B.dark_head in
-          let (o2, y2, i2, l3, shape) = B.again n2 (E.letters ++ rest) l2 (E.apart rest) (E.alike rest) in
+          let (o2, y2, i2, l3, shape) = B.again n2 (E.letters ++ rest) l2 (E.apart rest) (widen (beyond is_blank (E.letters ++ rest)) o.rest (E.alike rest)) in
           let (q2, w2, l4) = E.again o2 rest l3 in (
             q2,
             item.Import optional y2 comment,

@@ -1,23 +1,29 @@
 -- What the crate offers to the proofs of crates above: what is printed is read again in the same shape.
 use Rattle.std.proofs.Common.{◌≡◌, ℕ, true, List, [], ◌++◌, map, chars, encode_utf8_all, refl, sym, ap, ◌∙◌, append-nil}
-use Rattle.std.specs.Prelude.{IsUtf8}
+use Rattle.std.specs.Prelude.{IsUtf8, None}
+use lib.Utf8.{scalars}
 use Rattle.std.proofs.lemmas.Str.{chars_from_encodes}
 use Rattle.just_read.specs.Place.{Place, start, is_empty, is_end}
 use Rattle.just_syntax.specs.declared.ast.StringLiteral.{StringLiteral}
 use Rattle.just_syntax.specs.declared.ast.Expr.{Expr}
 use Rattle.just_syntax.specs.declared.ast.Attribute.{Attribute}
 use Rattle.just_syntax.specs.declared.ast.AstRecipe.{AstRecipe}
+use Rattle.just_syntax.specs.declared.ast.AstItem.{AstItem}
+use Rattle.just_syntax.specs.File.{IsFile, first_left_out}
 use Rattle.just_syntax.specs.Strings.{IsString}
 use Rattle.just_syntax.specs.Exprs.{begins_condition, IsExpr}
 use Rattle.just_syntax.specs.Recipes.{IsRecipeLine}
-use Rattle.just_print.specs.Printed.{printed_string, printed_expr, printed_recipe_line}
-use Rattle.just_print.specs.Shapes.{bare_string, bare_expr, bare_attribute, bare_recipe}
+use Rattle.just_print.specs.Printed.{printed_string, printed_expr, printed_recipe_line, printed}
+use Rattle.just_print.specs.Law.{IsIndentation, NoReturnAtEnd}
+use Rattle.just_print.specs.Shapes.{bare_string, bare_expr, bare_attribute, bare_recipe, SameShape}
 use Rattle.just_print.proofs.Places.{closes, both_close}
 use Rattle.just_print.proofs.NamesBack.{Back}
 use Rattle.just_print.proofs.StringsBack.{StringStands, string_stands}
 use Rattle.just_print.proofs.ValuesBack.{At}
 use Rattle.just_print.proofs.ExprsBack.{expr_back}
 use Rattle.just_print.proofs.RecipesBack.{RecipeLineBack, recipe_line_back}
+use Rattle.just_print.proofs.TreesBack.{printed_tree_reads_back}
+use Rattle.just_print.proofs.LeftOut.{left_out_of_shape}
 
 -- nothing is left where a place ends
 ends_at : (s : Place) → s.rest ≡ [] → is_end s ≡ true
@@ -52,3 +58,12 @@ recipe_line_reads_back attributes others p q x i same u =
     let (s, y, j, left, shape) =
     b.again others same (start (chars (printed_recipe_line x))) [] (letters_are (printed_recipe_line x) b.letters u b.encoded) in
     (s, y, j, ends_at s left, shape)
+
+-- what is printed of the tree of a text is a text whose tree has the same shape, apart from places, line numbers and how many blank
+-- lines stand together: for an indentation of one or more blanks, where no line of a body ends in a carriage return; and where the
+-- tree has no left-out name, that one has none
+pub tree_reads_back : (text : List ℕ) (items : List AstItem) (indentation : List ℕ) → IsFile text items → first_left_out items ≡ None → scalars text ≡ true
+    → IsIndentation indentation → NoReturnAtEnd items → IsUtf8 (printed items indentation)
+    → (ys : List AstItem) × IsFile (chars (printed items indentation)) ys × (first_left_out ys ≡ None) × SameShape items ys
+tree_reads_back text items indentation file none s i n u =
+    let (ys, whole, same) = printed_tree_reads_back text items indentation file s i n u in (ys, whole, left_out_of_shape items ys same none, same)

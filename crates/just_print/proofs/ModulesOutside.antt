@@ -65,19 +65,20 @@ module_opens a s y more same word h (m, n, o, r, optional, name, path, comment, 
     rw (hash, unsigned, no_alias, no_export, no_unexport, no_import, begun, stands) refl
 
 -- the tests of the word, with a `?` behind it or not
-word_tests : (optional : Bool) (more : List ℕ)
+pub word_tests : (optional : Bool) (more : List ℕ)
     → (after (codes "mod" ++ (only_if optional (codes "?") ++ (codes " " ++ more))) ≡ beyond is_blank (only_if optional (codes "?") ++ (codes " " ++ more)))
     × (word_in (codes "mod") (codes "mod" ++ (only_if optional (codes "?") ++ (codes " " ++ more))) ≡ true)
 word_tests true more = (refl, refl)
 word_tests false more = (refl, refl)
 
 -- the letters of a module begin with its word
-module_letters : (optional : Bool) (bytes list : List ℕ) → encode_utf8_all list ≡ (codes "mod" ++ (only_if optional (codes "?") ++ codes " ")) ++ bytes
+pub module_letters : (optional : Bool) (bytes list : List ℕ) → encode_utf8_all list ≡ (codes "mod" ++ (only_if optional (codes "?") ++ codes " ")) ++ bytes
     → (more : List ℕ) × (list ≡ codes "mod" ++ (only_if optional (codes "?") ++ (codes " " ++ more)))
 module_letters true bytes list h = front_letters (codes "mod? ") bytes list refl h
 module_letters false bytes list h = front_letters (codes "mod ") bytes list refl h
 
-moved : (optional : Bool) (more rest : List ℕ) → (codes "mod" ++ (only_if optional (codes "?") ++ (codes " " ++ more))) ++ rest
+-- what stands behind the word, before more
+pub moved : (optional : Bool) (more rest : List ℕ) → (codes "mod" ++ (only_if optional (codes "?") ++ (codes " " ++ more))) ++ rest
     ≡ codes "mod" ++ (only_if optional (codes "?") ++ (codes " " ++ (more ++ rest)))
 moved true more rest = refl
 moved false more rest = refl

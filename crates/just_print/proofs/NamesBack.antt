@@ -7,10 +7,10 @@ use Rattle.just_read.specs.Characters.{is_blank, begins_name, in_name}
 use Rattle.just_read.specs.Lines.{behind_word}
 use Rattle.just_syntax.specs.Places.{name_at, IsName}
 use Rattle.just_print.specs.Shapes.{bare_name}
-use Rattle.just_print.proofs.Places.{beyond, past_rest, run_run, beyond_run, dark, Alike, IsApart}
+use Rattle.just_print.proofs.Places.{beyond, past_rest, run_run, beyond_run, dark, Near, IsApart}
 
 -- the text that x, which stands from p to q, is printed as begins with the character at p, and wherever that text stands,
--- what follows it is apart from it and begins as what follows x does, a value of the shape of x is read, and the blanks behind it
+-- what follows it is apart from it and begins as what follows x does or ends an argument as that does, a value of the shape of x is read, and the blanks behind it
 pub record Back {A : Type 0} (Is : Rule A) (bare : A → A) (p q : Place) (x : A) (text : List ℕ) : Type 0 where
   pub letters : List ℕ
   pub head : ℕ
@@ -19,7 +19,7 @@ pub record Back {A : Type 0} (Is : Rule A) (bare : A → A) (p q : Place) (x : A
   pub begins : letters ≡ head ∷ tail
   pub seen : first p ≡ Some head
   pub dark_head : is_blank head ≡ false
-  pub again : (r : Place) (rest : List ℕ) → r.rest ≡ letters ++ rest → IsApart rest → Alike (beyond is_blank rest) q.rest
+  pub again : (r : Place) (rest : List ℕ) → r.rest ≡ letters ++ rest → IsApart rest → Near (beyond is_blank rest) q.rest
       → (s : Place) × (y : A) × Is r s y × (s.rest ≡ beyond is_blank rest) × (bare y ≡ bare x)
 
 -- what begins a name is of it

@@ -21,10 +21,10 @@ use Rattle.just_syntax.specs.Recipes.IsVariadic.{star, plus, none}
 use Rattle.just_syntax.specs.Recipes.AreParameters.{parameters}
 use Rattle.just_print.specs.Printed.{only_if, kind_sign, printed_expr, printed_default, printed_parameter, printed_parameters}
 use Rattle.just_print.specs.Shapes.{bare_name, bare_expr, bare_parameter}
-use Rattle.just_print.proofs.Places.{beyond, beyond_dark, not_that, Alike, one_first, alike_test, IsApart, token_back}
+use Rattle.just_print.proofs.Places.{beyond, beyond_dark, not_that, Alike, Near, widen, one_first, alike_test, IsApart, token_back}
 use Rattle.just_print.proofs.NamesBack.{Back, name_stands}
 use Rattle.just_print.proofs.PathsBack.{name_cell}
-use Rattle.just_print.proofs.WordsBack.{joined_text, plain_text, token_first, begins_other, begins_alike}
+use Rattle.just_print.proofs.WordsBack.{joined_text, plain_text, token_first, begins_other, begins_alike, begins_near}
 use Rattle.just_print.proofs.CallsBack.{any_value_back}
 use Rattle.just_print.proofs.ExprsBack.{alike_front, inner_back}
 
@@ -61,7 +61,7 @@ pub record DefaultBack (q : Place) (d : Option Expr) : Type 0 where
   pub letters : List ℕ
   pub encoded : printed_default d ≡ encode_utf8_all letters
   pub apart : (rest : List ℕ) → IsApart rest → IsApart (letters ++ rest)
-  pub again : (s : Place) (rest : List ℕ) → s.rest ≡ beyond is_blank (letters ++ rest) → IsApart rest → Alike (beyond is_blank rest) q.rest
+  pub again : (s : Place) (rest : List ℕ) → s.rest ≡ beyond is_blank (letters ++ rest) → IsApart rest → Near (beyond is_blank rest) q.rest
       → (t : Place) × (y : Option Expr) × IsDefault s t y × (t.rest ≡ beyond is_blank rest) × (option_map bare_expr y ≡ option_map bare_expr d)
 
 given_back : (p m q : Place) (y : Expr) → IsToken (codes "=") p m → IsValue (IsInner 256) m q y → DefaultBack q (Some y)
@@ -84,7 +84,7 @@ not_given_back p q n e =
       encoded = refl;
       apart = λ rest a. a;
       again = λ s rest h apart alike.
-          (s, None, without (begins_alike 61 s q refl refl (subst (λ (l : List ℕ). Alike l q.rest) (sym h) alike) ∙ (ap (begins (codes "=")) e ∙ n)) refl refl, h, refl);
+          (s, None, without (begins_near 61 s q refl refl refl refl (subst (λ (l : List ℕ). Near l q.rest) (sym h) alike) ∙ (ap (begins (codes "=")) e ∙ n)) refl refl, h, refl);
     }
 
 default_back : (p q : Place) (d : Option Expr) → IsDefault p q d → DefaultBack q d
@@ -243,7 +243,7 @@ singulars_back p m (x ∷ xs) last (o, (g, i), are) L =
           let start : s.rest ≡ b.letters ++ (O.letters ++ (codes ":" ++ rest)) =
           h ∙ (ap (beyond is_blank) (append_assoc b.letters O.letters (codes ":" ++ rest))
           ∙ beyond_dark b.letters b.head b.tail (O.letters ++ (codes ":" ++ rest)) b.begins b.dark_head) in
-          let (v, y, j, l1, shape) = b.again s (O.letters ++ (codes ":" ++ rest)) start (O.apart rest) (O.alike rest) in
+          let (v, y, j, l1, shape) = b.again s (O.letters ++ (codes ":" ++ rest)) start (O.apart rest) (widen (beyond is_blank (O.letters ++ (codes ":" ++ rest))) o.rest (O.alike rest)) in
           let (k, t, ys, w, many, n, variadic, l2, shapes, shape2) = O.again v rest l1 in
           let opens : begins_parameter s ≡ true = begins_same s p b.head (ap first_in (start ∙ ap (λ (l : List ℕ). l ++ (O.letters ++ (codes ":" ++ rest))) b.begins)) b.seen ∙ g in (
             k,

@@ -98,25 +98,58 @@ abbrev pub closes : List ℕ → Bool
 closes [] = true
 closes (c ∷ rest) = c == 10 || c == 13
 
--- two texts begin alike: with one character, or both end a line
-pub data Alike (list other : List ℕ) : Type 0 where
-  one_first : first_in list ≡ first_in other → Alike list other
-  both_close : closes list ≡ true → closes other ≡ true → Alike list other
+-- whether a comma or a closing parenthesis comes first
+abbrev pub parts : List ℕ → Bool
+parts [] = false
+parts (c ∷ rest) = c == 44 || c == 41
 
-closes_by : (e f : Bool) (t : ℕ → Bool) (c : ℕ) → t 10 ≡ false → t 13 ≡ false → (c == 10) ≡ e → (c == 13) ≡ f → (c == 10 || c == 13) ≡ true → t c ≡ false
-closes_by true f t c a b h k g = ap t (eqb-true c 10 h) ∙ a
-closes_by false true t c a b h k g = ap t (eqb-true c 13 k) ∙ b
-closes_by false false t c a b h k g = absurd (false≢true (rw (h, k) at g))
+-- two texts begin with one character, or both end a line, or, where that is asked for, each has a comma or a closing parenthesis first
+pub data Likeness (parted : Bool) (list other : List ℕ) : Type 0 where
+  one_first : first_in list ≡ first_in other → Likeness parted list other
+  both_close : closes list ≡ true → closes other ≡ true → Likeness parted list other
+  both_part : parted ≡ true → parts list ≡ true → parts other ≡ true → Likeness parted list other
+
+-- two texts begin alike: with one character, or both end a line
+abbrev pub Alike : List ℕ → List ℕ → Type 0
+Alike list other = Likeness false list other
+
+-- two texts begin alike, or each ends an argument
+abbrev pub Near : List ℕ → List ℕ → Type 0
+Near list other = Likeness true list other
+
+-- texts that begin alike are near
+pub widen : (list other : List ℕ) → Alike list other → Near list other
+widen list other (one_first h) = one_first h
+widen list other (both_close h k) = both_close h k
+widen list other (both_part n h k) = absurd (false≢true n)
+
+one_of_by : (e f : Bool) (t : ℕ → Bool) (c x y : ℕ) → t x ≡ false → t y ≡ false → (c == x) ≡ e → (c == y) ≡ f → (c == x || c == y) ≡ true → t c ≡ false
+one_of_by true f t c x y a b h k g = ap t (eqb-true c x h) ∙ a
+one_of_by false true t c x y a b h k g = ap t (eqb-true c y k) ∙ b
+one_of_by false false t c x y a b h k g = absurd (false≢true (rw (h, k) at g))
 
 -- no such test passes where a line ends
 pub closes_test : (t : ℕ → Bool) (list : List ℕ) → t 10 ≡ false → t 13 ≡ false → closes list ≡ true → passes t (first_in list) ≡ false
 closes_test t [] a b h = refl
-closes_test t (c ∷ rest) a b h = closes_by (c == 10) (c == 13) t c a b refl refl h
+closes_test t (c ∷ rest) a b h = one_of_by (c == 10) (c == 13) t c 10 13 a b refl refl h
+
+-- nor where a comma or a closing parenthesis comes first
+pub parts_test : (t : ℕ → Bool) (list : List ℕ) → t 44 ≡ false → t 41 ≡ false → parts list ≡ true → passes t (first_in list) ≡ false
+parts_test t [] a b h = refl
+parts_test t (c ∷ rest) a b h = one_of_by (c == 44) (c == 41) t c 44 41 a b refl refl h
 
 -- a test that no line's end passes answers the same of both
 pub alike_test : (t : ℕ → Bool) (list other : List ℕ) → t 10 ≡ false → t 13 ≡ false → Alike list other → passes t (first_in list) ≡ passes t (first_in other)
 alike_test t list other a b (one_first h) = ap (passes t) h
 alike_test t list other a b (both_close h k) = closes_test t list a b h ∙ sym (closes_test t other a b k)
+alike_test t list other a b (both_part n h k) = absurd (false≢true n)
+
+-- the same of texts that are near, where no end of an argument passes either
+pub near_test : (t : ℕ → Bool) (list other : List ℕ) → t 10 ≡ false → t 13 ≡ false → t 44 ≡ false → t 41 ≡ false → Near list other
+    → passes t (first_in list) ≡ passes t (first_in other)
+near_test t list other a b c d (one_first h) = ap (passes t) h
+near_test t list other a b c d (both_close h k) = closes_test t list a b h ∙ sym (closes_test t other a b k)
+near_test t list other a b c d (both_part n h k) = parts_test t list c d h ∙ sym (parts_test t other c d k)
 
 -- what stands directly behind a value: neither a character of a name nor a quote
 abbrev pub IsApart : List ℕ → Type 0

@@ -29,7 +29,7 @@ use Rattle.just_syntax.specs.Items.AreStrings.{none, some}
 use Rattle.just_syntax.specs.Items.IsSettingValue.{absent, flag, text, list, any_text, any_list}
 use Rattle.just_print.specs.Printed.{led, printed_string, printed_strings, printed_expr, printed_setting, printed_end, printed_item}
 use Rattle.just_print.specs.Shapes.{bare_name, bare_string, bare_expr, bare_value, bare_item}
-use Rattle.just_print.proofs.Places.{beyond, beyond_dark, one_first, alike_test, IsApart, token_back}
+use Rattle.just_print.proofs.Places.{beyond, beyond_dark, widen, one_first, alike_test, IsApart, token_back}
 use Rattle.just_print.proofs.NamesBack.{Back, name_stands}
 use Rattle.just_print.proofs.StringsBack.{quote_character, quote_first, StringStands, string_stands}
 use Rattle.just_print.proofs.PathsBack.{name_cell}
@@ -206,7 +206,7 @@ module _ (kind : Sort) (o q : Place) (comment : Option (List ℕ)) (w : IsRest o
         again = λ s rest h.
             let (m2, t2, l1) = token_back (codes ":=") (codes " " ++ (b.letters ++ (E.letters ++ rest))) s h in
             let start : m2.rest ≡ b.letters ++ (E.letters ++ rest) = l1 ∙ beyond_dark b.letters b.head b.tail (E.letters ++ rest) b.begins b.dark_head in
-            let (o2, x, j, l2, shape) = b.again m2 (E.letters ++ rest) start (E.apart rest) (E.alike rest) in
+            let (o2, x, j, l2, shape) = b.again m2 (E.letters ++ rest) start (E.apart rest) (widen (beyond is_blank (E.letters ++ rest)) o.rest (E.alike rest)) in
             let bracket : begins (codes "[") m2 ≡ begins (codes "[") m =
             begins_alike 91 m2 m refl refl (one_first (ap first_in start ∙ (ap (λ (l : List ℕ). first_in (l ++ (E.letters ++ rest))) b.begins ∙ sym b.seen))) in
             let is : IsSettingValue kind s o2 (Some (setting.Text x)) =

@@ -21,10 +21,10 @@ use Rattle.just_print.specs.Printed.{printed_string, printed_expr}
 use Rattle.just_print.specs.Shapes.{bare_string, bare_expr}
 use Rattle.just_print.proofs.Exprs.{literal_is, variable_is, printed_group}
 use Rattle.just_print.proofs.BareExprs.{bare_literal, bare_variable, bare_group}
-use Rattle.just_print.proofs.Places.{beyond, beyond_dark, next_rest, not_that, dark, Alike, one_first, token_back}
+use Rattle.just_print.proofs.Places.{beyond, beyond_dark, next_rest, not_that, dark, Near, one_first, token_back}
 use Rattle.just_print.proofs.NamesBack.{Back, in_name_first, name_stands}
 use Rattle.just_print.proofs.StringsBack.{quote_character, quote_first, string_back}
-use Rattle.just_print.proofs.WordsBack.{joined_text, plain_text, token_first, no_if, begins_alike, expr_alike, is_word_in, word_in, same_words}
+use Rattle.just_print.proofs.WordsBack.{joined_text, plain_text, token_first, no_if, begins_near, expr_alike, is_word_in, word_in, same_words}
 
 -- an expression at which a condition begins, or none
 abbrev pub At : Rule Expr → Bool → Place → Place → Expr → Type 0
@@ -81,7 +81,7 @@ second_false false b h k = absurd (false≢true k)
 
 -- whether a condition begins at a printed name is what it was
 name_condition : (p q r : Place) (rest : List ℕ) → r.rest ≡ run in_name p.rest ++ rest → passes in_name (first_in rest) ≡ false → q ≡ behind_word p
-    → Alike (behind_word r).rest q.rest → begins_condition r ≡ begins_condition p
+    → Near (behind_word r).rest q.rest → begins_condition r ≡ begins_condition p
 name_condition p q r rest h k u alike =
     let words : is_word (codes "if") r ≡ is_word (codes "if") p =
     is_word_in (codes "if") r ∙ (ap (word_in (codes "if")) h ∙ (same_words (codes "if") p.rest rest refl k ∙ sym (is_word_in (codes "if") p))) in
@@ -131,10 +131,10 @@ module _ (Inner : Rule Expr) where
         dark_head = dark begins_name d t refl refl;
         again = λ r rest h apart alike.
             let (is, left, shape) = name_stands p q n i r rest h apart.0 in
-            let follows : Alike (behind_word r).rest q.rest = subst (λ (l : List ℕ). Alike l q.rest) (sym left) alike in
+            let follows : Near (behind_word r).rest q.rest = subst (λ (l : List ℕ). Near l q.rest) (sym left) alike in
             let call : is_call r ≡ false =
             ap (λ (b : Bool). b && begins (codes "(") (behind_word r)) is.0
-            ∙ (begins_alike 40 (behind_word r) q refl refl follows
+            ∙ (begins_near 40 (behind_word r) q refl refl refl refl follows
             ∙ (ap (begins (codes "(")) i.1 ∙ second_false (starts begins_name p) (begins (codes "(") (behind_word p)) c i.0)) in (
               behind_word r,
               e.Variable (name_at r),

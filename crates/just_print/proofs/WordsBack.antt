@@ -7,7 +7,7 @@ use Rattle.just_read.specs.Place.{Place, next, past, run, first, first_in, passe
 use Rattle.just_read.specs.Characters.{is_blank, begins_name, in_name, is_quote}
 use Rattle.just_read.specs.Lines.{is_word, behind_word, IsToken, IsWord}
 use Rattle.just_syntax.specs.Exprs.{begins_expr, begins_condition}
-use Rattle.just_print.proofs.Places.{beyond, past_rest, beyond_nothing, next_rest, begins_one, behind_front, encoded_plain, is_plain, and_true, Alike, alike_test, token_back}
+use Rattle.just_print.proofs.Places.{beyond, past_rest, beyond_nothing, next_rest, begins_one, behind_front, encoded_plain, is_plain, and_true, Alike, Near, alike_test, near_test, token_back}
 use Rattle.just_print.proofs.PiecesBack.{front_of}
 
 -- ---- texts encoded
@@ -47,13 +47,18 @@ no_if c p h n = rw (begins_other c 105 (102 ∷ []) p h n) refl
 pub begins_alike : (c : ℕ) (p q : Place) → (10 == c) ≡ false → (13 == c) ≡ false → Alike p.rest q.rest → begins (c ∷ []) p ≡ begins (c ∷ []) q
 begins_alike c p q a b h = begins_one c p.rest ∙ (alike_test (λ d. d == c) p.rest q.rest a b h ∙ sym (begins_one c q.rest))
 
+-- the same of texts that are near
+pub begins_near : (c : ℕ) (p q : Place) → (10 == c) ≡ false → (13 == c) ≡ false → (44 == c) ≡ false → (41 == c) ≡ false → Near p.rest q.rest
+    → begins (c ∷ []) p ≡ begins (c ∷ []) q
+begins_near c p q a b d e h = begins_one c p.rest ∙ (near_test (λ d. d == c) p.rest q.rest a b d e h ∙ sym (begins_one c q.rest))
+
 -- whether an expression begins is the same of places that begin alike
-pub expr_alike : (p q : Place) → Alike p.rest q.rest → begins_expr p ≡ begins_expr q
+pub expr_alike : (p q : Place) → Near p.rest q.rest → begins_expr p ≡ begins_expr q
 expr_alike p q h =
-    ap (λ (b : Bool). b || (starts is_quote p || (begins (codes "(") p || begins (codes "/") p))) (alike_test begins_name p.rest q.rest refl refl h)
-    ∙ (ap (λ (b : Bool). starts begins_name q || (b || (begins (codes "(") p || begins (codes "/") p))) (alike_test is_quote p.rest q.rest refl refl h)
-    ∙ (ap (λ (b : Bool). starts begins_name q || (starts is_quote q || (b || begins (codes "/") p))) (begins_alike 40 p q refl refl h)
-    ∙ ap (λ (b : Bool). starts begins_name q || (starts is_quote q || (begins (codes "(") q || b))) (begins_alike 47 p q refl refl h)))
+    ap (λ (b : Bool). b || (starts is_quote p || (begins (codes "(") p || begins (codes "/") p))) (near_test begins_name p.rest q.rest refl refl refl refl h)
+    ∙ (ap (λ (b : Bool). starts begins_name q || (b || (begins (codes "(") p || begins (codes "/") p))) (near_test is_quote p.rest q.rest refl refl refl refl h)
+    ∙ (ap (λ (b : Bool). starts begins_name q || (starts is_quote q || (b || begins (codes "/") p))) (begins_near 40 p q refl refl refl refl h)
+    ∙ ap (λ (b : Bool). starts begins_name q || (starts is_quote q || (begins (codes "(") q || b))) (begins_near 47 p q refl refl refl refl h)))
 
 -- ---- words
 
