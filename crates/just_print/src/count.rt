@@ -5,6 +5,7 @@ ghost use Rattle.just_print.specs.SmallTexts.{count_text};
 use std::fmt;
 
 /// A noun that is printed for a number of things: `recipe` for one, `recipes` for any other number.
+#[derive(Clone, Copy, Drop)]
 pub struct Count<'a> {
     pub noun: &'a str,
     pub number: usize,

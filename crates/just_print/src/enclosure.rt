@@ -5,6 +5,7 @@ ghost use Rattle.just_print.specs.SmallTexts.{ticked};
 use std::fmt;
 
 /// A text that is printed in backquotes.
+#[derive(Clone, Copy, Drop)]
 pub struct Enclosure<'a> {
     pub text: &'a str,
 }

@@ -7,6 +7,7 @@ use just_path::Text;
 use std::fmt;
 
 /// Texts in backquotes, as prose has them: `a`; `a` and `b`; `a`, `b`, and `c`.
+#[derive(Clone, Copy, Drop)]
 pub struct List<'a> {
     pub items: &'a [Text],
     /// The word before the last one.

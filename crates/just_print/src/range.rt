@@ -6,6 +6,7 @@ use std::fmt;
 use std::ops::RangeInclusive;
 
 /// How many values may be given, from the least number to the greatest.
+#[derive(Clone, Copy, Drop)]
 pub struct DisplayRange {
     pub least: usize,
     pub greatest: usize,

@@ -6,6 +6,7 @@ ghost use Rattle.just_print.specs.SmallTexts.{seen, shown_all};
 use std::fmt;
 
 /// Characters that are printed with their blanks to be seen: `␠` for a space, `␉` for a tab.
+#[derive(Clone, Copy, Drop)]
 pub struct ShowWhitespace<'a> {
     pub characters: &'a [char],
 }

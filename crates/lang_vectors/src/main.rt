@@ -1,9 +1,11 @@
 //! Compares the answers of the language's crates with rows that an independent reading of it gave. Each argument names a
 //! file of such rows, one JSON object a line. A row is told by its fields: with `text` and `ok` it is one of `parse`,
-//! where `print` is the printed tree and `kind`, `line` and `column` tell a refusal.
+//! where `print` is the printed tree and `kind`, `line` and `column` tell a refusal. Beside these stand `unindent` and `gives`; `least`,
+//! `greatest` and `gives` of a printed range; and `prefixes`, a text of which each prefix is read or refused at one of its lines.
 #![tactic(auto)]
 
 mod row;
+mod texts;
 mod wrong;
 
 use row::agrees;

@@ -1,5 +1,6 @@
 //! Rows of files.
 use super::Wrong;
+use super::texts::{agrees_display, agrees_prefixes, agrees_unindent};
 use just_print::print;
 use just_syntax::{Fault, FaultKind, ParseError, parse};
 use serde_json::{Error, Value};
@@ -17,7 +18,8 @@ fn value_of(alloc: Global, row: &str) -> Result<Value, Wrong> {
     }
 }
 
-fn text_of<'a>(row: &'a Value, field: &str) -> Result<&'a str, Wrong> {
+/// The text of a field. No clause, as of the other functions here: no theorem stands on what they answer.
+pub fn text_of<'a>(row: &'a Value, field: &str) -> Result<&'a str, Wrong> {
     match row.get(field) {
         Some(value) => match value.as_str() {
             Some(text) => Ok(text),
@@ -27,7 +29,8 @@ fn text_of<'a>(row: &'a Value, field: &str) -> Result<&'a str, Wrong> {
     }
 }
 
-fn number_of(row: &Value, field: &str) -> Result<u64, Wrong> {
+/// The number of a field.
+pub fn number_of(row: &Value, field: &str) -> Result<u64, Wrong> {
     match row.get(field) {
         Some(value) => match value.as_u64() {
             Some(number) => Ok(number),
@@ -51,18 +54,32 @@ fn is_ok(row: &Value) -> Result<bool, Wrong> {
 /// is seen by comparing with the rows, and no theorem stands on it.
 pub fn agrees(alloc: Global, row: &str) -> Result<bool, Wrong> {
     let row = value_of(alloc, row)?;
-    let text = text_of(&row, "text")?;
-    let wanted = is_ok(&row)?;
+    if row.get("unindent").is_some() {
+        return agrees_unindent(alloc, &row);
+    }
+    if row.get("least").is_some() {
+        return agrees_display(alloc, &row);
+    }
+    if row.get("prefixes").is_some() {
+        return agrees_prefixes(alloc, text_of(&row, "prefixes")?);
+    }
+    agrees_parse(alloc, &row)
+}
+
+/// Whether a row of `parse` agrees.
+fn agrees_parse(alloc: Global, row: &Value) -> Result<bool, Wrong> {
+    let text = text_of(row, "text")?;
+    let wanted = is_ok(row)?;
     match parse(alloc, text) {
         Ok(ast) => {
             if !wanted {
                 return Ok(false);
             }
             let printed = print(alloc, &ast, "    ")?;
-            Ok(printed.as_str() == text_of(&row, "print")?)
+            Ok(printed.as_str() == text_of(row, "print")?)
         }
         Err(ParseError::NoMemory) => Err(Wrong::NoMemory),
-        Err(ParseError::Fault(fault)) => Ok(!wanted && is_fault(&row, fault)?),
+        Err(ParseError::Fault(fault)) => Ok(!wanted && is_fault(row, fault)?),
     }
 }
 
