@@ -14,10 +14,6 @@ mod real;
 #[cfg(test)]
 mod real_edges;
 #[cfg(test)]
-mod semaphores;
-#[cfg(test)]
 mod sights;
 #[cfg(test)]
 mod trees;
-#[cfg(test)]
-mod workers;
