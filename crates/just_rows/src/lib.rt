@@ -15,5 +15,3 @@ mod real;
 mod real_edges;
 #[cfg(test)]
 mod sights;
-#[cfg(test)]
-mod trees;
