@@ -1,17 +1,2 @@
 //! Tests that need code: hosts, books, and the calls that no row of another crate makes. Whole runs stand in `run_rows`.
 #![tactic(auto)]
-
-#[cfg(test)]
-mod books;
-#[cfg(test)]
-mod calls;
-#[cfg(test)]
-mod hosts;
-#[cfg(test)]
-mod plans;
-#[cfg(test)]
-mod real;
-#[cfg(test)]
-mod real_edges;
-#[cfg(test)]
-mod sights;
