@@ -1,2 +1,9 @@
 //! Tests that need code: hosts, books, and the calls that no row of another crate makes. Whole runs stand in `run_rows`.
 #![tactic(auto)]
+
+#[cfg(test)]
+mod calls;
+#[cfg(test)]
+mod hosts;
+#[cfg(test)]
+mod sights;

@@ -1,0 +1,99 @@
+//! Each public call that can answer want of memory and that no row of another crate makes, called once with ample
+//! memory. The calls of paths and texts are made by `path_vectors` and `path_rows`, those of readers by `dotenv_vectors`
+//! and `path_rows`, those of expansions by `expand_vectors`; a run makes those of a host, of the record, of a plan and of
+//! its drive, and `assemble`, `invocations`, `closure` and `body_lines`, so `run_rows` shows that they answer.
+
+use crate::hosts::memory;
+use just_host::{Host, HostFault};
+use just_lang::{
+    AstItem, FileRef, LangError, Source, assemble, dependencies, invocations, parse, references,
+};
+use just_path::{Environ, NoMemory, Seq, Text, TryClone, Utf8Path};
+use std::alloc::Global;
+use std::test::Fail;
+
+fn source(alloc: Global, text: &str) -> Result<Source, NoMemory> {
+    Ok(Source {
+        path: Utf8Path::new("/p/justfile").to_path_buf(alloc)?,
+        root: Utf8Path::new("/p").to_path_buf(alloc)?,
+        text: Text::from_str(alloc, text)?,
+    })
+}
+
+/// How many items a text has, and the lines in which its recipes begin, one behind the other.
+fn items(alloc: Global, text: &str) -> Result<(usize, Vec<usize>), LangError> {
+    let source = source(alloc, text)?;
+    let ast = parse(alloc, &source)?;
+    let mut lines = Vec::new(alloc);
+    for item in ast.items.as_slice() {
+        if let AstItem::Recipe(recipe) = item {
+            lines.push(recipe.get().name.line)?;
+        }
+    }
+    Ok((ast.items.len(), lines))
+}
+
+/// The files that a text names.
+fn files(alloc: Global, text: &str) -> Result<Seq<FileRef>, LangError> {
+    let source = source(alloc, text)?;
+    let ast = parse(alloc, &source)?;
+    Ok(references(alloc, &ast)?)
+}
+
+/// The path of the file of that number, empty where it has none.
+fn path_of(files: &[FileRef], number: usize) -> &str {
+    match files.get(number) {
+        Some(
+            FileRef {
+                path: Some(path),
+                ..
+            },
+        ) => path.as_str(),
+        _ => "",
+    }
+}
+
+/// How many priors a recipe of a text has, and how many of its keys are copied as they are.
+fn counts(alloc: Global, text: &str, recipe: &str) -> Result<(usize, usize), LangError> {
+    let sources = [source(alloc, text)?];
+    let environ = Environ {
+        pairs: Seq::new(alloc),
+    };
+    let justfile = assemble(alloc, &sources, &environ)?;
+    let mut priors: usize = 0;
+    let mut copied: usize = 0;
+    for key in invocations(alloc, &justfile, &[recipe])?.as_slice() {
+        priors = priors.saturating_add(dependencies(alloc, &justfile, key)?.0.len());
+        if key.try_clone()?.same(key) {
+            copied = copied.saturating_add(1);
+        }
+    }
+    Ok((priors, copied))
+}
+
+/// The home folder of a host's environment.
+fn home(alloc: Global) -> Result<String, HostFault> {
+    let mut host = memory(alloc, "")?;
+    let environ = host.environ()?;
+    let home = environ.home().unwrap_or("");
+    match String::from_str(alloc, home) {
+        Ok(home) => Ok(home),
+        Err(_) => Err(HostFault::NoMemory),
+    }
+}
+
+#[test]
+fn every_call_answers(rt: HostRuntime) -> Result<(), Fail> {
+    let alloc = rt.alloc();
+    let text = "b: a\n\techo b\na:\n";
+    let (count, lines) = items(alloc, "b: a\n  one\n\n   two\n\n# c\r\na:")?;
+    assert_eq!(rt; count, 4);
+    assert_eq!(rt; lines.as_slice(), [1usize, 7].as_slice());
+    assert!(rt; counts(alloc, text, "b")? == (1, 1));
+    let files = files(alloc, "import 'a'\nmod? b\nmod c \"\\u{64}\"\n")?;
+    assert_eq!(rt; files.len(), 3);
+    assert_eq!(rt; path_of(files.as_slice(), 0), "a");
+    assert_eq!(rt; path_of(files.as_slice(), 2), "d");
+    assert_eq!(rt; home(alloc)?.as_str(), "/h");
+    Ok(())
+}
