@@ -10,5 +10,7 @@ pub mod Planned
 pub mod Requests
 pub mod Runs
 pub mod Served
+pub mod Spelled
 pub mod Steps
+pub mod Worded
 pub mod Worlds

@@ -11,7 +11,8 @@ use Rattle.just_lang.proofs.Laws.{one_tree, never_both, one_error}
 use Rattle.just_cli.specs.declared.error.Error.{Error}
 use Rattle.just_cli.specs.declared.error.Error.TheVariants as error
 use Rattle.just_cli.specs.Faults.{ShowsAt}
-use Rattle.just_cli.specs.Words.{AsksFor, BreaksForm, no_word, no_name, one_more, ReadsWords}
+use Rattle.just_cli.specs.Limits.{behind_limit, ReadsLimit}
+use Rattle.just_cli.specs.Words.{AsksFor, BreaksForm, no_word, no_name, one_more, ReadsName, ReadsWords}
 use Rattle.just_cli.specs.Request.{FolderRequest, JustfileRequest, Outline, source_in, justfile_in, FindsFolder, ReadsSource, ReadsJustfile, NamesKeys, ClosesKeys, MakesPlan, Plans, folder_shown, text_shown, Asks}
 use Rattle.just_cli.proofs.Steps.{GivesOne, same_refusal, refused_or_found, same_found, then_one}
 
@@ -40,16 +41,33 @@ one_word words u v (one_more first others is named) (no_word none e) = absurd (l
 one_word words u v (one_more first others is named) (no_name more at broken) = let same : first ≡ v = cc in absurd (broken (subst IsName same named))
 one_word words u v (one_more first others is named) (one_more other more at named') = cc
 
--- the words are read in one way
-words_one : GivesOne ReadsWords
-words_one words (Ok a) (Ok b) p q =
+-- the words behind the job limit are read in one way
+name_one : GivesOne ReadsName
+name_one words (Ok a) (Ok b) p q =
     let both : a ∷ [] ≡ b ∷ [] = sym p.0 ∙ q.0 in
     let same : a ≡ b = cc in
     ap (λ x. Ok x) same
-words_one words (Ok a) (Err f) p q = absurd (form_kept words a q.0 p q.1)
-words_one words (Err e) (Ok b) p q = absurd (form_kept words b p.0 q p.1)
-words_one words (Err e) (Err f) p q =
+name_one words (Ok a) (Err f) p q = absurd (form_kept words a q.0 p q.1)
+name_one words (Err e) (Ok b) p q = absurd (form_kept words b p.0 q p.1)
+name_one words (Err e) (Err f) p q =
     ap (λ x. Err x) (p.2 ∙ ap (λ t. error.Usage (record { kind = usage.NotBuilt; word = t })) (one_word words p.0 q.0 p.1 q.1) ∙ sym q.2)
+
+-- a job limit is read in one way
+limit_one : GivesOne ReadsLimit
+limit_one words (Ok a) (Ok b) p q =
+    let both : ◌≡◌ {A = Result (List (List ℕ)) (List ℕ)} (Ok a) (Ok b) = sym p ∙ q in
+    let same : a ≡ b = cc in
+    ap (λ x. Ok x) same
+limit_one words (Ok a) (Err f) p q = let both : ◌≡◌ {A = Result (List (List ℕ)) (List ℕ)} (Ok a) (Err q.0) = sym p ∙ q.1 in absurd (let no : ⊥ = cc in no)
+limit_one words (Err e) (Ok b) p q = let both : ◌≡◌ {A = Result (List (List ℕ)) (List ℕ)} (Ok b) (Err p.0) = sym q ∙ p.1 in absurd (let no : ⊥ = cc in no)
+limit_one words (Err e) (Err f) p q =
+    let both : ◌≡◌ {A = Result (List (List ℕ)) (List ℕ)} (Err p.0) (Err q.0) = sym p.1 ∙ q.1 in
+    let same : p.0 ≡ q.0 = cc in
+    ap (λ x. Err x) (p.2 ∙ ap (λ t. error.Usage (record { kind = usage.NotBuilt; word = t })) same ∙ sym q.2)
+
+-- the words are read in one way
+words_one : GivesOne ReadsWords
+words_one = then_one ReadsLimit ReadsName limit_one name_one
 
 -- ---- the folder and its justfile
 

@@ -22,7 +22,8 @@ use Rattle.just_cli.specs.Faults.{entries_of}
 use Rattle.just_cli.specs.Outcome.{IsErrorFor}
 use Rattle.just_cli.specs.Record.{IsBook, IsTold, EndsWell, EndsIll, EndsBefore}
 use Rattle.just_cli.specs.Request.{outline_of, AsksOver, RefusedFor, OrMemory}
-use Rattle.just_cli.specs.Run.{IsRun, jobs_for}
+use Rattle.just_cli.specs.Limits.{jobs_for}
+use Rattle.just_cli.specs.Run.{IsRun}
 use Rattle.just_cli.specs.Texts.{exit_code}
 use Rattle.just_cli.proofs.Answered.{answered}
 use Rattle.just_cli.proofs.Caused.{caused, memory_left}
@@ -171,3 +172,7 @@ run_ill words told after old entered now new w seen plan driven h shown v e r is
       misses = misses_rise jobs (Err f) entered new left;
       untouched = λ es grown quiet. after_is ∙ (world_left (start_with plan jobs entered w) h now new seen tells.0 es d.kept tells.1 grown quiet ∙ w_is);
     }))
+
+-- a run under a limit is one under an equal limit
+pub driven_at : {plan p : Plan} {jobs limit : Option ℕ} {entered now : List Entry} {w seen : Option World} {h : List Event} {v : Verdict} → jobs ≡ limit → IsDriven (start_with plan jobs entered w) p h v now seen → IsDriven (start_with plan limit entered w) p h v now seen
+driven_at {plan} {p} {jobs} {limit} {entered} {now} {w} {seen} {h} {v} same d = subst (λ j. IsDriven (start_with plan j entered w) p h v now seen) same d

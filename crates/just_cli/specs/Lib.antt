@@ -3,6 +3,7 @@ pub mod Answered
 pub mod Caused
 pub mod Exit
 pub mod Faults
+pub mod Limits
 pub mod Outcome
 pub mod Record
 pub mod Request

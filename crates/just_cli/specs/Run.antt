@@ -10,13 +10,10 @@ use Rattle.just_cli.specs.declared.ended.Report.{Report}
 use Rattle.just_cli.specs.declared.error.Error.TheVariants as error
 use Rattle.just_cli.specs.Answered.{IsAnswered, IsServed}
 use Rattle.just_cli.specs.Caused.{is_fault, is_miss}
+use Rattle.just_cli.specs.Limits.{jobs_for}
 use Rattle.just_cli.specs.Record.{EndsWell, EndsIll, EndsBefore, IsQuiet}
 use Rattle.just_cli.specs.Request.{IsAsked, RefusedFor}
 use Rattle.just_cli.specs.Texts.{exit_code}
-
--- the job limit that words ask for: none, since no word sets one yet
-abbrev pub jobs_for : List (List ℕ) → Option ℕ
-jobs_for words = None
 
 -- A run of these words over a host that told this world before and tells that one after it, whose record was the old one
 -- and is the new one, has this result.

@@ -4,6 +4,7 @@
 mod ended;
 mod error;
 mod failure;
+mod limits;
 mod outcome;
 mod prepare;
 mod program;

@@ -1,7 +1,9 @@
 //! From the words to the plan: the steps of a request, in their order.
 
 ghost use Rattle.std.specs.Prelude.{◌≡◌, ◌++◌, [], map, option_map, IfOk, IfErr, MatchResult, Some, Ok, Err, OnOk};
+ghost use Rattle.std.specs.Int.NonZero.{non_zero_u64_get};
 ghost use Rattle.just_outside.specs.declared.entry.Call.{Call};
+ghost use Rattle.just_cli.specs.Limits.{jobs_for};
 ghost use Rattle.just_cli.specs.Faults.{CallGives, entries_of, fault_of_path as host_fault, io_error as told_error};
 ghost use Rattle.just_cli.specs.Request.{OrMemory, Plans, AsksOver, HostReads, folder_shown, source_in, outline_of, error_of_lang};
 
@@ -12,6 +14,7 @@ use just_lang::{LangError, Source, assemble, closure, invocations};
 use just_path::{Environ, NoMemory, PathFault, Seq, Text, Utf8Path, Utf8PathBuf};
 use just_sched::{Plan, plan_for};
 use std::alloc::Global;
+use std::num::NonZeroU64;
 
 /// The fault of asking for the current folder, as a fault of a host.
 fn fault_of_path(fault: PathFault) -> HostFault
@@ -94,15 +97,21 @@ fn lang_error(error: LangError) -> Error
     }
 }
 
-/// The plan that the words ask for. The record gains the entry of the refused call, where one was refused.
-pub(crate) fn prepare<H: Host>(alloc: Global, words: &[&str], host: &mut H) -> Result<Plan, Error>
+/// The plan that the words ask for, and their job limit, if they have one. The record gains the entry of the refused
+/// call, where one was refused.
+pub(crate) fn prepare<H: Host>(
+    alloc: Global,
+    words: &[&str],
+    host: &mut H,
+) -> Result<(Plan, Option<NonZeroU64>), Error>
     ensures grew { MatchResult result (λ _. H.entries host.new ≡ H.entries host.old) (λ e. H.entries host.new ≡ H.entries host.old ++ entries_of e) }
     ensures world { H.world host.new ≡ H.world host.old }
-    ensures asked { IfOk result (λ p. AsksOver (map (λ x. x.now) words.now) (H.world host.old) (Ok (outline_of p))) }
+    ensures asked { IfOk result (λ r. AsksOver (map (λ x. x.now) words.now) (H.world host.old) (Ok (outline_of r.0))) }
+    ensures jobs { IfOk result (λ r. option_map non_zero_u64_get r.1 ≡ jobs_for (map (λ x. x.now) words.now)) }
     ensures refused { IfErr result (OrMemory (λ e. AsksOver (map (λ x. x.now) words.now) (H.world host.old) (Err e))) }
 {
-    let name = match read_words(alloc, words) {
-        Ok(name) => name,
+    let (jobs, name) = match read_words(alloc, words) {
+        Ok(read) => read,
         Err(error) => return Err(error),
     };
     let folder = match current_folder(alloc, host) {
@@ -114,7 +123,7 @@ pub(crate) fn prepare<H: Host>(alloc: Global, words: &[&str], host: &mut H) -> R
         Err(error) => return Err(error),
     };
     match plan_of(alloc, source, name) {
-        Ok(plan) => Ok(plan),
+        Ok(plan) => Ok((plan, jobs)),
         Err(error) => Err(lang_error(error)),
     }
 }

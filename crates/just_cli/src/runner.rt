@@ -29,11 +29,11 @@ pub fn run_with<R: Threads + Wait + Sync, H: Host + Send + Drop>(
     ensures { IsRun (map (λ x. x.now) words.now) (H.world host) (H.world result.host) (H.entries host) (H.entries result.host) result.result }
 {
     let mut host = host;
-    let plan = match prepare(alloc, words, &mut host) {
-        Ok(plan) => plan,
+    let (plan, jobs) = match prepare(alloc, words, &mut host) {
+        Ok(prepared) => prepared,
         Err(error) => return fail(alloc, host, error, None, Seq::new(alloc)),
     };
-    match drive(rt, alloc, plan, host, None) {
+    match drive(rt, alloc, plan, host, jobs) {
         Ok(
             Driven {
                 host,

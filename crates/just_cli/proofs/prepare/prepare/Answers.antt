@@ -23,4 +23,4 @@ pub returns-in-Err-plan_of-clause-refused : goal.returns-in-Err-plan_of-clause-r
 returns-in-Err-plan_of-clause-refused g c =
     let refused = c.in-Err-plan_of.ensures.refused in
     no_plan _ _ _ _ _ _ _ c.in-Ok.ensures.name c.in-Ok-current_folder.ensures.gives c.in-Ok-current_folder.ensures.world c.in-Ok-read_source.ensures.source c.in-Ok-read_source.ensures.text
-    (subst (OrMemory (λ e. Plans (source_request c.in-Ok.name.now c.in-Ok-read_source.source) (Err e))) (sym c.lang_error.ensures.error) refused)
+    (subst (OrMemory (λ e. Plans (source_request c.in-Ok.read.1.now c.in-Ok-read_source.source) (Err e))) (sym c.lang_error.ensures.error) refused)
