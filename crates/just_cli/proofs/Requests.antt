@@ -11,7 +11,7 @@ use Rattle.just_lang.proofs.Laws.{one_tree, never_both, one_error}
 use Rattle.just_cli.specs.declared.error.Error.{Error}
 use Rattle.just_cli.specs.declared.error.Error.TheVariants as error
 use Rattle.just_cli.specs.Faults.{ShowsAt}
-use Rattle.just_cli.specs.Limits.{behind_limit, ReadsLimit}
+use Rattle.just_cli.specs.Limits.{ReadsLimit}
 use Rattle.just_cli.specs.Words.{AsksFor, BreaksForm, no_word, no_name, one_more, ReadsName, ReadsWords}
 use Rattle.just_cli.specs.Request.{FolderRequest, JustfileRequest, Outline, source_in, justfile_in, FindsFolder, ReadsSource, ReadsJustfile, NamesKeys, ClosesKeys, MakesPlan, Plans, folder_shown, text_shown, Asks}
 use Rattle.just_cli.proofs.Steps.{GivesOne, same_refusal, refused_or_found, same_found, then_one}
