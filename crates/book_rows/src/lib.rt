@@ -1,0 +1,5 @@
+//! Tests of a book by itself.
+#![tactic(auto)]
+
+#[cfg(test)]
+mod books;

@@ -1,0 +1,7 @@
+//! Tests of the real host: what the system does with what it is given.
+#![tactic(auto)]
+
+#[cfg(test)]
+mod real;
+#[cfg(test)]
+mod real_edges;

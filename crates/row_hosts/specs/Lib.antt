@@ -1,0 +1,2 @@
+-- The definitions that plans for tests cite.
+pub mod Beside

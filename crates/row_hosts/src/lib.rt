@@ -1,0 +1,6 @@
+//! Plans whose priors run side by side, and hosts to run them over, for tests and measurements of runs.
+#![tactic(auto)]
+
+mod plans;
+
+pub use plans::{left, memory, plan_of};

@@ -1,0 +1,81 @@
+//! Plans whose priors run side by side, and hosts to run them over.
+
+ghost use Rattle.std.specs.Prelude.{◌≡◌, map, IfOk};
+ghost use Rattle.row_hosts.specs.Beside.{beside_of};
+
+use just_host::{Host, MemHost, Plot, Tree};
+use just_lang::{LangError, Source, assemble, closure, invocations};
+use just_path::{Environ, NoMemory, Seq, Text, Utf8Path};
+use just_sched::{Driven, Event, Plan, PlanNode, Verdict, plan_for};
+use std::alloc::Global;
+
+/// The nodes, each with its priors side by side.
+fn nodes_beside(alloc: Global, nodes: Vec<PlanNode>) -> Result<Vec<PlanNode>, NoMemory>
+    ensures { IfOk result (λ v. v.items ≡ map beside_of nodes.items) }
+{
+    let mut made = Vec::new(alloc);
+    for node in nodes {
+        let PlanNode {
+            node,
+            prompt,
+            parallel: _,
+            work,
+            banner,
+        } = node;
+        made.push(PlanNode {
+            node,
+            prompt,
+            parallel: true,
+            work,
+            banner,
+        })?;
+    }
+    Ok(made)
+}
+
+/// The plan with each node's priors side by side.
+fn beside(alloc: Global, plan: Plan) -> Result<Plan, NoMemory> {
+    let Plan { nodes, invocations } = plan;
+    let made = nodes_beside(alloc, nodes.into_vec())?;
+    Ok(Plan {
+        nodes: Seq::from(made),
+        invocations,
+    })
+}
+
+/// The plan of a recipe of that justfile, with each node's priors side by side.
+pub fn plan_of(alloc: Global, text: &str, name: &str) -> Result<Plan, LangError> {
+    let sources = [Source {
+        path: Utf8Path::new("/justfile").to_path_buf(alloc)?,
+        root: Utf8Path::new("/").to_path_buf(alloc)?,
+        text: Text::from_str(alloc, text)?,
+    }];
+    let environ = Environ {
+        pairs: Seq::new(alloc),
+    };
+    let justfile = assemble(alloc, &sources, &environ)?;
+    let keys = invocations(alloc, &justfile, &[name])?;
+    let closure = closure(alloc, &justfile, keys.as_slice())?;
+    let plan = plan_for(alloc, &justfile, Utf8Path::new("/"), closure)?;
+    Ok(beside(alloc, plan)?)
+}
+
+/// A host with no files, over which that happens.
+pub fn memory(alloc: Global, plot: Plot) -> Result<MemHost, NoMemory> {
+    let environ = Environ {
+        pairs: Seq::new(alloc),
+    };
+    let current = Utf8Path::new("/").to_path_buf(alloc)?;
+    MemHost::new(alloc, Tree::new(alloc), current, environ, plot)
+}
+
+/// What a run left, taken apart.
+pub fn left<H: Host>(driven: Driven<H>) -> (H, Plan, Seq<Event>, Verdict) {
+    let Driven {
+        host,
+        plan,
+        history,
+        verdict,
+    } = driven;
+    (host, plan, history, verdict)
+}
