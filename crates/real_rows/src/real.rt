@@ -1,44 +1,10 @@
-//! The real host: files, children, and a whole run.
+//! The real host: how children end, and how files are read or missed; the signals.
 
-use just_cli::{Ended, run};
-use just_host::{Entry, Host, HostFault, RealHost, Signal, Spec, Status};
-use just_path::{Miss, NoMemory, Seq, Text, Utf8Path};
-use std::alloc::Global;
+use super::children::{end_of, shell};
+use just_host::{Host, HostFault, RealHost, Signal, Status};
+use just_path::{Miss, Utf8Path};
 use std::fs;
-use std::process::{Processes, SystemProcess};
-use std::rt::Runtime;
-use std::sync::Wait;
 use std::test::Fail;
-use std::thread::Threads;
-
-/// `sh -cu LINE` with `A` set to `1`.
-fn shell(alloc: Global, line: &str) -> Result<Spec, NoMemory> {
-    let mut arguments = Vec::new(alloc);
-    arguments.push(Text::from_str(alloc, "-cu")?)?;
-    arguments.push(Text::from_str(alloc, line)?)?;
-    let mut changes = Vec::new(alloc);
-    changes.push((
-        Text::from_str(alloc, "A")?,
-        Some(Text::from_str(alloc, "1")?),
-    ))?;
-    Ok(Spec {
-        program: Text::from_str(alloc, "sh")?,
-        arguments: Seq::from(arguments),
-        folder: None,
-        changes: Seq::from(changes),
-        script: None,
-    })
-}
-
-/// Starts, waits for and settles a child.
-fn end_of<H: Host>(alloc: Global, host: &mut H, line: &str) -> Result<Status, HostFault> {
-    let spec = shell(alloc, line)?;
-    host.room(1)?;
-    let child = host.start(&spec)?;
-    let number = H::number(&child);
-    let done = H::wait(child);
-    host.settle(number, done)
-}
 
 #[test]
 fn real_start(rt: HostRuntime) -> Result<(), Fail> {
@@ -48,7 +14,8 @@ fn real_start(rt: HostRuntime) -> Result<(), Fail> {
         ("exit $A", Status::Code(1)),
         ("kill -TERM $$", Status::Signal(15)),
     ] {
-        let found = end_of(rt.alloc(), &mut host, line);
+        let spec = shell(rt.alloc(), None, line)?;
+        let found = end_of(&mut host, &spec);
         assert!(rt; found == Ok(want), "{line}");
     }
     Ok(())
@@ -79,46 +46,6 @@ fn real_read(rt: HostRuntime) -> Result<(), Fail> {
         let found = miss_of(&mut host, path);
         assert!(rt; found == want.map(HostFault::Missed), "{path:?}");
     }
-    Ok(())
-}
-
-fn driven<R: Threads + Wait + Sync, H: Host + Send + Drop>(_rt: &R, host: H) -> H {
-    host
-}
-
-/// A real host can be handed to what starts threads, over the bounds that a program has.
-fn handed_on<R: Runtime + Processes<Started = SystemProcess> + Threads + Wait + Send + Sync>(
-    rt: &R,
-    alloc: Global,
-) -> Result<RealHost<R>, NoMemory>
-where
-    R::File: Send,
-    R::Dir: Send,
-    R::Reader: Send,
-    R::A: Send,
-{
-    let host = RealHost::new(rt, alloc)?;
-    Ok(driven(rt, host))
-}
-
-/// How many children ended with code 0.
-fn well_count(entries: &[Entry]) -> usize {
-    let mut count: usize = 0;
-    for entry in entries {
-        if matches!(entry, Entry::Ended(_, Status::Code(0))) {
-            count = count.saturating_add(1);
-        }
-    }
-    count
-}
-
-#[test]
-fn real_sh(rt: HostRuntime) -> Result<(), Fail> {
-    fs::write(&rt, "justfile", "b: a\n\techo b\n\na:\n\techo a\n")?;
-    let Ended { host, result } = run(&rt, rt.alloc(), &["b"])?;
-    assert!(rt; result.is_ok());
-    assert_eq!(rt; well_count(host.entries()), 2);
-    assert!(rt; handed_on(&rt, rt.alloc())?.entries().is_empty());
     Ok(())
 }
 
