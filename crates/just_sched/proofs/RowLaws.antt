@@ -1,7 +1,9 @@
 -- Laws of the rows of nodes.
-use Rattle.std.proofs.Common.{Bool, true, ◌≡◌, ℕ, ◌+◌, ◌<◌, ◌≤◌, ◌⊎◌, inl, inr, ⊎_elim, ◌||◌, false, cond, List, [], ◌∷◌, ◌++◌, length, set, get_or, get_or-set_same, get_or-set_other, length-append, refl, sym, ap, ap₂, ◌∙◌, arith}
+use Rattle.std.proofs.Common.{Bool, true, ◌≡◌, ◌==◌, ◌&&◌, not, nat_lt, if◌then◌else◌, ℕ, ◌+◌, ◌<◌, ◌≤◌, ◌⊎◌, inl, inr, ⊎_elim, ◌||◌, false, cond, List, [], ◌∷◌, ◌++◌, length, set, get_or, get_or-set_same, get_or-set_other, length-append, refl, sym, ap, ap₂, ◌∙◌, arith}
 use Rattle.std.proofs.Math.ListN.{length-set, replicate, length-replicate}
 use Rattle.std.proofs.lemmas.List.{get_or-replicate}
+use Rattle.std.proofs.lemmas.List.Recursion.{is_count_by}
+use Rattle.std.proofs.lemmas.List.Sums.{count_by-le-length}
 use Rattle.std.proofs.Math.Bool.{Bool-set}
 use Rattle.std.proofs.Math.Bridge.{le_prop}
 use Rattle.std.proofs.Math.Decide.{dec_lt}
@@ -15,14 +17,15 @@ use Rattle.just_sched.specs.declared.event.Reason.{Reason}
 use Rattle.std.specs.Prelude.{Option, Some, None, is_some, filter_map}
 use Rattle.std.specs.List.{last_or, cons_option}
 use Rattle.just_sched.specs.declared.event.Event.{Event}
+use Rattle.just_sched.specs.declared.event.Event.TheVariants as event
 use Rattle.just_sched.specs.declared.row.Row.{Row}
 use Rattle.just_sched.specs.Rows.{IsRow, IsTable, IsTurned}
-use Rattle.just_sched.specs.State.{is_of, takes, gives, begins, skips, concludes, concludes_well, status_of, start_of, reason_in, has_taken, is_begun, is_done, is_over, is_over_well, statuses, last_start, reason_of}
+use Rattle.just_sched.specs.State.{is_of, takes, gives, begins, skips, starts, ends, start_count, end_count, is_running, concludes, concludes_well, status_of, start_of, reason_in, has_taken, is_begun, is_done, is_over, is_over_well, statuses, last_start, reason_of}
 use Rattle.just_sched.specs.Tables.{or_first}
 use Rattle.just_sched.proofs.OneMore.{took_more, gave_more, done_more}
 use Rattle.just_sched.proofs.Others.{others_stay}
 use Rattle.just_sched.proofs.TableLaws.{first_push}
-use Rattle.just_sched.proofs.Tests.{any_more, list_more}
+use Rattle.just_sched.proofs.Tests.{any_more, count_more, list_more}
 
 -- an item or none counts as many
 count_option : {A : Type 0} (o : Option A) → length (cons_option o []) ≡ cond (is_some o) 1 0
@@ -39,6 +42,19 @@ last_option d (x ∷ xs) o = last_option (Some x) xs o
 pub last_more : {A B : Type 0} (f : A → Option B) (xs : List A) (x : A) → last_or None (filter_map f (xs ++ x ∷ [])) ≡ or_first (f x) (last_or None (filter_map f xs))
 last_more f xs x = ap (λ ys. last_or None ys) (list_more f xs x) ∙ last_option None (filter_map f xs) (f x)
 
+-- an end of a node is one status of it
+end_status : (b : Bool) (t : Status) (xs : List Status) → length (cons_option (if b then Some t else None) xs) ≡ cond b (1 + length xs) (length xs)
+end_status true t xs = omega arith
+end_status false t xs = refl
+
+one_end : (n : ℕ) (e : Event) (h : List Event) → length (statuses (e ∷ h) n) ≡ cond (ends n e) (1 + length (statuses h n)) (length (statuses h n))
+one_end n (event.Ended m i c t) h = end_status (m == n) t (statuses h n)
+one_end n _ h = refl
+
+-- a node has a status for each of its ends
+pub ends_statuses : (h : List Event) (n : ℕ) → length (statuses h n) ≡ end_count h n
+ends_statuses h n = is_count_by (λ k. length (statuses k n)) (ends n) refl (one_end n) h
+
 -- how many the items give, with one item more
 pub length_more : {A B : Type 0} (f : A → Option B) (xs : List A) (x : A) → length (filter_map f (xs ++ x ∷ [])) ≡ length (filter_map f xs) + cond (is_some (f x)) 1 0
 length_more f xs x = ap length (list_more f xs x) ∙ length-append (filter_map f xs) (filter_map f (x ∷ [])) ∙ ap (λ n. length (filter_map f xs) + n) (count_option (f x))
@@ -52,6 +68,7 @@ row_turned h n e r s is t = record {
   skipped = t.skipped ∙ ap (λ b. b || skips n e) is.skipped ∙ sym (any_more (skips n) h e);
   done = t.done ∙ ap (λ b. b || concludes n e) is.done ∙ sym (done_more h e n);
   well = t.well ∙ ap (λ b. b || (skips n e || concludes_well n e)) is.well ∙ sym (any_more (λ x. skips n x || concludes_well n x) h e);
+  starts = t.starts ∙ ap (λ k. k + cond (starts n e) 1 0) is.starts ∙ sym (count_more (starts n) h e);
   started = t.started ∙ ap (or_first (start_of n e)) is.started ∙ sym (last_more (start_of n) h e);
   ended = t.ended ∙ ap (λ k. k + cond (is_some (status_of n e)) 1 0) is.ended ∙ sym (length_more (status_of n) h e);
   last = t.last ∙ ap (or_first (status_of n e)) is.last ∙ sym (last_more (status_of n) h e);
@@ -69,6 +86,7 @@ row_stays h n e r is other =
       skipped = is.skipped ∙ sym same.skipped;
       done = is.done ∙ sym same.done;
       well = is.well ∙ sym same.over_well;
+      starts = is.starts ∙ sym same.starts;
       started = is.started ∙ sym same.last_start;
       ended = is.ended ∙ ap length (sym same.statuses);
       last = is.last ∙ ap (λ ts. last_or None ts) (sym same.statuses);
@@ -99,7 +117,7 @@ table_stays h e rows is others n d lt = row_stays h n e (get_or rows n d) (is n 
 
 -- the row of a node of which no event speaks
 abbrev pub blank : Row
-blank = record { taken = false; given = false; begun = false; skipped = false; done = false; well = false; started = None; ended = 0; last = None; reason = None }
+blank = record { taken = false; given = false; begun = false; skipped = false; done = false; well = false; starts = 0; started = None; ended = 0; last = None; reason = None }
 
 -- a list has no more items than it is made of
 few_option : {A : Type 0} (o : Option A) (xs : List A) → length (cons_option o xs) ≤ length xs + 1
@@ -124,7 +142,7 @@ reasons_set = Coded-set (coded_option reason_contract.the_row.coded)
 pub table_blank : (rows : List Row) (n : ℕ) → rows ≡ replicate n blank → IsTable [] rows
 table_blank rows n are k d lt =
     let at : get_or rows k d ≡ blank = ap (λ xs. get_or xs k d) are ∙ get_or-replicate n k blank d (omega (arith, ap length are, length-replicate n blank, lt)) in
-    rw at (record { taken = refl; given = refl; begun = refl; skipped = refl; done = refl; well = refl; started = refl; ended = refl; last = refl; reason = refl })
+    rw at (record { taken = refl; given = refl; begun = refl; skipped = refl; done = refl; well = refl; starts = refl; started = refl; ended = refl; last = refl; reason = refl })
 
 -- ---- what a table gives of a node that has a row in it
 
@@ -136,6 +154,16 @@ module _ (h : List Event) (rows : List Row) (table : ∥ IsTable h rows ∥₁) 
   -- its body was skipped or is done
   pub over_in : (r.skipped || r.done) ≡ is_over h n
   over_in = ap (λ x. x.skipped || x.done) is ∙ ∥∥₁_elim table (Bool-set _ _) (λ t. ap₂ (λ a b. a || b) (t n r lt).skipped (t n r lt).done)
+
+  -- it runs a child
+  pub running_in : (nat_lt r.ended r.starts && not r.done) ≡ is_running h n
+  running_in =
+      ap (λ x. nat_lt x.ended x.starts && not x.done) is
+      ∙ ∥∥₁_elim table (Bool-set _ _) (λ t. ap₂ (λ a b. nat_lt a b && not (get_or rows n r).done) ((t n r lt).ended ∙ ends_statuses h n) (t n r lt).starts ∙ ap (λ c. nat_lt (end_count h n) (start_count h n) && not c) (t n r lt).done)
+
+  -- the command that it started last, and that command's child
+  pub started_in : r.started ≡ last_start h n
+  started_in = ap (λ x. x.started) is ∙ ∥∥₁_elim table (starts_set _ _) (λ t. (t n r lt).started)
 
   -- how many of its commands have ended
   pub ended_in : r.ended ≡ length (statuses h n)
@@ -156,6 +184,10 @@ reason_in_row h rows table n d lt = ∥∥₁_elim table (reasons_set _ _) (λ t
 -- a node has no more ends than there are events
 pub few_ended : (h : List Event) (rows : List Row) → ∥ IsTable h rows ∥₁ → (n : ℕ) (d : Row) → n < length rows → (get_or rows n d).ended ≤ length h
 few_ended h rows table n d lt = ∥∥₁_elim table le_prop (λ t. omega (arith, (t n d lt).ended, few_items (status_of n) h))
+
+-- nor more starts
+pub few_starts : (h : List Event) (rows : List Row) → ∥ IsTable h rows ∥₁ → (n : ℕ) (d : Row) → n < length rows → (get_or rows n d).starts ≤ length h
+few_starts h rows table n d lt = ∥∥₁_elim table le_prop (λ t. omega (arith, (t n d lt).starts, count_by-le-length (starts n) h))
 
 -- whether a node took a job
 pub taken_in_row : (h : List Event) (rows : List Row) → ∥ IsTable h rows ∥₁ → (n : ℕ) (d : Row) → n < length rows → (get_or rows n d).taken ≡ has_taken h n

@@ -221,6 +221,14 @@ module _ {s : Start} {h : List Event} {now : List Entry} {w : Option World} {spa
   pub running_open : (n : ℕ) → is_running h n ≡ true → is_open h n ≡ true
   running_open n r = ∥∥₁_elim account (Bool-set _ _) (λ a. (inside h n (running_inside (run_of s) h n a.kept.legal r)).is_open)
 
+  -- a node that is none of the plan's runs nothing
+  pub outside_still : (n : ℕ) → length s.plan.nodes ≤ n → is_running h n ≡ false
+  outside_still n le =
+      elim (is_running h n) as (λ b. is_running h n ≡ b → b ≡ false) [
+        | true ↦ λ r. absurd (omega (arith, node_in account n (running_open n r), le))
+        | false ↦ λ r. refl
+      ] refl
+
   -- a node that runs has a last start
   pub running_last : (n : ℕ) → is_running h n ≡ true → last_start h n ≡ None → ⊥
   running_last n r none = ∥∥₁_elim account (λ x. absurd x) (λ a. let d = (agrees (run_of s) h n a.kept.legal).child (runs h n r).0 in cc (sym none ∙ d.1))

@@ -5,7 +5,7 @@ use Rattle.just_sched.specs.declared.event.Event.{Event}
 use Rattle.just_sched.specs.declared.plan_node.PlanNode.{PlanNode}
 use Rattle.just_sched.specs.declared.row.Row.{Row}
 use Rattle.just_sched.specs.declared.tables.Tables.{Tables}
-use Rattle.just_sched.specs.State.{takes, gives, begins, skips, concludes, concludes_well, status_of, start_of, reason_in, has_taken, has_given, is_begun, is_skipped, is_done, is_over_well, statuses, last_start, reason_of, IsFinished, IsWanted}
+use Rattle.just_sched.specs.State.{takes, gives, begins, skips, starts, start_count, concludes, concludes_well, status_of, start_of, reason_in, has_taken, has_given, is_begun, is_skipped, is_done, is_over_well, statuses, last_start, reason_of, IsFinished, IsWanted}
 use Rattle.just_sched.specs.Tables.{FlagsMean, or_first}
 
 -- the row says of the node what the history says
@@ -16,6 +16,7 @@ pub record IsRow (h : List Event) (n : ℕ) (r : Row) : Type 0 where
   pub skipped : r.skipped ≡ is_skipped h n
   pub done : r.done ≡ is_done h n
   pub well : r.well ≡ is_over_well h n
+  pub starts : r.starts ≡ start_count h n
   pub started : r.started ≡ last_start h n
   pub ended : r.ended ≡ length (statuses h n)
   pub last : r.last ≡ last_or None (statuses h n)
@@ -33,6 +34,7 @@ pub record IsTurned (n : ℕ) (e : Event) (old new : Row) : Type 0 where
   pub skipped : new.skipped ≡ (old.skipped || skips n e)
   pub done : new.done ≡ (old.done || concludes n e)
   pub well : new.well ≡ (old.well || (skips n e || concludes_well n e))
+  pub starts : new.starts ≡ old.starts + cond (starts n e) 1 0
   pub started : new.started ≡ or_first (start_of n e) old.started
   pub ended : new.ended ≡ old.ended + cond (is_some (status_of n e)) 1 0
   pub last : new.last ≡ or_first (status_of n e) old.last

@@ -22,6 +22,7 @@ ghost use base.Stored.{Coded-set};
 use super::calls::{banner, planned, start_child, tell};
 use super::noting::note;
 use super::room::{command_count, event_count};
+use super::row::is_running;
 use super::steps::judge;
 use super::tables::Tables;
 use super::{
@@ -259,6 +260,23 @@ impl<H: Host + Drop, P: Naming> Book<H, P> {
             plan,
             history: Seq::from(history),
             verdict,
+        }
+    }
+
+    /// The child that the node runs with, if it runs.
+    pub(crate) fn child_of(&self, node: u32) -> Option<u32>
+        ensures { MatchOption result (is_running self.now.history.items node ≡ false) (λ c. RunsWith self.now.history.items node c) }
+    {
+        if node as usize >= self.tables.size {
+            return None;
+        }
+        let row = self.tables.row(node);
+        if !is_running(row) {
+            return None;
+        }
+        match row.started {
+            Some((_, child)) => Some(child),
+            None => unreachable!(),
         }
     }
 

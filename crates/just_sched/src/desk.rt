@@ -3,6 +3,7 @@
 ghost use Rattle.std.specs.Prelude.{◌≡◌, ◌+◌, ◌<◌, ℕ, [], true, false, MatchOption};
 ghost use Rattle.std.specs.List.{list_any};
 ghost use Rattle.just_sched.specs.Idle.{IsIdle};
+ghost use Rattle.just_sched.specs.Legal.{open_bodies};
 ghost use Rattle.just_sched.specs.Moves.{MatchNext};
 ghost use Rattle.just_sched.specs.Running.{EachOpenRuns, EachNoIsDone};
 ghost use Rattle.just_sched.specs.Start.{run_of};
@@ -53,7 +54,10 @@ impl<H: Host + Drop, P: Naming> Desk<H, P> {
     }
 
     /// Whether no body is open.
-    pub fn is_quiet(&self) -> bool {
+    pub fn is_quiet(&self) -> bool
+        ensures quiet { result ≡ true → open_bodies (run_of P.start) self.now.book.history.items ≡ 0 }
+        ensures busy { result ≡ false → 0 < open_bodies (run_of P.start) self.now.book.history.items }
+    {
         self.book.open_bodies() == 0
     }
 

@@ -1,33 +1,16 @@
 //! The node whose child's end a book notes.
 
-ghost use Rattle.std.specs.Prelude.{◌≡◌, ◌<◌, ◌⊎◌, ℕ, false, MatchOption, IfSome, IfNone};
+ghost use Rattle.std.specs.Prelude.{◌≡◌, ◌<◌, ◌⊎◌, ℕ, false, IfSome, IfNone};
 ghost use Rattle.just_sched.specs.Legal.{all_starts};
 ghost use Rattle.just_sched.specs.Match.{IsStranger};
 ghost use Rattle.just_sched.specs.Moves.{RunsWith};
 ghost use Rattle.just_sched.specs.Room.{settle_count};
 ghost use Rattle.just_sched.specs.Running.{IsLeastRunning, IsNotedFor};
-ghost use Rattle.just_sched.specs.State.{is_running as running_of};
 
-use super::look::last_start;
-use super::running::is_running;
 use super::{Book, Naming};
 use just_outside::Host;
 
 impl<H: Host + Drop, P: Naming> Book<H, P> {
-    /// The child that the node runs with, if it runs.
-    fn child_of(&self, node: u32) -> Option<u32>
-        ensures { MatchOption result (running_of self.now.history.items node ≡ false) (λ c. RunsWith self.now.history.items node c) }
-    {
-        let history = self.history.as_slice();
-        if !is_running(history, node) {
-            return None;
-        }
-        match last_start(history, node) {
-            Some((_, child)) => Some(child),
-            None => unreachable!(),
-        }
-    }
-
     /// The node that runs with the child, if one does.
     fn node_with(&self, child: u32) -> Option<u32>
         ensures some { IfSome result (λ n. RunsWith self.now.history.items n child) }

@@ -22,7 +22,6 @@ mod plan_node;
 mod planning;
 mod room;
 mod row;
-mod running;
 mod seat;
 mod semaphore;
 mod shared;

@@ -2,25 +2,10 @@
 
 ghost use Rattle.std.specs.Prelude.{◌≡◌, ◌^◌, Option, None, length};
 ghost use Rattle.std.specs.List.{last_or};
-ghost use Rattle.just_sched.specs.State.{last_start as start_of, reason_of as failure_of, statuses};
+ghost use Rattle.just_sched.specs.State.{reason_of as failure_of, statuses};
 
 use super::{Event, Outcome, Reason};
 use just_outside::Status;
-
-/// The command that the node started last, and that command's child.
-pub(crate) fn last_start(history: &[Event], node: u32) -> Option<(u32, u32)>
-    ensures { result ≡ start_of history.now node }
-{
-    let mut last: Option<(u32, u32)> = None;
-    for event in history {
-        if let Event::Started(n, at, child) = event {
-            if *n == node {
-                last = Some((*at, *child));
-            }
-        }
-    }
-    last
-}
 
 /// Why the node failed, if it did.
 pub fn reason_of(history: &[Event], node: u32) -> Option<Reason>

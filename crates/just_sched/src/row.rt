@@ -1,6 +1,6 @@
 //! What the events so far say of one node.
 
-ghost use Rattle.std.specs.Prelude.{◌≡◌, ◌+◌, ◌<◌, ◌^◌, ◌++◌, ◌∷◌, [], ℕ, true, false, List, length, vec_len, slice_index_or};
+ghost use Rattle.std.specs.Prelude.{◌≡◌, ◌+◌, ◌<◌, ◌^◌, ◌&&◌, not, nat_lt, ◌++◌, ◌∷◌, [], ℕ, true, false, List, length, vec_len, slice_index_or};
 ghost use Rattle.just_sched.specs.declared.event.Event.{Event};
 ghost use Rattle.just_sched.specs.declared.row.Row.{Row};
 ghost use Rattle.just_sched.specs.State.{is_of, node_of};
@@ -19,6 +19,8 @@ pub(crate) struct Row {
     pub done: bool,
     /// Whether it was skipped, or its body ended well.
     pub well: bool,
+    /// How many of its commands were started.
+    pub starts: usize,
     /// The place and the child of the command that it started last.
     pub started: Option<(u32, u32)>,
     /// How many of its commands have ended.
@@ -37,6 +39,7 @@ pub(crate) const BLANK: Row = Row {
     skipped: false,
     done: false,
     well: false,
+    starts: 0,
     started: None,
     ended: 0,
     last: None,
@@ -47,6 +50,7 @@ pub(crate) const BLANK: Row = Row {
 pub(crate) fn turned(row: Row, node: u32, event: &Event) -> Row
     requires own { is_of node event.now ≡ true }
     requires few { row.ended < 2 ^ 63 }
+    requires few_starts { row.starts < 2 ^ 63 }
     ensures { IsTurned node event.now row result }
 {
     let mut row = row;
@@ -58,7 +62,10 @@ pub(crate) fn turned(row: Row, node: u32, event: &Event) -> Row
             row.skipped = true;
             row.well = true;
         }
-        Event::Started(_, place, child) => row.started = Some((*place, *child)),
+        Event::Started(_, place, child) => {
+            row.starts += 1;
+            row.started = Some((*place, *child));
+        }
         Event::Ended(_, _, _, status) => {
             row.ended += 1;
             row.last = Some(*status);
@@ -76,6 +83,13 @@ pub(crate) fn turned(row: Row, node: u32, event: &Event) -> Row
         Event::Asked(_, _) | Event::Looked(_, _, _) | Event::Saved(_) | Event::Caught(_) => {}
     }
     row
+}
+
+/// Whether the node of this row runs a child.
+pub(crate) fn is_running(row: Row) -> bool
+    ensures { result ≡ (nat_lt row.ended row.starts && not row.done) }
+{
+    row.ended < row.starts && !row.done
 }
 
 /// The node that the event is one of.
@@ -100,6 +114,7 @@ pub(crate) fn node_of(event: &Event) -> Option<u32>
 /// Notes an event in the row of its node.
 pub(crate) fn mark(rows: &mut Vec<Row>, event: &Event)
     requires few { (n : ℕ) → (d : Row) → n < length rows.old.items → (slice_index_or rows.old.items n d).ended < 2 ^ 63 }
+    requires few_starts { (n : ℕ) → (d : Row) → n < length rows.old.items → (slice_index_or rows.old.items n d).starts < 2 ^ 63 }
     ensures size { vec_len rows.new ≡ vec_len rows.old }
     ensures table { (h : List Event) → IsTable h rows.old.items → IsTable (h ++ event.now ∷ []) rows.new.items }
 {

@@ -58,7 +58,7 @@ pub struct Guard<'a, R: Wait> {
 }
 
 impl Semaphore {
-    /// So many jobs, all of them free.
+    /// So many jobs, all of them free. No clause: what a lock holds is said by the type of what it guards.
     pub fn new(resource: NonZeroU64) -> Semaphore {
         let made = resource.get();
         Semaphore {
@@ -71,7 +71,8 @@ impl Semaphore {
         }
     }
 
-    /// Takes a job, and waits for one where none is free. It takes no memory.
+    /// Takes a job, and waits for one where none is free. It takes no memory. No clause: that free jobs and guards are together
+    /// the jobs that were made is kept by the type under the lock, and what one caller did there can't be said outside it.
     pub fn acquire<'a, R: Wait>(&'a self, rt: &'a R) -> Guard<'a, R> {
         let mut jobs = self.jobs.lock(rt);
         'tries: for _ in rt.forever() {

@@ -16,6 +16,7 @@ pub struct Shared<H: Host + Drop, P: Naming> {
 }
 
 impl<H: Host + Drop, P: Naming> Shared<H, P> {
+    /// The run of this desk, shared from now on. No clause: what a lock holds is said by the type of what it guards.
     pub fn new(desk: Desk<H, P>) -> Shared<H, P> {
         Shared {
             desk: Mutex::new(desk),
@@ -23,7 +24,8 @@ impl<H: Host + Drop, P: Naming> Shared<H, P> {
         }
     }
 
-    /// The desk, once no worker shares the run any more.
+    /// The desk, once no worker shares the run any more. No clause: what is known of a desk that comes from under a lock is
+    /// what its type keeps.
     pub fn into_desk(self) -> Desk<H, P> {
         let Shared { desk, moved: _ } = self;
         desk.into_inner()

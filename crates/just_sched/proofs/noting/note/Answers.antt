@@ -2,12 +2,15 @@
 use Rattle.std.proofs.Common.{arith, sym, subst, ◌∙◌}
 use Rattle.std.proofs.Math.Logic.{∥∥₁_map}
 use Rattle.just_sched.specs.Rows.{IsTable}
-use Rattle.just_sched.proofs.RowLaws.{few_ended}
+use Rattle.just_sched.proofs.RowLaws.{few_ended, few_starts}
 use Rattle.just_sched.proofs.TablesLaws.{rows_of, noted_stays}
 use Rattle.just_sched.proofs.noting.note.Goals as goal
 
 pub mark-requires : goal.mark-requires
-mark-requires c = record { few = λ n d lt. omega (arith, few_ended c.args.history.now.items c.args.tables.now.rows.items (rows_of c.requires.noted) n d lt, c.args.history.now.ok.0, c.args.history.now.small) }
+mark-requires c = record {
+  few_starts = λ n d lt. omega (arith, few_starts c.args.history.now.items c.args.tables.now.rows.items (rows_of c.requires.noted) n d lt, c.args.history.now.ok.0, c.args.history.now.small);
+  few = λ n d lt. omega (arith, few_ended c.args.history.now.items c.args.tables.now.rows.items (rows_of c.requires.noted) n d lt, c.args.history.now.ok.0, c.args.history.now.small);
+}
 
 pub settle-requires-clause-table : goal.settle-requires-clause-table
 settle-requires-clause-table c =
