@@ -1,6 +1,6 @@
 -- A node that runs has a last start, by which it runs with that child; both are noted in its row.
-use Rattle.std.proofs.Common.{◌≡◌, ◌≤◌, true, None, length, ap, sym, ◌∙◌, arith}
-use Rattle.just_sched.specs.State.{is_running, last_start}
+use Rattle.std.proofs.Common.{◌≡◌, true, length, ap, sym, ◌∙◌, arith}
+use Rattle.just_sched.specs.State.{is_running}
 use Rattle.just_sched.proofs.RowLaws.{running_in, started_in}
 use Rattle.just_sched.proofs.Runners.{outside_still, running_last, running_open}
 use Rattle.just_sched.proofs.TablesLaws.{rows_of}
