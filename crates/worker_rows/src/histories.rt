@@ -63,7 +63,7 @@ fn behind(phase: Phase, event: &Event, commands: u32, children: u32) -> Option<P
 /// How many commands a node has.
 fn command_count(node: &PlanNode) -> u32 {
     match &node.work {
-        Work::Lines(commands) => commands.len() as u32,
+        Work::Lines(commands) => u32::try_from(commands.len()).unwrap_or(u32::MAX),
         Work::Script(_) => 1,
         Work::Empty => 0,
     }
