@@ -37,15 +37,18 @@ pub led_finished : (finished wanted : List Bool) (at : ℕ) (together : Bool) (x
     → (together ≡ true) ⊎ ((j : ℕ) → j < length xs → slice_index xs j ≡ at → ⊥)
     → IsLed finished wanted together xs → IsLed (set finished at true) wanted together xs
 led_finished finished wanted at together xs which led k next =
-    led k
-    (next.0, next.1, next.2,
-    ⊎_elim (λ (all : together ≡ true). inl all)
-    (λ (never : (j : ℕ) → j < length xs → slice_index xs j ≡ at → ⊥).
-    ⊎_elim (λ (all : together ≡ true). inl all)
-    (λ (each : (j : ℕ) → j < next.0 → flag (set finished at true) (slice_index xs j) ≡ true).
-    inr (λ j less. flag_other finished at (slice_index xs j) (never j (omega (arith, less, next.1))) (each j less)))
-    next.3)
-    which)
+    led k (
+      next.0,
+      next.1,
+      next.2,
+      ⊎_elim (λ (all : together ≡ true). inl all)
+          (λ (never : (j : ℕ) → j < length xs → slice_index xs j ≡ at → ⊥).
+          ⊎_elim (λ (all : together ≡ true). inl all)
+          (λ (each : (j : ℕ) → j < next.0 → flag (set finished at true) (slice_index xs j) ≡ true).
+          inr (λ j less. flag_other finished at (slice_index xs j) (never j (omega (arith, less, next.1))) (each j less)))
+          next.3)
+          which,
+    )
 
 -- a list that is led in turn is led, where its members go together or don't
 pub led_either : (finished wanted : List Bool) (together : Bool) (xs : List ℕ) → (together ≡ true → IsLed finished wanted true xs) → IsLed finished wanted false xs → IsLed finished wanted together xs

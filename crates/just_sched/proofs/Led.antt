@@ -108,11 +108,13 @@ led_on finished old new together xs keeps led k next = keeps k (led k next)
 
 -- one member more is finished and wanted
 pub before_more : (finished old new : List Bool) (xs : List ℕ) (at : ℕ) → ((k : ℕ) → flag old k ≡ true → flag new k ≡ true) → at < length xs → IsBefore finished old xs at → flag finished (slice_index xs at) ≡ true → flag new (slice_index xs at) ≡ true → IsBefore finished new xs (at + 1)
-before_more finished old new xs at keeps lt before done raised =
-    (omega arith, λ j less. ⊎_elim
-    (λ (same : j ≡ at). (subst (λ i. flag finished (slice_index xs i) ≡ true) (sym same) done, subst (λ i. flag new (slice_index xs i) ≡ true) (sym same) raised))
-    (λ (other : j ≡ at → ⊥). let sooner : j < at = omega (arith, less, other) in ((before.1 j sooner).0, keeps (slice_index xs j) (before.1 j sooner).1))
-    (same_or j at))
+before_more finished old new xs at keeps lt before done raised = (
+  omega arith,
+  λ j less. ⊎_elim
+      (λ (same : j ≡ at). (subst (λ i. flag finished (slice_index xs i) ≡ true) (sym same) done, subst (λ i. flag new (slice_index xs i) ≡ true) (sym same) raised))
+      (λ (other : j ≡ at → ⊥). let sooner : j < at = omega (arith, less, other) in ((before.1 j sooner).0, keeps (slice_index xs j) (before.1 j sooner).1))
+      (same_or j at),
+)
 
 -- only those that may come next were flagged, and so is the member at a place before which all are finished
 pub only_more : (finished first old new : List Bool) (xs : List ℕ) (at n : ℕ) → n ≡ slice_index xs at → at < length xs → IsBefore finished old xs at

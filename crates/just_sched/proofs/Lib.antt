@@ -20,6 +20,7 @@ pub mod EventRoom
 pub mod Finish
 pub mod Finishing
 pub mod Gained
+pub mod Going
 pub mod Grows
 pub mod Histories
 pub mod Laws
@@ -30,6 +31,7 @@ pub mod Order
 pub mod Others
 pub mod Parents
 pub mod Placing
+pub mod Plainly
 pub mod PlanLaws
 pub mod PlanShape
 pub mod Plans

@@ -124,9 +124,9 @@ pub told_next : (nodes : List PlanNode) (invocations : List ℕ) (h : List Event
 told_next nodes invocations h p q at lt up all over_is set_is keeps told =
     let done : AllFinished nodes h q.finished.items =
     λ k raised. ⊎_elim
-        (λ (same : k ≡ at). subst (λ i. IsFinished nodes h i) (sym same) (finished at (sym (told.over at lt) ∙ up) (λ i c. told.finished i (all i c))))
-        (λ (other : k ≡ at → ⊥). told.finished k (flag_other p.finished.items at k other (subst (λ xs. flag xs k ≡ true) set_is raised)))
-        (same_or k at) in
+    (λ (same : k ≡ at). subst (λ i. IsFinished nodes h i) (sym same) (finished at (sym (told.over at lt) ∙ up) (λ i c. told.finished i (all i c))))
+    (λ (other : k ≡ at → ⊥). told.finished k (flag_other p.finished.items at k other (subst (λ xs. flag xs k ≡ true) set_is raised)))
+    (same_or k at) in
     record {
       over = λ k within. ap (λ xs. flag xs k) over_is ∙ told.over k (omega (arith, within, ap (λ xs. length xs) over_is));
       finished = done;

@@ -59,7 +59,13 @@ impl Progress {
         let list = nodes[at].node.subsequents.as_slice();
         let finished = self.finished.as_slice();
         let wanted = self.wanted.as_mut_slice();
-        let place = lead(list, self.subsequents[at], finished, wanted, &mut self.pending);
+        let place = lead(
+            list,
+            self.subsequents[at],
+            finished,
+            wanted,
+            &mut self.pending,
+        );
         self.subsequents[at] = place;
         place == list.len()
     }
@@ -83,10 +89,23 @@ impl Progress {
         let finished = self.finished.as_mut_slice();
         finished[at] = true;
         let wanted = self.wanted.as_mut_slice();
-        let place = lead(plan.invocations.as_slice(), self.invocations, finished, wanted, &mut self.pending);
+        let place = lead(
+            plan.invocations.as_slice(),
+            self.invocations,
+            finished,
+            wanted,
+            &mut self.pending,
+        );
         self.invocations = place;
         let places = self.priors.as_mut_slice();
-        spread(plan, self.dependents[at].as_slice(), finished, wanted, places, &mut self.pending);
+        spread(
+            plan,
+            self.dependents[at].as_slice(),
+            finished,
+            wanted,
+            places,
+            &mut self.pending,
+        );
     }
 
     /// Whether a node that is over well is finished by what was found of its subsequents; the node to go on with, one of

@@ -34,7 +34,6 @@ mod steps;
 mod tables;
 mod token;
 mod verdict;
-mod wanted;
 mod work;
 mod worker;
 

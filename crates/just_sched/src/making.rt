@@ -1,17 +1,17 @@
 //! The making of what is kept of a run's progress, and the noting of a node that is over well.
 
-ghost use Rattle.std.specs.Prelude.{◌≡◌, ◌+◌, ◌<◌, ◌≤◌, ◌⊎◌, ℕ, [], true, false, Some, None, IfOk, List, length, slice_index, slice_set, map, slice_index_or, Contains, vec_len, vec_capacity};
+ghost use Rattle.std.specs.Prelude.{◌≡◌, ◌+◌, ◌<◌, ◌≤◌, ◌⊎◌, ◌||◌, ℕ, [], true, false, Some, None, IfOk, List, length, slice_index, slice_set, map, slice_index_or, Contains, vec_len, vec_capacity};
 ghost use Rattle.just_sched.specs.declared.event.Event.{Event};
 ghost use Rattle.just_sched.specs.Nodes.{priors_at};
 ghost use Rattle.just_sched.specs.Tables.{FlagsAre};
-ghost use Rattle.just_sched.specs.State.{is_over_well};
+ghost use Rattle.just_sched.specs.State.{is_over_well, names};
 ghost use Rattle.just_sched.specs.Led.{AllFinished, AllWanted};
 ghost use Rattle.just_sched.specs.Progress.{IsPlaced, IsClosedBut, IsTold};
 
 use super::Plan;
+use super::descent::descend;
 use super::progress::Progress;
 use super::spread::{lead, want_all};
-use super::descent::descend;
 use just_path::NoMemory;
 use std::alloc::Global;
 
@@ -83,7 +83,7 @@ impl Progress {
     }
 
     /// Notes that a node is over well, and all that follows from it.
-    pub(crate) fn settle(&mut self, plan: &Plan, node: usize)
+    fn settle(&mut self, plan: &Plan, node: usize)
         requires within { node < length plan.now.nodes }
         requires size { self.old.size ≡ length plan.now.nodes }
         requires placed { IsPlaced plan.now.nodes plan.now.invocations self.old }
@@ -97,6 +97,26 @@ impl Progress {
         self.enter(plan, node);
         self.climb(plan, node);
         self.clear_pending(plan);
+    }
+
+    /// The same of a node that an event shows to be over well, if it shows one and the plan has it.
+    pub(crate) fn go_on(&mut self, plan: &Plan, over: Option<u32>)
+        requires size { self.old.size ≡ length plan.now.nodes }
+        requires placed { IsPlaced plan.now.nodes plan.now.invocations self.old }
+        requires closed { IsClosedBut plan.now.nodes plan.now.invocations self.old None }
+        ensures size { self.new.size ≡ self.old.size }
+        ensures placed { IsPlaced plan.now.nodes plan.now.invocations self.new }
+        ensures closed { IsClosedBut plan.now.nodes plan.now.invocations self.new None }
+        ensures none { self.old.pending.items ≡ [] → self.new.pending.items ≡ [] }
+        ensures told { (h later : List Event) → ((n : ℕ) → is_over_well later n ≡ (is_over_well h n || names over n)) → IsTold plan.now.nodes plan.now.invocations h self.old → IsTold plan.now.nodes plan.now.invocations later self.new }
+    {
+        let Some(node) = over else {
+            return;
+        };
+        let at = node as usize;
+        if at < self.size {
+            self.settle(plan, at);
+        }
     }
 
     /// Nothing is over well, finished or wanted, and no list is begun.
@@ -158,7 +178,13 @@ impl Progress {
     {
         let finished = self.finished.as_slice();
         let wanted = self.wanted.as_mut_slice();
-        let place = lead(plan.invocations.as_slice(), self.invocations, finished, wanted, &mut self.pending);
+        let place = lead(
+            plan.invocations.as_slice(),
+            self.invocations,
+            finished,
+            wanted,
+            &mut self.pending,
+        );
         self.invocations = place;
     }
 }

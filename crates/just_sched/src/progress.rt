@@ -4,8 +4,8 @@ ghost use Rattle.std.specs.Prelude.{◌≡◌, ◌+◌, ◌<◌, ◌≤◌, ◌�
 ghost use Rattle.just_sched.specs.declared.event.Event.{Event};
 
 use super::Plan;
-use super::spread::{lead, lead_all};
 use super::descent::{descend, spread};
+use super::spread::{lead, lead_all};
 
 /// What is kept of a run's progress.
 #[derive(Debug, Drop)]

@@ -22,7 +22,7 @@ pub returns-then-not-over-next-clause-parent : goal.returns-then-not-over-next-c
 returns-then-not-over-next-clause-parent c = λ m at up.
     let plan = c.args.plan.now in
     let same = some_is c.in-Some.parent m (sym c.in-Some.is ∙ ap (λ x. x.node.round) c.index-as_slice-at.is
-        ∙ parent_is plan.nodes plan.invocations plan.well c.args.at _ (node_read plan.nodes c.as_slice.result.now c.args.at c.index-as_slice-at.result c.as_slice.ensures c.requires.within) m at) in
+    ∙ parent_is plan.nodes plan.invocations plan.well c.args.at _ (node_read plan.nodes c.as_slice.result.now c.args.at c.index-as_slice-at.result c.as_slice.ensures c.requires.within) m at) in
     absurd (true≢false (sym up ∙ subst (λ i. flag c.args.over.now i ≡ false) same c.if-not-over-next.true))
 
 pub returns-clause-parent : goal.returns-clause-parent

@@ -58,9 +58,9 @@ loop-next-preserved c =
     let rest = c.pop.new.self.items in
     let after = c.lead_all-place.new.pending.items in
     let only = subst (λ (b : Bool). (k : ℕ) → flag new k ≡ true → (flag old k ≡ true) ⊎ MayFollow f b (priors_at plan.nodes m) k) (together here)
-        (subst (λ (xs : List ℕ). (k : ℕ) → flag new k ≡ true → (flag old k ≡ true) ⊎ MayFollow f c.index-as_slice-at.result.parallel xs k) (are here) c.lead_all-place.ensures.only) in
+    (subst (λ (xs : List ℕ). (k : ℕ) → flag new k ≡ true → (flag old k ≡ true) ⊎ MayFollow f c.index-as_slice-at.result.parallel xs k) (are here) c.lead_all-place.ensures.only) in
     let led = subst (λ (b : Bool). IsLed f new b (priors_at plan.nodes m)) (together here)
-        (subst (λ (xs : List ℕ). IsLed f new c.index-as_slice-at.result.parallel xs) (are here) c.lead_all-place.ensures.led) in
+    (subst (λ (xs : List ℕ). IsLed f new c.index-as_slice-at.result.parallel xs) (are here) c.lead_all-place.ensures.led) in
     let raised = c.lead_all-place.ensures.raised in
     record {
       sized = raised.sized ∙ c.loop-next.invariant.sized;

@@ -117,7 +117,7 @@ returns-clause-wanted c =
     let f = set c.as_mut_slice-finished.result.now c.args.at true in
     let w = c.spread.new.wanted in
     let only = subst (λ (xs : List ℕ). (k : ℕ) → flag c.lead-place.new.wanted k ≡ true → (flag self.wanted.items k ≡ true) ⊎ MayFollow f false xs k) c.as_slice.ensures
-        (subst (λ (v : List Bool). (k : ℕ) → flag c.lead-place.new.wanted k ≡ true → (flag v k ≡ true) ⊎ MayFollow f false c.as_slice.result.now k) c.as_mut_slice-wanted.ensures.value c.lead-place.ensures.only) in
+    (subst (λ (v : List Bool). (k : ℕ) → flag c.lead-place.new.wanted k ≡ true → (flag v k ≡ true) ⊎ MayFollow f false c.as_slice.result.now k) c.as_mut_slice-wanted.ensures.value c.lead-place.ensures.only) in
     subst (λ (v : List Bool). KeepsWanted plan.nodes plan.invocations v self.wanted.items (with_items self.wanted w).items) (sym (with_items_is self.finished f (set_are here)))
     (subst (λ (v : List Bool). KeepsWanted plan.nodes plan.invocations f self.wanted.items v) (sym (with_items_is self.wanted w (wanted_are here)))
     (wanted_on plan.nodes plan.invocations f self.wanted.items c.lead-place.new.wanted w (wanted_invoked plan.nodes plan.invocations f self.wanted.items c.lead-place.new.wanted only) c.spread.ensures.wanted))

@@ -13,10 +13,10 @@ pub first_by-requires-clause-wanted : goal.first_by-requires-clause-wanted
 first_by-requires-clause-wanted c =
     let plan = c.args.plan.now in
     subst (λ flags. FlagsMean flags (IsWanted plan.nodes plan.invocations c.args.history.now)) (sym c.as_slice.ensures.value)
-    (wanted_of plan.nodes plan.invocations c.args.history.now c.args.self.now plan.well c.requires.noted)
+    (wanted_of plan.nodes plan.invocations c.args.history.now c.args.self.now plan.well c.requires.noted c.requires.size)
 
 pub first_by-requires-clause-finished : goal.first_by-requires-clause-finished
 first_by-requires-clause-finished c =
     let plan = c.args.plan.now in
     subst (λ flags. FlagsMean flags (IsFinished plan.nodes c.args.history.now)) (sym c.as_slice-3.ensures.value)
-    (finished_of plan.nodes plan.invocations c.args.history.now c.args.self.now plan.well c.requires.noted)
+    (finished_of plan.nodes plan.invocations c.args.history.now c.args.self.now plan.well c.requires.noted c.requires.size)
