@@ -14,12 +14,13 @@ use Rattle.just_sched.specs.declared.plan_node.PlanNode.{PlanNode}
 use Rattle.just_sched.specs.declared.tables.Tables.{Tables}
 use Rattle.just_sched.specs.Nodes.{priors_at, subsequents_at, parallel_at}
 use Rattle.just_sched.specs.Rows.{IsTable, IsNoted}
-use Rattle.just_sched.specs.State.{names, skips, concludes_well, first, reason_in, reason_of, has_failed, is_open, IsToAsk, is_over_well, IsFinished, IsWanted, MayComeNext, finished, invoked, prior, subsequent}
+use Rattle.just_sched.specs.State.{has_taken, is_done, takes, concludes, first, reason_in, reason_of, has_failed, is_open, IsToAsk, IsReady, is_over_well, IsFinished, IsWanted, MayComeNext, finished, invoked, prior, subsequent}
 use Rattle.just_sched.specs.Tables.{FlagsMean}
 use Rattle.just_sched.proofs.Deciding.{meant, told_finished, told_wanted}
 use Rattle.just_sched.proofs.PlanLaws.{shapes, confirmed_all}
 use Rattle.just_sched.proofs.Reasons.{none_to_ask}
 use Rattle.just_sched.proofs.RowLaws.{reason_in_row}
+use Rattle.just_sched.proofs.Tests.{any_kept, either_way}
 use Rattle.just_sched.proofs.Telling.{tells_finished, tells_wanted}
 use Rattle.just_sched.proofs.WantedLaws.{leads_weaker}
 
@@ -64,6 +65,20 @@ module _ (nodes : List PlanNode) (invocations : List ℕ) (h : List Event) (t : 
   wanted_of =
       meant t.progress.wanted.items (IsWanted nodes invocations h) (told_wanted nodes invocations well h)
       (∥∥₁_map noted (λ n. tells_wanted nodes invocations well h t.progress over_sized wanted_sized n.told n.closed n.none))
+
+-- who took a job or is done stays so
+pub left_kept : (h : List Event) (e : Event) (m : ℕ) → (has_taken h m || is_done h m) ≡ true → (has_taken (h ++ e ∷ []) m || is_done (h ++ e ∷ []) m) ≡ true
+left_kept h e m = either_way (has_taken h m) (is_done h m) (has_taken (h ++ e ∷ []) m) (is_done (h ++ e ∷ []) m) (any_kept (takes m) h e) (any_kept (concludes m) h e)
+
+-- none of them is ready
+pub left_not_ready : (nodes : List PlanNode) (invocations : List ℕ) (h : List Event) (left : ℕ) → ((m : ℕ) → m < left → (has_taken h m || is_done h m) ≡ true) → (n : ℕ) → n < left → IsReady nodes invocations h n → ⊥
+left_not_ready nodes invocations h left before n lt ready =
+    let clash : false ≡ true = sym (ap₂ (λ a b. a || b) ready.not_taken ready.not_done) ∙ before n lt in
+    cc
+
+-- the nodes before the first that is left
+pub left_of : (nodes : List PlanNode) (invocations : List ℕ) (h : List Event) (t : Tables) → ∥ IsNoted nodes invocations h t ∥₁ → (m : ℕ) → m < t.left → (has_taken h m || is_done h m) ≡ true
+left_of nodes invocations h t noted m lt = ∥∥₁_elim noted (Bool-set _ _) (λ n. n.left m lt)
 
 -- a node failed where there is a reason of it, by the first event
 failed_at : (b c : Bool) (r : Reason) (rs : List Reason) → is_some (first rs) ≡ c → is_some (first (cons_option (if b then Some r else None) rs)) ≡ (b || c)

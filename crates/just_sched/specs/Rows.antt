@@ -1,5 +1,5 @@
 -- What a book's table says of each node.
-use Rattle.std.specs.Prelude.{ℕ, ◌≡◌, ◌+◌, ◌<◌, ◌||◌, cond, List, [], length, slice_index_or, is_some, None}
+use Rattle.std.specs.Prelude.{ℕ, ◌≡◌, ◌+◌, ◌<◌, ◌||◌, true, cond, List, [], length, slice_index_or, is_some, None}
 use Rattle.std.specs.List.{last_or}
 use Rattle.just_sched.specs.declared.event.Event.{Event}
 use Rattle.just_sched.specs.declared.plan_node.PlanNode.{PlanNode}
@@ -42,10 +42,11 @@ pub record IsTurned (n : ℕ) (e : Event) (old new : Row) : Type 0 where
   pub reason : new.reason ≡ or_first old.reason (reason_in n e)
 
 -- The tables of a book say of each node what the history says: its row, and how far the run has come; of what is to be
--- flagged nothing is left.
+-- flagged nothing is left. Each node before the first that is left took a job or is done.
 pub record IsNoted (nodes : List PlanNode) (invocations : List ℕ) (h : List Event) (t : Tables) : Type 0 where
   pub rows : IsTable h t.rows.items
   pub placed : IsPlaced nodes invocations t.progress
   pub closed : IsClosedBut nodes invocations t.progress None
   pub none : t.progress.pending.items ≡ []
   pub told : IsTold nodes invocations h t.progress
+  pub left : (m : ℕ) → m < t.left → (has_taken h m || is_done h m) ≡ true

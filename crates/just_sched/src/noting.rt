@@ -7,7 +7,7 @@ ghost use Rattle.just_sched.specs.NodeStates.{IsState};
 ghost use Rattle.just_sched.specs.Legal.{Run};
 ghost use Rattle.just_sched.specs.Verdict.{IsVerdict};
 
-use super::choice::{first_by, is_ready};
+use super::choice::{first_by, first_left, is_ready};
 use super::flags::over_by;
 use super::progress::Progress;
 use super::row::{BLANK, Row, mark};
@@ -37,6 +37,7 @@ impl Tables {
         Ok(Tables {
             rows,
             progress,
+            left: 0,
             size: count,
         })
     }
@@ -51,16 +52,20 @@ impl Tables {
     }
 
     /// The ready node of least number. It takes no memory.
-    pub(crate) fn first_ready(&self, plan: &Plan, history: &[Event]) -> Option<u32>
-        requires size { self.now.size ≡ length plan.now.nodes }
-        requires noted { ∥ IsNoted plan.now.nodes plan.now.invocations history.now self.now ∥₁ }
+    pub(crate) fn first_ready(&mut self, plan: &Plan, history: &[Event]) -> Option<u32>
+        requires size { self.old.size ≡ length plan.now.nodes }
+        requires noted { ∥ IsNoted plan.now.nodes plan.now.invocations history.now self.old ∥₁ }
+        ensures size { self.new.size ≡ self.old.size }
+        ensures noted { ∥ IsNoted plan.now.nodes plan.now.invocations history.now self.new ∥₁ }
         ensures ready { IfSome result (λ n. (n < length plan.now.nodes) × IsReady plan.now.nodes plan.now.invocations history.now n) }
         ensures least { IfSome result (λ n. (m : ℕ) → m < n → IsReady plan.now.nodes plan.now.invocations history.now m → ⊥) }
         ensures none { IfNone result ((n : ℕ) → n < length plan.now.nodes → IsReady plan.now.nodes plan.now.invocations history.now n → ⊥) }
     {
+        self.left = first_left(history, self.rows.as_slice(), self.left);
         first_by(
             plan,
             history,
+            self.left,
             self.progress.wanted.as_slice(),
             self.rows.as_slice(),
             self.progress.finished.as_slice(),

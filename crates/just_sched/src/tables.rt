@@ -10,6 +10,8 @@ use super::row::Row;
 pub(crate) struct Tables {
     pub rows: Vec<Row>,
     pub progress: Progress,
+    /// Each node before this one took a job or is done.
+    pub left: usize,
     pub size: usize,
     pub ghost rows_sized: { vec_len rows ≡ size },
     pub ghost progress_sized: { progress.size ≡ size },

@@ -1,11 +1,11 @@
 -- An event is noted where it is added, and the run's progress goes on by it.
-use Rattle.std.proofs.Common.{arith, sym, subst, ap, ◌∙◌, ◌||◌}
+use Rattle.std.proofs.Common.{◌≡◌, true, arith, sym, subst, ap, ◌∙◌, ◌||◌}
 use Rattle.std.proofs.Math.Logic.{∥∥₁_map}
 use Rattle.just_sched.specs.Rows.{IsTable}
-use Rattle.just_sched.specs.State.{skips, concludes_well, is_over_well}
+use Rattle.just_sched.specs.State.{skips, concludes_well, is_over_well, has_taken, is_done}
 use Rattle.just_sched.proofs.Plainly.{placed_of, closed_of}
 use Rattle.just_sched.proofs.RowLaws.{few_ended, few_starts}
-use Rattle.just_sched.proofs.TablesLaws.{rows_of}
+use Rattle.just_sched.proofs.TablesLaws.{rows_of, left_kept}
 use Rattle.just_sched.proofs.Tests.{any_more}
 use Rattle.just_sched.proofs.noting.note.Goals as goal
 
@@ -31,4 +31,5 @@ returns-clause-noted c =
       closed = c.go_on.ensures.closed;
       none = c.go_on.ensures.none n.none;
       told = c.go_on.ensures.told h _ (λ k. ap (λ l. is_over_well l k) grew ∙ any_more (λ x. skips k x || concludes_well k x) h c.args.event ∙ ap (λ b. is_over_well h k || b) (sym (c.over_by-over.ensures k))) n.told;
+      left = λ m lt. subst (λ k. (has_taken k m || is_done k m) ≡ true) (sym grew) (left_kept h c.args.event m (n.left m lt));
     })

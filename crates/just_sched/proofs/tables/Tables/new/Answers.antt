@@ -1,4 +1,5 @@
 -- Blank rows, and the progress of a run of which no event speaks, say that nothing happened.
+use Rattle.std.proofs.Common.{arith}
 use Rattle.just_sched.proofs.RowLaws.{table_blank}
 use Rattle.just_sched.proofs.tables.Tables.new.Goals as goal
 
@@ -9,4 +10,5 @@ returns-clause-noted c = ∣ record {
   closed = c.in_ok-progress.ensures.closed;
   none = c.in_ok-progress.ensures.none;
   told = c.in_ok-progress.ensures.told;
+  left = λ m lt. omega (arith, lt);
 } ∣₁
