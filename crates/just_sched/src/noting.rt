@@ -61,14 +61,16 @@ impl Tables {
         ensures least { IfSome result (λ n. (m : ℕ) → m < n → IsReady plan.now.nodes plan.now.invocations history.now m → ⊥) }
         ensures none { IfNone result ((n : ℕ) → n < length plan.now.nodes → IsReady plan.now.nodes plan.now.invocations history.now n → ⊥) }
     {
-        self.left = first_left(history, self.rows.as_slice(), self.left);
+        let left = first_left(history, self.rows.as_slice(), self.left);
+        self.left = left;
+        let progress = &self.progress;
         first_by(
             plan,
             history,
-            self.left,
-            self.progress.wanted.as_slice(),
+            left,
+            progress.wanted.as_slice(),
             self.rows.as_slice(),
-            self.progress.finished.as_slice(),
+            progress.finished.as_slice(),
         )
     }
 

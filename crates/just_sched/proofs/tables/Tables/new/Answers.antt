@@ -10,5 +10,5 @@ returns-clause-noted c = ∣ record {
   closed = c.in_ok-progress.ensures.closed;
   none = c.in_ok-progress.ensures.none;
   told = c.in_ok-progress.ensures.told;
-  left = λ m lt. omega (arith, lt);
+  left = λ m lt. absurd (omega (arith, lt));
 } ∣₁
