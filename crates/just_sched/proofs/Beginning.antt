@@ -1,11 +1,9 @@
 -- What holds of a run of which no event speaks yet, once the invocations are gone along.
-use Rattle.std.proofs.Common.{◌≡◌, ◌≢◌, ℕ, ◌+◌, ◌<◌, ◌≤◌, ◌⊎◌, inl, inr, ⊎_elim, Bool, true, false, true≢false, List, [], ◌∷◌, length, get_or, Option, Some, None, refl, sym, ◌∙◌, ap, subst, arith}
+use Rattle.std.proofs.Common.{◌≡◌, ℕ, ◌⊎◌, inl, ⊎_elim, Bool, true, false, true≢false, List, [], None, sym, ◌∙◌, subst}
 use Rattle.std.specs.Prelude.{slice_index, Contains}
-use Rattle.just_sched.specs.declared.event.Event.{Event}
 use Rattle.just_sched.specs.declared.plan_node.PlanNode.{PlanNode}
 use Rattle.just_sched.specs.declared.progress.Progress.{Progress}
-use Rattle.just_sched.specs.Nodes.{priors_at, subsequents_at, parallel_at}
-use Rattle.just_sched.specs.State.{is_over_well, MayComeNext, IsFinished, IsWanted, invoked}
+use Rattle.just_sched.specs.State.{is_over_well, IsFinished, invoked}
 use Rattle.just_sched.specs.Tables.{flag, FlagsAre}
 use Rattle.just_sched.specs.Led.{IsRaised, MayFollow, IsLed}
 use Rattle.just_sched.specs.Progress.{IsClosedBut, IsTold}

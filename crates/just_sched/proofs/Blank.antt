@@ -1,13 +1,13 @@
 -- What holds of a run's progress before anything is wanted.
-use Rattle.std.proofs.Common.{◌≡◌, ℕ, ◌+◌, ◌<◌, ◌≤◌, zero, suc, Bool, true, false, not, List, [], ◌∷◌, length, map, get_or, refl, sym, ◌∙◌, ap, subst, arith}
+use Rattle.std.proofs.Common.{◌≡◌, ℕ, ◌<◌, ◌≤◌, zero, suc, Bool, false, not, List, [], length, refl, ◌∙◌, ap, subst, arith}
 use Rattle.std.proofs.Math.ListN.{replicate}
 use Rattle.std.proofs.lemmas.List.Sums.{count_by-le-length}
-use Rattle.std.specs.Prelude.{slice_index, slice_index_or, Contains, vec_capacity}
+use Rattle.std.specs.Prelude.{Contains, vec_capacity}
 use Rattle.just_sched.specs.declared.plan_node.PlanNode.{PlanNode}
 use Rattle.just_sched.specs.declared.progress.Progress.{Progress}
 use Rattle.just_sched.specs.Nodes.{priors_at, subsequents_at}
 use Rattle.just_sched.specs.Tables.{flag, FlagsAre}
-use Rattle.just_sched.specs.Led.{down_count, IsBefore, AreBefore, place_of}
+use Rattle.just_sched.specs.Led.{IsBefore, AreBefore, place_of}
 use Rattle.just_sched.specs.Progress.{IsPlaced, dependents_at}
 
 -- each place is the first

@@ -1,13 +1,12 @@
 -- What is kept as the priors of the pending nodes are led till none is pending.
-use Rattle.std.proofs.Common.{◌≡◌, ◌≢◌, ℕ, ◌+◌, ◌<◌, ◌≤◌, ◌⊎◌, inl, inr, ⊎_elim, Bool, true, false, List, [], ◌∷◌, length, map, get_or, Option, Some, None, refl, sym, ◌∙◌, ap, subst, arith}
-use Rattle.std.specs.Prelude.{slice_index, slice_index_or, Contains, vec_capacity}
-use Rattle.just_sched.specs.declared.event.Event.{Event}
+use Rattle.std.proofs.Common.{◌≡◌, ℕ, ◌<◌, ◌≤◌, inr, Bool, true, false, List, [], length, map, None, sym, ap, subst, arith}
+use Rattle.std.specs.Prelude.{slice_index_or, Contains, vec_capacity}
 use Rattle.just_sched.specs.declared.plan_node.PlanNode.{PlanNode}
 use Rattle.just_sched.specs.declared.progress.Progress.{Progress}
 use Rattle.just_sched.specs.Nodes.{priors_at, subsequents_at, parallel_at}
 use Rattle.just_sched.specs.Tables.{flag}
-use Rattle.just_sched.specs.Led.{down_count, IsBefore, IsLed, AreBefore, KeepsWanted, place_of}
-use Rattle.just_sched.specs.Progress.{IsPlaced, IsClosedBut, IsTold}
+use Rattle.just_sched.specs.Led.{down_count, IsBefore, IsLed, AreBefore, place_of}
+use Rattle.just_sched.specs.Progress.{IsPlaced, IsClosedBut}
 use Rattle.just_sched.proofs.Entering.{no_next}
 use Rattle.just_sched.proofs.Led.{led_on}
 use Rattle.just_sched.proofs.Placing.{before_both}

@@ -1,10 +1,8 @@
 -- What becomes of lists that are led as one node more is finished.
-use Rattle.std.proofs.Common.{◌≡◌, ◌≢◌, ℕ, ◌+◌, ◌<◌, ◌≤◌, ◌⊎◌, inl, inr, ⊎_elim, zero, suc, Bool, true, false, List, [], ◌∷◌, length, set, get_or, get_or-set_same, get_or-set_other, Option, Some, None, refl, sym, ◌∙◌, ap, subst, arith}
-use Rattle.std.proofs.Math.Decide.{dec_lt}
-use Rattle.std.specs.Prelude.{slice_index, Contains}
-use Rattle.just_sched.specs.State.{MayComeNext}
+use Rattle.std.proofs.Common.{◌≡◌, ℕ, ◌<◌, ◌⊎◌, inl, inr, ⊎_elim, zero, suc, Bool, true, false, List, length, set, get_or-set_same, get_or-set_other, refl, sym, ◌∙◌, subst, arith}
+use Rattle.std.specs.Prelude.{slice_index}
 use Rattle.just_sched.specs.Tables.{flag}
-use Rattle.just_sched.specs.Led.{IsBefore, MayFollow, IsLed}
+use Rattle.just_sched.specs.Led.{IsBefore, IsLed}
 use Rattle.just_sched.proofs.Led.{same_or}
 
 -- one of the first n members of a list is x, or none is

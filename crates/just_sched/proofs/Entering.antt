@@ -1,14 +1,14 @@
 -- What is kept as one node more is over well.
-use Rattle.std.proofs.Common.{◌≡◌, ◌≢◌, ℕ, ◌+◌, ◌<◌, ◌≤◌, ◌⊎◌, inl, inr, ⊎_elim, Bool, true, false, List, [], ◌∷◌, length, set, get_or, get_or-set_same, Option, Some, None, refl, sym, ◌∙◌, ap, subst, arith}
+use Rattle.std.proofs.Common.{◌≡◌, ℕ, ◌<◌, ◌⊎◌, inl, inr, ⊎_elim, Bool, true, false, List, length, set, get_or-set_same, Some, None, sym, ◌∙◌, ap, subst, arith}
 use Rattle.std.proofs.lemmas.Grind.{get_or_default_zero}
 use Rattle.std.specs.Prelude.{slice_index, Contains}
 use Rattle.just_sched.specs.declared.event.Event.{Event}
 use Rattle.just_sched.specs.declared.plan_node.PlanNode.{PlanNode}
 use Rattle.just_sched.specs.declared.progress.Progress.{Progress}
 use Rattle.just_sched.specs.Nodes.{priors_at, subsequents_at, parallel_at}
-use Rattle.just_sched.specs.State.{is_over_well, MayComeNext, IsFinished, IsWanted, subsequent}
+use Rattle.just_sched.specs.State.{is_over_well, subsequent}
 use Rattle.just_sched.specs.Tables.{flag, FlagsAre}
-use Rattle.just_sched.specs.Led.{IsRaised, MayFollow, IsLed, AllFinished, AllWanted}
+use Rattle.just_sched.specs.Led.{IsRaised, IsLed, AllFinished, AllWanted}
 use Rattle.just_sched.specs.Progress.{IsClosedBut, IsTold}
 use Rattle.just_sched.proofs.Closing.{flag_other}
 use Rattle.just_sched.proofs.Led.{led_on}

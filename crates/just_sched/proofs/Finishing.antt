@@ -1,12 +1,11 @@
 -- What is kept as one node more is finished, and the lists are gone along in which it stands.
-use Rattle.std.proofs.Common.{◌≡◌, ◌≢◌, ℕ, ◌+◌, ◌<◌, ◌≤◌, ◌⊎◌, inl, inr, ⊎_elim, Bool, true, false, List, [], ◌∷◌, length, set, get_or, refl, sym, ◌∙◌, ap, subst, arith}
+use Rattle.std.proofs.Common.{◌≡◌, ℕ, ◌<◌, ◌⊎◌, inl, inr, ⊎_elim, Bool, true, false, List, length, set, refl, subst}
 use Rattle.std.specs.Prelude.{slice_index, Contains}
-use Rattle.just_sched.specs.declared.event.Event.{Event}
 use Rattle.just_sched.specs.declared.plan_node.PlanNode.{PlanNode}
 use Rattle.just_sched.specs.Nodes.{priors_at, parallel_at}
-use Rattle.just_sched.specs.State.{MayComeNext, IsFinished, IsWanted, invoked}
+use Rattle.just_sched.specs.State.{IsFinished, invoked}
 use Rattle.just_sched.specs.Tables.{flag}
-use Rattle.just_sched.specs.Led.{IsRaised, IsBefore, MayFollow, IsLed, KeepsWanted}
+use Rattle.just_sched.specs.Led.{IsRaised, MayFollow, IsLed, KeepsWanted}
 use Rattle.just_sched.proofs.Closing.{among_or, led_finished, led_either}
 use Rattle.just_sched.proofs.Led.{led_on}
 use Rattle.just_sched.proofs.Placing.{of_contained}

@@ -1,5 +1,5 @@
 -- What the flags of a run say once an event is noted.
-use Rattle.std.proofs.Common.{◌≡◌, ℕ, ◌<◌, ◌⊎◌, ⊎_elim, ◌==◌, ◌||◌, Bool, true, false, List, length, set, get_or-set_same, get_or-set_other, Option, Some, None, refl, sym, ◌∙◌, ap, subst, arith}
+use Rattle.std.proofs.Common.{◌≡◌, ℕ, ◌<◌, ⊎_elim, ◌==◌, ◌||◌, true, false, List, length, set, get_or-set_same, get_or-set_other, Option, Some, None, sym, ◌∙◌, ap, subst, arith}
 use Rattle.std.specs.Prelude.{All, is_none}
 use Rattle.just_sched.specs.declared.event.Event.{Event}
 use Rattle.just_sched.specs.declared.plan_node.PlanNode.{PlanNode}

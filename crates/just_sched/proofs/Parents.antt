@@ -1,10 +1,10 @@
 -- The node of whose subsequents a node is one: it names that node's round.
-use Rattle.std.proofs.Common.{◌≡◌, ℕ, ◌+◌, ◌<◌, List, length, get_or, map, refl, sym, ◌∙◌, ap, subst, arith}
+use Rattle.std.proofs.Common.{◌≡◌, ℕ, ◌+◌, ◌<◌, List, length, get_or, refl, sym, ◌∙◌, ap, arith}
 use Rattle.std.proofs.Math.Bridge.{le_prop}
 use Rattle.std.proofs.Math.Logic.{∥∥₁_elim}
 use Rattle.std.proofs.lemmas.Option.{slice_get-map, slice_get-get_or}
 use Rattle.std.specs.Coded.{coded_ℕ, coded_option, Coded-set}
-use Rattle.std.specs.Prelude.{Option, Some, None, IfSome, slice_get, option_map, All, Contains}
+use Rattle.std.specs.Prelude.{Option, Some, None, IfSome, slice_get, option_map, Contains}
 use Rattle.just_lang.specs.declared.node.Node.{Node}
 use Rattle.just_lang.specs.WellFormed.{IsWellFormed, round_at}
 use Rattle.just_sched.specs.declared.plan_node.PlanNode.{PlanNode}

@@ -1,15 +1,14 @@
 -- What is known of the places, the lists and the flags stays so as more nodes are wanted and finished.
-use Rattle.std.proofs.Common.{◌≡◌, ◌≢◌, ℕ, ◌+◌, ◌<◌, ◌≤◌, ◌⊎◌, inl, inr, ⊎_elim, Bool, true, false, List, [], ◌∷◌, length, map, set, get_or, Option, Some, None, refl, sym, ◌∙◌, ap, subst, arith}
-use Rattle.std.proofs.Math.Decide.{dec_lt}
+use Rattle.std.proofs.Common.{◌≡◌, ℕ, ◌<◌, ◌⊎◌, ⊎_elim, Bool, true, false, List, [], length, map, sym, ◌∙◌, ap, subst, arith}
 use Rattle.std.proofs.lemmas.Grind.{get_or_default_zero}
 use Rattle.std.specs.Prelude.{slice_index, slice_index_or, Contains, vec_capacity}
 use Rattle.just_sched.specs.declared.event.Event.{Event}
 use Rattle.just_sched.specs.declared.plan_node.PlanNode.{PlanNode}
 use Rattle.just_sched.specs.declared.progress.Progress.{Progress}
 use Rattle.just_sched.specs.Nodes.{priors_at, subsequents_at, parallel_at}
-use Rattle.just_sched.specs.State.{MayComeNext, IsFinished, IsWanted, subsequent, finished}
+use Rattle.just_sched.specs.State.{IsFinished, subsequent}
 use Rattle.just_sched.specs.Tables.{flag}
-use Rattle.just_sched.specs.Led.{IsRaised, IsBefore, MayFollow, IsLed, AreUp, AreBefore}
+use Rattle.just_sched.specs.Led.{IsRaised, IsBefore, MayFollow, AreUp, AreBefore}
 use Rattle.just_sched.specs.Progress.{IsPlaced, IsTold}
 use Rattle.just_sched.proofs.PlanLaws.{contains_at}
 use Rattle.just_sched.proofs.PriorsLed.{follow_any}

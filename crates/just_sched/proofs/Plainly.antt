@@ -1,5 +1,5 @@
 -- What is kept of a run's progress can be told by the flags, so that it holds plainly where it holds in a book.
-use Rattle.std.proofs.Common.{◌≡◌, ℕ, ◌+◌, ◌<◌, ◌≤◌, ◌⊎◌, inl, inr, ⊎_elim, Bool, true, false, List, [], length, Option, Some, None, refl, sym, ◌∙◌, ap, subst, arith}
+use Rattle.std.proofs.Common.{◌≡◌, ℕ, ◌<◌, inr, ⊎_elim, Bool, true, false, List, [], length, None, sym, ◌∙◌, subst, arith}
 use Rattle.std.proofs.Math.Bool.{Bool-set}
 use Rattle.std.proofs.Math.Bridge.{le_prop}
 use Rattle.std.proofs.Math.Logic.{∥∥₁_elim}
@@ -10,7 +10,7 @@ use Rattle.just_sched.specs.declared.plan_node.PlanNode.{PlanNode}
 use Rattle.just_sched.specs.declared.tables.Tables.{Tables}
 use Rattle.just_sched.specs.Nodes.{priors_at, subsequents_at, parallel_at}
 use Rattle.just_sched.specs.Tables.{flag}
-use Rattle.just_sched.specs.Led.{IsBefore, MayFollow, IsLed, place_of}
+use Rattle.just_sched.specs.Led.{IsBefore, IsLed, place_of}
 use Rattle.just_sched.specs.Progress.{IsPlaced, IsClosedBut, dependents_at}
 use Rattle.just_sched.specs.Rows.{IsNoted}
 use Rattle.just_sched.proofs.Closing.{among_or}

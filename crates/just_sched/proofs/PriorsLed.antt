@@ -1,15 +1,12 @@
 -- What is kept as the priors of one node are led.
-use Rattle.std.proofs.Common.{◌≡◌, ℕ, ◌+◌, ◌<◌, ◌≤◌, ◌⊎◌, inl, inr, ⊎_elim, Bool, true, false, List, [], ◌∷◌, ◌++◌, length, set, get_or, get_or-set_same, get_or-set_other, refl, sym, ◌∙◌, ap, subst, arith}
-use Rattle.std.proofs.Math.Decide.{dec_lt}
+use Rattle.std.proofs.Common.{◌≡◌, ℕ, ◌+◌, ◌<◌, ◌⊎◌, inl, inr, ⊎_elim, Bool, true, false, List, [], ◌∷◌, ◌++◌, length, set, get_or-set_same, get_or-set_other, sym, subst, arith}
 use Rattle.std.specs.Prelude.{slice_index, Contains, All, is_none}
-use Rattle.just_lang.specs.WellFormed.{IsWellFormed}
-use Rattle.just_sched.specs.declared.event.Event.{Event}
 use Rattle.just_sched.specs.declared.plan_node.PlanNode.{PlanNode}
 use Rattle.just_sched.specs.Nodes.{priors_at, parallel_at}
-use Rattle.just_sched.specs.State.{MayComeNext, IsFinished, IsWanted, prior}
-use Rattle.just_sched.specs.Tables.{flag, InRange}
-use Rattle.just_sched.specs.Led.{IsRaised, IsBefore, MayFollow, IsLed, AreUp, AreBefore, place_of, AllFinished, AllWanted, KeepsWanted}
-use Rattle.just_sched.proofs.PlanLaws.{shapes, confirmed_all}
+use Rattle.just_sched.specs.State.{IsFinished, prior}
+use Rattle.just_sched.specs.Tables.{flag}
+use Rattle.just_sched.specs.Led.{IsRaised, IsBefore, MayFollow, IsLed, AreUp, AreBefore, place_of, KeepsWanted}
+use Rattle.just_sched.proofs.PlanLaws.{confirmed_all}
 use Rattle.just_sched.proofs.WantedLaws.{leads_weaker}
 use Rattle.just_sched.proofs.Led.{same_or, before_on, led_on, contained_more}
 

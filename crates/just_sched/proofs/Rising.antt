@@ -1,20 +1,17 @@
 -- What is kept as a node is finished, and then the one of whose subsequents it is the last.
-use Rattle.std.proofs.Common.{◌≡◌, ◌≢◌, ℕ, ◌+◌, ◌<◌, ◌≤◌, ◌⊎◌, inl, inr, ⊎_elim, Bool, true, false, List, [], ◌∷◌, length, set, get_or, get_or-set_same, get_or-set_other, refl, sym, ◌∙◌, ap, subst, arith}
-use Rattle.std.proofs.Math.Logic.{∥∥₁_elim}
-use Rattle.std.proofs.Math.Bridge.{le_prop}
+use Rattle.std.proofs.Common.{◌≡◌, ℕ, ◌<◌, ◌⊎◌, inl, inr, ⊎_elim, Bool, true, false, List, length, set, get_or-set_same, refl, sym, ◌∙◌, ap, subst, arith}
 use Rattle.std.specs.Prelude.{slice_index, Contains, Option, Some, None}
-use Rattle.just_lang.specs.WellFormed.{IsWellFormed}
 use Rattle.just_sched.specs.declared.event.Event.{Event}
 use Rattle.just_sched.specs.declared.plan_node.PlanNode.{PlanNode}
 use Rattle.just_sched.specs.declared.progress.Progress.{Progress}
 use Rattle.just_sched.specs.Nodes.{priors_at, subsequents_at, parallel_at}
-use Rattle.just_sched.specs.State.{MayComeNext, IsFinished, IsWanted, finished}
+use Rattle.just_sched.specs.State.{IsFinished, finished}
 use Rattle.just_sched.specs.Tables.{flag}
-use Rattle.just_sched.specs.Led.{IsRaised, IsBefore, MayFollow, IsLed, AllFinished, KeepsWanted}
-use Rattle.just_sched.specs.Progress.{IsPlaced, IsClosedBut, IsTold}
-use Rattle.just_sched.proofs.Closing.{among_or, flag_kept, flag_other, led_finished, led_either}
+use Rattle.just_sched.specs.Led.{IsRaised, IsLed, AllFinished, KeepsWanted}
+use Rattle.just_sched.specs.Progress.{IsClosedBut, IsTold}
+use Rattle.just_sched.proofs.Closing.{flag_kept, flag_other, led_finished, led_either}
 use Rattle.just_sched.proofs.Led.{same_or, led_on}
-use Rattle.just_sched.proofs.PlanLaws.{shapes, contains_at}
+use Rattle.just_sched.proofs.PlanLaws.{contains_at}
 
 -- two numbers that are there are one
 some_is : (a b : ℕ) → Some a ≡ Some b → a ≡ b

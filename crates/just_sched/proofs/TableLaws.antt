@@ -1,23 +1,13 @@
 -- Laws of the flags of nodes.
-use Rattle.std.proofs.Common.{◌≡◌, ℕ, Bool, true, false, ◌||◌, List, [], ◌∷◌, ◌++◌, ap, refl}
-use Rattle.std.proofs.Common.{◌+◌, ◌-◌, ◌<◌, ◌≤◌, ◌≢◌, ◌⊎◌, inl, inr, ⊎_elim, set, length, arith, sym, ◌∙◌, get_or-set_other, get_or-set_same}
-use Rattle.std.specs.Prelude.{Contains, Option, Some, None, is_some, filter_map}
-use Rattle.std.proofs.Math.Decide.{dec_lt}
-use Rattle.std.proofs.Math.Logic.{∥∥₁_elim}
-use Rattle.std.proofs.Math.Bridge.{le_prop}
-use Rattle.std.specs.Coded.{×_prop}
-use Rattle.std.specs.Prelude.{slice_index}
-use Rattle.just_sched.proofs.PlanLaws.{shapes, subsequent_behind, contains_at}
+use Rattle.std.proofs.Common.{◌≡◌, Bool, true, false, ◌||◌, List, [], ◌∷◌, ◌++◌, ap, refl}
+use Rattle.std.proofs.Common.{◌∙◌}
+use Rattle.std.specs.Prelude.{Option, Some, None, is_some, filter_map}
 use Rattle.std.specs.List.{list_any, cons_option}
 use Rattle.std.proofs.lemmas.List.Elements.{filter_map-append}
-use Rattle.just_lang.specs.WellFormed.{IsWellFormed}
 use Rattle.just_sched.specs.declared.event.Event.{Event}
-use Rattle.just_sched.specs.declared.plan_node.PlanNode.{PlanNode}
-use Rattle.just_sched.specs.Nodes.{subsequents_at}
 use Rattle.just_sched.specs.declared.event.Event.TheVariants as event
-use Rattle.just_sched.specs.State.{is_over_well, IsFinished, finished, first, has_caught, caught_signal}
-use Rattle.just_sched.specs.Tables.{flag, or_first}
-use Rattle.just_sched.proofs.Finish.{finished_behind, finished_over}
+use Rattle.just_sched.specs.State.{first, has_caught, caught_signal}
+use Rattle.just_sched.specs.Tables.{or_first}
 
 -- four tests, in either order
 or_exchange : (a b c d : Bool) → ((a || b) || (c || d)) ≡ ((a || c) || (b || d))

@@ -1,5 +1,5 @@
 -- Flags that say nothing false, and of which each is raised that is to be, say of each node whether it is finished or wanted.
-use Rattle.std.proofs.Common.{◌≡◌, ℕ, ◌+◌, ◌<◌, ◌≤◌, ◌⊎◌, inl, inr, ⊎_elim, Bool, true, false, List, [], length, refl, sym, ◌∙◌, ap, subst, arith}
+use Rattle.std.proofs.Common.{◌≡◌, ℕ, ◌<◌, ⊎_elim, Bool, true, false, List, [], length, sym, ◌∙◌, subst, arith}
 use Rattle.std.proofs.Math.Logic.{∥∥₁_elim}
 use Rattle.std.proofs.Math.Bridge.{le_prop}
 use Rattle.std.specs.Prelude.{slice_index, Contains, Some, None}
@@ -13,7 +13,7 @@ use Rattle.just_sched.specs.Tables.{flag, InRange, FlagsMean}
 use Rattle.just_sched.specs.Led.{MayFollow, IsLed}
 use Rattle.just_sched.specs.Progress.{IsClosedBut, IsTold}
 use Rattle.just_sched.proofs.PlanLaws.{shapes, subsequent_behind, subsequent_within}
-use Rattle.just_sched.proofs.WantedLaws.{leads_contains, leads_weaker, subsequents_within, priors_within, invocations_within, priors_inside}
+use Rattle.just_sched.proofs.WantedLaws.{leads_contains, leads_weaker, subsequents_within, priors_within, invocations_within}
 
 module _ (nodes : List PlanNode) (invocations : List ℕ) (well : ∥ IsWellFormed (shapes nodes) invocations ∥₁) (h : List Event) (p : Progress)
     (over_sized : length p.over.items ≡ length nodes) (wanted_sized : length p.wanted.items ≡ length nodes)

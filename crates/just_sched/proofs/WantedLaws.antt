@@ -1,17 +1,15 @@
 -- Laws of the flags of wanted nodes.
-use Rattle.std.proofs.Common.{◌≡◌, ℕ, ◌+◌, ◌-◌, ◌<◌, ◌≤◌, ◌⊎◌, inl, inr, ⊎_elim, zero, suc, Bool, true, false, List, length, get_or, refl, sym, ◌∙◌, ap, subst, arith}
+use Rattle.std.proofs.Common.{◌≡◌, ℕ, ◌<◌, inl, inr, ⊎_elim, Bool, true, List, length, get_or, sym, ap, subst, arith}
 use Rattle.std.proofs.Math.Logic.{∥∥₁_elim}
 use Rattle.std.proofs.Math.Bridge.{le_prop}
-use Rattle.std.proofs.Math.Decide.{dec_lt}
 use Rattle.std.proofs.lemmas.Option.{slice_get-get_or}
-use Rattle.std.specs.Prelude.{slice_index, Contains, All, is_none}
+use Rattle.std.specs.Prelude.{slice_index, Contains}
 use Rattle.just_lang.specs.WellFormed.{IsWellFormed}
-use Rattle.just_sched.specs.declared.event.Event.{Event}
 use Rattle.just_sched.specs.declared.plan_node.PlanNode.{PlanNode}
 use Rattle.just_sched.specs.Nodes.{subsequents_at, priors_at, parallel_at, parallel_in}
-use Rattle.just_sched.specs.State.{is_over_well, IsFinished, IsWanted, MayComeNext, invoked, prior, subsequent}
-use Rattle.just_sched.specs.Tables.{flag, InRange, FlagsAre, FlagsMean}
-use Rattle.just_sched.proofs.PlanLaws.{shapes, subsequent_behind, prior_before, prior_within, invocation_within, contains_at, subsequent_within, confirmed_all}
+use Rattle.just_sched.specs.State.{MayComeNext}
+use Rattle.just_sched.specs.Tables.{InRange}
+use Rattle.just_sched.proofs.PlanLaws.{shapes, subsequent_behind, prior_before, prior_within, invocation_within, contains_at}
 
 -- who leads a list stands in it
 pub leads_contains : (F : ℕ → Type 0) (together : Bool) (xs : List ℕ) (k : ℕ) → MayComeNext F together xs k → Contains xs k

@@ -1,5 +1,5 @@
 -- Going along lists of nodes, each member of which has its turn once those before it are finished.
-use Rattle.std.specs.Prelude.{ℕ, ◌+◌, ◌≡◌, ◌<◌, ◌≤◌, ◌⊎◌, not, Bool, true, false, List, length, count_by, slice_index, slice_index_or, Contains}
+use Rattle.std.specs.Prelude.{ℕ, ◌+◌, ◌≡◌, ◌<◌, ◌≤◌, ◌⊎◌, not, Bool, true, List, length, count_by, slice_index, slice_index_or, Contains}
 use Rattle.just_sched.specs.declared.event.Event.{Event}
 use Rattle.just_sched.specs.declared.plan_node.PlanNode.{PlanNode}
 use Rattle.just_sched.specs.State.{IsFinished, IsWanted, MayComeNext}

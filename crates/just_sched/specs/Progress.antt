@@ -1,5 +1,5 @@
 -- What is kept of a run's progress: which nodes are over well, finished and wanted, and how far each list has come.
-use Rattle.std.specs.Prelude.{ℕ, ◌+◌, ◌≡◌, ◌<◌, ◌≤◌, ◌⊎◌, Bool, true, false, List, [], length, slice_index_or, map, Contains, Option, Some, None, vec_capacity}
+use Rattle.std.specs.Prelude.{ℕ, ◌+◌, ◌≡◌, ◌<◌, ◌≤◌, ◌⊎◌, true, false, List, [], length, slice_index_or, map, Contains, Option, Some, vec_capacity}
 use Rattle.just_sched.specs.declared.event.Event.{Event}
 use Rattle.just_sched.specs.declared.plan_node.PlanNode.{PlanNode}
 use Rattle.just_sched.specs.declared.progress.Progress.{Progress}

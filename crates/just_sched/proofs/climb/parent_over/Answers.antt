@@ -1,6 +1,5 @@
 -- A subsequent's round names its node, which stands before it.
-use Rattle.std.proofs.Common.{◌≡◌, ℕ, ◌<◌, true, false, true≢false, None, Some, Option, arith, sym, ap, ◌∙◌, subst}
-use Rattle.just_lang.specs.declared.node.Node.{Node}
+use Rattle.std.proofs.Common.{◌≡◌, ◌<◌, false, true≢false, arith, sym, ap, ◌∙◌, subst}
 use Rattle.just_sched.specs.Tables.{flag}
 use Rattle.just_sched.proofs.Entering.{some_is}
 use Rattle.just_sched.proofs.Parents.{node_read, parent_is, parent_below}

@@ -1,10 +1,10 @@
 -- The node that is taken from the list has its priors led, by which the places, the list and the flags stay right.
-use Rattle.std.proofs.Common.{◌≡◌, ℕ, ◌<◌, ◌⊎◌, Bool, true, false, List, length, length-append, ◌∷◌, [], arith, subst, sym, ap, ◌∙◌}
+use Rattle.std.proofs.Common.{◌≡◌, ℕ, ◌<◌, ◌⊎◌, Bool, true, List, length, length-append, ◌∷◌, [], arith, subst, sym, ap, ◌∙◌}
 use Rattle.std.proofs.Math.ListN.{length-set}
 use Rattle.just_sched.specs.Nodes.{priors_at, parallel_at}
 use Rattle.just_sched.specs.Tables.{flag, InRange}
 use Rattle.just_sched.specs.Led.{IsBefore, MayFollow, IsLed, place_of}
-use Rattle.just_sched.proofs.Led.{flag_within, popped_in, popped_up, rest_up}
+use Rattle.just_sched.proofs.Led.{popped_in, popped_up, rest_up}
 use Rattle.just_sched.proofs.PlanLaws.{priors_read}
 use Rattle.just_sched.proofs.PriorsLed.{before_kept, up_kept, wanted_kept, led_kept, wanted_on}
 use Rattle.just_sched.proofs.WantedLaws.{priors_within, parallel_read}

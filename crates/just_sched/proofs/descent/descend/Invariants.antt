@@ -1,5 +1,5 @@
 -- What is known of the flags, of the places and of the list as pending nodes are taken from it.
-use Rattle.std.proofs.Common.{◌≡◌, ◌+◌, ℕ, ◌<◌, ◌≤◌, ◌⊎◌, true, false, length}
+use Rattle.std.proofs.Common.{◌≡◌, ◌+◌, ℕ, ◌≤◌, ◌⊎◌, true, length}
 use Rattle.std.specs.Prelude.{Contains, vec_capacity}
 use Rattle.just_sched.specs.Nodes.{parallel_at, priors_at}
 use Rattle.just_sched.specs.Tables.{flag}

@@ -1,11 +1,11 @@
 -- The node's priors are led, by which the places, the list and the flags stay right.
-use Rattle.std.proofs.Common.{◌≡◌, ℕ, ◌<◌, ◌⊎◌, inl, inr, ⊎_elim, true, false, List, arith, subst, sym, ap, ◌∙◌}
+use Rattle.std.proofs.Common.{◌≡◌, ℕ, ◌⊎◌, inl, inr, ⊎_elim, true, false, List, arith, subst, sym, ap, ◌∙◌}
 use Rattle.just_sched.specs.Nodes.{priors_at, parallel_at}
 use Rattle.just_sched.specs.Tables.{flag, InRange}
 use Rattle.just_sched.specs.Led.{IsBefore, MayFollow, IsLed, place_of}
 use Rattle.just_sched.proofs.Led.{led_to, raised_none}
 use Rattle.just_sched.proofs.PlanLaws.{priors_read}
-use Rattle.just_sched.proofs.PriorsLed.{follow_any, before_kept, up_kept, wanted_kept}
+use Rattle.just_sched.proofs.PriorsLed.{follow_any, before_kept, wanted_kept}
 use Rattle.just_sched.proofs.WantedLaws.{priors_within}
 use Rattle.just_sched.proofs.descent.lead_priors.Goals as goal
 use Rattle.just_sched.proofs.descent.lead_priors.Goals.{After-as_slice-2, After-lead-place}

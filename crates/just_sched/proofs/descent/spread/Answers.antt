@@ -1,9 +1,5 @@
 -- One node more has its priors led, where it is wanted; what was led stays so.
-use Rattle.std.proofs.Common.{◌≡◌, ℕ, ◌<◌, ◌⊎◌, inl, inr, ⊎_elim, true, false, arith, subst, sym, ap, ◌∙◌}
-use Rattle.std.specs.Prelude.{slice_index, Contains}
-use Rattle.just_sched.specs.Nodes.{priors_at}
-use Rattle.just_sched.specs.Tables.{flag}
-use Rattle.just_sched.specs.Led.{IsLed}
+use Rattle.std.proofs.Common.{arith, ◌∙◌}
 use Rattle.just_sched.proofs.Led.{raised_on}
 use Rattle.just_sched.proofs.PriorsLed.{wanted_on, led_more}
 use Rattle.just_sched.proofs.descent.spread.Goals as goal

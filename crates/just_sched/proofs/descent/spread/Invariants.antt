@@ -1,9 +1,9 @@
 -- The priors of the nodes so far are led, where those are wanted and not pending.
-use Rattle.std.proofs.Common.{◌≡◌, ◌+◌, ℕ, ◌<◌, ◌≤◌, ◌⊎◌, true, false, length}
+use Rattle.std.proofs.Common.{◌≡◌, ℕ, ◌<◌, ◌⊎◌, true, false, length}
 use Rattle.std.specs.Prelude.{Contains, slice_index, vec_capacity}
-use Rattle.just_sched.specs.Nodes.{parallel_at, priors_at}
+use Rattle.just_sched.specs.Nodes.{priors_at}
 use Rattle.just_sched.specs.Tables.{flag}
-use Rattle.just_sched.specs.Led.{down_count, IsRaised, IsLed, AreUp, AreBefore, KeepsWanted}
+use Rattle.just_sched.specs.Led.{IsRaised, IsLed, AreUp, AreBefore, KeepsWanted}
 use Rattle.just_sched.proofs.descent.spread.Given as goal
 
 abbrev pub invariant-loop-node : goal.invariant-loop-node

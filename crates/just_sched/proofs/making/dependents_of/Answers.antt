@@ -1,7 +1,5 @@
 -- A node is listed at one prior more; what was listed stays so.
-use Rattle.std.proofs.Common.{◌≡◌, ℕ, ◌<◌, ◌⊎◌, inl, inr, ⊎_elim, List, [], ◌∷◌, ◌++◌, length, arith, subst, sym, ap, ◌∙◌}
-use Rattle.std.proofs.Math.Decide.{dec_lt}
-use Rattle.std.proofs.lemmas.Grind.{get_or_default_zero}
+use Rattle.std.proofs.Common.{◌≡◌, ℕ, ◌<◌, ⊎_elim, List, [], ◌∷◌, ◌++◌, length, arith, subst, sym, ap, ◌∙◌}
 use Rattle.std.specs.Prelude.{map, slice_index, slice_index_or, slice_set, Contains}
 use Rattle.just_sched.specs.Nodes.{priors_at}
 use Rattle.just_sched.proofs.Dependents.{list_there, listed_kept, listed_new, listed_only}

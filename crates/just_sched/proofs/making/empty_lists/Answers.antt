@@ -1,5 +1,5 @@
 -- One empty list more.
-use Rattle.std.proofs.Common.{ℕ, List, [], arith, subst, sym}
+use Rattle.std.proofs.Common.{ℕ, [], arith, subst, sym}
 use Rattle.std.specs.Prelude.{map, slice_index_or, Contains}
 use Rattle.just_sched.proofs.Dependents.{empty_more}
 use Rattle.just_sched.proofs.making.empty_lists.Goals as goal

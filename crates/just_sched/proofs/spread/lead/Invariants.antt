@@ -1,6 +1,6 @@
 -- All before the place are finished and wanted, and only those that may come next were flagged.
-use Rattle.std.proofs.Common.{◌≡◌, ℕ, ◌<◌, ◌⊎◌, true, false}
-use Rattle.std.specs.Prelude.{slice_index, Contains, vec_capacity}
+use Rattle.std.proofs.Common.{◌≡◌, ℕ, ◌⊎◌, true, false}
+use Rattle.std.specs.Prelude.{vec_capacity}
 use Rattle.just_sched.specs.Tables.{flag}
 use Rattle.just_sched.specs.Led.{IsRaised, IsBefore, MayFollow}
 use Rattle.just_sched.proofs.spread.lead.Given as goal

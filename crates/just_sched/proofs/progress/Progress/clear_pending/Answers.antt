@@ -1,5 +1,5 @@
 -- The priors of the pending nodes are led, by which what is known stays so and none is pending.
-use Rattle.std.proofs.Common.{◌≡◌, ℕ, ◌<◌, ◌⊎◌, Bool, true, false, List, [], length, arith, subst, sym, ap, ◌∙◌, refl}
+use Rattle.std.proofs.Common.{◌≡◌, ℕ, ◌⊎◌, Bool, true, List, arith, subst, sym, ap, refl}
 use Rattle.std.proofs.lemmas.List.{with_items_is}
 use Rattle.std.specs.Prelude.{Contains}
 use Rattle.std.specs.Vec.{with_items}

@@ -1,5 +1,5 @@
 -- What is kept while there is a node to go on with, which comes nearer to the first.
-use Rattle.std.proofs.Common.{◌≡◌, ◌+◌, ◌<◌, ℕ, Option, Some, None, List, length, IfSome}
+use Rattle.std.proofs.Common.{◌≡◌, ◌<◌, List, length, IfSome}
 use Rattle.just_sched.specs.declared.event.Event.{Event}
 use Rattle.just_sched.specs.Progress.{IsPlaced, IsClosedBut, IsTold}
 use Rattle.just_sched.proofs.Parents.{distance}

@@ -1,14 +1,13 @@
 -- A node more is over well, and where its subsequents may go together all of them are wanted.
-use Rattle.std.proofs.Common.{◌≡◌, ℕ, ◌<◌, ◌⊎◌, inl, inr, ⊎_elim, Bool, true, false, true≢false, List, length, set, arith, subst, sym, ap, ◌∙◌, refl}
+use Rattle.std.proofs.Common.{◌≡◌, ℕ, ◌⊎◌, inl, inr, ⊎_elim, Bool, true, List, set, arith, subst, sym, ap, ◌∙◌, refl}
 use Rattle.std.proofs.lemmas.List.{with_items_is}
 use Rattle.std.proofs.Math.ListN.{length-set}
-use Rattle.std.specs.Prelude.{Contains, slice_index}
+use Rattle.std.specs.Prelude.{Contains}
 use Rattle.std.specs.Vec.{with_items}
 use Rattle.just_sched.specs.Nodes.{subsequents_at, parallel_at}
 use Rattle.just_sched.specs.Tables.{flag, InRange}
 use Rattle.just_sched.specs.Led.{IsRaised, IsLed}
 use Rattle.just_sched.proofs.Entering.{entered, told_entered, led_all}
-use Rattle.just_sched.proofs.Led.{raised_none}
 use Rattle.just_sched.proofs.PlanLaws.{subsequents_read}
 use Rattle.just_sched.proofs.WantedLaws.{subsequents_within, parallel_read}
 use Rattle.just_sched.proofs.progress.Progress.enter.Goals as goal

@@ -1,5 +1,5 @@
 -- A node that an event shows to be over well is entered; else what the flags say stays.
-use Rattle.std.proofs.Common.{◌<◌, Bool, true, length, arith}
+use Rattle.std.proofs.Common.{◌<◌, true, length, arith}
 use Rattle.std.proofs.Math.ListN.{length-set}
 use Rattle.just_sched.proofs.Going.{told_still, finished_still, wanted_still, over_raised, names_none, names_past}
 use Rattle.just_sched.proofs.progress.Progress.go_on.Goals as goal

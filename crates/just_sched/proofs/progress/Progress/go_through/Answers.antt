@@ -1,7 +1,7 @@
 -- The node's subsequents are led, by which what is known of the places, the list and the flags stays so.
-use Rattle.std.proofs.Common.{◌≡◌, ◌==◌, ℕ, ◌<◌, ◌⊎◌, Bool, true, false, true≢false, List, length, set, arith, subst, sym, ap, ◌∙◌, refl, eqb-true, eq-eqb}
+use Rattle.std.proofs.Common.{◌≡◌, ℕ, ◌<◌, ◌⊎◌, Bool, true, false, true≢false, List, length, set, arith, subst, sym, ap, ◌∙◌, refl, eqb-true, eq-eqb}
 use Rattle.std.proofs.lemmas.List.{get_or_read_under, with_items_is}
-use Rattle.std.specs.Prelude.{Contains, slice_index}
+use Rattle.std.specs.Prelude.{slice_index}
 use Rattle.just_sched.specs.Nodes.{priors_at, subsequents_at}
 use Rattle.just_sched.specs.Tables.{flag, InRange}
 use Rattle.just_sched.specs.Led.{IsBefore, IsRaised, MayFollow, IsLed, AreBefore, place_of}

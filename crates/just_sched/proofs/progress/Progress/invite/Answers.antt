@@ -1,10 +1,10 @@
 -- The invocations are gone along, of which none is finished.
-use Rattle.std.proofs.Common.{◌≡◌, ℕ, ◌<◌, ◌⊎◌, Bool, true, false, List, length, arith, subst, sym, ap, ◌∙◌, refl}
+use Rattle.std.proofs.Common.{◌≡◌, ℕ, ◌⊎◌, Bool, true, false, List, arith, subst, sym, refl}
 use Rattle.std.proofs.lemmas.List.{with_items_is}
 use Rattle.std.specs.Vec.{with_items}
 use Rattle.just_sched.specs.Nodes.{priors_at, subsequents_at}
 use Rattle.just_sched.specs.Tables.{flag, InRange}
-use Rattle.just_sched.specs.Led.{IsBefore, IsRaised, MayFollow, IsLed, AreBefore, place_of}
+use Rattle.just_sched.specs.Led.{IsBefore, IsRaised, MayFollow, IsLed, place_of}
 use Rattle.just_sched.proofs.Beginning.{closed_begun, told_begun}
 use Rattle.just_sched.proofs.Led.{led_to}
 use Rattle.just_sched.proofs.Placing.{before_both, placed_on}

@@ -1,6 +1,6 @@
 -- Where the node isn't finished by it, none is left; where it is, the one of whose subsequents it is one.
-use Rattle.std.proofs.Common.{◌≡◌, ℕ, Bool, true, false, true≢false, List, length, arith, subst, sym, ap, ◌∙◌, refl}
-use Rattle.std.specs.Prelude.{Contains, Option, Some}
+use Rattle.std.proofs.Common.{◌≡◌, ℕ, Bool, true, true≢false, List, arith, subst, sym, ap, ◌∙◌, refl}
+use Rattle.std.specs.Prelude.{Contains, Some}
 use Rattle.just_sched.specs.Nodes.{subsequents_at}
 use Rattle.just_sched.specs.Tables.{flag}
 use Rattle.just_sched.proofs.Rising.{priors_led, closed_here, closed_next, told_next}
