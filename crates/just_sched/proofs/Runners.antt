@@ -1,9 +1,8 @@
 -- How many bodies run a child over a legal history, and what is kept of open bodies as it grows.
-use Rattle.std.proofs.Common.{◌≡◌, ◌≢◌, ℕ, ◌+◌, ◌<◌, ◌≤◌, ◌==◌, ◌⊎◌, inl, inr, ◌&&◌, ◌||◌, not, nat_lt, Bool, true, false, cond, true≢false, List, [], ◌∷◌, ◌++◌, length, count_by, sum_by, Option, Some, None, MatchOption, refl, ap, ap₂, sym, ◌∙◌, subst, arith, eqb-true, eq-eqb}
-use Rattle.std.specs.List.{list_any, range_with_len}
+use Rattle.std.proofs.Common.{◌≡◌, ◌≢◌, ℕ, ◌+◌, ◌<◌, ◌≤◌, ◌==◌, ◌⊎◌, inl, inr, Bool, true, false, cond, true≢false, List, [], ◌∷◌, ◌++◌, length, count_by, Option, Some, None, refl, ap, ap₂, sym, ◌∙◌, subst, arith, eqb-true, eq-eqb}
+use Rattle.std.specs.List.{range_with_len}
 use Rattle.std.proofs.lemmas.List.Sums.{sum_by-cons}
 use Rattle.std.proofs.Math.Bool.{Bool-set}
-use Rattle.std.proofs.Math.Bridge.{le_prop}
 use Rattle.std.proofs.Math.Logic.{∥∥₁_elim}
 use Rattle.std.proofs.Math.Nat.{ℕ_set}
 use Rattle.just_outside.specs.declared.entry.Call.{Call}
@@ -29,7 +28,7 @@ use Rattle.just_sched.specs.Moves.{GrowsBy, IsMove, RunsWith, Rests, MatchNext}
 use Rattle.just_sched.specs.Room.{settles, settle_count}
 use Rattle.just_sched.specs.Running.{running_bodies, EachOpenRuns, EachNoIsDone}
 use Rattle.just_sched.specs.Start.{Start, run_of}
-use Rattle.just_sched.specs.State.{answers, catches, starts, ends, concludes, is_begun, is_done, is_of, is_open, start_count, end_count, is_running, last_start}
+use Rattle.just_sched.specs.State.{catches, starts, concludes, is_begun, is_done, is_open, start_count, is_running, last_start}
 use Rattle.just_sched.proofs.Counts.{agrees, running_begun, running_inside}
 use Rattle.just_sched.proofs.Due.{by_not_done, inside, rests, runs}
 use Rattle.just_sched.proofs.EventRoom.{own, settled, split}
@@ -40,7 +39,7 @@ use Rattle.just_sched.proofs.PlanShape.{IsFormed}
 use Rattle.just_sched.proofs.Range.{answered_asked}
 use Rattle.just_sched.proofs.Reasons.{HasNoPrompts, none_to_ask, unasked, unprompted_answered}
 use Rattle.just_sched.proofs.Sums.{sum_add, sum_lt, sum_same, sum_zero}
-use Rattle.just_sched.proofs.Tests.{any_none, any_now, both, count_none, count_now, unless}
+use Rattle.just_sched.proofs.Tests.{any_none, count_none, count_now, unless}
 
 -- ---- a body that is done, but for a failed wait, was between two commands
 

@@ -1,8 +1,8 @@
 -- Laws of what a book's tables say of each node.
-use Rattle.std.proofs.Common.{◌==◌, ◌&&◌, not, if◌then◌else◌, get_or, ap₂, ◌≡◌, ℕ, ◌<◌, ◌||◌, Bool, true, false, List, [], ◌∷◌, ◌++◌, length, refl, sym, ap, subst, ◌∙◌}
+use Rattle.std.proofs.Common.{◌==◌, ◌&&◌, not, if◌then◌else◌, get_or, ap₂, ◌≡◌, ℕ, ◌<◌, ◌||◌, Bool, true, false, List, [], ◌∷◌, ◌++◌, length, refl, sym, ap, ◌∙◌, arith}
 use Rattle.std.proofs.Math.Bool.{Bool-set}
 use Rattle.std.proofs.Math.Logic.{∥∥₁_elim, ∥∥₁_map}
-use Rattle.std.specs.Prelude.{filter_map, Option, Some, None, is_some, slice_index, All, is_none}
+use Rattle.std.specs.Prelude.{filter_map, Some, None, is_some, slice_index, All, is_none}
 use Rattle.std.specs.List.{cons_option}
 use Rattle.just_lang.specs.WellFormed.{IsWellFormed}
 use Rattle.just_sched.specs.declared.event.Event.{Event}
@@ -14,13 +14,14 @@ use Rattle.just_sched.specs.declared.plan_node.PlanNode.{PlanNode}
 use Rattle.just_sched.specs.declared.tables.Tables.{Tables}
 use Rattle.just_sched.specs.Nodes.{priors_at, subsequents_at, parallel_at}
 use Rattle.just_sched.specs.Rows.{IsTable, IsNoted}
-use Rattle.just_sched.specs.State.{names, skips, concludes_well, first, reason_in, reason_of, has_failed, is_open, IsToAsk, is_over_well, IsFinished, IsWanted, MayComeNext, finished, invoked, prior, subsequent}
+use Rattle.just_sched.specs.State.{has_taken, is_done, takes, concludes, first, reason_in, reason_of, has_failed, is_open, IsToAsk, IsReady, is_over_well, IsFinished, IsWanted, MayComeNext, finished, invoked, prior, subsequent}
 use Rattle.just_sched.specs.Tables.{FlagsMean}
 use Rattle.just_sched.proofs.Deciding.{meant, told_finished, told_wanted}
 use Rattle.just_sched.proofs.PlanLaws.{shapes, confirmed_all}
 use Rattle.just_sched.proofs.Reasons.{none_to_ask}
 use Rattle.just_sched.proofs.RowLaws.{reason_in_row}
-use Rattle.just_sched.proofs.Tests.{any_none}
+use Rattle.just_sched.proofs.Tests.{any_kept, either_way}
+use Rattle.just_sched.proofs.Telling.{tells_finished, tells_wanted}
 use Rattle.just_sched.proofs.WantedLaws.{leads_weaker}
 
 -- the rows of tables that say what the history says
@@ -43,48 +44,41 @@ module _ (nodes : List PlanNode) (invocations : List ℕ) (h k : List Event) (sa
   wanted_as unprompted n (subsequent m q over leads) =
       subsequent m q (same m over) (leads_as (parallel_at nodes m) (subsequents_at nodes m) q leads)
 
--- flags that mean one fact mean another that holds of the same nodes
-means_as : (flags : List Bool) (P Q : ℕ → Type 0) → ((n : ℕ) → P n → Q n) → ((n : ℕ) → Q n → P n) → FlagsMean flags P → FlagsMean flags Q
-means_as flags P Q there back means k lt = (λ up. there k ((means k lt).0 up), λ down q. (means k lt).1 down (back k q))
-
--- no number is that of none
-names_none : (o : Option ℕ) → is_some o ≡ false → (n : ℕ) → names o n ≡ false
-names_none None e n = refl
-names_none (Some m) e n = absurd (cc)
-
--- an event by which no node is over well leaves the flags
-pub noted_stays :
-    (nodes : List PlanNode) (invocations : List ℕ) (h later : List Event) (e : Event) (t : Tables) (o : Option ℕ)
-    → ∥ All (λ (x : PlanNode). is_none x.prompt ≡ true) nodes ∥₁
-    → later ≡ h ++ e ∷ []
-    → ((n : ℕ) → names o n ≡ (skips n e || concludes_well n e))
-    → is_some o ≡ false
-    → IsTable (h ++ e ∷ []) t.rows.items
-    → FlagsMean t.finished.items (IsFinished nodes h)
-    → FlagsMean t.wanted.items (IsWanted nodes invocations h)
-    → IsNoted nodes invocations later t
-noted_stays nodes invocations h later e t o unprompted grew by none rows is_finished is_wanted =
-    let as_before : (n : ℕ) → is_over_well later n ≡ is_over_well h n = λ n.
-    ap (λ k. is_over_well k n) grew ∙ any_none (λ x. skips n x || concludes_well n x) h e (sym (by n) ∙ names_none o none n) in
-    let on : (n : ℕ) → is_over_well h n ≡ true → is_over_well later n ≡ true = λ n over. as_before n ∙ over in
-    let back : (n : ℕ) → is_over_well later n ≡ true → is_over_well h n ≡ true = λ n over. sym (as_before n) ∙ over in
-    record {
-      rows = subst (λ k. IsTable k t.rows.items) (sym grew) rows;
-      finished = means_as t.finished.items (IsFinished nodes h) (IsFinished nodes later) (finished_as nodes invocations h later on) (finished_as nodes invocations later h back) is_finished;
-      wanted = means_as t.wanted.items (IsWanted nodes invocations h) (IsWanted nodes invocations later)
-          (wanted_as nodes invocations h later on unprompted) (wanted_as nodes invocations later h back unprompted) is_wanted;
-    }
-
 -- ---- what the tables give
 
-module _ (nodes : List PlanNode) (invocations : List ℕ) (h : List Event) (t : Tables) (well : ∥ IsWellFormed (shapes nodes) invocations ∥₁) (noted : ∥ IsNoted nodes invocations h t ∥₁) where
+module _ (nodes : List PlanNode) (invocations : List ℕ) (h : List Event) (t : Tables) (well : ∥ IsWellFormed (shapes nodes) invocations ∥₁)
+    (noted : ∥ IsNoted nodes invocations h t ∥₁) (sized : t.size ≡ length nodes) where
+  over_sized : length t.progress.over.items ≡ length nodes
+  over_sized = omega (arith, t.progress.over_sized, t.progress_sized, sized)
+
+  wanted_sized : length t.progress.wanted.items ≡ length nodes
+  wanted_sized = omega (arith, t.progress.wanted_sized, t.progress_sized, sized)
+
   -- the flags of the finished nodes
-  pub finished_of : FlagsMean t.finished.items (IsFinished nodes h)
-  finished_of = meant t.finished.items (IsFinished nodes h) (told_finished nodes invocations well h) (∥∥₁_map noted (λ n. n.finished))
+  pub finished_of : FlagsMean t.progress.finished.items (IsFinished nodes h)
+  finished_of =
+      meant t.progress.finished.items (IsFinished nodes h) (told_finished nodes invocations well h)
+      (∥∥₁_map noted (λ n. tells_finished nodes invocations well h t.progress over_sized wanted_sized n.told n.closed n.none (omega (arith, t.progress.finished_sized, t.progress_sized, sized))))
 
   -- the flags of the wanted nodes
-  pub wanted_of : FlagsMean t.wanted.items (IsWanted nodes invocations h)
-  wanted_of = meant t.wanted.items (IsWanted nodes invocations h) (told_wanted nodes invocations well h) (∥∥₁_map noted (λ n. n.wanted))
+  pub wanted_of : FlagsMean t.progress.wanted.items (IsWanted nodes invocations h)
+  wanted_of =
+      meant t.progress.wanted.items (IsWanted nodes invocations h) (told_wanted nodes invocations well h)
+      (∥∥₁_map noted (λ n. tells_wanted nodes invocations well h t.progress over_sized wanted_sized n.told n.closed n.none))
+
+-- who took a job or is done stays so
+pub left_kept : (h : List Event) (e : Event) (m : ℕ) → (has_taken h m || is_done h m) ≡ true → (has_taken (h ++ e ∷ []) m || is_done (h ++ e ∷ []) m) ≡ true
+left_kept h e m = either_way (has_taken h m) (is_done h m) (has_taken (h ++ e ∷ []) m) (is_done (h ++ e ∷ []) m) (any_kept (takes m) h e) (any_kept (concludes m) h e)
+
+-- none of them is ready
+pub left_not_ready : (nodes : List PlanNode) (invocations : List ℕ) (h : List Event) (left : ℕ) → ((m : ℕ) → m < left → (has_taken h m || is_done h m) ≡ true) → (n : ℕ) → n < left → IsReady nodes invocations h n → ⊥
+left_not_ready nodes invocations h left before n lt ready =
+    let clash : false ≡ true = sym (ap₂ (λ a b. a || b) ready.not_taken ready.not_done) ∙ before n lt in
+    cc
+
+-- the nodes before the first that is left
+pub left_of : (nodes : List PlanNode) (invocations : List ℕ) (h : List Event) (t : Tables) → ∥ IsNoted nodes invocations h t ∥₁ → (m : ℕ) → m < t.left → (has_taken h m || is_done h m) ≡ true
+left_of nodes invocations h t noted m lt = ∥∥₁_elim noted (Bool-set _ _) (λ n. n.left m lt)
 
 -- a node failed where there is a reason of it, by the first event
 failed_at : (b c : Bool) (r : Reason) (rs : List Reason) → is_some (first rs) ≡ c → is_some (first (cons_option (if b then Some r else None) rs)) ≡ (b || c)

@@ -1,5 +1,5 @@
 -- How the count of running bodies goes on with the history: a start adds one, a settled child takes one away.
-use Rattle.std.proofs.Common.{◌≡◌, ℕ, ◌+◌, inl, inr, Bool, true, false, cond, List, [], ◌∷◌, ◌++◌, Err, refl, sym, ◌∙◌, subst, arith}
+use Rattle.std.proofs.Common.{◌≡◌, ℕ, ◌+◌, inl, inr, false, cond, List, [], ◌∷◌, ◌++◌, Err, refl, sym, subst, arith}
 use Rattle.just_outside.specs.declared.entry.Call.TheVariants as call
 use Rattle.just_outside.specs.declared.entry.Entry.{Entry}
 use Rattle.just_sched.specs.declared.event.Event.{Event}

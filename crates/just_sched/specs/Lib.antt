@@ -7,6 +7,7 @@ pub mod Driven
 pub mod Favourable
 pub mod Gains
 pub mod Idle
+pub mod Led
 pub mod Legal
 pub mod Match
 pub mod Moves
@@ -14,6 +15,7 @@ pub mod NodeStates
 pub mod Nodes
 pub mod Nowhere
 pub mod Planning
+pub mod Progress
 pub mod Room
 pub mod Rows
 pub mod Running

@@ -1,12 +1,13 @@
 -- What a book's table says of each node.
-use Rattle.std.specs.Prelude.{ℕ, ◌≡◌, ◌+◌, ◌<◌, ◌||◌, cond, List, length, slice_index_or, is_some, None}
+use Rattle.std.specs.Prelude.{ℕ, ◌≡◌, ◌+◌, ◌<◌, ◌||◌, true, cond, List, [], length, slice_index_or, is_some, None}
 use Rattle.std.specs.List.{last_or}
 use Rattle.just_sched.specs.declared.event.Event.{Event}
 use Rattle.just_sched.specs.declared.plan_node.PlanNode.{PlanNode}
 use Rattle.just_sched.specs.declared.row.Row.{Row}
 use Rattle.just_sched.specs.declared.tables.Tables.{Tables}
-use Rattle.just_sched.specs.State.{takes, gives, begins, skips, starts, start_count, concludes, concludes_well, status_of, start_of, reason_in, has_taken, has_given, is_begun, is_skipped, is_done, is_over_well, statuses, last_start, reason_of, IsFinished, IsWanted}
-use Rattle.just_sched.specs.Tables.{FlagsMean, or_first}
+use Rattle.just_sched.specs.Progress.{IsPlaced, IsClosedBut, IsTold}
+use Rattle.just_sched.specs.State.{takes, gives, begins, skips, starts, start_count, concludes, concludes_well, status_of, start_of, reason_in, has_taken, has_given, is_begun, is_skipped, is_done, is_over_well, statuses, last_start, reason_of}
+use Rattle.just_sched.specs.Tables.{or_first}
 
 -- the row says of the node what the history says
 pub record IsRow (h : List Event) (n : ℕ) (r : Row) : Type 0 where
@@ -40,8 +41,12 @@ pub record IsTurned (n : ℕ) (e : Event) (old new : Row) : Type 0 where
   pub last : new.last ≡ or_first (status_of n e) old.last
   pub reason : new.reason ≡ or_first old.reason (reason_in n e)
 
--- the tables of a book say of each node what the history says: its row, whether it is finished, and whether it is wanted
+-- The tables of a book say of each node what the history says: its row, and how far the run has come; of what is to be
+-- flagged nothing is left. Each node before the first that is left took a job or is done.
 pub record IsNoted (nodes : List PlanNode) (invocations : List ℕ) (h : List Event) (t : Tables) : Type 0 where
   pub rows : IsTable h t.rows.items
-  pub finished : FlagsMean t.finished.items (IsFinished nodes h)
-  pub wanted : FlagsMean t.wanted.items (IsWanted nodes invocations h)
+  pub placed : IsPlaced nodes invocations t.progress
+  pub closed : IsClosedBut nodes invocations t.progress None
+  pub none : t.progress.pending.items ≡ []
+  pub told : IsTold nodes invocations h t.progress
+  pub left : (m : ℕ) → m < t.left → (has_taken h m || is_done h m) ≡ true

@@ -20,6 +20,20 @@ fn is_taken(history: &[Event], rows: &[Row], at: usize) -> bool
     row.taken || row.done
 }
 
+/// The first node, from a place on, that took no job and isn't done; as many as there are where there is none.
+pub(crate) fn first_left(history: &[Event], rows: &[Row], from: usize) -> usize
+    requires table { ∥ IsTable history.now rows.now ∥₁ }
+    requires before { (m : ℕ) → m < from → (has_taken history.now m || is_done history.now m) ≡ true }
+    ensures { (m : ℕ) → m < result → (has_taken history.now m || is_done history.now m) ≡ true }
+{
+    for at in from..rows.len() {
+        if !is_taken(history, rows, at) {
+            return at;
+        }
+    }
+    rows.len()
+}
+
 /// Whether the node is ready, by the table and the flags of the wanted and the finished nodes.
 pub(crate) fn is_ready(
     plan: &Plan,
@@ -47,14 +61,17 @@ pub(crate) fn is_ready(
     all_flagged(node.node.priors.as_slice(), finished)
 }
 
-/// The ready node of least number, by the table and the flags of the wanted and the finished nodes.
+/// The ready node of least number, by the table and the flags of the wanted and the finished nodes. It is looked for from a
+/// node on before which each took a job or is done.
 pub(crate) fn first_by(
     plan: &Plan,
     history: &[Event],
+    left: usize,
     wanted: &[bool],
     rows: &[Row],
     finished: &[bool],
 ) -> Option<u32>
+    requires left { (m : ℕ) → m < left → (has_taken history.now m || is_done history.now m) ≡ true }
     requires wanted_sized { length wanted.now ≡ length plan.now.nodes }
     requires rows_sized { length rows.now ≡ length plan.now.nodes }
     requires finished_sized { length finished.now ≡ length plan.now.nodes }
@@ -65,7 +82,7 @@ pub(crate) fn first_by(
     ensures least { IfSome result (λ n. (m : ℕ) → m < n → IsReady plan.now.nodes plan.now.invocations history.now m → ⊥) }
     ensures none { IfNone result ((n : ℕ) → n < length plan.now.nodes → IsReady plan.now.nodes plan.now.invocations history.now n → ⊥) }
 {
-    for at in 0..plan.nodes.len() {
+    for at in left..plan.nodes.len() {
         if is_ready(plan, history, at, wanted, rows, finished) {
             return Some(at as u32);
         }

@@ -1,18 +1,18 @@
 //! What a book notes in its tables, and what it reads there. Only the making of the tables takes memory.
 
 ghost use Rattle.std.specs.Prelude.{◌≡◌, ◌&&◌, not, ◌<◌, ◌++◌, ◌∷◌, [], ℕ, false, length, vec_len, vec_capacity, slice_index_or, IfOk, IfSome, IfNone};
-ghost use Rattle.just_sched.specs.Rows.{IsTable, IsNoted};
+ghost use Rattle.just_sched.specs.Rows.{IsNoted};
 ghost use Rattle.just_sched.specs.State.{is_open as opened, caught_signal, IsReady};
 ghost use Rattle.just_sched.specs.NodeStates.{IsState};
 ghost use Rattle.just_sched.specs.Legal.{Run};
 ghost use Rattle.just_sched.specs.Verdict.{IsVerdict};
 
-use super::choice::{first_by, is_ready};
-use super::flags::{mark_finished, mark_over, over_by};
+use super::choice::{first_by, first_left, is_ready};
+use super::flags::over_by;
+use super::progress::Progress;
 use super::row::{BLANK, Row, mark};
 use super::tables::Tables;
 use super::verdict::verdict_by;
-use super::wanted::mark_wanted;
 use super::{Event, NodeState, Plan, Verdict};
 use just_outside::Signal;
 use just_path::NoMemory;
@@ -26,32 +26,20 @@ fn is_open(row: Row) -> bool
 }
 
 impl Tables {
-    /// Room for so many nodes.
-    fn room(alloc: Global, count: usize) -> Result<Tables, NoMemory>
-        ensures size { IfOk result (λ t. t.size ≡ count) }
-        ensures table { IfOk result (λ t. ∥ IsTable [] t.rows.items ∥₁) }
-    {
-        let rows = vec![in alloc; BLANK; count]?;
-        let finished = vec![in alloc; false; count]?;
-        let wanted = vec![in alloc; false; count]?;
-        let over = vec![in alloc; false; count]?;
-        Ok(Tables {
-            rows,
-            finished,
-            wanted,
-            over,
-            size: count,
-        })
-    }
-
     /// The tables of a plan of which no event speaks yet.
     pub(crate) fn new(alloc: Global, plan: &Plan) -> Result<Tables, NoMemory>
         ensures size { IfOk result (λ t. t.size ≡ length plan.now.nodes) }
         ensures noted { IfOk result (λ t. ∥ IsNoted plan.now.nodes plan.now.invocations [] t ∥₁) }
     {
-        let mut tables = Tables::room(alloc, plan.nodes.len())?;
-        tables.settle(plan, &[]);
-        Ok(tables)
+        let count = plan.nodes.len();
+        let rows = vec![in alloc; BLANK; count]?;
+        let progress = Progress::new(alloc, plan)?;
+        Ok(Tables {
+            rows,
+            progress,
+            left: 0,
+            size: count,
+        })
     }
 
     /// The row of a node.
@@ -63,36 +51,26 @@ impl Tables {
         self.rows.as_slice()[node as usize]
     }
 
-    /// Notes which nodes are finished and which are wanted, by the rows.
-    fn settle(&mut self, plan: &Plan, history: &[Event])
+    /// The ready node of least number. It takes no memory.
+    pub(crate) fn first_ready(&mut self, plan: &Plan, history: &[Event]) -> Option<u32>
         requires size { self.old.size ≡ length plan.now.nodes }
-        requires table { ∥ IsTable history.now self.old.rows.items ∥₁ }
+        requires noted { ∥ IsNoted plan.now.nodes plan.now.invocations history.now self.old ∥₁ }
         ensures size { self.new.size ≡ self.old.size }
         ensures noted { ∥ IsNoted plan.now.nodes plan.now.invocations history.now self.new ∥₁ }
-    {
-        let rows = self.rows.as_slice();
-        let over = self.over.as_mut_slice();
-        let finished = self.finished.as_mut_slice();
-        let wanted = self.wanted.as_mut_slice();
-        mark_over(history, rows, over);
-        mark_finished(plan, history, rows, finished);
-        mark_wanted(plan, history, over, finished, wanted);
-    }
-
-    /// The ready node of least number. It takes no memory.
-    pub(crate) fn first_ready(&self, plan: &Plan, history: &[Event]) -> Option<u32>
-        requires size { self.now.size ≡ length plan.now.nodes }
-        requires noted { ∥ IsNoted plan.now.nodes plan.now.invocations history.now self.now ∥₁ }
         ensures ready { IfSome result (λ n. (n < length plan.now.nodes) × IsReady plan.now.nodes plan.now.invocations history.now n) }
         ensures least { IfSome result (λ n. (m : ℕ) → m < n → IsReady plan.now.nodes plan.now.invocations history.now m → ⊥) }
         ensures none { IfNone result ((n : ℕ) → n < length plan.now.nodes → IsReady plan.now.nodes plan.now.invocations history.now n → ⊥) }
     {
+        let left = first_left(history, self.rows.as_slice(), self.left);
+        self.left = left;
+        let progress = &self.progress;
         first_by(
             plan,
             history,
-            self.wanted.as_slice(),
+            left,
+            progress.wanted.as_slice(),
             self.rows.as_slice(),
-            self.finished.as_slice(),
+            progress.finished.as_slice(),
         )
     }
 
@@ -105,8 +83,8 @@ impl Tables {
     {
         let at = node as usize;
         let rows = self.rows.as_slice();
-        let finished = self.finished.as_slice();
-        let wanted = self.wanted.as_slice();
+        let finished = self.progress.finished.as_slice();
+        let wanted = self.progress.wanted.as_slice();
         let row = rows[at];
         if row.reason.is_some() {
             NodeState::Failed
@@ -134,7 +112,7 @@ impl Tables {
         verdict_by(
             plan,
             history,
-            self.finished.as_slice(),
+            self.progress.finished.as_slice(),
             self.rows.as_slice(),
             caught,
         )
@@ -152,9 +130,7 @@ pub(crate) fn note(plan: &Plan, history: &mut Vec<Event>, tables: &mut Tables, e
     ensures noted { ∥ IsNoted plan.now.nodes plan.now.invocations history.new.items tables.new ∥₁ }
 {
     mark(&mut tables.rows, &event);
-    let grows = over_by(&event).is_some();
+    let over = over_by(&event);
     history.push_reserved(event);
-    if grows {
-        tables.settle(plan, history.as_slice());
-    }
+    tables.progress.go_on(plan, over);
 }

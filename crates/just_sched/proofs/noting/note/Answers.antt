@@ -1,9 +1,12 @@
--- An event is noted where it is added; where no node is over well by it, the flags stay.
-use Rattle.std.proofs.Common.{arith, sym, subst, ◌∙◌}
+-- An event is noted where it is added, and the run's progress goes on by it.
+use Rattle.std.proofs.Common.{◌≡◌, true, arith, sym, subst, ap, ◌∙◌, ◌||◌}
 use Rattle.std.proofs.Math.Logic.{∥∥₁_map}
 use Rattle.just_sched.specs.Rows.{IsTable}
+use Rattle.just_sched.specs.State.{skips, concludes_well, is_over_well, has_taken, is_done}
+use Rattle.just_sched.proofs.Plainly.{placed_of, closed_of}
 use Rattle.just_sched.proofs.RowLaws.{few_ended, few_starts}
-use Rattle.just_sched.proofs.TablesLaws.{rows_of, noted_stays}
+use Rattle.just_sched.proofs.TablesLaws.{rows_of, left_kept}
+use Rattle.just_sched.proofs.Tests.{any_more}
 use Rattle.just_sched.proofs.noting.note.Goals as goal
 
 pub mark-requires : goal.mark-requires
@@ -12,14 +15,21 @@ mark-requires c = record {
   few = λ n d lt. omega (arith, few_ended c.args.history.now.items c.args.tables.now.rows.items (rows_of c.requires.noted) n d lt, c.args.history.now.ok.0, c.args.history.now.small);
 }
 
-pub settle-requires-clause-table : goal.settle-requires-clause-table
-settle-requires-clause-table c =
-    subst (λ h. ∥ IsTable h c.mark.new.rows.items ∥₁) (sym (c.as_slice.ensures.value ∙ c.push_reserved.ensures.items))
-    (∥∥₁_map (rows_of c.requires.noted) (λ t. c.mark.ensures.table c.args.history.now.items t))
+pub go_on-requires-clause-placed : goal.go_on-requires-clause-placed
+go_on-requires-clause-placed c = placed_of c.args.plan.now.nodes c.args.plan.now.invocations c.args.history.now.items c.args.tables.now c.requires.noted
 
-pub returns-else-grows-clause-noted : goal.returns-else-grows-clause-noted
-returns-else-grows-clause-noted c =
-    let plan = c.args.plan.now in
+pub go_on-requires-clause-closed : goal.go_on-requires-clause-closed
+go_on-requires-clause-closed c = closed_of c.args.plan.now.nodes c.args.plan.now.invocations c.args.history.now.items c.args.tables.now c.requires.noted
+
+pub returns-clause-noted : goal.returns-clause-noted
+returns-clause-noted c =
     let h = c.args.history.now.items in
-    ∥∥₁_map c.requires.noted (λ n. noted_stays plan.nodes plan.invocations h _ c.args.event _ c.over_by.result plan.unprompted c.push_reserved.ensures.items c.over_by.ensures
-    (sym c.is_some-grows.ensures ∙ c.if-grows.false) (c.mark.ensures.table h n.rows) n.finished n.wanted)
+    let grew = c.push_reserved.ensures.items in
+    ∥∥₁_map c.requires.noted (λ n. record {
+      rows = subst (λ k. IsTable k c.mark.new.rows.items) (sym grew) (c.mark.ensures.table h n.rows);
+      placed = c.go_on.ensures.placed;
+      closed = c.go_on.ensures.closed;
+      none = c.go_on.ensures.none n.none;
+      told = c.go_on.ensures.told h _ (λ k. ap (λ l. is_over_well l k) grew ∙ any_more (λ x. skips k x || concludes_well k x) h c.args.event ∙ ap (λ b. is_over_well h k || b) (sym (c.over_by-over.ensures k))) n.told;
+      left = λ m lt. subst (λ k. (has_taken k m || is_done k m) ≡ true) (sym grew) (left_kept h c.args.event m (n.left m lt));
+    })

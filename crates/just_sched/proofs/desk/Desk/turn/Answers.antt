@@ -1,7 +1,4 @@
 -- A turn leaves each open body running.
-use Rattle.std.proofs.Common.{ap, ◌∙◌, subst}
-use Rattle.just_sched.specs.State.{is_running}
-use Rattle.just_sched.specs.Moves.{GrowsBy}
 use Rattle.just_sched.proofs.Runners.{each_turn, each_no}
 use Rattle.just_sched.proofs.desk.Desk.turn.Goals as goal
 

@@ -21,11 +21,11 @@ finishes : (c : After-is_some) → FlagsMean c.as_slice-finished.result.now (IsF
 finishes c =
     let plan = c.args.plan.now in
     subst (λ flags. FlagsMean flags (IsFinished plan.nodes c.args.history.now)) (sym c.as_slice-finished.ensures.value)
-    (finished_of plan.nodes plan.invocations c.args.history.now c.args.self.now plan.well c.requires.noted)
+    (finished_of plan.nodes plan.invocations c.args.history.now c.args.self.now plan.well c.requires.noted c.requires.size)
 
 -- the node has a flag
 flagged : (c : After-is_some) → c.args.node < length c.as_slice-finished.result.now
-flagged c = omega (arith, c.requires.within, c.requires.size, c.as_slice-finished.ensures.len, c.args.self.now.finished_sized)
+flagged c = omega (arith, c.requires.within, c.requires.size, c.as_slice-finished.ensures.len, c.args.self.now.progress.finished_sized, c.args.self.now.progress_sized)
 
 pub is_ready-requires-clause-table : goal.is_ready-requires-clause-table
 is_ready-requires-clause-table c = table (goal.at.is_ready-requires-clause-table c).After-is_some
@@ -37,7 +37,7 @@ pub is_ready-requires-clause-wanted : goal.is_ready-requires-clause-wanted
 is_ready-requires-clause-wanted c =
     let plan = c.args.plan.now in
     subst (λ flags. FlagsMean flags (IsWanted plan.nodes plan.invocations c.args.history.now)) (sym c.as_slice-wanted.ensures.value)
-    (wanted_of plan.nodes plan.invocations c.args.history.now c.args.self.now plan.well c.requires.noted)
+    (wanted_of plan.nodes plan.invocations c.args.history.now c.args.self.now plan.well c.requires.noted c.requires.size)
 
 pub returns-then-is_some : goal.returns-then-is_some
 returns-then-is_some c =

@@ -13,4 +13,4 @@ pub verdict_by-requires-clause-finished : goal.verdict_by-requires-clause-finish
 verdict_by-requires-clause-finished c =
     let plan = c.args.plan.now in
     subst (λ flags. FlagsMean flags (IsFinished plan.nodes c.args.history.now)) (sym c.as_slice.ensures.value)
-    (finished_of plan.nodes plan.invocations c.args.history.now c.args.self.now plan.well c.requires.noted)
+    (finished_of plan.nodes plan.invocations c.args.history.now c.args.self.now plan.well c.requires.noted c.requires.size)
