@@ -89,6 +89,7 @@ where
 
 /// The exit status where the arguments couldn't be had: memory was wanting, or one isn't UTF-8, which is told on standard
 /// error.
+/// No clause: no contract speaks of what is printed.
 pub fn no_arguments(rt: &impl Eprint, error: &io::Error) -> u8 {
     if error.kind() == ErrorKind::OutOfMemory {
         return NO_MEMORY;

@@ -12,6 +12,7 @@ mod made;
 mod name;
 mod node;
 mod place;
+pub mod project;
 mod recipe;
 mod reference;
 mod same;

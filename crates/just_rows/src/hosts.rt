@@ -33,6 +33,7 @@ fn environ(alloc: Global) -> Result<Environ, NoMemory> {
 }
 
 /// A host in the folder `/p` with that justfile, over which nothing happens.
+/// No clause: it serves tests alone.
 pub fn memory(alloc: Global, justfile: &str) -> Result<MemHost, NoMemory> {
     let current = Utf8Path::new("/p").to_path_buf(alloc)?;
     MemHost::new(

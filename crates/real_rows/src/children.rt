@@ -22,6 +22,7 @@ fn changes(alloc: Global) -> Result<Seq<(Text, Option<Text>)>, NoMemory> {
 }
 
 /// `sh -cu LINE` in a folder, the current one where none is given, with `A` set to `1`.
+/// No clause: it serves tests alone.
 pub fn shell(alloc: Global, folder: Option<Utf8PathBuf>, line: &str) -> Result<Spec, NoMemory> {
     Ok(Spec {
         program: Text::from_str(alloc, "sh")?,
@@ -33,12 +34,14 @@ pub fn shell(alloc: Global, folder: Option<Utf8PathBuf>, line: &str) -> Result<S
 }
 
 /// The same in that folder.
+/// No clause: it serves tests alone.
 pub fn shell_in(alloc: Global, folder: &str, line: &str) -> Result<Spec, NoMemory> {
     let folder = Utf8Path::new(folder).to_path_buf(alloc)?;
     shell(alloc, Some(folder), line)
 }
 
 /// Starts, waits for and settles a child.
+/// No clause: it serves tests alone.
 pub fn end_of<H: Host>(host: &mut H, spec: &Spec) -> Result<Status, HostFault> {
     host.room(1)?;
     let child = host.start(spec)?;
@@ -48,6 +51,7 @@ pub fn end_of<H: Host>(host: &mut H, spec: &Spec) -> Result<Status, HostFault> {
 }
 
 /// Whether the child that runs this line in that folder ends with code 0.
+/// No clause: it serves tests alone.
 pub fn ends_well<H: Host>(
     alloc: Global,
     host: &mut H,

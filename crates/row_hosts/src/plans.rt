@@ -44,6 +44,7 @@ fn beside(alloc: Global, plan: Plan) -> Result<Plan, NoMemory> {
 }
 
 /// The plan of a recipe of that justfile, with each node's priors side by side.
+/// No clause: it serves tests alone.
 pub fn plan_of(alloc: Global, text: &str, name: &str) -> Result<Plan, LangError> {
     let sources = [Source {
         path: Utf8Path::new("/justfile").to_path_buf(alloc)?,
@@ -61,6 +62,7 @@ pub fn plan_of(alloc: Global, text: &str, name: &str) -> Result<Plan, LangError>
 }
 
 /// A host with no files, over which that happens.
+/// No clause: it serves tests alone.
 pub fn memory(alloc: Global, plot: Plot) -> Result<MemHost, NoMemory> {
     let environ = Environ {
         pairs: Seq::new(alloc),
@@ -70,6 +72,7 @@ pub fn memory(alloc: Global, plot: Plot) -> Result<MemHost, NoMemory> {
 }
 
 /// What a run left, taken apart.
+/// No clause: it serves tests alone.
 pub fn left<H: Host>(driven: Driven<H>) -> (H, Plan, Seq<Event>, Verdict) {
     let Driven {
         host,

@@ -142,6 +142,7 @@ fn are_given(phases: &[Phase]) -> bool {
 }
 
 /// Whether each event may come in its turn under that limit of jobs, and each node's job was given back.
+/// No clause: it serves tests alone.
 pub fn is_legal(
     alloc: Global,
     nodes: &[PlanNode],

@@ -13,6 +13,7 @@ use std::thread::Threads;
 use std::time::{Duration, Instant};
 
 /// The run of a plan over a host, to its end.
+/// No clause: it serves tests alone.
 pub fn run_of<R: Threads + Wait + Sync + Abort, H: Host + Send + Drop>(
     rt: &R,
     alloc: Global,
