@@ -3,9 +3,7 @@
 ghost use Rattle.std.specs.Prelude.{◌≡◌};
 ghost use Rattle.just_lang.specs.declared.project.LangError.TheVariants.{NoMemory as OutOfMemory};
 
-use super::{
-    Alias, Assignment, CompileError, Disabled, Modulepath, Parameter, Recipe, Settings,
-};
+use super::{Alias, Assignment, CompileError, Disabled, Modulepath, Parameter, Recipe, Settings};
 use just_path::{NoMemory, Seq, Text, Utf8PathBuf};
 use std::alloc::{AllocError, AllocFailed};
 
@@ -54,44 +52,105 @@ pub enum LangError {
         current: Utf8PathBuf,
         import: Utf8PathBuf,
     },
-    MissingModuleFile { module: Text },
-    AmbiguousModuleFile { module: Text, found: Seq<Text> },
+    MissingModuleFile {
+        module: Text,
+    },
+    AmbiguousModuleFile {
+        module: Text,
+        found: Seq<Text>,
+    },
     /// A path begins with `~`, and there is no home folder.
     Homedir,
-    UnknownOverrides { overrides: Seq<Text> },
-    FunctionCall { name: Text },
+    UnknownOverrides {
+        overrides: Seq<Text>,
+    },
+    FunctionCall {
+        name: Text,
+    },
     NoRecipes,
     NoDefaultRecipe,
-    DefaultRecipeRequiresArguments { recipe: Text, min_arguments: u64 },
-    UnknownRecipe { recipe: Text },
-    UnknownSubmodule { path: Text },
-    ModuleAbsent { module: Text },
-    RecipeDisabled { recipe: Text, modules: Seq<Text> },
-    AliasDisabled { alias: Text, modules: Seq<Text> },
-    ExpectedSubmoduleButFoundRecipe { path: Text },
-    UnknownOption { recipe: Text, switch: Text },
-    InvalidOption { argument: Text },
-    FlagWithValue { recipe: Text, switch: Text },
-    NonFinalOptionWithValue { recipe: Text, switch: Text },
-    OptionMissingValue { recipe: Text, switch: Text },
-    DuplicateOption { recipe: Text, switch: Text },
+    DefaultRecipeRequiresArguments {
+        recipe: Text,
+        min_arguments: u64,
+    },
+    UnknownRecipe {
+        recipe: Text,
+    },
+    UnknownSubmodule {
+        path: Text,
+    },
+    ModuleAbsent {
+        module: Text,
+    },
+    RecipeDisabled {
+        recipe: Text,
+        modules: Seq<Text>,
+    },
+    AliasDisabled {
+        alias: Text,
+        modules: Seq<Text>,
+    },
+    ExpectedSubmoduleButFoundRecipe {
+        path: Text,
+    },
+    UnknownOption {
+        recipe: Text,
+        switch: Text,
+    },
+    InvalidOption {
+        argument: Text,
+    },
+    FlagWithValue {
+        recipe: Text,
+        switch: Text,
+    },
+    NonFinalOptionWithValue {
+        recipe: Text,
+        switch: Text,
+    },
+    OptionMissingValue {
+        recipe: Text,
+        switch: Text,
+    },
+    DuplicateOption {
+        recipe: Text,
+        switch: Text,
+    },
     PositionalArgumentCountMismatch {
         recipe: Text,
         path: Modulepath,
         parameters: Seq<Parameter>,
         found: usize,
     },
-    MissingOption { recipe: Text, switch: Text },
-    ArgumentTooFewValues { recipe: Text, parameter: Text, found: u64, min: u64 },
-    ArgumentTooManyValues { recipe: Text, parameter: Text, found: u64, max: u64 },
+    MissingOption {
+        recipe: Text,
+        switch: Text,
+    },
+    ArgumentTooFewValues {
+        recipe: Text,
+        parameter: Text,
+        found: u64,
+        min: u64,
+    },
+    ArgumentTooManyValues {
+        recipe: Text,
+        parameter: Text,
+        found: u64,
+        max: u64,
+    },
     ArgumentPatternMismatch {
         argument: Text,
         recipe: Text,
         parameter: Text,
         pattern: Seq<Text>,
     },
-    EmptyListArgument { recipe: Text, parameter: Text },
-    ExcessInvocations { invocations: u64 },
+    EmptyListArgument {
+        recipe: Text,
+        parameter: Text,
+    },
+    ExcessInvocations {
+        invocations: u64,
+    },
     ClosureLimit,
     NoMemory,
 }
