@@ -6,6 +6,7 @@ ghost use Rattle.just_syntax.specs.ItemReaders as read;
 
 use super::body::{blanks, body_line, is_body_line};
 use super::item::item;
+use super::list::list_of;
 use super::{AstItem, AstRecipe, Line};
 use just_path::{NoMemory, Seq};
 use just_read::{Blank, Boxed, Cursor, ReadError, blank_line, is_blank_line};
@@ -17,7 +18,7 @@ pub enum Entry {
     /// A line of blanks, by its number.
     Blank(usize),
     /// An item that isn't a recipe.
-    Item(AstItem),
+    Item(Boxed<AstItem>),
     /// The line of a recipe, with its attributes; the body is empty.
     Recipe(Boxed<AstRecipe>),
     /// A line of the body of the recipe above.
@@ -127,7 +128,7 @@ pub fn gather(alloc: Global, mut entries: Vec<Entry>) -> Result<Seq<AstItem>, No
     'entries: while let Some(entry) = entries.pop() {
         match entry {
             Entry::Blank(number) => add_blank(alloc, number, &mut lines, &mut items)?,
-            Entry::Item(item) => items.push(item)?,
+            Entry::Item(item) => items.push(item.into_inner())?,
             Entry::Recipe(recipe) => {
                 let whole = with_body(alloc, recipe, lines)?;
                 items.push(whole)?;
@@ -137,7 +138,7 @@ pub fn gather(alloc: Global, mut entries: Vec<Entry>) -> Result<Seq<AstItem>, No
         }
     }
     items.reverse();
-    Ok(Seq::from(items))
+    Ok(list_of(items))
 }
 
 /// Adds a blank line: to the lines of a body, the last one first, where there are any, else to the items.
@@ -171,6 +172,6 @@ fn with_body(
 {
     let mut recipe = recipe.into_inner();
     lines.reverse();
-    recipe.body = Seq::from(lines);
+    recipe.body = list_of(lines);
     Ok(AstItem::Recipe(Boxed::new(alloc, recipe)?))
 }
