@@ -8,6 +8,7 @@ pub mod Recipes
 pub mod Bodies
 pub mod Items
 pub mod File
+pub mod Room
 pub mod Readers
 pub mod Meanings
 pub mod Collected

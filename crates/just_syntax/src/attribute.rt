@@ -8,6 +8,7 @@ ghost use Rattle.just_syntax.specs.ItemReaders as read;
 
 use super::expr::{LEVELS, expr};
 use super::form::{Form, KeyForm, form_of, is_cache_key, key_form};
+use super::list::{add, list_of};
 use super::string::string;
 use super::token::{name, rest};
 use super::{Argument, Attribute, Expr, Name};
@@ -27,13 +28,16 @@ pub fn attributes(alloc: Global, cursor: &mut Cursor<'_>) -> Result<Seq<Attribut
             Err(refused) => return Err(refused),
         }
     }
-    Ok(Seq::from(found))
+    Ok(list_of(found))
 }
 
-/// Adds attributes behind others.
+/// Adds attributes behind others. The first ones take room for themselves alone.
 fn append(found: &mut Vec<Attribute>, mut line: Vec<Attribute>) -> Result<(), AllocError>
     ensures { IfOk result (λ u. found.new.items ≡ found.old.items ++ line.items) }
 {
+    if found.is_empty() {
+        found.reserve_exact(line.len())?;
+    }
     found.append(&mut line)
 }
 
@@ -70,10 +74,10 @@ fn attribute_list(alloc: Global, cursor: &mut Cursor<'_>) -> Result<Vec<Attribut
 {
     let first = attribute(alloc, cursor)?;
     let mut found = Vec::new(alloc);
-    found.push(first)?;
+    add(&mut found, first)?;
     'attributes: while cursor.begins(b",") {
         match further_attribute(alloc, cursor) {
-            Ok(next) => found.push(next)?,
+            Ok(next) => add(&mut found, next)?,
             Err(refused) => return Err(refused),
         }
     }
@@ -141,13 +145,14 @@ fn colon_argument(
     let column = cursor.column();
     let value = string(alloc, cursor)?;
     let mut found = Vec::new(alloc);
-    found.push(Argument {
+    let only = Argument {
         key: None,
         line,
         column,
         value: Expr::Literal(value),
-    })?;
-    Ok(Seq::from(found))
+    };
+    add(&mut found, only)?;
+    Ok(list_of(found))
 }
 
 /// Whether a comma and a further argument stand here.
@@ -198,14 +203,14 @@ fn argument_list(
 {
     let first = argument(alloc, cursor, form, &[])?;
     let mut found = Vec::new(alloc);
-    found.push(first)?;
+    add(&mut found, first)?;
     'arguments: while goes_on(cursor) {
         match further_argument(alloc, cursor, form, found.as_slice()) {
-            Ok(next) => found.push(next)?,
+            Ok(next) => add(&mut found, next)?,
             Err(refused) => return Err(refused),
         }
     }
-    Ok(Seq::from(found))
+    Ok(list_of(found))
 }
 
 /// A comma and an argument behind these.

@@ -8,6 +8,7 @@ ghost use Rattle.just_syntax.specs.Collected.{ReadsLetter};
 ghost use Rattle.just_syntax.specs.ItemReaders as read;
 
 use super::expr::{LEVELS, expr};
+use super::list::{add, list_of};
 use super::{Fragment, Line};
 use just_path::{Seq, Text};
 use just_read::{Blank, Cursor, ReadError, ends_line, newline, skip, token};
@@ -71,11 +72,11 @@ fn fragments(alloc: Global, cursor: &mut Cursor<'_>) -> Result<Seq<Fragment>, Re
     let mut found = Vec::new(alloc);
     'fragments: while goes_on(cursor) {
         match fragment(alloc, cursor) {
-            Ok(next) => found.push(next)?,
+            Ok(next) => add(&mut found, next)?,
             Err(refused) => return Err(refused),
         }
     }
-    Ok(Seq::from(found))
+    Ok(list_of(found))
 }
 
 /// Whether an interpolation opens here.

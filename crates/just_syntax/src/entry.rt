@@ -3,9 +3,11 @@ ghost use Rattle.std.specs.Prelude.{◌≡◌, reverse, IfOk};
 ghost use Rattle.just_read.specs.Reader.{Reads};
 ghost use Rattle.just_syntax.specs.File.{items_of, gather_blank};
 ghost use Rattle.just_syntax.specs.ItemReaders as read;
+ghost use Rattle.just_syntax.specs.Room.{may_be_item, most_items};
 
 use super::body::{blanks, body_line, is_body_line};
 use super::item::item;
+use super::list::list_of;
 use super::{AstItem, AstRecipe, Line};
 use just_path::{NoMemory, Seq};
 use just_read::{Blank, Boxed, Cursor, ReadError, blank_line, is_blank_line};
@@ -17,7 +19,7 @@ pub enum Entry {
     /// A line of blanks, by its number.
     Blank(usize),
     /// An item that isn't a recipe.
-    Item(AstItem),
+    Item(Boxed<AstItem>),
     /// The line of a recipe, with its attributes; the body is empty.
     Recipe(Boxed<AstRecipe>),
     /// A line of the body of the recipe above.
@@ -123,11 +125,11 @@ pub fn gather(alloc: Global, mut entries: Vec<Entry>) -> Result<Seq<AstItem>, No
     ensures { IfOk result (λ items. items ≡ items_of entries.items) }
 {
     let mut lines: Vec<Line> = Vec::new(alloc);
-    let mut items: Vec<AstItem> = Vec::new(alloc);
+    let mut items: Vec<AstItem> = Vec::with_capacity(alloc, most_items(entries.as_slice()))?;
     'entries: while let Some(entry) = entries.pop() {
         match entry {
             Entry::Blank(number) => add_blank(alloc, number, &mut lines, &mut items)?,
-            Entry::Item(item) => items.push(item)?,
+            Entry::Item(item) => items.push(item.into_inner())?,
             Entry::Recipe(recipe) => {
                 let whole = with_body(alloc, recipe, lines)?;
                 items.push(whole)?;
@@ -137,7 +139,24 @@ pub fn gather(alloc: Global, mut entries: Vec<Entry>) -> Result<Seq<AstItem>, No
         }
     }
     items.reverse();
-    Ok(Seq::from(items))
+    Ok(list_of(items))
+}
+
+/// How many items these entries make at most, so that room is taken for them once.
+fn most_items(entries: &[Entry]) -> usize
+    ensures { result ≡ most_items entries.now }
+{
+    entries.iter().filter(|entry| may_be_item(entry)).count()
+}
+
+/// Whether an entry may make an item: it is no line of a body.
+fn may_be_item(entry: &Entry) -> bool
+    ensures { result ≡ may_be_item entry.now }
+{
+    match entry {
+        Entry::Blank(_) | Entry::Item(_) | Entry::Recipe(_) => true,
+        Entry::Line(_) => false,
+    }
 }
 
 /// Adds a blank line: to the lines of a body, the last one first, where there are any, else to the items.
@@ -171,6 +190,6 @@ fn with_body(
 {
     let mut recipe = recipe.into_inner();
     lines.reverse();
-    recipe.body = Seq::from(lines);
+    recipe.body = list_of(lines);
     Ok(AstItem::Recipe(Boxed::new(alloc, recipe)?))
 }

@@ -1,5 +1,5 @@
 //! Items: which one begins at a place, and the items that aren't recipes.
-ghost use Rattle.std.specs.Prelude.{◌≡◌};
+ghost use Rattle.std.specs.Prelude.{◌≡◌, IfOk};
 ghost use Rattle.just_read.specs.Reader.{Reads};
 ghost use Rattle.just_syntax.specs.Items.{is_assignment, is_last_name, is_module, opening_at, opens_module, goes_on};
 ghost use Rattle.just_syntax.specs.ItemReaders as read;
@@ -8,6 +8,7 @@ use super::attribute::{attributes, trailing};
 use super::entry::Entry;
 use super::expr::{LEVELS, expr};
 use super::form::{Sort, sort_of};
+use super::list::{add, list_of};
 use super::recipe::recipe_line;
 use super::string::string;
 use super::token::{comment, name, path, rest};
@@ -17,7 +18,7 @@ use just_read::{
     Boxed, Cursor, NameStart, ReadError, begins_string, behind_word, is_rest, is_word, maybe, skip,
     token, word,
 };
-use std::alloc::Global;
+use std::alloc::{AllocFailed, Global};
 
 /// The items by what they begin with.
 #[derive(Clone, Copy, Debug, PartialEq, Eq)]
@@ -105,20 +106,27 @@ pub fn item(alloc: Global, cursor: &mut Cursor<'_>) -> Result<Entry, ReadError>
     match opening_at(cursor) {
         Opening::Comment => {
             let text = comment(alloc, cursor)?;
-            Ok(Entry::Item(AstItem::Comment(text)))
+            Ok(entry_of(alloc, AstItem::Comment(text))?)
         }
-        Opening::Alias => Ok(Entry::Item(alias(alloc, cursor)?)),
-        Opening::Import => Ok(Entry::Item(import(alloc, cursor)?)),
-        Opening::Module => Ok(Entry::Item(module(alloc, cursor, Seq::new(alloc))?)),
+        Opening::Alias => Ok(entry_of(alloc, alias(alloc, cursor)?)?),
+        Opening::Import => Ok(entry_of(alloc, import(alloc, cursor)?)?),
+        Opening::Module => Ok(entry_of(alloc, module(alloc, cursor, Seq::new(alloc))?)?),
         Opening::Export => {
             token(cursor, b"export")?;
-            Ok(Entry::Item(assignment(alloc, cursor, true)?))
+            Ok(entry_of(alloc, assignment(alloc, cursor, true)?)?)
         }
-        Opening::Assignment => Ok(Entry::Item(assignment(alloc, cursor, false)?)),
-        Opening::Unexport => Ok(Entry::Item(unexport(alloc, cursor)?)),
-        Opening::Setting => Ok(Entry::Item(setting(alloc, cursor)?)),
+        Opening::Assignment => Ok(entry_of(alloc, assignment(alloc, cursor, false)?)?),
+        Opening::Unexport => Ok(entry_of(alloc, unexport(alloc, cursor)?)?),
+        Opening::Setting => Ok(entry_of(alloc, setting(alloc, cursor)?)?),
         Opening::Recipe => attributed(alloc, cursor),
     }
+}
+
+/// The entry of an item that isn't a recipe.
+fn entry_of(alloc: Global, item: AstItem) -> Result<Entry, AllocFailed<AstItem>>
+    ensures { IfOk result (λ x. x ≡ Entry.Item item) }
+{
+    Ok(Entry::Item(Boxed::new(alloc, item)?))
 }
 
 /// Attributes, and the module or the recipe that has them.
@@ -128,7 +136,7 @@ fn attributed(alloc: Global, cursor: &mut Cursor<'_>) -> Result<Entry, ReadError
 {
     let attributes = attributes(alloc, cursor)?;
     if opens_module(cursor) {
-        return Ok(Entry::Item(module(alloc, cursor, attributes)?));
+        return Ok(entry_of(alloc, module(alloc, cursor, attributes)?)?);
     }
     let recipe = recipe_line(alloc, cursor, attributes)?;
     Ok(Entry::Recipe(Boxed::new(alloc, recipe)?))
@@ -368,12 +376,12 @@ fn string_list(alloc: Global, cursor: &mut Cursor<'_>) -> Result<Seq<StringLiter
 {
     let first = string(alloc, cursor)?;
     let mut found = Vec::new(alloc);
-    found.push(first)?;
+    add(&mut found, first)?;
     'strings: while goes_on(cursor) {
         match further_string(alloc, cursor) {
-            Ok(next) => found.push(next)?,
+            Ok(next) => add(&mut found, next)?,
             Err(refused) => return Err(refused),
         }
     }
-    Ok(Seq::from(found))
+    Ok(list_of(found))
 }

@@ -10,6 +10,7 @@ mod expr;
 mod form;
 mod item;
 mod left_out;
+mod list;
 mod recipe;
 mod string;
 mod text;

@@ -6,6 +6,7 @@ ghost use Rattle.just_syntax.specs.Collected.{ReadsVec};
 ghost use Rattle.just_syntax.specs.ItemReaders as read;
 
 use super::expr::{LEVELS, expr, value};
+use super::list::{add, list_of};
 use super::token::{name, path, rest};
 use super::{AstDependency, AstParameter, AstRecipe, Attribute, Expr, ParameterKind};
 use just_path::Seq;
@@ -54,9 +55,9 @@ fn parameters(alloc: Global, cursor: &mut Cursor<'_>) -> Result<Seq<AstParameter
 {
     let mut found = singular(alloc, cursor)?;
     if let Some(last) = variadic(alloc, cursor)? {
-        found.push(last)?;
+        add(&mut found, last)?;
     }
-    Ok(Seq::from(found))
+    Ok(list_of(found))
 }
 
 /// The parameters that take one value.
@@ -67,7 +68,7 @@ fn singular(alloc: Global, cursor: &mut Cursor<'_>) -> Result<Vec<AstParameter>,
     let mut found = Vec::new(alloc);
     'parameters: while begins_parameter(cursor) {
         match parameter(alloc, cursor, ParameterKind::Singular) {
-            Ok(next) => found.push(next)?,
+            Ok(next) => add(&mut found, next)?,
             Err(refused) => return Err(refused),
         }
     }
@@ -140,11 +141,11 @@ fn dependencies(alloc: Global, cursor: &mut Cursor<'_>) -> Result<Seq<AstDepende
     let mut found = Vec::new(alloc);
     'dependencies: while begins_dependency(cursor) {
         match dependency(alloc, cursor) {
-            Ok(next) => found.push(next)?,
+            Ok(next) => add(&mut found, next)?,
             Err(refused) => return Err(refused),
         }
     }
-    Ok(Seq::from(found))
+    Ok(list_of(found))
 }
 
 /// `&&` and at least one dependency, or nothing.
@@ -201,9 +202,9 @@ fn arguments(alloc: Global, cursor: &mut Cursor<'_>) -> Result<Seq<Expr>, ReadEr
     let mut found = Vec::new(alloc);
     'arguments: while is_open(cursor) {
         match expr(alloc, cursor, LEVELS) {
-            Ok(next) => found.push(next)?,
+            Ok(next) => add(&mut found, next)?,
             Err(refused) => return Err(refused),
         }
     }
-    Ok(Seq::from(found))
+    Ok(list_of(found))
 }

@@ -6,6 +6,7 @@ ghost use Rattle.just_read.specs.Lines.{skip};
 ghost use Rattle.just_syntax.specs.Readers as read;
 
 use super::Name;
+use super::list::{add, list_of};
 use super::text::text_of;
 use just_path::{Seq, Text};
 use just_read::{
@@ -49,12 +50,12 @@ pub fn path(alloc: Global, cursor: &mut Cursor<'_>) -> Result<Seq<Name>, ReadErr
 {
     let first = name(alloc, cursor)?;
     let mut names = Vec::new(alloc);
-    names.push(first)?;
+    add(&mut names, first)?;
     'names: while cursor.begins(b"::") {
         let next = further_name(alloc, cursor)?;
-        names.push(next)?;
+        add(&mut names, next)?;
     }
-    Ok(Seq::from(names))
+    Ok(list_of(names))
 }
 
 /// A comment from its `#` on, and the end of its line.
