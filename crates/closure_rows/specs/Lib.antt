@@ -1,0 +1,2 @@
+-- The definitions that the tests of closures cite.
+pub mod Shorter

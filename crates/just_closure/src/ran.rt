@@ -1,0 +1,20 @@
+//! A register of keys in rounds: each gets the next number from 0 when it is first asked for.
+
+ghost use Rattle.just_closure.specs.Numbers.{AreNumbered};
+
+use just_lang::Place;
+use std::collections::BTreeMap;
+
+/// The places that got a number, in their order, and the number of each.
+#[derive(Drop)]
+pub(crate) struct Numbers {
+    pub(crate) places: Vec<Place>,
+    pub(crate) numbers: BTreeMap<Place, u32>,
+}
+
+/// A register of keys in rounds. Looking one up takes the logarithm of their number.
+#[derive(Drop)]
+pub struct Ran {
+    pub(crate) inside: Numbers,
+    ghost numbered: { AreNumbered inside.places.items inside.numbers },
+}

@@ -1,0 +1,19 @@
+-- The proofs of the crate.
+pub mod Lists
+pub mod Expansions
+pub mod CutsExist
+pub mod Settled
+pub mod TextsExist
+pub mod Meanings
+pub mod Strings
+pub mod Homes
+pub mod TargetLists
+pub mod OneTable
+pub mod Stacks
+pub mod ImportLists
+pub mod Seen
+pub mod Standing
+pub mod PendingLists
+pub mod Sources
+pub mod Ends
+pub mod Layouts

@@ -1,0 +1,17 @@
+//! The files of a project and how they stand in its modules.
+#![tactic(auto)]
+
+mod error;
+mod imports;
+mod laid;
+mod layout;
+mod path;
+mod pending;
+mod target;
+mod visit;
+
+pub use error::LayoutError;
+pub use laid::lay;
+pub use layout::{File, Layout, Module, Placed};
+pub use path::meaning;
+pub use target::Target;

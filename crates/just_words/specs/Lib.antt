@@ -1,0 +1,17 @@
+-- What the contracts of the crate cite.
+pub mod Table
+pub mod Cuts
+pub mod Decimal
+pub mod Forms
+pub mod Kinds
+pub mod Letters
+pub mod Marks
+pub mod Occurrences
+pub mod Faults
+pub mod Front
+pub mod Variables
+pub mod Rules
+pub mod Arguments
+pub mod ArgumentParts
+pub mod Words
+pub mod Steps

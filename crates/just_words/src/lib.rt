@@ -1,0 +1,29 @@
+//! The words of the command line: what they ask for, with the variables that fill in what they leave out.
+#![tactic(auto)]
+
+mod argument_parts;
+mod arguments;
+pub mod cut;
+pub mod decimal;
+mod entry;
+mod fault;
+mod form;
+mod front;
+mod kind;
+mod mark;
+mod occurrence;
+mod rule;
+mod subcommand;
+mod table;
+mod usage;
+mod variable;
+mod words;
+
+pub use arguments::Arguments;
+use entry::{Entry, Form, Kind, Values};
+pub use mark::add_copies;
+use mark::{Attached, Mark};
+use occurrence::Occurrence;
+pub use subcommand::Subcommand;
+pub use usage::{Usage, UsageKind};
+pub use words::{Read, meanings_agree, read_words};

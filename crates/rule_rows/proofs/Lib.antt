@@ -1,0 +1,2 @@
+-- The lemmas of the tests of rules.
+pub mod Chains
