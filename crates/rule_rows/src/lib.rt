@@ -4,4 +4,6 @@
 #[cfg(test)]
 mod graphs;
 #[cfg(test)]
+mod items;
+#[cfg(test)]
 mod names;

@@ -1,0 +1,7 @@
+-- Lemmas.
+pub mod Cuts
+pub mod Joins
+pub mod LastNames
+pub mod Fields
+pub mod WholeNames
+pub mod ConfigSteps

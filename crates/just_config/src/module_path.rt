@@ -1,0 +1,152 @@
+//! Module paths in words.
+ghost use Rattle.std.specs.Prelude.{ℕ, List, [], ◌∷◌, ◌≡◌, ◌<◌, ◌++◌, flat_map, length, IfOk, None, MatchOption};
+ghost use Rattle.just_words.specs.Cuts.{parts};
+ghost use Rattle.just_config.specs.ModulePaths.{colon, outer_parts, is_name, has_blank, pieces, unless_empty, in_one_word, in_pieces, components_of, module_path, all_names};
+
+use just_lang::is_recipe_name;
+use just_path::{NoMemory, Seq, Text};
+use just_words::add_copies;
+use just_words::cut::{add_parts, cut};
+use std::alloc::Global;
+
+/// Whether a whole text is a name.
+fn is_name(text: &str) -> bool
+    ensures { result ≡ is_name text.now }
+{
+    is_recipe_name(text)
+}
+
+/// Whether each text is a name.
+fn all_names(texts: &[Text]) -> bool
+    ensures { result ≡ all_names texts.now }
+{
+    'texts: for text in texts {
+        if !is_name(text.as_str()) {
+            return false;
+        }
+    }
+    true
+}
+
+/// Whether a text holds a space or a tab.
+fn has_blank(text: &str) -> bool
+    ensures { result ≡ has_blank text.now }
+{
+    match cut(text, ' ') {
+        Some(_) => true,
+        None => match cut(text, '\t') {
+            Some(_) => true,
+            None => false,
+        },
+    }
+}
+
+/// What stands behind the second colon of `::`, of which the first one is read.
+#[tactic(auto, using(crate::proofs::Joins::alone, crate::proofs::Joins::apart, crate::proofs::Joins::beside))]
+fn behind_colon(text: &str) -> Option<&str>
+    ensures { MatchOption result ((name : List ℕ) → outer_parts (name ∷ parts colon text.now) ≡ None) (λ x. (parts colon text.now ≡ [] ∷ parts colon x.now) × (length x.now < length text.now)) }
+{
+    let Some((part, next)) = cut(text, ':') else {
+        return None;
+    };
+    if part.is_empty() { Some(next) } else { None }
+}
+
+/// What `::` joins in a word, which has no other colon.
+#[tactic(auto, using(crate::proofs::Joins::put_none, crate::proofs::Joins::joined_next, crate::proofs::Joins::joined_end, crate::proofs::Joins::joined_odd))]
+fn in_one_word(alloc: Global, word: &str) -> Result<Option<Seq<Text>>, NoMemory>
+    ensures { IfOk result (λ r. r ≡ in_one_word word.now) }
+{
+    let mut names = Vec::new(alloc);
+    let mut rest = word;
+    'names: while let Some((name, behind)) = cut(rest, ':') {
+        let Some(next) = behind_colon(behind) else {
+            return Ok(None);
+        };
+        names.push(Text::from_str(alloc, name)?)?;
+        rest = next;
+    }
+    names.push(Text::from_str(alloc, rest)?)?;
+    Ok(Some(Seq::from(names)))
+}
+
+/// Adds what stands between the tabs of a text, but nothing that is empty.
+#[tactic(auto, using(crate::proofs::LastNames::nothing_empty, crate::proofs::LastNames::one_full))]
+fn add_pieces(alloc: Global, pieces: &mut Vec<Text>, text: &str) -> Result<(), NoMemory>
+    ensures { IfOk result (λ u. pieces.new.items ≡ pieces.old.items ++ flat_map unless_empty (parts 9 text.now)) }
+{
+    let mut parts = Vec::new(alloc);
+    add_parts(alloc, &mut parts, text, '\t')?;
+    'parts: for part in parts.as_slice() {
+        if !part.as_str().is_empty() {
+            pieces.push(part.try_clone()?)?;
+        }
+    }
+    Ok(())
+}
+
+/// What stands between the blanks of a text.
+fn pieces(alloc: Global, text: &str) -> Result<Vec<Text>, NoMemory>
+    ensures { IfOk result (λ v. v.items ≡ pieces text.now) }
+{
+    let mut parts = Vec::new(alloc);
+    add_parts(alloc, &mut parts, text, ' ')?;
+    let mut pieces = Vec::new(alloc);
+    'parts: for part in parts.as_slice() {
+        add_pieces(alloc, &mut pieces, part.as_str())?;
+    }
+    Ok(pieces)
+}
+
+/// Copies of texts.
+fn copies(alloc: Global, texts: &[Text]) -> Result<Seq<Text>, NoMemory>
+    ensures { IfOk result (λ v. v ≡ texts.now) }
+{
+    let mut copies = Vec::new(alloc);
+    add_copies(&mut copies, texts)?;
+    Ok(Seq::from(copies))
+}
+
+/// What the pieces of a word are joined of.
+fn in_pieces(alloc: Global, pieces: &[Text]) -> Result<Option<Seq<Text>>, NoMemory>
+    ensures { IfOk result (λ r. r ≡ in_pieces pieces.now) }
+{
+    match pieces {
+        [] => Ok(Some(Seq::new(alloc))),
+        [piece] => in_one_word(alloc, piece.as_str()),
+        [_, _, ..] => Ok(Some(copies(alloc, pieces)?)),
+    }
+}
+
+/// What words are joined of: one word at each `::`, one with a blank at the blanks first; several words are each a part.
+fn components_of(alloc: Global, words: &[Text]) -> Result<Option<Seq<Text>>, NoMemory>
+    ensures { IfOk result (λ r. r ≡ components_of words.now) }
+{
+    match words {
+        [] => Ok(Some(Seq::new(alloc))),
+        [word] => {
+            if has_blank(word.as_str()) {
+                in_pieces(alloc, pieces(alloc, word.as_str())?.as_slice())
+            } else {
+                in_one_word(alloc, word.as_str())
+            }
+        }
+        [_, _, ..] => Ok(Some(copies(alloc, words)?)),
+    }
+}
+
+/// The names of a module path: joined by `::` in one word, or one a word; none where a part is no name.
+pub(crate) fn module_path(alloc: Global, words: &[Text]) -> Result<Option<Seq<Text>>, NoMemory>
+    ensures { IfOk result (λ r. r ≡ module_path words.now) }
+{
+    match components_of(alloc, words)? {
+        Some(names) => {
+            if all_names(names.as_slice()) {
+                Ok(Some(names))
+            } else {
+                Ok(None)
+            }
+        }
+        None => Ok(None),
+    }
+}

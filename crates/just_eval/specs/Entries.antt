@@ -1,0 +1,40 @@
+-- A recipe that was found, with what its expressions see.
+use Rattle.std.specs.Prelude.{◌≡◌, List, Option, Some, None, find, if◌then◌else◌}
+use Rattle.std.specs.BTreeMap.{BTreeMap, get}
+use Rattle.just_path.specs.Environ.{or_else}
+use Rattle.just_lang.specs.declared.recipe.Modulepath.{Modulepath}
+use Rattle.just_lang.specs.declared.scope.Scopes.{Scopes}
+use Rattle.just_lang.specs.Keys.{same_path}
+use Rattle.just_closure.specs.Numbers.{path_cmp}
+use Rattle.just_value.specs.Scopes.{pairs_for, scope_of}
+use Rattle.just_eval.specs.Dependencies.{levels_in}
+use Rattle.just_value.specs.Modules.{path_of, Located, located_at}
+use Rattle.just_eval.specs.declared.entry.Entry.{Entry}
+
+-- the recipe with its module
+abbrev pub located_of : Entry → Located
+located_of f = record { parent = f.parent.now; recipe = f.recipe.now }
+
+-- the levels and the pairs are those of the recipe's module
+pub record Sees (scopes : Scopes) (f : Entry) : Type 0 where
+  pub levels : f.levels.now ≡ levels_in (scope_of scopes (path_of f.parent.now))
+  pub pairs : f.pairs.now ≡ pairs_for scopes.dotenv (path_of f.parent.now)
+
+-- what was found is that recipe, with what it sees; or there is none
+abbrev pub IsFound : Scopes → Option Entry → Option Located → Type 0
+IsFound scopes None None = Unit {0}
+IsFound scopes None (Some l) = ⊥
+IsFound scopes (Some f) None = ⊥
+IsFound scopes (Some f) (Some l) = (located_of f ≡ l) × Sees scopes f
+
+-- the map finds for each path the first of these recipes that has it
+abbrev pub AreEntries : Scopes → List Located → BTreeMap Modulepath Entry → Type 0
+AreEntries scopes all found = (path : Modulepath) → IsFound scopes (get path_cmp found path) (located_at all path)
+
+-- the map has the first of these entries of each path
+abbrev pub AreFirst : List Entry → BTreeMap Modulepath Entry → Type 0
+AreFirst all index = (path : Modulepath) → get path_cmp index path ≡ find (λ e. same_path e.recipe.now.path path) all
+
+-- the later map has the entry under its path, where the earlier has nothing there, and else what the earlier has
+abbrev pub Enters : BTreeMap Modulepath Entry → Entry → BTreeMap Modulepath Entry → Type 0
+Enters earlier e later = (path : Modulepath) → get path_cmp later path ≡ or_else (get path_cmp earlier path) (if same_path e.recipe.now.path path then Some e else None)

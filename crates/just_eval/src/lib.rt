@@ -1,0 +1,15 @@
+//! What a request asks of a project: the keys that its words, its recipes and their dependencies name, and the closure of
+//! these keys.
+#![tactic(auto)]
+
+mod argument;
+mod around;
+mod closing;
+mod entries;
+mod entry;
+mod given;
+mod request;
+
+pub use around::dependencies;
+pub use closing::closure;
+pub use just_closure::{CLOSURE_LIMIT, Ran};

@@ -1,0 +1,152 @@
+//! A project with the scopes of its modules, in which the recipes of keys are looked up.
+
+ghost use Rattle.std.specs.Prelude.{◌≡◌, ◌∷◌, [], map, IfOk, OnOk};
+ghost use Rattle.just_value.specs.Answers.{Gives, each};
+ghost use Rattle.just_eval.specs.Dependencies.{key_of, deps};
+ghost use Rattle.just_eval.specs.Entries.{located_of, Sees, IsFound, Enters, AreFirst};
+ghost use Rattle.just_eval.specs.Requests.{IsIndexed};
+ghost use Rattle.just_value.specs.Modules.{recipe_at, AreModules};
+
+use super::argument::{arguments, shares};
+use super::entries::entries;
+use super::entry::Entry;
+use super::given::values_given;
+use just_lang::project::{Justfile, LangError};
+use just_lang::{Dependency, Key, Modulepath, Scopes, Value};
+use just_path::{NoMemory, Seq, TryClone};
+use just_value::all_modules;
+use std::alloc::Global;
+use std::collections::BTreeMap;
+
+/// A project with the scopes of its modules. Looking a recipe up takes the logarithm of their number.
+#[derive(Drop)]
+pub(crate) struct Request<'p> {
+    pub(crate) modules: Vec<&'p Justfile>,
+    pub(crate) scopes: &'p Scopes,
+    pub(crate) entries: BTreeMap<Modulepath, Entry<'p>>,
+}
+
+/// Enters a recipe under its path, where the path is new.
+#[tactic(auto, using(crate::proofs::EntryLists::entered_new, crate::proofs::EntryLists::entered_again))]
+fn enter<'p>(index: &mut BTreeMap<Modulepath, Entry<'p>>, entry: &Entry<'p>) -> Result<(), NoMemory>
+    ensures { OnOk result (Enters index.old entry.now index.new) }
+{
+    if index.get(&entry.recipe.path).is_some() {
+        return Ok(());
+    }
+    index.insert(entry.recipe.path.try_clone()?, *entry)?;
+    Ok(())
+}
+
+/// The first entry of each path.
+#[tactic(auto, using(crate::proofs::EntryLists::none_entered, crate::proofs::EntryLists::one_entered, crate::proofs::EntryLists::all_entered))]
+fn index<'p>(alloc: Global, all: &[Entry<'p>]) -> Result<BTreeMap<Modulepath, Entry<'p>>, NoMemory>
+    ensures { IfOk result (λ index. AreFirst all.now index) }
+{
+    let mut index = BTreeMap::new(alloc);
+    'entries: for entry in all {
+        enter(&mut index, entry)?;
+    }
+    Ok(index)
+}
+
+impl<'p> Request<'p> {
+    /// Looks through a justfile and those within it.
+    #[tactic(auto, using(crate::proofs::EntryLists::entries_found))]
+    pub(crate) fn new(
+        alloc: Global,
+        justfile: &'p Justfile,
+        scopes: &'p Scopes,
+    ) -> Result<Request<'p>, NoMemory>
+        ensures modules { IfOk result (λ r. AreModules (justfile.now ∷ []) (map (λ m. m.now) r.modules.items)) }
+        ensures scopes { IfOk result (λ r. r.scopes.now ≡ scopes.now) }
+        ensures indexed { IfOk result IsIndexed }
+    {
+        let modules = all_modules(alloc, justfile)?;
+        let all = entries(alloc, scopes, modules.as_slice())?;
+        let entries = index(alloc, all.as_slice())?;
+        Ok(Request {
+            modules,
+            scopes,
+            entries,
+        })
+    }
+
+    /// The recipe of a path from the root.
+    pub(crate) fn entry(&self, path: &Modulepath) -> Option<Entry<'p>>
+        requires { IsIndexed self.now }
+        ensures { IsFound self.now.scopes.now result (recipe_at (map (λ m. m.now) self.now.modules.items) path.now) }
+    {
+        self.entries.get(path).copied()
+    }
+
+    /// The key of a dependency of a recipe whose parameters have these values.
+    #[tactic(auto, using(crate::proofs::Keys::key_refused, crate::proofs::Keys::key_none, crate::proofs::Keys::key_some, crate::proofs::Keys::key_values_refused))]
+    fn key_of(
+        &self,
+        alloc: Global,
+        from: &Entry<'p>,
+        values: &[Value],
+        dependency: &Dependency,
+    ) -> Result<Key, LangError>
+        requires indexed { IsIndexed self.now }
+        requires sees { Sees self.now.scopes.now from.now }
+        ensures { Gives (key_of (map (λ m. m.now) self.now.modules.items) self.now.scopes.now (located_of from.now) values.now dependency.now) result }
+    {
+        let exprs = dependency.arguments.as_slice();
+        let given = arguments(alloc, self.scopes, from, values, exprs)?;
+        let recipe = dependency.path.try_clone()?;
+        let Some(to) = self.entry(&dependency.path) else {
+            return Ok(Key {
+                recipe,
+                arguments: Seq::from(given),
+            });
+        };
+        let shares = shares(alloc, to.recipe.parameters.as_slice(), given.as_slice())?;
+        let arguments = values_given(alloc, self.scopes, &to, shares.as_slice())?;
+        Ok(Key {
+            recipe,
+            arguments: Seq::from(arguments),
+        })
+    }
+
+    /// The keys of some dependencies of a recipe whose parameters have these values.
+    #[tactic(auto, using(just_value::proofs::Each::each_more, just_value::proofs::Each::each_end, just_value::proofs::Each::each_refused))]
+    fn keys_of(
+        &self,
+        alloc: Global,
+        from: &Entry<'p>,
+        values: &[Value],
+        dependencies: &[Dependency],
+    ) -> Result<Seq<Key>, LangError>
+        requires indexed { IsIndexed self.now }
+        requires sees { Sees self.now.scopes.now from.now }
+        ensures { Gives (each (key_of (map (λ m. m.now) self.now.modules.items) self.now.scopes.now (located_of from.now) values.now) dependencies.now) result }
+    {
+        let mut keys = Vec::new(alloc);
+        'dependencies: for dependency in dependencies {
+            keys.push(self.key_of(alloc, from, values, dependency)?)?;
+        }
+        Ok(Seq::from(keys))
+    }
+
+    /// The keys that come before a key, and those that come behind it.
+    #[tactic(auto, using(crate::proofs::Keys::deps_none, crate::proofs::Keys::deps_priors_refused, crate::proofs::Keys::deps_subsequents_refused, crate::proofs::Keys::deps_some))]
+    pub(crate) fn dependencies(
+        &self,
+        alloc: Global,
+        key: &Key,
+    ) -> Result<(Seq<Key>, Seq<Key>), LangError>
+        requires { IsIndexed self.now }
+        ensures { Gives (deps (map (λ m. m.now) self.now.modules.items) self.now.scopes.now key.now) result }
+    {
+        let Some(from) = self.entry(&key.recipe) else {
+            return Ok((Seq::new(alloc), Seq::new(alloc)));
+        };
+        let recipe = from.recipe;
+        let values = key.arguments.as_slice();
+        let priors = self.keys_of(alloc, &from, values, recipe.priors.as_slice())?;
+        let subsequents = self.keys_of(alloc, &from, values, recipe.subsequents.as_slice())?;
+        Ok((priors, subsequents))
+    }
+}
