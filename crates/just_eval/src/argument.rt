@@ -69,7 +69,7 @@ pub(crate) fn text_within<N: Names>(
 }
 
 /// The text of an expression in a recipe whose parameters have these values.
-pub(crate) fn text_in_recipe(
+pub fn text_in_recipe(
     alloc: Global,
     scopes: &Scopes,
     from: &Entry<'_>,

@@ -6,11 +6,11 @@ use just_path::Text;
 
 /// A recipe, the module that it stands in, and what the expressions in it see of that module.
 #[derive(Clone, Copy)]
-pub(crate) struct Entry<'p> {
-    pub(crate) parent: &'p Justfile,
-    pub(crate) recipe: &'p Recipe,
+pub struct Entry<'p> {
+    pub parent: &'p Justfile,
+    pub recipe: &'p Recipe,
     /// The levels of the module's scope.
-    pub(crate) levels: &'p [Level],
+    pub levels: &'p [Level],
     /// The dotenv pairs of the module.
-    pub(crate) pairs: &'p [(Text, Text)],
+    pub pairs: &'p [(Text, Text)],
 }

@@ -10,6 +10,9 @@ mod entry;
 mod given;
 mod request;
 
+pub use argument::text_in_recipe;
 pub use around::dependencies;
 pub use closing::closure;
+pub use entry::Entry;
 pub use just_closure::{CLOSURE_LIMIT, Ran};
+pub use request::Request;

@@ -20,10 +20,11 @@ use std::collections::BTreeMap;
 
 /// A project with the scopes of its modules. Looking a recipe up takes the logarithm of their number.
 #[derive(Drop)]
-pub(crate) struct Request<'p> {
-    pub(crate) modules: Vec<&'p Justfile>,
-    pub(crate) scopes: &'p Scopes,
-    pub(crate) entries: BTreeMap<Modulepath, Entry<'p>>,
+pub struct Request<'p> {
+    pub modules: Vec<&'p Justfile>,
+    pub scopes: &'p Scopes,
+    /// The first recipe of each path.
+    pub entries: BTreeMap<Modulepath, Entry<'p>>,
 }
 
 /// Enters a recipe under its path, where the path is new.
@@ -53,7 +54,7 @@ fn index<'p>(alloc: Global, all: &[Entry<'p>]) -> Result<BTreeMap<Modulepath, En
 impl<'p> Request<'p> {
     /// Looks through a justfile and those within it.
     #[tactic(auto, using(crate::proofs::EntryLists::entries_found))]
-    pub(crate) fn new(
+    pub fn new(
         alloc: Global,
         justfile: &'p Justfile,
         scopes: &'p Scopes,
@@ -73,7 +74,7 @@ impl<'p> Request<'p> {
     }
 
     /// The recipe of a path from the root.
-    pub(crate) fn entry(&self, path: &Modulepath) -> Option<Entry<'p>>
+    pub fn entry(&self, path: &Modulepath) -> Option<Entry<'p>>
         requires { IsIndexed self.now }
         ensures { IsFound self.now.scopes.now result (recipe_at (map (λ m. m.now) self.now.modules.items) path.now) }
     {
@@ -132,11 +133,7 @@ impl<'p> Request<'p> {
 
     /// The keys that come before a key, and those that come behind it.
     #[tactic(auto, using(crate::proofs::Keys::deps_none, crate::proofs::Keys::deps_priors_refused, crate::proofs::Keys::deps_subsequents_refused, crate::proofs::Keys::deps_some))]
-    pub(crate) fn dependencies(
-        &self,
-        alloc: Global,
-        key: &Key,
-    ) -> Result<(Seq<Key>, Seq<Key>), LangError>
+    pub fn dependencies(&self, alloc: Global, key: &Key) -> Result<(Seq<Key>, Seq<Key>), LangError>
         requires { IsIndexed self.now }
         ensures { Gives (deps (map (λ m. m.now) self.now.modules.items) self.now.scopes.now key.now) result }
     {

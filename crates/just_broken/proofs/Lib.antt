@@ -1,0 +1,5 @@
+-- The lemmas of broken rules.
+pub mod FileSteps
+pub mod MeantLaws
+pub mod Orders
+pub mod Behinds

@@ -1,0 +1,3 @@
+-- The lemmas of plain justfiles.
+pub mod Falling
+pub mod Descents

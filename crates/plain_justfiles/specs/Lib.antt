@@ -1,0 +1,2 @@
+-- The definitions that the contracts of plain justfiles cite.
+pub mod Descent
