@@ -15,6 +15,7 @@ same_number : (v w : ℕ) (p : 0 < v) (q : 0 < w) → v ≡ w → number v p ≡
 same_number v w p q is = subst (λ (u : ℕ). (r : 0 < u) → number v p ≡ number u r) is (λ r. ap (λ k. number v k) (le_prop p r)) q
 
 number_one : (x y : NonZeroU64) → non_zero_u64_get x ≡ non_zero_u64_get y → x ≡ y
+unfolding number
 number_one x y is = same_number x.value y.value x.ok y.ok is
 
 jobs_one : (x y : Option NonZeroU64) → option_map non_zero_u64_get x ≡ option_map non_zero_u64_get y → x ≡ y

@@ -1,6 +1,5 @@
 -- What words ask for over a host: what they ask for in its world, or a call of the host has no answer.
 use Rattle.std.proofs.Common.{◌≡◌, ◌⊎◌, inl, inr, ℕ, List, [], Option, Some, None, option_map, Ok, Err, refl, sym, ◌∙◌, ap, subst}
-use Rattle.just_path.specs.declared.environ.Environ.{Environ}
 use Rattle.just_path.specs.declared.host.Miss.{Miss}
 use Rattle.just_outside.specs.declared.entry.Call.TheVariants as call
 use Rattle.just_outside.specs.declared.entry.HostFault.{HostFault}

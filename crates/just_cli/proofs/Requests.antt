@@ -1,25 +1,19 @@
 -- Each step of a request gives one answer at most, and so does the request.
-use Rattle.std.proofs.Common.{◌≡◌, ℕ, List, [], Option, Some, None, Result, Ok, Err, sym, ◌∙◌, ap, subst, arith}
+use Rattle.std.proofs.Common.{◌≡◌, ℕ, List, [], Option, Some, None, Result, Ok, Err, sym, ◌∙◌, ap, arith}
 use Rattle.just_path.specs.declared.environ.Environ.{Environ}
 use Rattle.just_path.specs.declared.host.Miss.{Miss}
 use Rattle.just_outside.specs.declared.entry.HostFault.TheVariants as fault
 use Rattle.just_outside.specs.World.{World}
 use Rattle.just_syntax.specs.declared.ast.AstItem.{AstItem}
-use Rattle.just_lang.specs.declared.recipe.Recipe.{Recipe}
 use Rattle.just_lang.specs.Made.{recipes_of}
 use Rattle.just_lang.proofs.Laws.{one_tree, never_both, one_error}
-use Rattle.just_words.specs.declared.arguments.Arguments.{Arguments}
-use Rattle.just_words.specs.declared.usage.Usage.{Usage}
-use Rattle.just_words.specs.declared.words.Read.{Read}
 use Rattle.just_words.specs.declared.words.Read.TheVariants as read
 use Rattle.just_words.proofs.Laws.{one_meaning}
-use Rattle.just_config.specs.declared.config.Config.{Config}
-use Rattle.just_config.specs.declared.config_error.ConfigError.{ConfigError}
 use Rattle.just_cli.specs.declared.error.Error.{Error}
 use Rattle.just_cli.specs.declared.error.Error.TheVariants as error
 use Rattle.just_cli.specs.Faults.{ShowsAt}
 use Rattle.just_cli.specs.Words.{WordsRequest, ArgumentsRequest, FindsEnviron, ReadsWords, FindsFolder, GivesConfig, IsBuilt, Configures}
-use Rattle.just_cli.specs.Request.{JustfileRequest, Outline, source_in, justfile_in, ReadsSource, ReadsJustfile, KnowsOverrides, ChoosesName, NamesKeys, ClosesKeys, MakesPlan, Names, Plans, Serves, environ_shown, folder_shown, text_shown, name_for, Asks}
+use Rattle.just_cli.specs.Request.{JustfileRequest, Outline, source_in, justfile_in, ReadsSource, ReadsJustfile, KnowsOverrides, ChoosesName, NamesKeys, ClosesKeys, MakesPlan, Names, Plans, Serves, environ_shown, folder_shown, text_shown, Asks}
 use Rattle.std.proofs.Common.{option_map}
 use Rattle.std.specs.Int.NonZero.{non_zero_u64_get}
 use Rattle.just_cli.proofs.Planned.{name_request}
@@ -42,11 +36,11 @@ environ_one environ one words (Err e) (Err f) p q = same_refusal e f (one (Err e
 words_one : GivesOne ReadsWords
 words_one k (Ok a) (Ok b) p q =
     let same = one_meaning k.words k.environ.pairs (Ok (read.Go a)) (Ok (read.Go b)) p q in
-    ap (λ x. Ok x) (arguments_one same.0 same.1.0 a b same.1.1.0 same.1.1.1)
-words_one k (Ok a) (Err f) p q = absurd (one_meaning k.words k.environ.pairs (Ok (read.Go a)) (Err q.0) p q.1.0)
-words_one k (Err e) (Ok b) p q = absurd (one_meaning k.words k.environ.pairs (Err p.0) (Ok (read.Go b)) p.1.0 q)
+    ap (λ x. Ok x) (arguments_one same.0 same.1 a b same.2 same.3)
+words_one k (Ok a) (Err f) p q = absurd (one_meaning k.words k.environ.pairs (Ok (read.Go a)) (Err q.0) p q.1)
+words_one k (Err e) (Ok b) p q = absurd (one_meaning k.words k.environ.pairs (Err p.0) (Ok (read.Go b)) p.1 q)
 words_one k (Err e) (Err f) p q =
-    ap (λ x. Err x) (p.1.1 ∙ ap (λ u. error.Usage u) (one_meaning k.words k.environ.pairs (Err p.0) (Err q.0) p.1.0 q.1.0) ∙ sym q.1.1)
+    ap (λ x. Err x) (p.2 ∙ ap (λ u. error.Usage u) (one_meaning k.words k.environ.pairs (Err p.0) (Err q.0) p.1 q.1) ∙ sym q.2)
 
 -- a current folder that is given in one way is found in one way
 folder_one : (current : Result (List ℕ) Error → Type 0) → ((r s : Result (List ℕ) Error) → current r → current s → r ≡ s) → GivesOne (FindsFolder current)
@@ -68,15 +62,15 @@ held_none o x p q = let both : None ≡ Some x = sym p ∙ q in let no : ⊥ = c
 -- arguments give one configuration, or are refused with one error
 config_one : GivesOne GivesConfig
 config_one k (Ok a) (Ok b) p q = ap (λ x. Ok x) (p.1 ∙ sym q.1)
-config_one k (Ok a) (Err f) p q = absurd (held_none _ q.0 p.0 q.1.0)
-config_one k (Err e) (Ok b) p q = absurd (held_none _ p.0 q.0 p.1.0)
-config_one k (Err e) (Err f) p q = ap (λ x. Err x) (p.1.1 ∙ ap (λ c. error.Config c) (held_one _ p.0 q.0 p.1.0 q.1.0) ∙ sym q.1.1)
+config_one k (Ok a) (Err f) p q = absurd (held_none _ q.0 p.0 q.1)
+config_one k (Err e) (Ok b) p q = absurd (held_none _ p.0 q.0 p.1)
+config_one k (Err e) (Err f) p q = ap (λ x. Err x) (p.2 ∙ ap (λ c. error.Config c) (held_one _ p.0 q.0 p.1 q.1) ∙ sym q.2)
 
 built_one : GivesOne IsBuilt
 built_one k (Ok a) (Ok b) p q = ap (λ x. Ok x) (p.1 ∙ sym q.1)
-built_one k (Ok a) (Err f) p q = absurd (held_none _ q.0 p.0 q.1.0)
-built_one k (Err e) (Ok b) p q = absurd (held_none _ p.0 q.0 p.1.0)
-built_one k (Err e) (Err f) p q = ap (λ x. Err x) (p.1.1 ∙ ap (λ w. error.NotBuilt w) (held_one _ p.0 q.0 p.1.0 q.1.0) ∙ sym q.1.1)
+built_one k (Ok a) (Err f) p q = absurd (held_none _ q.0 p.0 q.1)
+built_one k (Err e) (Ok b) p q = absurd (held_none _ p.0 q.0 p.1)
+built_one k (Err e) (Err f) p q = ap (λ x. Err x) (p.2 ∙ ap (λ w. error.NotBuilt w) (held_one _ p.0 q.0 p.1 q.1) ∙ sym q.2)
 
 configures_one : GivesOne Configures
 configures_one = then_one GivesConfig IsBuilt config_one built_one
@@ -89,12 +83,12 @@ shown_one {A} path shown (Ok x) (Ok y) p q =
     let both : ◌≡◌ {A = Result A Miss} (Ok x) (Ok y) = sym p ∙ q in
     let same : x ≡ y = cc in
     ap (λ z. Ok z) same
-shown_one {A} path shown (Ok x) (Err f) p q = let both : ◌≡◌ {A = Result A Miss} (Ok x) (Err q.0) = sym p ∙ q.1.0 in absurd (let no : ⊥ = cc in no)
-shown_one {A} path shown (Err e) (Ok y) p q = let both : ◌≡◌ {A = Result A Miss} (Ok y) (Err p.0) = sym q ∙ p.1.0 in absurd (let no : ⊥ = cc in no)
+shown_one {A} path shown (Ok x) (Err f) p q = let both : ◌≡◌ {A = Result A Miss} (Ok x) (Err q.0) = sym p ∙ q.1 in absurd (let no : ⊥ = cc in no)
+shown_one {A} path shown (Err e) (Ok y) p q = let both : ◌≡◌ {A = Result A Miss} (Ok y) (Err p.0) = sym q ∙ p.1 in absurd (let no : ⊥ = cc in no)
 shown_one {A} path shown (Err e) (Err f) p q =
-    let both : ◌≡◌ {A = Result A Miss} (Err p.0) (Err q.0) = sym p.1.0 ∙ q.1.0 in
+    let both : ◌≡◌ {A = Result A Miss} (Err p.0) (Err q.0) = sym p.1 ∙ q.1 in
     let same : p.0 ≡ q.0 = cc in
-    ap (λ x. Err x) (p.1.1 ∙ ap (λ m. error.FilesystemIo path (fault.Missed m)) same ∙ sym q.1.1)
+    ap (λ x. Err x) (p.2 ∙ ap (λ m. error.FilesystemIo path (fault.Missed m)) same ∙ sym q.2)
 
 -- a justfile that is read in one way is one source
 source_one : (read : List ℕ → Result (List ℕ) Error → Type 0) → ((folder : List ℕ) (r s : Result (List ℕ) Error) → read folder r → read folder s → r ≡ s) → GivesOne (ReadsSource read)
@@ -125,9 +119,9 @@ overrides_one j (Err e) (Err f) p q = ap (λ x. Err x) (p.1 ∙ sym q.1)
 -- one name is chosen, or none
 choice_one : GivesOne ChoosesName
 choice_one j (Ok a) (Ok b) p q =
-    ap (λ x. Ok x) (p.1.1 ∙ ap (λ n. name_request n (option_map non_zero_u64_get j.wanted.jobs) j.root j.recipes) (held_one _ p.0 q.0 p.1.0 q.1.0) ∙ sym q.1.1)
-choice_one j (Ok a) (Err f) p q = absurd (held_none _ p.0 q.0 p.1.0)
-choice_one j (Err e) (Ok b) p q = absurd (held_none _ q.0 p.0 q.1.0)
+    ap (λ x. Ok x) (p.2 ∙ ap (λ n. name_request n (option_map non_zero_u64_get j.wanted.jobs) j.root j.recipes) (held_one _ p.0 q.0 p.1 q.1) ∙ sym q.2)
+choice_one j (Ok a) (Err f) p q = absurd (held_none _ p.0 q.0 p.1)
+choice_one j (Err e) (Ok b) p q = absurd (held_none _ q.0 p.0 q.1)
 choice_one j (Err e) (Err f) p q = ap (λ x. Err x) (p.1 ∙ sym q.1)
 
 -- a name has its keys, or names no recipe

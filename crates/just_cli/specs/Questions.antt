@@ -1,5 +1,5 @@
 -- Words that ask for the help or the version, and what they get.
-use Rattle.std.specs.Prelude.{ℕ, ◌≡◌, ◌++◌, ◌⊎◌, List, [], ◌∷◌, codes, Option, Some, None, option_map, Result, Ok, Err, IfOk, IfErr}
+use Rattle.std.specs.Prelude.{ℕ, ◌≡◌, ◌++◌, List, [], ◌∷◌, codes, Option, Some, None, option_map, Result, Ok, IfOk, IfErr}
 use Rattle.std.specs.Int.NonZero.{non_zero_u64_get}
 use Rattle.just_path.specs.declared.environ.Environ.{Environ}
 use Rattle.just_outside.specs.declared.entry.Call.TheVariants as call
@@ -15,8 +15,6 @@ use Rattle.just_config.specs.declared.help.TheConstants.{HELP}
 use Rattle.just_config.specs.Versions.{version_text}
 use Rattle.just_cli.specs.declared.ended.Failure.{Failure}
 use Rattle.just_cli.specs.declared.ended.Report.{Report}
-use Rattle.just_cli.specs.declared.error.Error.{Error}
-use Rattle.just_cli.specs.declared.error.Error.TheVariants as error
 use Rattle.just_cli.specs.Faults.{CallGives, print_error}
 use Rattle.just_cli.specs.Record.{EndsBefore}
 use Rattle.just_cli.specs.declared.task.Task.{Task}

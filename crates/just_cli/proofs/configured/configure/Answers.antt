@@ -1,7 +1,4 @@
 -- What is built behind the configuration is what the arguments ask for; or one of the two is a refusal.
-use Rattle.std.proofs.Common.{Result, Ok, Err}
-use Rattle.just_cli.specs.Faults.{OrMemory}
-use Rattle.just_cli.specs.Words.{ArgumentsRequest}
 use Rattle.just_cli.proofs.Refusals.{arguments_refused, each_behind, each_unbuilt}
 use Rattle.just_cli.proofs.configured.configure.Goals as goal
 

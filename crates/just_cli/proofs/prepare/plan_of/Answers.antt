@@ -15,7 +15,7 @@ returns-in-None-name_for-clause-refused c = nameless c.args.wanted.now c.args.so
 
 pub returns-in-Ok-plan_of_name-clause-plan : goal.returns-in-Ok-plan_of_name-clause-plan
 returns-in-Ok-plan_of_name-clause-plan c =
-    named_plan c.args.wanted.now c.args.source c.in-Ok.justfile _ (text_of c.as_path.result) _ _ c.in-Ok.ensures.found c.in-None.ensures.error c.in-Some-name_for.ensures refl c.as_path.ensures c.in-Ok-plan_of_name.ensures.plan
+    named_plan c.args.wanted.now c.args.source c.in-Ok.justfile _ (text_of c.as_path.result) _ c.in-Ok-plan_of_name.plan c.in-Ok.ensures.found c.in-None.ensures.error c.in-Some-name_for.ensures refl c.as_path.ensures c.in-Ok-plan_of_name.ensures.plan
 
 pub returns-clause-refused : goal.returns-clause-refused
 returns-clause-refused c =

@@ -14,11 +14,11 @@ returns-in-Err-drive g c = by_run
     (c.fail-in-Err-drive.ensures.world ∙ c.in-Err-drive.ensures.back.1 ∙ c.prepare.ensures.world))
 
 pub returns-in-Ok-Show : goal.returns-in-Ok-Show
-returns-in-Ok-Show g c = text_ended _ _ _ _ _ _ _ _ _ _ c.in-Ok-Show.ensures.asked c.as_str.ensures c.prepare.ensures.world c.in-Ok-Show.ensures.grew c.show.ensures
+returns-in-Ok-Show g c = text_ended _ _ _ _ _ _ _ _ _ _ (rw c.in-Ok-Show.field-0-is at c.in-Ok-Show.ensures.asked) c.as_str.ensures c.prepare.ensures.world c.in-Ok-Show.ensures.grew c.show.ensures
 
 pub returns-in-None : goal.returns-in-None
-returns-in-None g c = by_run (run_well _ _ _ _ _ _ _ _ _ c.in-Ok-Run.plan _ _ _ _ _ _ refl c.in-Ok-drive.ensures.driven c.in-Ok-Run.ensures.asked c.in-Ok-Run.ensures.grew c.prepare.ensures.world refl c.in-None.ensures)
+returns-in-None g c = by_run (run_well _ _ _ _ _ _ _ _ _ c.in-Ok-Run.plan _ _ _ _ _ _ refl c.in-Ok.ensures.driven (rw c.in-Ok-Run.field-0-is at c.in-Ok-Run.ensures.asked) c.in-Ok-Run.ensures.grew c.prepare.ensures.world refl c.in-None.ensures)
 
 pub returns-in-Some : goal.returns-in-Some
 returns-in-Some g c = by_run
-    (run_ill _ _ _ _ _ _ _ _ _ _ c.in-Ok-Run.plan _ _ _ _ _ _ c.fail-in-Some.ensures.failed c.in-Ok-drive.ensures.driven c.in-Ok-Run.ensures.asked c.in-Ok-Run.ensures.grew c.prepare.ensures.world c.fail-in-Some.ensures.world c.in-Some.ensures c.as_slice.ensures c.fail-in-Some.ensures.told)
+    (run_ill _ _ _ _ _ _ _ _ _ _ c.in-Ok-Run.plan _ _ _ _ _ _ c.fail-in-Some.ensures.failed c.in-Ok.ensures.driven (rw c.in-Ok-Run.field-0-is at c.in-Ok-Run.ensures.asked) c.in-Ok-Run.ensures.grew c.prepare.ensures.world c.fail-in-Some.ensures.world c.in-Some.ensures c.as_slice.ensures c.fail-in-Some.ensures.told)
