@@ -1,6 +1,6 @@
 -- The lemmas of the top calls.
 pub mod Answered
-pub mod Breaks
+pub mod Arguments
 pub mod Caused
 pub mod Chain
 pub mod Falls
@@ -10,7 +10,7 @@ pub mod Planned
 pub mod Requests
 pub mod Runs
 pub mod Served
-pub mod Spelled
+pub mod Shown
+pub mod Refusals
 pub mod Steps
-pub mod Worded
 pub mod Worlds

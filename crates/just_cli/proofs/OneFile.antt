@@ -25,9 +25,9 @@ use Rattle.just_cli.specs.Request.{justfile_in, text_shown}
 abbrev pub tree_of : List ℕ → Thing → Tree
 tree_of place t = from_entries {R = slice_cmp nat_cmp} ((place, t) ∷ [])
 
--- the world whose current folder is that one and has a justfile of that text
-abbrev pub world_of : List ℕ → List ℕ → World
-world_of folder text = record { tree = tree_of (place_under folder (justfile_in folder)) (things.File text false); current = folder; environ = []; input = [] }
+-- the world of that environment whose current folder is that one and has a justfile of that text
+abbrev pub world_of : List (List ℕ × List ℕ) → List ℕ → List ℕ → World
+world_of pairs folder text = record { tree = tree_of (place_under folder (justfile_in folder)) (things.File text false); current = folder; environ = pairs; input = [] }
 
 -- ---- looking the place up
 
@@ -101,9 +101,9 @@ short_text : (text : List ℕ) → length text ≤ MAX_BYTES → is_utf8 text �
 short_text text short utf8 = grind (arith, common_steps)
 
 -- where a file stands alone at the place of a path that asks for no folder, the path leads there
-leads_there : (folder path text : List ℕ) → is_empty path ≡ false → asks_folder path ≡ false
-    → (let w : World = record { tree = tree_of (place_under folder path) (things.File text false); current = folder; environ = []; input = [] } in canonical_told path (view_of w) ≡ Ok (place_under folder path))
-leads_there folder path text full plain =
+leads_there : (pairs : List (List ℕ × List ℕ)) (folder path text : List ℕ) → is_empty path ≡ false → asks_folder path ≡ false
+    → (let w : World = record { tree = tree_of (place_under folder path) (things.File text false); current = folder; environ = pairs; input = [] } in canonical_told path (view_of w) ≡ Ok (place_under folder path))
+leads_there pairs folder path text full plain =
     let place = place_under folder path in
     let tree = seen (tree_of place (things.File text false)) in
     let at = shown place (things.File text false) in
@@ -114,13 +114,13 @@ leads_there folder path text full plain =
     ap (asked_place path tree) followed ∙ ap (λ b. if b then folder_place tree (Ok place) else Ok place) plain
 
 -- the world shows the text of its file
-pub reads_in : (folder text : List ℕ) → length text ≤ MAX_BYTES → is_utf8 text ≡ true → text_shown folder (world_of folder text) ≡ Ok text
-reads_in folder text short utf8 =
+pub reads_in : (pairs : List (List ℕ × List ℕ)) (folder text : List ℕ) → length text ≤ MAX_BYTES → is_utf8 text ≡ true → text_shown folder (world_of pairs folder text) ≡ Ok text
+reads_in pairs folder text short utf8 =
     let path = justfile_in folder in
     let place = place_under folder path in
     let front = front_of folder in
     let full : is_empty path ≡ false = ap (λ p. is_empty p) front.1 ∙ not_empty front.0 in
     let plain : asks_folder path ≡ false = ap (λ p. asks_folder p) front.1 ∙ no_folder front.0 in
-    ap (text_at (world_of folder text).tree) (leads_there folder path text full plain)
+    ap (text_at (world_of pairs folder text).tree) (leads_there pairs folder path text full plain)
     ∙ ap text_of_thing (there place (things.File text false))
     ∙ short_text text short utf8

@@ -18,11 +18,10 @@ use Rattle.just_sched.specs.Verdict.{IsVerdict, NoneDecides}
 use Rattle.just_cli.specs.declared.ended.Failure.{Failure}
 use Rattle.just_cli.specs.declared.ended.Report.{Report}
 use Rattle.just_cli.specs.declared.error.Error.{Error}
-use Rattle.just_cli.specs.Faults.{entries_of}
+use Rattle.just_cli.specs.Faults.{OrMemory, entries_of}
 use Rattle.just_cli.specs.Outcome.{IsErrorFor}
 use Rattle.just_cli.specs.Record.{IsBook, IsTold, EndsWell, EndsIll, EndsBefore}
-use Rattle.just_cli.specs.Request.{outline_of, AsksOver, RefusedFor, OrMemory}
-use Rattle.just_cli.specs.Limits.{jobs_for}
+use Rattle.just_cli.specs.Request.{outline_of, AsksOver, RefusedFor}
 use Rattle.just_cli.specs.Run.{IsRun}
 use Rattle.just_cli.specs.Texts.{exit_code}
 use Rattle.just_cli.proofs.Answered.{answered}
@@ -51,11 +50,12 @@ pub run_before : (words : List (List ℕ)) (told after : Option World) (old now 
     → now ≡ old ++ entries_of e → IsToldBehind e now new → after ≡ told → IsRun words told after old new r
 run_before words told after old now new r e h is no_history why grew tells world =
     let f : Failure = record { error = e; plan = None; history = h; code = exit_code e } in
-    let jobs = jobs_for words in
+    let jobs : Option ℕ = None in
     let refused : f.plan ≡ None → ∥ RefusedFor words told e ∥₁ = λ _. refused_over words told e why in
     let left : ∥ EndsBefore e old new ∥₁ = ∣ ends_before e old now new grew tells ∣₁ in
-    let fits = answered words told (Err f) tt refused in
+    let fits = answered jobs words told (Err f) tt refused in
     subst (λ q. IsRun words told after old new q) (sym is) (record {
+      jobs = jobs;
       ran = tt;
       asked = tt;
       refused = refused;
@@ -120,17 +120,17 @@ went_well nodes shown verdict.NoMemory is = absurd (let no : ⊥ = cc in no)
 some_none : {A : Type 0} (x : A) → Some x ≡ None → ⊥
 some_none x is = let no : ⊥ = cc in no
 
-pub run_well : (words : List (List ℕ)) (told after : Option World) (old entered now : List Entry) (w seen : Option World) (plan driven : Plan) (h : List Event) (v : Verdict) (r : Result Report Failure) (nodes : List PlanNode) (shown : List Event)
-    → r ≡ Ok (record { plan = driven; history = h }) → IsDriven (start_with plan (jobs_for words) entered w) driven h v now seen → AsksOver words told (Ok (outline_of plan))
+pub run_well : (words : List (List ℕ)) (told after : Option World) (old entered now : List Entry) (w seen : Option World) (jobs : Option ℕ) (plan driven : Plan) (h : List Event) (v : Verdict) (r : Result Report Failure) (nodes : List PlanNode) (shown : List Event)
+    → r ≡ Ok (record { plan = driven; history = h }) → IsDriven (start_with plan jobs entered w) driven h v now seen → AsksOver words told (Ok (outline_of plan jobs))
     → entered ≡ old → w ≡ told → after ≡ seen → IsErrorFor nodes shown v None → IsRun words told after old now r
-run_well words told after old entered now w seen plan driven h v r nodes shown is driven_so asks entered_is w_is after_is no_error =
-    let jobs = jobs_for words in
+run_well words told after old entered now w seen jobs plan driven h v r nodes shown is driven_so asks entered_is w_is after_is no_error =
     let d : IsDriven (start_with plan jobs entered w) plan h v now seen = subst (λ p. IsDriven (start_with plan jobs entered w) p h v now seen) driven_so.plan driven_so in
     let report : Report = record { plan = plan; history = h } in
     let same : r ≡ Ok report = is ∙ ap (λ p. let x : Report = record { plan = p; history = h } in Ok x) driven_so.plan in
-    let asked = asked_over words told plan asks in
-    let fits = answered words told (Ok report) asked tt in
+    let asked = asked_over words told plan jobs asks in
+    let fits = answered jobs words told (Ok report) asked tt in
     subst (λ q. IsRun words told after old now q) (sym same) (subst (λ o. IsRun words told after o now (Ok report)) entered_is (record {
+      jobs = jobs;
       ran = ends_well plan jobs entered w h v now seen d (went_well nodes shown v no_error);
       asked = asked;
       refused = tt;
@@ -145,20 +145,20 @@ run_well words told after old entered now w seen plan driven h v r nodes shown i
       untouched = λ es grown quiet. after_is ∙ (world_left (start_with plan jobs entered w) h now now seen [] es d.kept (sym (append-nil now)) grown quiet ∙ w_is);
     }))
 
-pub run_ill : (words : List (List ℕ)) (told after : Option World) (old entered now new : List Entry) (w seen : Option World) (plan driven : Plan) (h shown : List Event) (v : Verdict) (e : Error) (r : Result Report Failure)
-    → r ≡ Err (record { error = e; plan = Some driven; history = h; code = exit_code e }) → IsDriven (start_with plan (jobs_for words) entered w) driven h v now seen → AsksOver words told (Ok (outline_of plan))
+pub run_ill : (words : List (List ℕ)) (told after : Option World) (old entered now new : List Entry) (w seen : Option World) (jobs : Option ℕ) (plan driven : Plan) (h shown : List Event) (v : Verdict) (e : Error) (r : Result Report Failure)
+    → r ≡ Err (record { error = e; plan = Some driven; history = h; code = exit_code e }) → IsDriven (start_with plan jobs entered w) driven h v now seen → AsksOver words told (Ok (outline_of plan jobs))
     → entered ≡ old → w ≡ told → after ≡ seen → IsErrorFor driven.nodes shown v (Some e) → shown ≡ h → IsToldBehind e now new → IsRun words told after old new r
-run_ill words told after old entered now new w seen plan driven h shown v e r is driven_so asks entered_is w_is after_is error_is shown_is tells =
-    let jobs = jobs_for words in
+run_ill words told after old entered now new w seen jobs plan driven h shown v e r is driven_so asks entered_is w_is after_is error_is shown_is tells =
     let d : IsDriven (start_with plan jobs entered w) plan h v now seen = subst (λ p. IsDriven (start_with plan jobs entered w) p h v now seen) driven_so.plan driven_so in
     let f : Failure = record { error = e; plan = Some plan; history = h; code = exit_code e } in
     let same : r ≡ Err f = is ∙ ap (λ p. let x : Failure = record { error = e; plan = Some p; history = h; code = exit_code e } in Err x) driven_so.plan in
     let decided : IsErrorFor plan.nodes h v (Some e) = subst (λ k. IsErrorFor plan.nodes k v (Some e)) shown_is (subst (λ p. IsErrorFor p.nodes shown v (Some e)) driven_so.plan error_is) in
-    let asked = asked_over words told plan asks in
+    let asked = asked_over words told plan jobs asks in
     let refused : f.plan ≡ None → ∥ RefusedFor words told e ∥₁ = λ none. absurd (some_none plan none) in
     let left = ends_ill plan jobs entered w h v now seen d e new decided tells in
-    let fits = answered words told (Err f) asked refused in
+    let fits = answered jobs words told (Err f) asked refused in
     subst (λ q. IsRun words told after old new q) (sym same) (subst (λ o. IsRun words told after o new (Err f)) entered_is (record {
+      jobs = jobs;
       ran = tt;
       asked = asked;
       refused = refused;
@@ -172,7 +172,3 @@ run_ill words told after old entered now new w seen plan driven h shown v e r is
       misses = misses_rise jobs (Err f) entered new left;
       untouched = λ es grown quiet. after_is ∙ (world_left (start_with plan jobs entered w) h now new seen tells.0 es d.kept tells.1 grown quiet ∙ w_is);
     }))
-
--- a run under a limit is one under an equal limit
-pub driven_at : {plan p : Plan} {jobs limit : Option ℕ} {entered now : List Entry} {w seen : Option World} {h : List Event} {v : Verdict} → jobs ≡ limit → IsDriven (start_with plan jobs entered w) p h v now seen → IsDriven (start_with plan limit entered w) p h v now seen
-driven_at {plan} {p} {jobs} {limit} {entered} {now} {w} {seen} {h} {v} same d = subst (λ j. IsDriven (start_with plan j entered w) p h v now seen) same d

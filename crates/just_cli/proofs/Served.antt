@@ -31,12 +31,12 @@ stood_within jobs f p old new is k true all = inl (k.favoured (AllPass-from_list
 stood_within jobs f p old new is k false all = inr (within p k.stretches is k.prepared k.book (λ good. true≢false (sym (list_all-from_AllPass is_favourable k.stretches.mid good) ∙ all)))
 
 stood : (words : List (List ℕ)) (w : World) (jobs : Option ℕ) (q : Outline) (f : Failure) (old new : List Entry) (o : Option Plan) → f.plan ≡ o
-    → MatchOption o (∥ IsBeside words (Some w) f.error ∥₁) (λ p. ∥ outline_of p ≡ q ∥₁) → MatchOption o (∥ EndsBefore f.error old new ∥₁) (λ p. ∥ EndsIll p jobs f.history f.error old new ∥₁) → ∥ (f.error ≡ error.NoMemory) ⊎ Hindered f jobs old new ∥₁
+    → MatchOption o (∥ IsBeside words (Some w) f.error ∥₁) (λ p. ∥ outline_of p jobs ≡ q ∥₁) → MatchOption o (∥ EndsBefore f.error old new ∥₁) (λ p. ∥ EndsIll p jobs f.history f.error old new ∥₁) → ∥ (f.error ≡ error.NoMemory) ⊎ Hindered f jobs old new ∥₁
 stood words w jobs q f old new None is beside failed = ∥∥₁_elim beside ∥∥₁_prop (λ b. ∥∥₁_map failed (λ k. stood_before words w jobs f old new is b k))
 stood words w jobs q f old new (Some p) is own failed = ∥∥₁_map failed (λ k. stood_within jobs f p old new is k (list_all is_favourable k.stretches.mid) refl)
 
 -- a result that fits the request, and whose failure left what it does, serves it
-pub served : (words : List (List ℕ)) (told : Option World) (jobs : Option ℕ) (answer : Result Report Failure) (old new : List Entry) → IsAnswered words told answer → Failed jobs answer old new → IsServed words told jobs answer old new
+pub served : (words : List (List ℕ)) (told : Option World) (jobs : Option ℕ) (answer : Result Report Failure) (old new : List Entry) → IsAnswered words told jobs answer → Failed jobs answer old new → IsServed words told jobs answer old new
 served words None jobs answer old new answered failed = tt
 served words (Some w) jobs (Ok r) old new answered failed = λ q asks. tt
 served words (Some w) jobs (Err f) old new answered failed = λ q asks. stood words w jobs q f old new f.plan refl (answered (Ok q) asks) failed

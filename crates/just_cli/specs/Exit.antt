@@ -3,7 +3,7 @@ use Rattle.std.specs.Prelude.{ℕ, ◌≡◌, ◌&&◌, nat_lt, if◌then◌else
 use Rattle.just_outside.specs.declared.entry.Entry.{Entry}
 use Rattle.just_cli.specs.declared.ended.Failure.{Failure}
 use Rattle.just_cli.specs.declared.ended.Report.{Report}
-use Rattle.just_cli.specs.Run.{IsRun}
+use Rattle.just_cli.specs.Run.{IsEnded}
 
 -- a code as a status that tells a failure: the code itself, and 1 where it is none of 1 to 255
 abbrev pub status_of_code : ℤ → ℕ
@@ -18,5 +18,5 @@ status_of (Err f) = status_of_code f.code
 -- The exit status of a program whose words behind its name are these: that of a run of them over a host that tells no world
 -- and has no record yet; or 125, for want of memory.
 pub data IsStatus (words : List (List ℕ)) (status : ℕ) : Type 0 where
-  of_run : (result : Result Report Failure) (new : List Entry) → IsRun words None None [] new result → status ≡ status_of result → IsStatus words status
+  of_run : (result : Result Report Failure) (new : List Entry) → IsEnded words None None [] new result → status ≡ status_of result → IsStatus words status
   no_memory : status ≡ 125 → IsStatus words status

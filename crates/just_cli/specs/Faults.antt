@@ -1,5 +1,5 @@
 -- What a call of the host answers to a request, and what a refused one is told as.
-use Rattle.std.specs.Prelude.{ℕ, ◌≡◌, List, [], Option, Result, Ok, Err, MatchOption}
+use Rattle.std.specs.Prelude.{ℕ, ◌≡◌, ◌⊎◌, List, [], Option, Result, Ok, Err, MatchOption}
 use Rattle.just_path.specs.declared.host.Miss.{Miss}
 use Rattle.just_path.specs.declared.host.PathFault.{PathFault}
 use Rattle.just_path.specs.declared.host.PathFault.TheVariants as path_fault
@@ -24,6 +24,12 @@ io_error path (fault.Missed m) = error.FilesystemIo path (fault.Missed m)
 io_error path (fault.Failed c) = error.FilesystemIo path (fault.Failed c)
 io_error path fault.NoMemory = error.NoMemory
 
+-- the error of a text that wasn't printed
+abbrev pub print_error : HostFault → Error
+print_error (fault.Missed m) = error.StdoutIo (fault.Missed m)
+print_error (fault.Failed c) = error.StdoutIo (fault.Failed c)
+print_error fault.NoMemory = error.NoMemory
+
 -- the entry of the refused call that an error tells, if it tells one
 abbrev pub entries_of : Error → List Entry
 entries_of (error.FilesystemIo path io) = refused path io
@@ -33,18 +39,22 @@ entries_of (error.StdoutIo io) = refused [] io
 entries_of _ = []
 
 -- a fault is the call's own, and a miss is the one that is shown, where something is
-abbrev pub FaultFits : Call → Option (Result (List ℕ) Miss) → HostFault → Type 0
+abbrev pub FaultFits : {A : Type 0} → Call → Option (Result A Miss) → HostFault → Type 0
 FaultFits c shown (fault.Missed m) = MatchOption shown (Unit {0}) (λ s. s ≡ Err m)
 FaultFits c shown (fault.Failed d) = d ≡ c
 FaultFits c shown fault.NoMemory = Unit {0}
 
 -- The answer of a host's call on a path, where a told world shows this at it: what is shown, a fault of the call, or want of
 -- memory. A host that tells no world may answer anything.
-abbrev pub CallGives : Call → List ℕ → Option (Result (List ℕ) Miss) → Result (List ℕ) Error → Type 0
+abbrev pub CallGives : {A : Type 0} → Call → List ℕ → Option (Result A Miss) → Result A Error → Type 0
 CallGives c path shown (Ok x) = MatchOption shown (Unit {0}) (λ s. s ≡ Ok x)
 CallGives c path shown (Err e) = (f : HostFault) × (e ≡ io_error path f) × FaultFits c shown f
 
 -- what is shown at a path, as the answer to a request
-abbrev pub ShowsAt : List ℕ → Result (List ℕ) Miss → Result (List ℕ) Error → Type 0
+abbrev pub ShowsAt : {A : Type 0} → List ℕ → Result A Miss → Result A Error → Type 0
 ShowsAt path shown (Ok x) = shown ≡ Ok x
 ShowsAt path shown (Err e) = (m : Miss) × (shown ≡ Err m) × (e ≡ error.FilesystemIo path (fault.Missed m))
+
+-- that error, or want of memory
+abbrev pub OrMemory : (Error → Type 0) → Error → Type 0
+OrMemory holds e = (e ≡ error.NoMemory) ⊎ holds e

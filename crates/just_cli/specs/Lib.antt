@@ -3,8 +3,10 @@ pub mod Answered
 pub mod Caused
 pub mod Exit
 pub mod Faults
-pub mod Limits
+pub mod Options
 pub mod Outcome
+pub mod Overridden
+pub mod Questions
 pub mod Record
 pub mod Request
 pub mod Run

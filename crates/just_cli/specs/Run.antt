@@ -10,7 +10,7 @@ use Rattle.just_cli.specs.declared.ended.Report.{Report}
 use Rattle.just_cli.specs.declared.error.Error.TheVariants as error
 use Rattle.just_cli.specs.Answered.{IsAnswered, IsServed}
 use Rattle.just_cli.specs.Caused.{is_fault, is_miss}
-use Rattle.just_cli.specs.Limits.{jobs_for}
+use Rattle.just_cli.specs.Questions.{IsQuestion, IsShown}
 use Rattle.just_cli.specs.Record.{EndsWell, EndsIll, EndsBefore, IsQuiet}
 use Rattle.just_cli.specs.Request.{IsAsked, RefusedFor}
 use Rattle.just_cli.specs.Texts.{exit_code}
@@ -18,18 +18,20 @@ use Rattle.just_cli.specs.Texts.{exit_code}
 -- A run of these words over a host that told this world before and tells that one after it, whose record was the old one
 -- and is the new one, has this result.
 pub record IsRun (words : List (List ℕ)) (told after : Option World) (old new : List Entry) (result : Result Report Failure) : Type 0 where
+  -- the job limit that is asked for, if one is
+  pub jobs : Option ℕ
   -- a report's history is that of a run which ended well
-  pub ran : IfOk result (λ r. ∥ EndsWell r.plan (jobs_for words) r.history old new ∥₁)
-  -- a plan is the one that the words ask for
-  pub asked : MatchResult result (λ r. IsAsked words told r.plan) (λ f. MatchOption f.plan (Unit {0}) (λ p. IsAsked words told p))
+  pub ran : IfOk result (λ r. ∥ EndsWell r.plan jobs r.history old new ∥₁)
+  -- a plan and its job limit are what the words ask for
+  pub asked : MatchResult result (λ r. IsAsked words told r.plan jobs) (λ f. MatchOption f.plan (Unit {0}) (λ p. IsAsked words told p jobs))
   -- a failure without a plan is a refusal, by the request, the host, or want of memory
   pub refused : IfErr result (λ f. f.plan ≡ None → ∥ RefusedFor words told f.error ∥₁)
   -- over a told world the result fits the request
-  pub answered : IsAnswered words told result
+  pub answered : IsAnswered words told jobs result
   -- a failure's history is that of a run which ended ill; without a plan the book wasn't opened
-  pub failed : IfErr result (λ f. MatchOption f.plan (∥ EndsBefore f.error old new ∥₁) (λ p. ∥ EndsIll p (jobs_for words) f.history f.error old new ∥₁))
+  pub failed : IfErr result (λ f. MatchOption f.plan (∥ EndsBefore f.error old new ∥₁) (λ p. ∥ EndsIll p jobs f.history f.error old new ∥₁))
   -- over a told world a run that is asked for ends well, unless something stood against it
-  pub complete : IsServed words told (jobs_for words) result old new
+  pub complete : IsServed words told jobs result old new
   -- without a plan there is no history
   pub unplanned : IfErr result (λ f. f.plan ≡ None → f.history ≡ [])
   -- the exit code is the error's
@@ -41,3 +43,8 @@ pub record IsRun (words : List (List ℕ)) (told after : Option World) (old new 
   pub misses : IfErr result (λ f. is_miss f.error ≡ true → misses_of old < misses_of new)
   -- where no child was started and nothing failed, the told world is as it was
   pub untouched : (es : List Entry) → new ≡ old ++ es → IsQuiet es → after ≡ told
+
+-- Words that ask for the help or the version get its text; other words are a run.
+pub data IsEnded (words : List (List ℕ)) (told after : Option World) (old new : List Entry) (result : Result Report Failure) : Type 0 where
+  by_run : IsRun words told after old new result → IsEnded words told after old new result
+  by_text : (text : List ℕ) → IsQuestion words told text → IsShown text told after old new result → IsEnded words told after old new result

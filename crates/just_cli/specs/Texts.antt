@@ -1,5 +1,5 @@
 -- The texts of errors, and the exit codes that they stand for.
-use Rattle.std.specs.Prelude.{ℕ, ◌+◌, ◌++◌, ◌+ℤ◌, ℤ, pos, Bool, true, List, [], Option, Some, None, codes, decimal, if◌then◌else◌, int_le}
+use Rattle.std.specs.Prelude.{ℕ, ◌+◌, ◌++◌, ◌+ℤ◌, ℤ, pos, Bool, true, List, [], length, Option, Some, None, codes, decimal, if◌then◌else◌, int_le}
 use Rattle.std.specs.Fmt.{signed_decimal}
 use Rattle.just_path.specs.declared.host.Miss.{Miss}
 use Rattle.just_path.specs.declared.host.Miss.TheVariants as miss
@@ -8,8 +8,10 @@ use Rattle.just_outside.specs.declared.entry.HostFault.{HostFault}
 use Rattle.just_outside.specs.declared.entry.HostFault.TheVariants as fault
 use Rattle.just_lang.specs.declared.error.CompileKind.{CompileKind}
 use Rattle.just_lang.specs.declared.error.CompileKind.TheVariants as kind
-use Rattle.just_lang.specs.declared.usage.UsageKind.{UsageKind}
-use Rattle.just_lang.specs.declared.usage.UsageKind.TheVariants as usage
+use Rattle.just_print.specs.SmallTexts.{plural, list_text}
+use Rattle.just_words.specs.declared.usage.UsageKind.{UsageKind}
+use Rattle.just_words.specs.declared.usage.UsageKind.TheVariants as usage
+use Rattle.just_config.specs.Texts.{error_text as config_text}
 use Rattle.just_cli.specs.declared.error.Error.{Error}
 use Rattle.just_cli.specs.declared.error.Error.TheVariants as error
 
@@ -60,7 +62,15 @@ kind_text kind.GuardAndInfallible = codes "GuardAndInfallible"
 kind_text kind.DuplicateDefault = codes "DuplicateDefault"
 
 abbrev pub usage_text : UsageKind → List ℕ
-usage_text usage.NotBuilt = codes "NotBuilt"
+usage_text usage.Unknown = codes "Unknown"
+usage_text usage.LeftOut = codes "LeftOut"
+usage_text usage.MissingValue = codes "MissingValue"
+usage_text usage.UnexpectedValue = codes "UnexpectedValue"
+usage_text usage.BadValue = codes "BadValue"
+usage_text usage.Repeated = codes "Repeated"
+usage_text usage.Conflict = codes "Conflict"
+usage_text usage.Requires = codes "Requires"
+usage_text usage.NoMemory = codes "NoMemory"
 
 -- ` on line N`, where the line is known
 abbrev pub line_text : Option ℕ → List ℕ
@@ -91,9 +101,17 @@ write_text io = codes " or write a file to that directory: " ++ fault_text io
 abbrev pub folder_text : List ℕ → HostFault → List ℕ
 folder_text recipe io = lost_text recipe ++ (codes " while trying to create a temporary directory" ++ write_text io)
 
+-- variables that the words override and the justfile hasn't
+abbrev pub overrides_text : List (List ℕ) → List ℕ
+overrides_text vs = codes "error: " ++ (plural (codes "variable") (length vs) ++ (codes " " ++ (list_text (codes "and") vs ++ codes " overridden on the command line but not present in justfile")))
+
 -- what an error is printed as
 abbrev pub error_text : Error → List ℕ
 error_text (error.Usage u) = codes "error: usage: " ++ (usage_text u.kind ++ (codes " " ++ ticked u.word))
+error_text (error.NotBuilt word) = codes "error: usage: NotBuilt " ++ ticked word
+error_text (error.Config e) = config_text e
+error_text (error.UnknownOverrides vs) = overrides_text vs
+error_text error.NoRecipes = codes "error: justfile contains no recipes"
 error_text (error.FilesystemIo path io) = codes "error: I/O error at " ++ (ticked path ++ (codes ": " ++ fault_text io))
 error_text (error.Compile e) = codes "error: " ++ (kind_text e.kind ++ (codes " at " ++ (e.path ++ (codes ":" ++ (decimal e.line ++ (codes ":" ++ decimal e.column))))))
 error_text (error.UnknownRecipe recipe) = codes "error: justfile does not contain recipe " ++ ticked recipe
@@ -126,5 +144,6 @@ or_one None = pos 1
 -- the exit code of a run that ends with an error: 2 for faulty words, 125 for want of memory, else the error's own or 1
 abbrev pub exit_code : Error → ℤ
 exit_code (error.Usage u) = pos 2
+exit_code (error.NotBuilt word) = pos 2
 exit_code error.NoMemory = pos 125
 exit_code e = or_one (code_of e)

@@ -1,27 +1,42 @@
 //! Why a request is refused or a run failed, and what is told of it.
 
-ghost use Rattle.std.specs.Prelude.{◌≡◌, ◌++◌, codes, Some, IfOk, string_bytes};
+ghost use Rattle.std.specs.Prelude.{◌≡◌, ◌++◌, codes, length, Some, IfOk, string_bytes};
 ghost use Rattle.std.specs.Fmt.{DisplaysOnOk, signed_decimal};
 ghost use Rattle.just_cli.specs.declared.error.Error.{Error};
-ghost use Rattle.just_cli.specs.Texts.{error_text, code_of, prints, miss_text, fault_text, kind_text, usage_text, line_text, failed_text, terminated_text, lost_text, shell_text, write_text, folder_text};
+ghost use Rattle.just_print.specs.SmallTexts.{plural, list_text};
+ghost use Rattle.just_cli.specs.Texts.{error_text, code_of, prints, miss_text, fault_text, kind_text, usage_text, overrides_text, line_text, failed_text, terminated_text, lost_text, shell_text, write_text, folder_text};
 
+use just_config::{ConfigError, Usage, UsageKind};
 use just_host::{HostFault, Signal};
-use just_lang::{CompileError, CompileKind, Usage, UsageKind};
-use just_path::{Miss, NoMemory, Text, Utf8PathBuf};
+use just_lang::{CompileError, CompileKind};
+use just_path::{Miss, NoMemory, Seq, Text, Utf8PathBuf};
+use just_print::List;
 use std::alloc::Global;
 use std::fmt;
 
 /// Why a request is refused, or a run failed.
-#[derive(Debug, Drop)]
+#[derive(Drop)]
 pub enum Error {
-    /// The words of the command line are at fault.
+    /// The words of the command line, or a variable that fills them in, are at fault.
     Usage(Usage),
+    /// An option, or a form of words, that isn't built yet: its first long name, the folder in front of the words, or the word.
+    NotBuilt {
+        word: Text,
+    },
+    /// The arguments of the words give no configuration.
+    Config(ConfigError),
     /// A call of the host was a miss or failed; the path is empty where the call names none.
     FilesystemIo {
         path: Utf8PathBuf,
         io: HostFault,
     },
     Compile(CompileError),
+    /// The words override variables that the justfile doesn't have: each once, as `module::name`, ordered by module path and then by name.
+    UnknownOverrides {
+        overrides: Seq<Text>,
+    },
+    /// The words name no recipe, and the justfile has none.
+    NoRecipes,
     UnknownRecipe {
         recipe: Text,
     },
@@ -126,7 +141,15 @@ fn usage_text(kind: UsageKind) -> &'static str
     ensures { result.now ≡ usage_text kind }
 {
     match kind {
-        UsageKind::NotBuilt => "NotBuilt",
+        UsageKind::Unknown => "Unknown",
+        UsageKind::LeftOut => "LeftOut",
+        UsageKind::MissingValue => "MissingValue",
+        UsageKind::UnexpectedValue => "UnexpectedValue",
+        UsageKind::BadValue => "BadValue",
+        UsageKind::Repeated => "Repeated",
+        UsageKind::Conflict => "Conflict",
+        UsageKind::Requires => "Requires",
+        UsageKind::NoMemory => "NoMemory",
     }
 }
 
@@ -176,6 +199,28 @@ fn tell_usage<W: fmt::Write>(usage: &Usage, f: &mut fmt::Formatter<W>) -> fmt::R
         "error: usage: {} `{}`",
         usage_text(usage.kind),
         usage.word.as_str()
+    )
+}
+
+/// `variable` for one, else `variables`.
+fn variable_noun(overrides: &Seq<Text>) -> &'static str
+    ensures { result.now ≡ plural (codes "variable") (length overrides.now) }
+{
+    if overrides.len() == 1 {
+        "variable"
+    } else {
+        "variables"
+    }
+}
+
+fn tell_overrides<W: fmt::Write>(overrides: &Seq<Text>, f: &mut fmt::Formatter<W>) -> fmt::Result
+    ensures { DisplaysOnOk W.write_str_gives f.old result (Some (overrides_text overrides.now)) f.new }
+{
+    let list = List::and_ticked(overrides.as_slice());
+    write!(
+        f,
+        "error: {} {list} overridden on the command line but not present in justfile",
+        variable_noun(overrides)
     )
 }
 
@@ -262,6 +307,10 @@ impl fmt::Display for Error {
     fn fmt<W: fmt::Write>(&self, f: &mut fmt::Formatter<W>) -> fmt::Result {
         match self {
             Error::Usage(usage) => tell_usage(usage, f),
+            Error::NotBuilt { word } => write!(f, "error: usage: NotBuilt `{}`", word.as_str()),
+            Error::Config(error) => write!(f, "{error}"),
+            Error::UnknownOverrides { overrides } => tell_overrides(overrides, f),
+            Error::NoRecipes => f.write_str("error: justfile contains no recipes"),
             Error::FilesystemIo { path, io } => tell_io(path, io, f),
             Error::Compile(error) => tell_compile(error, f),
             Error::UnknownRecipe { recipe } => write!(
@@ -301,6 +350,13 @@ impl fmt::Display for Error {
             Error::Interrupted(signal) => write!(f, "error: interrupted by {signal}"),
             Error::NoMemory => f.write_str("error: out of memory"),
         }
+    }
+}
+
+impl fmt::Debug for Error {
+    /// The text of the error, as it is told.
+    fn fmt<W: fmt::Write>(&self, f: &mut fmt::Formatter<W>) -> fmt::Result {
+        write!(f, "{self}")
     }
 }
 

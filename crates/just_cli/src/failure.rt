@@ -16,7 +16,7 @@ fn exit_code(error: &Error) -> i32
     ensures { result ≡ code_for error.now }
 {
     match error {
-        Error::Usage(_) => 2,
+        Error::Usage(_) | Error::NotBuilt { .. } => 2,
         Error::NoMemory => 125,
         _ => error.code().unwrap_or(1),
     }

@@ -1,17 +1,23 @@
 //! A run, from the words of the command line to the children: the top calls and what they answer.
 #![tactic(auto)]
 
+mod configured;
 mod ended;
 mod error;
 mod failure;
-mod limits;
+mod options;
 mod outcome;
+mod overridden;
 mod prepare;
 mod program;
 mod runner;
-mod words;
+mod show;
+mod task;
+mod wanted;
 
 pub use ended::{Ended, Failure, Report};
 pub use error::Error;
 pub use program::{exit_status, no_arguments, run_arguments};
 pub use runner::{run, run_with};
+use task::Task;
+use wanted::Wanted;

@@ -2,12 +2,13 @@
 
 ghost use Rattle.std.specs.Prelude.{[], None, map, IfOk};
 ghost use Rattle.just_host.specs.Real.{record_of};
-ghost use Rattle.just_cli.specs.Run.{IsRun};
+ghost use Rattle.just_cli.specs.Run.{IsEnded};
 
 use super::failure::fail;
 use super::outcome::error_for;
 use super::prepare::prepare;
-use super::{Ended, Error, Report};
+use super::show::show;
+use super::{Ended, Error, Report, Task};
 use just_host::{Host, RealHost};
 use just_path::{NoMemory, Seq};
 use just_sched::{Driven, drive};
@@ -18,19 +19,22 @@ use std::rt::{Files, Runtime};
 use std::sync::Wait;
 use std::thread::Threads;
 
-/// Runs what the words ask for over a host: reads the justfile of its current folder, makes the plan, and drives it to its
-/// end. An error is told on standard error. The words are those behind the program's name. It waits for the children.
+/// Runs what the words ask for over a host: reads the words, with the variables of its environment, and the justfile of its
+/// current folder, makes the plan, and drives it to its end. Where they ask for the help or the version, that is printed to
+/// standard output, and the report has a plan of no node. An error is told on standard error. The words are those behind the
+/// program's name. It waits for the children.
 pub fn run_with<R: Threads + Wait + Sync, H: Host + Send + Drop>(
     rt: &R,
     alloc: Global,
     words: &[&str],
     host: H,
 ) -> Ended<H>
-    ensures { IsRun (map (λ x. x.now) words.now) (H.world host) (H.world result.host) (H.entries host) (H.entries result.host) result.result }
+    ensures { IsEnded (map (λ x. x.now) words.now) (H.world host) (H.world result.host) (H.entries host) (H.entries result.host) result.result }
 {
     let mut host = host;
     let (plan, jobs) = match prepare(alloc, words, &mut host) {
-        Ok(prepared) => prepared,
+        Ok(Task::Run(plan, jobs)) => (plan, jobs),
+        Ok(Task::Show(text)) => return show(alloc, host, text.as_str()),
         Err(error) => return fail(alloc, host, error, None, Seq::new(alloc)),
     };
     match drive(rt, alloc, plan, host, jobs) {
@@ -66,7 +70,7 @@ where
     R::Dir: Send,
     R::Reader: Send,
     R::A: Send,
-    ensures { IfOk result (λ d. IsRun (map (λ x. x.now) words.now) None None [] (record_of d.host) d.result) }
+    ensures { IfOk result (λ d. IsEnded (map (λ x. x.now) words.now) None None [] (record_of d.host) d.result) }
 {
     let host = RealHost::new(rt, alloc)?;
     Ok(run_with(rt, alloc, words, host))

@@ -79,6 +79,16 @@ fn tree_difference(alloc: Global, row: &Value, run: &Run) -> Result<Option<Strin
     unlike(alloc, "tree", found.as_str(), wanted.as_str())
 }
 
+/// What differs in what a run printed to standard output, which is nothing where the row doesn't say.
+fn output_difference(alloc: Global, row: &Value, run: &Run) -> Result<Option<String>, Wrong> {
+    let found = told::standard_output(alloc, run.host.entries())?;
+    let wanted = match row.get("stdout") {
+        Some(Value::String(text)) => text.as_str(),
+        _ => "",
+    };
+    unlike(alloc, "stdout", found.as_str(), wanted)
+}
+
 /// What differs in what the host's record tells of a run.
 fn record_difference(alloc: Global, row: &Value, run: &Run) -> Result<Option<String>, Wrong> {
     let entries = run.host.entries();
@@ -105,6 +115,9 @@ pub(crate) fn difference<R: Threads + Wait + Sync>(
     let run = run_of(rt, alloc, &row)?;
     match record_difference(alloc, &row, &run)? {
         Some(difference) => Ok(Some(difference)),
-        None => result_difference(alloc, &row, &run),
+        None => match output_difference(alloc, &row, &run)? {
+            Some(difference) => Ok(Some(difference)),
+            None => result_difference(alloc, &row, &run),
+        },
     }
 }

@@ -4,6 +4,17 @@ use just_host::{Entry, Spec, Stream};
 use just_path::Text;
 use std::alloc::{AllocError, Global};
 
+/// What was printed to standard output. It promises nothing beyond safety.
+pub(crate) fn standard_output(alloc: Global, entries: &[Entry]) -> Result<String, AllocError> {
+    let mut all = String::new(alloc);
+    for entry in entries {
+        if let Entry::Printed(Stream::Out, text) = entry {
+            all.push_str(text.as_str())?;
+        }
+    }
+    Ok(all)
+}
+
 /// What was printed to standard error, prompts too. It promises nothing beyond safety.
 pub(crate) fn standard_error(alloc: Global, entries: &[Entry]) -> Result<String, AllocError> {
     let mut all = String::new(alloc);

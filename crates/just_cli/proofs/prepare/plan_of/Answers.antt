@@ -1,40 +1,22 @@
--- The plan is that of the recipe of the source; else a step behind the reading of the source is a refusal.
-use Rattle.std.proofs.Common.{◌≡◌, ◌∙◌, subst, sym, refl}
-use Rattle.std.specs.Prelude.{All}
-use Rattle.just_lang.specs.Asked.{NamesRecipe}
+-- Each step behind the reading of the source goes on from what the one before it found, or its refusal is the answer.
+use Rattle.std.proofs.Common.{refl}
 use Rattle.just_path.specs.Path.{text_of}
-use Rattle.just_cli.proofs.Planned.{RefusesPlan, refused_from, unread, unnamed, too_long, no_room, the_plan}
+use Rattle.just_cli.proofs.Planned.{unread, unknown, nameless, named_plan, named_refused}
 use Rattle.just_cli.proofs.prepare.plan_of.Goals as goal
 
-pub returns-clause-plan : goal.returns-clause-plan
-returns-clause-plan c =
-    let j = c.in_ok-justfile.justfile in
-    the_plan c.args.name.now c.args.source (text_of c.as_path.result) j c.as_slice.result.now c.in_ok-closure.closure c.plan_for.result
-    c.in_ok-justfile.ensures.found (c.as_slice.ensures ∙ c.in_ok-keys.ensures.keys) (subst (λ qs. All (NamesRecipe j.recipes) qs) (sym c.as_slice.ensures) c.in_ok-keys.ensures.named)
-    c.in_ok-closure.ensures.closure c.in_ok-closure.ensures.short c.as_path.ensures c.plan_for.ensures.nodes c.plan_for.ensures.invocations
+pub returns-in-Err-clause-refused : goal.returns-in-Err-clause-refused
+returns-in-Err-clause-refused c = unread c.args.wanted.now c.args.source _ _ c.in-Err.ensures.refused c.lang_error.ensures.error
+
+pub returns-in-Some-clause-refused : goal.returns-in-Some-clause-refused
+returns-in-Some-clause-refused c = unknown c.args.wanted.now c.args.source c.in-Ok.justfile _ c.in-Ok.ensures.found c.in-Some.ensures.error.0 c.in-Some.ensures.error.1
+
+pub returns-in-None-name_for-clause-refused : goal.returns-in-None-name_for-clause-refused
+returns-in-None-name_for-clause-refused c = nameless c.args.wanted.now c.args.source c.in-Ok.justfile _ _ c.in-Ok.ensures.found c.in-None.ensures.error c.in-None-name_for.ensures refl refl
+
+pub returns-in-Ok-plan_of_name-clause-plan : goal.returns-in-Ok-plan_of_name-clause-plan
+returns-in-Ok-plan_of_name-clause-plan c =
+    named_plan c.args.wanted.now c.args.source c.in-Ok.justfile _ (text_of c.as_path.result) _ c.in-Ok-plan_of_name.plan c.in-Ok.ensures.found c.in-None.ensures.error c.in-Some-name_for.ensures refl c.as_path.ensures c.in-Ok-plan_of_name.ensures.plan
 
 pub returns-clause-refused : goal.returns-clause-refused
-returns-clause-refused c = no_room c.args.name.now c.args.source c.plan_for.result c.plan_for.ensures.refused
-
-pub returns-in_err-justfile-clause-refused : goal.returns-in_err-justfile-clause-refused
-returns-in_err-justfile-clause-refused c =
-    let refuses = RefusesPlan c.args.name.now c.args.source in
-    let error = c.in_err-justfile.field-0.0 in
-    let given = unread c.args.name.now c.args.source error c.in_err-justfile.ensures.refused in
-    refused_from c.from_residual.result _ (λ e. refuses e) (λ e is. let same : error ≡ e = cc in subst (λ x. refuses x) same given) c.from_residual.ensures.1
-
-pub returns-in_err-keys-clause-refused : goal.returns-in_err-keys-clause-refused
-returns-in_err-keys-clause-refused c =
-    let refuses = RefusesPlan c.args.name.now c.args.source in
-    let error = c.in_err-keys.field-0.0 in
-    let given = unnamed c.args.name.now c.args.source c.in_ok-justfile.justfile _ error c.in_ok-justfile.ensures.found refl c.in_err-keys.ensures.refused in
-    refused_from c.from_residual-in_err-keys.result _ (λ e. refuses e) (λ e is. let same : error ≡ e = cc in subst (λ x. refuses x) same given) c.from_residual-in_err-keys.ensures.1
-
-pub returns-in_err-closure-clause-refused : goal.returns-in_err-closure-clause-refused
-returns-in_err-closure-clause-refused c =
-    let j = c.in_ok-justfile.justfile in
-    let refuses = RefusesPlan c.args.name.now c.args.source in
-    let error = c.in_err-closure.field-0.0 in
-    let given = too_long c.args.name.now c.args.source j c.as_slice.result.now error
-    c.in_ok-justfile.ensures.found (c.as_slice.ensures ∙ c.in_ok-keys.ensures.keys) (subst (λ qs. All (NamesRecipe j.recipes) qs) (sym c.as_slice.ensures) c.in_ok-keys.ensures.named) c.in_err-closure.ensures.refused in
-    refused_from c.from_residual-in_err-closure.result _ (λ e. refuses e) (λ e is. let same : error ≡ e = cc in subst (λ x. refuses x) same given) c.from_residual-in_err-closure.ensures.1
+returns-clause-refused c =
+    named_refused c.args.wanted.now c.args.source c.in-Ok.justfile _ (text_of c.as_path.result) _ _ _ c.in-Ok.ensures.found c.in-None.ensures.error c.in-Some-name_for.ensures refl c.as_path.ensures c.in-Err-plan_of_name.ensures.refused c.lang_error-in-Err-plan_of_name.ensures.error

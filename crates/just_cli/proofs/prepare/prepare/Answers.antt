@@ -1,26 +1,15 @@
--- Each step of the chain goes on from what the one before it found, or its refusal is the answer.
-use Rattle.just_cli.proofs.Chain.{no_words, no_folder, no_source, read_source, no_plan}
-use Rattle.std.proofs.Common.{sym, subst}
-use Rattle.just_cli.specs.Request.{OrMemory, Plans}
-use Rattle.std.specs.Prelude.{Err}
-use Rattle.just_cli.proofs.Planned.{source_request}
+-- What the arguments ask for is what the words ask for; or the environment isn't there, or the words are faulty.
+use Rattle.just_cli.proofs.Chain.{no_environ, no_words, words_ask, words_refused}
 use Rattle.just_cli.proofs.prepare.prepare.Goals as goal
 
 pub returns-in-Err-clause-refused : goal.returns-in-Err-clause-refused
-returns-in-Err-clause-refused g c = no_words _ _ _ c.in-Err.ensures.refused
+returns-in-Err-clause-refused g c = no_environ _ _ _ c.in-Err.ensures.gives
 
-pub returns-in-Err-current_folder-clause-refused : goal.returns-in-Err-current_folder-clause-refused
-returns-in-Err-current_folder-clause-refused g c = no_folder _ _ _ _ c.in-Ok.ensures.name c.in-Err-current_folder.ensures.gives
+pub returns-in-Ok-serve-clause-asked : goal.returns-in-Ok-serve-clause-asked
+returns-in-Ok-serve-clause-asked g c = words_ask _ _ _ _ _ _ c.in-Ok.ensures.gives (rw c.in-Ok-Go.field-0-is at c.in-Ok-Go.ensures.read) c.environment.ensures.world c.in-Ok-serve.ensures.asked
 
-pub returns-in-Err-read_source-clause-refused : goal.returns-in-Err-read_source-clause-refused
-returns-in-Err-read_source-clause-refused g c = no_source _ _ _ _ _ _ c.in-Ok.ensures.name c.in-Ok-current_folder.ensures.gives c.in-Ok-current_folder.ensures.world c.in-Err-read_source.ensures.refused
+pub returns-in-Ok-Go-clause-refused : goal.returns-in-Ok-Go-clause-refused
+returns-in-Ok-Go-clause-refused g c = words_refused _ _ _ _ _ _ c.in-Ok.ensures.gives (rw c.in-Ok-Go.field-0-is at c.in-Ok-Go.ensures.read) c.environment.ensures.world c.in-Err-serve.ensures.refused
 
-pub returns-in-Ok-plan_of-clause-asked : goal.returns-in-Ok-plan_of-clause-asked
-returns-in-Ok-plan_of-clause-asked g c =
-    read_source _ _ _ _ _ _ _ c.in-Ok.ensures.name c.in-Ok-current_folder.ensures.gives c.in-Ok-current_folder.ensures.world c.in-Ok-read_source.ensures.source c.in-Ok-read_source.ensures.text c.in-Ok-plan_of.ensures.plan
-
-pub returns-in-Err-plan_of-clause-refused : goal.returns-in-Err-plan_of-clause-refused
-returns-in-Err-plan_of-clause-refused g c =
-    let refused = c.in-Err-plan_of.ensures.refused in
-    no_plan _ _ _ _ _ _ _ c.in-Ok.ensures.name c.in-Ok-current_folder.ensures.gives c.in-Ok-current_folder.ensures.world c.in-Ok-read_source.ensures.source c.in-Ok-read_source.ensures.text
-    (subst (OrMemory (λ e. Plans (source_request c.in-Ok.read.1.now c.in-Ok-read_source.source) (Err e))) (sym c.lang_error.ensures.error) refused)
+pub returns-clause-refused : goal.returns-clause-refused
+returns-clause-refused g c = no_words _ _ _ _ c.in-Ok.ensures.gives c.in-Err-read.ensures.refused

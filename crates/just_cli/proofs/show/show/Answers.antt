@@ -1,0 +1,7 @@
+-- A text that isn't printed has its error.
+use Rattle.std.proofs.Common.{◌∙◌}
+use Rattle.just_cli.proofs.Shown.{unshown}
+use Rattle.just_cli.proofs.show.show.Goals as goal
+
+pub returns-in-Err : goal.returns-in-Err
+returns-in-Err g c = unshown _ _ _ _ _ _ _ c.in-Err.fault _ _ c.fail.ensures.failed c.new-in-Err.ensures c.print_error.ensures c.in-Err.ensures.entries c.fail.ensures.told (c.fail.ensures.world ∙ c.print.ensures.world)

@@ -1,0 +1,60 @@
+-- Words that ask for the help or the version, and what they get.
+use Rattle.std.specs.Prelude.{ℕ, ◌≡◌, ◌++◌, List, [], ◌∷◌, codes, Option, Some, None, option_map, Result, Ok, IfOk, IfErr}
+use Rattle.std.specs.Int.NonZero.{non_zero_u64_get}
+use Rattle.just_path.specs.declared.environ.Environ.{Environ}
+use Rattle.just_outside.specs.declared.entry.Call.TheVariants as call
+use Rattle.just_outside.specs.declared.entry.Entry.{Entry}
+use Rattle.just_outside.specs.declared.entry.Entry.TheVariants as entry
+use Rattle.just_outside.specs.declared.entry.HostFault.{HostFault}
+use Rattle.just_outside.specs.declared.entry.Stream.TheVariants as stream
+use Rattle.just_outside.specs.World.{World}
+use Rattle.just_words.specs.declared.words.Read.{Read}
+use Rattle.just_words.specs.declared.words.Read.TheVariants as read
+use Rattle.just_words.specs.Words.{Means}
+use Rattle.just_config.specs.declared.help.TheConstants.{HELP}
+use Rattle.just_config.specs.Versions.{version_text}
+use Rattle.just_cli.specs.declared.ended.Failure.{Failure}
+use Rattle.just_cli.specs.declared.ended.Report.{Report}
+use Rattle.just_cli.specs.Faults.{CallGives, print_error}
+use Rattle.just_cli.specs.Record.{EndsBefore}
+use Rattle.just_cli.specs.declared.task.Task.{Task}
+use Rattle.just_cli.specs.declared.task.Task.TheVariants as task
+use Rattle.just_cli.specs.Request.{environ_shown, outline_of, AsksOver}
+use Rattle.just_cli.specs.Texts.{exit_code}
+
+-- the line of the version: `just 1.58.0`
+abbrev pub version_line : List ℕ
+version_line = codes "just " ++ (version_text (record { major = 1; minor = 58; patch = 0 }) ++ codes "\n")
+
+-- the text that is asked for
+abbrev pub text_for : Read → Option (List ℕ)
+text_for read.Help = Some HELP.now
+text_for read.Version = Some version_line
+text_for (read.Go a) = None
+
+-- over a host that tells this world, if it tells one, the words ask for that text
+pub record IsQuestion (words : List (List ℕ)) (told : Option World) (text : List ℕ) : Type 0 where
+  pub environ : Environ
+  pub asked : Read
+  pub given : CallGives call.Environ [] (option_map environ_shown told) (Ok environ)
+  pub means : Means words environ.pairs (Ok asked)
+  pub text_is : text_for asked ≡ Some text
+
+-- over such a host the words ask for that task
+abbrev pub IsTask : List (List ℕ) → Option World → Task → Type 0
+IsTask words told (task.Run p jobs) = AsksOver words told (Ok (outline_of p (option_map non_zero_u64_get jobs)))
+IsTask words told (task.Show text) = IsQuestion words told text
+
+-- nothing is run: no plan, and nothing in the history
+abbrev pub IsNothing : Report → Type 0
+IsNothing r = (r.plan.nodes ≡ []) × (r.plan.invocations ≡ []) × (r.history ≡ [])
+
+-- the text wasn't printed, or memory was wanting; the error is told
+abbrev pub IsUnshown : Failure → List Entry → List Entry → Type 0
+IsUnshown f old new = (f.plan ≡ None) × (f.history ≡ []) × (f.code ≡ exit_code f.error) × ((io : HostFault) × (f.error ≡ print_error io)) × EndsBefore f.error old new
+
+-- the text is printed once to standard output, and the told world stays
+pub record IsShown (text : List ℕ) (told after : Option World) (old new : List Entry) (result : Result Report Failure) : Type 0 where
+  pub shown : IfOk result (λ r. IsNothing r × (new ≡ old ++ entry.Printed stream.Out text ∷ []))
+  pub unshown : IfErr result (λ f. IsUnshown f old new)
+  pub world : after ≡ told

@@ -1,0 +1,192 @@
+//! What of a configuration isn't built yet.
+
+ghost use Rattle.std.specs.Prelude.{◌≡◌, Some};
+ghost use Rattle.std.specs.Option.{option_copied};
+ghost use Rattle.just_config.specs.ModulePaths.{is_name};
+ghost use Rattle.just_cli.specs.Options.{is_any, flag_not_built, value_not_built, list_not_built, command_word, command_not_built, folder_not_built, word_not_built, not_built};
+
+use just_config::{Config, SearchConfig, Subcommand};
+use just_lang::is_recipe_name;
+use just_path::{Seq, Text};
+
+/// The word of the first flag that isn't built.
+fn flag_not_built(config: &Config) -> Option<&'static str>
+    ensures { option_copied result ≡ flag_not_built config.now }
+{
+    if config.allow_missing {
+        return Some("--allow-missing");
+    }
+    if config.clear_shell_args {
+        return Some("--clear-shell-args");
+    }
+    if config.default_list {
+        return Some("--default-list");
+    }
+    if config.dry_run {
+        return Some("--dry-run");
+    }
+    if config.explain {
+        return Some("--explain");
+    }
+    if config.global_justfile {
+        return Some("--global-justfile");
+    }
+    if config.no_deps {
+        return Some("--no-deps");
+    }
+    if config.no_dotenv {
+        return Some("--no-dotenv");
+    }
+    if config.quiet {
+        return Some("--quiet");
+    }
+    if config.verbose == 0 {
+        None
+    } else {
+        Some("--verbose")
+    }
+}
+
+/// The word of the first option with one value that isn't built.
+fn value_not_built(config: &Config) -> Option<&'static str>
+    ensures { option_copied result ≡ value_not_built config.now }
+{
+    if config.ceiling.is_some() {
+        return Some("--ceiling");
+    }
+    if config.justfile.is_some() {
+        return Some("--justfile");
+    }
+    if config.shell.is_some() {
+        return Some("--shell");
+    }
+    if config.tempdir.is_some() {
+        return Some("--tempdir");
+    }
+    if config.working_directory.is_some() {
+        Some("--working-directory")
+    } else {
+        None
+    }
+}
+
+/// Whether there is a text.
+fn is_any(texts: &Seq<Text>) -> bool
+    ensures { result ≡ is_any texts.now }
+{
+    match texts.as_slice() {
+        [] => false,
+        [_, ..] => true,
+    }
+}
+
+/// The word of the first option with several values that isn't built.
+fn list_not_built(config: &Config) -> Option<&'static str>
+    ensures { option_copied result ≡ list_not_built config.now }
+{
+    if is_any(&config.dotenv_command) {
+        return Some("--dotenv-command");
+    }
+    if is_any(&config.dotenv_filename) {
+        return Some("--dotenv-filename");
+    }
+    if is_any(&config.dotenv_path) {
+        return Some("--dotenv-path");
+    }
+    if is_any(&config.justfile_name) {
+        return Some("--justfile-name");
+    }
+    if is_any(&config.shell_arg) {
+        Some("--shell-arg")
+    } else {
+        None
+    }
+}
+
+/// The word of a command.
+fn command_word(command: &Subcommand) -> &'static str
+    ensures { result.now ≡ command_word command.now }
+{
+    match command {
+        Subcommand::Choose(_) => "--choose",
+        Subcommand::Clean(_) => "--clean",
+        Subcommand::Command(_) => "--command",
+        Subcommand::Dump(_) => "--dump",
+        Subcommand::Edit(_) => "--edit",
+        Subcommand::Evaluate(_) => "--evaluate",
+        Subcommand::Fmt(_) => "--fmt",
+        Subcommand::Groups(_) => "--groups",
+        Subcommand::Init(_) => "--init",
+        Subcommand::List(_) => "--list",
+        Subcommand::Request(_) => "--request",
+        Subcommand::Show(_) => "--show",
+        Subcommand::Summary(_) => "--summary",
+        Subcommand::Usage(_) => "--usage",
+        Subcommand::Variables(_) => "--variables",
+    }
+}
+
+/// The word of the command, where one is given.
+fn command_not_built(command: &Option<Subcommand>) -> Option<&'static str>
+    ensures { option_copied result ≡ command_not_built command.now }
+{
+    match command {
+        None => None,
+        Some(command) => Some(command_word(command)),
+    }
+}
+
+/// The folder in front of the first word.
+fn folder_not_built(search: &SearchConfig) -> Option<&str>
+    ensures { option_copied result ≡ folder_not_built search.now }
+{
+    match search {
+        SearchConfig::FromSearchDirectory(folder) => Some(folder.as_str()),
+        _ => None,
+    }
+}
+
+/// Whether a whole text is a name.
+fn is_name(text: &str) -> bool
+    ensures { result ≡ is_name text.now }
+{
+    is_recipe_name(text)
+}
+
+/// The first of the words that isn't one name alone.
+fn word_not_built(words: &[Text]) -> Option<&str>
+    ensures { option_copied result ≡ word_not_built words.now }
+{
+    let [word, others @ ..] = words else {
+        return None;
+    };
+    if !is_name(word.as_str()) {
+        return Some(word.as_str());
+    }
+    match others {
+        [] => None,
+        [next, ..] => Some(next.as_str()),
+    }
+}
+
+/// The word of what isn't built, of the first in the order of the options.
+pub(crate) fn not_built(config: &Config) -> Option<&str>
+    ensures { option_copied result ≡ not_built config.now }
+{
+    if let Some(word) = flag_not_built(config) {
+        return Some(word);
+    }
+    if let Some(word) = value_not_built(config) {
+        return Some(word);
+    }
+    if let Some(word) = list_not_built(config) {
+        return Some(word);
+    }
+    if let Some(word) = command_not_built(&config.subcommand) {
+        return Some(word);
+    }
+    if let Some(word) = folder_not_built(&config.search_config) {
+        return Some(word);
+    }
+    word_not_built(config.arguments.as_slice())
+}

@@ -1,0 +1,66 @@
+//! The variables that the words override, as a list in prose has them.
+
+ghost use Rattle.std.specs.Prelude.{◌≡◌, ◌++◌, [], map, codes, string_bytes, IfOk};
+ghost use Rattle.just_config.specs.Listed.{set_all, prefix_of};
+ghost use Rattle.just_cli.specs.Overridden.{variable_text, overridden};
+
+use just_lang::Override;
+use just_path::{NoMemory, Seq, Text};
+use std::alloc::Global;
+use std::collections::BTreeMap;
+
+/// A variable: the path of its module, and its name.
+type Variable = (Seq<Text>, Text);
+
+/// The last value of each variable.
+fn values_of(alloc: Global, overrides: &[Override]) -> Result<BTreeMap<Variable, Text>, NoMemory>
+    ensures { IfOk result (λ values. values.entries ≡ set_all [] overrides.now) }
+{
+    let mut values = BTreeMap::new(alloc);
+    'overrides: for one in overrides {
+        let variable = (one.module.components.try_clone()?, one.name.try_clone()?);
+        values.insert(variable, one.value.try_clone()?)?;
+    }
+    Ok(values)
+}
+
+/// The modules of a path, each with `::` behind it.
+fn prefix_of(alloc: Global, path: &[Text]) -> Result<String, NoMemory>
+    ensures { IfOk result (λ text. string_bytes text ≡ prefix_of path.now) }
+{
+    let mut text = String::new(alloc);
+    'path: for component in path {
+        text.push_str(component.as_str())?;
+        text.push_str("::")?;
+    }
+    Ok(text)
+}
+
+/// A variable with the modules that lead to it.
+fn variable_text(alloc: Global, variable: &Variable, value: &Text) -> Result<Text, NoMemory>
+    ensures { IfOk result (λ text. text ≡ variable_text (variable.now, value.now)) }
+{
+    let mut text = prefix_of(alloc, variable.0.as_slice())?;
+    text.push_str(variable.1.as_str())?;
+    Ok(Text::from(text))
+}
+
+/// The variables, in order.
+fn texts_of(alloc: Global, values: BTreeMap<Variable, Text>) -> Result<Seq<Text>, NoMemory>
+    ensures { IfOk result (λ texts. texts ≡ map variable_text values.entries) }
+{
+    let mut rest = values;
+    let mut texts = Vec::new(alloc);
+    'entries: while let Some((variable, value)) = rest.pop_first() {
+        texts.push(variable_text(alloc, &variable, &value)?)?;
+    }
+    Ok(Seq::from(texts))
+}
+
+/// Each variable that is overridden, once, ordered by module path and then by name.
+pub(crate) fn overridden(alloc: Global, overrides: &[Override]) -> Result<Seq<Text>, NoMemory>
+    ensures { IfOk result (λ texts. texts ≡ overridden overrides.now) }
+{
+    let values = values_of(alloc, overrides)?;
+    texts_of(alloc, values)
+}

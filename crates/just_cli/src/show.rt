@@ -1,0 +1,50 @@
+//! What is printed in the place of a run.
+
+ghost use Rattle.std.specs.Prelude.{◌≡◌, []};
+ghost use Rattle.just_cli.specs.Faults.{print_error};
+ghost use Rattle.just_cli.specs.Questions.{IsShown};
+
+use super::failure::fail;
+use super::{Ended, Error, Report};
+use just_host::{Host, HostFault, Stream};
+use just_path::Seq;
+use just_sched::Plan;
+use std::alloc::Global;
+
+/// The error of a text that wasn't printed.
+fn print_error(fault: HostFault) -> Error
+    ensures { result ≡ print_error fault }
+{
+    match fault {
+        HostFault::NoMemory => Error::NoMemory,
+        HostFault::Missed(_) | HostFault::Failed(_) => Error::StdoutIo { io: fault },
+    }
+}
+
+/// The plan of no node.
+fn empty_plan(alloc: Global) -> Plan
+    ensures nodes { result.nodes ≡ [] }
+    ensures invocations { result.invocations ≡ [] }
+{
+    Plan {
+        nodes: Seq::new(alloc),
+        invocations: Seq::new(alloc),
+    }
+}
+
+/// Prints a text to standard output, in the place of a run.
+pub(crate) fn show<H: Host>(alloc: Global, host: H, text: &str) -> Ended<H>
+    ensures { IsShown text.now (H.world host) (H.world result.host) (H.entries host) (H.entries result.host) result.result }
+{
+    let mut host = host;
+    match host.print(Stream::Out, text) {
+        Ok(()) => Ended {
+            host,
+            result: Ok(Report {
+                plan: empty_plan(alloc),
+                history: Seq::new(alloc),
+            }),
+        },
+        Err(fault) => fail(alloc, host, print_error(fault), None, Seq::new(alloc)),
+    }
+}
