@@ -1,6 +1,6 @@
 //! Compares the first broken rules on single items and on the items of modules with rows that an independent reading of the rules
 //! gave. Each argument names a file of such rows, one JSON object a line: `files` has a text by its path, of which `/p/justfile` is
-//! the root; none of them imports another. `error` is the message of the first rule that is broken, null where none is, or `names`
+//! the root. `error` is the message of the first rule that is broken, null where none is, or `names`
 //! where a rule on the names that are used is. The environment is empty.
 #![tactic(auto)]
 

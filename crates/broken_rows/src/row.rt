@@ -2,6 +2,7 @@
 
 use super::Wrong;
 use just_broken::{Broken, first_broken_behind, first_broken_item, first_not_constant};
+use just_importers::winners_of;
 use just_lang::Source;
 use just_layout::{Layout, LayoutError, lay};
 use just_path::{Environ, Seq, Text, Utf8Path};
@@ -85,16 +86,27 @@ fn layout_of(alloc: Global, row: &Value, environ: &Environ) -> Result<Layout, Wr
     }
 }
 
-/// The message of the first broken rule of a project whose files import none.
-fn found(alloc: Global, layout: &Layout, environ: &Environ) -> Result<Option<String>, Wrong> {
-    let mut winners = Vec::new(alloc);
-    for _ in layout.files.as_slice() {
-        winners.push(Seq::new(alloc))?;
+/// The message of the first broken rule in front of those on the names that are used.
+fn found_in_front(
+    alloc: Global,
+    layout: &Layout,
+    environ: &Environ,
+    winners: &[Seq<usize>],
+) -> Result<Option<String>, Wrong> {
+    match first_broken_item(alloc, environ, winners, layout)? {
+        None => Ok(None),
+        Some(broken) => Ok(Some(message(alloc, layout, broken)?)),
     }
-    if let Some(broken) = first_broken_item(alloc, environ, winners.as_slice(), layout)? {
-        return Ok(Some(message(alloc, layout, broken)?));
-    }
-    if let Some(broken) = first_broken_behind(alloc, environ, winners.as_slice(), layout)? {
+}
+
+/// The message of the first broken rule behind those.
+fn found_behind(
+    alloc: Global,
+    layout: &Layout,
+    environ: &Environ,
+    winners: &[Seq<usize>],
+) -> Result<Option<String>, Wrong> {
+    if let Some(broken) = first_broken_behind(alloc, environ, winners, layout)? {
         return Ok(Some(message(alloc, layout, broken)?));
     }
     match first_not_constant(alloc, layout)? {
@@ -106,6 +118,15 @@ fn found(alloc: Global, layout: &Layout, environ: &Environ) -> Result<Option<Str
     }
 }
 
+/// Whether a row's message is the one that is found.
+fn is_message(wanted: Option<&Value>, found: &Option<String>) -> bool {
+    match (wanted, found) {
+        (Some(Value::Null), None) => true,
+        (Some(Value::String(text)), Some(found)) => text.as_str() == found.as_str(),
+        _ => false,
+    }
+}
+
 /// Whether a row agrees with what is found. No clause: what it answers is seen by comparing with the rows, and no theorem stands on
 /// it.
 pub fn agrees(alloc: Global, row: &str) -> Result<bool, Wrong> {
@@ -114,11 +135,17 @@ pub fn agrees(alloc: Global, row: &str) -> Result<bool, Wrong> {
         pairs: Seq::new(alloc),
     };
     let layout = layout_of(alloc, &row, &environ)?;
-    let found = found(alloc, &layout, &environ)?;
-    match (row.get("error"), found) {
-        (Some(Value::Null), None) => Ok(true),
-        (Some(Value::String(text)), Some(found)) => Ok(text.as_str() == found.as_str()),
-        (Some(Value::String(text)), None) => Ok(text.as_str() == "names"),
-        _ => Ok(false),
+    let winners = winners_of(alloc, layout.imports.as_slice())?;
+    let wanted = row.get("error");
+    let front = found_in_front(alloc, &layout, &environ, winners.as_slice())?;
+    if front.is_some() {
+        return Ok(is_message(wanted, &front));
     }
+    if let Some(Value::String(text)) = wanted {
+        if text.as_str() == "names" {
+            return Ok(true);
+        }
+    }
+    let behind = found_behind(alloc, &layout, &environ, winners.as_slice())?;
+    Ok(is_message(wanted, &behind))
 }

@@ -3,3 +3,5 @@ pub mod Marks
 pub mod Search
 pub mod Peelings
 pub mod Settled
+pub mod Levels
+pub mod Chains

@@ -6,7 +6,7 @@ use Rattle.std.proofs.lemmas.Bool.{cases_eq, cases_Bool, eqb-true}
 use Rattle.std.proofs.lemmas.List.{get_or_default, get_or_append_left, length_push, get_or_push, length-set, length-take-le, get_or-take, take-append-le, take_at, length-replicate, drop_more, get_or_read}
 use Rattle.std.proofs.lemmas.List.Elements.{All-contains, All-weaker}
 use Rattle.std.proofs.lemmas.Map.Steps.{length-le_from_distinct_below}
-use Rattle.just_graph.specs.Graph.{targets, Reaches, edge, along, IsOnCycle, IsOrder, LeadsToCycle, IsFirst}
+use Rattle.just_graph.specs.Graph.{targets, Reaches, edge, along, IsOrder, LeadsToCycle, IsFirst}
 use Rattle.just_graph.specs.Met.{is_marked, NoneFree, ArePeeled, IsFree, steps_left}
 use Rattle.just_graph.proofs.Marks.{mark_one}
 use Rattle.just_graph.proofs.Search.{reaches_on, nothing_marked}
@@ -89,16 +89,16 @@ apart v (x ∷ xs) e =
       | false ↦ λ t f. (t, apart v xs f)
     ] refl e
 
-distinct_one : (v : ℕ) (xs : List ℕ) → list_any (eqb v) xs ≡ false → IsDistinct eqb xs → IsDistinct eqb (v ∷ xs)
+pub distinct_one : (v : ℕ) (xs : List ℕ) → list_any (eqb v) xs ≡ false → IsDistinct eqb xs → IsDistinct eqb (v ∷ xs)
 unfolding IsDistinct
 distinct_one v xs e d = (apart v xs e, d)
 
-distinct_none : IsDistinct eqb []
+pub distinct_none : IsDistinct eqb []
 unfolding IsDistinct
 distinct_none = tt
 
 -- what holds of a number and of those of a list
-any_cases : (P : ℕ → Type 0) (v : ℕ) (xs : List ℕ) → P v → ((q : ℕ) → list_any (eqb q) xs ≡ true → P q) → (q : ℕ) → list_any (eqb q) (v ∷ xs) ≡ true → P q
+pub any_cases : (P : ℕ → Type 0) (v : ℕ) (xs : List ℕ) → P v → ((q : ℕ) → list_any (eqb q) xs ≡ true → P q) → (q : ℕ) → list_any (eqb q) (v ∷ xs) ≡ true → P q
 any_cases P v xs here rest q e =
     elim (eqb q v) as (λ b. eqb q v ≡ b → (b || list_any (eqb q) xs) ≡ true → P q) [
       | true ↦ λ t any. subst P (sym (eqb-true q v t)) here
@@ -130,10 +130,6 @@ walk_returns edges marks none (suc fuel) gone v h left distinct below reach less
 pub left_leads : (edges : List (List ℕ)) (marks : List Bool) → NoneFree edges marks → (v : ℕ) → v < length edges → is_marked marks v ≡ false → LeadsToCycle edges v
 left_leads edges marks none v h left =
     walk_returns edges marks none (suc (length edges)) [] v h left distinct_none (λ q any. absurd (cc)) (λ q any. absurd (cc)) (omega arith)
-
--- a node that is in the order lies on no cycle
-pub marked_off_cycle : (edges : List (List ℕ)) (marks : List Bool) (order : List ℕ) (v : ℕ) → ArePeeled edges marks order → is_marked marks v ≡ true → IsOnCycle edges v → ⊥
-marked_off_cycle edges marks order v p m cycle = listed_leads edges order v p.behind (p.marked.listed v m) (v, inl refl, cycle)
 
 -- one target more is looked at
 pub one_step : (edges : List (List ℕ)) (seen : List ℕ) (v : ℕ) → v < length seen → v < length edges → get_or seen v 0 < length (targets edges v) → steps_left edges (set seen v (get_or seen v 0 + 1)) + 1 ≡ steps_left edges seen

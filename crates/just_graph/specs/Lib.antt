@@ -2,3 +2,6 @@
 pub mod Graph
 pub mod Met
 pub mod Origins
+pub mod Levels
+pub mod Walk
+pub mod Chains

@@ -4,8 +4,10 @@
 
 ghost use Rattle.std.specs.Prelude.{ℕ, ◌≡◌, ◌<◌, ◌↔◌, true, false, length, All, AllPairs, Contains, IfOk, OnOk, IsTrue, ◌≢◌};
 ghost use Rattle.just_graph.specs.Graph.{targets, IsGraph, Reaches, IsOnCycle, IsOrder, LeadsToCycle, IsFirst};
-ghost use Rattle.just_graph.specs.Met.{is_marked, met_after, list_after, ArePeeled};
+ghost use Rattle.just_graph.specs.Levels.{AreLevels};
+ghost use Rattle.just_graph.specs.Met.{is_marked, met_after, list_after};
 
+use super::level::{is_below_targets, levels_of};
 use super::peel::{Peeled, peel};
 use just_path::{NoMemory, Seq};
 use std::alloc::Global;
@@ -56,19 +58,20 @@ pub fn order(alloc: Global, edges: &[Seq<usize>]) -> Result<Vec<usize>, NoMemory
     Ok(order)
 }
 
-/// Whether a node lies on a cycle. Nodes that were taken out don't.
+/// Whether a node lies on a cycle. One below all its targets doesn't; of the others each does where the levels are those
+/// of the parts within which each node reaches each other one, so that no search is in vain.
 fn is_on_cycle(
     alloc: Global,
     edges: &[Seq<usize>],
-    peeled: &Peeled,
+    levels: &[usize],
     node: usize,
 ) -> Result<bool, NoMemory>
     requires graph { IsGraph edges.now }
     requires node { node < length edges.now }
-    requires peeled { ArePeeled edges.now peeled.now.marks.items peeled.now.order.items }
+    requires levels { AreLevels edges.now levels.now }
     ensures { IfOk result (λ is_it. IsTrue is_it ↔ IsOnCycle edges.now node) }
 {
-    if peeled.marks[node] {
+    if is_below_targets(edges, levels, node) {
         return Ok(false);
     }
     let marks = reached(alloc, edges, node)?;
@@ -86,9 +89,9 @@ pub fn first_on_cycle(
     requires nodes { All (λ v. v < length edges.now) nodes.now }
     ensures { IfOk result (λ first. IsFirst (IsOnCycle edges.now) nodes.now first) }
 {
-    let peeled = peel(alloc, edges)?;
+    let levels = levels_of(alloc, edges)?;
     for node in nodes {
-        if is_on_cycle(alloc, edges, &peeled, *node)? {
+        if is_on_cycle(alloc, edges, levels.as_slice(), *node)? {
             return Ok(Some(*node));
         }
     }

@@ -2,6 +2,7 @@
 #![tactic(auto)]
 
 mod graph;
+mod level;
 mod origin;
 mod peel;
 

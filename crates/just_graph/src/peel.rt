@@ -76,7 +76,7 @@ fn take_out(edges: &[Seq<usize>], peeled: &mut Peeled, node: usize) -> Result<()
 
 /// The next target of a node, where `seen` tells how many of each node's were looked at.
 #[tactic(auto, using(crate::proofs::Peelings::one_step_as))]
-fn next_target(edges: &[Seq<usize>], seen: &mut Vec<usize>, node: usize) -> Option<usize>
+pub(crate) fn next_target(edges: &[Seq<usize>], seen: &mut Vec<usize>, node: usize) -> Option<usize>
     requires graph { IsGraph edges.now }
     requires node { node < length edges.now }
     requires size { length seen.old.items ≡ length edges.now }

@@ -1,8 +1,7 @@
 //! Lines that are run one by one, and lines of scripts.
 
-ghost use Rattle.std.specs.Prelude.{◌≡◌, ◌≢◌, map, Ok, Err, IfOk, IfErr};
+ghost use Rattle.std.specs.Prelude.{◌≡◌, map};
 ghost use Rattle.std.specs.List.{filter};
-ghost use Rattle.just_lang.specs.declared.project.LangError.{LangError};
 ghost use Rattle.just_value.specs.Answers.{Gives, each};
 ghost use Rattle.just_eval.specs.Entries.{located_of, Sees};
 ghost use Rattle.just_lines.specs.Bodies.{is_hashed, begin_comment, script_line, command_line, is_run};

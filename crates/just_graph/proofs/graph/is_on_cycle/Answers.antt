@@ -1,13 +1,10 @@
--- A node that was taken out lies on no cycle.
-use Rattle.std.proofs.Common.{rules, arith, ◌≡◌, ◌<◌, ◌∙◌, sym, true, false, length}
-use Rattle.std.proofs.lemmas.List.{get_or_read}
-use Rattle.just_graph.specs.Met.{is_marked}
-use Rattle.just_graph.proofs.Peelings.{marked_off_cycle}
+-- A node below all its targets lies on no cycle.
+use Rattle.std.proofs.Common.{rules, ◌≡◌, ◌∙◌, sym, true}
+use Rattle.just_graph.specs.Levels.{is_below_targets}
+use Rattle.just_graph.proofs.Levels.{below_off_cycle}
 use Rattle.just_graph.proofs.graph.is_on_cycle.Goals as goal
 
-pub returns-then-index : goal.returns-then-index
-returns-then-index c =
-    let size = c.requires.peeled.size in
-    let within : c.args.node < length c.args.peeled.now.marks.items = omega arith in
-    let marked : is_marked c.args.peeled.now.marks.items c.args.node ≡ true = sym (get_or_read c.args.peeled.now.marks.items c.args.node c.index.result.now within c.index.ensures false) ∙ c.if-index.true in
-    (λ t. search rules, λ cycle. absurd (marked_off_cycle c.args.edges.now c.args.peeled.now.marks.items c.args.peeled.now.order.items c.args.node c.requires.peeled marked cycle))
+pub returns-then-is_below_targets : goal.returns-then-is_below_targets
+returns-then-is_below_targets c =
+    let below : is_below_targets c.args.edges.now c.args.levels.now c.args.node ≡ true = sym c.is_below_targets.ensures ∙ c.if-is_below_targets.true in
+    (λ t. search rules, λ cycle. absurd (below_off_cycle c.args.edges.now c.args.levels.now c.args.node c.requires.graph c.requires.levels c.requires.node below cycle))

@@ -1,0 +1,3 @@
+-- The lemmas of importers.
+pub mod Rows
+pub mod Whole

@@ -1,0 +1,2 @@
+-- Which files import which.
+pub mod Importers
