@@ -120,10 +120,12 @@ fn found_behind(
 
 /// Whether a row's message is the one that is found.
 fn is_message(wanted: Option<&Value>, found: &Option<String>) -> bool {
-    match (wanted, found) {
-        (Some(Value::Null), None) => true,
-        (Some(Value::String(text)), Some(found)) => text.as_str() == found.as_str(),
-        _ => false,
+    match found {
+        None => matches!(wanted, Some(Value::Null)),
+        Some(found) => match wanted {
+            Some(Value::String(text)) => text.as_str() == found.as_str(),
+            _ => false,
+        },
     }
 }
 
