@@ -1,5 +1,7 @@
-//! Tests of the keys that a key depends on, and of the closure of a request, on justfiles that are built by hand.
+//! Tests of the keys that a key depends on, on justfiles that are built by hand.
 #![tactic(auto)]
 
+#[cfg(test)]
+mod justfiles;
 #[cfg(test)]
 mod rows;
