@@ -1,0 +1,27 @@
+//! Names: what they stand for in the scopes of a project, and what the paths of aliases and dependencies come to.
+#![tactic(auto)]
+
+mod arity;
+mod children;
+mod items;
+mod listed;
+mod names;
+mod options;
+mod parameters;
+mod paths;
+mod scopes;
+mod target;
+mod targets;
+
+pub use arity::{Arities, Arity, arities_of};
+pub use children::Children;
+pub use items::{items_at, items_of_module};
+pub use listed::{ListedAlias, ListedDependency, all_aliases, all_dependencies};
+pub use names::{ModuleNames, Names, names_of};
+pub use paths::Paths;
+pub use scopes::first_undefined_variable;
+pub use target::{PathKind, Target, child, is_absent, module_at, recipe_named, target_of};
+pub use targets::{
+    first_dependency_argument_count, first_dependency_is_option, first_unknown_alias_target,
+    first_unknown_dependency,
+};
