@@ -1,5 +1,5 @@
 -- One more file.
-use Rattle.std.proofs.Common.{◌≡◌, ℕ, List, length, sym, subst, arith}
+use Rattle.std.proofs.Common.{◌≡◌, length, sym, subst, arith}
 use Rattle.just_importers.specs.Importers.{AreImportersOf}
 use Rattle.just_importers.proofs.Rows.{AreImportersUpTo, none_imports, importer_more, importers_end}
 use Rattle.just_importers.proofs.importers.importers_of.Goals as goal

@@ -1,5 +1,5 @@
 -- One more file.
-use Rattle.std.proofs.Common.{◌≡◌, ℕ, List, length, sym, subst, arith}
+use Rattle.std.proofs.Common.{◌≡◌, length, sym, subst, arith}
 use Rattle.just_importers.proofs.Rows.{AreImportersOfEachUpTo, no_rows, rows_more, rows_end}
 use Rattle.just_importers.proofs.importers.importers_of_each.Goals as goal
 

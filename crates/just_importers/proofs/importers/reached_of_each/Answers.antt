@@ -1,5 +1,5 @@
 -- One more file.
-use Rattle.std.proofs.Common.{◌≡◌, ℕ, List, length, sym, subst, arith}
+use Rattle.std.proofs.Common.{◌≡◌, length, sym, subst, arith}
 use Rattle.just_importers.proofs.Rows.{AreReachedUpTo, none_reached, reached_more, reached_end}
 use Rattle.just_importers.proofs.importers.reached_of_each.Goals as goal
 

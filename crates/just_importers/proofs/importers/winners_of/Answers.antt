@@ -1,6 +1,6 @@
 -- The imports are a graph, and its importers those of the files.
-use Rattle.std.proofs.Common.{List, Bool, sym, subst, ◌∙◌}
-use Rattle.just_importers.specs.Importers.{AreReached, AreImportersOfEach}
+use Rattle.std.proofs.Common.{sym, subst, ◌∙◌}
+use Rattle.just_importers.specs.Importers.{AreReached}
 use Rattle.just_importers.proofs.Whole.{graph_of, importers_whole}
 use Rattle.just_importers.proofs.importers.winners_of.Goals as goal
 
