@@ -20,7 +20,6 @@ mod scope;
 mod settings;
 mod sound;
 mod source;
-mod usage;
 mod walk;
 
 pub use asked::{dependencies, invocations};
@@ -43,7 +42,6 @@ pub use scope::{Alias, Assignment, Binding, Disabled, DotenvOf, Level, Override,
 pub use settings::{Interpreter, Settings};
 pub use sound::assemble;
 pub use source::{Source, parse};
-pub use usage::{Usage, UsageKind};
 pub use walk::closure;
 
 /// A request may need so many nodes.

@@ -18,7 +18,7 @@ pub struct Justfile {
     /// The variables that stand, in the order of the sources.
     pub assignments: Seq<Assignment>,
     pub unexports: Seq<Text>,
-    /// The recipes that stand and can be run, in the order of the sources. A dependency's path begins at the root.
+    /// The recipes that stand, in the order of the sources, those of `disabled_recipes` too. A dependency's path begins at the root.
     pub recipes: Seq<Recipe>,
     /// The further names of recipes; a target's path begins at the root.
     pub recipe_aliases: Seq<Alias>,
@@ -27,6 +27,7 @@ pub struct Justfile {
     pub module_aliases: Seq<Alias>,
     /// The modules that may be missing and are.
     pub absent_modules: Seq<Text>,
+    /// The recipes that can't be run, since they lead to an absent module.
     pub disabled_recipes: Seq<Disabled>,
     pub disabled_aliases: Seq<Disabled>,
     /// The groups that the module's declaration names.

@@ -13,5 +13,5 @@ mod visit;
 pub use error::LayoutError;
 pub use laid::lay;
 pub use layout::{File, Layout, Module, Placed};
-pub use path::meaning;
-pub use target::Target;
+pub use path::{meaning, path_under};
+pub use target::{Target, module_base};

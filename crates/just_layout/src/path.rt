@@ -109,7 +109,7 @@ fn with_home(alloc: Global, home: Option<&str>, text: &str) -> Result<Option<Tex
 }
 
 /// The clean path that a text means in a file of that root.
-pub(crate) fn path_under(
+pub fn path_under(
     alloc: Global,
     environ: &Environ,
     root: &Utf8PathBuf,

@@ -111,7 +111,7 @@ pub(crate) fn is_module_file(base: &[u8], path: &[u8]) -> bool
 }
 
 /// The path of a module's name beside a file of that root.
-pub(crate) fn module_base(
+pub fn module_base(
     alloc: Global,
     root: &Utf8PathBuf,
     name: &str,
