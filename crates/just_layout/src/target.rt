@@ -111,11 +111,7 @@ pub(crate) fn is_module_file(base: &[u8], path: &[u8]) -> bool
 }
 
 /// The path of a module's name beside a file of that root.
-pub fn module_base(
-    alloc: Global,
-    root: &Utf8PathBuf,
-    name: &str,
-) -> Result<Utf8PathBuf, NoMemory>
+pub fn module_base(alloc: Global, root: &Utf8PathBuf, name: &str) -> Result<Utf8PathBuf, NoMemory>
     ensures { IfOk result (λ p. p ≡ module_base root.now name.now) }
 {
     let path = root.as_path().join(alloc, Utf8Path::new(name))?;
