@@ -8,4 +8,5 @@ pub mod Closed
 pub mod Numbered
 pub mod Pending
 pub mod Nodes
+pub mod Popped
 pub mod Tasks

@@ -37,18 +37,6 @@ as_many around [] (b ∷ bs) h = absurd (let no : ⊥ = cc in no)
 as_many around (x ∷ xs) [] h = absurd (let no : ⊥ = cc in no)
 as_many around (x ∷ xs) (b ∷ bs) h = ap (λ n. suc n) (as_many around xs bs (heads (around x.key) (pair_of b) (map (λ y. around y.key) xs) (map (λ c. pair_of c) bs) h).1)
 
--- a node more
-pub nodes_more : (list : List Place) (n : ℕ) (xs : List Place) (bs : List Beside) (x : Place) (b : Beside) (found : List Node) → n < length xs → n < length bs → x ≡ get_or xs n x → b ≡ get_or bs n b → (found ++ node_beside list n x b ∷ []) ++ nodes_beside list (n + 1) (drop (n + 1) xs) (drop (n + 1) bs) ≡ found ++ nodes_beside list n (drop n xs) (drop n bs)
-nodes_more list n xs bs x b found lt lt' is is' =
-    let places : drop n xs ≡ x ∷ drop (suc n) xs = drop-cons xs n x lt ∙ ap (λ y. y ∷ drop (suc n) xs) (sym is) in
-    let besides : drop n bs ≡ b ∷ drop (suc n) bs = drop-cons bs n b lt' ∙ ap (λ y. y ∷ drop (suc n) bs) (sym is') in
-    let one : n + 1 ≡ suc n = omega arith in
-    append_assoc found (node_beside list n x b ∷ []) (nodes_beside list (n + 1) (drop (n + 1) xs) (drop (n + 1) bs)) ∙ ap (λ m. found ++ node_beside list n x b ∷ nodes_beside list m (drop m xs) (drop m bs)) one ∙ ap (λ ns. found ++ ns) (sym (ap (λ ps. nodes_beside list n ps (drop n bs)) places ∙ ap (λ cs. nodes_beside list n (x ∷ drop (suc n) xs) cs) besides))
-
--- no node is left
-pub nodes_end : (list : List Place) (n : ℕ) (xs : List Place) (bs : List Beside) (found : List Node) → length xs ≤ n → found ++ nodes_beside list n (drop n xs) (drop n bs) ≡ found
-nodes_end list n xs bs found le = ap (λ ps. found ++ nodes_beside list n ps (drop n bs)) (drop_all n xs le) ∙ append-nil found
-
 -- visits that aren't refused, with the keys around the places that they give, make the closure
 pub closure_is : (around : Key → Around) (keys : List Key) (list : List Place) (bs : List Beside) (c : Closure) → Visits around (Ok []) None keys (Ok list) → AreBeside around list bs → c.nodes ≡ nodes_beside list 0 list bs → c.invocations ≡ numbers_of list None keys → IsClosureOf around keys c
 closure_is around keys list bs c visits beside nodes invocations = record {
@@ -69,6 +57,6 @@ no_more list bs nodes around beside are short =
     subst (λ n. n ≤ CLOSURE_LIMIT) (sym (ap (λ ns. length ns) (are ∙ beside_from around list 0 list bs beside) ∙ nodes_length (priors_by around) (subsequents_by around) list 0 list)) short
 
 -- the nodes of what a walk gave are in order
-pub order_by : (around : Key → Around) (keys copies : List Key) (list : List Place) (bs cs : List Beside) (nodes : List Node) (invocations : List ℕ) → copies ≡ keys → cs ≡ bs → Visits around (Ok []) None copies (Ok list) → AreBeside around list bs → nodes ≡ nodes_beside list 0 list cs → invocations ≡ numbers_of list None keys → IsWellFormed nodes invocations
-order_by around keys copies list bs cs nodes invocations same as_are visits beside nodes_are invocations_are =
-    in_order around keys (record { nodes = nodes; invocations = invocations }) (closure_is around keys list bs (record { nodes = nodes; invocations = invocations }) (subst (λ ks. Visits around (Ok []) None ks (Ok list)) same visits) beside (nodes_are ∙ ap (λ ds. nodes_beside list 0 list ds) as_are) invocations_are)
+pub order_by : (around : Key → Around) (keys copies : List Key) (list : List Place) (bs : List Beside) (nodes : List Node) (invocations : List ℕ) → copies ≡ keys → Visits around (Ok []) None copies (Ok list) → AreBeside around list bs → nodes ≡ nodes_beside list 0 list bs → invocations ≡ numbers_of list None keys → IsWellFormed nodes invocations
+order_by around keys copies list bs nodes invocations same visits beside nodes_are invocations_are =
+    in_order around keys (record { nodes = nodes; invocations = invocations }) (closure_is around keys list bs (record { nodes = nodes; invocations = invocations }) (subst (λ ks. Visits around (Ok []) None ks (Ok list)) same visits) beside nodes_are invocations_are)

@@ -8,11 +8,12 @@ ghost use Rattle.just_closure.specs.Ran.{places_of};
 ghost use Rattle.just_closure.specs.Visits.{IsRanked, Visits};
 ghost use Rattle.just_closure.specs.WellFormed.{IsWellFormed};
 
-use super::walk::{Beside, Surroundings, walk};
+use super::copies::{copy_of_key, copy_of_keys};
+use super::walk::{Beside, Surroundings, Walked, walk};
 use super::{CLOSURE_LIMIT, Ran};
 use just_lang::project::LangError;
 use just_lang::{Closure, Key, Node, Place};
-use just_path::{NoMemory, Seq, TryClone};
+use just_path::{NoMemory, Seq};
 use std::alloc::Global;
 
 /// The closure of some keys: a node for each key that they need, once in each round, in the order of a run on one thread.
@@ -29,35 +30,37 @@ pub fn closure_of<S: Surroundings>(
     ensures short { IfOk result (λ c. length c.nodes ≤ CLOSURE_LIMIT) }
     ensures refused { IfErr result (λ e. e ≢ LangError.NoMemory → Visits (S.around surroundings.now) (Ok []) None keys.now (Err e)) }
 {
-    let walked = walk(alloc, surroundings, copies(alloc, keys)?)?;
-    let nodes = nodes_of(alloc, &walked.ran, walked.beside.as_slice())?;
-    let invocations = numbers(alloc, &walked.ran, None, keys)?;
+    let walked = walk(alloc, surroundings, copy_of_keys(alloc, keys)?)?;
+    let invocations = numbers(alloc, &walked.ran, None, copy_of_keys(alloc, keys)?)?;
+    let nodes = nodes_walked(alloc, walked)?;
     Ok(Closure { nodes, invocations })
 }
 
-/// Copies of keys.
-fn copies(alloc: Global, keys: &[Key]) -> Result<Seq<Key>, NoMemory>
-    ensures { IfOk result (λ copies. copies ≡ keys.now) }
+/// The nodes at the places that a walk gave.
+fn nodes_walked(alloc: Global, walked: Walked) -> Result<Seq<Node>, NoMemory>
+    requires beside { length walked.beside.items ≡ length (places_of walked.ran) }
+    requires short { length (places_of walked.ran) ≤ CLOSURE_LIMIT }
+    ensures { IfOk result (λ nodes. nodes ≡ nodes_beside (places_of walked.ran) 0 (places_of walked.ran) walked.beside.items) }
 {
-    let mut copies = Vec::new(alloc);
-    'keys: for key in keys {
-        copies.push(key.try_clone()?)?;
-    }
-    Ok(Seq::from(copies))
+    let Walked { ran, beside } = walked;
+    nodes_of(alloc, &ran, beside)
 }
 
-/// The nodes at the places of a register.
-#[tactic(auto, using(crate::proofs::Nodes::nodes_more, crate::proofs::Nodes::nodes_end))]
-fn nodes_of(alloc: Global, ran: &Ran, beside: &[Beside]) -> Result<Seq<Node>, NoMemory>
-    requires beside { length beside.now ≡ length (places_of ran.now) }
+/// The nodes at the places of a register. What stands beside each place is used up from the end on.
+#[tactic(auto, using(crate::proofs::Popped::node_popped, crate::proofs::Popped::nodes_popped))]
+fn nodes_of(alloc: Global, ran: &Ran, beside: Vec<Beside>) -> Result<Seq<Node>, NoMemory>
+    requires beside { length beside.items ≡ length (places_of ran.now) }
     requires short { length (places_of ran.now) ≤ CLOSURE_LIMIT }
-    ensures { IfOk result (λ nodes. nodes ≡ nodes_beside (places_of ran.now) 0 (places_of ran.now) beside.now) }
+    ensures { IfOk result (λ nodes. nodes ≡ nodes_beside (places_of ran.now) 0 (places_of ran.now) beside.items) }
 {
     let places = ran.places();
-    let mut nodes = Vec::new(alloc);
-    'places: for at in 0..places.len() {
-        nodes.push(node(alloc, ran, at as u32, &places[at], &beside[at])?)?;
+    let mut left = beside;
+    let mut nodes = Vec::with_capacity(alloc, places.len())?;
+    'places: while let Some(beside) = left.pop() {
+        let at = left.len();
+        nodes.push(node(alloc, ran, at as u32, &places[at], beside)?)?;
     }
+    nodes.reverse();
     Ok(Seq::from(nodes))
 }
 
@@ -67,42 +70,53 @@ fn node(
     ran: &Ran,
     number: u32,
     place: &Place,
-    beside: &Beside,
+    beside: Beside,
 ) -> Result<Node, NoMemory>
     requires short { length (places_of ran.now) ≤ CLOSURE_LIMIT }
-    ensures { IfOk result (λ x. x ≡ node_beside (places_of ran.now) number place.now beside.now) }
+    ensures { IfOk result (λ x. x ≡ node_beside (places_of ran.now) number place.now beside) }
 {
-    let priors = numbers(alloc, ran, place.round, beside.priors.as_slice())?;
-    let subsequents = numbers(alloc, ran, Some(number), beside.subsequents.as_slice())?;
+    let Beside {
+        priors,
+        subsequents,
+    } = beside;
+    let priors = numbers(alloc, ran, place.round, priors)?;
+    let subsequents = numbers(alloc, ran, Some(number), subsequents)?;
     Ok(Node {
         round: place.round,
-        key: place.key.try_clone()?,
+        key: copy_of_key(alloc, &place.key)?,
         priors,
         subsequents,
     })
 }
 
-/// The numbers of keys in a round.
-fn numbers(alloc: Global, ran: &Ran, round: Option<u32>, keys: &[Key]) -> Result<Seq<u32>, NoMemory>
+/// The numbers of keys in a round. The keys are used up from the end on.
+#[tactic(auto, using(crate::proofs::Popped::number_popped))]
+fn numbers(
+    alloc: Global,
+    ran: &Ran,
+    round: Option<u32>,
+    keys: Seq<Key>,
+) -> Result<Seq<u32>, NoMemory>
     requires short { length (places_of ran.now) ≤ CLOSURE_LIMIT }
-    ensures { IfOk result (λ numbers. numbers ≡ numbers_of (places_of ran.now) round keys.now) }
+    ensures { IfOk result (λ numbers. numbers ≡ numbers_of (places_of ran.now) round keys) }
 {
-    let mut numbers = Vec::new(alloc);
-    'keys: for key in keys {
-        numbers.push(number(ran, round, key)?)?;
+    let mut keys = keys.into_vec();
+    let mut numbers = Vec::with_capacity(alloc, keys.len())?;
+    'keys: while let Some(key) = keys.pop() {
+        numbers.push(number(ran, round, key))?;
     }
+    numbers.reverse();
     Ok(Seq::from(numbers))
 }
 
 /// The number of a key in a round; where it has none, the number of places.
 #[tactic(auto, using(crate::proofs::Numbered::found_number, crate::proofs::Numbered::absent_number))]
-fn number(ran: &Ran, round: Option<u32>, key: &Key) -> Result<u32, NoMemory>
+fn number(ran: &Ran, round: Option<u32>, key: Key) -> u32
     requires short { length (places_of ran.now) ≤ CLOSURE_LIMIT }
-    ensures { IfOk result (λ n. n ≡ number_of (places_of ran.now) round key.now) }
+    ensures { result ≡ number_of (places_of ran.now) round key }
 {
-    let key = key.try_clone()?;
     match ran.find(&Place { round, key }) {
-        Some(number) => Ok(number),
-        None => Ok(ran.places().len() as u32),
+        Some(number) => number,
+        None => ran.places().len() as u32,
     }
 }

@@ -2,11 +2,13 @@
 #![tactic(auto)]
 
 mod closure;
+mod copies;
 mod ran;
 mod register;
 mod walk;
 
 pub use closure::closure_of;
+pub use copies::copy_of_path;
 pub use ran::Ran;
 pub use walk::Surroundings;
 

@@ -6,6 +6,7 @@ ghost use Rattle.just_closure.specs.Places.{is_listed, number_of, places_with};
 ghost use Rattle.just_closure.specs.Ran.{places_of};
 
 use super::Ran;
+use super::copies::copy_of_key;
 use super::ran::Numbers;
 use just_lang::{Key, Place};
 use just_path::{NoMemory, TryClone};
@@ -80,7 +81,7 @@ impl Numbers {
         };
         let copy = Place {
             round: place.round,
-            key: place.key.try_clone()?,
+            key: copy_of_key(*self.places.allocator(), &place.key)?,
         };
         self.places.reserve(1)?;
         self.numbers.insert(copy, number)?;

@@ -8,10 +8,11 @@ ghost use Rattle.just_closure.specs.Places.{is_listed};
 ghost use Rattle.just_closure.specs.Ran.{places_of};
 ghost use Rattle.just_closure.specs.Visits.{Around, IsRanked, Visits};
 
+use super::copies::copy_of_keys;
 use super::{CLOSURE_LIMIT, Ran};
 use just_lang::project::LangError;
 use just_lang::{Key, Place};
-use just_path::{NoMemory, Seq, TryClone};
+use just_path::{NoMemory, Seq};
 use std::alloc::Global;
 
 /// What knows the keys around a key.
@@ -66,6 +67,7 @@ fn push_visits(
 
 /// Puts what a visit of a new key comes to on top of what is pending: its priors, and behind them the key itself.
 fn open(
+    alloc: Global,
     pending: &mut Vec<Pending>,
     place: Place,
     priors: Seq<Key>,
@@ -74,7 +76,7 @@ fn open(
     ensures { OnOk result (pending.new.items ≡ stacked (pending.old.items ++ Pending.Settle place priors subsequents ∷ []) place.round priors) }
 {
     let round = place.round;
-    let visits = priors.try_clone()?;
+    let visits = copy_of_keys(alloc, priors.as_slice())?;
     pending.push(Pending::Settle(place, priors, subsequents))?;
     push_visits(pending, round, visits)
 }
@@ -98,12 +100,13 @@ fn visit<S: Surroundings>(
         return Ok(());
     }
     let (priors, subsequents) = surroundings.around(alloc, &place.key)?;
-    open(pending, place, priors, subsequents)?;
+    open(alloc, pending, place, priors, subsequents)?;
     Ok(())
 }
 
 /// Gives a key whose priors were visited its place, and puts the visits of its subsequents on top of what is pending.
 fn settle(
+    alloc: Global,
     ran: &mut Ran,
     beside: &mut Vec<Beside>,
     pending: &mut Vec<Pending>,
@@ -121,7 +124,7 @@ fn settle(
     if ran.places().len() >= CLOSURE_LIMIT {
         return Err(LangError::ClosureLimit);
     }
-    let later = subsequents.try_clone()?;
+    let later = copy_of_keys(alloc, subsequents.as_slice())?;
     beside.push(Beside {
         priors,
         subsequents,
@@ -154,7 +157,7 @@ fn turn<S: Surroundings>(
     match task {
         Pending::Visit(place) => visit(alloc, surroundings, ran, pending, place),
         Pending::Settle(place, priors, subsequents) => {
-            settle(ran, beside, pending, place, priors, subsequents)
+            settle(alloc, ran, beside, pending, place, priors, subsequents)
         }
     }
 }
