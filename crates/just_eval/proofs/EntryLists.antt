@@ -1,5 +1,5 @@
 -- Recipes by their paths.
-use Rattle.std.proofs.Common.{◌≡◌, ℕ, suc, ◌+◌, ◌<◌, ◌≤◌, Bool, true, false, cond, find, Bor, List, [], ◌∷◌, ◌++◌, append_assoc, map, length, get_or, drop, drop-cons, Option, Some, None, is_some, refl, sym, ap, ◌∙◌, subst, arith}
+use Rattle.std.proofs.Common.{◌≡◌, ℕ, suc, ◌+◌, ◌<◌, ◌≤◌, Bool, true, false, cond, find, Bor, List, [], ◌∷◌, ◌++◌, append_assoc, map, length, get_or, drop, drop-cons, Option, Some, None, refl, sym, ap, ◌∙◌, subst, arith}
 use Rattle.std.specs.BTreeMap.{BTreeMap, get, Updates, is_at}
 use Rattle.std.specs.List.{All}
 use Rattle.std.specs.Map.{lookup}
@@ -71,17 +71,21 @@ entered_new m i e copy same new updates path =
         ap (λ b. cond b (Some e) (get path_cmp m path)) h ∙ ap (λ o. or_else o (Some e)) (sym (subst (λ q. get path_cmp m q ≡ None) (same_path_is e.recipe.now.path path h) new)) ∙ ap (λ b. or_else (get path_cmp m path) (if b then Some e else None)) (sym h)
     pick false h = ap (λ b. cond b (Some e) (get path_cmp m path)) h ∙ sym (or_else_none (get path_cmp m path)) ∙ ap (λ b. or_else (get path_cmp m path) (if b then Some e else None)) (sym h)
 
-first_stays : (o more : Option Entry) → is_some o ≡ true → o ≡ or_else o more
-first_stays None more h = absurd (let no : ⊥ = cc in no)
-first_stays (Some x) more h = refl
+-- an entry under a copy of its path, where the map has nothing there
+pub entered_first : (m i : BTreeMap Modulepath Entry) (e : Entry) (copy : Modulepath) → copy ≡ e.recipe.now.path → None ≡ get path_cmp m copy → Updates path_cmp m i copy (Some e) → Enters m e i
+entered_first m i e copy same new updates =
+    entered_new m i e copy same (subst (λ p. get path_cmp m p ≡ None) same (sym new)) updates
 
--- one whose path is there
-pub entered_again : (m : BTreeMap Modulepath Entry) (e : Entry) → is_some (get path_cmp m e.recipe.now.path) ≡ true → Enters m e m
-entered_again m e old path = pick (has_path path e) refl
+-- one under a path that is there, where the earlier one is put back
+pub entered_back : (m i n : BTreeMap Modulepath Entry) (e first : Entry) (copy again : Modulepath) → copy ≡ e.recipe.now.path → again ≡ e.recipe.now.path → Some first ≡ get path_cmp m copy → Updates path_cmp m i copy (Some e) → Updates path_cmp i n again (Some first) → Enters m e n
+entered_back m i n e first copy again same likewise old updates back path =
+    back.0 path ∙ ap (λ b. cond b (Some first) (get path_cmp i path)) (path_tie again path ∙ ap (λ c. same_path c path) likewise) ∙ ap (λ o. cond (has_path path e) (Some first) o) (updates.0 path ∙ ap (λ b. cond b (Some e) (get path_cmp m path)) (path_tie copy path ∙ ap (λ c. same_path c path) same)) ∙ pick (has_path path e) refl
   where
-    pick : (b : Bool) → has_path path e ≡ b → get path_cmp m path ≡ or_else (get path_cmp m path) (if has_path path e then Some e else None)
-    pick true h = first_stays (get path_cmp m path) (if has_path path e then Some e else None) (subst (λ q. is_some (get path_cmp m q) ≡ true) (same_path_is e.recipe.now.path path h) old)
-    pick false h = sym (ap (λ b. or_else (get path_cmp m path) (if b then Some e else None)) h ∙ or_else_none (get path_cmp m path))
+    pick : (b : Bool) → has_path path e ≡ b → cond (has_path path e) (Some first) (cond (has_path path e) (Some e) (get path_cmp m path)) ≡ or_else (get path_cmp m path) (if has_path path e then Some e else None)
+    pick true h =
+        ap (λ b. cond b (Some first) (cond b (Some e) (get path_cmp m path))) h ∙ ap (λ o. or_else o (Some e)) (subst (λ q. Some first ≡ get path_cmp m q) (same_path_is e.recipe.now.path path h) (subst (λ q. Some first ≡ get path_cmp m q) same old)) ∙ ap (λ b. or_else (get path_cmp m path) (if b then Some e else None)) (sym h)
+    pick false h =
+        ap (λ b. cond b (Some first) (cond b (Some e) (get path_cmp m path))) h ∙ sym (or_else_none (get path_cmp m path)) ∙ ap (λ b. or_else (get path_cmp m path) (if b then Some e else None)) (sym h)
 
 -- nothing is entered yet
 pub none_entered : (all : List Entry) (index : BTreeMap Modulepath Entry) → index.entries ≡ [] → Indexes all 0 index
@@ -117,8 +121,3 @@ entries_more ms n m old new lt is are =
     let one : n + 1 ≡ suc n = omega arith in
     let here : drop n ms ≡ m ∷ drop (suc n) ms = drop-cons ms n m lt ∙ ap (λ z. z ∷ drop (suc n) ms) (sym is) in
     ap (λ k. new ++ located (seen (drop k ms))) one ∙ ap (λ l. l ++ located (seen (drop (suc n) ms))) are ∙ append_assoc old (map (λ r. record { parent = m.now; recipe = r }) (recipes_of m.now)) (located (seen (drop (suc n) ms))) ∙ ap (λ k. old ++ located (seen k)) (sym here)
-
--- what isn't some is none
-pub none_of : (o : Option Entry) → is_some o ≡ false → o ≡ None
-none_of None h = refl
-none_of (Some x) h = absurd (let no : ⊥ = cc in no)

@@ -11,9 +11,10 @@ use super::argument::{arguments, shares};
 use super::entries::entries;
 use super::entry::Entry;
 use super::given::values_given;
+use just_closure::copy_of_path;
 use just_lang::project::{Justfile, LangError};
 use just_lang::{Dependency, Key, Modulepath, Scopes, Value};
-use just_path::{NoMemory, Seq, TryClone};
+use just_path::{NoMemory, Seq};
 use just_value::all_modules;
 use std::alloc::Global;
 use std::collections::BTreeMap;
@@ -27,15 +28,20 @@ pub struct Request<'p> {
     pub entries: BTreeMap<Modulepath, Entry<'p>>,
 }
 
-/// Enters a recipe under its path, where the path is new.
-#[tactic(auto, using(crate::proofs::EntryLists::entered_new, crate::proofs::EntryLists::entered_again))]
-fn enter<'p>(index: &mut BTreeMap<Modulepath, Entry<'p>>, entry: &Entry<'p>) -> Result<(), NoMemory>
+/// Enters a recipe under its path, where the path is new. The path is looked for once: where it isn't new, its first recipe,
+/// which the entry has replaced, is put back.
+fn enter<'p>(
+    alloc: Global,
+    index: &mut BTreeMap<Modulepath, Entry<'p>>,
+    entry: &Entry<'p>,
+) -> Result<(), NoMemory>
     ensures { OnOk result (Enters index.old entry.now index.new) }
 {
-    if index.get(&entry.recipe.path).is_some() {
-        return Ok(());
+    let path = copy_of_path(alloc, &entry.recipe.path)?;
+    if let Some(first) = index.insert(path, *entry)? {
+        let again = copy_of_path(alloc, &entry.recipe.path)?;
+        index.insert(again, first)?;
     }
-    index.insert(entry.recipe.path.try_clone()?, *entry)?;
     Ok(())
 }
 
@@ -46,7 +52,7 @@ fn index<'p>(alloc: Global, all: &[Entry<'p>]) -> Result<BTreeMap<Modulepath, En
 {
     let mut index = BTreeMap::new(alloc);
     'entries: for entry in all {
-        enter(&mut index, entry)?;
+        enter(alloc, &mut index, entry)?;
     }
     Ok(index)
 }
@@ -96,7 +102,7 @@ impl<'p> Request<'p> {
     {
         let exprs = dependency.arguments.as_slice();
         let given = arguments(alloc, self.scopes, from, values, exprs)?;
-        let recipe = dependency.path.try_clone()?;
+        let recipe = copy_of_path(alloc, &dependency.path)?;
         let Some(to) = self.entry(&dependency.path) else {
             return Ok(Key {
                 recipe,
@@ -124,7 +130,7 @@ impl<'p> Request<'p> {
         requires sees { Sees self.now.scopes.now from.now }
         ensures { Gives (each (key_of (map (λ m. m.now) self.now.modules.items) self.now.scopes.now (located_of from.now) values.now) dependencies.now) result }
     {
-        let mut keys = Vec::new(alloc);
+        let mut keys = Vec::with_capacity(alloc, dependencies.len())?;
         'dependencies: for dependency in dependencies {
             keys.push(self.key_of(alloc, from, values, dependency)?)?;
         }
