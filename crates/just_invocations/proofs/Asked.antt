@@ -1,5 +1,5 @@
 -- Keys that words ask for name recipes of the project, with one value for each parameter.
-use Rattle.std.proofs.Common.{◌≡◌, ℕ, suc, ◌+◌, ◌==◌, cond, Bool, true, false, find, List, [], ◌∷◌, ◌++◌, map, length, length-append, Option, Some, None, Ok, Err, refl, sym, ap, ◌∙◌, subst, arith}
+use Rattle.std.proofs.Common.{◌≡◌, ℕ, suc, ◌+◌, ◌==◌, cond, Bool, true, false, find, List, [], ◌∷◌, ◌++◌, map, length, length-append, Option, Some, None, Ok, Err, refl, ap, ◌∙◌, subst, arith}
 use Rattle.std.specs.Prelude.{if◌then◌else◌, take, drop, bytes_eq, IfOk, IfSome, All, Contains}
 use Rattle.std.proofs.lemmas.List.Elements.{All-nil, All-cons, All-weaker, All-contains, All-contains_itself, Contains-append_left, Contains-append_right}
 use Rattle.std.proofs.lemmas.List.{length-map}
@@ -7,7 +7,6 @@ use Rattle.std.proofs.lemmas.Result.{IfOk-weaker}
 use Rattle.just_path.specs.Environ.{or_else}
 use Rattle.just_lang.specs.declared.key.Key.{Key}
 use Rattle.just_lang.specs.declared.key.Value.{Value}
-use Rattle.just_lang.specs.declared.recipe.Modulepath.{Modulepath}
 use Rattle.just_lang.specs.declared.recipe.Parameter.{Parameter}
 use Rattle.just_lang.specs.declared.recipe.Recipe.{Recipe}
 use Rattle.just_lang.specs.declared.scope.Alias.{Alias}
@@ -18,7 +17,7 @@ use Rattle.just_lang.specs.declared.project.LangError.{LangError}
 use Rattle.just_lang.specs.declared.project.LangError.TheVariants as error
 use Rattle.just_lang.specs.Keys.{same_path}
 use Rattle.just_value.specs.Answers.{Answer, and_then}
-use Rattle.just_value.specs.Modules.{path_of, recipes_of, modules_of, AreModules, Located, located, located_at, recipe_at}
+use Rattle.just_value.specs.Modules.{path_of, recipes_of, modules_of, AreModules, Located, located}
 use Rattle.just_value.proofs.Nesting.{same_modules}
 use Rattle.just_eval.specs.Dependencies.{value_from, values_behind, values_given}
 use Rattle.just_switches.specs.Parameters.{is_variadic, is_option, least_words}
@@ -26,7 +25,7 @@ use Rattle.just_switches.specs.Switches.{Words, all_taken}
 use Rattle.just_switches.specs.Tests.{values_for, given_from, given_words, refusal}
 use Rattle.just_switches.specs.Given.{unless, tested, words_given}
 use Rattle.just_invocations.specs.Paths.{Word, parts}
-use Rattle.just_invocations.specs.Names.{Target, has_name, submodule, alias_at, disabled_at, recipe_in, in_module, is_absent, module_at, aliased_module, module_named, aliased_recipe, target_among, last_target, no_module, within, target_of}
+use Rattle.just_invocations.specs.Names.{Target, has_name, submodule, alias_at, disabled_at, recipe_in, in_module, is_absent, aliased_module, module_named, aliased_recipe, target_among, last_target, no_module, within, target_of}
 use Rattle.just_invocations.specs.Targets.{is_default, first_of, default_in, default_enabled, default_by, default_of, behind_target, chosen}
 use Rattle.just_invocations.specs.Invocations.{as_given, key_of, key_behind, first_key, Invokes, NamesRecipe}
 

@@ -1,5 +1,5 @@
 -- Recipes by their paths, module by module.
-use Rattle.std.proofs.Common.{◌≡◌, ℕ, suc, ◌+◌, ◌<◌, ◌≤◌, cond, Bool, true, false, find, Bor, List, [], ◌∷◌, ◌++◌, map, length, get_or, drop, drop-cons, Option, Some, None, refl, sym, ap, ◌∙◌, arith}
+use Rattle.std.proofs.Common.{◌≡◌, ℕ, suc, ◌+◌, ◌<◌, ◌≤◌, cond, true, false, Bor, List, [], ◌∷◌, ◌++◌, map, length, get_or, drop, drop-cons, Some, None, refl, sym, ap, ◌∙◌, arith}
 use Rattle.std.proofs.lemmas.List.{drop_all}
 use Rattle.just_path.specs.Environ.{or_else}
 use Rattle.just_lang.specs.declared.recipe.Modulepath.{Modulepath}

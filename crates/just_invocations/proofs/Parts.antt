@@ -1,10 +1,10 @@
 -- The parts of a word between its `::`, and paths as texts.
-use Rattle.std.proofs.Common.{◌≡◌, ◌≢◌, ℕ, zero, suc, ◌+◌, ◌<◌, ◌≤◌, ◌==◌, Bool, true, false, List, [], ◌∷◌, ◌++◌, append-nil, append_assoc, length, take, drop, length-append, Bor, Option, Some, None, codes, eqb-true, refl, sym, ap, ◌∙◌, subst, arith}
+use Rattle.std.proofs.Common.{◌≡◌, ◌≢◌, ℕ, suc, ◌+◌, ◌<◌, ◌≤◌, ◌==◌, Bool, true, false, List, [], ◌∷◌, ◌++◌, append-nil, append_assoc, length, take, drop, length-append, Bor, Option, Some, None, codes, eqb-true, refl, sym, ap, ◌∙◌, subst, arith}
 use Rattle.std.specs.Prelude.{if◌then◌else◌}
 use Rattle.std.specs.Option.{MatchOption}
 use Rattle.std.specs.Str.Pattern.{FindsText}
 use Rattle.std.proofs.lemmas.Str.Pattern.{split_text_parts}
-use Rattle.just_invocations.specs.Paths.{Word, colon, further, joined_path, put_in_front, parts_behind, parts}
+use Rattle.just_invocations.specs.Paths.{Word, further, joined_path, put_in_front, parts_behind, parts}
 
 is_equal : (c x : ℕ) → (x == c) ≡ true → x ≡ c
 is_equal c x h = eqb-true x c h

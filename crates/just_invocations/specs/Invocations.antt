@@ -1,5 +1,5 @@
 -- The keys that words ask for.
-use Rattle.std.specs.Prelude.{◌≡◌, ℕ, Bool, true, false, List, [], ◌∷◌, length, map, Option, Some, None, Ok, Err, Contains}
+use Rattle.std.specs.Prelude.{◌≡◌, Bool, true, false, List, [], ◌∷◌, length, map, Option, Some, None, Ok, Err, Contains}
 use Rattle.just_lang.specs.declared.key.Key.{Key}
 use Rattle.just_lang.specs.declared.scope.Scopes.{Scopes}
 use Rattle.just_lang.specs.declared.project.Justfile.{Justfile}

@@ -1,5 +1,5 @@
 -- A recipe that was chosen, with what its expressions see.
-use Rattle.std.specs.Prelude.{◌≡◌, Option, Some, None}
+use Rattle.std.specs.Prelude.{◌≡◌}
 use Rattle.just_lang.specs.declared.scope.Scopes.{Scopes}
 use Rattle.just_value.specs.Scopes.{pairs_for, scope_of}
 use Rattle.just_value.specs.Modules.{path_of, Located}

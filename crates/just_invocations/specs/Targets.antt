@@ -1,5 +1,5 @@
 -- The recipe that words lead to.
-use Rattle.std.specs.Prelude.{ℕ, ◌==◌, Bool, true, false, if◌then◌else◌, List, [], ◌∷◌, Option, Some, None, Ok, Err, codes, bytes_eq, find}
+use Rattle.std.specs.Prelude.{◌==◌, Bool, if◌then◌else◌, List, [], ◌∷◌, Option, Some, None, Ok, Err, codes, bytes_eq, find}
 use Rattle.std.specs.List.{list_any}
 use Rattle.just_path.specs.Environ.{or_else}
 use Rattle.just_lang.specs.declared.recipe.Recipe.{Recipe}

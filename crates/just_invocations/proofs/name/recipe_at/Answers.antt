@@ -1,5 +1,5 @@
 -- The module has it.
-use Rattle.std.proofs.Common.{rules, ◌≡◌, sym, ◌∙◌}
+use Rattle.std.proofs.Common.{rules, sym, ◌∙◌}
 use Rattle.just_invocations.specs.Sights.{located_of}
 use Rattle.just_invocations.proofs.Lookups.{in_module}
 use Rattle.just_invocations.proofs.name.recipe_at.Goals as goal

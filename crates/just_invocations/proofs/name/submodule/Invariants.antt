@@ -1,6 +1,5 @@
 -- It is among those that are left.
 use Rattle.std.proofs.Common.{◌≡◌, drop, find}
-use Rattle.std.specs.Str.{bytes_eq}
 use Rattle.just_value.specs.Modules.{modules_of}
 use Rattle.just_invocations.specs.Names.{has_name}
 use Rattle.just_invocations.proofs.name.submodule.Given as goal

@@ -1,0 +1,2 @@
+-- The lemmas of usages.
+mod Written

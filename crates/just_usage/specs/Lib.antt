@@ -1,0 +1,2 @@
+-- The definitions that the contracts of usages cite.
+pub mod Usages
