@@ -28,9 +28,6 @@ impl Compare for VariableRows {
 /// What evaluating the project of a row answers.
 fn answer_of(alloc: Global, fields: &[&str]) -> Result<String, Wrong> {
     let justfile = project(alloc, at(fields, 0)?)?;
-    if !is_ending(alloc, &justfile)? {
-        return Err(Wrong::Form);
-    }
     let environ = environ_of(alloc, at(fields, 2)?)?;
     answer_with(alloc, &justfile, &environ, fields)
 }
@@ -47,8 +44,22 @@ fn answer_with(
     let pairs = dotenv.as_slice();
     shown(
         alloc,
-        evaluate(alloc, justfile, pairs, environ, overrides.as_slice()),
+        evaluated(alloc, justfile, pairs, environ, overrides.as_slice())?,
     )
+}
+
+/// What evaluating a project answers. In a row no variable leads to itself.
+fn evaluated(
+    alloc: Global,
+    justfile: &Justfile,
+    dotenv: &[DotenvOf],
+    environ: &Environ,
+    overrides: &[Override],
+) -> Result<Result<Scopes, LangError>, Wrong> {
+    if !is_ending(alloc, justfile)? {
+        return Err(Wrong::Form);
+    }
+    Ok(evaluate(alloc, justfile, dotenv, environ, overrides))
 }
 
 /// The environment of a field.
