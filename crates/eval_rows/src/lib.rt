@@ -1,7 +1,5 @@
-//! Tests of the keys that a key depends on, on justfiles that are built by hand.
+//! Tests of the keys that a key depends on, of the closure of a request, and of the short usage, on justfiles that are built by hand.
 #![tactic(auto)]
 
-#[cfg(test)]
-mod justfiles;
 #[cfg(test)]
 mod rows;
