@@ -1,0 +1,19 @@
+-- The laws that this crate offers to the proofs of the crates above it.
+use Rattle.std.proofs.Common.{◌≡◌, ap, sym, ◌∙◌}
+use Rattle.serde_json.specs.Data.{object}
+use Rattle.serde_json.specs.Written.{compact_text}
+use Rattle.just_key.specs.declared.key.CacheKey.{CacheKey}
+use Rattle.just_key.specs.Members.{inputs}
+use Rattle.just_key.specs.Keys.{key_text, class_text}
+use Rattle.just_key.specs.Readable.{IsReadable}
+use Rattle.just_key.proofs.Fields.{members_in}
+use Rattle.just_key.proofs.Objects.{same_object, same_key_in, without_inputs, inputs_forgotten}
+
+-- two keys of one text have one class text
+pub same_class : (k l : CacheKey) → key_text k ≡ key_text l → class_text k ≡ class_text l
+same_class k l e =
+    ap compact_text (sym (inputs_forgotten (inputs k.inputs) k) ∙ ap (λ d. object (without_inputs (members_in d))) (same_object k l e) ∙ inputs_forgotten (inputs l.inputs) l)
+
+-- and are one key, where both can be read from their texts
+pub same_key : (k l : CacheKey) → IsReadable k → IsReadable l → key_text k ≡ key_text l → k ≡ l
+same_key k l p q e = same_key_in k l p q (same_object k l e)

@@ -1,0 +1,22 @@
+//! The shapes of a justfile that single items make: recipes, parameters, settings, and what listings say.
+#![tactic(auto)]
+
+mod attributes;
+mod comments;
+mod expanded;
+mod expansions;
+mod keys;
+mod number;
+mod parameter;
+mod recipe;
+mod scope;
+mod settings;
+
+pub use attributes::{doc_of, groups_of, is_private};
+pub use comments::{Comments, comments_of};
+pub use expansions::{expanded_expr, expanded_exprs};
+pub use number::number_of;
+pub use parameter::parameters_of;
+pub use recipe::{Surroundings, path_within, recipe_of};
+pub use scope::{assignments_of, unexports_of};
+pub use settings::settings_of;
