@@ -253,6 +253,13 @@ fn cause_of(causes: &[Option<usize>], number: usize) -> Option<usize>
     }
 }
 
+/// No names.
+fn no_names<'d, 'a>() -> &'d [&'a str]
+    ensures { texts result.now ≡ [] }
+{
+    &[]
+}
+
 /// The list of that number; none, where there is no such list.
 fn list_at<'d, 'a>(lists: &'d [Vec<&'a str>], number: usize) -> &'d [&'a str]
     ensures { texts result.now ≡ option_map_or (λ xs. xs) (slice_get (map (λ list. texts list.items) lists.now) number) [] }
@@ -260,7 +267,7 @@ fn list_at<'d, 'a>(lists: &'d [Vec<&'a str>], number: usize) -> &'d [&'a str]
     if let Some(list) = lists.get(number) {
         return list.as_slice();
     }
-    &[]
+    no_names()
 }
 
 /// The names of the modules for which the recipe of that number can't be run; none, where it can.
@@ -274,7 +281,7 @@ pub fn modules_of_recipe<'d, 'a>(
     if let Some(cause) = cause_of(disabling.causes.as_slice(), number) {
         return list_at(disabling.absent.as_slice(), cause);
     }
-    &[]
+    no_names()
 }
 
 // ---- aliases
