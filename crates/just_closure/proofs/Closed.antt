@@ -1,5 +1,5 @@
 -- Visits that aren't refused list the closure, and its nodes are well formed.
-use Rattle.std.proofs.Common.{inl, inr, ◌≡◌, ℕ, zero, suc, ◌+◌, ◌<◌, ◌≤◌, true, false, not, cond, List, [], ◌∷◌, length, Option, Some, None, option_map, refl, ap, sym, ◌∙◌, subst, arith, slice_get}
+use Rattle.std.proofs.Common.{◌≡◌, ℕ, zero, suc, ◌+◌, ◌<◌, ◌≤◌, true, false, not, cond, List, [], ◌∷◌, length, Option, Some, None, option_map, refl, ap, sym, ◌∙◌, subst, arith, slice_get}
 use Rattle.std.specs.List.{All, Contains}
 use Rattle.just_lang.specs.declared.key.Key.{Key}
 use Rattle.just_lang.specs.declared.node.Node.{Node}
@@ -10,7 +10,7 @@ use Rattle.just_closure.specs.WellFormed.{round_at, IsUsed, IsWellFormed}
 use Rattle.just_closure.proofs.Grown.{IsPlaced, IsFresh, outer, inner, reached, grown_walk, none_some, true_false}
 use Rattle.just_closure.proofs.Places.{At, Has, is_place_is, is_place_self, some_is}
 use Rattle.just_closure.proofs.Reaches.{FromAny, from, reach_member}
-use Rattle.just_closure.proofs.Items.{all_in, In, in_all, in_map, map_in, in_contains, contains_in}
+use Rattle.just_closure.proofs.Items.{In, in_all, in_map, map_in, in_contains, contains_in}
 
 -- ## The least set
 

@@ -1,5 +1,5 @@
 -- The order of places tells all of them apart, and what a register keeps as it grows.
-use Rattle.std.proofs.Common.{◌≡◌, ℕ, suc, ◌+◌, Bool, true, false, ◌||◌, cond, not, List, [], ◌∷◌, ◌++◌, length, Option, Some, None, is_some, bytes_eq, refl, ap, sym, ◌∙◌, subst, arith}
+use Rattle.std.proofs.Common.{◌≡◌, ℕ, zero, suc, ◌+◌, Bool, true, false, ◌||◌, cond, not, List, [], ◌∷◌, ◌++◌, length, Option, Some, None, is_some, bytes_eq, refl, ap, sym, ◌∙◌, subst, arith, slice_get}
 use Rattle.std.specs.Prelude.{if◌then◌else◌}
 use Rattle.std.specs.BTreeMap.{BTreeMap, get, Updates, is_at}
 use Rattle.std.specs.Cmp.Lexicographic.{slice_cmp}
@@ -16,11 +16,12 @@ use Rattle.just_lang.specs.declared.key.Key.{Key}
 use Rattle.just_lang.specs.declared.key.Value.{Value}
 use Rattle.just_lang.specs.declared.place.Place.{Place}
 use Rattle.just_lang.specs.declared.recipe.Modulepath.{Modulepath}
-use Rattle.just_closure.specs.Numbers.{text_cmp, texts_cmp, value_cmp, path_cmp, key_cmp, place_cmp, number_in, AreNumbered}
+use Rattle.just_closure.specs.Marks.{place_mark}
+use Rattle.just_closure.specs.Numbers.{text_cmp, texts_cmp, value_cmp, path_cmp, key_cmp, place_cmp, number_in, is_there, first_or, AreNumbered}
 use Rattle.just_closure.specs.Places.{place, is_place, is_listed, number_of, places_with}
 use Rattle.just_lang.specs.Keys.{same_path}
 use Rattle.just_closure.proofs.Equal.{bytes_is, bytes_self, same_path_is, same_path_self}
-use Rattle.just_closure.proofs.Places.{is_place_is, is_place_self}
+use Rattle.just_closure.proofs.Places.{at_last, is_place_is, is_place_self}
 
 -- ---- orders
 
@@ -101,7 +102,7 @@ place_exact a b h =
     let both = then_ties (option_cmp nat_cmp a.round b.round) (key_cmp a.key b.key) h in
     ap (λ r. place r a.key) (round_exact a.round b.round both.0) ∙ ap (λ k. place b.round k) (key_exact a.key b.key both.1)
 
-is_equal : (o : Ordering) → is_eq o ≡ true → o ≡ Equal
+pub is_equal : (o : Ordering) → is_eq o ≡ true → o ≡ Equal
 is_equal Less h = absurd (let no : ⊥ = cc in no)
 is_equal Equal h = refl
 is_equal Greater h = absurd (let no : ⊥ = cc in no)
@@ -141,12 +142,12 @@ len_append p (x ∷ xs) y none =
     ] none
 
 -- where one of a list passes, what is behind it changes nothing
-len_stays : {A : Type 0} (p : A → Bool) (xs : List A) (y : A) → list_any p xs ≡ true → position_or_len p (xs ++ y ∷ []) ≡ position_or_len p xs
-len_stays p [] y some = absurd (apart (sym some))
-len_stays p (x ∷ xs) y some =
-    elim (p x) as (λ b. (b || list_any p xs) ≡ true → cond (not b) (1 + position_or_len p (xs ++ y ∷ [])) 0 ≡ cond (not b) (1 + position_or_len p xs) 0) [
+pub len_left : {A : Type 0} (p : A → Bool) (xs ys : List A) → list_any p xs ≡ true → position_or_len p (xs ++ ys) ≡ position_or_len p xs
+len_left p [] ys some = absurd (apart (sym some))
+len_left p (x ∷ xs) ys some =
+    elim (p x) as (λ b. (b || list_any p xs) ≡ true → cond (not b) (1 + position_or_len p (xs ++ ys)) 0 ≡ cond (not b) (1 + position_or_len p xs) 0) [
       | true ↦ λ h. refl
-      | false ↦ λ h. ap (λ n. 1 + n) (len_stays p xs y h)
+      | false ↦ λ h. ap (λ n. 1 + n) (len_left p xs ys h)
     ] some
 
 -- nothing more
@@ -168,20 +169,100 @@ number_absent list r k h = ap (λ b. if b then Some (number_of list r k) else No
 grown_by : (list : List Place) (x : Place) (r : Option ℕ) (k : Key) (a b : Bool) → is_listed list r k ≡ a → is_place r k x ≡ b → (b ≡ true → a ≡ false) → number_in (list ++ x ∷ []) r k ≡ cond b (Some (length list)) (number_in list r k)
 grown_by list x r k true true h g only = absurd (apart (only refl))
 grown_by list x r k true false h g only =
-    number_there (list ++ x ∷ []) r k (listed_more list x r k true false h g) ∙ ap (λ n. Some n) (len_stays (is_place r k) list x h) ∙ sym (number_there list r k h)
+    number_there (list ++ x ∷ []) r k (listed_more list x r k true false h g) ∙ ap (λ n. Some n) (len_left (is_place r k) list (x ∷ []) h) ∙ sym (number_there list r k h)
 grown_by list x r k false true h g only =
     number_there (list ++ x ∷ []) r k (listed_more list x r k false true h g) ∙ ap (λ n. Some n) (len_append (is_place r k) list x h ∙ ap (λ c. length list + cond c 0 1) g ∙ nothing_more (length list))
 grown_by list x r k false false h g only =
     number_absent (list ++ x ∷ []) r k (listed_more list x r k false false h g) ∙ sym (number_absent list r k h)
 
--- a place that wasn't listed gets the next number, and all others keep theirs
-pub numbered_more : (list : List Place) (m n : BTreeMap Place ℕ) (x : Place) → AreNumbered list m → Updates place_cmp m n x (Some (length list)) → is_listed list x.round x.key ≡ false → AreNumbered (list ++ x ∷ []) n
-numbered_more list m n x numbered updates new q =
-    updates.0 q ∙ ap (λ b. cond b (Some (length list)) (get place_cmp m q)) (tie_is x q) ∙ ap (λ o. cond (is_place q.round q.key x) (Some (length list)) o) (numbered q) ∙ sym (grown_by list x q.round q.key _ _ refl refl (λ h. subst (λ y. is_listed list y.round y.key ≡ false) (is_place_is q.round q.key x h) new))
+-- the same, as the place is new
+grown_new : (list : List Place) (x q : Place) → is_listed list x.round x.key ≡ false → number_in (list ++ x ∷ []) q.round q.key ≡ cond (is_place q.round q.key x) (Some (length list)) (number_in list q.round q.key)
+grown_new list x q new = grown_by list x q.round q.key _ _ refl refl (λ h. subst (λ y. is_listed list y.round y.key ≡ false) (is_place_is q.round q.key x h) new)
 
--- a map without entries is that of the empty list
-pub numbered_none : (m : BTreeMap Place ℕ) → m.entries ≡ [] → AreNumbered [] m
-numbered_none m e x = ap (λ es. lookup (is_at (place_cmp x)) es) e
+-- ---- by marks
+
+-- the order ties exactly where the other is that of the place's key in its round
+there_is : (q x : Place) → is_eq (place_cmp q x) ≡ is_place q.round q.key x
+there_is q x =
+    one_answer (is_eq (place_cmp q x)) (is_place q.round q.key x) (λ h. subst (λ z. is_place q.round q.key z ≡ true) (place_exact q x (is_equal (place_cmp q x) h)) (is_place_self q.round q.key)) (λ h. subst (λ z. is_eq (place_cmp q z) ≡ true) (sym (is_place_is q.round q.key x h)) (ap (λ o. is_eq o) (place_itself q)))
+
+-- a place that isn't the last one stands where it stood
+there_more : (q x : Place) → is_place q.round q.key x ≡ false → (list : List Place) (n : ℕ) → is_there q (slice_get (list ++ x ∷ []) n) ≡ is_there q (slice_get list n)
+there_more q x h [] zero = there_is q x ∙ h
+there_more q x h [] (suc n) = refl
+there_more q x h (y ∷ ys) zero = refl
+there_more q x h (y ∷ ys) (suc n) = there_more q x h ys n
+
+-- one that stands at a number where it didn't stand is the last one
+there_last : (q x : Place) (list : List Place) (n : ℕ) → is_there q (slice_get list n) ≡ false → is_there q (slice_get (list ++ x ∷ []) n) ≡ true → n ≡ length list
+there_last q x [] zero h g = refl
+there_last q x [] (suc n) h g = absurd (apart (sym g))
+there_last q x (y ∷ ys) zero h g = absurd (apart (sym g ∙ h))
+there_last q x (y ∷ ys) (suc n) h g = ap (λ m. suc m) (there_last q x ys n h g)
+
+-- the last one stands there
+last_there : (q x : Place) (list : List Place) → is_there q (slice_get (list ++ x ∷ []) (length list)) ≡ is_place q.round q.key x
+last_there q x list = ap (λ o. is_there q o) (at_last list x) ∙ there_is q x
+
+-- another place leaves what its mark gives
+first_more : (q x : Place) (list : List Place) (o other : Option ℕ) → is_place q.round q.key x ≡ false → first_or (list ++ x ∷ []) q o other ≡ first_or list q o other
+first_more q x list None other h = refl
+first_more q x list (Some n) other h = ap (λ b. if b then Some n else other) (there_more q x h list n)
+
+-- a choice of a number isn't nothing
+chosen : (b : Bool) (n : ℕ) (other : Option ℕ) → (if b then Some n else other) ≡ None → b ≡ false
+chosen true n other h = absurd (let no : ⊥ = cc in no)
+chosen false n other h = refl
+
+choice : (b : Bool) (n m : ℕ) → (b ≡ true → n ≡ m) → (if b then Some n else Some m) ≡ Some m
+choice true n m h = ap (λ k. Some k) (h refl)
+choice false n m h = refl
+
+-- what the mark of a new place gives, where its number is kept by itself
+first_other : (q x : Place) (list : List Place) (o other : Option ℕ) → first_or list q o other ≡ None → first_or (list ++ x ∷ []) q o (Some (length list)) ≡ Some (length list)
+first_other q x list None other h = refl
+first_other q x list (Some n) other h =
+    choice (is_there q (slice_get (list ++ x ∷ []) n)) n (length list) (λ g. there_last q x list n (chosen (is_there q (slice_get list n)) n other h) g)
+
+-- a place whose number is kept by itself
+other_by : (list : List Place) (firsts : BTreeMap ℕ ℕ) (m n : BTreeMap Place ℕ) (x : Place) → AreNumbered list firsts m → Updates place_cmp m n x (Some (length list)) → is_listed list x.round x.key ≡ false → AreNumbered (list ++ x ∷ []) firsts n
+other_by list firsts m n x numbered updates new q =
+    ap (λ o. first_or (list ++ x ∷ []) q (get nat_cmp firsts (place_mark q)) o) (updates.0 q ∙ ap (λ b. cond b (Some (length list)) (get place_cmp m q)) (tie_is x q)) ∙ pick (is_place q.round q.key x) refl ∙ sym (grown_new list x q new)
+  where
+    pick : (b : Bool) → is_place q.round q.key x ≡ b → first_or (list ++ x ∷ []) q (get nat_cmp firsts (place_mark q)) (cond b (Some (length list)) (get place_cmp m q)) ≡ cond (is_place q.round q.key x) (Some (length list)) (number_in list q.round q.key)
+    pick true h =
+        first_other q x list (get nat_cmp firsts (place_mark q)) (get place_cmp m q) (numbered q ∙ number_absent list q.round q.key (subst (λ y. is_listed list y.round y.key ≡ false) (is_place_is q.round q.key x h) new)) ∙ ap (λ b. cond b (Some (length list)) (number_in list q.round q.key)) (sym h)
+    pick false h =
+        first_more q x list (get nat_cmp firsts (place_mark q)) (get place_cmp m q) h ∙ numbered q ∙ ap (λ b. cond b (Some (length list)) (number_in list q.round q.key)) (sym h)
+
+-- one whose number is kept by its mark, which is new
+first_by : (list : List Place) (m n : BTreeMap ℕ ℕ) (others : BTreeMap Place ℕ) (x : Place) → AreNumbered list m others → get nat_cmp m (place_mark x) ≡ None → Updates nat_cmp m n (place_mark x) (Some (length list)) → is_listed list x.round x.key ≡ false → AreNumbered (list ++ x ∷ []) n others
+first_by list m n others x numbered free updates new q =
+    ap (λ o. first_or (list ++ x ∷ []) q o (get place_cmp others q)) (updates.0 (place_mark q)) ∙ pick (is_at (nat_cmp (place_mark x)) (place_mark q)) refl ∙ sym (grown_new list x q new)
+  where
+    last : (b : Bool) → is_place q.round q.key x ≡ b → get place_cmp others q ≡ number_in list q.round q.key → (if b then Some (length list) else get place_cmp others q) ≡ cond (is_place q.round q.key x) (Some (length list)) (number_in list q.round q.key)
+    last true h is = ap (λ b. cond b (Some (length list)) (number_in list q.round q.key)) (sym h)
+    last false h is = is ∙ ap (λ b. cond b (Some (length list)) (number_in list q.round q.key)) (sym h)
+
+    differ : (b : Bool) → is_place q.round q.key x ≡ b → is_at (nat_cmp (place_mark x)) (place_mark q) ≡ false → is_place q.round q.key x ≡ false
+    differ true h e =
+        let same : x ≡ q = is_place_is q.round q.key x h in
+        absurd (apart (sym (ap (λ o. is_eq o) (number_itself (place_mark x))) ∙ ap (λ y. is_eq (nat_cmp (place_mark x) (place_mark y))) same ∙ e))
+    differ false h e = h
+
+    pick : (b : Bool) → is_at (nat_cmp (place_mark x)) (place_mark q) ≡ b → first_or (list ++ x ∷ []) q (cond b (Some (length list)) (get nat_cmp m (place_mark q))) (get place_cmp others q) ≡ cond (is_place q.round q.key x) (Some (length list)) (number_in list q.round q.key)
+    pick true e =
+        let marks : place_mark x ≡ place_mark q = exact_unsigned (place_mark x) (place_mark q) (is_equal (nat_cmp (place_mark x) (place_mark q)) e) in
+        let is : get place_cmp others q ≡ number_in list q.round q.key = sym (ap (λ o. first_or list q o (get place_cmp others q)) (sym (ap (λ k. get nat_cmp m k) marks) ∙ free)) ∙ numbered q in
+        ap (λ b. if b then Some (length list) else get place_cmp others q) (last_there q x list) ∙ last (is_place q.round q.key x) refl is
+    pick false e =
+        let no = differ (is_place q.round q.key x) refl e in
+        first_more q x list (get nat_cmp m (place_mark q)) (get place_cmp others q) no ∙ numbered q ∙ ap (λ b. cond b (Some (length list)) (number_in list q.round q.key)) (sym no)
+
+-- maps without entries are those of the empty list
+pub numbered_none : (firsts : BTreeMap ℕ ℕ) (others : BTreeMap Place ℕ) → firsts.entries ≡ [] → others.entries ≡ [] → AreNumbered [] firsts others
+numbered_none firsts others none nothing x =
+    ap (λ es. first_or [] x (lookup (is_at (nat_cmp (place_mark x))) es) (get place_cmp others x)) none ∙ ap (λ es. lookup (is_at (place_cmp x)) es) nothing
 
 -- what a choice of a number says of its test
 found_by : (b : Bool) (n : ℕ) → is_some (if b then Some n else None) ≡ true → b ≡ true
@@ -246,11 +327,21 @@ pub path_tie : (a b : Modulepath) → is_at (path_cmp a) b ≡ same_path a b
 path_tie a b =
     one_answer (is_at (path_cmp a) b) (same_path a b) (λ h. subst (λ c. same_path a c ≡ true) (path_exact a b (is_equal (path_cmp a b) h)) (same_path_self a)) (λ h. subst (λ c. is_eq (path_cmp a c) ≡ true) (same_path_is a b h) (ap (λ o. is_eq o) (texts_itself a.components)))
 
--- the same, where the key that is entered is a copy
-pub numbered_by : (list new : List Place) (m n : BTreeMap Place ℕ) (x : Place) (copy : Key) (k : ℕ) → AreNumbered list m → Updates place_cmp m n (record { round = x.round; key = copy }) (Some k) → copy ≡ x.key → k ≡ length list → new ≡ list ++ x ∷ [] → is_listed list x.round x.key ≡ false → AreNumbered new n
-numbered_by list new m n x copy k numbered updates same number is fresh =
+-- where the key that is entered is a copy
+pub numbered_other : (list new : List Place) (firsts : BTreeMap ℕ ℕ) (m n : BTreeMap Place ℕ) (x : Place) (copy : Key) (k : ℕ) → AreNumbered list firsts m → Updates place_cmp m n (record { round = x.round; key = copy }) (Some k) → copy ≡ x.key → k ≡ length list → new ≡ list ++ x ∷ [] → is_listed list x.round x.key ≡ false → AreNumbered new firsts n
+numbered_other list new firsts m n x copy k numbered updates same number is fresh =
     let entered : Updates place_cmp m n (record { round = x.round; key = x.key }) (Some (length list)) = subst (λ j. Updates place_cmp m n (record { round = x.round; key = x.key }) (Some j)) number (subst (λ c. Updates place_cmp m n (record { round = x.round; key = c }) (Some k)) same updates) in
-    subst (λ l. AreNumbered l n) (sym is) (numbered_more list m n x numbered entered fresh)
+    subst (λ l. AreNumbered l firsts n) (sym is) (other_by list firsts m n x numbered entered fresh)
+
+-- where its mark is new
+pub numbered_first : (list new : List Place) (m n : BTreeMap ℕ ℕ) (others : BTreeMap Place ℕ) (x : Place) (mark k : ℕ) → AreNumbered list m others → mark ≡ place_mark x → is_some (get nat_cmp m mark) ≡ false → Updates nat_cmp m n mark (Some k) → k ≡ length list → new ≡ list ++ x ∷ [] → is_listed list x.round x.key ≡ false → AreNumbered new n others
+numbered_first list new m n others x mark k numbered same free updates number is fresh =
+    let entered : Updates nat_cmp m n (place_mark x) (Some (length list)) = subst (λ j. Updates nat_cmp m n (place_mark x) (Some j)) number (subst (λ j. Updates nat_cmp m n j (Some k)) same updates) in
+    subst (λ l. AreNumbered l n others) (sym is) (first_by list m n others x numbered (nothing_at (get nat_cmp m (place_mark x)) (subst (λ j. is_some (get nat_cmp m j) ≡ false) same free)) entered fresh)
+  where
+    nothing_at : (o : Option ℕ) → is_some o ≡ false → o ≡ None
+    nothing_at None h = refl
+    nothing_at (Some j) h = absurd (apart h)
 
 -- the order of texts ties exactly where they are equal
 pub text_tie : (a b : List ℕ) → is_at (text_cmp a) b ≡ bytes_eq a b

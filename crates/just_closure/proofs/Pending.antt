@@ -1,8 +1,7 @@
 -- What the work that is pending comes to.
-use Rattle.std.proofs.Common.{◌≡◌, ℕ, ◌<◌, ◌≤◌, Bool, true, false, List, [], ◌∷◌, ◌++◌, map, length, Option, Some, None, Result, Ok, Err, refl, ap, sym, ◌∙◌, subst, arith}
+use Rattle.std.proofs.Common.{◌≡◌, ℕ, ◌<◌, ◌≤◌, true, false, List, [], ◌∷◌, ◌++◌, append-nil, append_assoc, length, Option, Some, None, Ok, Err, refl, ap, sym, ◌∙◌, subst}
 use Rattle.std.specs.Prelude.{if◌then◌else◌}
 use Rattle.std.proofs.lemmas.Bool.{lt-ltb, le-ltb}
-use Rattle.std.proofs.lemmas.List.{map-append}
 use Rattle.just_lang.specs.declared.key.Key.{Key}
 use Rattle.just_lang.specs.declared.place.Place.{Place}
 use Rattle.just_lang.specs.declared.project.LangError.{LangError}
@@ -10,9 +9,9 @@ use Rattle.just_lang.specs.declared.project.LangError.TheVariants.{ClosureLimit}
 use Rattle.just_closure.specs.declared.walk.Pending.{Pending}
 use Rattle.just_closure.specs.declared.walk.Pending.TheVariants as task
 use Rattle.just_closure.specs.declared.TheConstants.{CLOSURE_LIMIT}
-use Rattle.just_closure.specs.Places.{place, is_listed}
-use Rattle.just_closure.specs.Pending.{stacked, Step, Finishes, Leads, IsRight, AreRight, AreBeside}
-use Rattle.just_closure.specs.Visits.{Visited, Around, priors_in, subsequents_in, begun, placed, next_place, IsNew, Visits}
+use Rattle.just_closure.specs.Places.{place, is_listed, numbers_of}
+use Rattle.just_closure.specs.Pending.{stacked, Step, Finishes, Leads, beside_behind, besides_behind, AreBeside}
+use Rattle.just_closure.specs.Visits.{Visited, Around, priors_in, subsequents_in, begun, placed, next_place, Visits}
 use Rattle.just_closure.specs.declared.walk.Beside.{Beside}
 use Rattle.just_closure.proofs.Grown.{reached, refusal}
 
@@ -52,10 +51,6 @@ join around start r k one mid (Visits.visited list round q us before behind last
     let done : us ≡ [] = cc in
     let last_is = nothing_is around behind round us last more done in
     subst (λ x. Visits around (reached list) round (x ∷ ks) end) same (Visits.visited list round q ks before behind end unlisted first fresh second (subst (λ v. Visits around v round ks end) (sym last_is) rest))
-
--- the keys beside a place
-abbrev pair_of : Beside → Around
-pair_of b = Ok (b.priors, b.subsequents)
 
 -- ---- what is pending
 
@@ -130,10 +125,15 @@ module _ (around : Key → Around) where
       let step : Visits around (placed (reached list) x.round x.key) (Some (length list)) ss (refusal ClosureLimit) = subst (λ v. Visits around v (Some (length list)) ss (refusal ClosureLimit)) (sym (no_room list x.round x.key ge)) (Visits.stopped ClosureLimit (Some (length list)) ss) in
       push ts (task.Settle x ps ss) (Ok list) (Err ClosureLimit) (Err ClosureLimit) (unlisted, step) (refused_all ts ClosureLimit)
 
-  -- a place with the keys around it comes behind the others
-  pub beside_more : (list : List Place) (beside : List Beside) (x : Place) (ps ss : List Key) → AreBeside around list beside → around x.key ≡ Ok (ps, ss) → AreBeside around (list ++ x ∷ []) (beside ++ record { priors = ps; subsequents = ss } ∷ [])
+  -- what stands beside a place that comes behind the others
+  besides_more : (done list : List Place) (x : Place) → besides_behind around done (list ++ x ∷ []) ≡ besides_behind around done list ++ beside_behind around (done ++ list) x ∷ []
+  besides_more done [] x = ap (λ l. beside_behind around l x ∷ []) (sym (append-nil done))
+  besides_more done (y ∷ ys) x =
+      ap (λ bs. beside_behind around done y ∷ bs) (besides_more (done ++ y ∷ []) ys x ∙ ap (λ l. besides_behind around (done ++ y ∷ []) ys ++ beside_behind around l x ∷ []) (append_assoc done (y ∷ []) ys))
+
+  pub beside_more : (list : List Place) (beside : List Beside) (x : Place) (ps ss : List Key) → AreBeside around list beside → around x.key ≡ Ok (ps, ss) → AreBeside around (list ++ x ∷ []) (beside ++ record { priors = numbers_of list x.round ps; subsequents = ss } ∷ [])
   beside_more list beside x ps ss all keys =
-      map-append (λ y. around y.key) list (x ∷ []) ∙ ap (λ us. us ++ around x.key ∷ []) all ∙ ap (λ a. map (λ b. pair_of b) beside ++ a ∷ []) keys ∙ sym (map-append (λ b. pair_of b) beside (record { priors = ps; subsequents = ss } ∷ []))
+      ap (λ bs. bs ++ record { priors = numbers_of list x.round ps; subsequents = ss } ∷ []) all ∙ ap (λ a. besides_behind around [] list ++ record { priors = numbers_of list x.round (priors_in a); subsequents = subsequents_in a } ∷ []) (sym keys) ∙ sym (besides_more [] list x)
 
 -- visits come on one by one from the end
 pub stacked_pop : (ts : List Pending) (r : Option ℕ) (ks : List Key) (k : Key) → stacked ts r (ks ++ k ∷ []) ≡ stacked (ts ++ task.Visit (place r k) ∷ []) r ks

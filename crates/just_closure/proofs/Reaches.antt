@@ -1,5 +1,5 @@
 -- The keys that keys lead to by their dependencies, where each chain of these ends.
-use Rattle.std.proofs.Common.{ℕ, zero, suc, inr, List, ◌∷◌, Option}
+use Rattle.std.proofs.Common.{ℕ, inr, List, ◌∷◌, Option}
 use Rattle.just_lang.specs.declared.key.Key.{Key}
 use Rattle.just_lang.specs.declared.place.Place.{Place}
 use Rattle.just_closure.specs.Places.{IsMember}

@@ -10,7 +10,7 @@ use Rattle.just_closure.specs.declared.walk.Beside.{Beside}
 use Rattle.just_closure.specs.declared.walk.Pending.{Pending}
 use Rattle.just_closure.specs.declared.walk.Pending.TheVariants as task
 use Rattle.just_closure.specs.Pending.{stacked, total, key_of, Finishes, Leads, AreBeside, tasks_within, IsBelow, IsBelowAll, AreBelow, IsRight, AreRight, tasks_of, tasks_from, tasks_left, Proceeds}
-use Rattle.just_closure.specs.Places.{place, is_place, is_listed}
+use Rattle.just_closure.specs.Places.{place, is_place, is_listed, numbers_of}
 use Rattle.just_closure.specs.Visits.{Around, IsRanked, Visits, priors_in, subsequents_in, priors_by, subsequents_by}
 use Rattle.just_closure.proofs.Items.{In, in_contains}
 use Rattle.just_closure.proofs.Numbered.{listed_more}
@@ -223,7 +223,7 @@ module _ (around : Key → Around) (rank : Key → ℕ) where
       subst (λ f. Finishes around (ts ++ task.Settle x ps ss ∷ []) (Ok list) (Err f)) (sym h.0) (over_leads around ts list x ps ss (right_pop list ts (task.Settle x ps ss) right).1.1 h.1)
 
   -- the keys around a key that gets its place
-  pub beside_settled : (ts : List Pending) (list new : List Place) (some all : List Beside) (x : Place) (ps ss : List Key) → AreRight around rank list (ts ++ task.Settle x ps ss ∷ []) → AreBeside around list some → new ≡ list ++ x ∷ [] → all ≡ some ++ record { priors = ps; subsequents = ss } ∷ [] → AreBeside around new all
+  pub beside_settled : (ts : List Pending) (list new : List Place) (some all : List Beside) (x : Place) (ps ss : List Key) → AreRight around rank list (ts ++ task.Settle x ps ss ∷ []) → AreBeside around list some → new ≡ list ++ x ∷ [] → all ≡ some ++ record { priors = numbers_of list x.round ps; subsequents = ss } ∷ [] → AreBeside around new all
   beside_settled ts list new some all x ps ss right beside is are =
       subst (λ l. AreBeside around l all) (sym is) (subst (λ bs. AreBeside around (list ++ x ∷ []) bs) (sym are) (beside_more around list some x ps ss beside (right_pop list ts (task.Settle x ps ss) right).1.0))
 
@@ -241,7 +241,7 @@ module _ (around : Key → Around) (rank : Key → ℕ) where
       subst (λ l. AreRight around rank l us) (sym none) (subst (λ vs. AreRight around rank [] vs) (sym (is ∙ ap (λ ws. stacked ws None ks) nothing)) (right_first ks))
 
   -- a turn that gives a key its place
-  pub turned : (ts : List Pending) (t : Pending) (list new : List Place) (some all : List Beside) (x : Place) (ps ss : List Key) → t ≡ task.Settle x ps ss → AreRight around rank list (ts ++ t ∷ []) → AreBeside around list some → new ≡ list ++ x ∷ [] → all ≡ some ++ record { priors = ps; subsequents = ss } ∷ [] → AreBeside around new all
+  pub turned : (ts : List Pending) (t : Pending) (list new : List Place) (some all : List Beside) (x : Place) (ps ss : List Key) → t ≡ task.Settle x ps ss → AreRight around rank list (ts ++ t ∷ []) → AreBeside around list some → new ≡ list ++ x ∷ [] → all ≡ some ++ record { priors = numbers_of list x.round ps; subsequents = ss } ∷ [] → AreBeside around new all
   turned ts t list new some all x ps ss is right beside = beside_settled ts list new some all x ps ss (subst (λ u. AreRight around rank list (ts ++ u ∷ [])) is right) beside
 
   -- one for which there is no place left

@@ -1,11 +1,11 @@
 -- The visits that are pending, what they lead to, and how many tasks are left.
-use Rattle.std.specs.Prelude.{ℕ, zero, suc, ◌+◌, ◌<◌, ◌≡◌, false, List, [], ◌∷◌, ◌++◌, map, Option, Some, Result, Ok}
+use Rattle.std.specs.Prelude.{ℕ, zero, suc, ◌+◌, ◌<◌, ◌≡◌, false, List, [], ◌∷◌, ◌++◌, Option, Some, Ok}
 use Rattle.just_lang.specs.declared.key.Key.{Key}
 use Rattle.just_lang.specs.declared.place.Place.{Place}
 use Rattle.just_closure.specs.declared.walk.Beside.{Beside}
 use Rattle.just_closure.specs.declared.walk.Pending.{Pending}
 use Rattle.just_closure.specs.declared.walk.Pending.TheVariants as task
-use Rattle.just_closure.specs.Places.{place, is_listed}
+use Rattle.just_closure.specs.Places.{place, is_listed, numbers_of}
 use Rattle.just_closure.specs.Visits.{Visited, Around, priors_by, subsequents_by, placed, next_place, IsNew, Visits}
 
 -- visits of keys in a round, the first of which is done first: the last task is
@@ -38,9 +38,18 @@ module _ (around : Key → Around) where
   abbrev pub Leads : List Pending → List Place → List Pending → List Place → Type 0
   Leads ts list us new = (end : Visited) → Finishes us (Ok new) end → Finishes ts (Ok list) end
 
-  -- the keys around the key of each place
+  -- what stands beside a place behind some others: the numbers of its priors among these, and its subsequents
+  abbrev pub beside_behind : List Place → Place → Beside
+  beside_behind done x = record { priors = numbers_of done x.round (priors_by around x.key); subsequents = subsequents_by around x.key }
+
+  -- beside each place, where some stand before them all
+  abbrev pub besides_behind : List Place → List Place → List Beside
+  besides_behind done [] = []
+  besides_behind done (x ∷ xs) = beside_behind done x ∷ besides_behind (done ++ x ∷ []) xs
+
+  -- that stands beside the places
   abbrev pub AreBeside : List Place → List Beside → Type 0
-  AreBeside list beside = map (λ x. around x.key) list ≡ map (λ b. Ok (b.priors, b.subsequents)) beside
+  AreBeside list beside = beside ≡ besides_behind [] list
 
   -- How many tasks the visit of a key comes to, where no chain of keys around keys is longer than that: two of its own, and those
   -- of the keys around it.

@@ -1,6 +1,6 @@
 -- The visits of the keys that a request needs, in the order of one thread. A visit goes to the priors of a key first, in the
 -- same round, then the key gets the next place, then come its subsequents, in the round that its place names.
-use Rattle.std.specs.Prelude.{ℕ, ◌≡◌, ◌<◌, nat_lt, Bool, true, false, if◌then◌else◌, List, [], ◌∷◌, ◌++◌, length, Contains, Option, Some, None, Result, Ok, Err}
+use Rattle.std.specs.Prelude.{ℕ, ◌≡◌, ◌<◌, nat_lt, true, false, if◌then◌else◌, List, [], ◌∷◌, ◌++◌, length, Contains, Option, Some, Result, Ok, Err}
 use Rattle.just_closure.specs.declared.TheConstants.{CLOSURE_LIMIT}
 use Rattle.just_lang.specs.declared.key.Key.{Key}
 use Rattle.just_lang.specs.declared.place.Place.{Place}

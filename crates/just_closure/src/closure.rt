@@ -2,13 +2,14 @@
 
 ghost use Rattle.std.specs.Prelude.{◌≡◌, ◌≢◌, ◌≤◌, [], length, None, Ok, Err, IfOk, IfErr};
 ghost use Rattle.just_lang.specs.declared.project.LangError.{LangError};
-ghost use Rattle.just_closure.specs.Closures.{IsClosureOf, node_beside, nodes_beside};
-ghost use Rattle.just_closure.specs.Places.{number_of, numbers_of};
+ghost use Rattle.just_closure.specs.Closures.{IsClosureOf, nodes_beside, numbers_beside, nodes_with};
+ghost use Rattle.just_closure.specs.Places.{numbers_of};
 ghost use Rattle.just_closure.specs.Ran.{places_of};
 ghost use Rattle.just_closure.specs.Visits.{IsRanked, Visits};
 ghost use Rattle.just_closure.specs.WellFormed.{IsWellFormed};
 
-use super::copies::{copy_of_key, copy_of_keys};
+use super::copies::copy_of_keys;
+use super::number::numbers;
 use super::walk::{Beside, Surroundings, Walked, walk};
 use super::{CLOSURE_LIMIT, Ran};
 use just_lang::project::LangError;
@@ -37,86 +38,62 @@ pub fn closure_of<S: Surroundings>(
 }
 
 /// The nodes at the places that a walk gave.
+#[tactic(auto, using(crate::proofs::Popped::nodes_with_numbers, crate::proofs::Popped::as_many_numbered))]
 fn nodes_walked(alloc: Global, walked: Walked) -> Result<Seq<Node>, NoMemory>
     requires beside { length walked.beside.items ≡ length (places_of walked.ran) }
     requires short { length (places_of walked.ran) ≤ CLOSURE_LIMIT }
     ensures { IfOk result (λ nodes. nodes ≡ nodes_beside (places_of walked.ran) 0 (places_of walked.ran) walked.beside.items) }
 {
     let Walked { ran, beside } = walked;
-    nodes_of(alloc, &ran, beside)
+    let numbers = all_numbers(alloc, &ran, beside)?;
+    nodes_of(alloc, ran.into_places(), numbers)
 }
 
-/// The nodes at the places of a register. What stands beside each place is used up from the end on.
-#[tactic(auto, using(crate::proofs::Popped::node_popped, crate::proofs::Popped::nodes_popped))]
-fn nodes_of(alloc: Global, ran: &Ran, beside: Vec<Beside>) -> Result<Seq<Node>, NoMemory>
-    requires beside { length beside.items ≡ length (places_of ran.now) }
+/// The numbers of the keys around the key of each place. What stands beside each place is used up from the end on.
+#[tactic(auto, using(crate::proofs::Popped::numbers_popped))]
+fn all_numbers(
+    alloc: Global,
+    ran: &Ran,
+    beside: Vec<Beside>,
+) -> Result<Vec<(Seq<u32>, Seq<u32>)>, NoMemory>
+    requires beside { length beside.items ≤ CLOSURE_LIMIT }
     requires short { length (places_of ran.now) ≤ CLOSURE_LIMIT }
-    ensures { IfOk result (λ nodes. nodes ≡ nodes_beside (places_of ran.now) 0 (places_of ran.now) beside.items) }
+    ensures { IfOk result (λ all. all.items ≡ numbers_beside (places_of ran.now) 0 beside.items) }
 {
-    let places = ran.places();
     let mut left = beside;
-    let mut nodes = Vec::with_capacity(alloc, places.len())?;
+    let mut all = Vec::with_capacity(alloc, left.len())?;
     'places: while let Some(beside) = left.pop() {
-        let at = left.len();
-        nodes.push(node(alloc, ran, at as u32, &places[at], beside)?)?;
+        let number = left.len() as u32;
+        let subsequents = numbers(alloc, ran, Some(number), beside.subsequents)?;
+        all.push((beside.priors, subsequents))?;
+    }
+    all.reverse();
+    Ok(all)
+}
+
+/// The nodes at places with the numbers of the keys around theirs. Both are used up from the end on.
+#[tactic(auto, using(crate::proofs::Popped::none_popped))]
+fn nodes_of(
+    alloc: Global,
+    places: Vec<Place>,
+    numbers: Vec<(Seq<u32>, Seq<u32>)>,
+) -> Result<Seq<Node>, NoMemory>
+    requires even { length numbers.items ≡ length places.items }
+    ensures { IfOk result (λ nodes. nodes ≡ nodes_with places.items numbers.items) }
+{
+    let mut places = places;
+    let mut numbers = numbers;
+    let mut nodes = Vec::with_capacity(alloc, places.len())?;
+    'places: while let Some(place) = places.pop() {
+        if let Some((priors, subsequents)) = numbers.pop() {
+            nodes.push(Node {
+                round: place.round,
+                key: place.key,
+                priors,
+                subsequents,
+            })?;
+        }
     }
     nodes.reverse();
     Ok(Seq::from(nodes))
-}
-
-/// The node at a place, which has that number.
-fn node(
-    alloc: Global,
-    ran: &Ran,
-    number: u32,
-    place: &Place,
-    beside: Beside,
-) -> Result<Node, NoMemory>
-    requires short { length (places_of ran.now) ≤ CLOSURE_LIMIT }
-    ensures { IfOk result (λ x. x ≡ node_beside (places_of ran.now) number place.now beside) }
-{
-    let Beside {
-        priors,
-        subsequents,
-    } = beside;
-    let priors = numbers(alloc, ran, place.round, priors)?;
-    let subsequents = numbers(alloc, ran, Some(number), subsequents)?;
-    Ok(Node {
-        round: place.round,
-        key: copy_of_key(alloc, &place.key)?,
-        priors,
-        subsequents,
-    })
-}
-
-/// The numbers of keys in a round. The keys are used up from the end on.
-#[tactic(auto, using(crate::proofs::Popped::number_popped))]
-fn numbers(
-    alloc: Global,
-    ran: &Ran,
-    round: Option<u32>,
-    keys: Seq<Key>,
-) -> Result<Seq<u32>, NoMemory>
-    requires short { length (places_of ran.now) ≤ CLOSURE_LIMIT }
-    ensures { IfOk result (λ numbers. numbers ≡ numbers_of (places_of ran.now) round keys) }
-{
-    let mut keys = keys.into_vec();
-    let mut numbers = Vec::with_capacity(alloc, keys.len())?;
-    'keys: while let Some(key) = keys.pop() {
-        numbers.push(number(ran, round, key))?;
-    }
-    numbers.reverse();
-    Ok(Seq::from(numbers))
-}
-
-/// The number of a key in a round; where it has none, the number of places.
-#[tactic(auto, using(crate::proofs::Numbered::found_number, crate::proofs::Numbered::absent_number))]
-fn number(ran: &Ran, round: Option<u32>, key: Key) -> u32
-    requires short { length (places_of ran.now) ≤ CLOSURE_LIMIT }
-    ensures { result ≡ number_of (places_of ran.now) round key }
-{
-    match ran.find(&Place { round, key }) {
-        Some(number) => number,
-        None => ran.places().len() as u32,
-    }
 }

@@ -3,12 +3,15 @@
 
 mod closure;
 mod copies;
+mod mark;
+mod number;
 mod ran;
 mod register;
 mod walk;
 
 pub use closure::closure_of;
 pub use copies::copy_of_path;
+pub use mark::path_mark;
 pub use ran::Ran;
 pub use walk::Surroundings;
 

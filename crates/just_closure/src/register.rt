@@ -1,12 +1,13 @@
 //! The calls of a register: the number of a key, and what is registered.
 
-ghost use Rattle.std.specs.Prelude.{◌≡◌, ◌++◌, [], ◌∷◌, length, false, IfOk, OnOk, OnErr};
-ghost use Rattle.just_closure.specs.Numbers.{number_in, AreNumbered};
+ghost use Rattle.std.specs.Prelude.{◌≡◌, ◌++◌, [], ◌∷◌, length, false, slice_get, IfOk, OnOk, OnErr};
+ghost use Rattle.just_closure.specs.Numbers.{number_in, is_there, recorded, AreNumbered};
 ghost use Rattle.just_closure.specs.Places.{is_listed, number_of, places_with};
 ghost use Rattle.just_closure.specs.Ran.{places_of};
 
 use super::Ran;
 use super::copies::copy_of_key;
+use super::mark::place_mark;
 use super::ran::Numbers;
 use just_lang::{Key, Place};
 use just_path::{NoMemory, TryClone};
@@ -20,7 +21,8 @@ impl Ran {
     {
         let inside = Numbers {
             places: Vec::new(alloc),
-            numbers: BTreeMap::new(alloc),
+            firsts: BTreeMap::new(alloc),
+            others: BTreeMap::new(alloc),
         };
         Ran { inside }
     }
@@ -44,7 +46,7 @@ impl Ran {
     pub(crate) fn find(&self, place: &Place) -> Option<u32>
         ensures { result ≡ number_in (places_of self.now) place.now.round place.now.key }
     {
-        self.inside.numbers.get(place).copied()
+        self.inside.find(place)
     }
 
     /// Gives a new place the next number, and answers it.
@@ -63,28 +65,63 @@ impl Ran {
     {
         self.inside.places.as_slice()
     }
+
+    /// The places in the order of their numbers, out of the register.
+    pub(crate) fn into_places(self) -> Vec<Place>
+        ensures { result.items ≡ places_of self }
+    {
+        let Ran { inside } = self;
+        let Numbers { places, .. } = inside;
+        places
+    }
 }
 
 impl Numbers {
+    /// Whether a place stands at that number.
+    fn is_there(&self, place: &Place, number: u32) -> bool
+        ensures { result ≡ is_there place.now (slice_get self.now.places.items number) }
+    {
+        match self.places.as_slice().get(number as usize) {
+            Some(found) => place.cmp(found).is_eq(),
+            None => false,
+        }
+    }
+
+    /// The number of a place, where it has one.
+    fn find(&self, place: &Place) -> Option<u32>
+        ensures { result ≡ recorded self.now.places.items self.now.firsts self.now.others place.now }
+    {
+        if let Some(number) = self.firsts.get(&place_mark(place)).copied() {
+            if self.is_there(place, number) {
+                return Some(number);
+            }
+        }
+        self.others.get(place).copied()
+    }
+
     /// Gives a new place the next number, and answers it.
-    #[tactic(auto, using(crate::proofs::Numbered::numbered_more))]
     fn add(&mut self, place: Place) -> Result<u32, NoMemory>
-        requires numbered { AreNumbered self.old.places.items self.old.numbers }
+        requires numbered { AreNumbered self.old.places.items self.old.firsts self.old.others }
         requires new { is_listed self.old.places.items place.round place.key ≡ false }
         ensures number { IfOk result (λ n. n ≡ length self.old.places.items) }
         ensures places { OnOk result (self.new.places.items ≡ self.old.places.items ++ place ∷ []) }
         ensures err { OnErr result (self.new.places.items ≡ self.old.places.items) }
-        ensures numbered { AreNumbered self.new.places.items self.new.numbers }
+        ensures numbered { AreNumbered self.new.places.items self.new.firsts self.new.others }
     {
         let Ok(number) = u32::try_from(self.places.len()) else {
             return Err(NoMemory);
         };
-        let copy = Place {
-            round: place.round,
-            key: copy_of_key(*self.places.allocator(), &place.key)?,
-        };
+        let mark = place_mark(&place);
         self.places.reserve(1)?;
-        self.numbers.insert(copy, number)?;
+        if self.firsts.contains_key(&mark) {
+            let copy = Place {
+                round: place.round,
+                key: copy_of_key(*self.places.allocator(), &place.key)?,
+            };
+            self.others.insert(copy, number)?;
+        } else {
+            self.firsts.insert(mark, number)?;
+        }
         self.places.push_reserved(place);
         Ok(number)
     }

@@ -4,11 +4,12 @@ ghost use Rattle.std.specs.Prelude.{ℕ, ◌≡◌, ◌≢◌, ◌<◌, ◌≤�
 ghost use Rattle.just_lang.specs.declared.project.LangError.{LangError};
 ghost use Rattle.just_lang.specs.declared.key.Key.{Key};
 ghost use Rattle.just_closure.specs.Pending.{stacked, Finishes, AreRight, AreBeside, Proceeds};
-ghost use Rattle.just_closure.specs.Places.{is_listed};
+ghost use Rattle.just_closure.specs.Places.{is_listed, numbers_of};
 ghost use Rattle.just_closure.specs.Ran.{places_of};
 ghost use Rattle.just_closure.specs.Visits.{Around, IsRanked, Visits};
 
 use super::copies::copy_of_keys;
+use super::number::numbers;
 use super::{CLOSURE_LIMIT, Ran};
 use just_lang::project::LangError;
 use just_lang::{Key, Place};
@@ -33,10 +34,10 @@ pub trait Surroundings {
         ensures refused { IfErr result (λ e. e ≢ LangError.NoMemory → around self.now key.now ≡ Err e) };
 }
 
-/// The keys around the key of a place.
+/// What stands beside a place: the numbers of the priors of its key, and the key's subsequents.
 #[derive(Drop)]
 pub(crate) struct Beside {
-    pub(crate) priors: Seq<Key>,
+    pub(crate) priors: Seq<u32>,
     pub(crate) subsequents: Seq<Key>,
 }
 
@@ -117,7 +118,7 @@ fn settle(
     requires new { is_listed (places_of ran.old) place.round place.key ≡ false }
     ensures room { OnOk result (length (places_of ran.old) < CLOSURE_LIMIT) }
     ensures places { OnOk result (places_of ran.new ≡ places_of ran.old ++ place ∷ []) }
-    ensures beside { OnOk result (beside.new.items ≡ beside.old.items ++ record { priors = priors; subsequents = subsequents } ∷ []) }
+    ensures beside { OnOk result (beside.new.items ≡ beside.old.items ++ record { priors = numbers_of (places_of ran.old) place.round priors; subsequents = subsequents } ∷ []) }
     ensures visits { OnOk result (pending.new.items ≡ stacked pending.old.items (Some (length (places_of ran.old))) subsequents) }
     ensures refused { IfErr result (λ e. e ≢ LangError.NoMemory → (e ≡ LangError.ClosureLimit) × (CLOSURE_LIMIT ≤ length (places_of ran.old))) }
 {
@@ -125,6 +126,7 @@ fn settle(
         return Err(LangError::ClosureLimit);
     }
     let later = copy_of_keys(alloc, subsequents.as_slice())?;
+    let priors = numbers(alloc, ran, place.round, priors)?;
     beside.push(Beside {
         priors,
         subsequents,
@@ -187,7 +189,7 @@ fn run<S: Surroundings>(
     Ok(())
 }
 
-/// The places that a walk gave, and the keys around the key of each.
+/// The places that a walk gave, and what stands beside each.
 #[derive(Drop)]
 pub(crate) struct Walked {
     pub(crate) ran: Ran,

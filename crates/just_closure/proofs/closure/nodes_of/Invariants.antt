@@ -1,14 +1,13 @@
 -- The nodes of the places that are left, and those so far.
-use Rattle.std.proofs.Common.{◌≡◌, ◌≤◌, ◌++◌, length, reverse}
-use Rattle.just_closure.specs.Closures.{nodes_beside}
-use Rattle.just_closure.specs.Ran.{places_of}
+use Rattle.std.proofs.Common.{◌≡◌, ◌++◌, length, reverse}
+use Rattle.just_closure.specs.Closures.{nodes_with}
 use Rattle.just_closure.proofs.closure.nodes_of.Given as goal
 
 abbrev pub invariant-places : goal.invariant-places
 invariant-places l = record {
-  within : length l.left.items ≤ length (places_of l.ran);
-  nodes : nodes_beside (places_of l.ran) 0 (places_of l.ran) l.left.items ++ reverse l.nodes.items ≡ nodes_beside (places_of l.ran) 0 (places_of l.ran) l.initial.left.items;
+  even : length l.numbers.items ≡ length l.places.items;
+  nodes : nodes_with l.places.items l.numbers.items ++ reverse l.nodes.items ≡ nodes_with l.initial.places.items l.initial.numbers.items;
 }
 
 abbrev pub decreases-places : goal.decreases-places
-decreases-places l = length l.left.items
+decreases-places l = length l.places.items

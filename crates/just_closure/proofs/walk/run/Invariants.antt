@@ -1,5 +1,5 @@
 -- Whatever the work that is left leads to, the work at the beginning leads to; there are fewer tasks left each time.
-use Rattle.std.proofs.Common.{◌≡◌, ◌≤◌, length}
+use Rattle.std.proofs.Common.{◌≤◌, length}
 use Rattle.just_closure.specs.declared.TheConstants.{CLOSURE_LIMIT}
 use Rattle.just_closure.specs.Pending.{Leads, AreRight, AreBeside, tasks_left}
 use Rattle.just_closure.specs.Ran.{places_of}

@@ -1,5 +1,5 @@
 -- The work at the beginning.
-use Rattle.std.proofs.Common.{rules, ◌≡◌, ◌≢◌, [], None, Ok, Err}
+use Rattle.std.proofs.Common.{rules, ◌≢◌, [], None, Ok, Err}
 use Rattle.just_lang.specs.declared.project.LangError.TheVariants.{NoMemory}
 use Rattle.just_closure.specs.Ran.{places_of}
 use Rattle.just_closure.specs.Visits.{Visits}

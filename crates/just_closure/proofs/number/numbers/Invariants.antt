@@ -2,7 +2,7 @@
 use Rattle.std.proofs.Common.{◌≡◌, ◌++◌, length, reverse}
 use Rattle.just_closure.specs.Places.{numbers_of}
 use Rattle.just_closure.specs.Ran.{places_of}
-use Rattle.just_closure.proofs.closure.numbers.Given as goal
+use Rattle.just_closure.proofs.number.numbers.Given as goal
 
 abbrev pub invariant-keys : goal.invariant-keys
 invariant-keys l =

@@ -1,0 +1,2 @@
+-- Laws of what surrounds a justfile.
+pub mod Laws

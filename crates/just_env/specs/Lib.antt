@@ -1,0 +1,2 @@
+-- The definitions of what surrounds a justfile.
+pub mod Answers

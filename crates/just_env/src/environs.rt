@@ -1,0 +1,26 @@
+//! The environment of a host.
+
+ghost use Rattle.std.specs.Prelude.{◌≡◌, ◌++◌};
+ghost use Rattle.just_env.specs.Answers.{Answers, GivesEnviron, told_entries};
+
+use super::SearchError;
+use just_outside::{Host, HostFault};
+use just_path::{Environ, Utf8PathBuf};
+use std::alloc::Global;
+
+/// The environment of a host. A failure has the empty path.
+pub fn environment<H: Host>(alloc: Global, host: &mut H) -> Result<Environ, SearchError>
+    ensures environ { Answers (GivesEnviron (H.world host.old)) result }
+    ensures entries { H.entries host.new ≡ H.entries host.old ++ told_entries result }
+    ensures world { H.world host.new ≡ H.world host.old }
+    ensures spare { H.spare host.new ≡ H.spare host.old }
+{
+    match host.environ() {
+        Ok(environ) => Ok(environ),
+        Err(HostFault::NoMemory) => Err(SearchError::NoMemory),
+        Err(io) => Err(SearchError::FilesystemIo {
+            path: Utf8PathBuf::new(alloc),
+            io,
+        }),
+    }
+}
