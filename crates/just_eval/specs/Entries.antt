@@ -1,15 +1,18 @@
 -- A recipe that was found, with what its expressions see.
 use Rattle.std.specs.Prelude.{◌≡◌, List, Option, Some, None, find, if◌then◌else◌}
-use Rattle.std.specs.BTreeMap.{BTreeMap, get}
+use Rattle.std.specs.BTreeMap.{get}
+use Rattle.std.specs.Ordering.{nat_cmp}
 use Rattle.just_path.specs.Environ.{or_else}
 use Rattle.just_lang.specs.declared.recipe.Modulepath.{Modulepath}
 use Rattle.just_lang.specs.declared.scope.Scopes.{Scopes}
 use Rattle.just_lang.specs.Keys.{same_path}
+use Rattle.just_closure.specs.Marks.{path_mark}
 use Rattle.just_closure.specs.Numbers.{path_cmp}
 use Rattle.just_value.specs.Scopes.{pairs_for, scope_of}
 use Rattle.just_eval.specs.Dependencies.{levels_in}
 use Rattle.just_value.specs.Modules.{path_of, Located, located_at}
 use Rattle.just_eval.specs.declared.entry.Entry.{Entry}
+use Rattle.just_eval.specs.declared.entry.Index.{Index}
 
 -- the recipe with its module
 abbrev pub located_of : Entry → Located
@@ -27,14 +30,23 @@ IsFound scopes None (Some l) = ⊥
 IsFound scopes (Some f) None = ⊥
 IsFound scopes (Some f) (Some l) = (located_of f ≡ l) × Sees scopes f
 
--- the map finds for each path the first of these recipes that has it
-abbrev pub AreEntries : Scopes → List Located → BTreeMap Modulepath Entry → Type 0
-AreEntries scopes all found = (path : Modulepath) → IsFound scopes (get path_cmp found path) (located_at all path)
+-- the entry at the mark of a path, where it has the path, and else the other one
+abbrev pub first_or : Modulepath → Option Entry → Option Entry → Option Entry
+first_or path None other = other
+first_or path (Some e) other = if same_path e.recipe.now.path path then Some e else other
 
--- the map has the first of these entries of each path
-abbrev pub AreFirst : List Entry → BTreeMap Modulepath Entry → Type 0
-AreFirst all index = (path : Modulepath) → get path_cmp index path ≡ find (λ e. same_path e.recipe.now.path path) all
+-- the entry of a path
+abbrev pub indexed : Index → Modulepath → Option Entry
+indexed index path = first_or path (get nat_cmp index.firsts (path_mark path)) (get path_cmp index.others path)
 
--- the later map has the entry under its path, where the earlier has nothing there, and else what the earlier has
-abbrev pub Enters : BTreeMap Modulepath Entry → Entry → BTreeMap Modulepath Entry → Type 0
-Enters earlier e later = (path : Modulepath) → get path_cmp later path ≡ or_else (get path_cmp earlier path) (if same_path e.recipe.now.path path then Some e else None)
+-- the index finds for each path the first of these recipes that has it
+abbrev pub AreEntries : Scopes → List Located → Index → Type 0
+AreEntries scopes all index = (path : Modulepath) → IsFound scopes (indexed index path) (located_at all path)
+
+-- the index has the first of these entries of each path
+abbrev pub AreFirst : List Entry → Index → Type 0
+AreFirst all index = (path : Modulepath) → indexed index path ≡ find (λ e. same_path e.recipe.now.path path) all
+
+-- the later index has the entry under its path, where the earlier has nothing there, and else what the earlier has
+abbrev pub Enters : Index → Entry → Index → Type 0
+Enters earlier e later = (path : Modulepath) → indexed later path ≡ or_else (indexed earlier path) (if same_path e.recipe.now.path path then Some e else None)

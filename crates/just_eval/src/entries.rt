@@ -14,7 +14,7 @@ use just_value::pairs_for;
 use std::alloc::Global;
 
 /// The levels of a module's scope.
-fn levels<'p>(scopes: &'p Scopes, path: &Modulepath) -> &'p [Level]
+pub fn levels<'p>(scopes: &'p Scopes, path: &Modulepath) -> &'p [Level]
     ensures { result.now ≡ levels_in (scope_of scopes.now path.now) }
 {
     'scopes: for scope in scopes.scopes.as_slice() {

@@ -1,8 +1,9 @@
-//! Recipes with what their expressions see.
+//! Recipes with what their expressions see, and the first ones of their paths.
 
 use just_lang::project::Justfile;
-use just_lang::{Level, Recipe};
+use just_lang::{Level, Modulepath, Recipe};
 use just_path::Text;
+use std::collections::BTreeMap;
 
 /// A recipe, the module that it stands in, and what the expressions in it see of that module.
 #[derive(Clone, Copy)]
@@ -13,4 +14,14 @@ pub struct Entry<'p> {
     pub levels: &'p [Level],
     /// The dotenv pairs of the module.
     pub pairs: &'p [(Text, Text)],
+}
+
+/// The first recipe of each path. Most are found by the marks of their paths alone; those of which another path has the mark are
+/// kept by their paths. Looking one up takes the logarithm of their number.
+#[derive(Drop)]
+pub struct Index<'p> {
+    /// The first recipe of each mark.
+    pub firsts: BTreeMap<u64, Entry<'p>>,
+    /// The first recipe of each path behind the first one of its mark.
+    pub others: BTreeMap<Modulepath, Entry<'p>>,
 }

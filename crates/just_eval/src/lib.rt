@@ -8,11 +8,13 @@ mod closing;
 mod entries;
 mod entry;
 mod given;
+mod index;
 mod request;
 
 pub use argument::text_in_recipe;
 pub use around::dependencies;
 pub use closing::closure;
-pub use entry::Entry;
+pub use entries::levels;
+pub use entry::{Entry, Index};
 pub use just_closure::{CLOSURE_LIMIT, Ran};
 pub use request::Request;

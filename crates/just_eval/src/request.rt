@@ -1,23 +1,23 @@
 //! A project with the scopes of its modules, in which the recipes of keys are looked up.
 
-ghost use Rattle.std.specs.Prelude.{◌≡◌, ◌∷◌, [], map, IfOk, OnOk};
+ghost use Rattle.std.specs.Prelude.{◌≡◌, ◌∷◌, [], map, IfOk};
 ghost use Rattle.just_value.specs.Answers.{Gives, each};
 ghost use Rattle.just_eval.specs.Dependencies.{key_of, deps};
-ghost use Rattle.just_eval.specs.Entries.{located_of, Sees, IsFound, Enters, AreFirst};
+ghost use Rattle.just_eval.specs.Entries.{located_of, Sees, IsFound};
 ghost use Rattle.just_eval.specs.Requests.{IsIndexed};
 ghost use Rattle.just_value.specs.Modules.{recipe_at, AreModules};
 
 use super::argument::{arguments, shares};
 use super::entries::entries;
-use super::entry::Entry;
+use super::entry::{Entry, Index};
 use super::given::values_given;
+use super::index::index_of;
 use just_closure::copy_of_path;
 use just_lang::project::{Justfile, LangError};
 use just_lang::{Dependency, Key, Modulepath, Scopes, Value};
 use just_path::{NoMemory, Seq};
 use just_value::all_modules;
 use std::alloc::Global;
-use std::collections::BTreeMap;
 
 /// A project with the scopes of its modules. Looking a recipe up takes the logarithm of their number.
 #[derive(Drop)]
@@ -25,41 +25,11 @@ pub struct Request<'p> {
     pub modules: Vec<&'p Justfile>,
     pub scopes: &'p Scopes,
     /// The first recipe of each path.
-    pub entries: BTreeMap<Modulepath, Entry<'p>>,
-}
-
-/// Enters a recipe under its path, where the path is new. The path is looked for once: where it isn't new, its first recipe,
-/// which the entry has replaced, is put back.
-fn enter<'p>(
-    alloc: Global,
-    index: &mut BTreeMap<Modulepath, Entry<'p>>,
-    entry: &Entry<'p>,
-) -> Result<(), NoMemory>
-    ensures { OnOk result (Enters index.old entry.now index.new) }
-{
-    let path = copy_of_path(alloc, &entry.recipe.path)?;
-    if let Some(first) = index.insert(path, *entry)? {
-        let again = copy_of_path(alloc, &entry.recipe.path)?;
-        index.insert(again, first)?;
-    }
-    Ok(())
-}
-
-/// The first entry of each path.
-#[tactic(auto, using(crate::proofs::EntryLists::none_entered, crate::proofs::EntryLists::one_entered, crate::proofs::EntryLists::all_entered))]
-fn index<'p>(alloc: Global, all: &[Entry<'p>]) -> Result<BTreeMap<Modulepath, Entry<'p>>, NoMemory>
-    ensures { IfOk result (λ index. AreFirst all.now index) }
-{
-    let mut index = BTreeMap::new(alloc);
-    'entries: for entry in all {
-        enter(alloc, &mut index, entry)?;
-    }
-    Ok(index)
+    pub entries: Index<'p>,
 }
 
 impl<'p> Request<'p> {
     /// Looks through a justfile and those within it.
-    #[tactic(auto, using(crate::proofs::EntryLists::entries_found))]
     pub fn new(
         alloc: Global,
         justfile: &'p Justfile,
@@ -71,7 +41,7 @@ impl<'p> Request<'p> {
     {
         let modules = all_modules(alloc, justfile)?;
         let all = entries(alloc, scopes, modules.as_slice())?;
-        let entries = index(alloc, all.as_slice())?;
+        let entries = index_of(alloc, all.as_slice())?;
         Ok(Request {
             modules,
             scopes,
@@ -84,7 +54,7 @@ impl<'p> Request<'p> {
         requires { IsIndexed self.now }
         ensures { IsFound self.now.scopes.now result (recipe_at (map (λ m. m.now) self.now.modules.items) path.now) }
     {
-        self.entries.get(path).copied()
+        self.entries.find(path)
     }
 
     /// The key of a dependency of a recipe whose parameters have these values.

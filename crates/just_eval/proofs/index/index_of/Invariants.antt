@@ -1,6 +1,6 @@
 -- The first entries so far are in the index.
 use Rattle.just_eval.proofs.EntryLists.{Indexes}
-use Rattle.just_eval.proofs.request.index.Given as goal
+use Rattle.just_eval.proofs.index.index_of.Given as goal
 
 abbrev pub invariant-entries : goal.invariant-entries
 invariant-entries l =

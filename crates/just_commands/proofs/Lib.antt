@@ -1,0 +1,3 @@
+-- The lemmas of commands.
+pub mod Lists
+pub mod Given
