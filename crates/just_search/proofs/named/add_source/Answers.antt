@@ -1,0 +1,11 @@
+-- A source names what its items name; one whose text is refused names nothing.
+use Rattle.just_search.proofs.Naming.{adds_tree, adds_no_tree}
+use Rattle.just_search.proofs.named.add_source.Goals as goal
+
+pub returns-in-Err-clause-added : goal.returns-in-Err-clause-added
+returns-in-Err-clause-added g c =
+    adds_no_tree (g.H.Host.world c.args.host.now) c.args.environ.now.pairs c.args.source.now _ c.args.found.now.items (rw c.in-Err.is at c.in_ok-tree.ensures)
+
+pub returns-clause-added : goal.returns-clause-added
+returns-clause-added g c =
+    adds_tree (g.H.Host.world c.args.host.now) c.args.environ.now.pairs c.args.source.now c.in-Ok.items c.as_slice.result.now c.args.found.now.items c.add_items.new.found.items c.add_items.result (rw c.in-Ok.is at c.in_ok-tree.ensures) c.as_slice.ensures c.add_items.ensures.added
