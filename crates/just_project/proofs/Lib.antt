@@ -1,0 +1,5 @@
+-- The lemmas of the justfile of a project.
+pub mod BeforeLaws
+pub mod TableLaws
+pub mod Outermost
+pub mod AssembledLaws
