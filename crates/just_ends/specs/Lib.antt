@@ -1,0 +1,2 @@
+-- The definitions of what ends.
+pub mod Projects
