@@ -1,0 +1,4 @@
+-- The lemmas of tangling.
+pub mod Fronts
+pub mod Running
+pub mod Blocks

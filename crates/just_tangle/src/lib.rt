@@ -1,0 +1,7 @@
+//! A justfile that stands in the code blocks of a markdown text.
+#![tactic(auto)]
+
+mod fence;
+mod markdown;
+
+pub use markdown::tangle;
