@@ -1,10 +1,8 @@
 //! Compares the layouts of projects with rows that an independent reading of the rules on files gave. Each argument names
 //! a file of such rows, one JSON object a line: `files` has a text by its path, of which `/p/justfile` is the root, and
-//! `error` is the message of the first rule on files that is broken, or null. There is no home folder. The files are read as
-//! they stand in the row, and once more by a `Loader` over a host that holds them.
+//! `error` is the message of the first rule on files that is broken, or null. There is no home folder.
 #![tactic(auto)]
 
-mod loaded;
 mod row;
 mod wrong;
 

@@ -1,7 +1,6 @@
 //! Rows of projects.
 
 use super::Wrong;
-use super::loaded::agrees_loaded;
 use just_lang::Source;
 use just_layout::{LayoutError, lay};
 use just_path::{Environ, Seq, Text, Utf8Path};
@@ -102,14 +101,16 @@ fn message(alloc: Global, error: &LayoutError) -> Result<String, Wrong> {
     }
 }
 
-/// Whether a row agrees with the answer of `lay` over some sources. No clause: what it answers is seen by comparing with the
-/// rows, and no theorem stands on it.
-pub fn agrees_with(alloc: Global, row: &Value, sources: &[Source]) -> Result<bool, Wrong> {
+/// Whether a row agrees with the answer of `lay`. No clause: what it answers is seen by comparing with the rows, and no
+/// theorem stands on it.
+pub fn agrees(alloc: Global, row: &str) -> Result<bool, Wrong> {
+    let row = value_of(alloc, row)?;
+    let sources = sources(alloc, &row)?;
     let environ = Environ {
         pairs: Seq::new(alloc),
     };
     let wanted = row.get("error");
-    match lay(alloc, sources, &environ) {
+    match lay(alloc, sources.as_slice(), &environ) {
         Ok(_) => Ok(matches!(wanted, Some(Value::Null))),
         Err(error) => {
             let found = message(alloc, &error)?;
@@ -119,15 +120,4 @@ pub fn agrees_with(alloc: Global, row: &Value, sources: &[Source]) -> Result<boo
             }
         }
     }
-}
-
-/// Whether a row agrees with the answer of `lay` over its files, and over those that a loader finds among them. No clause: what
-/// it answers is seen by comparing with the rows, and no theorem stands on it.
-pub fn agrees(alloc: Global, row: &str) -> Result<bool, Wrong> {
-    let row = value_of(alloc, row)?;
-    let sources = sources(alloc, &row)?;
-    if !agrees_with(alloc, &row, sources.as_slice())? {
-        return Ok(false);
-    }
-    agrees_loaded(alloc, &row)
 }
