@@ -25,17 +25,17 @@ use Rattle.just_sched.specs.Start.{Start, IsKept, run_of}
 use Rattle.just_sched.proofs.Laws.{nothing_started}
 use Rattle.just_cli.specs.declared.ended.Failure.{Failure}
 use Rattle.just_cli.specs.declared.ended.Report.{Report}
-use Rattle.just_cli.specs.declared.error.Error.{Error}
-use Rattle.just_cli.specs.declared.error.Error.TheVariants as error
-use Rattle.just_cli.specs.Caused.{IsCaused, is_failed_call, is_missed_call, is_fault, is_miss}
-use Rattle.just_cli.specs.Faults.{entries_of}
+use Rattle.just_errors.specs.declared.error.Error.{Error}
+use Rattle.just_errors.specs.declared.error.Error.TheVariants as error
+use Rattle.just_cli.specs.Caused.{IsCaused}
+use Rattle.just_cli.specs.Faults.{entries_of, is_failed_call, is_missed_call, is_fault, is_miss}
 use Rattle.just_cli.proofs.Caused.{memory_alone}
-use Rattle.just_cli.specs.Record.{Stretches, EndsIll, EndsBefore, IsQuiet}
+use Rattle.just_cli.specs.Record.{Stretches, EndsWith, EndsIll, EndsBefore, IsQuiet}
 use Rattle.just_cli.proofs.Worlds.{worlds_set, errors_set}
 
 -- what a failure leaves: with no plan, a refusal before the book
-abbrev pub Failed : Option ℕ → Result Report Failure → List Entry → List Entry → Type 0
-Failed jobs r old new = IfErr r (λ f. MatchOption f.plan (∥ EndsBefore f.error old new ∥₁) (λ p. ∥ EndsIll p jobs f.history f.error old new ∥₁))
+abbrev pub Failed : Option ℕ → List Bool → Bool → Result Report Failure → List Entry → List Entry → Type 0
+Failed jobs messages quiet r old new = IfErr r (λ f. MatchOption f.plan (∥ EndsBefore quiet f.error old new ∥₁) (λ p. ∥ EndsIll p jobs messages quiet f.history f.error old new ∥₁))
 
 -- ---- counts
 
@@ -61,14 +61,18 @@ more_before p old new s some = omega (arith, some, ap (λ es. count_by p es) s.g
 more_within : (p : Entry → Bool) (old new : List Entry) (s : Stretches old new) → 0 < count_by p s.mid → count_by p old < count_by p new
 more_within p old new s some = omega (arith, some, ap (λ es. count_by p es) s.grew, counted_parts p old s.pre s.mid s.post)
 
+-- what an error's call left is counted behind misses
+counted_behind : (p : Entry → Bool) (e : Error) (es : List Entry) → EndsWith e es → 0 < count_by p (entries_of e) → 0 < count_by p es
+counted_behind p e es ends some = omega (arith, some, ap (λ xs. count_by p xs) ends.2, sum_by-append (λ x. cond (p x) 1 0) ends.0 (entries_of e))
+
 -- a kind of entry that shows where a kind of error is told is counted
 module _ (p : Entry → Bool) (q : Error → Bool)
     (shown : (nodes : List PlanNode) (h : List Event) (e : Error) (es : List Entry) → IsCaused nodes h e es → q e ≡ true → 0 < count_by p es)
     (refusal : (e : Error) → q e ≡ true → 0 < count_by p (entries_of e)) where
-  rises : (jobs : Option ℕ) (o : Option Plan) (h : List Event) (e : Error) (old new : List Entry) → MatchOption o (∥ EndsBefore e old new ∥₁) (λ plan. ∥ EndsIll plan jobs h e old new ∥₁) → q e ≡ true → count_by p old < count_by p new
-  rises jobs None h e old new failed is =
-      ∥∥₁_elim failed le_prop (λ k. more_before p old new k.stretches (subst (λ es. 0 < count_by p es) (sym k.prepared) (refusal e is)))
-  rises jobs (Some plan) h e old new failed is =
+  rises : (jobs : Option ℕ) (messages : List Bool) (quiet : Bool) (o : Option Plan) (h : List Event) (e : Error) (old new : List Entry) → MatchOption o (∥ EndsBefore quiet e old new ∥₁) (λ plan. ∥ EndsIll plan jobs messages quiet h e old new ∥₁) → q e ≡ true → count_by p old < count_by p new
+  rises jobs messages quiet None h e old new failed is =
+      ∥∥₁_elim failed le_prop (λ k. more_before p old new k.stretches (counted_behind p e k.stretches.pre k.prepared (refusal e is)))
+  rises jobs messages quiet (Some plan) h e old new failed is =
       ∥∥₁_elim failed le_prop (λ k. more_within p old new k.stretches (shown plan.nodes h e k.stretches.mid k.caused is))
 
 failure_counted : (c : Call) (es : List Entry) → ShowsFailure c es → 0 < faults_of es
@@ -85,6 +89,14 @@ fault_shown nodes h (error.FilesystemIo path fault.NoMemory) es a is = absurd (c
 fault_shown nodes h (error.ShellIo recipe shell (fault.Failed c)) es a is = failure_counted c es a.1
 fault_shown nodes h (error.ShellIo recipe shell (fault.Missed m)) es a is = absurd (cc)
 fault_shown nodes h (error.ShellIo recipe shell fault.NoMemory) es a is = absurd (cc)
+fault_shown nodes h (error.Script recipe command (fault.Failed c)) es a is = failure_counted c es a.1
+fault_shown nodes h (error.Script recipe command (fault.Missed m)) es a is = absurd (cc)
+fault_shown nodes h (error.Script recipe command fault.NoMemory) es a is = absurd (cc)
+fault_shown nodes h (error.Shebang recipe command argument (fault.Failed c)) es a is = failure_counted c es a.1
+fault_shown nodes h (error.Shebang recipe command argument (fault.Missed m)) es a is = absurd (cc)
+fault_shown nodes h (error.Shebang recipe command argument fault.NoMemory) es a is = absurd (cc)
+fault_shown nodes h (error.Load path io) es a is = absurd a
+fault_shown nodes h (error.CurrentDir io) es a is = absurd a
 fault_shown nodes h (error.TempdirIo recipe (fault.Failed c)) es a is = failure_counted call.Temp es a.2
 fault_shown nodes h (error.TempdirIo recipe (fault.Missed m)) es a is = absurd (cc)
 fault_shown nodes h (error.TempdirIo recipe fault.NoMemory) es a is = absurd (cc)
@@ -100,6 +112,14 @@ miss_shown nodes h (error.FilesystemIo path fault.NoMemory) es a is = absurd (cc
 miss_shown nodes h (error.ShellIo recipe shell (fault.Failed c)) es a is = absurd (cc)
 miss_shown nodes h (error.ShellIo recipe shell (fault.Missed m)) es a is = absurd a
 miss_shown nodes h (error.ShellIo recipe shell fault.NoMemory) es a is = absurd (cc)
+miss_shown nodes h (error.Script recipe command (fault.Failed c)) es a is = absurd (cc)
+miss_shown nodes h (error.Script recipe command (fault.Missed m)) es a is = absurd a
+miss_shown nodes h (error.Script recipe command fault.NoMemory) es a is = absurd (cc)
+miss_shown nodes h (error.Shebang recipe command argument (fault.Failed c)) es a is = absurd (cc)
+miss_shown nodes h (error.Shebang recipe command argument (fault.Missed m)) es a is = absurd a
+miss_shown nodes h (error.Shebang recipe command argument fault.NoMemory) es a is = absurd (cc)
+miss_shown nodes h (error.Load path io) es a is = absurd a
+miss_shown nodes h (error.CurrentDir io) es a is = absurd a
 miss_shown nodes h (error.TempdirIo recipe (fault.Missed m)) es a is = miss_counted m es a.1
 miss_shown nodes h (error.TempdirIo recipe (fault.Failed c)) es a is = absurd (cc)
 miss_shown nodes h (error.TempdirIo recipe fault.NoMemory) es a is = absurd (cc)
@@ -109,12 +129,12 @@ miss_shown nodes h (error.StdoutIo fault.NoMemory) es a is = absurd (cc)
 miss_shown nodes h _ es a is = absurd (cc)
 
 -- the entry of a refused call is counted
-failed_counted : (path : List ℕ) (io : HostFault) → is_failed_call (Some io) ≡ true → 0 < faults_of (refused path io)
+failed_counted : (path : List ℕ) (io : HostFault) → is_failed_call (Some (path, io)) ≡ true → 0 < faults_of (refused path io)
 failed_counted path (fault.Failed c) is = omega arith
 failed_counted path (fault.Missed m) is = absurd (cc)
 failed_counted path fault.NoMemory is = absurd (cc)
 
-missed_counted : (path : List ℕ) (io : HostFault) → is_missed_call (Some io) ≡ true → 0 < misses_of (refused path io)
+missed_counted : (path : List ℕ) (io : HostFault) → is_missed_call (Some (path, io)) ≡ true → 0 < misses_of (refused path io)
 missed_counted path (fault.Missed m) is = omega arith
 missed_counted path (fault.Failed c) is = absurd (cc)
 missed_counted path fault.NoMemory is = absurd (cc)
@@ -122,6 +142,10 @@ missed_counted path fault.NoMemory is = absurd (cc)
 fault_refused : (e : Error) → is_fault e ≡ true → 0 < faults_of (entries_of e)
 fault_refused (error.FilesystemIo path io) is = failed_counted path io is
 fault_refused (error.ShellIo recipe shell io) is = failed_counted [] io is
+fault_refused (error.Load path io) is = failed_counted path io is
+fault_refused (error.CurrentDir io) is = failed_counted [] io is
+fault_refused (error.Script recipe command io) is = failed_counted [] io is
+fault_refused (error.Shebang recipe command argument io) is = failed_counted [] io is
 fault_refused (error.TempdirIo recipe io) is = failed_counted [] io is
 fault_refused (error.StdoutIo io) is = failed_counted [] io is
 fault_refused _ is = absurd (cc)
@@ -129,24 +153,28 @@ fault_refused _ is = absurd (cc)
 miss_refused : (e : Error) → is_miss e ≡ true → 0 < misses_of (entries_of e)
 miss_refused (error.FilesystemIo path io) is = missed_counted path io is
 miss_refused (error.ShellIo recipe shell io) is = missed_counted [] io is
+miss_refused (error.Load path io) is = missed_counted path io is
+miss_refused (error.CurrentDir io) is = missed_counted [] io is
+miss_refused (error.Script recipe command io) is = missed_counted [] io is
+miss_refused (error.Shebang recipe command argument io) is = missed_counted [] io is
 miss_refused (error.TempdirIo recipe io) is = missed_counted [] io is
 miss_refused (error.StdoutIo io) is = missed_counted [] io is
 miss_refused _ is = absurd (cc)
 
 -- the failure of a call whose error is told is counted in the record
-pub faults_rise : (jobs : Option ℕ) (r : Result Report Failure) (old new : List Entry) → Failed jobs r old new → IfErr r (λ f. is_fault f.error ≡ true → faults_of old < faults_of new)
-faults_rise jobs (Ok x) old new failed = tt
-faults_rise jobs (Err f) old new failed = λ is. rises is_failed is_fault fault_shown fault_refused jobs f.plan f.history f.error old new failed is
+pub faults_rise : (jobs : Option ℕ) (messages : List Bool) (quiet : Bool) (r : Result Report Failure) (old new : List Entry) → Failed jobs messages quiet r old new → IfErr r (λ f. is_fault f.error ≡ true → faults_of old < faults_of new)
+faults_rise jobs messages quiet (Ok x) old new failed = tt
+faults_rise jobs messages quiet (Err f) old new failed = λ is. rises is_failed is_fault fault_shown fault_refused jobs messages quiet f.plan f.history f.error old new failed is
 
-pub misses_rise : (jobs : Option ℕ) (r : Result Report Failure) (old new : List Entry) → Failed jobs r old new → IfErr r (λ f. is_miss f.error ≡ true → misses_of old < misses_of new)
-misses_rise jobs (Ok x) old new failed = tt
-misses_rise jobs (Err f) old new failed = λ is. rises is_missed is_miss miss_shown miss_refused jobs f.plan f.history f.error old new failed is
+pub misses_rise : (jobs : Option ℕ) (messages : List Bool) (quiet : Bool) (r : Result Report Failure) (old new : List Entry) → Failed jobs messages quiet r old new → IfErr r (λ f. is_miss f.error ≡ true → misses_of old < misses_of new)
+misses_rise jobs messages quiet (Ok x) old new failed = tt
+misses_rise jobs messages quiet (Err f) old new failed = λ is. rises is_missed is_miss miss_shown miss_refused jobs messages quiet f.plan f.history f.error old new failed is
 
 -- ---- favourable records
 
-memory_by : (jobs : Option ℕ) (o : Option Plan) (h : List Event) (e : Error) (old new : List Entry) → MatchOption o (∥ EndsBefore e old new ∥₁) (λ plan. ∥ EndsIll plan jobs h e old new ∥₁) → (p : Plan) → o ≡ Some p → (es : List Entry) → new ≡ old ++ es → IsFavourable es → e ≡ error.NoMemory
-memory_by jobs None h e old new failed p is es grew good = absurd (cc)
-memory_by jobs (Some plan) h e old new failed p is es grew good =
+memory_by : (jobs : Option ℕ) (messages : List Bool) (quiet : Bool) (o : Option Plan) (h : List Event) (e : Error) (old new : List Entry) → MatchOption o (∥ EndsBefore quiet e old new ∥₁) (λ plan. ∥ EndsIll plan jobs messages quiet h e old new ∥₁) → (p : Plan) → o ≡ Some p → (es : List Entry) → new ≡ old ++ es → IsFavourable es → e ≡ error.NoMemory
+memory_by jobs messages quiet None h e old new failed p is es grew good = absurd (cc)
+memory_by jobs messages quiet (Some plan) h e old new failed p is es grew good =
     ∥∥₁_elim failed (errors_set _ _) (λ k.
     let s = k.stretches in
     let same : s.pre ++ (s.mid ++ s.post) ≡ es = append_cancel_left old (s.pre ++ (s.mid ++ s.post)) es (sym s.grew ∙ grew) in
@@ -154,9 +182,9 @@ memory_by jobs (Some plan) h e old new failed p is es grew good =
     (subst (λ ys. Contains ys x) same (Contains-append_right s.pre (s.mid ++ s.post) x (Contains-append_left s.mid s.post x c)))))
 
 -- a run that failed over a favourable record wanted memory
-pub memory_wanted : (jobs : Option ℕ) (r : Result Report Failure) (old new : List Entry) → Failed jobs r old new → IfErr r (λ f. (p : Plan) → f.plan ≡ Some p → (es : List Entry) → new ≡ old ++ es → IsFavourable es → f.error ≡ error.NoMemory)
-memory_wanted jobs (Ok x) old new failed = tt
-memory_wanted jobs (Err f) old new failed = memory_by jobs f.plan f.history f.error old new failed
+pub memory_wanted : (jobs : Option ℕ) (messages : List Bool) (quiet : Bool) (r : Result Report Failure) (old new : List Entry) → Failed jobs messages quiet r old new → IfErr r (λ f. (p : Plan) → f.plan ≡ Some p → (es : List Entry) → new ≡ old ++ es → IsFavourable es → f.error ≡ error.NoMemory)
+memory_wanted jobs messages quiet (Ok x) old new failed = tt
+memory_wanted jobs messages quiet (Err f) old new failed = memory_by jobs messages quiet f.plan f.history f.error old new failed
 
 -- ---- the world
 
@@ -168,10 +196,20 @@ first_of false b e = refl
 quiet_front : (p : Entry → Bool) (mid post es : List Entry) → es ≡ mid ++ post → list_any p es ≡ false → list_any p mid ≡ false
 quiet_front p mid post es is none = first_of (list_any p mid) (list_any p post) (sym (list_any-append p mid post) ∙ (ap (λ xs. list_any p xs) (sym is) ∙ none))
 
--- where no child was started and nothing failed, a drive leaves the world
-pub world_left : (s : Start) (h : List Event) (now new : List Entry) (v : Option World) (post es : List Entry) → ∥ IsKept s h now v ∥₁ → new ≡ now ++ post → new ≡ s.entries ++ es → IsQuiet es → v ≡ s.world
-world_left s h now new v post es kept told grew quiet =
+second_of : (a b : Bool) → (a || b) ≡ false → b ≡ false
+second_of true b e = absurd (cc)
+second_of false b e = e
+
+-- what no entry of a list passes, none of its last part does
+quiet_back : (p : Entry → Bool) (pre rest es : List Entry) → es ≡ pre ++ rest → list_any p es ≡ false → list_any p rest ≡ false
+quiet_back p pre rest es is none = second_of (list_any p pre) (list_any p rest) (sym (list_any-append p pre rest) ∙ (ap (λ xs. list_any p xs) (sym is) ∙ none))
+
+-- where no child was started and nothing failed, a drive behind some entries leaves the world
+pub world_left : (s : Start) (h : List Event) (old pre now new : List Entry) (v : Option World) (post es : List Entry) → s.entries ≡ old ++ pre → ∥ IsKept s h now v ∥₁ → new ≡ now ++ post → new ≡ old ++ es → IsQuiet es → v ≡ s.world
+world_left s h old pre now new v post es entered kept told grew quiet =
     ∥∥₁_elim kept (worlds_set _ _) (λ k.
-    let same : es ≡ k.gained ++ post = append_cancel_left s.entries es (k.gained ++ post) (sym grew ∙ (told ∙ (ap (λ x. x ++ post) k.grew ∙ append_assoc s.entries k.gained post))) in
-    let child = quiet_front is_started k.gained post es same quiet.no_child in
-    k.untouched (nothing_started (run_of s) h k.gained k.matches child) (quiet_front is_failed k.gained post es same quiet.no_failure))
+    let rest = k.gained ++ post in
+    let same : es ≡ pre ++ rest =
+    append_cancel_left old es (pre ++ rest) (sym grew ∙ told ∙ ap (λ x. x ++ post) (k.grew ∙ ap (λ x. x ++ k.gained) entered) ∙ append_assoc (old ++ pre) k.gained post ∙ append_assoc old pre rest) in
+    let child = quiet_front is_started k.gained post rest refl (quiet_back is_started pre rest es same quiet.no_child) in
+    k.untouched (nothing_started (run_of s) h k.gained k.matches child) (quiet_front is_failed k.gained post rest refl (quiet_back is_failed pre rest es same quiet.no_failure)))

@@ -1,5 +1,5 @@
 -- A run keeps its promise: from what its steps, its drive and the telling of its error ensure.
-use Rattle.std.proofs.Common.{◌≡◌, ◌⊎◌, ◌++◌, true, List, [], Option, Some, None, Result, Ok, Err, refl, sym, ◌∙◌, ap, subst, append_assoc, append-nil}
+use Rattle.std.proofs.Common.{◌≡◌, ◌⊎◌, ◌++◌, inl, inr, Bool, true, List, [], Option, Some, None, Result, Ok, Err, refl, sym, ◌∙◌, ap, subst, append_assoc, append-nil}
 use Rattle.std.specs.Prelude.{ℕ}
 use Rattle.std.proofs.Math.Logic.{∥∥₁_map}
 use Rattle.just_outside.specs.World.{World}
@@ -17,89 +17,98 @@ use Rattle.just_sched.specs.State.{has_caught}
 use Rattle.just_sched.specs.Verdict.{IsVerdict, NoneDecides}
 use Rattle.just_cli.specs.declared.ended.Failure.{Failure}
 use Rattle.just_cli.specs.declared.ended.Report.{Report}
-use Rattle.just_cli.specs.declared.error.Error.{Error}
-use Rattle.just_cli.specs.Faults.{OrMemory, entries_of}
+use Rattle.just_errors.specs.declared.error.Error.{Error}
+use Rattle.just_cli.specs.Faults.{OrMemory}
 use Rattle.just_cli.specs.Outcome.{IsErrorFor}
-use Rattle.just_cli.specs.Record.{IsBook, IsTold, EndsWell, EndsIll, EndsBefore}
-use Rattle.just_cli.specs.Request.{outline_of, AsksOver, RefusedFor}
+use Rattle.just_cli.specs.Quiet.{AskQuiet}
+use Rattle.just_cli.specs.Record.{IsBook, IsTold, AreMisses, EndsWith, EndsWell, EndsIll, EndsBefore}
+use Rattle.just_cli.specs.Request.{outline_of, Asks, IsAsked, RefusedFor}
 use Rattle.just_cli.specs.Run.{IsRun}
-use Rattle.just_cli.specs.Texts.{exit_code}
+use Rattle.just_errors.specs.Codes.{exit_code}
 use Rattle.just_cli.proofs.Answered.{answered}
 use Rattle.just_cli.proofs.Caused.{caused, memory_left}
 use Rattle.just_cli.proofs.Falls.{faults_rise, misses_rise, memory_wanted, world_left}
-use Rattle.just_cli.proofs.Over.{asked_over, refused_over}
 use Rattle.just_cli.proofs.Served.{served}
 
 -- what was told behind some stretch
-abbrev IsToldBehind : Error → List Entry → List Entry → Type 0
-IsToldBehind e now new = (es : List Entry) × (new ≡ now ++ es) × IsTold e es
+abbrev IsToldBehind : Bool → Error → List Entry → List Entry → Type 0
+IsToldBehind quiet e now new = (es : List Entry) × (new ≡ now ++ es) × IsTold quiet e es
 
 -- ---- without a plan
 
 -- a refusal before the book
-pub ends_before : (e : Error) (old now new : List Entry) → now ≡ old ++ entries_of e → IsToldBehind e now new → EndsBefore e old new
-ends_before e old now new grew told = record {
-  stretches = record { pre = entries_of e; mid = []; post = told.0; grew = told.1 ∙ (ap (λ es. es ++ told.0) grew ∙ append_assoc old (entries_of e) told.0) };
-  prepared = refl;
+pub ends_before : (quiet : Bool) (e : Error) (old now new pre : List Entry) → now ≡ old ++ pre → EndsWith e pre → IsToldBehind quiet e now new → EndsBefore quiet e old new
+ends_before quiet e old now new pre grew ends told = record {
+  stretches = record { pre = pre; mid = []; post = told.0; grew = told.1 ∙ (ap (λ es. es ++ told.0) grew ∙ append_assoc old pre told.0) };
+  prepared = ends;
   unopened = refl;
   told = told.2;
 }
 
-pub run_before : (words : List (List ℕ)) (told after : Option World) (old now new : List Entry) (r : Result Report Failure) (e : Error) (h : List Event)
-    → r ≡ Err (record { error = e; plan = None; history = h; code = exit_code e }) → h ≡ [] → OrMemory (λ f. AsksOver words told (Err f)) e
-    → now ≡ old ++ entries_of e → IsToldBehind e now new → after ≡ told → IsRun words told after old new r
-run_before words told after old now new r e h is no_history why grew tells world =
+-- a refusal of a request, or want of memory, as why there is no plan
+refused_for : (words : List (List ℕ)) (told : Option World) (e : Error) → OrMemory (λ f. Asks words told (Err f)) e → RefusedFor words told e
+refused_for words told e (inl wants) = inr wants
+refused_for words told e (inr asks) = inl asks
+
+pub run_before : (words : List (List ℕ)) (told after : Option World) (old now new pre : List Entry) (quiet : Bool) (r : Result Report Failure) (e : Error) (h : List Event)
+    → r ≡ Err (record { error = e; plan = None; history = h; code = exit_code e }) → h ≡ [] → OrMemory (λ f. Asks words told (Err f)) e → AskQuiet words told quiet e
+    → now ≡ old ++ pre → EndsWith e pre → IsToldBehind quiet e now new → after ≡ told → IsRun words told after old new r
+run_before words told after old now new pre quiet r e h is no_history why asks_quiet grew ends tells world =
     let f : Failure = record { error = e; plan = None; history = h; code = exit_code e } in
     let jobs : Option ℕ = None in
-    let refused : f.plan ≡ None → ∥ RefusedFor words told e ∥₁ = λ _. refused_over words told e why in
-    let left : ∥ EndsBefore e old new ∥₁ = ∣ ends_before e old now new grew tells ∣₁ in
-    let fits = answered jobs words told (Err f) tt refused in
+    let messages : List Bool = [] in
+    let refused : f.plan ≡ None → ∥ RefusedFor words told e ∥₁ = λ _. ∣ refused_for words told e why ∣₁ in
+    let left : ∥ EndsBefore quiet e old new ∥₁ = ∣ ends_before quiet e old now new pre grew ends tells ∣₁ in
+    let fits = answered jobs messages words told (Err f) tt refused in
     subst (λ q. IsRun words told after old new q) (sym is) (record {
       jobs = jobs;
+      messages = messages;
+      quiet = quiet;
+      quiet_is = ∣ asks_quiet ∣₁;
       ran = tt;
       asked = tt;
       refused = refused;
       answered = fits;
       failed = left;
-      complete = served words told jobs (Err f) old new fits left;
+      complete = served words told jobs messages quiet (Err f) old new fits left;
       unplanned = λ _. no_history;
       code = refl;
-      favoured = memory_wanted jobs (Err f) old new left;
-      faults = faults_rise jobs (Err f) old new left;
-      misses = misses_rise jobs (Err f) old new left;
-      untouched = λ es grown quiet. world;
+      favoured = memory_wanted jobs messages quiet (Err f) old new left;
+      faults = faults_rise jobs messages quiet (Err f) old new left;
+      misses = misses_rise jobs messages quiet (Err f) old new left;
+      untouched = λ es grown calm. world;
     })
 
--- ---- with a plan
+-- ---- with a plan; behind the misses of its preparation the record is `entered`
 
--- the run over a record with an empty stretch behind it is the run over the record
-same_run : (plan : Plan) (jobs : Option ℕ) (entered : List Entry) → run_over plan jobs (entered ++ []) ≡ run_over plan jobs entered
-same_run plan jobs entered = ap (λ es. run_over plan jobs es) (append-nil entered)
-
-module _ (plan : Plan) (jobs : Option ℕ) (entered : List Entry) (w : Option World) (h : List Event) (v : Verdict) (now : List Entry) (seen : Option World)
+module _ (plan : Plan) (jobs : Option ℕ) (old pre entered : List Entry) (grew : entered ≡ old ++ pre) (misses : AreMisses pre) (w : Option World) (h : List Event) (v : Verdict) (now : List Entry) (seen : Option World)
     (d : IsDriven (start_with plan jobs entered w) plan h v now seen) where
-  here : (holds : Run → Type 0) → holds (run_over plan jobs entered) → holds (run_over plan jobs (entered ++ []))
-  here holds a = subst holds (sym (same_run plan jobs entered)) a
+  here : (holds : Run → Type 0) → holds (run_over plan jobs entered) → holds (run_over plan jobs (old ++ pre))
+  here holds a = subst (λ es. holds (run_over plan jobs es)) grew a
 
-  the_book : (k : IsKept (start_with plan jobs entered w) h now seen) → IsBook (run_over plan jobs (entered ++ [])) h k.gained
+  the_book : (k : IsKept (start_with plan jobs entered w) h now seen) → IsBook (run_over plan jobs (old ++ pre)) h k.gained
   the_book k = here (λ s. IsBook s h k.gained) (record { legal = k.legal; closed = d.closed; matches = k.matches })
 
-  ends_well : v ≡ verdict.Well → ∥ EndsWell plan jobs h entered now ∥₁
+  grown : (gained post : List Entry) → (entered ++ gained) ++ post ≡ old ++ (pre ++ (gained ++ post))
+  grown gained post =
+      ap (λ es. (es ++ gained) ++ post) grew ∙ append_assoc (old ++ pre) gained post ∙ append_assoc old pre (gained ++ post)
+
+  ends_well : v ≡ verdict.Well → ∥ EndsWell plan jobs h old now ∥₁
   ends_well well = ∥∥₁_map d.kept (λ k. record {
-    stretches = record { pre = []; mid = k.gained; post = []; grew = k.grew ∙ ap (λ es. entered ++ es) (sym (append-nil k.gained)) };
-    prepared = refl;
+    stretches = record { pre = pre; mid = k.gained; post = []; grew = k.grew ∙ sym (append-nil (entered ++ k.gained)) ∙ grown k.gained [] };
+    prepared = misses;
     book = the_book k;
     well = here (λ s. NoneDecides s h) (subst (λ x. IsVerdict (run_over plan jobs entered) h x) well d.verdict).0;
     complete = here (λ s. IsComplete s h) (d.complete well);
     silent = refl;
   })
 
-  ends_ill : (e : Error) (new : List Entry) → IsErrorFor plan.nodes h v (Some e) → IsToldBehind e now new → ∥ EndsIll plan jobs h e entered new ∥₁
-  ends_ill e new decided told = ∥∥₁_map d.kept (λ k.
-      let cause = caused (run_over plan jobs entered) h k.gained k.legal k.matches v e d.verdict decided in
+  ends_ill : (messages : List Bool) (quiet : Bool) (e : Error) (new : List Entry) → IsErrorFor plan.nodes messages h v (Some e) → IsToldBehind quiet e now new → ∥ EndsIll plan jobs messages quiet h e old new ∥₁
+  ends_ill messages quiet e new decided told = ∥∥₁_map d.kept (λ k.
+      let cause = caused (run_over plan jobs entered) h k.gained k.legal k.matches messages v e d.verdict decided in
       record {
-        stretches = record { pre = []; mid = k.gained; post = told.0; grew = told.1 ∙ (ap (λ es. es ++ told.0) k.grew ∙ append_assoc entered k.gained told.0) };
-        prepared = refl;
+        stretches = record { pre = pre; mid = k.gained; post = told.0; grew = told.1 ∙ (ap (λ es. es ++ told.0) k.grew ∙ grown k.gained told.0) };
+        prepared = misses;
         book = the_book k;
         verdict = v;
         judged = here (λ s. IsVerdict s h v) d.verdict;
@@ -111,64 +120,70 @@ module _ (plan : Plan) (jobs : Option ℕ) (entered : List Entry) (w : Option Wo
       })
 
 -- a run without an error went well
-went_well : (nodes : List PlanNode) (shown : List Event) (v : Verdict) → IsErrorFor nodes shown v None → v ≡ verdict.Well
-went_well nodes shown verdict.Well is = refl
-went_well nodes shown (verdict.Failed n) is = absurd is
-went_well nodes shown (verdict.Interrupted signal) is = absurd (let no : ⊥ = cc in no)
-went_well nodes shown verdict.NoMemory is = absurd (let no : ⊥ = cc in no)
+went_well : (nodes : List PlanNode) (messages : List Bool) (shown : List Event) (v : Verdict) → IsErrorFor nodes messages shown v None → v ≡ verdict.Well
+went_well nodes messages shown verdict.Well is = refl
+went_well nodes messages shown (verdict.Failed n) is = absurd is
+went_well nodes messages shown (verdict.Interrupted signal) is = absurd (let no : ⊥ = cc in no)
+went_well nodes messages shown verdict.NoMemory is = absurd (let no : ⊥ = cc in no)
 
 some_none : {A : Type 0} (x : A) → Some x ≡ None → ⊥
 some_none x is = let no : ⊥ = cc in no
 
-pub run_well : (words : List (List ℕ)) (told after : Option World) (old entered now : List Entry) (w seen : Option World) (jobs : Option ℕ) (plan driven : Plan) (h : List Event) (v : Verdict) (r : Result Report Failure) (nodes : List PlanNode) (shown : List Event)
-    → r ≡ Ok (record { plan = driven; history = h }) → IsDriven (start_with plan jobs entered w) driven h v now seen → AsksOver words told (Ok (outline_of plan jobs))
-    → entered ≡ old → w ≡ told → after ≡ seen → IsErrorFor nodes shown v None → IsRun words told after old now r
-run_well words told after old entered now w seen jobs plan driven h v r nodes shown is driven_so asks entered_is w_is after_is no_error =
+pub run_well : (words : List (List ℕ)) (told after : Option World) (old pre entered now : List Entry) (w seen : Option World) (jobs : Option ℕ) (messages : List Bool) (quiet : Bool) (plan driven : Plan) (h : List Event) (v : Verdict) (r : Result Report Failure) (nodes : List PlanNode) (shown : List Event)
+    → r ≡ Ok (record { plan = driven; history = h }) → IsDriven (start_with plan jobs entered w) driven h v now seen → Asks words told (Ok (outline_of plan jobs messages))
+    → entered ≡ old ++ pre → AreMisses pre → w ≡ told → after ≡ seen → IsErrorFor nodes messages shown v None → IsRun words told after old now r
+run_well words told after old pre entered now w seen jobs messages quiet plan driven h v r nodes shown is driven_so asks grew misses w_is after_is no_error =
     let d : IsDriven (start_with plan jobs entered w) plan h v now seen = subst (λ p. IsDriven (start_with plan jobs entered w) p h v now seen) driven_so.plan driven_so in
     let report : Report = record { plan = plan; history = h } in
     let same : r ≡ Ok report = is ∙ ap (λ p. let x : Report = record { plan = p; history = h } in Ok x) driven_so.plan in
-    let asked = asked_over words told plan jobs asks in
-    let fits = answered jobs words told (Ok report) asked tt in
-    subst (λ q. IsRun words told after old now q) (sym same) (subst (λ o. IsRun words told after o now (Ok report)) entered_is (record {
+    let asked : IsAsked words told plan jobs messages = ∣ asks ∣₁ in
+    let fits = answered jobs messages words told (Ok report) asked tt in
+    subst (λ q. IsRun words told after old now q) (sym same) (record {
       jobs = jobs;
-      ran = ends_well plan jobs entered w h v now seen d (went_well nodes shown v no_error);
+      messages = messages;
+      quiet = quiet;
+      quiet_is = tt;
+      ran = ends_well plan jobs old pre entered grew misses w h v now seen d (went_well nodes messages shown v no_error);
       asked = asked;
       refused = tt;
       answered = fits;
       failed = tt;
-      complete = served words told jobs (Ok report) entered now fits tt;
+      complete = served words told jobs messages quiet (Ok report) old now fits tt;
       unplanned = tt;
       code = tt;
       favoured = tt;
       faults = tt;
       misses = tt;
-      untouched = λ es grown quiet. after_is ∙ (world_left (start_with plan jobs entered w) h now now seen [] es d.kept (sym (append-nil now)) grown quiet ∙ w_is);
-    }))
+      untouched = λ es grown calm. after_is ∙ (world_left (start_with plan jobs entered w) h old pre now now seen [] es grew d.kept (sym (append-nil now)) grown calm ∙ w_is);
+    })
 
-pub run_ill : (words : List (List ℕ)) (told after : Option World) (old entered now new : List Entry) (w seen : Option World) (jobs : Option ℕ) (plan driven : Plan) (h shown : List Event) (v : Verdict) (e : Error) (r : Result Report Failure)
-    → r ≡ Err (record { error = e; plan = Some driven; history = h; code = exit_code e }) → IsDriven (start_with plan jobs entered w) driven h v now seen → AsksOver words told (Ok (outline_of plan jobs))
-    → entered ≡ old → w ≡ told → after ≡ seen → IsErrorFor driven.nodes shown v (Some e) → shown ≡ h → IsToldBehind e now new → IsRun words told after old new r
-run_ill words told after old entered now new w seen jobs plan driven h shown v e r is driven_so asks entered_is w_is after_is error_is shown_is tells =
+pub run_ill : (words : List (List ℕ)) (told after : Option World) (old pre entered now new : List Entry) (w seen : Option World) (jobs : Option ℕ) (messages : List Bool) (quiet : Bool) (plan driven : Plan) (h shown : List Event) (v : Verdict) (e : Error) (r : Result Report Failure)
+    → r ≡ Err (record { error = e; plan = Some driven; history = h; code = exit_code e }) → IsDriven (start_with plan jobs entered w) driven h v now seen → Asks words told (Ok (outline_of plan jobs messages)) → AskQuiet words told quiet e
+    → entered ≡ old ++ pre → AreMisses pre → w ≡ told → after ≡ seen → IsErrorFor driven.nodes messages shown v (Some e) → shown ≡ h → IsToldBehind quiet e now new → IsRun words told after old new r
+run_ill words told after old pre entered now new w seen jobs messages quiet plan driven h shown v e r is driven_so asks asks_quiet grew misses w_is after_is error_is shown_is tells =
     let d : IsDriven (start_with plan jobs entered w) plan h v now seen = subst (λ p. IsDriven (start_with plan jobs entered w) p h v now seen) driven_so.plan driven_so in
     let f : Failure = record { error = e; plan = Some plan; history = h; code = exit_code e } in
     let same : r ≡ Err f = is ∙ ap (λ p. let x : Failure = record { error = e; plan = Some p; history = h; code = exit_code e } in Err x) driven_so.plan in
-    let decided : IsErrorFor plan.nodes h v (Some e) = subst (λ k. IsErrorFor plan.nodes k v (Some e)) shown_is (subst (λ p. IsErrorFor p.nodes shown v (Some e)) driven_so.plan error_is) in
-    let asked = asked_over words told plan jobs asks in
+    let decided : IsErrorFor plan.nodes messages h v (Some e) = subst (λ k. IsErrorFor plan.nodes messages k v (Some e)) shown_is (subst (λ p. IsErrorFor p.nodes messages shown v (Some e)) driven_so.plan error_is) in
+    let asked : IsAsked words told plan jobs messages = ∣ asks ∣₁ in
     let refused : f.plan ≡ None → ∥ RefusedFor words told e ∥₁ = λ none. absurd (some_none plan none) in
-    let left = ends_ill plan jobs entered w h v now seen d e new decided tells in
-    let fits = answered jobs words told (Err f) asked refused in
-    subst (λ q. IsRun words told after old new q) (sym same) (subst (λ o. IsRun words told after o new (Err f)) entered_is (record {
+    let left = ends_ill plan jobs old pre entered grew misses w h v now seen d messages quiet e new decided tells in
+    let fits = answered jobs messages words told (Err f) asked refused in
+    subst (λ q. IsRun words told after old new q) (sym same) (record {
       jobs = jobs;
+      messages = messages;
+      quiet = quiet;
+      quiet_is = ∣ asks_quiet ∣₁;
       ran = tt;
       asked = asked;
       refused = refused;
       answered = fits;
       failed = left;
-      complete = served words told jobs (Err f) entered new fits left;
+      complete = served words told jobs messages quiet (Err f) old new fits left;
       unplanned = λ none. absurd (some_none plan none);
       code = refl;
-      favoured = memory_wanted jobs (Err f) entered new left;
-      faults = faults_rise jobs (Err f) entered new left;
-      misses = misses_rise jobs (Err f) entered new left;
-      untouched = λ es grown quiet. after_is ∙ (world_left (start_with plan jobs entered w) h now new seen tells.0 es d.kept tells.1 grown quiet ∙ w_is);
-    }))
+      favoured = memory_wanted jobs messages quiet (Err f) old new left;
+      faults = faults_rise jobs messages quiet (Err f) old new left;
+      misses = misses_rise jobs messages quiet (Err f) old new left;
+      untouched = λ es grown calm. after_is ∙ (world_left (start_with plan jobs entered w) h old pre now new seen tells.0 es grew d.kept tells.1 grown calm ∙ w_is);
+    })

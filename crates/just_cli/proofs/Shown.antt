@@ -1,5 +1,5 @@
 -- Words that ask for a text get it, or the error of a print that failed.
-use Rattle.std.proofs.Common.{◌≡◌, ◌++◌, ℕ, List, [], Option, None, Result, Err, refl, sym, ◌∙◌, ap, subst}
+use Rattle.std.proofs.Common.{◌≡◌, ◌++◌, ℕ, false, List, [], Option, None, Result, Err, refl, sym, ◌∙◌, ap, subst}
 use Rattle.just_outside.specs.World.{World}
 use Rattle.just_outside.specs.Record.{refused}
 use Rattle.just_outside.specs.declared.entry.Entry.{Entry}
@@ -8,12 +8,12 @@ use Rattle.just_outside.specs.declared.entry.HostFault.TheVariants as fault
 use Rattle.just_sched.specs.declared.event.Event.{Event}
 use Rattle.just_cli.specs.declared.ended.Failure.{Failure}
 use Rattle.just_cli.specs.declared.ended.Report.{Report}
-use Rattle.just_cli.specs.declared.error.Error.{Error}
+use Rattle.just_errors.specs.declared.error.Error.{Error}
 use Rattle.just_cli.specs.Faults.{entries_of, print_error}
 use Rattle.just_cli.specs.Questions.{IsQuestion, IsShown}
 use Rattle.just_cli.specs.Record.{IsTold}
 use Rattle.just_cli.specs.Run.{IsEnded, by_text}
-use Rattle.just_cli.specs.Texts.{exit_code}
+use Rattle.just_errors.specs.Codes.{exit_code}
 use Rattle.just_cli.proofs.Runs.{ends_before}
 
 -- the error of a text that wasn't printed has the entry of the refused print
@@ -25,11 +25,11 @@ print_entries fault.NoMemory = refl
 -- the text wasn't printed
 pub unshown : (text : List ℕ) (told after : Option World) (old now new : List Entry) (r : Result Report Failure) (io : HostFault) (e : Error) (h : List Event)
     → r ≡ Err (record { error = e; plan = None; history = h; code = exit_code e }) → h ≡ [] → e ≡ print_error io → now ≡ old ++ refused [] io
-    → (es : List Entry) × (new ≡ now ++ es) × IsTold e es → after ≡ told → IsShown text told after old new r
+    → (es : List Entry) × (new ≡ now ++ es) × IsTold false e es → after ≡ told → IsShown text told after old new r
 unshown text told after old now new r io e h is no_history error_is grew tells world =
     subst (λ q. IsShown text told after old new q) (sym is) (record {
       shown = tt;
-      unshown = (refl, no_history, refl, (io, error_is), ends_before e old now new (grew ∙ ap (λ es. old ++ es) (sym (ap entries_of error_is ∙ print_entries io))) tells);
+      unshown = (refl, no_history, refl, (io, error_is), ends_before false e old now new (refused [] io) grew ([], tt, sym (ap entries_of error_is ∙ print_entries io)) tells);
       world = world;
     })
 

@@ -1,11 +1,12 @@
--- A chain of steps that give one answer at most gives one answer at most.
+-- A chain of steps that give one answer of their own at most gives one such answer at most.
 use Rattle.std.proofs.Common.{◌≡◌, Result, Ok, Err, ap, sym, ◌∙◌, subst}
-use Rattle.just_cli.specs.declared.error.Error.{Error}
+use Rattle.just_errors.specs.declared.error.Error.{Error}
+use Rattle.just_cli.specs.Request.{IsOwn}
 use Rattle.just_cli.specs.Steps.{Then, stops, goes_on}
 
--- the step gives one answer at most
-abbrev pub GivesOne : {A B : Type 0} → (A → Result B Error → Type 0) → Type 0
-GivesOne {A} {B} step = (known : A) (r s : Result B Error) → step known r → step known s → r ≡ s
+-- the step gives one answer at most that is no fault of the host's and no pattern's
+abbrev pub GivesOwn : {A B : Type 0} → (A → Result B Error → Type 0) → Type 0
+GivesOwn {A} {B} step = (known : A) (r s : Result B Error) → step known r → IsOwn r → step known s → IsOwn s → r ≡ s
 
 -- two refusals that are one, of another kind of answer
 pub same_refusal : {A B : Type 0} (e f : Error) → ◌≡◌ {A = Result A Error} (Err e) (Err f) → ◌≡◌ {A = Result B Error} (Err e) (Err f)
@@ -19,10 +20,15 @@ refused_or_found e x is = let no : ⊥ = cc in no
 pub same_found : {A : Type 0} (x y : A) → ◌≡◌ {A = Result A Error} (Ok x) (Ok y) → x ≡ y
 same_found x y is = cc
 
--- of two steps that give one answer at most, so does the second behind the first
-pub then_one : {A B C : Type 0} (one : A → Result B Error → Type 0) (two : B → Result C Error → Type 0) → GivesOne one → GivesOne two → GivesOne (Then one two)
-then_one one two a b known r s (stops e p is) (stops f q at) = is ∙ same_refusal e f (a known (Err e) (Err f) p q) ∙ sym at
-then_one one two a b known r s (stops e p is) (goes_on y q more) = absurd (refused_or_found e y (a known (Err e) (Ok y) p q))
-then_one one two a b known r s (goes_on x p more) (stops f q at) = absurd (refused_or_found f x (a known (Err f) (Ok x) q p))
-then_one one two a b known r s (goes_on x p more) (goes_on y q other) =
-    b y r s (subst (λ z. two z r) (same_found x y (a known (Ok x) (Ok y) p q)) more) other
+-- an answer that is a refusal has what the refusal has
+own_refusal : {A : Type 0} (r : Result A Error) (e : Error) → r ≡ Err e → IsOwn r → IsOwn {A} (Err e)
+own_refusal {A} r e is own = subst (λ z. IsOwn {A} z) is own
+
+-- of two steps that give one such answer at most, so does the second behind the first
+pub then_own : {A B C : Type 0} (one : A → Result B Error → Type 0) (two : B → Result C Error → Type 0) → GivesOwn one → GivesOwn two → GivesOwn (Then one two)
+then_own one two a b known r s (stops e p is) own (stops f q at) other =
+    is ∙ same_refusal e f (a known (Err e) (Err f) p (own_refusal r e is own) q (own_refusal s f at other)) ∙ sym at
+then_own one two a b known r s (stops e p is) own (goes_on y q more) other = absurd (refused_or_found e y (a known (Err e) (Ok y) p (own_refusal r e is own) q tt))
+then_own one two a b known r s (goes_on x p more) own (stops f q at) other = absurd (refused_or_found f x (a known (Err f) (Ok x) q (own_refusal s f at other) p tt))
+then_own one two a b known r s (goes_on x p more) own (goes_on y q further) other =
+    b y r s (subst (λ z. two z r) (same_found x y (a known (Ok x) (Ok y) p tt q tt)) more) own further other

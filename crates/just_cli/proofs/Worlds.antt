@@ -5,8 +5,8 @@ use Rattle.std.specs.FinMap as map
 use Rattle.just_outside.specs.contracts.tree.Thing as thing_contract
 use Rattle.just_outside.specs.Sights.{Tree}
 use Rattle.just_outside.specs.World.{World}
-use Rattle.just_cli.specs.contracts.error.Error as error_contract
-use Rattle.just_cli.specs.declared.error.Error.{Error}
+use Rattle.just_errors.specs.contracts.error.Error as error_contract
+use Rattle.just_errors.specs.declared.error.Error.{Error}
 
 abbrev text_code : Coded (List ℕ)
 text_code = coded_list coded_ℕ

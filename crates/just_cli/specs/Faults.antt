@@ -1,5 +1,5 @@
 -- What a call of the host answers to a request, and what a refused one is told as.
-use Rattle.std.specs.Prelude.{ℕ, ◌≡◌, ◌⊎◌, List, [], Option, Result, Ok, Err, MatchOption}
+use Rattle.std.specs.Prelude.{ℕ, ◌≡◌, ◌⊎◌, Bool, true, false, List, [], Option, Some, None, Result, Ok, Err, MatchOption}
 use Rattle.just_path.specs.declared.host.Miss.{Miss}
 use Rattle.just_path.specs.declared.host.PathFault.{PathFault}
 use Rattle.just_path.specs.declared.host.PathFault.TheVariants as path_fault
@@ -9,8 +9,8 @@ use Rattle.just_outside.specs.declared.entry.Entry.{Entry}
 use Rattle.just_outside.specs.declared.entry.HostFault.{HostFault}
 use Rattle.just_outside.specs.declared.entry.HostFault.TheVariants as fault
 use Rattle.just_outside.specs.Record.{refused}
-use Rattle.just_cli.specs.declared.error.Error.{Error}
-use Rattle.just_cli.specs.declared.error.Error.TheVariants as error
+use Rattle.just_errors.specs.declared.error.Error.{Error}
+use Rattle.just_errors.specs.declared.error.Error.TheVariants as error
 
 -- the fault of asking for the current folder, as a fault of a host
 abbrev pub fault_of_path : PathFault → HostFault
@@ -18,42 +18,68 @@ fault_of_path (path_fault.Missed m) = fault.Missed m
 fault_of_path path_fault.Failed = fault.Failed call.Current
 fault_of_path path_fault.NoMemory = fault.NoMemory
 
--- the error of a refused call on a path
-abbrev pub io_error : List ℕ → HostFault → Error
-io_error path (fault.Missed m) = error.FilesystemIo path (fault.Missed m)
-io_error path (fault.Failed c) = error.FilesystemIo path (fault.Failed c)
-io_error path fault.NoMemory = error.NoMemory
+-- the error of a refused call, told so; want of memory is told as itself
+abbrev pub error_by : (HostFault → Error) → HostFault → Error
+error_by told (fault.Missed m) = told (fault.Missed m)
+error_by told (fault.Failed c) = told (fault.Failed c)
+error_by told fault.NoMemory = error.NoMemory
 
--- the error of a text that wasn't printed
+-- of a refused call on a path, of the current folder, and of a text that wasn't printed
+abbrev pub io_error : List ℕ → HostFault → Error
+io_error path f = error_by (λ g. error.FilesystemIo path g) f
+
+abbrev pub folder_error : HostFault → Error
+folder_error f = error_by (λ g. error.CurrentDir g) f
+
 abbrev pub print_error : HostFault → Error
-print_error (fault.Missed m) = error.StdoutIo (fault.Missed m)
-print_error (fault.Failed c) = error.StdoutIo (fault.Failed c)
-print_error fault.NoMemory = error.NoMemory
+print_error f = error_by (λ g. error.StdoutIo g) f
+
+-- the path of the refused call that an error tells, empty where the call has none, and the refusal
+abbrev pub call_in : Error → Option (List ℕ × HostFault)
+call_in (error.FilesystemIo path io) = Some (path, io)
+call_in (error.Load path io) = Some (path, io)
+call_in (error.CurrentDir io) = Some ([], io)
+call_in (error.ShellIo recipe shell io) = Some ([], io)
+call_in (error.Script recipe command io) = Some ([], io)
+call_in (error.Shebang recipe command argument io) = Some ([], io)
+call_in (error.TempdirIo recipe io) = Some ([], io)
+call_in (error.StdoutIo io) = Some ([], io)
+call_in _ = None
+
+abbrev pub refused_in : Option (List ℕ × HostFault) → List Entry
+refused_in (Some x) = refused x.0 x.1
+refused_in None = []
 
 -- the entry of the refused call that an error tells, if it tells one
 abbrev pub entries_of : Error → List Entry
-entries_of (error.FilesystemIo path io) = refused path io
-entries_of (error.ShellIo recipe shell io) = refused [] io
-entries_of (error.TempdirIo recipe io) = refused [] io
-entries_of (error.StdoutIo io) = refused [] io
-entries_of _ = []
+entries_of e = refused_in (call_in e)
+
+abbrev pub is_failed_call : Option (List ℕ × HostFault) → Bool
+is_failed_call (Some (path, fault.Failed c)) = true
+is_failed_call _ = false
+
+abbrev pub is_missed_call : Option (List ℕ × HostFault) → Bool
+is_missed_call (Some (path, fault.Missed m)) = true
+is_missed_call _ = false
+
+-- the error is of a call of the host that failed, or that missed
+abbrev pub is_fault : Error → Bool
+is_fault e = is_failed_call (call_in e)
+
+abbrev pub is_miss : Error → Bool
+is_miss e = is_missed_call (call_in e)
 
 -- a fault is the call's own, and a miss is the one that is shown, where something is
 abbrev pub FaultFits : {A : Type 0} → Call → Option (Result A Miss) → HostFault → Type 0
 FaultFits c shown (fault.Missed m) = MatchOption shown (Unit {0}) (λ s. s ≡ Err m)
 FaultFits c shown (fault.Failed d) = d ≡ c
-FaultFits c shown fault.NoMemory = Unit {0}
+FaultFits c shown fault.NoMemory = ⊥
 
--- The answer of a host's call on a path, where a told world shows this at it: what is shown, a fault of the call, or want of
--- memory. A host that tells no world may answer anything.
-abbrev pub CallGives : {A : Type 0} → Call → List ℕ → Option (Result A Miss) → Result A Error → Type 0
-CallGives c path shown (Ok x) = MatchOption shown (Unit {0}) (λ s. s ≡ Ok x)
-CallGives c path shown (Err e) = (f : HostFault) × (e ≡ io_error path f) × FaultFits c shown f
-
--- what is shown at a path, as the answer to a request
-abbrev pub ShowsAt : {A : Type 0} → List ℕ → Result A Miss → Result A Error → Type 0
-ShowsAt path shown (Ok x) = shown ≡ Ok x
-ShowsAt path shown (Err e) = (m : Miss) × (shown ≡ Err m) × (e ≡ error.FilesystemIo path (fault.Missed m))
+-- The answer of a host's call whose refusals are told so, where a told world shows this: what is shown, or a fault of the call. A
+-- host that tells no world may answer anything.
+abbrev pub CallGives : {A : Type 0} → Call → (HostFault → Error) → Option (Result A Miss) → Result A Error → Type 0
+CallGives c told shown (Ok x) = MatchOption shown (Unit {0}) (λ s. s ≡ Ok x)
+CallGives c told shown (Err e) = (f : HostFault) × (e ≡ told f) × FaultFits c shown f
 
 -- that error, or want of memory
 abbrev pub OrMemory : (Error → Type 0) → Error → Type 0

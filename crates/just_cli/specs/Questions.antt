@@ -1,13 +1,13 @@
 -- Words that ask for the help or the version, and what they get.
-use Rattle.std.specs.Prelude.{ℕ, ◌≡◌, ◌++◌, List, [], ◌∷◌, codes, Option, Some, None, option_map, Result, Ok, IfOk, IfErr}
+use Rattle.std.specs.Prelude.{ℕ, ◌≡◌, ◌++◌, Bool, false, List, [], ◌∷◌, codes, Option, Some, None, option_map, Result, Ok, IfOk, IfErr}
 use Rattle.std.specs.Int.NonZero.{non_zero_u64_get}
 use Rattle.just_path.specs.declared.environ.Environ.{Environ}
-use Rattle.just_outside.specs.declared.entry.Call.TheVariants as call
 use Rattle.just_outside.specs.declared.entry.Entry.{Entry}
 use Rattle.just_outside.specs.declared.entry.Entry.TheVariants as entry
 use Rattle.just_outside.specs.declared.entry.HostFault.{HostFault}
 use Rattle.just_outside.specs.declared.entry.Stream.TheVariants as stream
 use Rattle.just_outside.specs.World.{World}
+use Rattle.just_words.specs.declared.arguments.Arguments.{Arguments}
 use Rattle.just_words.specs.declared.words.Read.{Read}
 use Rattle.just_words.specs.declared.words.Read.TheVariants as read
 use Rattle.just_words.specs.Words.{Means}
@@ -15,12 +15,12 @@ use Rattle.just_config.specs.declared.help.TheConstants.{HELP}
 use Rattle.just_config.specs.Versions.{version_text}
 use Rattle.just_cli.specs.declared.ended.Failure.{Failure}
 use Rattle.just_cli.specs.declared.ended.Report.{Report}
-use Rattle.just_cli.specs.Faults.{CallGives, print_error}
-use Rattle.just_cli.specs.Record.{EndsBefore}
+use Rattle.just_cli.specs.Faults.{print_error}
+use Rattle.just_cli.specs.Record.{AreMisses, EndsBefore}
 use Rattle.just_cli.specs.declared.task.Task.{Task}
 use Rattle.just_cli.specs.declared.task.Task.TheVariants as task
-use Rattle.just_cli.specs.Request.{environ_shown, outline_of, AsksOver}
-use Rattle.just_cli.specs.Texts.{exit_code}
+use Rattle.just_cli.specs.Request.{outline_of, EnvironGiven, Asks}
+use Rattle.just_errors.specs.Codes.{exit_code}
 
 -- the line of the version: `just 1.58.0`
 abbrev pub version_line : List ℕ
@@ -36,14 +36,27 @@ text_for (read.Go a) = None
 pub record IsQuestion (words : List (List ℕ)) (told : Option World) (text : List ℕ) : Type 0 where
   pub environ : Environ
   pub asked : Read
-  pub given : CallGives call.Environ [] (option_map environ_shown told) (Ok environ)
+  pub given : EnvironGiven told (Ok environ)
   pub means : Means words environ.pairs (Ok asked)
   pub text_is : text_for asked ≡ Some text
 
+-- over such a host the words of a run ask for quiet, or don't
+pub record AsksQuiet (words : List (List ℕ)) (told : Option World) (quiet : Bool) : Type 0 where
+  pub environ : Environ
+  pub arguments : Arguments
+  pub given : EnvironGiven told (Ok environ)
+  pub means : Means words environ.pairs (Ok (read.Go arguments))
+  pub quiet_is : quiet ≡ arguments.quiet
+
 -- over such a host the words ask for that task
 abbrev pub IsTask : List (List ℕ) → Option World → Task → Type 0
-IsTask words told (task.Run p jobs) = AsksOver words told (Ok (outline_of p (option_map non_zero_u64_get jobs)))
+IsTask words told (task.Run p jobs messages quiet) = Asks words told (Ok (outline_of p (option_map non_zero_u64_get jobs) messages)) × AsksQuiet words told quiet
 IsTask words told (task.Show text) = IsQuestion words told text
+
+-- what finding out about a task leaves in the record: of a run the misses of files that aren't there
+abbrev pub TaskEntries : Task → List Entry → Type 0
+TaskEntries (task.Run p jobs messages quiet) es = AreMisses es
+TaskEntries (task.Show text) es = es ≡ []
 
 -- nothing is run: no plan, and nothing in the history
 abbrev pub IsNothing : Report → Type 0
@@ -51,7 +64,7 @@ IsNothing r = (r.plan.nodes ≡ []) × (r.plan.invocations ≡ []) × (r.history
 
 -- the text wasn't printed, or memory was wanting; the error is told
 abbrev pub IsUnshown : Failure → List Entry → List Entry → Type 0
-IsUnshown f old new = (f.plan ≡ None) × (f.history ≡ []) × (f.code ≡ exit_code f.error) × ((io : HostFault) × (f.error ≡ print_error io)) × EndsBefore f.error old new
+IsUnshown f old new = (f.plan ≡ None) × (f.history ≡ []) × (f.code ≡ exit_code f.error) × ((io : HostFault) × (f.error ≡ print_error io)) × EndsBefore false f.error old new
 
 -- the text is printed once to standard output, and the told world stays
 pub record IsShown (text : List ℕ) (told after : Option World) (old new : List Entry) (result : Result Report Failure) : Type 0 where

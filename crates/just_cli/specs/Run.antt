@@ -1,5 +1,5 @@
 -- What a run of some words promises.
-use Rattle.std.specs.Prelude.{ℕ, ◌≡◌, ◌<◌, ◌++◌, true, List, [], Option, Some, None, Result, IfOk, IfErr, MatchOption, MatchResult}
+use Rattle.std.specs.Prelude.{ℕ, ◌≡◌, ◌<◌, ◌++◌, Bool, true, List, [], Option, Some, None, Result, IfOk, IfErr, MatchOption, MatchResult}
 use Rattle.just_outside.specs.Record.{faults_of, misses_of}
 use Rattle.just_outside.specs.World.{World}
 use Rattle.just_outside.specs.declared.entry.Entry.{Entry}
@@ -7,29 +7,35 @@ use Rattle.just_sched.specs.Favourable.{IsFavourable}
 use Rattle.just_sched.specs.declared.plan.Plan.{Plan}
 use Rattle.just_cli.specs.declared.ended.Failure.{Failure}
 use Rattle.just_cli.specs.declared.ended.Report.{Report}
-use Rattle.just_cli.specs.declared.error.Error.TheVariants as error
+use Rattle.just_errors.specs.Codes.{exit_code}
+use Rattle.just_errors.specs.declared.error.Error.TheVariants as error
 use Rattle.just_cli.specs.Answered.{IsAnswered, IsServed}
-use Rattle.just_cli.specs.Caused.{is_fault, is_miss}
+use Rattle.just_cli.specs.Faults.{is_fault, is_miss}
 use Rattle.just_cli.specs.Questions.{IsQuestion, IsShown}
+use Rattle.just_cli.specs.Quiet.{AskQuiet}
 use Rattle.just_cli.specs.Record.{EndsWell, EndsIll, EndsBefore, IsQuiet}
 use Rattle.just_cli.specs.Request.{IsAsked, RefusedFor}
-use Rattle.just_cli.specs.Texts.{exit_code}
 
 -- A run of these words over a host that told this world before and tells that one after it, whose record was the old one
 -- and is the new one, has this result.
 pub record IsRun (words : List (List ℕ)) (told after : Option World) (old new : List Entry) (result : Result Report Failure) : Type 0 where
   -- the job limit that is asked for, if one is
   pub jobs : Option ℕ
+  -- of each node whether the message of its exit code is told
+  pub messages : List Bool
+  -- whether the words ask for quiet
+  pub quiet : Bool
+  pub quiet_is : IfErr result (λ f. ∥ AskQuiet words told quiet f.error ∥₁)
   -- a report's history is that of a run which ended well
   pub ran : IfOk result (λ r. ∥ EndsWell r.plan jobs r.history old new ∥₁)
-  -- a plan and its job limit are what the words ask for
-  pub asked : MatchResult result (λ r. IsAsked words told r.plan jobs) (λ f. MatchOption f.plan (Unit {0}) (λ p. IsAsked words told p jobs))
+  -- a plan, its job limit and its messages are what the words ask for
+  pub asked : MatchResult result (λ r. IsAsked words told r.plan jobs messages) (λ f. MatchOption f.plan (Unit {0}) (λ p. IsAsked words told p jobs messages))
   -- a failure without a plan is a refusal, by the request, the host, or want of memory
   pub refused : IfErr result (λ f. f.plan ≡ None → ∥ RefusedFor words told f.error ∥₁)
   -- over a told world the result fits the request
-  pub answered : IsAnswered words told jobs result
+  pub answered : IsAnswered words told jobs messages result
   -- a failure's history is that of a run which ended ill; without a plan the book wasn't opened
-  pub failed : IfErr result (λ f. MatchOption f.plan (∥ EndsBefore f.error old new ∥₁) (λ p. ∥ EndsIll p jobs f.history f.error old new ∥₁))
+  pub failed : IfErr result (λ f. MatchOption f.plan (∥ EndsBefore quiet f.error old new ∥₁) (λ p. ∥ EndsIll p jobs messages quiet f.history f.error old new ∥₁))
   -- over a told world a run that is asked for ends well, unless something stood against it
   pub complete : IsServed words told jobs result old new
   -- without a plan there is no history

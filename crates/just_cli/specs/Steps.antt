@@ -1,6 +1,6 @@
 -- Steps of a request, one behind another.
 use Rattle.std.specs.Prelude.{◌≡◌, Result, Ok, Err}
-use Rattle.just_cli.specs.declared.error.Error.{Error}
+use Rattle.just_errors.specs.declared.error.Error.{Error}
 
 -- A step goes from what is known to what it finds, or to a refusal. Of two steps the second goes on from what the first
 -- finds; a refusal of the first is the refusal of both.

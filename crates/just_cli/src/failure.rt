@@ -2,7 +2,9 @@
 
 ghost use Rattle.std.specs.Prelude.{◌≡◌, ◌++◌, ◌∷◌, [], List, Option, Some, None, IfOk, string_bytes};
 ghost use Rattle.just_outside.specs.declared.entry.Entry.{Entry};
-ghost use Rattle.just_cli.specs.Texts.{error_text, exit_code as code_for};
+ghost use Rattle.just_errors.specs.Texts.{error_text};
+ghost use Rattle.just_errors.specs.Codes.{exit_code as code_for};
+ghost use Rattle.just_cli.specs.Quiet.{tells};
 ghost use Rattle.just_cli.specs.Record.{IsTold};
 
 use super::{Ended, Error, Failure};
@@ -10,17 +12,6 @@ use just_host::{Host, Stream};
 use just_path::{NoMemory, Seq};
 use just_sched::{Event, Plan};
 use std::alloc::Global;
-
-/// The exit code of a run that ends with the error.
-fn exit_code(error: &Error) -> i32
-    ensures { result ≡ code_for error.now }
-{
-    match error {
-        Error::Usage(_) | Error::NotBuilt { .. } => 2,
-        Error::NoMemory => 125,
-        _ => error.code().unwrap_or(1),
-    }
-}
 
 /// The error's text and a newline.
 fn message(alloc: Global, error: &Error) -> Result<String, NoMemory>
@@ -31,12 +22,19 @@ fn message(alloc: Global, error: &Error) -> Result<String, NoMemory>
     Ok(text)
 }
 
-/// Tells the error on standard error. A failed print changes nothing of the answer.
-fn tell<H: Host>(alloc: Global, host: &mut H, error: &Error)
-    ensures told { (es : List Entry) × (H.entries host.new ≡ H.entries host.old ++ es) × IsTold error.now es }
+/// Whether the error is told, where the words ask for quiet or don't.
+fn tells(quiet: bool, error: &Error) -> bool
+    ensures { result ≡ tells quiet error.now }
+{
+    error.print_message() && (error.prints_always() || !quiet)
+}
+
+/// Tells the error on standard error, unless it is one that isn't told. A failed print changes nothing of the answer.
+fn tell<H: Host>(alloc: Global, host: &mut H, error: &Error, quiet: bool)
+    ensures told { (es : List Entry) × (H.entries host.new ≡ H.entries host.old ++ es) × IsTold quiet error.now es }
     ensures world { H.world host.new ≡ H.world host.old }
 {
-    if !error.print_message() {
+    if !tells(quiet, error) {
         return;
     }
     match message(alloc, error) {
@@ -52,16 +50,17 @@ pub(crate) fn fail<H: Host>(
     alloc: Global,
     host: H,
     error: Error,
+    quiet: bool,
     plan: Option<Plan>,
     history: Seq<Event>,
 ) -> Ended<H>
     ensures failed { result.result ≡ Err (record { error = error; plan = plan; history = history; code = code_for error }) }
-    ensures told { (es : List Entry) × (H.entries result.host ≡ H.entries host ++ es) × IsTold error es }
+    ensures told { (es : List Entry) × (H.entries result.host ≡ H.entries host ++ es) × IsTold quiet error es }
     ensures world { H.world result.host ≡ H.world host }
 {
     let mut host = host;
-    tell(alloc, &mut host, &error);
-    let code = exit_code(&error);
+    tell(alloc, &mut host, &error, quiet);
+    let code = error.exit_code();
     Ended {
         host,
         result: Err(Failure {

@@ -3,21 +3,25 @@
 
 mod configured;
 mod ended;
-mod error;
 mod failure;
+mod forms;
+mod given;
+mod keys;
 mod options;
 mod outcome;
-mod overridden;
+mod planning;
 mod prepare;
 mod program;
+mod project;
 mod runner;
 mod show;
 mod task;
 mod wanted;
 
 pub use ended::{Ended, Failure, Report};
-pub use error::Error;
+pub use just_errors::Error;
 pub use program::{exit_status, no_arguments, run_arguments};
+pub use project::plan_of_sources;
 pub use runner::{run, run_with};
 use task::Task;
-use wanted::Wanted;
+pub use wanted::Wanted;

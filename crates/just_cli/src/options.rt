@@ -2,11 +2,9 @@
 
 ghost use Rattle.std.specs.Prelude.{◌≡◌, Some};
 ghost use Rattle.std.specs.Option.{option_copied};
-ghost use Rattle.just_config.specs.ModulePaths.{is_name};
-ghost use Rattle.just_cli.specs.Options.{is_any, flag_not_built, value_not_built, list_not_built, command_word, command_not_built, folder_not_built, word_not_built, not_built};
+ghost use Rattle.just_cli.specs.Options.{is_any, flag_not_built, value_not_built, list_not_built, command_word, command_not_built, folder_not_built, not_built};
 
 use just_config::{Config, SearchConfig, Subcommand};
-use just_lang::is_recipe_name;
 use just_path::{Seq, Text};
 
 /// The word of the first flag that isn't built.
@@ -16,34 +14,16 @@ fn flag_not_built(config: &Config) -> Option<&'static str>
     if config.allow_missing {
         return Some("--allow-missing");
     }
-    if config.clear_shell_args {
-        return Some("--clear-shell-args");
-    }
     if config.default_list {
         return Some("--default-list");
     }
     if config.dry_run {
         return Some("--dry-run");
     }
-    if config.explain {
-        return Some("--explain");
-    }
     if config.global_justfile {
-        return Some("--global-justfile");
-    }
-    if config.no_deps {
-        return Some("--no-deps");
-    }
-    if config.no_dotenv {
-        return Some("--no-dotenv");
-    }
-    if config.quiet {
-        return Some("--quiet");
-    }
-    if config.verbose == 0 {
-        None
+        Some("--global-justfile")
     } else {
-        Some("--verbose")
+        None
     }
 }
 
@@ -57,9 +37,6 @@ fn value_not_built(config: &Config) -> Option<&'static str>
     if config.justfile.is_some() {
         return Some("--justfile");
     }
-    if config.shell.is_some() {
-        return Some("--shell");
-    }
     if config.tempdir.is_some() {
         return Some("--tempdir");
     }
@@ -71,7 +48,7 @@ fn value_not_built(config: &Config) -> Option<&'static str>
 }
 
 /// Whether there is a text.
-fn is_any(texts: &Seq<Text>) -> bool
+pub(crate) fn is_any(texts: &Seq<Text>) -> bool
     ensures { result ≡ is_any texts.now }
 {
     match texts.as_slice() {
@@ -94,10 +71,7 @@ fn list_not_built(config: &Config) -> Option<&'static str>
         return Some("--dotenv-path");
     }
     if is_any(&config.justfile_name) {
-        return Some("--justfile-name");
-    }
-    if is_any(&config.shell_arg) {
-        Some("--shell-arg")
+        Some("--justfile-name")
     } else {
         None
     }
@@ -146,29 +120,6 @@ fn folder_not_built(search: &SearchConfig) -> Option<&str>
     }
 }
 
-/// Whether a whole text is a name.
-fn is_name(text: &str) -> bool
-    ensures { result ≡ is_name text.now }
-{
-    is_recipe_name(text)
-}
-
-/// The first of the words that isn't one name alone.
-fn word_not_built(words: &[Text]) -> Option<&str>
-    ensures { option_copied result ≡ word_not_built words.now }
-{
-    let [word, others @ ..] = words else {
-        return None;
-    };
-    if !is_name(word.as_str()) {
-        return Some(word.as_str());
-    }
-    match others {
-        [] => None,
-        [next, ..] => Some(next.as_str()),
-    }
-}
-
 /// The word of what isn't built, of the first in the order of the options.
 pub(crate) fn not_built(config: &Config) -> Option<&str>
     ensures { option_copied result ≡ not_built config.now }
@@ -185,8 +136,5 @@ pub(crate) fn not_built(config: &Config) -> Option<&str>
     if let Some(word) = command_not_built(&config.subcommand) {
         return Some(word);
     }
-    if let Some(word) = folder_not_built(&config.search_config) {
-        return Some(word);
-    }
-    word_not_built(config.arguments.as_slice())
+    folder_not_built(&config.search_config)
 }

@@ -19,8 +19,8 @@ use std::rt::{Files, Runtime};
 use std::sync::Wait;
 use std::thread::Threads;
 
-/// Runs what the words ask for over a host: reads the words, with the variables of its environment, and the justfile of its
-/// current folder, makes the plan, and drives it to its end. Where they ask for the help or the version, that is printed to
+/// Runs what the words ask for over a host: reads the words, with the variables of its environment, and the project whose justfile is in
+/// its current folder, evaluates its variables, makes the plan, and drives it to its end. Where they ask for the help or the version, that is printed to
 /// standard output, and the report has a plan of no node. An error is told on standard error. The words are those behind the
 /// program's name. It waits for the children.
 pub fn run_with<R: Threads + Wait + Sync, H: Host + Send + Drop>(
@@ -32,10 +32,10 @@ pub fn run_with<R: Threads + Wait + Sync, H: Host + Send + Drop>(
     ensures { IsEnded (map (λ x. x.now) words.now) (H.world host) (H.world result.host) (H.entries host) (H.entries result.host) result.result }
 {
     let mut host = host;
-    let (plan, jobs) = match prepare(alloc, words, &mut host) {
-        Ok(Task::Run(plan, jobs)) => (plan, jobs),
+    let (plan, jobs, messages, quiet) = match prepare(alloc, words, &mut host) {
+        Ok(Task::Run(plan, jobs, messages, quiet)) => (plan, jobs, messages, quiet),
         Ok(Task::Show(text)) => return show(alloc, host, text.as_str()),
-        Err(error) => return fail(alloc, host, error, None, Seq::new(alloc)),
+        Err((error, quiet)) => return fail(alloc, host, error, quiet, None, Seq::new(alloc)),
     };
     match drive(rt, alloc, plan, host, jobs) {
         Ok(
@@ -45,14 +45,20 @@ pub fn run_with<R: Threads + Wait + Sync, H: Host + Send + Drop>(
                 history,
                 verdict,
             },
-        ) => match error_for(alloc, &plan, history.as_slice(), verdict) {
+        ) => match error_for(
+            alloc,
+            &plan,
+            messages.as_slice(),
+            history.as_slice(),
+            verdict,
+        ) {
             None => Ended {
                 host,
                 result: Ok(Report { plan, history }),
             },
-            Some(error) => fail(alloc, host, error, Some(plan), history),
+            Some(error) => fail(alloc, host, error, quiet, Some(plan), history),
         },
-        Err((host, _plan)) => fail(alloc, host, Error::NoMemory, None, Seq::new(alloc)),
+        Err((host, _plan)) => { fail(alloc, host, Error::NoMemory, quiet, None, Seq::new(alloc)) },
     }
 }
 

@@ -45,6 +45,13 @@ pub(crate) fn show<H: Host>(alloc: Global, host: H, text: &str) -> Ended<H>
                 history: Seq::new(alloc),
             }),
         },
-        Err(fault) => fail(alloc, host, print_error(fault), None, Seq::new(alloc)),
+        Err(fault) => fail(
+            alloc,
+            host,
+            print_error(fault),
+            false,
+            None,
+            Seq::new(alloc),
+        ),
     }
 }

@@ -1,14 +1,15 @@
 //! What words ask for.
 
-use just_path::Text;
+use just_path::{Seq, Text};
 use just_sched::Plan;
 use std::num::NonZeroU64;
 
 /// What words ask for.
 #[derive(Drop)]
 pub enum Task {
-    /// A run of a plan, under a job limit, if there is one.
-    Run(Plan, Option<NonZeroU64>),
+    /// A run of a plan, under a job limit, if there is one; of each node whether the message of its exit code is told; and whether the words
+    /// ask for quiet.
+    Run(Plan, Option<NonZeroU64>, Seq<bool>, bool),
     /// A text that is printed.
     Show(Text),
 }

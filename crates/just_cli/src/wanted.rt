@@ -1,15 +1,27 @@
 //! What is asked of a justfile.
 
+use just_commands::RunFlags;
+use just_lang::Override;
 use just_path::{Seq, Text};
 use std::num::NonZeroU64;
 
 /// What is asked of a justfile.
 #[derive(Drop)]
 pub struct Wanted {
-    /// The name of the recipe that is run; the first recipe where there is none.
-    pub name: Option<Text>,
-    /// The variables that the words override, each once, as `module::name`.
-    pub overridden: Seq<Text>,
+    /// The paths of recipes with their arguments.
+    pub words: Seq<Text>,
+    /// What the words give to variables, the earlier first.
+    pub overrides: Seq<Override>,
+    /// Whether one recipe alone may be asked for.
+    pub one: bool,
+    /// Whether recipes are run without their dependencies.
+    pub no_deps: bool,
+    /// Whether no dotenv file is loaded.
+    pub no_dotenv: bool,
+    /// Whether unstable features may be used.
+    pub unstable: bool,
     /// How many bodies may be open at once.
     pub jobs: Option<NonZeroU64>,
+    /// How recipes are run. The folder is the one that has the justfile.
+    pub flags: RunFlags,
 }

@@ -1,10 +1,11 @@
 -- What a child's command is to say, and what its end is to mean.
-use Rattle.std.specs.Prelude.{ℕ, ◌≡◌, if◌then◌else◌, false, List, [], ◌∷◌, Option, Some, None, option_map, ℤ}
+use Rattle.std.specs.Prelude.{ℕ, ◌≡◌, if◌then◌else◌, false, List, [], ◌∷◌, ◌++◌, Option, Some, None, option_map, ℤ}
 use Rattle.std.specs.Str.{bytes_eq}
 use Rattle.std.specs.Process.{command_program, command_args, command_dir, command_var, clears_env, exit_code, exit_signal}
 use Rattle.std.specs.declared.alloc.Global.{Global}
 use Rattle.std.specs.declared.process.Command.{Command}
 use Rattle.std.specs.declared.process.ExitStatus.{ExitStatus}
+use Rattle.just_outside.specs.declared.entry.Script.{Script}
 use Rattle.just_outside.specs.declared.entry.Spec.{Spec}
 use Rattle.just_outside.specs.declared.entry.Status.{Status}
 use Rattle.just_outside.specs.declared.entry.Status.TheVariants.{Code, Signal, Unknown}
@@ -15,10 +16,20 @@ abbrev pub said_after : List ℕ → Option (Option (List ℕ)) → List (List �
 said_after name before [] = before
 said_after name before (c ∷ cs) = said_after name (if bytes_eq c.0 name then Some c.1 else before) cs
 
--- a command that is the spec: its program, arguments, folder and changes, over the environment of this process
-pub record IsCommandOf (spec : Spec) (command : Command Global) : Type 0 where
-  pub program : command_program command ≡ spec.program
-  pub arguments : command_args command ≡ spec.arguments
+-- the program of a child: the file of its script, where that runs itself
+abbrev pub program_with : List ℕ → Spec → Option Script → List ℕ
+program_with file spec None = spec.program
+program_with file spec (Some s) = if s.run then file else spec.program
+
+-- its arguments: those of a script stand behind its file
+abbrev pub arguments_with : List ℕ → Spec → Option Script → List (List ℕ)
+arguments_with file spec None = spec.arguments
+arguments_with file spec (Some s) = if s.run then s.after else spec.arguments ++ (file ∷ s.after)
+
+-- a command that is the spec, whose script is in that file, if it has one: its program, arguments, folder and changes, over the environment of this process
+pub record IsCommandOf (file : List ℕ) (spec : Spec) (command : Command Global) : Type 0 where
+  pub program : command_program command ≡ program_with file spec spec.script
+  pub arguments : command_args command ≡ arguments_with file spec spec.script
   pub folder : command_dir command ≡ spec.folder
   pub changes : (name : List ℕ) → command_var command name ≡ said_after name None spec.changes
   pub inherits : clears_env command ≡ false

@@ -5,6 +5,7 @@ ghost use Rattle.std.specs.Process.{child_status};
 ghost use Rattle.just_host.specs.Commands.{IsToldOf};
 
 use super::command::status_of;
+use super::script::ScriptFile;
 use just_outside::Status;
 use std::process::{Child, SystemProcess};
 
@@ -13,6 +14,8 @@ use std::process::{Child, SystemProcess};
 pub struct RealChild {
     pub(crate) number: u32,
     pub(crate) process: Child<SystemProcess>,
+    /// The file of its script, if it has one.
+    pub(crate) script: Option<ScriptFile>,
 }
 
 /// A child of this process that was waited for, with the process itself and the status that the system told of it,
@@ -21,6 +24,7 @@ pub struct RealChild {
 pub struct RealDone {
     pub(crate) number: u32,
     process: Child<SystemProcess>,
+    pub(crate) script: Option<ScriptFile>,
     pub(crate) status: Option<Status>,
     ghost told: { ForSome status (λ s. ∥ IsToldOf (child_status process) s ∥₁) },
 }
@@ -33,11 +37,13 @@ impl RealDone {
         let RealChild {
             number,
             mut process,
+            script,
         } = child;
         let status = ending(&mut process);
         RealDone {
             number,
             process,
+            script,
             status,
         }
     }

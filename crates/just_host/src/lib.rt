@@ -10,6 +10,7 @@ mod memory;
 mod place;
 mod plot;
 mod real;
+mod script;
 mod sights;
 mod system;
 mod text;

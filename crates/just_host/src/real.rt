@@ -3,16 +3,17 @@ ghost use Rattle.std.specs.Prelude.{◌≡◌, ◌++◌, ◌<◌, [], ◌∷◌,
 ghost use Rattle.just_path.specs.Path.{text_of};
 ghost use Rattle.just_path.specs.Host.{note_of, note_of_fault};
 ghost use Rattle.just_outside.specs.declared.entry.Entry.{Entry};
-ghost use Rattle.just_outside.specs.Record.{noted, gained, refused, IsOwn, IsOwnFault, NeverMissed, IsStartFault, script_folder, children, faults_of, misses_of};
+ghost use Rattle.just_outside.specs.Record.{noted, gained, refused, IsOwn, IsOwnFault, NeverMissed, IsStartFault, script_folder, text_or_empty, children, faults_of, misses_of};
 ghost use Rattle.just_outside.specs.Logs.{entries_of, spare_of, started_of, HasRoom, LogWent};
 ghost use Rattle.just_outside.proofs.Laws.{counts_noted};
 ghost use Rattle.just_host.specs.Commands.{IsCommandOf};
-ghost use Rattle.just_host.specs.Real.{record_of};
+ghost use Rattle.just_host.specs.Real.{record_of, path_of};
 
 use super::child::{RealChild, RealDone};
 use super::command::command_of;
+use super::script::{ScriptFile, place, remove};
 use super::system::{canonical, here, list, look, pairs, read, show, target};
-use just_outside::{Call, Entry, Host, HostFault, Log, Spec, Status, Stream};
+use just_outside::{Call, Entry, Host, HostFault, Log, Script, Spec, Status, Stream};
 use just_path::{
     Environ, Item, Meta, Miss, NoMemory, PathCall, PathFault, PathHost, Text, TryClone, Utf8Path,
     Utf8PathBuf,
@@ -20,12 +21,12 @@ use just_path::{
 use std::alloc::Global;
 use std::io::{self, ErrorKind};
 use std::process::{Child, Command, Processes, SystemProcess};
-use std::rt::Runtime;
+use std::rt::{Env, Files, Runtime};
 
 /// The host of this process: its files, its environment and its children. It tells no world.
 ///
 /// A path that the system can't take, such as one with a NUL, isn't found. What is neither a file nor a folder isn't
-/// read. It starts no child with a script yet: such a start fails as that of a temporary file.
+/// read. The script of a child is written to a file in a fresh folder, which goes when the child's end is noted; what can't be removed stays.
 #[derive(Drop)]
 pub struct RealHost<R> {
     rt: R,
@@ -186,33 +187,102 @@ fn answer_print(
     }
 }
 
-/// Makes the log ready for the start of a child, and answers what it is started by. A child with a script is refused.
-fn prepare(log: &mut Log, alloc: Global, spec: &Spec) -> Result<(Spec, Command), HostFault>
+/// Makes the log ready for the start of a child, and answers a copy of what it is started by.
+fn prepare(log: &mut Log, spec: &Spec) -> Result<Spec, HostFault>
     ensures room { OnOk result (HasRoom log.new) }
     ensures number { OnOk result (started_of log.new < u32.MAX) }
-    ensures copy { IfOk result (λ p. p.0 ≡ spec.now) }
-    ensures command { IfOk result (λ p. IsCommandOf spec.now p.1) }
+    ensures copy { IfOk result (λ p. p ≡ spec.now) }
     ensures entries { entries_of log.new ≡ entries_of log.old ++ gained (script_folder spec.now) (λ _. []) result }
     ensures fault { IsStartFault spec.now result }
     ensures spare { spare_of log.new ≡ spare_of log.old }
 {
-    if spec.script.is_some() {
-        log.failure(Call::Temp)?;
-        return Err(HostFault::Failed(Call::Temp));
-    }
     if !log.can_number() {
         return Err(HostFault::NoMemory);
     }
     let copy = spec.try_clone()?;
-    let command = command_of(alloc, spec)?;
     log.ready()?;
-    Ok((copy, command))
+    Ok(copy)
+}
+
+/// The folder of a script, which is the path of a miss of its file.
+fn folder_of(script: &Script) -> Utf8Path<'_>
+    ensures { text_of result ≡ text_or_empty script.now.folder }
+{
+    match &script.folder {
+        Some(folder) => folder.as_path(),
+        None => Utf8Path::new(""),
+    }
+}
+
+/// Writes the script of a child to a file, where it has one, and notes a refusal.
+fn place_script<R: Files + Env>(
+    rt: &R,
+    log: &mut Log,
+    alloc: Global,
+    spec: &Spec,
+) -> Result<Option<ScriptFile>, HostFault>
+    ensures same { OnOk result (log.new ≡ log.old) }
+    ensures entries { entries_of log.new ≡ entries_of log.old ++ gained (script_folder spec.now) (λ _. []) result }
+    ensures fault { IsStartFault spec.now result }
+    ensures spare { spare_of log.new ≡ spare_of log.old }
+{
+    let Some(script) = &spec.script else {
+        return Ok(None);
+    };
+    match place(rt, alloc, script) {
+        Ok(file) => Ok(Some(file)),
+        Err(error) => Err(refuse(log, alloc, Call::Temp, folder_of(script), &error)),
+    }
+}
+
+/// The path of the file of a script; empty where there is none.
+fn path_of(file: &Option<ScriptFile>) -> &str
+    ensures { result.now ≡ path_of file.now }
+{
+    match file {
+        Some(file) => file.path.as_str(),
+        None => "",
+    }
+}
+
+/// The command of a child whose script is in that file, if it has one.
+fn command_for(alloc: Global, spec: &Spec, file: &Option<ScriptFile>) -> Result<Command, NoMemory>
+    ensures { IfOk result (IsCommandOf (path_of file.now) spec.now) }
+{
+    command_of(alloc, spec, path_of(file))
+}
+
+/// Starts the child. Where that fails, the file of its script goes.
+/// No clause: nothing is said of what the system starts; the command is `command_for`'s.
+fn spawn<R: Runtime + Processes<Started = SystemProcess>>(
+    rt: &R,
+    alloc: Global,
+    spec: &Spec,
+    file: &Option<ScriptFile>,
+) -> io::Result<Child<SystemProcess>> {
+    let told = match command_for(alloc, spec, file) {
+        Ok(mut command) => command.spawn(rt),
+        Err(NoMemory) => Err(io::Error::from(ErrorKind::OutOfMemory)),
+    };
+    if told.is_err() {
+        clear(rt, file);
+    }
+    told
+}
+
+/// Removes the file of a script, if there is one.
+/// No clause: nothing is claimed of files.
+fn clear<F: Files>(files: &F, file: &Option<ScriptFile>) {
+    if let Some(file) = file {
+        remove(files, file);
+    }
 }
 
 /// Notes the start of a child, or that it failed, where the log was made ready.
 fn answer_start(
     log: &mut Log,
     spec: Spec,
+    script: Option<ScriptFile>,
     told: io::Result<Child<SystemProcess>>,
 ) -> Result<RealChild, HostFault>
     requires room { HasRoom log.old }
@@ -226,7 +296,11 @@ fn answer_start(
     match told {
         Ok(process) => {
             let number = log.start(spec);
-            Ok(RealChild { number, process })
+            Ok(RealChild {
+                number,
+                process,
+                script,
+            })
         }
         Err(error) if error.kind() == ErrorKind::OutOfMemory => Err(HostFault::NoMemory),
         Err(_) => {
@@ -318,9 +392,10 @@ impl<R: Runtime + Processes<Started = SystemProcess>> Host for RealHost<R> {
     }
 
     fn start(&mut self, spec: &Spec) -> Result<RealChild, HostFault> {
-        let (copy, mut command) = prepare(&mut self.log, self.alloc, spec)?;
-        let told = command.spawn(&self.rt);
-        answer_start(&mut self.log, copy, told)
+        let copy = prepare(&mut self.log, spec)?;
+        let file = place_script(&self.rt, &mut self.log, self.alloc, spec)?;
+        let told = spawn(&self.rt, self.alloc, spec, &file);
+        answer_start(&mut self.log, copy, file, told)
     }
 
     fn number(child: &RealChild) -> u32 {
@@ -332,6 +407,7 @@ impl<R: Runtime + Processes<Started = SystemProcess>> Host for RealHost<R> {
     }
 
     fn settle(&mut self, child: u32, done: RealDone) -> Result<Status, HostFault> {
+        clear(&self.rt, &done.script);
         self.log.settle(child, done.number, done.status)
     }
 

@@ -3,13 +3,13 @@ use Rattle.std.proofs.Common.{◌≡◌, ℕ, suc, ◌-◌, List, [], ◌∷◌,
 use Rattle.std.specs.Prelude.{Option, Some, None, slice_get}
 use Rattle.std.specs.List.{last_or}
 use Rattle.just_outside.specs.declared.entry.Status.{Status}
-use Rattle.just_sched.specs.declared.work.Command.{Command}
-use Rattle.just_sched.specs.declared.work.Work.{Work}
+use Rattle.just_commands.specs.declared.work.Command.{Command}
+use Rattle.just_commands.specs.declared.work.Work.{Work}
 use Rattle.just_sched.specs.declared.event.Event.{Event}
 use Rattle.just_sched.specs.declared.plan_node.PlanNode.{PlanNode}
 use Rattle.just_sched.specs.Nodes.{work_in}
 use Rattle.just_sched.specs.State.{statuses, next_step}
-use Rattle.just_sched.specs.Works.{after, step_behind, commands_of, start_or_well}
+use Rattle.just_commands.specs.Steps.{after, step_behind, commands_of, start_or_well}
 
 -- the last item by its place
 pub last_or-cons : {A : Type 0} (x : A) (xs : List A) → last_or (Some x) xs ≡ slice_get (x ∷ xs) (length xs)

@@ -19,7 +19,7 @@ use Rattle.just_sched.specs.Moves.{RunsWith}
 use Rattle.just_sched.specs.Nodes.{work_in}
 use Rattle.just_sched.specs.Start.{Start, run_of}
 use Rattle.just_sched.specs.State.{takes, gives, starts, ends, concludes, has_taken, has_given, is_skipped, is_done, is_over, is_open, start_count, end_count, is_running}
-use Rattle.just_sched.specs.Works.{commands_of}
+use Rattle.just_commands.specs.Steps.{commands_of}
 use Rattle.just_sched.proofs.Counts.{due_start, agrees}
 use Rattle.just_sched.proofs.Due.{inside, is_opened, running_by, runs}
 use Rattle.just_sched.proofs.OneMore.{all_starts_more, ends_more, is_open_stays, last_started, running_stays, starts_more}

@@ -2,11 +2,11 @@
 use Rattle.std.proofs.Common.{◌≡◌, ℕ, zero, suc, ◌-◌, ◌<◌, Bool, true, false, if◌then◌else◌, List, [], ◌∷◌, ◌++◌, length, slice_get, Option, Some, None, is_some, refl, ap₂, ◌∙◌, subst, arith}
 use Rattle.std.proofs.lemmas.Option.{slice_get_within}
 use Rattle.just_outside.specs.declared.entry.Status.{Status}
-use Rattle.just_sched.specs.declared.work.Command.{Command}
-use Rattle.just_sched.specs.declared.work.Work.{Work}
-use Rattle.just_sched.specs.declared.work.Step.{Step}
-use Rattle.just_sched.specs.declared.work.Step.TheVariants as step
-use Rattle.just_sched.specs.Works.{commands_of, ends_body, goes_on, start_or_well, step_behind, after, EachWentOn}
+use Rattle.just_commands.specs.declared.work.Command.{Command}
+use Rattle.just_commands.specs.declared.work.Work.{Work}
+use Rattle.just_commands.specs.declared.work.Step.{Step}
+use Rattle.just_commands.specs.declared.work.Step.TheVariants as step
+use Rattle.just_commands.specs.Steps.{commands_of, ends_body, goes_on, start_or_well, step_behind, after, EachWentOn}
 
 -- each status so far let the body go on
 abbrev pub AllGoOn : List Command → List Status → Type 0

@@ -17,12 +17,13 @@ use Rattle.just_sched.specs.declared.event.Event.TheVariants as event
 use Rattle.just_sched.specs.declared.event.Outcome.TheVariants as outcome
 use Rattle.just_sched.specs.declared.event.Reason.{Reason}
 use Rattle.just_sched.specs.declared.event.Reason.TheVariants as reason
-use Rattle.just_sched.specs.declared.work.Command.{Command}
-use Rattle.just_sched.specs.declared.work.Step.TheVariants as step
-use Rattle.just_sched.specs.declared.work.Work.{Work}
+use Rattle.just_commands.specs.declared.work.Command.{Command}
+use Rattle.just_commands.specs.declared.work.Step.{Step}
+use Rattle.just_commands.specs.declared.work.Step.TheVariants as step
+use Rattle.just_commands.specs.declared.work.Work.{Work}
 use Rattle.just_sched.specs.Causes.{ShowsFailure, ShowsMiss, EndedLast}
 use Rattle.just_sched.specs.Nodes.{command_at}
-use Rattle.just_sched.specs.Works.{commands_of, ends_body, goes_on, is_code, start_or_well, step_behind, after}
+use Rattle.just_commands.specs.Steps.{commands_of, ends_body, goes_on, is_code, start_or_well, step_behind, after}
 use Rattle.just_sched.specs.State.{status_of, reason_in, signal_in, is_done, statuses, last_start, reason_of, caught_signal, next_step}
 use Rattle.just_sched.specs.Legal.{Run, Ended, IsDue, May, LegalFrom, IsLegal}
 use Rattle.just_sched.specs.Match.{StandsFor, FaultStandsFor, MissStandsFor, FailureStandsFor, BehindEcho, MatchesFrom, Matches, printed_entries}
@@ -197,6 +198,20 @@ pub failed_code : (w : Work) (ts : List Status) (z : ℤ) → after w ts ≡ ste
 failed_code w ts z e q =
     code_at w (length ts) (slice_get (commands_of w) (length ts - 1)) z
     (subst (λ o. step_behind w (length ts) (slice_get (commands_of w) (length ts - 1)) o ≡ step.Failed) q (after_judged w ts ∙ e))
+
+-- a step that ends a body isn't a failure
+failed_ends : (a : Bool) (s : Step) → a ≡ true → (if a then step.Well else s) ≡ step.Failed → ⊥
+failed_ends true s is e = let no : ⊥ = cc in no
+failed_ends false s is e = let no : ⊥ = cc in no
+
+-- the code behind which a guard's body fails isn't 1
+guard_at : (w : Work) (n : ℕ) (c : Command) (z : ℤ) → c.guard ≡ true → step_behind w n (Some c) (Some (status.Code z)) ≡ step.Failed → z ≡ pos 1 → ⊥
+guard_at w n c z guards e one = failed_ends (ends_body c (status.Code z)) _ (ap (λ g. g && int_eq z (pos 1)) guards ∙ ap (λ k. int_eq k (pos 1)) one) e
+
+pub guard_code : (w : Work) (ts : List Status) (z : ℤ) (c : Command) → slice_get (commands_of w) (length ts - 1) ≡ Some c → c.guard ≡ true → after w ts ≡ step.Failed → last_or None ts ≡ Some (status.Code z) → z ≡ pos 1 → ⊥
+guard_code w ts z c at guards e q one =
+    guard_at w (length ts) c z guards
+    (subst (λ k. step_behind w (length ts) k (Some (status.Code z)) ≡ step.Failed) at (subst (λ o. step_behind w (length ts) (slice_get (commands_of w) (length ts - 1)) o ≡ step.Failed) q (after_judged w ts ∙ e))) one
 
 -- ---- a body that a call of the host ended
 

@@ -5,7 +5,7 @@ use Rattle.std.specs.List.{list_any}
 use Rattle.std.proofs.lemmas.Grind.{get_or_default_zero}
 use Rattle.std.proofs.lemmas.Option.{slice_get_within, slice_get-map}
 use Rattle.just_lang.specs.declared.node.Node.{Node}
-use Rattle.just_lang.specs.WellFormed.{IsUsed, invoked as used_invoked, prior as used_prior, subsequent as used_subsequent}
+use Rattle.just_closure.specs.WellFormed.{IsUsed, invoked as used_invoked, prior as used_prior, subsequent as used_subsequent}
 use Rattle.just_sched.specs.declared.event.Event.{Event}
 use Rattle.just_sched.specs.declared.event.Idle.TheVariants as idle
 use Rattle.just_sched.specs.declared.plan_node.PlanNode.{PlanNode}

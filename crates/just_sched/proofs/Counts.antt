@@ -4,9 +4,9 @@ use Rattle.std.specs.List.{list_any}
 use Rattle.just_outside.specs.declared.entry.Status.{Status}
 use Rattle.just_sched.specs.declared.event.Event.{Event}
 use Rattle.just_sched.specs.declared.event.Event.TheVariants as event
-use Rattle.just_sched.specs.declared.work.Work.{Work}
-use Rattle.just_sched.specs.declared.work.Step.TheVariants as step
-use Rattle.just_sched.specs.Works.{commands_of, after, EachWentOn}
+use Rattle.just_commands.specs.declared.work.Work.{Work}
+use Rattle.just_commands.specs.declared.work.Step.TheVariants as step
+use Rattle.just_commands.specs.Steps.{commands_of, after, EachWentOn}
 use Rattle.just_sched.specs.Nodes.{work_at}
 use Rattle.just_sched.specs.State.{is_over, asks, takes, skips, begins, starts, ends, concludes, gives, catches, status_of, start_of, has_taken, has_given, is_begun, is_done, is_over_well, is_open, start_count, end_count, is_running, statuses, last_start, has_caught}
 use Rattle.just_sched.specs.Legal.{Run, Started, Ended, in_body, IsDue, May, IsLegal}

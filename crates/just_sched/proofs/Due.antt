@@ -8,7 +8,7 @@ use Rattle.just_sched.specs.declared.event.Outcome.{Outcome}
 use Rattle.just_sched.specs.declared.event.Outcome.TheVariants as outcome
 use Rattle.just_sched.specs.declared.event.Reason.{Reason}
 use Rattle.just_sched.specs.declared.event.Reason.TheVariants as reason
-use Rattle.just_sched.specs.declared.work.Step.TheVariants as step
+use Rattle.just_commands.specs.declared.work.Step.TheVariants as step
 use Rattle.just_sched.specs.State.{is_over, asks, takes, skips, begins, starts, concludes, concludes_well, gives, has_taken, has_given, is_begun, is_skipped, is_done, is_open, start_count, end_count, is_running, IsToAsk, IsReady}
 use Rattle.just_sched.specs.Legal.{Run, Due, Asked, Looked, Begun, Started, Ended, Saved, in_body, IsDue, MayMiss, MayFail, IsAtEnd, MayFailBy, May}
 use Rattle.just_sched.proofs.Tests.{all_both, both, neither, not_true}

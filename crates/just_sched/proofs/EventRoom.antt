@@ -10,7 +10,7 @@ use Rattle.just_sched.specs.declared.event.Event.TheVariants as event
 use Rattle.just_sched.specs.declared.event.Outcome.TheVariants as outcome
 use Rattle.just_sched.specs.declared.event.Reason.TheVariants as reason
 use Rattle.just_sched.specs.declared.plan_node.PlanNode.{PlanNode}
-use Rattle.just_sched.specs.Works.{commands_of}
+use Rattle.just_commands.specs.Steps.{commands_of}
 use Rattle.just_sched.specs.Nodes.{work_in, work_at}
 use Rattle.just_sched.specs.State.{is_of, asks, takes, skips, begins, starts, ends, concludes, gives, catches, is_done, start_count, end_count, is_running}
 use Rattle.just_sched.specs.Legal.{Run, Ended, IsDue, May, IsLegal}

@@ -9,7 +9,7 @@ use Rattle.just_sched.specs.declared.event.Event.TheVariants as event
 use Rattle.just_sched.specs.declared.event.Outcome.TheVariants as outcome
 use Rattle.just_sched.specs.declared.event.Reason.{Reason}
 use Rattle.just_sched.specs.declared.event.Reason.TheVariants as reason
-use Rattle.just_sched.specs.declared.work.Command.{Command}
+use Rattle.just_commands.specs.declared.work.Command.{Command}
 use Rattle.just_sched.specs.Gains.{TellGains, StartGains}
 use Rattle.just_sched.specs.Legal.{Run, Begun, Started, IsDue, May, all_starts}
 use Rattle.just_sched.specs.Match.{StandsFor, printed_entries, started_entries}

@@ -1,5 +1,5 @@
 -- What just_sched offers to the proofs of the crates above: laws of histories, of records that they match, and of runs.
-use Rattle.std.proofs.Common.{◌≡◌, ◌≢◌, ℕ, false, Contains, List, Some, None, ℤ, pos}
+use Rattle.std.proofs.Common.{◌≡◌, ◌≢◌, ◌-◌, ℕ, true, false, Contains, List, length, slice_get, Some, None, ℤ, pos}
 use Rattle.std.specs.List.{list_any, last_or}
 use Rattle.just_path.specs.declared.host.Miss.{Miss}
 use Rattle.just_outside.specs.declared.entry.Call.{Call}
@@ -11,15 +11,16 @@ use Rattle.just_outside.specs.declared.signal.Signal.{Signal}
 use Rattle.just_outside.specs.Record.{children, is_started}
 use Rattle.just_sched.specs.declared.event.Event.{Event}
 use Rattle.just_sched.specs.declared.event.Reason.TheVariants as reason
-use Rattle.just_sched.specs.declared.work.Step.TheVariants as step
-use Rattle.just_sched.specs.declared.work.Work.{Work}
+use Rattle.just_commands.specs.declared.work.Command.{Command}
+use Rattle.just_commands.specs.declared.work.Step.TheVariants as step
+use Rattle.just_commands.specs.declared.work.Work.{Work}
 use Rattle.just_sched.specs.Causes.{ShowsFailure, ShowsMiss, EndedLast}
 use Rattle.just_sched.specs.Legal.{Run, IsLegal, all_starts}
 use Rattle.just_sched.specs.Match.{Matches}
 use Rattle.just_sched.specs.Moves.{GrowsBy, IsMove, RunsWith, Rests}
 use Rattle.just_sched.specs.State.{statuses, reason_of, next_step, caught_signal, is_open}
-use Rattle.just_sched.specs.Works.{after}
-use Rattle.just_sched.proofs.Causes.{last_end, status_failed, failed_code, fault_caused, miss_caused, signal_shown}
+use Rattle.just_commands.specs.Steps.{after, commands_of}
+use Rattle.just_sched.proofs.Causes.{last_end, status_failed, failed_code, guard_code, fault_caused, miss_caused, signal_shown}
 use Rattle.just_sched.proofs.Grows.{grows_none, grows_turn, move_apart, runs_on, others_open, closed_where}
 use Rattle.just_sched.proofs.Stretch.{matched_children, started}
 
@@ -34,6 +35,10 @@ failed_by_statuses = status_failed
 -- The code behind which a body fails isn't 0.
 pub failing_code : (w : Work) (ts : List Status) (z : ℤ) → after w ts ≡ step.Failed → last_or None ts ≡ Some (status.Code z) → z ≡ pos 0 → ⊥
 failing_code = failed_code
+
+-- A guard's code by which its body fails isn't 1.
+pub failing_guard : (w : Work) (ts : List Status) (z : ℤ) (c : Command) → slice_get (commands_of w) (length ts - 1) ≡ Some c → c.guard ≡ true → after w ts ≡ step.Failed → last_or None ts ≡ Some (status.Code z) → z ≡ pos 1 → ⊥
+failing_guard = guard_code
 
 -- Where a node's body failed by a call of the host, the record shows that the call failed.
 pub failed_call_shown : (s : Run) (h : List Event) (es : List Entry) (n : ℕ) (c : Call) → Matches s h es → reason_of h n ≡ Some (reason.Fault c) → ShowsFailure c es

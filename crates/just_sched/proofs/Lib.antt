@@ -34,7 +34,6 @@ pub mod Placing
 pub mod Plainly
 pub mod PlanLaws
 pub mod PlanShape
-pub mod Plans
 pub mod PriorsLed
 pub mod Range
 pub mod Reasons

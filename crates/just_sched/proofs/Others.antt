@@ -5,7 +5,7 @@ use Rattle.just_sched.specs.declared.event.Event.{Event}
 use Rattle.just_sched.specs.declared.event.Event.TheVariants as event
 use Rattle.just_sched.specs.declared.event.Outcome.TheVariants as outcome
 use Rattle.just_sched.specs.declared.plan_node.PlanNode.{PlanNode}
-use Rattle.just_sched.specs.Works.{after}
+use Rattle.just_commands.specs.Steps.{after}
 use Rattle.just_sched.specs.Nodes.{work_at}
 use Rattle.just_sched.specs.State.{is_of, answers, asks, takes, skips, begins, starts, ends, concludes, concludes_well, fails, gives, status_of, start_of, reason_in, has_taken, has_given, is_begun, is_skipped, is_done, is_asked, is_over_well, has_failed, is_open, start_count, end_count, is_running, statuses, last_start, reason_of, next_step}
 use Rattle.just_sched.specs.Legal.{in_body}

@@ -6,7 +6,7 @@ use Rattle.std.proofs.lemmas.Option.{slice_get-map, slice_get-get_or}
 use Rattle.std.specs.Coded.{coded_ℕ, coded_option, Coded-set}
 use Rattle.std.specs.Prelude.{Option, Some, None, IfSome, slice_get, option_map, Contains}
 use Rattle.just_lang.specs.declared.node.Node.{Node}
-use Rattle.just_lang.specs.WellFormed.{IsWellFormed, round_at}
+use Rattle.just_closure.specs.WellFormed.{IsWellFormed, round_at}
 use Rattle.just_sched.specs.declared.plan_node.PlanNode.{PlanNode}
 use Rattle.just_sched.specs.Nodes.{subsequents_at, subsequents_in}
 use Rattle.just_sched.proofs.PlanLaws.{shapes, contained}

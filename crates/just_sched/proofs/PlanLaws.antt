@@ -10,7 +10,7 @@ use Rattle.std.proofs.lemmas.Grind.{get_or_default_zero}
 use Rattle.std.specs.Prelude.{slice_index}
 use Rattle.std.specs.Prelude.{Option, Some, None, slice_get, option_map, All, Contains}
 use Rattle.just_lang.specs.declared.node.Node.{Node}
-use Rattle.just_lang.specs.WellFormed.{IsWellFormed, round_at}
+use Rattle.just_closure.specs.WellFormed.{IsWellFormed, round_at}
 use Rattle.just_sched.specs.declared.plan_node.PlanNode.{PlanNode}
 use Rattle.just_sched.specs.Nodes.{subsequents_at, subsequents_in, priors_at, priors_in, prompt_in}
 use Rattle.just_sched.specs.declared.event.Event.{Event}

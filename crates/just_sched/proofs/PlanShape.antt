@@ -1,7 +1,7 @@
 -- The priors, subsequents and invocations of a well formed plan.
 use Rattle.std.proofs.Common.{◌≡◌, ℕ, ◌<◌, List, length, map, slice_get, slice_index, Option, Some, None, option_map, refl, ap, sym, ◌∙◌, arith}
 use Rattle.std.proofs.lemmas.Option.{slice_get_within, slice_get-map}
-use Rattle.just_lang.specs.WellFormed.{IsWellFormed, round_at}
+use Rattle.just_closure.specs.WellFormed.{IsWellFormed, round_at}
 use Rattle.just_sched.specs.declared.plan_node.PlanNode.{PlanNode}
 use Rattle.just_sched.specs.Nodes.{priors_in, priors_at, subsequents_in, subsequents_at}
 use Rattle.just_sched.specs.Legal.{Run}

@@ -14,7 +14,7 @@ use Rattle.just_sched.specs.declared.event.Event.TheVariants as event
 use Rattle.just_sched.specs.declared.event.Outcome.TheVariants as outcome
 use Rattle.just_sched.specs.declared.event.Reason.{Reason}
 use Rattle.just_sched.specs.declared.event.Reason.TheVariants as reason
-use Rattle.just_sched.specs.declared.work.Command.{Command}
+use Rattle.just_commands.specs.declared.work.Command.{Command}
 use Rattle.just_sched.specs.Nodes.{prompt_at, banner_at, command_at}
 use Rattle.just_sched.specs.Legal.{Run, Due, Asked, Looked, Begun, Started, Ended, Saved, all_starts, is_start}
 use Rattle.just_sched.specs.Match.{printed_entries, is_yes, started_entries, BehindEcho, DueEntries, FailureStandsFor, FaultStandsFor, MissStandsFor, StandsFor, MatchesFrom, Matches}

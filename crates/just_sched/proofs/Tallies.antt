@@ -8,7 +8,7 @@ use Rattle.just_sched.specs.declared.event.Outcome.{Outcome}
 use Rattle.just_sched.specs.declared.event.Outcome.TheVariants as outcome
 use Rattle.just_sched.specs.declared.event.Reason.{Reason}
 use Rattle.just_sched.specs.declared.event.Reason.TheVariants as reason
-use Rattle.just_sched.specs.declared.work.Command.{Command}
+use Rattle.just_commands.specs.declared.work.Command.{Command}
 use Rattle.just_sched.specs.Gains.{TellGains, StartGains}
 use Rattle.just_sched.specs.Legal.{Run, is_start, all_starts}
 use Rattle.just_sched.specs.Match.{StandsFor}

@@ -4,7 +4,7 @@ use Rattle.std.specs.List.{AllPass}
 use Rattle.just_outside.specs.declared.entry.Entry.{Entry}
 use Rattle.just_outside.specs.declared.entry.Entry.TheVariants as entry
 use Rattle.just_sched.specs.Match.{is_yes}
-use Rattle.just_sched.specs.Works.{is_code}
+use Rattle.just_commands.specs.Steps.{is_code}
 
 -- no miss, no failure, no signal, no end but with the code 0, no answer but a yes, and no check that found an output missing
 abbrev pub is_favourable : Entry → Bool

@@ -6,7 +6,7 @@ use Rattle.just_outside.specs.declared.entry.Entry.TheVariants as entry
 use Rattle.just_outside.specs.Record.{script_folder}
 use Rattle.just_sched.specs.declared.event.Reason.{Reason}
 use Rattle.just_sched.specs.declared.event.Reason.TheVariants as reason
-use Rattle.just_sched.specs.declared.work.Command.{Command}
+use Rattle.just_commands.specs.declared.work.Command.{Command}
 use Rattle.just_sched.specs.Match.{printed_entries, started_entries}
 
 -- what the record gains by a text that is printed to standard error

@@ -9,8 +9,8 @@ use Rattle.just_sched.specs.declared.event.Outcome.TheVariants as outcome
 use Rattle.just_sched.specs.declared.event.Reason.{Reason}
 use Rattle.just_sched.specs.declared.event.Reason.TheVariants as reason
 use Rattle.just_sched.specs.declared.plan_node.PlanNode.{PlanNode}
-use Rattle.just_sched.specs.declared.work.Step.{Step}
-use Rattle.just_sched.specs.declared.work.Step.TheVariants as step
+use Rattle.just_commands.specs.declared.work.Step.{Step}
+use Rattle.just_commands.specs.declared.work.Step.TheVariants as step
 use Rattle.just_sched.specs.State.{is_begun, is_over, is_done, is_open, is_running, answers, last_start, has_caught, next_step, IsToAsk, IsReady, IsFinished}
 use Rattle.std.specs.List.{list_any}
 

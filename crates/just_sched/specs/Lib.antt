@@ -2,7 +2,6 @@
 pub mod Account
 pub mod Causes
 pub mod Codes
-pub mod Commands
 pub mod Driven
 pub mod Favourable
 pub mod Gains
@@ -14,7 +13,6 @@ pub mod Moves
 pub mod NodeStates
 pub mod Nodes
 pub mod Nowhere
-pub mod Planning
 pub mod Progress
 pub mod Room
 pub mod Rows
@@ -23,4 +21,3 @@ pub mod Start
 pub mod State
 pub mod Tables
 pub mod Verdict
-pub mod Works

@@ -1,10 +1,10 @@
 -- What a plan says of the node of a number; nothing past the last one.
 use Rattle.std.specs.Prelude.{ℕ, Bool, false, List, [], slice_get, Option, Some, None}
 use Rattle.just_sched.specs.declared.plan_node.PlanNode.{PlanNode}
-use Rattle.just_sched.specs.declared.work.Command.{Command}
-use Rattle.just_sched.specs.declared.work.Work.{Work}
-use Rattle.just_sched.specs.declared.work.Work.TheVariants as work
-use Rattle.just_sched.specs.Works.{commands_of}
+use Rattle.just_commands.specs.declared.work.Command.{Command}
+use Rattle.just_commands.specs.declared.work.Work.{Work}
+use Rattle.just_commands.specs.declared.work.Work.TheVariants as work
+use Rattle.just_commands.specs.Steps.{commands_of}
 
 abbrev pub priors_in : Option PlanNode → List ℕ
 priors_in (Some x) = x.node.priors

@@ -1,9 +1,9 @@
 -- The run of nothing, over a host with no record.
 use Rattle.std.specs.Prelude.{◌≡◌, ◌<◌, ◌^◌, All, is_none, true, [], length, None}
 use Rattle.std.proofs.Common.{arith, lit<}
-use Rattle.just_lang.specs.WellFormed.{IsWellFormed}
+use Rattle.just_closure.specs.WellFormed.{IsWellFormed}
 use Rattle.just_sched.specs.declared.plan_node.PlanNode.{PlanNode}
-use Rattle.just_sched.specs.Works.{commands_of}
+use Rattle.just_commands.specs.Steps.{commands_of}
 use Rattle.just_sched.specs.Start.{Start}
 
 -- no nodes and no invocations are well formed

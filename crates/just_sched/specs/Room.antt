@@ -6,7 +6,7 @@ use Rattle.just_sched.specs.declared.event.Event.TheVariants as event
 use Rattle.just_sched.specs.declared.event.Outcome.TheVariants as outcome
 use Rattle.just_sched.specs.declared.event.Reason.TheVariants as reason
 use Rattle.just_sched.specs.declared.plan_node.PlanNode.{PlanNode}
-use Rattle.just_sched.specs.Works.{commands_of}
+use Rattle.just_commands.specs.Steps.{commands_of}
 
 -- as many events as a legal history can have: a caught signal, and for each node the start and the end of each of its
 -- commands and at most eight events more

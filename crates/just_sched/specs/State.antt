@@ -8,8 +8,8 @@ use Rattle.just_sched.specs.declared.event.Event.TheVariants as event
 use Rattle.just_sched.specs.declared.event.Outcome.TheVariants as outcome
 use Rattle.just_sched.specs.declared.event.Reason.{Reason}
 use Rattle.just_sched.specs.declared.plan_node.PlanNode.{PlanNode}
-use Rattle.just_sched.specs.declared.work.Step.{Step}
-use Rattle.just_sched.specs.Works.{after}
+use Rattle.just_commands.specs.declared.work.Step.{Step}
+use Rattle.just_commands.specs.Steps.{after}
 use Rattle.just_sched.specs.Nodes.{priors_at, subsequents_at, parallel_at, prompt_at, work_at}
 
 -- ---- the node of an event

@@ -23,12 +23,12 @@ use super::calls::{banner, planned, start_child, tell};
 use super::noting::note;
 use super::room::{command_count, event_count};
 use super::row::is_running;
-use super::steps::judge;
 use super::tables::Tables;
 use super::{
     Driven, Event, HeldBody, Idle, Named, Naming, Next, NodeState, OpenBody, Outcome, Plan, Reason,
     Seat, Step, Verdict, WaitedBody,
 };
+use just_commands::step_behind;
 use just_outside::{Call, Host, Signal};
 use just_path::{NoMemory, Seq};
 use std::alloc::Global;
@@ -346,7 +346,7 @@ impl<H: Host + Drop, P: Naming> Book<H, P> {
     {
         let row = self.tables.row(node);
         let nodes = self.plan.nodes.as_slice();
-        judge(&nodes[node as usize].work, row.ended, row.last)
+        step_behind(&nodes[node as usize].work, row.ended, row.last)
     }
 
     /// The node's body takes a job.

@@ -8,8 +8,8 @@ ghost use Rattle.just_outside.specs.Record.{children, is_failed};
 ghost use Rattle.just_sched.specs.Nodes.{banner_at, command_at};
 ghost use Rattle.just_sched.specs.Gains.{TellGains, StartGains, IfRefused};
 
-use super::steps::command;
 use super::{Command, Plan, Reason};
+use just_commands::command;
 use just_outside::{Call, Host, HostFault, Stream};
 
 /// What is printed as the node's body begins.

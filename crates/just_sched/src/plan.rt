@@ -1,8 +1,8 @@
 //! The plan of a run.
 
 ghost use Rattle.std.specs.Prelude.{◌≡◌, ◌^◌, ◌<◌, ◌≤◌, ℕ, length, map, All, is_none, true};
-ghost use Rattle.just_lang.specs.WellFormed.{IsWellFormed};
-ghost use Rattle.just_sched.specs.Works.{commands_of};
+ghost use Rattle.just_closure.specs.WellFormed.{IsWellFormed};
+ghost use Rattle.just_commands.specs.Steps.{commands_of};
 
 use super::PlanNode;
 use just_path::Seq;

@@ -2,7 +2,7 @@
 
 ghost use Rattle.std.specs.Prelude.{◌≡◌, IfSome};
 ghost use Rattle.just_sched.specs.Room.{slots, total_commands};
-ghost use Rattle.just_sched.specs.Works.{commands_of};
+ghost use Rattle.just_commands.specs.Steps.{commands_of};
 ghost use Rattle.std.specs.Prelude.{length};
 
 use super::{Plan, Work};

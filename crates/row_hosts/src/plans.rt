@@ -3,10 +3,12 @@
 ghost use Rattle.std.specs.Prelude.{◌≡◌, map, IfOk};
 ghost use Rattle.row_hosts.specs.Beside.{beside_of};
 
+use just_cli::{Error, Wanted, plan_of_sources};
+use just_commands::RunFlags;
 use just_host::{Host, MemHost, Plot, Tree};
-use just_lang::{LangError, Source, assemble, closure, invocations};
+use just_lang::Source;
 use just_path::{Environ, NoMemory, Seq, Text, Utf8Path};
-use just_sched::{Driven, Event, Plan, PlanNode, Verdict, plan_for};
+use just_sched::{Driven, Event, Plan, PlanNode, Verdict};
 use std::alloc::Global;
 
 /// The nodes, each with its priors side by side.
@@ -43,9 +45,41 @@ fn beside(alloc: Global, plan: Plan) -> Result<Plan, NoMemory> {
     })
 }
 
+/// How recipes of the root folder are run, where the words say nothing of it.
+fn plain_flags(alloc: Global) -> Result<RunFlags, NoMemory> {
+    Ok(RunFlags {
+        shell: None,
+        shell_args: None,
+        quiet: false,
+        loquacious: false,
+        dry_run: false,
+        no_cache: false,
+        yes: false,
+        explain: false,
+        tempdir: None,
+        folder: Utf8Path::new("/").to_path_buf(alloc)?,
+    })
+}
+
+/// That one recipe.
+fn wanted(alloc: Global, name: &str) -> Result<Wanted, NoMemory> {
+    let mut words = Vec::new(alloc);
+    words.push(Text::from_str(alloc, name)?)?;
+    Ok(Wanted {
+        words: Seq::from(words),
+        overrides: Seq::new(alloc),
+        one: false,
+        no_deps: false,
+        no_dotenv: false,
+        unstable: false,
+        jobs: None,
+        flags: plain_flags(alloc)?,
+    })
+}
+
 /// The plan of a recipe of that justfile, with each node's priors side by side.
 /// No clause: it serves tests alone.
-pub fn plan_of(alloc: Global, text: &str, name: &str) -> Result<Plan, LangError> {
+pub fn plan_of(alloc: Global, text: &str, name: &str) -> Result<Plan, Error> {
     let sources = [Source {
         path: Utf8Path::new("/justfile").to_path_buf(alloc)?,
         root: Utf8Path::new("/").to_path_buf(alloc)?,
@@ -54,10 +88,8 @@ pub fn plan_of(alloc: Global, text: &str, name: &str) -> Result<Plan, LangError>
     let environ = Environ {
         pairs: Seq::new(alloc),
     };
-    let justfile = assemble(alloc, &sources, &environ)?;
-    let keys = invocations(alloc, &justfile, &[name])?;
-    let closure = closure(alloc, &justfile, keys.as_slice())?;
-    let plan = plan_for(alloc, &justfile, Utf8Path::new("/"), closure)?;
+    let wanted = wanted(alloc, name)?;
+    let (plan, _) = plan_of_sources(alloc, &sources, &environ, &wanted)?;
     Ok(beside(alloc, plan)?)
 }
 

@@ -1,6 +1,6 @@
 -- The commands of the nodes so far are counted.
 use Rattle.std.proofs.Common.{◌≡◌, length, take, sum_by}
-use Rattle.just_sched.specs.Works.{commands_of}
+use Rattle.just_commands.specs.Steps.{commands_of}
 use Rattle.just_sched.proofs.room.command_count.Given as goal
 
 abbrev pub invariant-loop-node : goal.invariant-loop-node

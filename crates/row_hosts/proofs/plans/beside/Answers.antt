@@ -4,9 +4,9 @@ use Rattle.std.proofs.Math.Logic.{∥∥₁_map}
 use Rattle.std.proofs.lemmas.List.{length-map}
 use Rattle.std.proofs.lemmas.List.Elements.{All-map}
 use Rattle.std.proofs.lemmas.Simd.{map-map}
-use Rattle.just_lang.specs.WellFormed.{IsWellFormed}
+use Rattle.just_closure.specs.WellFormed.{IsWellFormed}
 use Rattle.just_sched.specs.declared.plan_node.PlanNode.{PlanNode}
-use Rattle.just_sched.specs.Works.{commands_of}
+use Rattle.just_commands.specs.Steps.{commands_of}
 use Rattle.row_hosts.specs.Beside.{beside_of}
 use Rattle.row_hosts.proofs.plans.beside.Goals as goal
 

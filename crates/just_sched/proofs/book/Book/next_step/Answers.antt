@@ -21,7 +21,7 @@ returns g c =
     let nodes = c.as_slice-nodes.result.now in
     let named = c.as_slice-nodes.ensures ∙ ap (λ p. p.nodes) s.plan_named in
     let within : c.args.node < length nodes = omega (arith, node_in s.account c.args.node c.requires, ap (λ (xs : List PlanNode). length xs) named) in
-    c.judge.ensures
+    c.step_behind.ensures
     ∙ judged_node nodes s.history.items c.args.node r.ended r.last (get_or nodes c.args.node c.index-nodes-node.result)
     (ended_in s.history.items s.tables.rows.items (rows_of s.noted) c.args.node r c.row-row.ensures.is c.row-row.ensures.within)
     (last_in s.history.items s.tables.rows.items (rows_of s.noted) c.args.node r c.row-row.ensures.is c.row-row.ensures.within)

@@ -1,0 +1,5 @@
+//! Tests of the texts of errors.
+#![tactic(auto)]
+
+#[cfg(test)]
+mod rows;

@@ -1,0 +1,3 @@
+-- The definitions of what changes in an environment.
+pub mod Changes
+pub mod Shows

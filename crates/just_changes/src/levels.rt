@@ -1,0 +1,117 @@
+//! Changes, level by level.
+
+ghost use Rattle.std.specs.Prelude.{◌≡◌, ◌||◌, ◌&&◌, not, ℕ, [], List, Option, Some, option_map, map, IfOk, OnOk, if◌then◌else◌, None};
+ghost use Rattle.std.specs.BTreeMap.{get};
+ghost use Rattle.std.specs.List.{flat_map};
+ghost use Rattle.just_path.specs.Environ.{or_else, value_of};
+ghost use Rattle.just_closure.specs.Numbers.{text_cmp};
+ghost use Rattle.just_changes.specs.Changes.{given_text, exported, exports, put_all, gets, goes, level_changes, is_among, level_says, levels_say};
+
+use just_lang::{Binding, Level, Value};
+use just_path::{NoMemory, Text};
+use just_value::text_of;
+use std::alloc::Global;
+use std::collections::BTreeMap;
+
+/// The changes so far: a name with the text that it gets, or with none, where it is taken out.
+pub(crate) type Changes = BTreeMap<Text, Option<Text>>;
+
+/// Gives names the texts of pairs, the last pair of a name its own.
+#[tactic(auto, using(crate::proofs::Pairs::pair_more, crate::proofs::Pairs::pairs_end))]
+pub(crate) fn put_pairs(changes: &mut Changes, pairs: &[(Text, Text)]) -> Result<(), NoMemory>
+    ensures put { OnOk result (changes.new.entries ≡ put_all changes.old.entries (map gets pairs.now)) }
+    ensures says { OnOk result ((name : List ℕ) → get text_cmp changes.new name ≡ or_else (option_map Some (value_of name pairs.now)) (get text_cmp changes.old name)) }
+{
+    'pairs: for pair in pairs {
+        changes.insert(pair.0.try_clone()?, Some(pair.1.try_clone()?))?;
+    }
+    Ok(())
+}
+
+/// Takes names out.
+#[tactic(auto, using(crate::proofs::Taken::taken_more, crate::proofs::Taken::taken_end))]
+fn take_out(changes: &mut Changes, names: &[Text]) -> Result<(), NoMemory>
+    ensures put { OnOk result (changes.new.entries ≡ put_all changes.old.entries (map goes names.now)) }
+    ensures says { OnOk result ((name : List ℕ) → get text_cmp changes.new name ≡ (if is_among names.now name then Some None else get text_cmp changes.old name)) }
+{
+    'names: for name in names {
+        changes.insert(name.try_clone()?, None)?;
+    }
+    Ok(())
+}
+
+/// The text that a value gives to the environment, if it gives one.
+fn given_text(alloc: Global, value: &Value) -> Result<Option<Text>, NoMemory>
+    ensures { IfOk result (λ t. t ≡ given_text value.now) }
+{
+    if value.elements.is_empty() {
+        return Ok(None);
+    }
+    Ok(Some(text_of(alloc, value)?))
+}
+
+/// The name and the text of a binding, where it is exported.
+fn exported(
+    alloc: Global,
+    all: bool,
+    prelude: bool,
+    binding: &Binding,
+) -> Result<Option<(Text, Text)>, NoMemory>
+    ensures { IfOk result (λ e. e ≡ exported all prelude binding.now) }
+{
+    if !(binding.export || all && !prelude) {
+        return Ok(None);
+    }
+    match given_text(alloc, &binding.value)? {
+        Some(text) => Ok(Some((binding.name.try_clone()?, text))),
+        None => Ok(None),
+    }
+}
+
+/// The names and texts that a level exports.
+fn exports(alloc: Global, all: bool, level: &Level) -> Result<Vec<(Text, Text)>, NoMemory>
+    ensures { IfOk result (λ pairs. pairs.items ≡ exports all level.now) }
+{
+    let mut pairs = Vec::new(alloc);
+    'bindings: for binding in level.bindings.as_slice() {
+        if let Some(pair) = exported(alloc, all, level.prelude, binding)? {
+            pairs.push(pair)?;
+        }
+    }
+    Ok(pairs)
+}
+
+/// Changes what a level says.
+#[tactic(auto, using(crate::proofs::Level::level_put, crate::proofs::Put::level_put_all))]
+pub(crate) fn put_level(
+    alloc: Global,
+    changes: &mut Changes,
+    all: bool,
+    unexports: &[Text],
+    level: &Level,
+) -> Result<(), NoMemory>
+    ensures put { OnOk result (changes.new.entries ≡ put_all changes.old.entries (level_changes all unexports.now level.now)) }
+    ensures says { OnOk result ((name : List ℕ) → get text_cmp changes.new name ≡ or_else (level_says all unexports.now level.now name) (get text_cmp changes.old name)) }
+{
+    let pairs = exports(alloc, all, level)?;
+    take_out(changes, unexports)?;
+    put_pairs(changes, pairs.as_slice())
+}
+
+/// Changes what levels say, the outermost first.
+#[tactic(auto, using(crate::proofs::Level::level_more, crate::proofs::Level::levels_end))]
+pub(crate) fn put_levels(
+    alloc: Global,
+    changes: &mut Changes,
+    all: bool,
+    unexports: &[Text],
+    levels: &[Level],
+) -> Result<(), NoMemory>
+    ensures put { OnOk result (changes.new.entries ≡ put_all changes.old.entries (flat_map (level_changes all unexports.now) levels.now)) }
+    ensures says { OnOk result ((name : List ℕ) → get text_cmp changes.new name ≡ or_else (levels_say all unexports.now levels.now name) (get text_cmp changes.old name)) }
+{
+    'levels: for level in levels {
+        put_level(alloc, changes, all, unexports, level)?;
+    }
+    Ok(())
+}

@@ -1,0 +1,42 @@
+-- Whether the words ask for quiet, as they are read.
+use Rattle.std.proofs.Common.{◌≡◌, inl, inr, ℕ, Bool, false, List, Option, Result, Ok, Err, refl, sym, append-nil}
+use Rattle.just_path.specs.declared.environ.Environ.{Environ}
+use Rattle.just_outside.specs.World.{World}
+use Rattle.just_outside.specs.declared.entry.Entry.{Entry}
+use Rattle.just_words.specs.declared.arguments.Arguments.{Arguments}
+use Rattle.just_words.specs.declared.words.Read.TheVariants as read
+use Rattle.just_words.specs.Words.{Means}
+use Rattle.just_errors.specs.declared.error.Error.{Error}
+use Rattle.just_errors.specs.declared.error.Error.TheVariants as error
+use Rattle.just_cli.specs.Faults.{OrMemory}
+use Rattle.just_cli.specs.Questions.{AsksQuiet}
+use Rattle.just_cli.specs.Quiet.{AskQuiet, as_read, unread}
+use Rattle.just_cli.specs.Record.{AreMisses, EndsWith}
+use Rattle.just_cli.specs.Request.{EnvironGiven}
+use Rattle.just_cli.specs.Words.{ReadsWords}
+
+module _ (words : List (List ℕ)) (told : Option World) where
+  -- the environment isn't there
+  pub quiet_without_environ : (e : Error) → OrMemory (λ x. EnvironGiven told (Err x)) e → AskQuiet words told false e
+  quiet_without_environ e (inl wants) = unread refl (inl wants)
+  quiet_without_environ e (inr lost) = unread refl (inr (inl lost))
+
+  -- the words that were read
+  pub quiet_read : (quiet : Bool) (e : Error) → AsksQuiet words told quiet → AskQuiet words told quiet e
+  quiet_read quiet e asks = as_read asks.environ asks.arguments asks.given asks.means asks.quiet_is
+
+  module _ (environ : Environ) (given : EnvironGiven told (Ok environ)) where
+    -- the words are faulty
+    pub quiet_without_words : (e : Error) → OrMemory (λ x. ReadsWords (record { words = words; environ = environ }) (Err x)) e → AskQuiet words told false e
+    quiet_without_words e (inl wants) = unread refl (inl wants)
+    quiet_without_words e (inr faulty) = unread refl (inr (inr (environ, given, faulty)))
+
+    pub quiet_of_words : (a : Arguments) (quiet : Bool) (e : Error) → Means words environ.pairs (Ok (read.Go a)) → quiet ≡ a.quiet → AskQuiet words told quiet e
+    quiet_of_words a quiet e means is = as_read environ a given means is
+
+    pub asks_quiet : (a : Arguments) (quiet : Bool) → Means words environ.pairs (Ok (read.Go a)) → quiet ≡ a.quiet → AsksQuiet words told quiet
+    asks_quiet a quiet means is = record { environ = environ; arguments = a; given = given; means = means; quiet_is = is }
+
+-- where memory is wanting, misses are all that was left
+pub ends_with_misses : (es : List Entry) → AreMisses es → EndsWith error.NoMemory es
+ends_with_misses es misses = (es, misses, sym (append-nil es))

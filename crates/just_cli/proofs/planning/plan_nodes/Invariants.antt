@@ -1,0 +1,16 @@
+-- The nodes that are left, and those so far.
+use Rattle.std.proofs.Common.{◌≡◌, ◌<◌, ◌^◌, ◌++◌, length, reverse}
+use Rattle.std.specs.Prelude.{All}
+use Rattle.just_commands.specs.Steps.{commands_of}
+use Rattle.just_cli.specs.Planned.{plan_nodes}
+use Rattle.just_cli.proofs.planning.plan_nodes.Given as goal
+
+abbrev pub invariant-nodes : goal.invariant-nodes
+invariant-nodes l = record {
+  same : length l.left.items ≡ length l.beside.items;
+  nodes : plan_nodes l.left.items l.beside.items ++ reverse l.made.items ≡ plan_nodes l.initial.left.items l.initial.beside.items;
+  short : All (λ x. length (commands_of x.work) < 2 ^ 32) l.made.items;
+}
+
+abbrev pub decreases-nodes : goal.decreases-nodes
+decreases-nodes l = length l.left.items

@@ -1,0 +1,71 @@
+-- Unstable features that a project uses, and forms of it that aren't built yet.
+use Rattle.std.specs.Prelude.{ℕ, not, ◌&&◌, ◌||◌, Bool, if◌then◌else◌, List, [], ◌∷◌, Option, Some, None, codes, is_some}
+use Rattle.std.specs.List.{list_any}
+use Rattle.just_path.specs.Environ.{or_else}
+use Rattle.just_lang.specs.declared.node.Node.{Node}
+use Rattle.just_lang.specs.declared.project.Justfile.{Justfile}
+use Rattle.just_lang.specs.declared.recipe.Recipe.{Recipe}
+use Rattle.just_lang.specs.declared.settings.Settings.{Settings}
+use Rattle.just_value.specs.Modules.{recipes_of, settings_of, Located, recipe_at}
+use Rattle.just_config.specs.declared.unstable_feature.UnstableFeature.{UnstableFeature}
+use Rattle.just_config.specs.declared.unstable_feature.UnstableFeature.TheVariants as feature
+use Rattle.just_commands.specs.Attributes.{has_attribute}
+use Rattle.just_commands.specs.declared.run_flags.RunFlags.{RunFlags}
+use Rattle.just_cli.specs.Options.{word_if}
+
+-- ---- unstable features
+
+abbrev pub is_cached : Recipe → Bool
+is_cached r = has_attribute r.attributes (codes "cache")
+
+abbrev pub feature_if : Bool → UnstableFeature → Option UnstableFeature
+feature_if is f = if is then Some f else None
+
+-- the first unstable feature that a module uses without its `set unstable`
+abbrev pub feature_of : Justfile → Option UnstableFeature
+feature_of j =
+    if (settings_of j).unstable then None
+    else or_else (feature_if (list_any is_cached (recipes_of j)) feature.CachedRecipes) (feature_if (settings_of j).lists feature.ListsSetting)
+
+-- of the first module that does
+abbrev pub feature_in : List Justfile → Option UnstableFeature
+feature_in [] = None
+feature_in (j ∷ js) = or_else (feature_of j) (feature_in js)
+
+-- unless the words allow them
+abbrev pub unstable_feature : Bool → List Justfile → Option UnstableFeature
+unstable_feature allowed modules = if allowed then None else feature_in modules
+
+-- ---- dotenv files
+
+-- the first setting of a module by which dotenv files are loaded
+abbrev pub dotenv_setting : Settings → Option (List ℕ)
+dotenv_setting s =
+    or_else (word_if s.dotenv_load (codes "dotenv-load"))
+    (or_else (word_if s.dotenv_override (codes "dotenv-override"))
+    (or_else (word_if s.dotenv_required (codes "dotenv-required"))
+    (or_else (word_if (is_some s.dotenv_command) (codes "dotenv-command"))
+    (or_else (word_if (is_some s.dotenv_filename) (codes "dotenv-filename"))
+    (word_if (is_some s.dotenv_path) (codes "dotenv-path"))))))
+
+abbrev pub dotenv_in : List Justfile → Option (List ℕ)
+dotenv_in [] = None
+dotenv_in (j ∷ js) = or_else (dotenv_setting (settings_of j)) (dotenv_in js)
+
+-- unless the words leave them alone
+abbrev pub dotenv_not_built : Bool → List Justfile → Option (List ℕ)
+dotenv_not_built no_dotenv modules = if no_dotenv then None else dotenv_in modules
+
+-- ---- recipes
+
+-- a recipe that is to be asked for, or whose cache isn't left alone
+abbrev pub attribute_not_built : RunFlags → Option Located → Option (List ℕ)
+attribute_not_built flags None = None
+attribute_not_built flags (Some l) =
+    or_else (word_if (has_attribute l.recipe.attributes (codes "confirm") && not (flags.yes || flags.dry_run)) (codes "[confirm]"))
+    (word_if (is_cached l.recipe && not (flags.no_cache || flags.dry_run)) (codes "[cache]"))
+
+-- of the first node whose recipe is so
+abbrev pub node_not_built : RunFlags → List Justfile → List Node → Option (List ℕ)
+node_not_built flags modules [] = None
+node_not_built flags modules (n ∷ ns) = or_else (attribute_not_built flags (recipe_at modules n.key.recipe)) (node_not_built flags modules ns)

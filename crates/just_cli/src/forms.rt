@@ -1,0 +1,159 @@
+//! Unstable features that a project uses, and forms of it that aren't built yet.
+
+ghost use Rattle.std.specs.Prelude.{◌≡◌, Some, map, option_map};
+ghost use Rattle.just_lang.specs.declared.project.Justfile.{Justfile};
+ghost use Rattle.std.specs.Option.{option_copied};
+ghost use Rattle.std.specs.List.{list_any};
+ghost use Rattle.just_eval.specs.Entries.{located_of, IsFound};
+ghost use Rattle.just_eval.specs.Requests.{IsIndexed};
+ghost use Rattle.just_value.specs.Modules.{recipes_of, settings_of};
+ghost use Rattle.just_cli.specs.Forms.{is_cached, feature_of, feature_in, unstable_feature, dotenv_setting, dotenv_in, dotenv_not_built, attribute_not_built, node_not_built};
+
+use just_commands::{RunFlags, has_attribute};
+use just_config::UnstableFeature;
+use just_eval::{Entry, Request};
+use just_lang::project::Justfile;
+use just_lang::{Node, Recipe, Settings};
+
+fn is_cached(recipe: &Recipe) -> bool
+    ensures { result ≡ is_cached recipe.now }
+{
+    has_attribute(recipe.attributes.as_slice(), "cache")
+}
+
+/// Whether one of these recipes has a cache.
+fn has_cached(recipes: &[Recipe]) -> bool
+    ensures { result ≡ list_any is_cached recipes.now }
+{
+    recipes.iter().any(|recipe| is_cached(recipe))
+}
+
+/// The first unstable feature that a module uses without leave of its own.
+fn feature_of(module: &Justfile) -> Option<UnstableFeature>
+    ensures { result ≡ feature_of module.now }
+{
+    if module.settings.unstable {
+        return None;
+    }
+    if has_cached(module.recipes.as_slice()) {
+        return Some(UnstableFeature::CachedRecipes);
+    }
+    if module.settings.lists {
+        Some(UnstableFeature::ListsSetting)
+    } else {
+        None
+    }
+}
+
+/// The first unstable feature that a module of these uses without leave.
+fn feature_in(modules: &[&Justfile]) -> Option<UnstableFeature>
+    ensures { result ≡ feature_in (map (λ m. m.now) modules.now) }
+{
+    'modules: for module in modules {
+        if let Some(feature) = feature_of(*module) {
+            return Some(feature);
+        }
+    }
+    None
+}
+
+/// The first unstable feature that a project uses and that neither the words nor its module allow.
+pub(crate) fn unstable_feature(allowed: bool, modules: &[&Justfile]) -> Option<UnstableFeature>
+    ensures { result ≡ unstable_feature allowed (map (λ m. m.now) modules.now) }
+{
+    if allowed {
+        return None;
+    }
+    feature_in(modules)
+}
+
+/// The first setting of a module by which dotenv files are loaded.
+fn dotenv_setting(settings: &Settings) -> Option<&'static str>
+    ensures { option_copied result ≡ dotenv_setting settings.now }
+{
+    if settings.dotenv_load {
+        return Some("dotenv-load");
+    }
+    if settings.dotenv_override {
+        return Some("dotenv-override");
+    }
+    if settings.dotenv_required {
+        return Some("dotenv-required");
+    }
+    if settings.dotenv_command.is_some() {
+        return Some("dotenv-command");
+    }
+    if settings.dotenv_filename.is_some() {
+        return Some("dotenv-filename");
+    }
+    if settings.dotenv_path.is_some() {
+        Some("dotenv-path")
+    } else {
+        None
+    }
+}
+
+/// The first setting of these modules by which dotenv files are loaded.
+fn dotenv_in(modules: &[&Justfile]) -> Option<&'static str>
+    ensures { option_copied result ≡ dotenv_in (map (λ m. m.now) modules.now) }
+{
+    'modules: for module in modules {
+        if let Some(word) = dotenv_setting(&module.settings) {
+            return Some(word);
+        }
+    }
+    None
+}
+
+/// The first setting of a project by which dotenv files are loaded, unless the words leave them alone.
+pub(crate) fn dotenv_not_built(no_dotenv: bool, modules: &[&Justfile]) -> Option<&'static str>
+    ensures { option_copied result ≡ dotenv_not_built no_dotenv (map (λ m. m.now) modules.now) }
+{
+    if no_dotenv {
+        return None;
+    }
+    dotenv_in(modules)
+}
+
+/// The attribute of a recipe that isn't built, where it matters to this run.
+fn attribute_not_built(flags: &RunFlags, recipe: &Recipe) -> Option<&'static str>
+    ensures { (parent : Justfile) → option_copied result ≡ attribute_not_built flags.now (Some (record { parent = parent; recipe = recipe.now })) }
+{
+    let asks = has_attribute(recipe.attributes.as_slice(), "confirm");
+    if asks && !(flags.yes || flags.dry_run) {
+        return Some("[confirm]");
+    }
+    if is_cached(recipe) && !(flags.no_cache || flags.dry_run) {
+        Some("[cache]")
+    } else {
+        None
+    }
+}
+
+/// The same of the recipe that was found, if one was.
+fn found_not_built(flags: &RunFlags, found: &Option<Entry<'_>>) -> Option<&'static str>
+    ensures { option_copied result ≡ attribute_not_built flags.now (option_map located_of found.now) }
+{
+    match found {
+        Some(entry) => attribute_not_built(flags, entry.recipe),
+        None => None,
+    }
+}
+
+/// The attribute of the first recipe of these nodes that isn't built, where it matters to this run.
+pub(crate) fn node_not_built(
+    request: &Request<'_>,
+    flags: &RunFlags,
+    nodes: &[Node],
+) -> Option<&'static str>
+    requires { IsIndexed request.now }
+    ensures { option_copied result ≡ node_not_built flags.now (map (λ m. m.now) request.now.modules.items) nodes.now }
+{
+    'nodes: for node in nodes {
+        let found = request.entry(&node.key.recipe);
+        if let Some(word) = found_not_built(flags, &found) {
+            return Some(word);
+        }
+    }
+    None
+}

@@ -1,0 +1,99 @@
+//! What the host gives to a request: the environment, the current folder, and the sources of a project.
+
+ghost use Rattle.std.specs.Prelude.{◌≡◌, ◌++◌, [], ℕ, List, Result, Ok, Err, IfOk, IfErr, MatchResult};
+ghost use Rattle.just_path.specs.Path.{text_of};
+ghost use Rattle.just_outside.specs.declared.entry.Entry.{Entry};
+ghost use Rattle.just_env.specs.declared.search_error.SearchError.{SearchError};
+ghost use Rattle.just_search.specs.Loads.{LoadsAll};
+ghost use Rattle.just_search.specs.Shows.{sources_of};
+ghost use Rattle.just_errors.specs.Refusals.{error_of_search};
+ghost use Rattle.just_errors.specs.declared.error.Error.{Error};
+ghost use Rattle.just_cli.specs.Faults.{OrMemory, entries_of, fault_of_path as host_fault, io_error as told_error, folder_error as told_folder};
+ghost use Rattle.just_cli.specs.Record.{AreMisses, EndsWith};
+ghost use Rattle.just_cli.specs.Request.{EnvironGiven, FolderGiven, justfile_in};
+
+use super::Error;
+use just_host::{Call, Host, HostFault};
+use just_path::{Environ, PathFault, Utf8Path, Utf8PathBuf};
+use just_search::Loader;
+use std::alloc::Global;
+
+/// The fault of asking for the current folder, as a fault of a host.
+fn fault_of_path(fault: PathFault) -> HostFault
+    ensures { result ≡ host_fault fault }
+{
+    match fault {
+        PathFault::Missed(miss) => HostFault::Missed(miss),
+        PathFault::Failed => HostFault::Failed(Call::Current),
+        PathFault::NoMemory => HostFault::NoMemory,
+    }
+}
+
+/// The error of a refused call on that path.
+fn io_error(path: Utf8PathBuf, fault: HostFault) -> Error
+    ensures { result ≡ told_error path fault }
+{
+    match fault {
+        HostFault::NoMemory => Error::NoMemory,
+        HostFault::Missed(_) | HostFault::Failed(_) => Error::FilesystemIo { path, io: fault },
+    }
+}
+
+/// The error of a current folder that isn't answered.
+fn folder_error(fault: HostFault) -> Error
+    ensures { result ≡ told_folder fault }
+{
+    match fault {
+        HostFault::NoMemory => Error::NoMemory,
+        HostFault::Missed(_) | HostFault::Failed(_) => Error::CurrentDir { io: fault },
+    }
+}
+
+/// The environment.
+pub(crate) fn environment<H: Host>(alloc: Global, host: &mut H) -> Result<Environ, Error>
+    ensures grew { MatchResult result (λ _. H.entries host.new ≡ H.entries host.old) (λ e. H.entries host.new ≡ H.entries host.old ++ entries_of e) }
+    ensures world { H.world host.new ≡ H.world host.old }
+    ensures gives { IfOk result (λ e. EnvironGiven (H.world host.old) (Ok e)) }
+    ensures refused { IfErr result (OrMemory (λ e. EnvironGiven (H.world host.old) (Err e))) }
+{
+    match host.environ() {
+        Ok(environ) => Ok(environ),
+        Err(fault) => Err(io_error(Utf8PathBuf::new(alloc), fault)),
+    }
+}
+
+/// The current folder.
+pub(crate) fn current_folder<H: Host>(host: &mut H) -> Result<Utf8PathBuf, Error>
+    ensures grew { MatchResult result (λ _. H.entries host.new ≡ H.entries host.old) (λ e. H.entries host.new ≡ H.entries host.old ++ entries_of e) }
+    ensures world { H.world host.new ≡ H.world host.old }
+    ensures gives { IfOk result (λ f. FolderGiven (H.world host.old) (Ok f)) }
+    ensures refused { IfErr result (OrMemory (λ e. FolderGiven (H.world host.old) (Err e))) }
+{
+    match host.current() {
+        Ok(folder) => Ok(folder),
+        Err(fault) => Err(folder_error(fault_of_path(fault))),
+    }
+}
+
+/// The sources of the project whose justfile stands in a folder. The record gains the misses of files that aren't there, and the entry
+/// of the refused call.
+pub(crate) fn load<H: Host>(
+    alloc: Global,
+    host: &mut H,
+    folder: Utf8Path<'_>,
+) -> Result<Loader, Error>
+    ensures grew { (es : List Entry) × (H.entries host.new ≡ H.entries host.old ++ es) × MatchResult result (λ _. AreMisses es) (λ e. EndsWith e es) }
+    ensures world { H.world host.new ≡ H.world host.old }
+    ensures sources { IfOk result (λ l. LoadsAll (H.world host.old) [] (justfile_in (text_of folder.entry)) (Ok (sources_of l))) }
+    ensures refused { IfErr result (OrMemory (λ e. (f : SearchError) × LoadsAll (H.world host.old) [] (justfile_in (text_of folder.entry)) (Err f) × (e ≡ error_of_search f))) }
+{
+    let path = match folder.join(alloc, Utf8Path::new("justfile")) {
+        Ok(path) => path,
+        Err(_) => return Err(Error::NoMemory),
+    };
+    let mut loader = Loader::new(alloc);
+    match loader.load_all(host, path.as_path()) {
+        Ok(()) => Ok(loader),
+        Err(error) => Err(Error::from(error)),
+    }
+}

@@ -1,0 +1,57 @@
+//! From the values of a project's variables to the plan of a run.
+
+ghost use Rattle.std.specs.Prelude.{◌≡◌, ◌≢◌, ◌∷◌, [], List, option_map, Ok, Err, IfOk, IfErr};
+ghost use Rattle.std.specs.Int.NonZero.{non_zero_u64_get};
+ghost use Rattle.just_lang.specs.declared.project.Justfile.{Justfile};
+ghost use Rattle.just_lang.specs.declared.project.LangError.{LangError};
+ghost use Rattle.just_value.specs.Modules.{AreModules};
+ghost use Rattle.just_cli.specs.Faults.{OrMemory};
+ghost use Rattle.just_cli.specs.Projects.{IsSound};
+ghost use Rattle.just_cli.specs.Request.{outline_of, AsksKeys, PlansKeys};
+
+use super::planning::plan_of;
+use super::{Error, Wanted};
+use just_eval::{Request, closure};
+use just_invocations::{invocations, within_one};
+use just_lang::project::{Justfile, LangError};
+use just_lang::{Key, Scopes};
+use just_path::Seq;
+use just_sched::Plan;
+use std::alloc::Global;
+
+/// The keys that the words ask for.
+fn keys_of(
+    alloc: Global,
+    justfile: &Justfile,
+    scopes: &Scopes,
+    wanted: &Wanted,
+) -> Result<Seq<Key>, LangError>
+    ensures keys { IfOk result (λ keys. (modules : List Justfile) → AreModules (justfile.now ∷ []) modules → AsksKeys (record { wanted = wanted.now; justfile = justfile.now; modules = modules; scopes = scopes.now }) (Ok keys)) }
+    ensures refused { IfErr result (λ e. e ≢ LangError.NoMemory → (modules : List Justfile) → AreModules (justfile.now ∷ []) modules → AsksKeys (record { wanted = wanted.now; justfile = justfile.now; modules = modules; scopes = scopes.now }) (Err e)) }
+{
+    let keys = invocations(alloc, justfile, scopes, wanted.words.as_slice())?;
+    within_one(wanted.one, keys)
+}
+
+/// The plan of what the words ask for, with of each node whether the message of its exit code is told.
+pub(crate) fn plan_of_keys(
+    alloc: Global,
+    justfile: &Justfile,
+    scopes: &Scopes,
+    wanted: &Wanted,
+) -> Result<(Plan, Seq<bool>), Error>
+    requires { IsSound justfile.now }
+    ensures plan { IfOk result (λ p. (modules : List Justfile) → AreModules (justfile.now ∷ []) modules → PlansKeys (record { wanted = wanted.now; justfile = justfile.now; modules = modules; scopes = scopes.now }) (Ok (outline_of p.0 (option_map non_zero_u64_get wanted.now.jobs) p.1))) }
+    ensures refused { IfErr result (OrMemory (λ e. (modules : List Justfile) → AreModules (justfile.now ∷ []) modules → PlansKeys (record { wanted = wanted.now; justfile = justfile.now; modules = modules; scopes = scopes.now }) (Err e))) }
+{
+    let keys = match keys_of(alloc, justfile, scopes, wanted) {
+        Ok(keys) => keys,
+        Err(error) => return Err(Error::from(error)),
+    };
+    let closure = match closure(alloc, justfile, scopes, keys.as_slice(), wanted.no_deps) {
+        Ok(closure) => closure,
+        Err(error) => return Err(Error::from(error)),
+    };
+    let request = Request::new(alloc, justfile, scopes)?;
+    plan_of(alloc, &request, &wanted.flags, closure)
+}

@@ -1,0 +1,328 @@
+//! The texts of errors, and the exit codes that they stand for.
+
+ghost use Rattle.std.specs.Prelude.{◌≡◌, ◌++◌, codes, Some, IfOk, string_bytes};
+ghost use Rattle.std.specs.Fmt.{DisplaysOnOk};
+ghost use Rattle.just_env.specs.declared.search_error.SearchError.{SearchError};
+ghost use Rattle.just_errors.specs.declared.error.Error.{Error};
+ghost use Rattle.just_errors.specs.Texts.{search_text, error_text};
+ghost use Rattle.just_errors.specs.Codes.{code_of, prints, prints_always, is_environ_fault, exit_code};
+
+use super::Error;
+use super::parts::{kind_text, usage_text};
+use super::telling::{
+    tell_absent, tell_at, tell_circular, tell_code, tell_count, tell_default, tell_failed,
+    tell_fault, tell_folder, tell_guard, tell_list, tell_naming, tell_overrides, tell_pattern,
+    tell_place, tell_script, tell_shebang, tell_shell, tell_signal, tell_switch, tell_terminated,
+    tell_unstable, tell_values,
+};
+use just_config::Usage;
+use just_env::SearchError;
+use just_outside::{Call, HostFault};
+use just_path::NoMemory;
+use std::alloc::Global;
+use std::fmt;
+
+/// Faulty words.
+fn tell_usage<W: fmt::Write>(usage: &Usage, f: &mut fmt::Formatter<W>) -> fmt::Result
+    ensures { DisplaysOnOk W.write_str_gives f.old result (Some (error_text (Error.Usage usage.now))) f.new }
+{
+    let kind = usage_text(usage.kind);
+    let word = usage.word.as_str();
+    write!(f, "error: usage: {kind} `{word}`")
+}
+
+/// Why no justfile is found.
+fn tell_search<W: fmt::Write>(error: &SearchError, f: &mut fmt::Formatter<W>) -> fmt::Result
+    ensures { DisplaysOnOk W.write_str_gives f.old result (Some (search_text error.now)) f.new }
+{
+    match error {
+        SearchError::FilesystemIo { path, io } => {
+            tell_at("I/O error at ", path.as_str(), *io, f)
+        }
+        SearchError::GlobalJustfileInit => f.write_str("error: cannot initialize global justfile"),
+        SearchError::GlobalJustfileNotFound => f.write_str("error: global justfile not found"),
+        SearchError::InitWithJustfileFromStandardInput => {
+            f.write_str("error: cannot use justfile from standard input with `--init`")
+        }
+        SearchError::JustfileHadNoParent { path } => {
+            write!(f, "error: justfile path had no parent: {}", path.as_str())
+        }
+        SearchError::MultipleCandidates { folder, candidates } => tell_list(
+            "multiple candidate justfiles found in ",
+            folder.as_str(),
+            candidates.as_slice(),
+            f,
+        ),
+        SearchError::NotFound => f.write_str("error: no justfile found"),
+        SearchError::StdinIo { io } => tell_fault("error reading from standard input: ", *io, f),
+        SearchError::TempdirIo { io } => {
+            tell_fault("I/O error creating temporary directory: ", *io, f)
+        }
+        SearchError::Load { path, io } => {
+            tell_at("failed to read justfile at ", path.as_str(), *io, f)
+        }
+        SearchError::Lang(_) => f.write_str("error: the justfile is refused"),
+        SearchError::NoMemory => f.write_str("error: out of memory"),
+    }
+}
+
+impl fmt::Display for Error {
+    ghost output = { λ e. Some (error_text e) };
+
+    /// The error as it is told, without a newline at its end; a count of arguments has the usage of its recipe on further lines.
+    fn fmt<W: fmt::Write>(&self, f: &mut fmt::Formatter<W>) -> fmt::Result {
+        match self {
+            Error::Usage(usage) => tell_usage(usage, f),
+            Error::NotBuilt { word } => tell_naming("usage: NotBuilt ", word.as_str(), "", f),
+            Error::Config(error) => write!(f, "{error}"),
+            Error::CurrentDir { io } => tell_fault("failed to get current directory: ", *io, f),
+            Error::Search(error) => tell_search(error, f),
+            Error::Load { path, io } => {
+                tell_at("failed to read justfile at ", path.as_str(), *io, f)
+            }
+            Error::FilesystemIo { path, io } => tell_at("I/O error at ", path.as_str(), *io, f),
+            Error::MissingImportFile => {
+                f.write_str("error: could not find source file for import")
+            }
+            Error::CircularImport { current, import } => {
+                tell_circular(current.as_str(), import.as_str(), f)
+            }
+            Error::MissingModuleFile { module } => tell_naming(
+                "could not find source file for module ",
+                module.as_str(),
+                "",
+                f,
+            ),
+            Error::AmbiguousModuleFile { module, found } => tell_list(
+                "found multiple source files for module ",
+                module.as_str(),
+                found.as_slice(),
+                f,
+            ),
+            Error::Homedir => f.write_str("error: failed to get homedir"),
+            Error::Compile(error) => {
+                let kind = kind_text(error.kind);
+                tell_place(kind, error.path.as_str(), error.line, error.column, f)
+            }
+            Error::Const { path, line, column } => {
+                tell_place("not constant", path.as_str(), *line, *column, f)
+            }
+            Error::UnstableFeature(feature) => tell_unstable(feature, f),
+            Error::UnknownOverrides { overrides } => tell_overrides(overrides.as_slice(), f),
+            Error::FunctionCall { name } => tell_naming(
+                "call to function `env` failed: environment variable ",
+                name.as_str(),
+                " not present",
+                f,
+            ),
+            Error::NoRecipes => f.write_str("error: justfile contains no recipes"),
+            Error::NoDefaultRecipe => f.write_str("error: justfile contains no default recipe"),
+            Error::DefaultRecipeRequiresArguments {
+                recipe,
+                min_arguments,
+            } => tell_default(recipe, *min_arguments, f),
+            Error::UnknownRecipe { recipe } => {
+                tell_naming("justfile does not contain recipe ", recipe.as_str(), "", f)
+            }
+            Error::UnknownSubmodule { path } => {
+                tell_naming("justfile does not contain submodule ", path.as_str(), "", f)
+            }
+            Error::ModuleAbsent { module } => {
+                tell_naming("optional module ", module.as_str(), " is absent", f)
+            }
+            Error::RecipeDisabled { recipe, modules } => {
+                tell_absent("recipe", recipe, modules.as_slice(), f)
+            }
+            Error::AliasDisabled { alias, modules } => {
+                tell_absent("alias", alias, modules.as_slice(), f)
+            }
+            Error::ExpectedSubmoduleButFoundRecipe { path } => tell_naming(
+                "expected submodule at ",
+                path.as_str(),
+                " but found recipe",
+                f,
+            ),
+            Error::UnknownOption { recipe, switch } => {
+                tell_switch(recipe, " does not have option ", switch, "", f)
+            }
+            Error::InvalidOption { argument } => {
+                tell_naming("argument ", argument.as_str(), " is not a valid option", f)
+            }
+            Error::FlagWithValue { recipe, switch } => {
+                tell_switch(recipe, " flag ", switch, " does not take value", f)
+            }
+            Error::NonFinalOptionWithValue { recipe, switch } => tell_switch(
+                recipe,
+                " option ",
+                switch,
+                " takes a value and so must be last when combined with other options",
+                f,
+            ),
+            Error::OptionMissingValue { recipe, switch } => {
+                tell_switch(recipe, " option ", switch, " missing value", f)
+            }
+            Error::DuplicateOption { recipe, switch } => tell_switch(
+                recipe,
+                " option ",
+                switch,
+                " cannot be passed more than once",
+                f,
+            ),
+            Error::PositionalArgumentCountMismatch {
+                recipe,
+                path,
+                parameters,
+                found,
+            } => tell_count(recipe, path, parameters.as_slice(), *found, f),
+            Error::MissingOption { recipe, switch } => {
+                tell_switch(recipe, " requires option ", switch, "", f)
+            }
+            Error::ArgumentTooFewValues {
+                recipe,
+                parameter,
+                found,
+                min,
+            } => tell_values(recipe, parameter, *found, "least", *min, f),
+            Error::ArgumentTooManyValues {
+                recipe,
+                parameter,
+                found,
+                max,
+            } => tell_values(recipe, parameter, *found, "most", *max, f),
+            Error::ArgumentPatternMismatch {
+                argument,
+                recipe,
+                parameter,
+                pattern,
+            } => tell_pattern(argument, recipe, parameter, pattern.as_slice(), f),
+            Error::EmptyListArgument { recipe, parameter } => tell_switch(
+                recipe,
+                " parameter ",
+                parameter,
+                " requires at least one element but received empty list",
+                f,
+            ),
+            Error::ExcessInvocations { invocations } => write!(
+                f,
+                "error: expected 1 command-line recipe invocation but found {invocations}"
+            ),
+            Error::ClosureLimit => f.write_str("error: request needs more than 1000000 recipes"),
+            Error::InvalidShebang { recipe, shebang } => {
+                tell_switch(recipe, " has invalid shebang ", shebang, "", f)
+            }
+            Error::Code {
+                recipe,
+                line,
+                code,
+                ..
+            } => {
+                tell_failed(recipe, line, f)?;
+                tell_code(code, f)
+            }
+            Error::GuardCode { recipe, line, code } => tell_guard(recipe, *line, code, f),
+            Error::Signal {
+                recipe,
+                line,
+                signal,
+            } => {
+                tell_terminated(recipe, line, f)?;
+                tell_signal(signal, f)
+            }
+            Error::Unknown { recipe, line } => {
+                tell_failed(recipe, line, f)?;
+                f.write_str(" for an unknown reason")
+            }
+            Error::ShellIo { recipe, shell, io } => tell_shell(recipe, shell, *io, f),
+            Error::Script {
+                recipe,
+                command,
+                io,
+            } => tell_script(recipe, command, *io, f),
+            Error::Shebang {
+                recipe,
+                command,
+                argument,
+                io,
+            } => tell_shebang(recipe, command, argument, *io, f),
+            Error::TempdirIo { recipe, io } => tell_folder(recipe, *io, f),
+            Error::StdoutIo { io } => tell_fault("I/O error writing to stdout: ", *io, f),
+            Error::Interrupted(signal) => write!(f, "error: interrupted by {signal}"),
+            Error::NoMemory => f.write_str("error: out of memory"),
+        }
+    }
+}
+
+impl fmt::Debug for Error {
+    /// The text of the error, as it is told.
+    fn fmt<W: fmt::Write>(&self, f: &mut fmt::Formatter<W>) -> fmt::Result {
+        write!(f, "{self}")
+    }
+}
+
+impl std::error::Error for Error {}
+
+/// Whether a fault is that of asking for the environment.
+fn is_environ_fault(io: HostFault) -> bool
+    ensures { result ≡ is_environ_fault io }
+{
+    match io {
+        HostFault::Failed(Call::Environ) => true,
+        _ => false,
+    }
+}
+
+impl Error {
+    /// The text of the error, as it is told.
+    pub fn text(&self, alloc: Global) -> Result<String, NoMemory>
+        ensures { IfOk result (λ s. string_bytes s ≡ error_text self.now) }
+    {
+        Ok(format!(in alloc; "{self}")?)
+    }
+
+    /// The exit code that the error stands for, where it stands for one.
+    pub fn code(&self) -> Option<i32>
+        ensures { result ≡ code_of self.now }
+    {
+        match self {
+            Error::Code { code, .. } => Some(*code),
+            Error::Signal { signal, .. } => signal.checked_add(128),
+            Error::Interrupted(signal) => Some(signal.code()),
+            _ => None,
+        }
+    }
+
+    /// The exit code of a run that ends with the error: 2 for faulty words, 125 for want of memory, else the error's own or 1.
+    pub fn exit_code(&self) -> i32
+        ensures { result ≡ exit_code self.now }
+    {
+        match self {
+            Error::Usage(_) | Error::NotBuilt { .. } => 2,
+            Error::NoMemory => 125,
+            _ => self.code().unwrap_or(1),
+        }
+    }
+
+    /// Whether the error is printed, where the words don't ask for quiet.
+    pub fn print_message(&self) -> bool
+        ensures { result ≡ prints self.now }
+    {
+        match self {
+            Error::Code { message, .. } => *message,
+            _ => true,
+        }
+    }
+
+    /// Whether the error is printed also where the words ask for quiet.
+    pub fn prints_always(&self) -> bool
+        ensures { result ≡ prints_always self.now }
+    {
+        match self {
+            Error::Usage(_)
+            | Error::NotBuilt { .. }
+            | Error::Config(_)
+            | Error::CurrentDir { .. } => true,
+            Error::FilesystemIo { io, .. } => is_environ_fault(*io),
+            _ => false,
+        }
+    }
+}

@@ -1,0 +1,3 @@
+-- The lemmas of plans.
+pub mod Each
+pub mod KeyPlans

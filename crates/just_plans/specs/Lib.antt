@@ -1,0 +1,4 @@
+-- The definitions that the contracts of plans cite.
+pub mod Prompts
+pub mod Banners
+pub mod Plans

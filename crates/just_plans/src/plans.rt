@@ -1,0 +1,142 @@
+//! The plans of nodes.
+
+ghost use Rattle.std.specs.Prelude.{◌≡◌, IfOk, Some, map};
+ghost use Rattle.just_path.specs.Path.{text_of};
+ghost use Rattle.just_commands.specs.Works.{run_of};
+ghost use Rattle.just_eval.specs.Entries.{located_of};
+ghost use Rattle.just_eval.specs.Requests.{IsIndexed};
+ghost use Rattle.just_plans.specs.Plans.{GivesPlan, folder_in, running, node_plan, no_plan, recipe_plan, key_plan, plan_of_node, node_plans};
+
+use super::asked::{is_parallel, prompt};
+use super::heading::banner;
+use super::{Bodies, NodePlan, PlanError};
+use just_commands::{RunFlags, Running, Work, module_folder, recipe_work};
+use just_eval::{Entry, Request};
+use just_lang::project::Justfile;
+use just_lang::{BodyLine, Key, Node, Value};
+use just_path::{NoMemory, Seq, Text, Utf8Path};
+use std::alloc::Global;
+
+/// The plan of a path at which no recipe is.
+fn no_plan(alloc: Global) -> NodePlan
+    ensures { result ≡ no_plan }
+{
+    NodePlan {
+        prompt: None,
+        parallel: false,
+        work: Work::Empty,
+        banner: Text::from(String::new(alloc)),
+    }
+}
+
+/// The plan of a recipe that has this to run.
+fn node_plan(
+    alloc: Global,
+    flags: &RunFlags,
+    from: &Entry<'_>,
+    work: Work,
+) -> Result<NodePlan, NoMemory>
+    ensures { IfOk result (λ p. p ≡ node_plan flags.now (located_of from.now) work) }
+{
+    Ok(NodePlan {
+        prompt: prompt(alloc, flags, from.recipe)?,
+        parallel: is_parallel(from.recipe),
+        work,
+        banner: banner(alloc, flags, from.recipe)?,
+    })
+}
+
+/// The folder of a module.
+fn folder_of<'p>(flags: &'p RunFlags, parent: &'p Justfile) -> Utf8Path<'p>
+    ensures { text_of result ≡ folder_in flags.now parent.now }
+{
+    let working = flags.folder.as_path();
+    module_folder(working, &parent.module_path, parent.source.as_path())
+}
+
+/// A recipe in its module, as it is run.
+#[tactic(auto, using(crate::proofs::KeyPlans::running_is))]
+fn running<'r>(
+    flags: &'r RunFlags,
+    from: &Entry<'r>,
+    values: &'r [Value],
+    changes: &'r [(Text, Option<Text>)],
+) -> Running<'r>
+    ensures { run_of result ≡ running flags.now (located_of from.now) values.now changes.now }
+{
+    Running {
+        recipe: from.recipe,
+        settings: &from.parent.settings,
+        folder: folder_of(flags, from.parent),
+        values,
+        changes,
+        flags,
+    }
+}
+
+/// The plan of a recipe, by the lines of its body.
+#[tactic(auto, using(crate::proofs::KeyPlans::work_refused, crate::proofs::KeyPlans::work_planned))]
+fn recipe_plan(
+    alloc: Global,
+    flags: &RunFlags,
+    from: &Entry<'_>,
+    values: &[Value],
+    changes: &[(Text, Option<Text>)],
+    lines: &[BodyLine],
+) -> Result<NodePlan, PlanError>
+    ensures { GivesPlan (recipe_plan flags.now (Some (located_of from.now)) values.now changes.now lines.now) result }
+{
+    let run = running(flags, from, values, changes);
+    let work = recipe_work(alloc, &run, lines)?;
+    Ok(node_plan(alloc, flags, from, work)?)
+}
+
+/// The plan of a key's recipe, by the lines of its body.
+#[tactic(auto, using(crate::proofs::KeyPlans::lines_refused, crate::proofs::KeyPlans::no_recipe, crate::proofs::KeyPlans::recipe_planned, crate::proofs::KeyPlans::recipe_refused))]
+fn key_plan<B: Bodies>(
+    alloc: Global,
+    request: &Request<'_>,
+    bodies: &B,
+    flags: &RunFlags,
+    key: &Key,
+) -> Result<NodePlan, PlanError>
+    requires indexed { IsIndexed request.now }
+    requires known { B.known bodies.now }
+    ensures { GivesPlan (key_plan flags.now (map (λ m. m.now) request.now.modules.items) (B.lines bodies.now) (B.changes bodies.now) key.now) result }
+{
+    let lines = bodies.lines(alloc, key)?;
+    let Some(from) = request.entry(&key.recipe) else {
+        return Ok(no_plan(alloc));
+    };
+    let changes = bodies.changes(alloc, key)?;
+    let values = key.arguments.as_slice();
+    recipe_plan(
+        alloc,
+        flags,
+        &from,
+        values,
+        changes.as_slice(),
+        lines.as_slice(),
+    )
+}
+
+/// What the plan of a run says of each of some nodes: what is asked before it, what its body has to run, and what is printed when
+/// it is begun. The first node whose lines have no values, or whose script names no interpreter, refuses it.
+#[tactic(auto, using(crate::proofs::Each::each_more, crate::proofs::Each::each_refused, crate::proofs::Each::each_end))]
+pub fn node_plans<B: Bodies>(
+    alloc: Global,
+    request: &Request<'_>,
+    bodies: &B,
+    flags: &RunFlags,
+    nodes: &[Node],
+) -> Result<Seq<NodePlan>, PlanError>
+    requires indexed { IsIndexed request.now }
+    requires known { B.known bodies.now }
+    ensures { GivesPlan (node_plans flags.now (map (λ m. m.now) request.now.modules.items) (B.lines bodies.now) (B.changes bodies.now) nodes.now) result }
+{
+    let mut plans = Vec::with_capacity(alloc, nodes.len())?;
+    'nodes: for node in nodes {
+        plans.push(key_plan(alloc, request, bodies, flags, &node.key)?)?;
+    }
+    Ok(Seq::from(plans))
+}
