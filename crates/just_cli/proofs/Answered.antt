@@ -8,10 +8,11 @@ use Rattle.just_errors.specs.declared.error.Error.{Error}
 use Rattle.just_cli.specs.declared.ended.Failure.{Failure}
 use Rattle.just_cli.specs.declared.ended.Report.{Report}
 use Rattle.just_cli.specs.Answered.{IsBeside, call_failed, too_big, no_memory, Fits, IsAnswered}
-use Rattle.just_cli.specs.Faults.{is_fault}
-use Rattle.just_cli.specs.Request.{Outline, outline_of, Asks, IsAsked, RefusedFor, IsOwn, is_too_big}
+use Rattle.just_planning.specs.Own.{is_fault, IsOwn, is_too_big}
+use Rattle.just_planning.specs.Request.{Outline, outline_of}
+use Rattle.just_cli.specs.Request.{Asks, IsAsked, RefusedFor}
 use Rattle.just_cli.proofs.Requests.{one_answer}
-use Rattle.just_cli.proofs.Steps.{same_found, refused_or_found}
+use Rattle.just_planning.proofs.Steps.{same_found, refused_or_found}
 
 module _ (jobs : Option ℕ) (messages : List Bool) (words : List (List ℕ)) (w : World) where
   -- the plan of a run is the one that is asked for

@@ -8,7 +8,7 @@ use Rattle.just_words.specs.declared.words.Read.TheVariants as read
 use Rattle.just_words.specs.Words.{Means}
 use Rattle.just_errors.specs.declared.error.Error.{Error}
 use Rattle.just_errors.specs.declared.error.Error.TheVariants as error
-use Rattle.just_cli.specs.Faults.{OrMemory}
+use Rattle.just_planning.specs.Own.{OrMemory}
 use Rattle.just_cli.specs.Questions.{AsksQuiet}
 use Rattle.just_cli.specs.Quiet.{AskQuiet, as_read, unread}
 use Rattle.just_cli.specs.Record.{AreMisses, EndsWith}

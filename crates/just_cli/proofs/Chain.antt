@@ -10,10 +10,11 @@ use Rattle.just_words.specs.declared.words.Read.TheVariants as read
 use Rattle.just_words.specs.Words.{Means}
 use Rattle.just_errors.specs.Refusals.{error_of_search}
 use Rattle.just_errors.specs.declared.error.Error.{Error}
-use Rattle.just_cli.specs.declared.wanted.Wanted.{Wanted}
-use Rattle.just_cli.specs.Faults.{OrMemory}
-use Rattle.just_cli.specs.Request.{SourcesRequest, Outline, justfile_in, PlansSources, Serves, EnvironGiven, FolderGiven, Asks}
-use Rattle.just_cli.specs.Steps.{stops, goes_on}
+use Rattle.just_planning.specs.declared.wanted.Wanted.{Wanted}
+use Rattle.just_planning.specs.Own.{OrMemory}
+use Rattle.just_planning.specs.Request.{SourcesRequest, Outline, PlansSources}
+use Rattle.just_cli.specs.Request.{justfile_in, Serves, EnvironGiven, FolderGiven, Asks}
+use Rattle.just_planning.specs.Steps.{stops, goes_on}
 use Rattle.just_cli.specs.Words.{WordsRequest, ArgumentsRequest, FolderRequest, WantedRequest, ReadsWords, Configures}
 
 -- ---- what is known

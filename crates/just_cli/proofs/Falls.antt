@@ -28,7 +28,8 @@ use Rattle.just_cli.specs.declared.ended.Report.{Report}
 use Rattle.just_errors.specs.declared.error.Error.{Error}
 use Rattle.just_errors.specs.declared.error.Error.TheVariants as error
 use Rattle.just_cli.specs.Caused.{IsCaused}
-use Rattle.just_cli.specs.Faults.{entries_of, is_failed_call, is_missed_call, is_fault, is_miss}
+use Rattle.just_planning.specs.Own.{is_failed_call, is_missed_call, is_fault, is_miss}
+use Rattle.just_cli.specs.Faults.{entries_of}
 use Rattle.just_cli.proofs.Caused.{memory_alone}
 use Rattle.just_cli.specs.Record.{Stretches, EndsWith, EndsIll, EndsBefore, IsQuiet}
 use Rattle.just_cli.proofs.Worlds.{worlds_set, errors_set}

@@ -6,9 +6,9 @@ use Rattle.just_config.specs.declared.config_error.ConfigError.TheVariants as co
 use Rattle.just_config.specs.Config.{IsRefusedBy}
 use Rattle.just_errors.specs.declared.error.Error.{Error}
 use Rattle.just_errors.specs.declared.error.Error.TheVariants as error
-use Rattle.just_cli.specs.declared.wanted.Wanted.{Wanted}
-use Rattle.just_cli.specs.Faults.{OrMemory}
-use Rattle.just_cli.specs.Steps.{stops, goes_on}
+use Rattle.just_planning.specs.declared.wanted.Wanted.{Wanted}
+use Rattle.just_planning.specs.Own.{OrMemory}
+use Rattle.just_planning.specs.Steps.{stops, goes_on}
 use Rattle.just_path.specs.declared.environ.Environ.{Environ}
 use Rattle.just_errors.specs.Refusals.{error_of_config}
 use Rattle.just_cli.specs.Words.{FolderRequest, ConfigRequest, WantedRequest, GivesConfig, IsBuilt, Configures}

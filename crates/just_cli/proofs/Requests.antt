@@ -12,11 +12,13 @@ use Rattle.just_words.specs.declared.words.Read.TheVariants as read
 use Rattle.just_words.proofs.Laws.{one_meaning}
 use Rattle.just_errors.specs.declared.error.Error.{Error}
 use Rattle.just_errors.specs.declared.error.Error.TheVariants as error
-use Rattle.just_cli.specs.Faults.{CallGives, FaultFits, io_error, folder_error, is_fault}
+use Rattle.just_planning.specs.Own.{is_fault, IsOwn}
+use Rattle.just_cli.specs.Faults.{CallGives, FaultFits, io_error, folder_error}
 use Rattle.just_cli.specs.Words.{WordsRequest, ArgumentsRequest, FolderRequest, ConfigRequest, WantedRequest, FindsEnviron, ReadsWords, FindsFolder, GivesConfig, IsBuilt, Configures}
-use Rattle.just_cli.specs.Request.{Outline, LoadsSources, AssemblesJustfile, ChecksFeatures, AsksNoDotenv, EvaluatesVariables, InvokesKeys, ClosesKeys, ChecksRecipes, MakesPlan, PlansKeys, PlansProject, PlansSources, environ_shown, folder_shown, EnvironGiven, FolderGiven, Serves, Asks, IsOwn}
+use Rattle.just_planning.specs.Request.{Outline, AssemblesJustfile, ChecksFeatures, AsksNoDotenv, EvaluatesVariables, InvokesKeys, ClosesKeys, ChecksRecipes, MakesPlan, PlansKeys, PlansProject, PlansSources}
+use Rattle.just_cli.specs.Request.{LoadsSources, environ_shown, folder_shown, EnvironGiven, FolderGiven, Serves, Asks}
 use Rattle.just_cli.proofs.Arguments.{arguments_one}
-use Rattle.just_cli.proofs.Steps.{GivesOwn, same_refusal, refused_or_found, same_found, then_own}
+use Rattle.just_planning.proofs.Steps.{GivesOwn, same_refusal, refused_or_found, same_found, then_own}
 
 -- an option that holds something holds one thing, and not nothing
 held_one : {A : Type 0} (o : Option A) (x y : A) → o ≡ Some x → o ≡ Some y → x ≡ y
@@ -101,54 +103,7 @@ configures = then_own GivesConfig IsBuilt gives_config is_built
 loads_sources : (w : World) → GivesOwn (LoadsSources (Some w))
 loads_sources w k r s p m q n = ?loads
 
--- sources make one justfile, or break one first rule, but for patterns that are too big: by a law on projects
-assembles_justfile : GivesOwn AssemblesJustfile
-assembles_justfile k r s p m q n = ?assembles
-
-checks_features : GivesOwn ChecksFeatures
-checks_features k (Ok a) (Ok b) p m q n = ap (λ x. Ok x) (p.1 ∙ sym q.1)
-checks_features k (Ok a) (Err f) p m q n = absurd (held_none _ q.0 p.0 q.1)
-checks_features k (Err e) (Ok b) p m q n = absurd (held_none _ p.0 q.0 p.1)
-checks_features k (Err e) (Err f) p m q n = ap (λ x. Err x) (p.2 ∙ ap (λ u. error.UnstableFeature u) (held_one _ p.0 q.0 p.1 q.1) ∙ sym q.2)
-
-asks_no_dotenv : GivesOwn AsksNoDotenv
-asks_no_dotenv k (Ok a) (Ok b) p m q n = ap (λ x. Ok x) (p.1 ∙ sym q.1)
-asks_no_dotenv k (Ok a) (Err f) p m q n = absurd (held_none _ q.0 p.0 q.1)
-asks_no_dotenv k (Err e) (Ok b) p m q n = absurd (held_none _ p.0 q.0 p.1)
-asks_no_dotenv k (Err e) (Err f) p m q n = ap (λ x. Err x) (p.2 ∙ ap (λ x. error.NotBuilt x) (held_one _ p.0 q.0 p.1 q.1) ∙ sym q.2)
-
--- a project has one evaluation, since no variable leads to itself: by a law on evaluations
-evaluates_variables : GivesOwn EvaluatesVariables
-evaluates_variables k r s p m q n = ?evaluates
-
--- words ask for one thing
-invokes_keys : GivesOwn InvokesKeys
-invokes_keys k r s p m q n = ?invokes
-
--- keys have one closure: by a law on visits
-closes_keys : GivesOwn ClosesKeys
-closes_keys k r s p m q n = ?closes
-
-checks_recipes : GivesOwn ChecksRecipes
-checks_recipes k (Ok a) (Ok b) p m q n = ap (λ x. Ok x) (p.1 ∙ sym q.1)
-checks_recipes k (Ok a) (Err f) p m q n = absurd (held_none _ q.0 p.0 q.1)
-checks_recipes k (Err e) (Ok b) p m q n = absurd (held_none _ p.0 q.0 p.1)
-checks_recipes k (Err e) (Err f) p m q n = ap (λ x. Err x) (p.2 ∙ ap (λ x. error.NotBuilt x) (held_one _ p.0 q.0 p.1 q.1) ∙ sym q.2)
-
--- a closure has one plan, or one refusal
-makes_plan : GivesOwn MakesPlan
-makes_plan k r s p m q n = ?makes
-
 -- ---- the chain
-
-plans_keys : GivesOwn PlansKeys
-plans_keys = then_own InvokesKeys _ invokes_keys (then_own ClosesKeys _ closes_keys (then_own ChecksRecipes MakesPlan checks_recipes makes_plan))
-
-plans_project : GivesOwn PlansProject
-plans_project = then_own ChecksFeatures _ checks_features (then_own AsksNoDotenv _ asks_no_dotenv (then_own EvaluatesVariables PlansKeys evaluates_variables plans_keys))
-
-plans_sources : GivesOwn PlansSources
-plans_sources = then_own AssemblesJustfile PlansProject assembles_justfile plans_project
 
 serves_own : (w : World) → GivesOwn (Serves (Some w))
 serves_own w = then_own (FindsFolder (FolderGiven (Some w))) _ (finds_folder w) (then_own Configures _ configures (then_own (LoadsSources (Some w)) PlansSources (loads_sources w) plans_sources))

@@ -18,11 +18,12 @@ use Rattle.just_sched.specs.Verdict.{IsVerdict, NoneDecides}
 use Rattle.just_cli.specs.declared.ended.Failure.{Failure}
 use Rattle.just_cli.specs.declared.ended.Report.{Report}
 use Rattle.just_errors.specs.declared.error.Error.{Error}
-use Rattle.just_cli.specs.Faults.{OrMemory}
+use Rattle.just_planning.specs.Own.{OrMemory}
 use Rattle.just_cli.specs.Outcome.{IsErrorFor}
 use Rattle.just_cli.specs.Quiet.{AskQuiet}
 use Rattle.just_cli.specs.Record.{IsBook, IsTold, AreMisses, EndsWith, EndsWell, EndsIll, EndsBefore}
-use Rattle.just_cli.specs.Request.{outline_of, Asks, IsAsked, RefusedFor}
+use Rattle.just_planning.specs.Request.{outline_of}
+use Rattle.just_cli.specs.Request.{Asks, IsAsked, RefusedFor}
 use Rattle.just_cli.specs.Run.{IsRun}
 use Rattle.just_errors.specs.Codes.{exit_code}
 use Rattle.just_cli.proofs.Answered.{answered}

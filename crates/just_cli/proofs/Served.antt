@@ -12,7 +12,8 @@ use Rattle.just_cli.specs.declared.ended.Failure.{Failure}
 use Rattle.just_cli.specs.declared.ended.Report.{Report}
 use Rattle.just_cli.specs.Answered.{IsBeside, call_failed, too_big, no_memory, IsAnswered, IsServed}
 use Rattle.just_cli.specs.Record.{EndsIll, EndsBefore, Hindered, before, within}
-use Rattle.just_cli.specs.Request.{Outline, outline_of, is_too_big}
+use Rattle.just_planning.specs.Own.{is_too_big}
+use Rattle.just_planning.specs.Request.{Outline, outline_of}
 use Rattle.just_cli.proofs.Falls.{Failed}
 
 module _ (words : List (List ℕ)) (w : World) (jobs : Option ℕ) (messages : List Bool) (quiet : Bool) (f : Failure) (old new : List Entry) where

@@ -6,9 +6,10 @@ use Rattle.just_errors.specs.declared.error.Error.{Error}
 use Rattle.just_errors.specs.declared.error.Error.TheVariants as error
 use Rattle.just_cli.specs.declared.ended.Failure.{Failure}
 use Rattle.just_cli.specs.declared.ended.Report.{Report}
-use Rattle.just_cli.specs.Faults.{is_fault}
+use Rattle.just_planning.specs.Own.{is_fault, IsOwn, is_too_big}
 use Rattle.just_cli.specs.Record.{Hindered}
-use Rattle.just_cli.specs.Request.{Outline, outline_of, Asks, IsOwn, is_too_big}
+use Rattle.just_planning.specs.Request.{Outline, outline_of}
+use Rattle.just_cli.specs.Request.{Asks}
 
 -- An error that words and world don't determine: a call of the host failed, a pattern is too big for the library, or memory is
 -- wanting.

@@ -1,5 +1,5 @@
 -- What a call of the host answers to a request, and what a refused one is told as.
-use Rattle.std.specs.Prelude.{ℕ, ◌≡◌, ◌⊎◌, Bool, true, false, List, [], Option, Some, None, Result, Ok, Err, MatchOption}
+use Rattle.std.specs.Prelude.{ℕ, ◌≡◌, List, [], Option, Some, None, Result, Ok, Err, MatchOption}
 use Rattle.just_path.specs.declared.host.Miss.{Miss}
 use Rattle.just_path.specs.declared.host.PathFault.{PathFault}
 use Rattle.just_path.specs.declared.host.PathFault.TheVariants as path_fault
@@ -11,6 +11,7 @@ use Rattle.just_outside.specs.declared.entry.HostFault.TheVariants as fault
 use Rattle.just_outside.specs.Record.{refused}
 use Rattle.just_errors.specs.declared.error.Error.{Error}
 use Rattle.just_errors.specs.declared.error.Error.TheVariants as error
+use Rattle.just_planning.specs.Own.{call_in}
 
 -- the fault of asking for the current folder, as a fault of a host
 abbrev pub fault_of_path : PathFault → HostFault
@@ -34,18 +35,6 @@ folder_error f = error_by (λ g. error.CurrentDir g) f
 abbrev pub print_error : HostFault → Error
 print_error f = error_by (λ g. error.StdoutIo g) f
 
--- the path of the refused call that an error tells, empty where the call has none, and the refusal
-abbrev pub call_in : Error → Option (List ℕ × HostFault)
-call_in (error.FilesystemIo path io) = Some (path, io)
-call_in (error.Load path io) = Some (path, io)
-call_in (error.CurrentDir io) = Some ([], io)
-call_in (error.ShellIo recipe shell io) = Some ([], io)
-call_in (error.Script recipe command io) = Some ([], io)
-call_in (error.Shebang recipe command argument io) = Some ([], io)
-call_in (error.TempdirIo recipe io) = Some ([], io)
-call_in (error.StdoutIo io) = Some ([], io)
-call_in _ = None
-
 abbrev pub refused_in : Option (List ℕ × HostFault) → List Entry
 refused_in (Some x) = refused x.0 x.1
 refused_in None = []
@@ -53,21 +42,6 @@ refused_in None = []
 -- the entry of the refused call that an error tells, if it tells one
 abbrev pub entries_of : Error → List Entry
 entries_of e = refused_in (call_in e)
-
-abbrev pub is_failed_call : Option (List ℕ × HostFault) → Bool
-is_failed_call (Some (path, fault.Failed c)) = true
-is_failed_call _ = false
-
-abbrev pub is_missed_call : Option (List ℕ × HostFault) → Bool
-is_missed_call (Some (path, fault.Missed m)) = true
-is_missed_call _ = false
-
--- the error is of a call of the host that failed, or that missed
-abbrev pub is_fault : Error → Bool
-is_fault e = is_failed_call (call_in e)
-
-abbrev pub is_miss : Error → Bool
-is_miss e = is_missed_call (call_in e)
 
 -- a fault is the call's own, and a miss is the one that is shown, where something is
 abbrev pub FaultFits : {A : Type 0} → Call → Option (Result A Miss) → HostFault → Type 0
@@ -80,7 +54,3 @@ FaultFits c shown fault.NoMemory = ⊥
 abbrev pub CallGives : {A : Type 0} → Call → (HostFault → Error) → Option (Result A Miss) → Result A Error → Type 0
 CallGives c told shown (Ok x) = MatchOption shown (Unit {0}) (λ s. s ≡ Ok x)
 CallGives c told shown (Err e) = (f : HostFault) × (e ≡ told f) × FaultFits c shown f
-
--- that error, or want of memory
-abbrev pub OrMemory : (Error → Type 0) → Error → Type 0
-OrMemory holds e = (e ≡ error.NoMemory) ⊎ holds e

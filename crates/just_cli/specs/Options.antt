@@ -1,5 +1,5 @@
 -- What of a configuration isn't built yet, and what is asked of a justfile.
-use Rattle.std.specs.Prelude.{ℕ, Bool, true, false, not, ◌==◌, ◌||◌, if◌then◌else◌, nat_le, List, [], ◌∷◌, Option, Some, None, codes, is_some}
+use Rattle.std.specs.Prelude.{ℕ, Bool, true, false, ◌||◌, if◌then◌else◌, nat_le, List, [], ◌∷◌, Option, Some, None, codes, is_some}
 use Rattle.just_path.specs.Environ.{or_else}
 use Rattle.just_words.specs.declared.subcommand.Subcommand.{Subcommand}
 use Rattle.just_words.specs.declared.subcommand.Subcommand.TheVariants as command
@@ -8,13 +8,10 @@ use Rattle.just_config.specs.declared.search_config.SearchConfig.{SearchConfig}
 use Rattle.just_config.specs.declared.search_config.SearchConfig.TheVariants as search
 use Rattle.just_config.specs.Verbosities.{level}
 use Rattle.just_commands.specs.declared.run_flags.RunFlags.{RunFlags}
-use Rattle.just_cli.specs.declared.wanted.Wanted.{Wanted}
+use Rattle.just_planning.specs.Forms.{word_if}
+use Rattle.just_planning.specs.declared.wanted.Wanted.{Wanted}
 
 -- ---- what isn't built
-
--- an option's word, where the option is given
-abbrev pub word_if : Bool → List ℕ → Option (List ℕ)
-word_if given word = if given then Some word else None
 
 abbrev pub is_any : List (List ℕ) → Bool
 is_any [] = false

@@ -19,7 +19,8 @@ use Rattle.just_cli.specs.Faults.{print_error}
 use Rattle.just_cli.specs.Record.{AreMisses, EndsBefore}
 use Rattle.just_cli.specs.declared.task.Task.{Task}
 use Rattle.just_cli.specs.declared.task.Task.TheVariants as task
-use Rattle.just_cli.specs.Request.{outline_of, EnvironGiven, Asks}
+use Rattle.just_planning.specs.Request.{outline_of}
+use Rattle.just_cli.specs.Request.{EnvironGiven, Asks}
 use Rattle.just_errors.specs.Codes.{exit_code}
 
 -- the line of the version: `just 1.58.0`

@@ -10,7 +10,7 @@ use Rattle.just_cli.specs.declared.ended.Report.{Report}
 use Rattle.just_errors.specs.Codes.{exit_code}
 use Rattle.just_errors.specs.declared.error.Error.TheVariants as error
 use Rattle.just_cli.specs.Answered.{IsAnswered, IsServed}
-use Rattle.just_cli.specs.Faults.{is_fault, is_miss}
+use Rattle.just_planning.specs.Own.{is_fault, is_miss}
 use Rattle.just_cli.specs.Questions.{IsQuestion, IsShown}
 use Rattle.just_cli.specs.Quiet.{AskQuiet}
 use Rattle.just_cli.specs.Record.{EndsWell, EndsIll, EndsBefore, IsQuiet}

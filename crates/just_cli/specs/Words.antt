@@ -10,9 +10,9 @@ use Rattle.just_config.specs.declared.config_error.ConfigError.{ConfigError}
 use Rattle.just_config.specs.Config.{refusal, config_of}
 use Rattle.just_errors.specs.declared.error.Error.{Error}
 use Rattle.just_errors.specs.declared.error.Error.TheVariants as error
-use Rattle.just_cli.specs.declared.wanted.Wanted.{Wanted}
+use Rattle.just_planning.specs.declared.wanted.Wanted.{Wanted}
 use Rattle.just_cli.specs.Options.{not_built, wanted_of}
-use Rattle.just_cli.specs.Steps.{Then}
+use Rattle.just_planning.specs.Steps.{Then}
 
 -- ---- what is known behind each step; the environment goes along, since values ask it too
 

@@ -5,15 +5,16 @@ ghost use Rattle.just_path.specs.declared.environ.Environ.{Environ};
 ghost use Rattle.just_words.specs.Words.{Means};
 ghost use Rattle.just_config.specs.Config.{refusal, config_of};
 ghost use Rattle.just_errors.specs.declared.error.Error.TheVariants as error;
-ghost use Rattle.just_cli.specs.Faults.{OrMemory};
+ghost use Rattle.just_planning.specs.Own.{OrMemory};
 ghost use Rattle.just_cli.specs.Options.{is_any, flags_of, wanted_of};
 ghost use Rattle.just_cli.specs.Words.{ReadsWords, GivesConfig, IsBuilt, Configures};
 
+use super::Error;
 use super::options::{is_any, not_built};
-use super::{Error, Wanted};
 use just_commands::RunFlags;
 use just_config::{Arguments, Config, Read, read_words};
 use just_path::{Environ, Seq, Text, Utf8PathBuf};
+use just_planning::{Wanted, not_built_error};
 use std::alloc::Global;
 
 /// What the words ask for, with the variables of the environment.
@@ -24,16 +25,6 @@ pub(crate) fn read(alloc: Global, words: &[&str], environ: &Environ) -> Result<R
     match read_words(alloc, words, environ) {
         Ok(read) => Ok(read),
         Err(usage) => Err(Error::from(usage)),
-    }
-}
-
-/// The error of what isn't built yet.
-pub(crate) fn not_built_error(alloc: Global, word: &str) -> Error
-    ensures { OrMemory (λ e. e ≡ error.NotBuilt word.now) result }
-{
-    match Text::from_str(alloc, word) {
-        Ok(word) => Error::NotBuilt { word },
-        Err(_) => Error::NoMemory,
     }
 }
 

@@ -8,7 +8,8 @@ ghost use Rattle.just_search.specs.Loads.{LoadsAll};
 ghost use Rattle.just_search.specs.Shows.{sources_of};
 ghost use Rattle.just_errors.specs.Refusals.{error_of_search};
 ghost use Rattle.just_errors.specs.declared.error.Error.{Error};
-ghost use Rattle.just_cli.specs.Faults.{OrMemory, entries_of, fault_of_path as host_fault, io_error as told_error, folder_error as told_folder};
+ghost use Rattle.just_planning.specs.Own.{OrMemory};
+ghost use Rattle.just_cli.specs.Faults.{entries_of, fault_of_path as host_fault, io_error as told_error, folder_error as told_folder};
 ghost use Rattle.just_cli.specs.Record.{AreMisses, EndsWith};
 ghost use Rattle.just_cli.specs.Request.{EnvironGiven, FolderGiven, justfile_in};
 

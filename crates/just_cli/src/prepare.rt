@@ -4,21 +4,22 @@ ghost use Rattle.std.specs.Prelude.{◌≡◌, ◌++◌, ℕ, [], List, map, tru
 ghost use Rattle.std.specs.Int.NonZero.{non_zero_u64_get};
 ghost use Rattle.just_outside.specs.declared.entry.Entry.{Entry};
 ghost use Rattle.just_config.specs.declared.help.TheConstants.{HELP};
-ghost use Rattle.just_cli.specs.Faults.{OrMemory};
+ghost use Rattle.just_planning.specs.Own.{OrMemory};
 ghost use Rattle.just_errors.specs.declared.error.Error.TheVariants as error;
 ghost use Rattle.just_cli.specs.declared.task.Task.TheVariants as task;
 ghost use Rattle.just_cli.specs.Questions.{version_line, IsTask, TaskEntries};
 ghost use Rattle.just_cli.specs.Quiet.{AskQuiet};
 ghost use Rattle.just_cli.specs.Record.{AreMisses, EndsWith};
-ghost use Rattle.just_cli.specs.Request.{outline_of, Serves, Asks};
+ghost use Rattle.just_planning.specs.Request.{outline_of};
+ghost use Rattle.just_cli.specs.Request.{Serves, Asks};
 
 use super::configured::{configure, read};
 use super::given::{current_folder, environment, load};
-use super::project::plan_of_sources;
 use super::{Error, Task};
 use just_config::{Arguments, HELP, Read, Version};
 use just_host::Host;
 use just_path::{Environ, NoMemory, Seq, Text};
+use just_planning::plan_of_sources;
 use just_sched::Plan;
 use std::alloc::Global;
 use std::num::NonZeroU64;

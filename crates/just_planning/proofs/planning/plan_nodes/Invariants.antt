@@ -2,8 +2,8 @@
 use Rattle.std.proofs.Common.{◌≡◌, ◌<◌, ◌^◌, ◌++◌, length, reverse}
 use Rattle.std.specs.Prelude.{All}
 use Rattle.just_commands.specs.Steps.{commands_of}
-use Rattle.just_cli.specs.Planned.{plan_nodes}
-use Rattle.just_cli.proofs.planning.plan_nodes.Given as goal
+use Rattle.just_planning.specs.Planned.{plan_nodes}
+use Rattle.just_planning.proofs.planning.plan_nodes.Given as goal
 
 abbrev pub invariant-nodes : goal.invariant-nodes
 invariant-nodes l = record {

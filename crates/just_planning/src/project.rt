@@ -4,18 +4,18 @@ ghost use Rattle.std.specs.Prelude.{◌≡◌, ◌∷◌, [], List, None, option
 ghost use Rattle.std.specs.Int.NonZero.{non_zero_u64_get};
 ghost use Rattle.just_lang.specs.declared.project.Justfile.{Justfile};
 ghost use Rattle.just_value.specs.Modules.{AreModules};
-ghost use Rattle.just_cli.specs.Faults.{OrMemory};
-ghost use Rattle.just_cli.specs.Forms.{unstable_feature as feature_used, dotenv_not_built as dotenv_word};
+ghost use Rattle.just_planning.specs.Own.{OrMemory};
+ghost use Rattle.just_planning.specs.Forms.{unstable_feature as feature_used, dotenv_not_built as dotenv_word};
 ghost use Rattle.just_path.specs.declared.environ.Environ.{Environ};
-ghost use Rattle.just_cli.specs.Projects.{IsSound};
-ghost use Rattle.just_cli.specs.Steps.{Then};
-ghost use Rattle.just_cli.specs.Request.{outline_of, ChecksFeatures, AsksNoDotenv, EvaluatesVariables, PlansProject, PlansSources};
+ghost use Rattle.just_planning.specs.Projects.{IsSound};
+ghost use Rattle.just_planning.specs.Steps.{Then};
+ghost use Rattle.just_planning.specs.Request.{outline_of, ChecksFeatures, AsksNoDotenv, EvaluatesVariables, PlansProject, PlansSources};
 
-use super::configured::not_built_error;
-use super::forms::{dotenv_not_built, unstable_feature};
+use super::Wanted;
+use super::forms::{dotenv_not_built, not_built_error, unstable_feature};
 use super::keys::plan_of_keys;
-use super::{Error, Wanted};
 use just_ends::projects_end;
+use just_errors::Error;
 use just_lang::project::Justfile;
 use just_lang::{Scopes, Source};
 use just_path::{Environ, Seq};

@@ -7,13 +7,28 @@ ghost use Rattle.std.specs.List.{list_any};
 ghost use Rattle.just_eval.specs.Entries.{located_of, IsFound};
 ghost use Rattle.just_eval.specs.Requests.{IsIndexed};
 ghost use Rattle.just_value.specs.Modules.{recipes_of, settings_of};
-ghost use Rattle.just_cli.specs.Forms.{is_cached, feature_of, feature_in, unstable_feature, dotenv_setting, dotenv_in, dotenv_not_built, attribute_not_built, node_not_built};
+ghost use Rattle.just_errors.specs.declared.error.Error.TheVariants as error;
+ghost use Rattle.just_planning.specs.Own.{OrMemory};
+ghost use Rattle.just_planning.specs.Forms.{is_cached, feature_of, feature_in, unstable_feature, dotenv_setting, dotenv_in, dotenv_not_built, attribute_not_built, node_not_built};
 
 use just_commands::{RunFlags, has_attribute};
 use just_config::UnstableFeature;
+use just_errors::Error;
 use just_eval::{Entry, Request};
 use just_lang::project::Justfile;
 use just_lang::{Node, Recipe, Settings};
+use just_path::Text;
+use std::alloc::Global;
+
+/// The error of what isn't built yet.
+pub fn not_built_error(alloc: Global, word: &str) -> Error
+    ensures { OrMemory (λ e. e ≡ error.NotBuilt word.now) result }
+{
+    match Text::from_str(alloc, word) {
+        Ok(word) => Error::NotBuilt { word },
+        Err(_) => Error::NoMemory,
+    }
+}
 
 fn is_cached(recipe: &Recipe) -> bool
     ensures { result ≡ is_cached recipe.now }

@@ -1,8 +1,8 @@
 -- A chain of steps that give one answer of their own at most gives one such answer at most.
 use Rattle.std.proofs.Common.{◌≡◌, Result, Ok, Err, ap, sym, ◌∙◌, subst}
 use Rattle.just_errors.specs.declared.error.Error.{Error}
-use Rattle.just_cli.specs.Request.{IsOwn}
-use Rattle.just_cli.specs.Steps.{Then, stops, goes_on}
+use Rattle.just_planning.specs.Own.{IsOwn}
+use Rattle.just_planning.specs.Steps.{Then, stops, goes_on}
 
 -- the step gives one answer at most that is no fault of the host's and no pattern's
 abbrev pub GivesOwn : {A B : Type 0} → (A → Result B Error → Type 0) → Type 0

@@ -20,7 +20,7 @@ use Rattle.just_plans.specs.Plans.{node_plans}
 use Rattle.just_errors.specs.Refusals.{error_of_lang}
 use Rattle.just_errors.specs.declared.error.Error.{Error}
 use Rattle.just_errors.specs.declared.error.Error.TheVariants as error
-use Rattle.just_cli.specs.Forms.{node_not_built}
+use Rattle.just_planning.specs.Forms.{node_not_built}
 use Rattle.just_plans.specs.declared.node_plan.NodePlan.{NodePlan}
 use Rattle.just_sched.specs.declared.plan_node.PlanNode.{PlanNode}
 

@@ -19,9 +19,8 @@ use Rattle.just_plans.specs.Prompts.{question}
 use Rattle.just_plans.specs.declared.error.PlanError.TheVariants as error
 use Rattle.just_plans.specs.declared.node_plan.NodePlan.{NodePlan}
 use Rattle.just_sched.specs.declared.plan_node.PlanNode.{PlanNode}
-use Rattle.just_cli.specs.Forms.{is_cached, attribute_not_built, node_not_built}
-use Rattle.just_cli.specs.Options.{word_if}
-use Rattle.just_cli.specs.Planned.{plan_nodes}
+use Rattle.just_planning.specs.Forms.{is_cached, attribute_not_built, node_not_built, word_if}
+use Rattle.just_planning.specs.Planned.{plan_nodes}
 
 -- an option or another that is there isn't nothing
 no_first : {A : Type 0} (o other : Option A) → or_else o other ≡ None → o ≡ None

@@ -11,7 +11,10 @@ use Rattle.just_config.specs.declared.unstable_feature.UnstableFeature.{Unstable
 use Rattle.just_config.specs.declared.unstable_feature.UnstableFeature.TheVariants as feature
 use Rattle.just_commands.specs.Attributes.{has_attribute}
 use Rattle.just_commands.specs.declared.run_flags.RunFlags.{RunFlags}
-use Rattle.just_cli.specs.Options.{word_if}
+
+-- an option's word, where the option is given
+abbrev pub word_if : Bool → List ℕ → Option (List ℕ)
+word_if given word = if given then Some word else None
 
 -- ---- unstable features
 

@@ -5,7 +5,7 @@ use Rattle.just_lang.specs.declared.source.Source.{Source}
 use Rattle.just_layout.specs.Paths.{Pairs}
 use Rattle.just_project.specs.Assembled.{IsJustfileOfSources}
 use Rattle.just_ends.specs.Projects.{ProjectsEnd}
-use Rattle.just_cli.specs.Projects.{IsSound}
+use Rattle.just_planning.specs.Projects.{IsSound}
 
 pub is_sound : ProjectsEnd → (sources : List Source) (environ : Pairs) (j : Justfile) → IsJustfileOfSources sources environ j → IsSound j
 is_sound end sources environ j made modules are = end sources environ j modules made are

@@ -5,7 +5,7 @@ use Rattle.just_closure.specs.WellFormed.{IsWellFormed}
 use Rattle.just_lang.specs.declared.node.Node.{Node}
 use Rattle.just_plans.specs.declared.node_plan.NodePlan.{NodePlan}
 use Rattle.just_sched.specs.declared.plan_node.PlanNode.{PlanNode}
-use Rattle.just_cli.specs.Planned.{plan_node, plan_nodes}
+use Rattle.just_planning.specs.Planned.{plan_node, plan_nodes}
 
 none_some : {B : Type 0} (n : ℕ) → 0 ≡ suc n → B
 none_some n e = absurd (let f : ⊥ = cc in f)

@@ -5,12 +5,13 @@ ghost use Rattle.std.specs.Int.NonZero.{non_zero_u64_get};
 ghost use Rattle.just_lang.specs.declared.project.Justfile.{Justfile};
 ghost use Rattle.just_lang.specs.declared.project.LangError.{LangError};
 ghost use Rattle.just_value.specs.Modules.{AreModules};
-ghost use Rattle.just_cli.specs.Faults.{OrMemory};
-ghost use Rattle.just_cli.specs.Projects.{IsSound};
-ghost use Rattle.just_cli.specs.Request.{outline_of, AsksKeys, PlansKeys};
+ghost use Rattle.just_planning.specs.Own.{OrMemory};
+ghost use Rattle.just_planning.specs.Projects.{IsSound};
+ghost use Rattle.just_planning.specs.Request.{outline_of, AsksKeys, PlansKeys};
 
+use super::Wanted;
 use super::planning::plan_of;
-use super::{Error, Wanted};
+use just_errors::Error;
 use just_eval::{Request, closure};
 use just_invocations::{invocations, within_one};
 use just_lang::project::{Justfile, LangError};

@@ -1,0 +1,7 @@
+-- The definitions that the contracts of plans cite.
+pub mod Forms
+pub mod Own
+pub mod Planned
+pub mod Projects
+pub mod Request
+pub mod Steps

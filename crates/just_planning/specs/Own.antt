@@ -1,0 +1,57 @@
+-- Errors that a request determines, and those that it doesn't.
+use Rattle.std.specs.Prelude.{ℕ, ◌≡◌, ◌⊎◌, Bool, true, false, List, [], Option, Some, None, Result, Ok, Err}
+use Rattle.just_outside.specs.declared.entry.HostFault.{HostFault}
+use Rattle.just_outside.specs.declared.entry.HostFault.TheVariants as fault
+use Rattle.just_lang.specs.declared.error.CompileKind.{CompileKind}
+use Rattle.just_lang.specs.declared.error.CompileKind.TheVariants as kind
+use Rattle.just_errors.specs.declared.error.Error.{Error}
+use Rattle.just_errors.specs.declared.error.Error.TheVariants as error
+
+-- that error, or want of memory
+abbrev pub OrMemory : (Error → Type 0) → Error → Type 0
+OrMemory holds e = (e ≡ error.NoMemory) ⊎ holds e
+
+-- the path of the refused call that an error tells, empty where the call has none, and the refusal
+abbrev pub call_in : Error → Option (List ℕ × HostFault)
+call_in (error.FilesystemIo path io) = Some (path, io)
+call_in (error.Load path io) = Some (path, io)
+call_in (error.CurrentDir io) = Some ([], io)
+call_in (error.ShellIo recipe shell io) = Some ([], io)
+call_in (error.Script recipe command io) = Some ([], io)
+call_in (error.Shebang recipe command argument io) = Some ([], io)
+call_in (error.TempdirIo recipe io) = Some ([], io)
+call_in (error.StdoutIo io) = Some ([], io)
+call_in _ = None
+
+abbrev pub is_failed_call : Option (List ℕ × HostFault) → Bool
+is_failed_call (Some (path, fault.Failed c)) = true
+is_failed_call _ = false
+
+abbrev pub is_missed_call : Option (List ℕ × HostFault) → Bool
+is_missed_call (Some (path, fault.Missed m)) = true
+is_missed_call _ = false
+
+-- the error is of a call of the host that failed, or that missed
+abbrev pub is_fault : Error → Bool
+is_fault e = is_failed_call (call_in e)
+
+abbrev pub is_miss : Error → Bool
+is_miss e = is_missed_call (call_in e)
+
+-- the kind of a broken rule, if an error is one
+abbrev pub kind_in : Error → Option CompileKind
+kind_in (error.Compile c) = Some c.kind
+kind_in _ = None
+
+abbrev pub is_size : Option CompileKind → Bool
+is_size (Some kind.ArgumentPatternSize) = true
+is_size _ = false
+
+-- a pattern was too big to be built: what is too big, the library decides
+abbrev pub is_too_big : Error → Bool
+is_too_big e = is_size (kind_in e)
+
+-- An answer that world and words determine: no failure of the host, and no pattern that is too big.
+abbrev pub IsOwn : {A : Type 0} → Result A Error → Type 0
+IsOwn (Ok x) = Unit {0}
+IsOwn (Err e) = (is_fault e ≡ false) × (is_too_big e ≡ false)

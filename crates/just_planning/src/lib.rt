@@ -1,0 +1,12 @@
+//! The plan of a run, from the sources of a project and what is asked of it.
+#![tactic(auto)]
+
+mod forms;
+mod keys;
+mod planning;
+mod project;
+mod wanted;
+
+pub use forms::not_built_error;
+pub use project::plan_of_sources;
+pub use wanted::Wanted;
