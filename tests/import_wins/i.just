@@ -1,0 +1,2 @@
+k:
+	@echo there

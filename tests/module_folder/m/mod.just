@@ -1,0 +1,6 @@
+p:
+	@pwd
+
+[working-directory('w')]
+q:
+	@pwd

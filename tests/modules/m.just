@@ -1,0 +1,3 @@
+set working-directory := 'w'
+s:
+	echo s
