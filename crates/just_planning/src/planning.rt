@@ -143,7 +143,7 @@ fn messages_of(alloc: Global, request: &Request<'_>, nodes: &[Node]) -> Result<S
     let mut messages = Vec::with_capacity(alloc, nodes.len())?;
     'nodes: for node in nodes {
         messages.push(match request.entry(&node.key.recipe) {
-            Some(from) => { prints_code(&from.parent.settings, from.recipe.attributes.as_slice()) }
+            Some(from) => { prints_code(&from.parent.settings, from.recipe) }
             None => true,
         })?;
     }
