@@ -3,11 +3,12 @@
 ghost use Rattle.std.specs.Prelude.{◌≡◌, map, IfOk};
 ghost use Rattle.row_hosts.specs.Beside.{beside_of};
 
-use just_cli::{Error, Wanted, plan_of_sources};
 use just_commands::RunFlags;
+use just_errors::Error;
 use just_host::{Host, MemHost, Plot, Tree};
 use just_lang::Source;
 use just_path::{Environ, NoMemory, Seq, Text, Utf8Path};
+use just_planning::{Wanted, plan_of_sources};
 use just_sched::{Driven, Event, Plan, PlanNode, Verdict};
 use std::alloc::Global;
 
