@@ -1,2 +1,0 @@
--- The definitions that the tests of closures cite.
-pub mod Shorter

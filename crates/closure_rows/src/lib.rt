@@ -1,5 +1,0 @@
-//! Tests of the register of keys, and of the closure of keys that need nothing else.
-#![tactic(auto)]
-
-#[cfg(test)]
-mod rows;

@@ -1,5 +1,0 @@
-//! Tests of the texts of errors.
-#![tactic(auto)]
-
-#[cfg(test)]
-mod rows;
