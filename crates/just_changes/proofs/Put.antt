@@ -1,14 +1,32 @@
 -- Changes are put one behind the other.
-use Rattle.std.proofs.Common.{◌≡◌, ℕ, Bool, false, List, [], ◌∷◌, ◌++◌, map, refl, sym, ap, ◌∙◌}
+use Rattle.std.proofs.Common.{◌≡◌, ℕ, suc, ◌+◌, ◌-◌, ◌<◌, Bool, false, List, [], ◌∷◌, ◌++◌, length, get_or, take, drop, drop-cons, map, refl, sym, ap, ◌∙◌, arith}
 use Rattle.std.specs.BTreeMap.{insert_entry}
 use Rattle.std.specs.List.{flat_map}
 use Rattle.just_lang.specs.declared.key.Value.{Value}
 use Rattle.just_lang.specs.declared.recipe.Parameter.{Parameter}
 use Rattle.just_lang.specs.declared.scope.Level.{Level}
-use Rattle.just_closure.specs.Numbers.{text_cmp}
 use Rattle.just_value.specs.Scopes.{parameter_bindings, levels_within}
-use Rattle.just_changes.specs.Changes.{Change, exports, put_all, gets, goes, level_changes, outer, changes}
-use Rattle.just_changes.proofs.Listed.{outer_end}
+use Rattle.just_changes.specs.Changes.{Change, text_cmp, exports, put_all, gets, goes, level_changes, outer, changes}
+
+-- ---- the levels without the innermost one
+
+front_more : (l : Level) (ls : List Level) (n k : ℕ) → n ≡ suc k → take n (l ∷ ls) ≡ l ∷ take k ls
+front_more l ls n k is = ap (λ m. take m (l ∷ ls)) is
+
+pub outer_is : (ls : List Level) → take (length ls - 1) ls ≡ outer ls
+outer_is [] = refl
+outer_is (l ∷ []) = refl
+outer_is (l ∷ m ∷ ms) =
+    let one : suc (suc (length ms)) - 1 ≡ suc (suc (length ms) - 1) = omega arith in
+    front_more l (m ∷ ms) (suc (suc (length ms)) - 1) (suc (length ms) - 1) one ∙ ap (λ zs. l ∷ zs) (outer_is (m ∷ ms))
+
+-- a recipe's own level is the innermost
+outer_end : (ls : List Level) (p own : Level) → outer (ls ++ p ∷ own ∷ []) ≡ ls ++ p ∷ []
+outer_end [] p own = refl
+outer_end (l ∷ []) p own = refl
+outer_end (l ∷ k ∷ ls) p own = ap (λ zs. l ∷ zs) (outer_end (k ∷ ls) p own)
+
+-- ---- changes
 
 -- changes behind others
 pub put_behind : (done cs ds : List Change) → put_all done (cs ++ ds) ≡ put_all (put_all done cs) ds
@@ -20,6 +38,18 @@ pub level_put_all : (all : Bool) (unexports : List (List ℕ)) (level : Level) (
     → new ≡ put_all old (level_changes all unexports level)
 level_put_all all unexports level old mid new pairs pairs_are outs ins =
     ins ∙ ap (λ ps. put_all mid (map gets ps)) pairs_are ∙ ap (λ m. put_all m (map gets (exports all level))) outs ∙ sym (put_behind old (map goes unexports) (map gets (exports all level)))
+
+-- a level more
+pub level_put_more : (all : Bool) (unexports : List (List ℕ)) (levels : List Level) (n : ℕ) (l : Level) → n < length levels → l ≡ get_or levels n l → (first old new : List Change) → new ≡ put_all old (level_changes all unexports l)
+    → put_all old (flat_map (level_changes all unexports) (drop n levels)) ≡ put_all first (flat_map (level_changes all unexports) levels)
+    → put_all new (flat_map (level_changes all unexports) (drop (n + 1) levels)) ≡ put_all first (flat_map (level_changes all unexports) levels)
+level_put_more all unexports levels n l lt is first old new put before =
+    let one : n + 1 ≡ suc n = omega arith in
+    let here : drop n levels ≡ l ∷ drop (suc n) levels = drop-cons levels n l lt ∙ ap (λ z. z ∷ drop (suc n) levels) (sym is) in
+    ap (λ k. put_all new (flat_map (level_changes all unexports) (drop k levels))) one
+    ∙ ap (λ d. put_all d (flat_map (level_changes all unexports) (drop (suc n) levels))) put
+    ∙ sym (put_behind old (level_changes all unexports l) (flat_map (level_changes all unexports) (drop (suc n) levels)))
+    ∙ sym (ap (λ ls. put_all old (flat_map (level_changes all unexports) ls)) here) ∙ before
 
 module _ (dotenv : List (List ℕ × List ℕ)) (all : Bool) (unexports : List (List ℕ)) (none mid : List Change) (empty : none ≡ []) (pairs : mid ≡ put_all none (map gets dotenv)) where
   -- the pairs and all levels

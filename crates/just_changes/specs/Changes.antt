@@ -1,19 +1,25 @@
 -- What changes in the environment of a recipe's children: some names get a text, and some are taken out.
 use Rattle.std.specs.Prelude.{ℕ, ◌≡◌, ◌||◌, ◌&&◌, not, Bool, if◌then◌else◌, List, [], ◌∷◌, ◌++◌, map, filter_map, Option, Some, None, option_map, bytes_eq}
 use Rattle.std.specs.BTreeMap.{insert_entry}
+use Rattle.std.specs.Cmp.Lexicographic.{slice_cmp}
 use Rattle.std.specs.List.{list_any, flat_map}
 use Rattle.std.specs.List.Sorted.{IsStrictlySortedBy}
 use Rattle.std.specs.Map.{lookup}
+use Rattle.std.specs.Ordering.{nat_cmp}
+use Rattle.std.specs.declared.cmp.Ordering.{Ordering}
 use Rattle.just_path.specs.Environ.{or_else, value_of}
 use Rattle.just_lang.specs.declared.key.Value.{Value}
 use Rattle.just_lang.specs.declared.scope.Binding.{Binding}
 use Rattle.just_lang.specs.declared.scope.Level.{Level}
-use Rattle.just_closure.specs.Numbers.{text_cmp}
 use Rattle.just_value.specs.Scopes.{text_of_value}
 
 -- a name with the text that it gets, or with none, where it is taken out
 abbrev pub Change : Type 0
 Change = List ℕ × Option (List ℕ)
+
+-- the order of texts by their bytes
+abbrev pub text_cmp : List ℕ → List ℕ → Ordering
+text_cmp a b = slice_cmp nat_cmp a b
 
 -- ---- one level
 

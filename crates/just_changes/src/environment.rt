@@ -1,9 +1,8 @@
 //! The environment of a recipe's children, by what changes in it.
 
-ghost use Rattle.std.specs.Prelude.{◌≡◌, ◌∷◌, ◌++◌, [], List, map, IfOk};
-ghost use Rattle.std.specs.BTreeMap.{get, IsOrdered};
-ghost use Rattle.just_closure.specs.Numbers.{text_cmp};
-ghost use Rattle.just_changes.specs.Changes.{outer, changes, change, AreChanges};
+ghost use Rattle.std.specs.Prelude.{◌≡◌, map, IfOk};
+ghost use Rattle.std.specs.List.Sorted.{IsStrictlySortedBy};
+ghost use Rattle.just_changes.specs.Changes.{text_cmp, outer, changes, change, AreChanges};
 ghost use Rattle.just_changes.specs.Shows.{changes_of};
 
 use super::levels::{Changes, put_levels, put_pairs};
@@ -23,10 +22,11 @@ pub struct Environment {
 
 /// The changes in the order of their names.
 pub(crate) fn in_order(alloc: Global, made: Changes) -> Result<Seq<(Text, Option<Text>)>, NoMemory>
-    ensures { IfOk result (λ list. list ≡ made.entries) }
+    ensures entries { IfOk result (λ list. list ≡ made.entries) }
+    ensures rising { IfOk result (λ list. IsStrictlySortedBy text_cmp (map (λ c. c.0) list)) }
 {
     let mut rest = made;
-    let mut list = Vec::new(alloc);
+    let mut list = Vec::with_capacity(alloc, rest.len())?;
     'changes: while let Some(change) = rest.pop_first() {
         list.push(change)?;
     }
@@ -34,6 +34,7 @@ pub(crate) fn in_order(alloc: Global, made: Changes) -> Result<Seq<(Text, Option
 }
 
 /// The levels without the innermost one.
+#[tactic(auto, using(crate::proofs::Put::outer_is))]
 fn outer(levels: &[Level]) -> &[Level]
     ensures { result.now ≡ outer levels.now }
 {
@@ -45,7 +46,7 @@ fn outer(levels: &[Level]) -> &[Level]
 
 impl Environment {
     /// Of the children of what has that scope, in a module with these dotenv pairs, settings and unexports.
-    #[tactic(auto, using(crate::proofs::Listed::are_changes, crate::proofs::Put::all_put))]
+    #[tactic(auto, using(crate::proofs::Put::all_put))]
     pub fn new(
         alloc: Global,
         dotenv: &[(Text, Text)],
@@ -61,7 +62,6 @@ impl Environment {
         put_pairs(&mut made, dotenv)?;
         let levels = outer(scope.levels.as_slice());
         put_levels(alloc, &mut made, settings.export, unexports, levels)?;
-        let _count = made.len();
         Ok(Environment {
             inside: in_order(alloc, made)?,
         })

@@ -1,11 +1,8 @@
 //! Changes, level by level.
 
-ghost use Rattle.std.specs.Prelude.{◌≡◌, ◌||◌, ◌&&◌, not, ℕ, [], List, Option, Some, option_map, map, IfOk, OnOk, if◌then◌else◌, None};
-ghost use Rattle.std.specs.BTreeMap.{get};
+ghost use Rattle.std.specs.Prelude.{◌≡◌, map, IfOk, OnOk};
 ghost use Rattle.std.specs.List.{flat_map};
-ghost use Rattle.just_path.specs.Environ.{or_else, value_of};
-ghost use Rattle.just_closure.specs.Numbers.{text_cmp};
-ghost use Rattle.just_changes.specs.Changes.{given_text, exported, exports, put_all, gets, goes, level_changes, is_among, level_says, levels_say};
+ghost use Rattle.just_changes.specs.Changes.{given_text, exported, exports, put_all, gets, goes, level_changes};
 
 use just_lang::{Binding, Level, Value};
 use just_path::{NoMemory, Text};
@@ -17,10 +14,8 @@ use std::collections::BTreeMap;
 pub(crate) type Changes = BTreeMap<Text, Option<Text>>;
 
 /// Gives names the texts of pairs, the last pair of a name its own.
-#[tactic(auto, using(crate::proofs::Pairs::pair_more, crate::proofs::Pairs::pairs_end))]
 pub(crate) fn put_pairs(changes: &mut Changes, pairs: &[(Text, Text)]) -> Result<(), NoMemory>
-    ensures put { OnOk result (changes.new.entries ≡ put_all changes.old.entries (map gets pairs.now)) }
-    ensures says { OnOk result ((name : List ℕ) → get text_cmp changes.new name ≡ or_else (option_map Some (value_of name pairs.now)) (get text_cmp changes.old name)) }
+    ensures { OnOk result (changes.new.entries ≡ put_all changes.old.entries (map gets pairs.now)) }
 {
     'pairs: for pair in pairs {
         changes.insert(pair.0.try_clone()?, Some(pair.1.try_clone()?))?;
@@ -29,10 +24,8 @@ pub(crate) fn put_pairs(changes: &mut Changes, pairs: &[(Text, Text)]) -> Result
 }
 
 /// Takes names out.
-#[tactic(auto, using(crate::proofs::Taken::taken_more, crate::proofs::Taken::taken_end))]
 fn take_out(changes: &mut Changes, names: &[Text]) -> Result<(), NoMemory>
-    ensures put { OnOk result (changes.new.entries ≡ put_all changes.old.entries (map goes names.now)) }
-    ensures says { OnOk result ((name : List ℕ) → get text_cmp changes.new name ≡ (if is_among names.now name then Some None else get text_cmp changes.old name)) }
+    ensures { OnOk result (changes.new.entries ≡ put_all changes.old.entries (map goes names.now)) }
 {
     'names: for name in names {
         changes.insert(name.try_clone()?, None)?;
@@ -82,7 +75,7 @@ fn exports(alloc: Global, all: bool, level: &Level) -> Result<Vec<(Text, Text)>,
 }
 
 /// Changes what a level says.
-#[tactic(auto, using(crate::proofs::Level::level_put, crate::proofs::Put::level_put_all))]
+#[tactic(auto, using(crate::proofs::Put::level_put_all))]
 pub(crate) fn put_level(
     alloc: Global,
     changes: &mut Changes,
@@ -90,8 +83,7 @@ pub(crate) fn put_level(
     unexports: &[Text],
     level: &Level,
 ) -> Result<(), NoMemory>
-    ensures put { OnOk result (changes.new.entries ≡ put_all changes.old.entries (level_changes all unexports.now level.now)) }
-    ensures says { OnOk result ((name : List ℕ) → get text_cmp changes.new name ≡ or_else (level_says all unexports.now level.now name) (get text_cmp changes.old name)) }
+    ensures { OnOk result (changes.new.entries ≡ put_all changes.old.entries (level_changes all unexports.now level.now)) }
 {
     let pairs = exports(alloc, all, level)?;
     take_out(changes, unexports)?;
@@ -99,7 +91,7 @@ pub(crate) fn put_level(
 }
 
 /// Changes what levels say, the outermost first.
-#[tactic(auto, using(crate::proofs::Level::level_more, crate::proofs::Level::levels_end))]
+#[tactic(auto, using(crate::proofs::Put::level_put_more))]
 pub(crate) fn put_levels(
     alloc: Global,
     changes: &mut Changes,
@@ -107,8 +99,7 @@ pub(crate) fn put_levels(
     unexports: &[Text],
     levels: &[Level],
 ) -> Result<(), NoMemory>
-    ensures put { OnOk result (changes.new.entries ≡ put_all changes.old.entries (flat_map (level_changes all unexports.now) levels.now)) }
-    ensures says { OnOk result ((name : List ℕ) → get text_cmp changes.new name ≡ or_else (levels_say all unexports.now levels.now name) (get text_cmp changes.old name)) }
+    ensures { OnOk result (changes.new.entries ≡ put_all changes.old.entries (flat_map (level_changes all unexports.now) levels.now)) }
 {
     'levels: for level in levels {
         put_level(alloc, changes, all, unexports, level)?;

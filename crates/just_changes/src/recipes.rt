@@ -1,6 +1,6 @@
 //! What changes for the children of a recipe.
 
-ghost use Rattle.std.specs.Prelude.{◌≡◌, ◌++◌, false, IfOk};
+ghost use Rattle.std.specs.Prelude.{◌≡◌, false, IfOk};
 ghost use Rattle.just_value.specs.Scopes.{parameter_bindings, levels_within};
 ghost use Rattle.just_changes.specs.Changes.{changes, change, AreChanges};
 
@@ -48,7 +48,7 @@ fn parameter_level(
 
 /// What changes for the children of a recipe that sees that, in a module with these dotenv pairs, settings and unexports: the changes of
 /// `Environment::new` for the recipe's scope, in the order of the names' bytes.
-#[tactic(auto, using(crate::proofs::Listed::are_recipe_changes, crate::proofs::Put::all_recipe_put))]
+#[tactic(auto, using(crate::proofs::Put::all_recipe_put))]
 pub fn changes_of_recipe(
     alloc: Global,
     dotenv: &[(Text, Text)],
@@ -56,9 +56,9 @@ pub fn changes_of_recipe(
     settings: &Settings,
     unexports: &[Text],
 ) -> Result<Seq<(Text, Option<Text>)>, NoMemory>
-    ensures changes { IfOk result (λ list. list ≡ changes dotenv.now settings.now.export unexports.now (levels_within sees.levels.now sees.parameters.now sees.values.now)) }
+    ensures changes { IfOk result (λ list. list ≡ changes dotenv.now settings.now.export unexports.now (levels_within sees.entry.levels.now sees.entry.parameters.now sees.entry.values.now)) }
     // So at each name the innermost level that says something of it decides, and where none does the dotenv pairs.
-    ensures innermost { IfOk result (AreChanges (change dotenv.now settings.now.export unexports.now (levels_within sees.levels.now sees.parameters.now sees.values.now))) }
+    ensures innermost { IfOk result (AreChanges (change dotenv.now settings.now.export unexports.now (levels_within sees.entry.levels.now sees.entry.parameters.now sees.entry.values.now))) }
 {
     let mut made = BTreeMap::new(alloc);
     put_pairs(&mut made, dotenv)?;
@@ -66,6 +66,6 @@ pub fn changes_of_recipe(
     put_levels(alloc, &mut made, all, unexports, sees.levels)?;
     let level = parameter_level(alloc, sees.parameters, sees.values)?;
     put_level(alloc, &mut made, all, unexports, &level)?;
-    let _count = made.len();
-    in_order(alloc, made)
+    let list = in_order(alloc, made)?;
+    Ok(list)
 }

@@ -6,4 +6,5 @@ pub mod Items
 pub mod Playing
 pub mod Mem
 pub mod Commands
+pub mod ScriptFiles
 pub mod Real

@@ -1,5 +1,7 @@
-//! The files of scripts: each in a fresh folder of its own, which goes when its child has ended. Nothing is claimed of what the system answers, so most of
-//! these functions have no clause.
+//! The files of scripts: each in a fresh folder of its own, which goes when its child has ended. Nothing is claimed of what the system answers, so that
+//! clauses speak of paths alone.
+ghost use Rattle.std.specs.Prelude.{◌≡◌, Ok, IfOk, string_bytes};
+ghost use Rattle.just_host.specs.ScriptFiles.{path_in};
 
 use just_outside::Script;
 use just_path::{NoMemory, Text};
@@ -10,52 +12,76 @@ use std::io::{self, ErrorKind, Read};
 use std::os::unix::fs::{DirBuilderExt, PermissionsExt};
 use std::rt::Env;
 
-/// How often a name is tried for a fresh folder.
+/// How many names are tried for a fresh folder.
 const ATTEMPTS: usize = 16;
 
-/// The file of a script, and its folder.
+/// The file of a script, and the folder that is made for it.
 #[derive(Drop)]
 pub(crate) struct ScriptFile {
-    folder: Text,
+    pub(crate) folder: Text,
     pub(crate) path: Text,
 }
 
-/// Bytes that tell a folder from those of other programs.
-fn random_bytes<F: Files>(files: &F) -> io::Result<[u8; 8]> {
-    let mut bytes = [0; 8];
-    fs::open(files, "/dev/urandom")?.read_exact(&mut bytes)?;
-    Ok(bytes)
-}
-
-/// A number of 64 bits.
-fn number_of(bytes: [u8; 8]) -> u64 {
-    u64::from_le_bytes(bytes)
-}
-
-/// The path of a name in a folder.
-fn path_in(alloc: Global, folder: &str, name: &str) -> Result<String, NoMemory> {
-    let mut path = String::from_str(alloc, folder)?;
-    path.push_str("/")?;
-    path.push_str(name)?;
-    Ok(path)
-}
-
-/// The path of a folder that is to be made in another.
-fn fresh_path<F: Files>(files: &F, alloc: Global, parent: &str) -> io::Result<String> {
-    let number = number_of(random_bytes(files)?);
-    let name = format!(in alloc; "just-{number:016x}")?;
-    match path_in(alloc, parent, name.as_str()) {
-        Ok(path) => Ok(path),
+/// Hands on what was made; want of memory as an error of the system.
+fn in_memory<T>(made: Result<T, NoMemory>) -> io::Result<T>
+    ensures { IfOk result (λ x. made ≡ Ok x) }
+{
+    match made {
+        Ok(value) => Ok(value),
         Err(NoMemory) => Err(io::Error::from(ErrorKind::OutOfMemory)),
     }
 }
 
-/// Makes a fresh folder in another, which this user alone may read, and answers its path.
-fn make_folder<F: Files>(files: &F, alloc: Global, parent: &str) -> io::Result<String> {
+/// The path of a name in a folder.
+fn path_in(alloc: Global, folder: &str, name: &str) -> Result<Text, NoMemory>
+    ensures { IfOk result (λ p. p ≡ path_in folder.now name.now) }
+{
+    let mut path = String::from_str(alloc, folder)?;
+    path.push_str("/")?;
+    path.push_str(name)?;
+    Ok(Text::from(path))
+}
+
+/// A number of 64 bits that tells a folder from those of other programs.
+/// No clause: nothing is claimed of what the system answers.
+fn random_number<F: Files>(files: &F) -> io::Result<u64> {
+    let mut bytes = [0u8; 8];
+    fs::open(files, "/dev/urandom")?.read_exact(&mut bytes)?;
+    Ok(u64::from_le_bytes(bytes))
+}
+
+/// The file of that name in a folder that is to be made in another.
+fn fresh_file<F: Files>(
+    files: &F,
+    alloc: Global,
+    parent: &str,
+    name: &str,
+) -> io::Result<ScriptFile>
+    ensures { IfOk result (λ f. f.path ≡ path_in f.folder name.now) }
+{
+    let number = random_number(files)?;
+    let last = format!(in alloc; "just-{number:016x}")?;
+    let folder = in_memory(path_in(alloc, parent, last.as_str()))?;
+    let path = in_memory(path_in(alloc, folder.as_str(), name))?;
+    Ok(ScriptFile { folder, path })
+}
+
+/// Makes a fresh folder in another, which this user alone may use, and answers where the file of that name is to stand in it.
+fn make_folder<F: Files>(
+    files: &F,
+    alloc: Global,
+    parent: &str,
+    name: &str,
+) -> io::Result<ScriptFile>
+    ensures { IfOk result (λ f. f.path ≡ path_in f.folder name.now) }
+{
     for _ in 0..ATTEMPTS {
-        let path = fresh_path(files, alloc, parent)?;
-        match DirBuilder::new().mode(0o700).create(files, path.as_str()) {
-            Ok(()) => return Ok(path),
+        let file = fresh_file(files, alloc, parent, name)?;
+        match DirBuilder::new()
+            .mode(0o700)
+            .create(files, file.folder.as_str())
+        {
+            Ok(()) => return Ok(file),
             Err(error) if error.kind() == ErrorKind::AlreadyExists => {}
             Err(error) => return Err(error),
         }
@@ -63,21 +89,28 @@ fn make_folder<F: Files>(files: &F, alloc: Global, parent: &str) -> io::Result<S
     Err(io::Error::from(ErrorKind::AlreadyExists))
 }
 
-/// The system's folder of temporary files, as a path from the root.
-fn temporary<R: Files + Env>(rt: &R, alloc: Global) -> io::Result<String> {
-    let pair = (rt, alloc);
-    let path = env::temp_dir(&pair)?.into_string();
-    if path.as_str().starts_with('/') {
-        return Ok(path);
-    }
-    let current = env::current_dir(&pair)?.into_string();
-    match path_in(alloc, current.as_str(), path.as_str()) {
-        Ok(path) => Ok(path),
-        Err(NoMemory) => Err(io::Error::from(ErrorKind::OutOfMemory)),
+/// The folder that a script asks for, else the system's for temporary files.
+/// No clause: nothing is claimed of what the system answers.
+fn asked_folder<R: Env>(rt: &R, alloc: Global, script: &Script) -> io::Result<Text> {
+    match &script.folder {
+        Some(folder) => in_memory(Text::from_str(alloc, folder.as_path().as_str())),
+        None => Ok(Text::from(env::temp_dir(&(rt, alloc))?.into_string())),
     }
 }
 
+/// The same as a path from the root, since the child may have another current folder.
+/// No clause: nothing is claimed of what the system answers.
+fn parent_of<R: Env>(rt: &R, alloc: Global, script: &Script) -> io::Result<Text> {
+    let asked = asked_folder(rt, alloc, script)?;
+    if asked.as_str().starts_with('/') {
+        return Ok(asked);
+    }
+    let current = env::current_dir(&(rt, alloc))?.into_string();
+    in_memory(path_in(alloc, current.as_str(), asked.as_str()))
+}
+
 /// Writes the text of a script to its file; one that runs itself may be run by this user.
+/// No clause: nothing is claimed of files.
 fn write<F: Files>(files: &F, path: &str, script: &Script) -> io::Result<()> {
     fs::write(files, path, script.text.as_str())?;
     if script.run {
@@ -86,31 +119,16 @@ fn write<F: Files>(files: &F, path: &str, script: &Script) -> io::Result<()> {
     Ok(())
 }
 
-/// The file of a script in a folder, and the folder.
-fn file_in(alloc: Global, folder: String, name: &str) -> Result<ScriptFile, NoMemory> {
-    let path = path_in(alloc, folder.as_str(), name)?;
-    Ok(ScriptFile {
-        folder: Text::from(folder),
-        path: Text::from(path),
-    })
-}
-
 /// Writes a script to a file in a fresh folder, in the folder that it asks for, else in that of the system. Where that fails, nothing of it is left.
 pub(crate) fn place<R: Files + Env>(
     rt: &R,
     alloc: Global,
     script: &Script,
-) -> io::Result<ScriptFile> {
-    let folder = match &script.folder {
-        Some(parent) => make_folder(rt, alloc, parent.as_str())?,
-        None => {
-            let parent = temporary(rt, alloc)?;
-            make_folder(rt, alloc, parent.as_str())?
-        }
-    };
-    let Ok(file) = file_in(alloc, folder, script.name.as_str()) else {
-        return Err(io::Error::from(ErrorKind::OutOfMemory));
-    };
+) -> io::Result<ScriptFile>
+    ensures { IfOk result (λ f. f.path ≡ path_in f.folder script.now.name) }
+{
+    let parent = parent_of(rt, alloc, script)?;
+    let file = make_folder(rt, alloc, parent.as_str(), script.name.as_str())?;
     match write(rt, file.path.as_str(), script) {
         Ok(()) => Ok(file),
         Err(error) => {
@@ -121,6 +139,7 @@ pub(crate) fn place<R: Files + Env>(
 }
 
 /// Removes the file of a script and its folder. What can't be removed stays.
+/// No clause: nothing is claimed of files.
 pub(crate) fn remove<F: Files>(files: &F, file: &ScriptFile) {
     let _ = fs::remove_file(files, file.path.as_str());
     let _ = fs::remove_dir(files, file.folder.as_str());

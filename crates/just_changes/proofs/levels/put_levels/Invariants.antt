@@ -2,8 +2,7 @@
 use Rattle.std.proofs.Common.{◌≡◌, drop}
 use Rattle.std.specs.List.{flat_map}
 use Rattle.just_changes.specs.Changes.{put_all, level_changes}
-use Rattle.just_changes.proofs.Level.{IsPutFrom}
 use Rattle.just_changes.proofs.levels.put_levels.Given as goal
 
 abbrev pub invariant-levels : goal.invariant-levels
-invariant-levels l = (put_all l.changes.entries (flat_map (level_changes l.all l.unexports) (drop l.level-index l.levels)) ≡ put_all l.initial.changes.entries (flat_map (level_changes l.all l.unexports) l.levels)) × IsPutFrom l.all l.unexports l.levels l.level-index l.initial.changes l.changes
+invariant-levels l = put_all l.changes.entries (flat_map (level_changes l.all l.unexports) (drop l.level-index l.levels)) ≡ put_all l.initial.changes.entries (flat_map (level_changes l.all l.unexports) l.levels)

@@ -3,4 +3,4 @@ use Rattle.just_changes.proofs.Bound.{IsBoundFrom}
 use Rattle.just_changes.proofs.recipes.parameter_level.Given as goal
 
 abbrev pub invariant-parameters : goal.invariant-parameters
-invariant-parameters l = IsBoundFrom l.parameters l.values l.at-index l.bindings.items
+invariant-parameters l = IsBoundFrom l.parameters l.values l.at l.bindings.items
