@@ -1,0 +1,2 @@
+-- The definitions of what sources come to.
+pub mod Projects
