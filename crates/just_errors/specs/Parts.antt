@@ -1,6 +1,6 @@
 -- Texts that those of errors are made of.
-use Rattle.std.specs.Prelude.{ℕ, ◌+◌, ◌==◌, ◌++◌, nat_lt, not, ◌&&◌, Bool, true, false, if◌then◌else◌, List, [], ◌∷◌, length, count_by, Option, Some, None, codes, decimal}
-use Rattle.std.specs.List.{list_any}
+use Rattle.std.specs.Prelude.{ℕ, ◌==◌, ◌++◌, nat_lt, not, ◌&&◌, Bool, if◌then◌else◌, List, [], length, Option, Some, None, codes, decimal}
+use Rattle.std.specs.List.{list_any, filter}
 use Rattle.just_path.specs.declared.host.Miss.{Miss}
 use Rattle.just_path.specs.declared.host.Miss.TheVariants as miss
 use Rattle.just_outside.specs.declared.entry.HostFault.{HostFault}
@@ -87,7 +87,21 @@ abbrev pub line_text : Option ℕ → List ℕ
 line_text (Some n) = codes " on line " ++ decimal n
 line_text None = []
 
+-- ---- numbers and lists
+
+-- `N noun`, of so many things
+abbrev pub counted : ℕ → List ℕ → List ℕ
+counted number noun = decimal number ++ (codes " " ++ several noun number)
+
+-- `noun LIST`, of these things
+abbrev pub listed : List ℕ → List (List ℕ) → List ℕ
+listed noun names = several noun (length names) ++ (codes " " ++ list_text (codes "and") names)
+
 -- ---- sentences
+
+-- a text in backquotes, and what stands behind it
+abbrev pub ticked_before : List ℕ → List ℕ → List ℕ
+ticked_before name behind = ticked name ++ behind
 
 -- a text in backquotes between two others
 abbrev pub naming : List ℕ → List ℕ → List ℕ → List ℕ
@@ -101,69 +115,80 @@ of_recipe recipe told = codes "error: recipe " ++ (ticked recipe ++ told)
 abbrev pub of_switch : List ℕ → List ℕ → List ℕ → List ℕ → List ℕ
 of_switch recipe before switch behind = of_recipe recipe (before ++ (ticked switch ++ behind))
 
--- what depends on modules that aren't there
+-- a file is imported by one that it leads to
+abbrev pub circular_text : List ℕ → List ℕ → List ℕ
+circular_text current import = naming (codes "import ") import (codes " in ") ++ ticked_before current (codes " is circular")
+
+-- what depends on modules that aren't there; the noun has a blank behind it
 abbrev pub absent_text : List ℕ → List ℕ → List (List ℕ) → List ℕ
-absent_text noun name modules = codes "error: " ++ (noun ++ (codes " " ++ (ticked name ++ (codes " depends on absent " ++ (several (codes "module") (length modules) ++ (codes " " ++ list_text (codes "and") modules))))))
+absent_text noun name modules = naming noun name (codes " depends on absent ") ++ listed (codes "module") modules
 
 -- a parameter was given too few or too many values
 abbrev pub values_text : List ℕ → List ℕ → ℕ → List ℕ → ℕ → List ℕ
 values_text recipe parameter found bound number =
-    of_switch recipe (codes " parameter ") parameter (codes " got " ++ (decimal found ++ (codes " " ++ (several (codes "value") found ++ (codes " but takes at " ++ (bound ++ (codes " " ++ decimal number)))))))
+    of_switch recipe (codes " parameter ") parameter (codes " got ") ++ (counted found (codes "value") ++ (codes " but takes at " ++ (bound ++ (codes " " ++ decimal number))))
 
 -- no pattern of a parameter matches a value
 abbrev pub pattern_text : List ℕ → List ℕ → List ℕ → List (List ℕ) → List ℕ
 pattern_text argument recipe parameter patterns =
-    codes "error: argument " ++ (ticked argument ++ (codes " passed to recipe " ++ (ticked recipe ++ (codes " parameter " ++ (ticked parameter ++ (codes " does not match pattern " ++ list_text (codes "or") patterns))))))
+    naming (codes "argument ") argument (codes " passed to recipe ")
+    ++ (ticked_before recipe (codes " parameter ") ++ (ticked_before parameter (codes " does not match pattern ") ++ list_text (codes "or") patterns))
 
 abbrev pub default_text : List ℕ → ℕ → List ℕ
 default_text recipe least =
-    of_recipe recipe (codes " cannot be used as default recipe since it requires at least " ++ (decimal least ++ (codes " " ++ several (codes "argument") least)))
+    of_recipe recipe (codes " cannot be used as default recipe since it requires at least ") ++ counted least (codes "argument")
 
 -- variables that the words override and the justfile hasn't
 abbrev pub overrides_text : List (List ℕ) → List ℕ
-overrides_text vs = codes "error: " ++ (several (codes "variable") (length vs) ++ (codes " " ++ (list_text (codes "and") vs ++ codes " overridden on the command line but not present in justfile")))
+overrides_text vs = codes "error: " ++ (listed (codes "variable") vs ++ codes " overridden on the command line but not present in justfile")
 
--- a recipe had an I/O error: of its shell, or of the file of its script
-abbrev pub lost_text : List ℕ → List ℕ
-lost_text recipe = of_recipe recipe (codes " could not be run because of an IO error")
-
+-- the shell of a recipe's line had an I/O error
 abbrev pub shell_text : List ℕ → List ℕ → HostFault → List ℕ
-shell_text recipe shell io = lost_text recipe ++ (codes " while launching the shell " ++ (ticked shell ++ (codes ": " ++ fault_text io)))
+shell_text recipe shell io =
+    of_switch recipe (codes " could not be run because of an IO error while launching the shell ") shell (codes ": ") ++ fault_text io
 
+-- the file of a recipe's script had one
 abbrev pub folder_text : List ℕ → HostFault → List ℕ
-folder_text recipe io = lost_text recipe ++ (codes " while trying to create a temporary directory or write a file to that directory: " ++ fault_text io)
+folder_text recipe io =
+    of_recipe recipe (codes " could not be run because of an IO error while trying to create a temporary directory or write a file to that directory: ") ++ fault_text io
 
 -- an argument behind a blank, where there is one
 abbrev pub behind_blank : Option (List ℕ) → List ℕ
 behind_blank None = []
 behind_blank (Some t) = codes " " ++ t
 
+abbrev pub execution_text : HostFault → List ℕ
+execution_text io = codes "` execution error: " ++ fault_text io
+
 abbrev pub shebang_text : List ℕ → List ℕ → Option (List ℕ) → HostFault → List ℕ
 shebang_text recipe command argument io =
-    of_recipe recipe (codes " with shebang `#!" ++ (command ++ (behind_blank argument ++ (codes "` execution error: " ++ fault_text io))))
+    of_recipe recipe (codes " with shebang `#!") ++ (command ++ (behind_blank argument ++ execution_text io))
 
 abbrev pub script_text : List ℕ → List ℕ → HostFault → List ℕ
-script_text recipe command io = of_switch recipe (codes " with command ") command (codes " execution error: " ++ fault_text io)
+script_text recipe command io = of_switch recipe (codes " with command ") command (codes " execution error: ") ++ fault_text io
 
 -- a recipe's line failed, or was ended by a signal
 abbrev pub failed_text : List ℕ → Option ℕ → List ℕ
-failed_text recipe line = of_recipe recipe (codes " failed" ++ line_text line)
+failed_text recipe line = of_recipe recipe (codes " failed") ++ line_text line
 
 abbrev pub terminated_text : List ℕ → Option ℕ → List ℕ
-terminated_text recipe line = of_recipe recipe (codes " was terminated" ++ line_text line)
+terminated_text recipe line = of_recipe recipe (codes " was terminated") ++ line_text line
 
 -- ---- how many positional arguments a recipe takes
+
+abbrev pub is_positional : Parameter → Bool
+is_positional p = not (is_option p)
 
 -- those that it needs
 abbrev pub is_needed : Parameter → Bool
 is_needed p = not (is_option p) && not (is_optional p)
 
 abbrev pub least : List Parameter → ℕ
-least ps = count_by is_needed ps
+least ps = length (filter is_needed ps)
 
 -- those that take one argument each
 abbrev pub most : List Parameter → ℕ
-most ps = count_by (λ p. not (is_option p)) ps
+most ps = length (filter is_positional ps)
 
 abbrev pub has_variadic : List Parameter → Bool
 has_variadic ps = list_any (λ p. not (is_option p) && is_variadic p.kind) ps

@@ -1,5 +1,5 @@
 -- The texts of errors.
-use Rattle.std.specs.Prelude.{ℕ, ◌++◌, List, [], ◌∷◌, codes, decimal}
+use Rattle.std.specs.Prelude.{ℕ, ◌++◌, List, [], codes, decimal}
 use Rattle.std.specs.Fmt.{signed_decimal}
 use Rattle.just_outside.specs.Signals.{name_of}
 use Rattle.just_lang.specs.declared.recipe.Modulepath.{Modulepath}
@@ -11,12 +11,12 @@ use Rattle.just_env.specs.declared.search_error.SearchError.{SearchError}
 use Rattle.just_env.specs.declared.search_error.SearchError.TheVariants as search
 use Rattle.just_errors.specs.declared.error.Error.{Error}
 use Rattle.just_errors.specs.declared.error.Error.TheVariants as error
-use Rattle.just_errors.specs.Parts.{fault_text, kind_text, usage_text, several, place_text, line_text, naming, of_recipe, of_switch, absent_text, values_text, pattern_text, default_text, overrides_text, shell_text, folder_text, script_text, shebang_text, failed_text, terminated_text, takes_text}
+use Rattle.just_errors.specs.Parts.{fault_text, kind_text, usage_text, counted, place_text, naming, of_recipe, of_switch, circular_text, absent_text, values_text, pattern_text, default_text, overrides_text, shell_text, folder_text, script_text, shebang_text, failed_text, terminated_text, takes_text}
 
 -- a recipe with its short usage
 abbrev pub count_text : List ℕ → Modulepath → List Parameter → ℕ → List ℕ
 count_text recipe path ps found =
-    of_recipe recipe (codes " got " ++ (decimal found ++ (codes " positional " ++ (several (codes "argument") found ++ (codes " but " ++ (takes_text ps found ++ (codes "\n" ++ usages.usage_text path ps)))))))
+    of_recipe recipe (codes " got ") ++ (counted found (codes "positional argument") ++ (codes " but " ++ (takes_text ps found ++ (codes "\n" ++ usages.usage_text path ps))))
 
 abbrev pub unstable_text : List ℕ → List ℕ
 unstable_text feature =
@@ -47,7 +47,7 @@ error_text (error.Search e) = search_text e
 error_text (error.Load path io) = naming (codes "failed to read justfile at ") path (codes ": " ++ fault_text io)
 error_text (error.FilesystemIo path io) = naming (codes "I/O error at ") path (codes ": " ++ fault_text io)
 error_text error.MissingImportFile = codes "error: could not find source file for import"
-error_text (error.CircularImport current import) = codes "error: import " ++ (ticked import ++ (codes " in " ++ (ticked current ++ codes " is circular")))
+error_text (error.CircularImport current import) = circular_text current import
 error_text (error.MissingModuleFile m) = naming (codes "could not find source file for module ") m []
 error_text (error.AmbiguousModuleFile m found) = naming (codes "found multiple source files for module ") m (codes ": " ++ list_text (codes "and") found)
 error_text error.Homedir = codes "error: failed to get homedir"
@@ -62,8 +62,8 @@ error_text (error.DefaultRecipeRequiresArguments recipe number) = default_text r
 error_text (error.UnknownRecipe recipe) = naming (codes "justfile does not contain recipe ") recipe []
 error_text (error.UnknownSubmodule path) = naming (codes "justfile does not contain submodule ") path []
 error_text (error.ModuleAbsent m) = naming (codes "optional module ") m (codes " is absent")
-error_text (error.RecipeDisabled recipe modules) = absent_text (codes "recipe") recipe modules
-error_text (error.AliasDisabled alias modules) = absent_text (codes "alias") alias modules
+error_text (error.RecipeDisabled recipe modules) = absent_text (codes "recipe ") recipe modules
+error_text (error.AliasDisabled alias modules) = absent_text (codes "alias ") alias modules
 error_text (error.ExpectedSubmoduleButFoundRecipe path) = naming (codes "expected submodule at ") path (codes " but found recipe")
 error_text (error.UnknownOption recipe switch) = of_switch recipe (codes " does not have option ") switch []
 error_text (error.InvalidOption argument) = naming (codes "argument ") argument (codes " is not a valid option")

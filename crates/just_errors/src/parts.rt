@@ -1,9 +1,9 @@
 //! Words that the texts of errors are made of.
 
-ghost use Rattle.std.specs.Prelude.{◌≡◌, ◌&&◌, ◌==◌, not, codes, length, count_by};
-ghost use Rattle.std.specs.List.{list_any};
+ghost use Rattle.std.specs.Prelude.{◌≡◌, ◌&&◌, ◌==◌, not, codes, length};
+ghost use Rattle.std.specs.List.{list_any, filter};
 ghost use Rattle.just_usage.specs.Usages.{is_option, is_variadic};
-ghost use Rattle.just_errors.specs.Parts.{miss_text, fault_text, kind_text, usage_text, plural_end, is_needed, least, most, has_variadic, takes_one_number};
+ghost use Rattle.just_errors.specs.Parts.{miss_text, fault_text, kind_text, usage_text, plural_end, is_needed, is_positional, least, most, has_variadic, takes_one_number};
 
 use just_lang::{CompileKind, Parameter, ParameterKind};
 use just_outside::HostFault;
@@ -100,6 +100,13 @@ fn is_option(parameter: &Parameter) -> bool
     parameter.long.is_some() || parameter.short.is_some()
 }
 
+/// Whether a parameter is no option.
+fn is_positional(parameter: &Parameter) -> bool
+    ensures { result ≡ is_positional parameter.now }
+{
+    !is_option(parameter)
+}
+
 /// Whether a recipe needs a positional argument for the parameter.
 fn is_needed(parameter: &Parameter) -> bool
     ensures { result ≡ is_needed parameter.now }
@@ -122,27 +129,21 @@ fn takes_several(parameter: &Parameter) -> bool
 pub(crate) fn least(parameters: &[Parameter]) -> usize
     ensures { result ≡ least parameters.now }
 {
-    parameters
-        .iter()
-        .filter(|parameter| is_needed(parameter))
-        .count()
+    parameters.iter().filter(|p| is_needed(p)).count()
 }
 
 /// How many positional parameters a recipe has.
 pub(crate) fn most(parameters: &[Parameter]) -> usize
     ensures { result ≡ most parameters.now }
 {
-    parameters
-        .iter()
-        .filter(|parameter| !is_option(parameter))
-        .count()
+    parameters.iter().filter(|p| is_positional(p)).count()
 }
 
 /// Whether a positional parameter of a recipe takes several values.
 fn has_variadic(parameters: &[Parameter]) -> bool
     ensures { result ≡ has_variadic parameters.now }
 {
-    parameters.iter().any(|parameter| takes_several(parameter))
+    parameters.iter().any(|p| takes_several(p))
 }
 
 /// Whether a recipe takes one number of positional arguments alone.

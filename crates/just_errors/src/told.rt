@@ -1,30 +1,29 @@
-//! The texts of errors, and the exit codes that they stand for.
+//! The texts of errors.
 
-ghost use Rattle.std.specs.Prelude.{◌≡◌, ◌++◌, codes, Some, IfOk, string_bytes};
-ghost use Rattle.std.specs.Fmt.{DisplaysOnOk};
+ghost use Rattle.std.specs.Prelude.{Some};
+ghost use Rattle.std.specs.Fmt.{WritesOnOk};
 ghost use Rattle.just_env.specs.declared.search_error.SearchError.{SearchError};
 ghost use Rattle.just_errors.specs.declared.error.Error.{Error};
 ghost use Rattle.just_errors.specs.Texts.{search_text, error_text};
-ghost use Rattle.just_errors.specs.Codes.{code_of, prints, prints_always, is_environ_fault, exit_code};
 
 use super::Error;
+use super::failed::{
+    tell_code, tell_failed, tell_folder, tell_guard, tell_script, tell_shebang, tell_shell,
+    tell_signal, tell_terminated,
+};
 use super::parts::{kind_text, usage_text};
-use super::telling::{
-    tell_absent, tell_at, tell_circular, tell_code, tell_count, tell_default, tell_failed,
-    tell_fault, tell_folder, tell_guard, tell_list, tell_naming, tell_overrides, tell_pattern,
-    tell_place, tell_script, tell_shebang, tell_shell, tell_signal, tell_switch, tell_terminated,
+use super::refused::{
+    tell_absent, tell_circular, tell_count, tell_default, tell_overrides, tell_pattern,
     tell_unstable, tell_values,
 };
+use super::sentences::{tell_at, tell_fault, tell_list, tell_naming, tell_place, tell_switch};
 use just_config::Usage;
 use just_env::SearchError;
-use just_outside::{Call, HostFault};
-use just_path::NoMemory;
-use std::alloc::Global;
 use std::fmt;
 
 /// Faulty words.
 fn tell_usage<W: fmt::Write>(usage: &Usage, f: &mut fmt::Formatter<W>) -> fmt::Result
-    ensures { DisplaysOnOk W.write_str_gives f.old result (Some (error_text (Error.Usage usage.now))) f.new }
+    ensures { WritesOnOk W.write_str_gives f.old result (error_text (Error.Usage usage.now)) f.new }
 {
     let kind = usage_text(usage.kind);
     let word = usage.word.as_str();
@@ -33,7 +32,7 @@ fn tell_usage<W: fmt::Write>(usage: &Usage, f: &mut fmt::Formatter<W>) -> fmt::R
 
 /// Why no justfile is found.
 fn tell_search<W: fmt::Write>(error: &SearchError, f: &mut fmt::Formatter<W>) -> fmt::Result
-    ensures { DisplaysOnOk W.write_str_gives f.old result (Some (search_text error.now)) f.new }
+    ensures { WritesOnOk W.write_str_gives f.old result (search_text error.now) f.new }
 {
     match error {
         SearchError::FilesystemIo { path, io } => {
@@ -131,10 +130,10 @@ impl fmt::Display for Error {
                 tell_naming("optional module ", module.as_str(), " is absent", f)
             }
             Error::RecipeDisabled { recipe, modules } => {
-                tell_absent("recipe", recipe, modules.as_slice(), f)
+                tell_absent("recipe ", recipe.as_str(), modules.as_slice(), f)
             }
             Error::AliasDisabled { alias, modules } => {
-                tell_absent("alias", alias, modules.as_slice(), f)
+                tell_absent("alias ", alias.as_str(), modules.as_slice(), f)
             }
             Error::ExpectedSubmoduleButFoundRecipe { path } => tell_naming(
                 "expected submodule at ",
@@ -194,7 +193,13 @@ impl fmt::Display for Error {
                 recipe,
                 parameter,
                 pattern,
-            } => tell_pattern(argument, recipe, parameter, pattern.as_slice(), f),
+            } => tell_pattern(
+                argument.as_str(),
+                recipe.as_str(),
+                parameter.as_str(),
+                pattern.as_slice(),
+                f,
+            ),
             Error::EmptyListArgument { recipe, parameter } => tell_switch(
                 recipe,
                 " parameter ",
@@ -243,7 +248,7 @@ impl fmt::Display for Error {
                 command,
                 argument,
                 io,
-            } => tell_shebang(recipe, command, argument, *io, f),
+            } => tell_shebang(recipe, command.as_str(), argument, *io, f),
             Error::TempdirIo { recipe, io } => tell_folder(recipe, *io, f),
             Error::StdoutIo { io } => tell_fault("I/O error writing to stdout: ", *io, f),
             Error::Interrupted(signal) => write!(f, "error: interrupted by {signal}"),
@@ -260,69 +265,3 @@ impl fmt::Debug for Error {
 }
 
 impl std::error::Error for Error {}
-
-/// Whether a fault is that of asking for the environment.
-fn is_environ_fault(io: HostFault) -> bool
-    ensures { result ≡ is_environ_fault io }
-{
-    match io {
-        HostFault::Failed(Call::Environ) => true,
-        _ => false,
-    }
-}
-
-impl Error {
-    /// The text of the error, as it is told.
-    pub fn text(&self, alloc: Global) -> Result<String, NoMemory>
-        ensures { IfOk result (λ s. string_bytes s ≡ error_text self.now) }
-    {
-        Ok(format!(in alloc; "{self}")?)
-    }
-
-    /// The exit code that the error stands for, where it stands for one.
-    pub fn code(&self) -> Option<i32>
-        ensures { result ≡ code_of self.now }
-    {
-        match self {
-            Error::Code { code, .. } => Some(*code),
-            Error::Signal { signal, .. } => signal.checked_add(128),
-            Error::Interrupted(signal) => Some(signal.code()),
-            _ => None,
-        }
-    }
-
-    /// The exit code of a run that ends with the error: 2 for faulty words, 125 for want of memory, else the error's own or 1.
-    pub fn exit_code(&self) -> i32
-        ensures { result ≡ exit_code self.now }
-    {
-        match self {
-            Error::Usage(_) | Error::NotBuilt { .. } => 2,
-            Error::NoMemory => 125,
-            _ => self.code().unwrap_or(1),
-        }
-    }
-
-    /// Whether the error is printed, where the words don't ask for quiet.
-    pub fn print_message(&self) -> bool
-        ensures { result ≡ prints self.now }
-    {
-        match self {
-            Error::Code { message, .. } => *message,
-            _ => true,
-        }
-    }
-
-    /// Whether the error is printed also where the words ask for quiet.
-    pub fn prints_always(&self) -> bool
-        ensures { result ≡ prints_always self.now }
-    {
-        match self {
-            Error::Usage(_)
-            | Error::NotBuilt { .. }
-            | Error::Config(_)
-            | Error::CurrentDir { .. } => true,
-            Error::FilesystemIo { io, .. } => is_environ_fault(*io),
-            _ => false,
-        }
-    }
-}
