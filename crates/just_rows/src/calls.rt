@@ -1,7 +1,7 @@
 //! Each public call that can answer want of memory and that no row of another crate makes, called once with ample
 //! memory. The calls of paths and texts are made by `path_vectors` and `path_rows`, those of readers by `dotenv_vectors`
-//! and `path_rows`, those of expansions by `expand_vectors`; a run makes those of a host, of the record, of a plan and of
-//! its drive, and `assemble`, `invocations`, `closure` and `body_lines`, so `run_rows` shows that they answer.
+//! and `path_rows`, those of expansions by `expand_vectors`; a run makes those of a host, of the record, of the loader, of a project,
+//! its values, keys and closure, of a plan and of its drive, so `run_rows` shows that they answer.
 
 use crate::hosts::memory;
 use just_host::{Host, HostFault};
