@@ -2,7 +2,7 @@
 use Rattle.std.proofs.Common.{◌≡◌, ℕ, suc, ◌+◌, ◌<◌, ◌≤◌, List, [], ◌∷◌, ◌++◌, length, get_or, drop, drop-cons, append-nil, append_assoc, Ok, Err, refl, sym, ap, ◌∙◌, arith}
 use Rattle.std.proofs.lemmas.List.{drop_all}
 use Rattle.just_plans.specs.declared.error.PlanError.{PlanError}
-use Rattle.just_plans.specs.Plans.{PlanAnswer, then_plan, each_plan}
+use Rattle.just_plans.specs.Plans.{PlanAnswer, GivesPlan, then_plan, each_plan}
 
 -- what was planned with the plans that are left
 abbrev pub behind : {A : Type 0} → List A → PlanAnswer (List A) → PlanAnswer (List A)
@@ -30,6 +30,10 @@ module _ {A B : Type 0} (f : A → PlanAnswer B) where
   -- a refusal
   pub each_refused : (xs : List A) (n : ℕ) (x : A) (e : PlanError) (done : List B) → n < length xs → x ≡ get_or xs n x → f x ≡ Err e → behind done (each_plan f (drop n xs)) ≡ Err e
   each_refused xs n x e done lt is refusal = first_by xs n x (Err e) done lt is refusal
+
+  -- the same of what a call gives
+  pub refused_gives : (xs : List A) (n : ℕ) (x : A) (e : PlanError) (done : List B) (whole : PlanAnswer (List B)) → n < length xs → x ≡ get_or xs n x → GivesPlan (f x) (Err e) → behind done (each_plan f (drop n xs)) ≡ whole → GivesPlan whole (Err e)
+  refused_gives xs n x e done whole lt is gives left a b = sym left ∙ each_refused xs n x e done lt is (gives a b)
 
   -- nothing is left
   pub each_end : (xs : List A) (n : ℕ) (done : List B) → length xs ≤ n → behind done (each_plan f (drop n xs)) ≡ Ok done

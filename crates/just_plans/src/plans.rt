@@ -5,7 +5,7 @@ ghost use Rattle.just_path.specs.Path.{text_of};
 ghost use Rattle.just_commands.specs.Works.{run_of};
 ghost use Rattle.just_eval.specs.Entries.{located_of};
 ghost use Rattle.just_eval.specs.Requests.{IsIndexed};
-ghost use Rattle.just_plans.specs.Plans.{GivesPlan, folder_in, running, node_plan, no_plan, recipe_plan, key_plan, plan_of_node, node_plans};
+ghost use Rattle.just_plans.specs.Plans.{GivesPlan, folder_in, running, node_plan, no_plan, recipe_plan, key_plan, node_plans};
 
 use super::asked::{is_parallel, prompt};
 use super::heading::banner;
@@ -75,7 +75,7 @@ fn running<'r>(
 }
 
 /// The plan of a recipe, by the lines of its body.
-#[tactic(auto, using(crate::proofs::KeyPlans::work_refused, crate::proofs::KeyPlans::work_planned))]
+#[tactic(auto, using(crate::proofs::KeyPlans::work_planned))]
 fn recipe_plan(
     alloc: Global,
     flags: &RunFlags,
@@ -92,7 +92,7 @@ fn recipe_plan(
 }
 
 /// The plan of a key's recipe, by the lines of its body.
-#[tactic(auto, using(crate::proofs::KeyPlans::lines_refused, crate::proofs::KeyPlans::no_recipe, crate::proofs::KeyPlans::recipe_planned, crate::proofs::KeyPlans::recipe_refused))]
+#[tactic(auto, using(crate::proofs::KeyPlans::lines_refused, crate::proofs::KeyPlans::no_recipe))]
 fn key_plan<B: Bodies>(
     alloc: Global,
     request: &Request<'_>,
@@ -122,7 +122,7 @@ fn key_plan<B: Bodies>(
 
 /// What the plan of a run says of each of some nodes: what is asked before it, what its body has to run, and what is printed when
 /// it is begun. The first node whose lines have no values, or whose script names no interpreter, refuses it.
-#[tactic(auto, using(crate::proofs::Each::each_more, crate::proofs::Each::each_refused, crate::proofs::Each::each_end))]
+#[tactic(auto, using(crate::proofs::Each::each_more, crate::proofs::Each::refused_gives, crate::proofs::Each::each_end))]
 pub fn node_plans<B: Bodies>(
     alloc: Global,
     request: &Request<'_>,
