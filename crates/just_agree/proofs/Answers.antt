@@ -1,5 +1,5 @@
 -- Answers of a loading, and of what it asks: each is one at most that the world determines.
-use Rattle.std.proofs.Common.{◌≡◌, ℕ, true, false, true≢false, List, ◌++◌, refl, sym, ap, ◌∙◌, subst}
+use Rattle.std.proofs.Common.{◌≡◌, ℕ, false, true≢false, List, ◌++◌, refl, sym, ap, ◌∙◌, subst}
 use Rattle.std.specs.Prelude.{Result, Ok, Err}
 use Rattle.just_outside.specs.declared.entry.Call.{Call}
 use Rattle.just_env.specs.declared.search_error.SearchError.{SearchError}
