@@ -1,0 +1,147 @@
+-- The error of a node that failed.
+use Rattle.std.specs.Prelude.{ℕ, ◌≡◌, ◌-◌, ◌⊎◌, Bool, true, false, if◌then◌else◌, ℤ, List, [], ◌∷◌, ◌++◌, flat_map, length, slice_get, Option, Some, None, MatchOption}
+use Rattle.std.specs.List.{last_or}
+use Rattle.std.specs.Option.{unwrap_or}
+use Rattle.just_path.specs.declared.host.Miss.{Miss}
+use Rattle.just_outside.specs.declared.entry.Call.{Call}
+use Rattle.just_outside.specs.declared.entry.Call.TheVariants as call
+use Rattle.just_outside.specs.declared.entry.HostFault.TheVariants as fault
+use Rattle.just_outside.specs.declared.entry.Script.{Script}
+use Rattle.just_outside.specs.declared.entry.Spec.{Spec}
+use Rattle.just_outside.specs.declared.entry.HostFault.{HostFault}
+use Rattle.just_outside.specs.declared.entry.Status.{Status}
+use Rattle.just_outside.specs.declared.entry.Status.TheVariants as status
+use Rattle.just_outside.specs.Record.{text_or_empty}
+use Rattle.just_sched.specs.declared.event.Event.{Event}
+use Rattle.just_sched.specs.declared.event.Reason.{Reason}
+use Rattle.just_sched.specs.declared.event.Verdict.{Verdict}
+use Rattle.just_sched.specs.declared.event.Verdict.TheVariants as verdict
+use Rattle.just_sched.specs.declared.event.Reason.TheVariants as reason
+use Rattle.just_sched.specs.declared.plan_node.PlanNode.{PlanNode}
+use Rattle.just_sched.specs.State.{reason_of, statuses}
+use Rattle.just_commands.specs.declared.work.Command.{Command}
+use Rattle.just_commands.specs.declared.work.Work.{Work}
+use Rattle.just_commands.specs.declared.work.Work.TheVariants as work
+use Rattle.just_commands.specs.Steps.{commands_of}
+use Rattle.just_errors.specs.declared.error.Error.{Error}
+use Rattle.just_errors.specs.declared.error.Error.TheVariants as error
+
+-- the name of a node's recipe: the last part of its path
+abbrev pub name_of : PlanNode → List ℕ
+name_of x = text_or_empty (slice_get x.node.key.recipe.components (length x.node.key.recipe.components - 1))
+
+-- the line of a command, if it is one of a line
+abbrev pub line_of : Option Command → Option ℕ
+line_of (Some c) = c.line
+line_of None = None
+
+abbrev pub is_guard : Option Command → Bool
+is_guard (Some c) = c.guard
+is_guard None = false
+
+-- the error of a code: a guard stands in a line
+abbrev pub code_error : List ℕ → Bool → Bool → Option ℕ → ℤ → Error
+code_error name message true (Some n) z = error.GuardCode name n z
+code_error name message true None z = error.Code name None z message
+code_error name message false line z = error.Code name line z message
+
+-- the error of a command that ended so; the message of a code is told or isn't
+abbrev pub status_error : List ℕ → Bool → Option Command → Status → Error
+status_error name message c (status.Code z) = code_error name message (is_guard c) (line_of c) z
+status_error name message c (status.Signal s) = error.Signal name (line_of c) s
+status_error name message c status.Unknown = error.Unknown name (line_of c)
+
+-- the error of the command that ended last; there is one where a status failed the body
+abbrev pub last_error : PlanNode → Bool → List Status → Option Status → Error
+last_error x message ss (Some s) = status_error (name_of x) message (slice_get (commands_of x.work) (length ss - 1)) s
+last_error x message ss None = error.NoMemory
+
+-- the program of a command, if there is one
+abbrev pub program_of : Option Command → List ℕ
+program_of (Some c) = c.spec.program
+program_of None = []
+
+-- the shell of the command behind those that ended: the one that was to start, or that ran
+abbrev pub shell_of : PlanNode → List Status → List ℕ
+shell_of x ss = program_of (slice_get (commands_of x.work) (length ss))
+
+-- ---- what couldn't be started or waited for
+
+-- texts, each with a blank in front
+abbrev pub with_blanks : List (List ℕ) → List ℕ
+with_blanks ts = flat_map (λ t. 32 ∷ t) ts
+
+-- a program and its arguments, with a blank between two of them
+abbrev pub spaced : List ℕ → List (List ℕ) → List ℕ
+spaced program arguments = program ++ with_blanks arguments
+
+abbrev pub first_of : List (List ℕ) → Option (List ℕ)
+first_of [] = None
+first_of (t ∷ ts) = Some t
+
+-- a script that is run by itself is told by what its first line names, any other by its command and the command's arguments
+abbrev pub script_error : List ℕ → Spec → Option Script → HostFault → Error
+script_error name spec (Some s) io = if s.run then error.Shebang name spec.program (first_of spec.arguments) io else error.Script name (spaced spec.program spec.arguments) io
+script_error name spec None io = error.Script name (spaced spec.program spec.arguments) io
+
+-- the error of a child that couldn't be started or waited for, by what the body has to run
+abbrev pub lost_error : PlanNode → List Status → Work → HostFault → Error
+lost_error x ss (work.Lines commands) io = error.ShellIo (name_of x) (shell_of x ss) io
+lost_error x ss (work.Script c) io = script_error (name_of x) c.spec c.spec.script io
+lost_error x ss work.Empty io = error.ShellIo (name_of x) (shell_of x ss) io
+
+-- the error of a body that a miss of that call ended
+abbrev pub miss_error : PlanNode → Call → Miss → Error
+miss_error x call.Temp m = error.TempdirIo (name_of x) (fault.Missed m)
+miss_error x c m = error.FilesystemIo [] (fault.Missed m)
+
+-- the error of a body that a failure of that call ended
+abbrev pub fault_error : PlanNode → List Status → Call → Error
+fault_error x ss call.Print = error.StdoutIo (fault.Failed call.Print)
+fault_error x ss call.Temp = error.TempdirIo (name_of x) (fault.Failed call.Temp)
+fault_error x ss call.Start = lost_error x ss x.work (fault.Failed call.Start)
+fault_error x ss call.Wait = lost_error x ss x.work (fault.Failed call.Wait)
+fault_error x ss c = error.FilesystemIo [] (fault.Failed c)
+
+-- the error of a node that failed for that reason; other reasons don't come yet, but want of memory
+abbrev pub failure_error : PlanNode → Bool → List Status → Option Reason → Error
+failure_error x message ss (Some reason.Status) = last_error x message ss (last_or None ss)
+failure_error x message ss (Some (reason.Place c m)) = miss_error x c m
+failure_error x message ss (Some (reason.Fault c)) = fault_error x ss c
+failure_error x message ss _ = error.NoMemory
+
+-- whether the message of a node's exit code is told
+abbrev pub is_told : List Bool → ℕ → Bool
+is_told messages n = unwrap_or (slice_get messages n) true
+
+abbrev pub error_in : Option PlanNode → Bool → List Event → ℕ → Error
+error_in (Some x) message h n = failure_error x message (statuses h n) (reason_of h n)
+error_in None message h n = error.NoMemory
+
+-- the error of the node of that number
+abbrev pub node_error : List PlanNode → List Bool → List Event → ℕ → Error
+node_error nodes messages h n = error_in (slice_get nodes n) (is_told messages n) h n
+
+-- whether an error names a recipe, whose name is copied
+abbrev pub names_recipe : Error → Bool
+names_recipe (error.Code recipe line code message) = true
+names_recipe (error.Signal recipe line signal) = true
+names_recipe (error.Unknown recipe line) = true
+names_recipe (error.GuardCode recipe line code) = true
+names_recipe (error.ShellIo recipe shell io) = true
+names_recipe (error.Script recipe command io) = true
+names_recipe (error.Shebang recipe command argument io) = true
+names_recipe (error.TempdirIo recipe io) = true
+names_recipe _ = false
+
+-- that error; in place of one that names a recipe memory may be wanting
+abbrev pub IsToldAs : Error → Error → Type 0
+IsToldAs wanted e = (e ≡ wanted) ⊎ ((names_recipe wanted ≡ true) × (e ≡ error.NoMemory))
+
+-- the error of a run of that verdict: none where it went well; that of the node that the verdict names; the caught signal;
+-- or want of memory
+abbrev pub IsErrorFor : List PlanNode → List Bool → List Event → Verdict → Option Error → Type 0
+IsErrorFor nodes messages h verdict.Well e = e ≡ None
+IsErrorFor nodes messages h (verdict.Failed n) e = MatchOption e ⊥ (IsToldAs (node_error nodes messages h n))
+IsErrorFor nodes messages h (verdict.Interrupted signal) e = e ≡ Some (error.Interrupted signal)
+IsErrorFor nodes messages h verdict.NoMemory e = e ≡ Some error.NoMemory
