@@ -1,5 +1,9 @@
 -- The lemmas of plans.
+pub mod Chain
+pub mod Found
+pub mod Laws
 pub mod PlanNodes
+pub mod Refusals
 pub mod Requests
 pub mod Sound
 pub mod Steps

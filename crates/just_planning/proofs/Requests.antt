@@ -1,23 +1,34 @@
 -- Each step of a request gives one answer of its own at most, and so does the request.
-use Rattle.std.proofs.Common.{◌≡◌, ℕ, true, false, true≢false, List, [], ◌∷◌, Option, Some, None, option_map, Result, Ok, Err, refl, sym, ◌∙◌, ap, subst}
+use Rattle.std.proofs.Common.{◌≡◌, ℕ, Bool, true, false, true≢false, List, [], ◌∷◌, Option, Some, None, option_map, Result, Ok, Err, refl, sym, ◌∙◌, ap, subst}
 use Rattle.std.specs.Int.NonZero.{non_zero_u64_get}
-use Rattle.just_path.specs.declared.environ.Environ.{Environ}
-use Rattle.just_path.specs.declared.host.Miss.{Miss}
-use Rattle.just_outside.specs.World.{World}
-use Rattle.just_outside.specs.declared.entry.Call.{Call}
-use Rattle.just_outside.specs.declared.entry.Call.TheVariants as call
-use Rattle.just_outside.specs.declared.entry.HostFault.{HostFault}
-use Rattle.just_outside.specs.declared.entry.HostFault.TheVariants as fault
-use Rattle.just_words.specs.declared.words.Read.TheVariants as read
-use Rattle.just_words.proofs.Laws.{one_meaning}
+use Rattle.just_lang.specs.declared.error.CompileError.{CompileError}
+use Rattle.just_lang.specs.declared.error.CompileKind.{CompileKind}
+use Rattle.just_lang.specs.declared.key.Key.{Key}
+use Rattle.just_lang.specs.declared.node.Closure.{Closure}
+use Rattle.just_lang.specs.declared.project.Justfile.{Justfile}
+use Rattle.just_lang.specs.declared.project.LangError.{LangError}
+use Rattle.just_lang.specs.declared.project.LangError.TheVariants as lang
+use Rattle.just_value.specs.Answers.{Answer, and_then}
+use Rattle.just_value.specs.Modules.{AreModules}
+use Rattle.just_one.specs.Projects.{IsDetermined}
+use Rattle.just_one.proofs.Laws.{projects_agree}
+use Rattle.just_agree.proofs.Laws.{evaluations_agree, closures_agree}
+use Rattle.just_invocations.specs.Invocations.{within_one}
+use Rattle.just_invocations.proofs.Agree.{agree}
+use Rattle.just_ends.specs.Projects.{End}
+use Rattle.just_ends.proofs.Laws.{projects_end}
+use Rattle.just_eval.specs.Closures.{around_of}
+use Rattle.just_plans.specs.declared.error.PlanError.{PlanError}
+use Rattle.just_plans.specs.declared.node_plan.NodePlan.{NodePlan}
+use Rattle.just_errors.specs.Refusals.{error_of_lang}
 use Rattle.just_errors.specs.declared.error.Error.{Error}
 use Rattle.just_errors.specs.declared.error.Error.TheVariants as error
-use Rattle.just_planning.specs.Own.{is_fault, IsOwn}
-use Rattle.just_cli.specs.Faults.{CallGives, FaultFits, io_error, folder_error}
-use Rattle.just_cli.specs.Words.{WordsRequest, ArgumentsRequest, FolderRequest, ConfigRequest, WantedRequest, FindsEnviron, ReadsWords, FindsFolder, GivesConfig, IsBuilt, Configures}
-use Rattle.just_planning.specs.Request.{Outline, AssemblesJustfile, ChecksFeatures, AsksNoDotenv, EvaluatesVariables, InvokesKeys, ClosesKeys, ChecksRecipes, MakesPlan, PlansKeys, PlansProject, PlansSources}
-use Rattle.just_cli.specs.Request.{LoadsSources, environ_shown, folder_shown, EnvironGiven, FolderGiven, Serves, Asks}
-use Rattle.just_planning.proofs.Steps.{GivesOwn, same_refusal, refused_or_found, same_found, then_own}
+use Rattle.just_planning.specs.Own.{is_size, is_too_big}
+use Rattle.just_planning.specs.Planned.{plan_nodes, messages_of, plans_in, error_of_plan}
+use Rattle.just_planning.specs.Request.{SourcesRequest, ProjectRequest, ScopesRequest, KeysRequest, ClosureRequest, Outline, AssemblesJustfile, ChecksFeatures, AsksNoDotenv, EvaluatesVariables, AsksKeys, InvokesKeys, ClosesKeys, ChecksRecipes, MakesPlan, PlansClosure, PlansKeys, PlansProject, PlansSources}
+use Rattle.just_planning.proofs.Steps.{GivesOwn, GivesOwnOf, Finds, own_of, then_own, then_own_of}
+
+-- ---- options and answers
 
 -- an option that holds something holds one thing, and not nothing
 held_one : {A : Type 0} (o : Option A) (x y : A) → o ≡ Some x → o ≡ Some y → x ≡ y
@@ -26,9 +37,48 @@ held_one o x y p q = let both : Some x ≡ Some y = sym p ∙ q in cc
 held_none : {A : Type 0} (o : Option A) (x : A) → o ≡ None → o ≡ Some x → ⊥
 held_none o x p q = let both : None ≡ Some x = sym p ∙ q in let no : ⊥ = cc in no
 
--- sources make one justfile, or break one first rule, but for patterns that are too big: by a law on projects
+-- an answer is one thing
+one_found : {A E : Type 0} (x y : A) → ◌≡◌ {A = Result A E} (Ok x) (Ok y) → x ≡ y
+one_found x y is = cc
+
+one_refusal : {A E : Type 0} (e f : E) → ◌≡◌ {A = Result A E} (Err e) (Err f) → e ≡ f
+one_refusal e f is = cc
+
+found_or_refused : {A E : Type 0} (x : A) (e : E) → ◌≡◌ {A = Result A E} (Ok x) (Err e) → ⊥
+found_or_refused x e is = let no : ⊥ = cc in no
+
+-- ---- from sources to a justfile
+
+-- an error that isn't of a pattern that is too big is determined
+determined : (l : LangError) (e : Error) → e ≡ error_of_lang l → is_too_big e ≡ false → IsDetermined l
+determined l e is own c at size =
+    let told : is_too_big (error_of_lang (lang.Compile c)) ≡ false = subst (λ (x : LangError). is_too_big (error_of_lang x) ≡ false) at (subst (λ (x : Error). is_too_big x ≡ false) is own) in
+    true≢false (sym (ap (λ (k : CompileKind). is_size (Some k)) size) ∙ told)
+
+-- sources make one justfile, or break one first rule, but for patterns that are too big
 assembles_justfile : GivesOwn AssemblesJustfile
-assembles_justfile k r s p m q n = ?assembles
+assembles_justfile s (Ok a) (Ok b) p m q n =
+    let justfile : a.justfile ≡ b.justfile = projects_agree.justfiles s.sources s.environ.pairs a.justfile b.justfile p.2 q.2 in
+    let modules : a.modules ≡ b.modules = projects_agree.modules b.justfile a.modules b.modules (subst (λ (j : Justfile). AreModules (j ∷ []) a.modules) justfile p.3) q.3 in
+    ap (λ x. Ok x)
+    (ap (λ x. let z : ProjectRequest = record { wanted = x; environ = a.environ; justfile = a.justfile; modules = a.modules } in z) (p.0 ∙ sym q.0)
+    ∙ ap (λ x. let z : ProjectRequest = record { wanted = b.wanted; environ = x; justfile = a.justfile; modules = a.modules } in z) (p.1 ∙ sym q.1)
+    ∙ ap (λ x. let z : ProjectRequest = record { wanted = b.wanted; environ = b.environ; justfile = x; modules = a.modules } in z) justfile
+    ∙ ap (λ x. let z : ProjectRequest = record { wanted = b.wanted; environ = b.environ; justfile = b.justfile; modules = x } in z) modules)
+assembles_justfile s (Ok a) (Err f) p m q n = absurd (projects_agree.either s.sources s.environ.pairs a.justfile q.0 p.2 q.1 (determined q.0 f q.2 n.1))
+assembles_justfile s (Err e) (Ok b) p m q n = absurd (projects_agree.either s.sources s.environ.pairs b.justfile p.0 q.2 p.1 (determined p.0 e p.2 m.1))
+assembles_justfile s (Err e) (Err f) p m q n =
+    ap (λ x. Err x)
+    (p.2 ∙ ap (λ (l : LangError). error_of_lang l) (projects_agree.errors s.sources s.environ.pairs p.0 q.0 p.1 q.1 (determined p.0 e p.2 m.1) (determined q.0 f q.2 n.1)) ∙ sym q.2)
+
+-- the modules of a justfile that they make come to an end
+abbrev EndsProject : ProjectRequest → Type 0
+EndsProject p = End p.modules
+
+makes_ending : Finds (λ (s : SourcesRequest). Unit {0}) AssemblesJustfile EndsProject
+makes_ending s h p made = projects_end s.sources s.environ.pairs p.justfile p.modules made.2 made.3
+
+-- ---- from a justfile to the values of its variables
 
 checks_features : GivesOwn ChecksFeatures
 checks_features k (Ok a) (Ok b) p m q n = ap (λ x. Ok x) (p.1 ∙ sym q.1)
@@ -36,23 +86,73 @@ checks_features k (Ok a) (Err f) p m q n = absurd (held_none _ q.0 p.0 q.1)
 checks_features k (Err e) (Ok b) p m q n = absurd (held_none _ p.0 q.0 p.1)
 checks_features k (Err e) (Err f) p m q n = ap (λ x. Err x) (p.2 ∙ ap (λ u. error.UnstableFeature u) (held_one _ p.0 q.0 p.1 q.1) ∙ sym q.2)
 
+keeps_features : Finds EndsProject ChecksFeatures EndsProject
+keeps_features k ends found p = subst EndsProject (sym p.1) ends
+
 asks_no_dotenv : GivesOwn AsksNoDotenv
 asks_no_dotenv k (Ok a) (Ok b) p m q n = ap (λ x. Ok x) (p.1 ∙ sym q.1)
 asks_no_dotenv k (Ok a) (Err f) p m q n = absurd (held_none _ q.0 p.0 q.1)
 asks_no_dotenv k (Err e) (Ok b) p m q n = absurd (held_none _ p.0 q.0 p.1)
 asks_no_dotenv k (Err e) (Err f) p m q n = ap (λ x. Err x) (p.2 ∙ ap (λ x. error.NotBuilt x) (held_one _ p.0 q.0 p.1 q.1) ∙ sym q.2)
 
--- a project has one evaluation, since no variable leads to itself: by a law on evaluations
-evaluates_variables : GivesOwn EvaluatesVariables
-evaluates_variables k r s p m q n = ?evaluates
+keeps_dotenv : Finds EndsProject AsksNoDotenv EndsProject
+keeps_dotenv k ends found p = subst EndsProject (sym p.1) ends
+
+-- a project has one evaluation, since no variable leads to itself
+evaluates_variables : GivesOwnOf EndsProject EvaluatesVariables
+evaluates_variables k ends (Ok a) (Ok b) p m q n =
+    let scopes = one_found a.scopes b.scopes (evaluations_agree k.modules [] k.environ k.wanted.overrides (Ok a.scopes) (Ok b.scopes) ends.variables p.3 q.3) in
+    ap (λ x. Ok x)
+    (ap (λ x. let z : ScopesRequest = record { wanted = x; justfile = a.justfile; modules = a.modules; scopes = a.scopes } in z) (p.0 ∙ sym q.0)
+    ∙ ap (λ x. let z : ScopesRequest = record { wanted = b.wanted; justfile = x; modules = a.modules; scopes = a.scopes } in z) (p.1 ∙ sym q.1)
+    ∙ ap (λ x. let z : ScopesRequest = record { wanted = b.wanted; justfile = b.justfile; modules = x; scopes = a.scopes } in z) (p.2 ∙ sym q.2)
+    ∙ ap (λ x. let z : ScopesRequest = record { wanted = b.wanted; justfile = b.justfile; modules = b.modules; scopes = x } in z) scopes)
+evaluates_variables k ends (Ok a) (Err f) p m q n =
+    absurd (found_or_refused a.scopes q.0 (evaluations_agree k.modules [] k.environ k.wanted.overrides (Ok a.scopes) (Err q.0) ends.variables p.3 q.1))
+evaluates_variables k ends (Err e) (Ok b) p m q n =
+    absurd (found_or_refused b.scopes p.0 (evaluations_agree k.modules [] k.environ k.wanted.overrides (Ok b.scopes) (Err p.0) ends.variables q.3 p.1))
+evaluates_variables k ends (Err e) (Err f) p m q n =
+    ap (λ x. Err x)
+    (p.2 ∙ ap (λ (l : LangError). error_of_lang l) (one_refusal p.0 q.0 (evaluations_agree k.modules [] k.environ k.wanted.overrides (Err p.0) (Err q.0) ends.variables p.1 q.1)) ∙ sym q.2)
+
+-- ---- from the values to a closure
 
 -- words ask for one thing
-invokes_keys : GivesOwn InvokesKeys
-invokes_keys k r s p m q n = ?invokes
+asks_one : (s : ScopesRequest) (x y : Answer (List Key)) → AsksKeys s x → AsksKeys s y → x ≡ y
+asks_one s x y p q =
+    p.2 ∙ ap (λ (asked : Answer (List Key)). and_then asked (within_one s.wanted.one)) (agree s.modules s.scopes s.justfile s.wanted.words p.0 q.0 p.1 q.1) ∙ sym q.2
 
--- keys have one closure: by a law on visits
+invokes_keys : GivesOwn InvokesKeys
+invokes_keys k (Ok a) (Ok b) p m q n =
+    ap (λ x. Ok x)
+    (ap (λ x. let z : KeysRequest = record { wanted = x; modules = a.modules; scopes = a.scopes; keys = a.keys } in z) (p.0 ∙ sym q.0)
+    ∙ ap (λ x. let z : KeysRequest = record { wanted = b.wanted; modules = x; scopes = a.scopes; keys = a.keys } in z) (p.1 ∙ sym q.1)
+    ∙ ap (λ x. let z : KeysRequest = record { wanted = b.wanted; modules = b.modules; scopes = x; keys = a.keys } in z) (p.2 ∙ sym q.2)
+    ∙ ap (λ x. let z : KeysRequest = record { wanted = b.wanted; modules = b.modules; scopes = b.scopes; keys = x } in z) (one_found a.keys b.keys (asks_one k (Ok a.keys) (Ok b.keys) p.3 q.3)))
+invokes_keys k (Ok a) (Err f) p m q n = absurd (found_or_refused a.keys q.0 (asks_one k (Ok a.keys) (Err q.0) p.3 q.1))
+invokes_keys k (Err e) (Ok b) p m q n = absurd (found_or_refused b.keys p.0 (asks_one k (Ok b.keys) (Err p.0) q.3 p.1))
+invokes_keys k (Err e) (Err f) p m q n =
+    ap (λ x. Err x) (p.2 ∙ ap (λ (l : LangError). error_of_lang l) (one_refusal p.0 q.0 (asks_one k (Err p.0) (Err q.0) p.1 q.1)) ∙ sym q.2)
+
+-- keys have one closure, or one refusal
 closes_keys : GivesOwn ClosesKeys
-closes_keys k r s p m q n = ?closes
+closes_keys k (Ok a) (Ok b) p m q n =
+    let around = around_of k.wanted.no_deps k.modules k.scopes in
+    ap (λ x. Ok x)
+    (ap (λ x. let z : ClosureRequest = record { wanted = x; modules = a.modules; scopes = a.scopes; closure = a.closure } in z) (p.0 ∙ sym q.0)
+    ∙ ap (λ x. let z : ClosureRequest = record { wanted = b.wanted; modules = x; scopes = a.scopes; closure = a.closure } in z) (p.1 ∙ sym q.1)
+    ∙ ap (λ x. let z : ClosureRequest = record { wanted = b.wanted; modules = b.modules; scopes = x; closure = a.closure } in z) (p.2 ∙ sym q.2)
+    ∙ ap (λ x. let z : ClosureRequest = record { wanted = b.wanted; modules = b.modules; scopes = b.scopes; closure = x } in z)
+    (one_found a.closure b.closure (closures_agree around k.keys (Ok a.closure) (Ok b.closure) p.3 q.3)))
+closes_keys k (Ok a) (Err f) p m q n =
+    absurd (found_or_refused a.closure q.0 (closures_agree (around_of k.wanted.no_deps k.modules k.scopes) k.keys (Ok a.closure) (Err q.0) p.3 q.1))
+closes_keys k (Err e) (Ok b) p m q n =
+    absurd (found_or_refused b.closure p.0 (closures_agree (around_of k.wanted.no_deps k.modules k.scopes) k.keys (Ok b.closure) (Err p.0) q.3 p.1))
+closes_keys k (Err e) (Err f) p m q n =
+    ap (λ x. Err x)
+    (p.2 ∙ ap (λ (l : LangError). error_of_lang l) (one_refusal p.0 q.0 (closures_agree (around_of k.wanted.no_deps k.modules k.scopes) k.keys (Err p.0) (Err q.0) p.1 q.1)) ∙ sym q.2)
+
+-- ---- from a closure to a plan
 
 checks_recipes : GivesOwn ChecksRecipes
 checks_recipes k (Ok a) (Ok b) p m q n = ap (λ x. Ok x) (p.1 ∙ sym q.1)
@@ -60,17 +160,33 @@ checks_recipes k (Ok a) (Err f) p m q n = absurd (held_none _ q.0 p.0 q.1)
 checks_recipes k (Err e) (Ok b) p m q n = absurd (held_none _ p.0 q.0 p.1)
 checks_recipes k (Err e) (Err f) p m q n = ap (λ x. Err x) (p.2 ∙ ap (λ x. error.NotBuilt x) (held_one _ p.0 q.0 p.1 q.1) ∙ sym q.2)
 
+-- the outline of a closure with these plans
+abbrev outline_with : ClosureRequest → List NodePlan → Outline
+outline_with c plans =
+    record { nodes = plan_nodes c.closure.nodes plans; invocations = c.closure.invocations; jobs = option_map non_zero_u64_get c.wanted.jobs; messages = messages_of c.modules c.closure.nodes }
+
 -- a closure has one plan, or one refusal
 makes_plan : GivesOwn MakesPlan
-makes_plan k r s p m q n = ?makes
+makes_plan c (Ok a) (Ok b) p m q n = ap (λ x. Ok x) (p.2 ∙ ap (λ (plans : List NodePlan). outline_with c plans) (one_found p.0 q.0 (sym p.1 ∙ q.1)) ∙ sym q.2)
+makes_plan c (Ok a) (Err f) p m q n = absurd (found_or_refused p.0 q.0 (sym p.1 ∙ q.1))
+makes_plan c (Err e) (Ok b) p m q n = absurd (found_or_refused q.0 p.0 (sym q.1 ∙ p.1))
+makes_plan c (Err e) (Err f) p m q n = ap (λ x. Err x) (p.2 ∙ ap (λ (g : PlanError). error_of_plan g) (one_refusal p.0 q.0 (sym p.1 ∙ q.1)) ∙ sym q.2)
 
 -- ---- the chain
 
+plans_closure : GivesOwn PlansClosure
+plans_closure = then_own ChecksRecipes MakesPlan checks_recipes makes_plan
+
 plans_keys : GivesOwn PlansKeys
-plans_keys = then_own InvokesKeys _ invokes_keys (then_own ClosesKeys _ closes_keys (then_own ChecksRecipes MakesPlan checks_recipes makes_plan))
+plans_keys = then_own InvokesKeys _ invokes_keys (then_own ClosesKeys PlansClosure closes_keys plans_closure)
 
-plans_project : GivesOwn PlansProject
-plans_project = then_own ChecksFeatures _ checks_features (then_own AsksNoDotenv _ asks_no_dotenv (then_own EvaluatesVariables PlansKeys evaluates_variables plans_keys))
+-- of a justfile whose modules come to an end
+plans_project : GivesOwnOf EndsProject PlansProject
+plans_project =
+    then_own_of EndsProject EndsProject ChecksFeatures _ (own_of EndsProject ChecksFeatures checks_features) keeps_features
+    (then_own_of EndsProject EndsProject AsksNoDotenv _ (own_of EndsProject AsksNoDotenv asks_no_dotenv) keeps_dotenv
+    (then_own_of EndsProject (λ (s : ScopesRequest). Unit {0}) EvaluatesVariables PlansKeys evaluates_variables (λ k ends found p. tt) (own_of (λ (s : ScopesRequest). Unit {0}) PlansKeys plans_keys)))
 
-plans_sources : GivesOwn PlansSources
-plans_sources = then_own AssemblesJustfile PlansProject assembles_justfile plans_project
+pub plans_sources : GivesOwn PlansSources
+plans_sources s r q =
+    then_own_of (λ (x : SourcesRequest). Unit {0}) EndsProject AssemblesJustfile PlansProject (own_of (λ (x : SourcesRequest). Unit {0}) AssemblesJustfile assembles_justfile) makes_ending plans_project s tt r q

@@ -21,8 +21,8 @@ pub same_found : {A : Type 0} (x y : A) → ◌≡◌ {A = Result A Error} (Ok x
 same_found x y is = cc
 
 -- an answer that is a refusal has what the refusal has
-own_refusal : {A : Type 0} (r : Result A Error) (e : Error) → r ≡ Err e → IsOwn r → IsOwn {A} (Err e)
-own_refusal {A} r e is own = subst (λ z. IsOwn {A} z) is own
+own_refusal : {A : Type 0} (r : Result A Error) (e : Error) → r ≡ Err e → IsOwn r → IsOwn {A = A} (Err e)
+own_refusal {A = A} r e is own = subst (λ (z : Result A Error). IsOwn z) is own
 
 -- of two steps that give one such answer at most, so does the second behind the first
 pub then_own : {A B C : Type 0} (one : A → Result B Error → Type 0) (two : B → Result C Error → Type 0) → GivesOwn one → GivesOwn two → GivesOwn (Then one two)
@@ -32,3 +32,29 @@ then_own one two a b known r s (stops e p is) own (goes_on y q more) other = abs
 then_own one two a b known r s (goes_on x p more) own (stops f q at) other = absurd (refused_or_found f x (a known (Err f) (Ok x) q (own_refusal s f at other) p tt))
 then_own one two a b known r s (goes_on x p more) own (goes_on y q further) other =
     b y r s (subst (λ z. two z r) (same_found x y (a known (Ok x) (Ok y) p tt q tt)) more) own further other
+
+-- ---- of what has some property
+
+-- the step gives one answer of its own at most from what has the property
+abbrev pub GivesOwnOf : {A B : Type 0} → (A → Type 0) → (A → Result B Error → Type 0) → Type 0
+GivesOwnOf {A} {B} has step = (known : A) → has known → (r s : Result B Error) → step known r → IsOwn r → step known s → IsOwn s → r ≡ s
+
+-- what it finds has a property too
+abbrev pub Finds : {A B : Type 0} → (A → Type 0) → (A → Result B Error → Type 0) → (B → Type 0) → Type 0
+Finds {A} {B} has step has_next = (known : A) → has known → (found : B) → step known (Ok found) → has_next found
+
+-- a step that gives one such answer at most from anything
+pub own_of : {A B : Type 0} (has : A → Type 0) (step : A → Result B Error → Type 0) → GivesOwn step → GivesOwnOf has step
+own_of has step own known h r s p a q b = own known r s p a q b
+
+-- of two steps the second of which gives one such answer at most from what the first finds, so do both
+pub then_own_of : {A B C : Type 0} (has : A → Type 0) (has_next : B → Type 0) (one : A → Result B Error → Type 0) (two : B → Result C Error → Type 0)
+    → GivesOwnOf has one → Finds has one has_next → GivesOwnOf has_next two → GivesOwnOf has (Then one two)
+then_own_of has has_next one two a finds b known h r s (stops e p is) own (stops f q at) other =
+    is ∙ same_refusal e f (a known h (Err e) (Err f) p (own_refusal r e is own) q (own_refusal s f at other)) ∙ sym at
+then_own_of has has_next one two a finds b known h r s (stops e p is) own (goes_on y q more) other =
+    absurd (refused_or_found e y (a known h (Err e) (Ok y) p (own_refusal r e is own) q tt))
+then_own_of has has_next one two a finds b known h r s (goes_on x p more) own (stops f q at) other =
+    absurd (refused_or_found f x (a known h (Err f) (Ok x) q (own_refusal s f at other) p tt))
+then_own_of has has_next one two a finds b known h r s (goes_on x p more) own (goes_on y q further) other =
+    b y (finds known h y q) r s (subst (λ z. two z r) (same_found x y (a known h (Ok x) (Ok y) p tt q tt)) more) own further other

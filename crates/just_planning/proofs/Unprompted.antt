@@ -8,7 +8,9 @@ use Rattle.just_lang.specs.declared.node.BodyLine.{BodyLine}
 use Rattle.just_lang.specs.declared.node.Node.{Node}
 use Rattle.just_lang.specs.declared.project.Justfile.{Justfile}
 use Rattle.just_lang.specs.declared.project.LangError.{LangError}
+use Rattle.just_lang.specs.declared.scope.Scopes.{Scopes}
 use Rattle.just_value.specs.Modules.{Located, recipe_at}
+use Rattle.just_lines.specs.Bodies.{body_lines}
 use Rattle.just_commands.specs.Attributes.{has_attribute, attribute_text}
 use Rattle.just_commands.specs.Works.{recipe_work}
 use Rattle.just_commands.specs.declared.error.CommandError.{CommandError}
@@ -20,7 +22,7 @@ use Rattle.just_plans.specs.declared.error.PlanError.TheVariants as error
 use Rattle.just_plans.specs.declared.node_plan.NodePlan.{NodePlan}
 use Rattle.just_sched.specs.declared.plan_node.PlanNode.{PlanNode}
 use Rattle.just_planning.specs.Forms.{is_cached, attribute_not_built, node_not_built, word_if}
-use Rattle.just_planning.specs.Planned.{plan_nodes}
+use Rattle.just_planning.specs.Planned.{plan_nodes, changes_of, plans_for}
 
 -- an option or another that is there isn't nothing
 no_first : {A : Type 0} (o other : Option A) → or_else o other ≡ None → o ≡ None
@@ -94,3 +96,14 @@ nodes_unprompted [] ps all = All-nil (λ (x : PlanNode). is_none x.prompt ≡ tr
 nodes_unprompted (n ∷ ns) [] all = All-nil (λ (x : PlanNode). is_none x.prompt ≡ true)
 nodes_unprompted (n ∷ ns) (p ∷ ps) all =
     All-cons (λ (x : PlanNode). is_none x.prompt ≡ true) (record { node = n; prompt = p.prompt; parallel = p.parallel; work = p.work; banner = p.banner }) (plan_nodes ns ps) (All-head (λ (q : NodePlan). is_none q.prompt ≡ true) p ps all) (nodes_unprompted ns ps (All-tail (λ (q : NodePlan). is_none q.prompt ≡ true) p ps all))
+
+-- so it is in a project whose bodies have their lines by its scopes
+module _ (flags : RunFlags) (modules : List Justfile) (scopes : Scopes) (ns given : List Node) (same : given ≡ ns) (ps : List NodePlan) (is : plans_for flags modules scopes given ≡ Ok ps) where
+  given_is : plans_for flags modules scopes ns ≡ Ok ps
+  given_is = subst (λ xs. plans_for flags modules scopes xs ≡ Ok ps) same is
+
+  pub as_many_planned : length ns ≡ length ps
+  as_many_planned = as_many_plans flags modules (body_lines modules scopes) (changes_of modules scopes) ns ps given_is
+
+  pub none_prompted : node_not_built flags modules ns ≡ None → All (λ (p : NodePlan). is_none p.prompt ≡ true) ps
+  none_prompted built = plans_unprompted flags modules (body_lines modules scopes) (changes_of modules scopes) ns ps built given_is

@@ -1,4 +1,5 @@
 -- The definitions that the contracts of plans cite.
+pub mod Agree
 pub mod Forms
 pub mod Own
 pub mod Planned

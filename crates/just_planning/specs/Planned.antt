@@ -51,9 +51,12 @@ message_at (Some l) = prints_code (settings_of l.parent) l.recipe.attributes
 abbrev pub messages_of : List Justfile → List Node → List Bool
 messages_of modules nodes = map (λ n. message_at (recipe_at modules n.key.recipe)) nodes
 
--- what is planned for each node of a closure, or the first refusal
+-- what is planned for each of some nodes, or the first refusal; and for each of a closure
+abbrev pub plans_for : RunFlags → List Justfile → Scopes → List Node → Result (List NodePlan) PlanError
+plans_for flags modules scopes nodes = node_plans flags modules (body_lines modules scopes) (changes_of modules scopes) nodes
+
 abbrev pub plans_in : RunFlags → List Justfile → Scopes → Closure → Result (List NodePlan) PlanError
-plans_in flags modules scopes c = node_plans flags modules (body_lines modules scopes) (changes_of modules scopes) c.nodes
+plans_in flags modules scopes c = plans_for flags modules scopes c.nodes
 
 abbrev pub error_of_command : CommandError → Error
 error_of_command (command.InvalidShebang recipe shebang) = error.InvalidShebang recipe shebang

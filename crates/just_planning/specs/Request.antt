@@ -128,9 +128,12 @@ MakesPlan c (Err e) = (f : PlanError) × (plans_in c.wanted.flags c.modules c.sc
 
 -- ---- the chain
 
--- the steps behind the values, behind the justfile, and behind what is asked of it
+-- the steps behind the closure, behind the values of the variables, behind the justfile, and behind the sources
+abbrev pub PlansClosure : ClosureRequest → Result Outline Error → Type 0
+PlansClosure = Then ChecksRecipes MakesPlan
+
 abbrev pub PlansKeys : ScopesRequest → Result Outline Error → Type 0
-PlansKeys = Then InvokesKeys (Then ClosesKeys (Then ChecksRecipes MakesPlan))
+PlansKeys = Then InvokesKeys (Then ClosesKeys PlansClosure)
 
 abbrev pub PlansProject : ProjectRequest → Result Outline Error → Type 0
 PlansProject = Then ChecksFeatures (Then AsksNoDotenv (Then EvaluatesVariables PlansKeys))

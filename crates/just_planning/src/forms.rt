@@ -44,16 +44,16 @@ fn has_cached(recipes: &[Recipe]) -> bool
 }
 
 /// The first unstable feature that a module uses without leave of its own.
-fn feature_of(module: &Justfile) -> Option<UnstableFeature>
-    ensures { result ≡ feature_of module.now }
+fn feature_of(justfile: &Justfile) -> Option<UnstableFeature>
+    ensures { result ≡ feature_of justfile.now }
 {
-    if module.settings.unstable {
+    if justfile.settings.unstable {
         return None;
     }
-    if has_cached(module.recipes.as_slice()) {
+    if has_cached(justfile.recipes.as_slice()) {
         return Some(UnstableFeature::CachedRecipes);
     }
-    if module.settings.lists {
+    if justfile.settings.lists {
         Some(UnstableFeature::ListsSetting)
     } else {
         None
@@ -156,6 +156,7 @@ fn found_not_built(flags: &RunFlags, found: &Option<Entry<'_>>) -> Option<&'stat
 }
 
 /// The attribute of the first recipe of these nodes that isn't built, where it matters to this run.
+#[tactic(auto, using(crate::proofs::Found::found_is))]
 pub(crate) fn node_not_built(
     request: &Request<'_>,
     flags: &RunFlags,

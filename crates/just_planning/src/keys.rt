@@ -1,13 +1,14 @@
 //! From the values of a project's variables to the plan of a run.
 
-ghost use Rattle.std.specs.Prelude.{◌≡◌, ◌≢◌, ◌∷◌, [], List, option_map, Ok, Err, IfOk, IfErr};
+ghost use Rattle.std.specs.Prelude.{◌≡◌, ◌≢◌, ◌<◌, ◌^◌, ◌∷◌, [], List, length, option_map, Ok, Err, IfOk, IfErr};
 ghost use Rattle.std.specs.Int.NonZero.{non_zero_u64_get};
 ghost use Rattle.just_lang.specs.declared.project.Justfile.{Justfile};
 ghost use Rattle.just_lang.specs.declared.project.LangError.{LangError};
+ghost use Rattle.just_closure.specs.WellFormed.{IsWellFormed};
 ghost use Rattle.just_value.specs.Modules.{AreModules};
 ghost use Rattle.just_planning.specs.Own.{OrMemory};
 ghost use Rattle.just_planning.specs.Projects.{IsSound};
-ghost use Rattle.just_planning.specs.Request.{outline_of, AsksKeys, PlansKeys};
+ghost use Rattle.just_planning.specs.Request.{outline_of, AsksKeys, PlansClosure, PlansKeys};
 
 use super::Wanted;
 use super::planning::plan_of;
@@ -15,7 +16,7 @@ use just_errors::Error;
 use just_eval::{Request, closure};
 use just_invocations::{invocations, within_one};
 use just_lang::project::{Justfile, LangError};
-use just_lang::{Key, Scopes};
+use just_lang::{Closure, Key, Scopes};
 use just_path::Seq;
 use just_sched::Plan;
 use std::alloc::Global;
@@ -30,8 +31,34 @@ fn keys_of(
     ensures keys { IfOk result (λ keys. (modules : List Justfile) → AreModules (justfile.now ∷ []) modules → AsksKeys (record { wanted = wanted.now; justfile = justfile.now; modules = modules; scopes = scopes.now }) (Ok keys)) }
     ensures refused { IfErr result (λ e. e ≢ LangError.NoMemory → (modules : List Justfile) → AreModules (justfile.now ∷ []) modules → AsksKeys (record { wanted = wanted.now; justfile = justfile.now; modules = modules; scopes = scopes.now }) (Err e)) }
 {
-    let keys = invocations(alloc, justfile, scopes, wanted.words.as_slice())?;
-    within_one(wanted.one, keys)
+    let keys = match invocations(alloc, justfile, scopes, wanted.words.as_slice()) {
+        Ok(keys) => keys,
+        Err(error) => return Err(error),
+    };
+    match within_one(wanted.one, keys) {
+        Ok(keys) => Ok(keys),
+        Err(error) => Err(error),
+    }
+}
+
+/// The plan of the closure of what the words ask for.
+fn plan_of_closure(
+    alloc: Global,
+    justfile: &Justfile,
+    scopes: &Scopes,
+    wanted: &Wanted,
+    closure: Closure,
+) -> Result<(Plan, Seq<bool>), Error>
+    requires formed { IsWellFormed closure.nodes closure.invocations }
+    requires few { length closure.nodes < 2 ^ 32 }
+    ensures plan { IfOk result (λ p. (modules : List Justfile) → AreModules (justfile.now ∷ []) modules → PlansClosure (record { wanted = wanted.now; modules = modules; scopes = scopes.now; closure = closure }) (Ok (outline_of p.0 (option_map non_zero_u64_get wanted.now.jobs) p.1))) }
+    ensures refused { IfErr result (OrMemory (λ e. (modules : List Justfile) → AreModules (justfile.now ∷ []) modules → PlansClosure (record { wanted = wanted.now; modules = modules; scopes = scopes.now; closure = closure }) (Err e))) }
+{
+    let request = Request::new(alloc, justfile, scopes)?;
+    match plan_of(alloc, &request, &wanted.flags, closure) {
+        Ok(planned) => Ok(planned),
+        Err(error) => Err(error),
+    }
 }
 
 /// The plan of what the words ask for, with of each node whether the message of its exit code is told.
@@ -53,6 +80,8 @@ pub(crate) fn plan_of_keys(
         Ok(closure) => closure,
         Err(error) => return Err(Error::from(error)),
     };
-    let request = Request::new(alloc, justfile, scopes)?;
-    plan_of(alloc, &request, &wanted.flags, closure)
+    match plan_of_closure(alloc, justfile, scopes, wanted, closure) {
+        Ok(planned) => Ok(planned),
+        Err(error) => Err(error),
+    }
 }

@@ -3,10 +3,12 @@
 
 mod forms;
 mod keys;
+mod law;
 mod planning;
 mod project;
 mod wanted;
 
 pub use forms::not_built_error;
+pub use law::plans_agree;
 pub use project::plan_of_sources;
 pub use wanted::Wanted;

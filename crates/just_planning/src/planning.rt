@@ -1,20 +1,22 @@
 //! The plan of a closure.
 
-ghost use Rattle.std.specs.Prelude.{◌≡◌, ◌^◌, ◌<◌, List, length, map, All, None, Ok, IfOk, IfErr};
+ghost use Rattle.std.specs.Prelude.{◌≡◌, ◌^◌, ◌<◌, List, length, map, All, None, is_none, true, option_map, Ok, Err, IfOk, IfErr};
 ghost use Rattle.just_closure.specs.WellFormed.{IsWellFormed};
+ghost use Rattle.just_eval.specs.Entries.{located_of};
 ghost use Rattle.just_eval.specs.Requests.{IsIndexed};
 ghost use Rattle.just_lines.specs.Bodies.{body_lines};
+ghost use Rattle.just_plans.specs.declared.error.PlanError.{PlanError};
 ghost use Rattle.just_plans.specs.declared.node_plan.NodePlan.{NodePlan};
 ghost use Rattle.just_commands.specs.Steps.{commands_of};
 ghost use Rattle.just_planning.specs.Own.{OrMemory};
 ghost use Rattle.just_planning.specs.Forms.{node_not_built};
-ghost use Rattle.just_planning.specs.Planned.{changes_of, plan_node, plan_nodes, messages_of, plans_in, error_of_command, error_of_plan, RefusesNodes};
+ghost use Rattle.just_planning.specs.Planned.{changes_of, plan_node, plan_nodes, message_at, messages_of, plans_for, plans_in, error_of_command, error_of_plan, RefusesNodes};
 
 use super::forms::{node_not_built as unbuilt, not_built_error};
 use just_changes::changes_of_recipe;
 use just_commands::{CommandError, RunFlags, Work, prints_code};
 use just_errors::Error;
-use just_eval::Request;
+use just_eval::{Entry, Request};
 use just_lang::project::LangError;
 use just_lang::{BodyLine, Closure, Key, Node};
 use just_lines::lines_of;
@@ -41,6 +43,7 @@ impl Bodies for ProjectBodies<'_, '_> {
         lines_of(alloc, self.request, key)
     }
 
+    #[tactic(auto, using(crate::proofs::Found::entry_change, crate::proofs::Found::no_changes))]
     fn changes(&self, alloc: Global, key: &Key) -> Result<Seq<(Text, Option<Text>)>, NoMemory> {
         let Some(from) = self.request.entry(&key.recipe) else {
             return Ok(Seq::new(alloc));
@@ -112,7 +115,7 @@ fn plan_node(node: Node, plan: NodePlan) -> Result<PlanNode, NoMemory>
 }
 
 /// The nodes of a plan, which are made from the last one on.
-#[tactic(auto, using(crate::proofs::PlanNodes::plan_popped))]
+#[tactic(auto, using(crate::proofs::PlanNodes::all_reversed))]
 fn plan_nodes(
     alloc: Global,
     nodes: Seq<Node>,
@@ -135,24 +138,68 @@ fn plan_nodes(
     Ok(Seq::from(made))
 }
 
+/// Whether the message of the exit code of a recipe is told, if there is a recipe.
+fn is_told(found: &Option<Entry<'_>>) -> bool
+    ensures { result ≡ message_at (option_map located_of found.now) }
+{
+    match found {
+        Some(entry) => prints_code(&entry.parent.settings, entry.recipe),
+        None => true,
+    }
+}
+
 /// Of each node whether the message of its exit code is told.
+#[tactic(auto, using(crate::proofs::Found::found_is))]
 fn messages_of(alloc: Global, request: &Request<'_>, nodes: &[Node]) -> Result<Seq<bool>, NoMemory>
     requires { IsIndexed request.now }
     ensures { IfOk result (λ ms. ms ≡ messages_of (map (λ m. m.now) request.now.modules.items) nodes.now) }
 {
     let mut messages = Vec::with_capacity(alloc, nodes.len())?;
     'nodes: for node in nodes {
-        messages.push(match request.entry(&node.key.recipe) {
-            Some(from) => { prints_code(&from.parent.settings, from.recipe) }
-            None => true,
-        })?;
+        let found = request.entry(&node.key.recipe);
+        messages.push(is_told(&found))?;
     }
     Ok(Seq::from(messages))
 }
 
+/// What is planned for each of some nodes. The first whose body can't be run refuses it.
+fn plans_of(
+    alloc: Global,
+    request: &Request<'_>,
+    flags: &RunFlags,
+    nodes: &[Node],
+) -> Result<Seq<NodePlan>, Error>
+    requires { IsIndexed request.now }
+    ensures plans { IfOk result (λ plans. plans_for flags.now (map (λ m. m.now) request.now.modules.items) request.now.scopes.now nodes.now ≡ Ok plans) }
+    ensures refused { IfErr result (OrMemory (λ e. (f : PlanError) × (plans_for flags.now (map (λ m. m.now) request.now.modules.items) request.now.scopes.now nodes.now ≡ Err f) × (e ≡ error_of_plan f))) }
+{
+    let bodies = ProjectBodies { request };
+    match node_plans(alloc, request, &bodies, flags, nodes) {
+        Ok(plans) => Ok(plans),
+        Err(error) => Err(plan_error(error)),
+    }
+}
+
+/// The plan with these nodes, each with what is planned for it.
+fn plan_with(
+    alloc: Global,
+    nodes: Seq<Node>,
+    invocations: Seq<u32>,
+    plans: Seq<NodePlan>,
+) -> Result<Plan, NoMemory>
+    requires formed { IsWellFormed nodes invocations }
+    requires few { length nodes < 2 ^ 32 }
+    requires same { length nodes ≡ length plans }
+    requires unprompted { All (λ p. is_none p.prompt ≡ true) plans }
+    ensures nodes { IfOk result (λ p. p.nodes ≡ plan_nodes nodes plans) }
+    ensures invocations { IfOk result (λ p. p.invocations ≡ invocations) }
+{
+    let nodes = plan_nodes(alloc, nodes, plans)?;
+    Ok(Plan { nodes, invocations })
+}
+
 /// The plan of a closure, with of each node whether the message of its exit code is told. The first node whose recipe isn't built yet,
 /// then the first whose body can't be run, refuses it.
-#[tactic(auto, using(crate::proofs::Unprompted::as_many_plans, crate::proofs::Unprompted::plans_unprompted, crate::proofs::Unprompted::nodes_unprompted, crate::proofs::PlanNodes::well_planned, crate::proofs::PlanNodes::few_planned))]
 pub(crate) fn plan_of(
     alloc: Global,
     request: &Request<'_>,
@@ -172,12 +219,11 @@ pub(crate) fn plan_of(
     if let Some(word) = unbuilt(request, flags, nodes.as_slice()) {
         return Err(not_built_error(alloc, word));
     }
-    let bodies = ProjectBodies { request };
-    let plans = match node_plans(alloc, request, &bodies, flags, nodes.as_slice()) {
+    let plans = match plans_of(alloc, request, flags, nodes.as_slice()) {
         Ok(plans) => plans,
-        Err(error) => return Err(plan_error(error)),
+        Err(error) => return Err(error),
     };
     let messages = messages_of(alloc, request, nodes.as_slice())?;
-    let nodes = plan_nodes(alloc, nodes, plans)?;
-    Ok((Plan { nodes, invocations }, messages))
+    let plan = plan_with(alloc, nodes, invocations, plans)?;
+    Ok((plan, messages))
 }

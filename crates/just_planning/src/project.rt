@@ -1,15 +1,18 @@
 //! From the sources of a project to the plan of a run.
 
-ghost use Rattle.std.specs.Prelude.{◌≡◌, ◌∷◌, [], List, None, option_map, Ok, Err, IfOk, IfErr};
+ghost use Rattle.std.specs.Prelude.{ℕ, ◌≡◌, ◌∷◌, [], List, map, None, Some, option_map, Ok, Err, IfOk, IfErr};
 ghost use Rattle.std.specs.Int.NonZero.{non_zero_u64_get};
+ghost use Rattle.just_config.specs.declared.unstable_feature.UnstableFeature.{UnstableFeature as Feature};
 ghost use Rattle.just_lang.specs.declared.project.Justfile.{Justfile};
+ghost use Rattle.just_lang.specs.declared.project.LangError.{LangError};
 ghost use Rattle.just_value.specs.Modules.{AreModules};
+ghost use Rattle.just_variables.specs.Evaluations.{IsEvaluation};
+ghost use Rattle.just_errors.specs.Refusals.{error_of_lang};
+ghost use Rattle.just_errors.specs.declared.error.Error.TheVariants as error;
 ghost use Rattle.just_planning.specs.Own.{OrMemory};
 ghost use Rattle.just_planning.specs.Forms.{unstable_feature as feature_used, dotenv_not_built as dotenv_word};
-ghost use Rattle.just_path.specs.declared.environ.Environ.{Environ};
 ghost use Rattle.just_planning.specs.Projects.{IsSound};
-ghost use Rattle.just_planning.specs.Steps.{Then};
-ghost use Rattle.just_planning.specs.Request.{outline_of, ChecksFeatures, AsksNoDotenv, EvaluatesVariables, PlansProject, PlansSources};
+ghost use Rattle.just_planning.specs.Request.{outline_of, PlansProject, PlansSources};
 
 use super::Wanted;
 use super::forms::{dotenv_not_built, not_built_error, unstable_feature};
@@ -25,17 +28,23 @@ use just_value::all_modules;
 use just_variables::evaluate;
 use std::alloc::Global;
 
-/// Refuses an unstable feature that isn't allowed, and then what asks for a dotenv file, which isn't built.
-fn check_forms(alloc: Global, justfile: &Justfile, wanted: &Wanted) -> Result<(), Error>
-    ensures stable { IfOk result (λ _. (modules : List Justfile) → AreModules (justfile.now ∷ []) modules → feature_used wanted.now.unstable modules ≡ None) }
-    ensures built { IfOk result (λ _. (modules : List Justfile) → AreModules (justfile.now ∷ []) modules → dotenv_word wanted.now.no_dotenv modules ≡ None) }
-    ensures refused { IfErr result (OrMemory (λ e. (environ : Environ) (modules : List Justfile) → AreModules (justfile.now ∷ []) modules → Then ChecksFeatures AsksNoDotenv (record { wanted = wanted.now; environ = environ; justfile = justfile.now; modules = modules }) (Err e))) }
+/// Refuses an unstable feature that a module uses and that neither it nor the words allow.
+fn check_features(allowed: bool, modules: &[&Justfile]) -> Result<(), Error>
+    ensures stable { IfOk result (λ _. feature_used allowed (map (λ m. m.now) modules.now) ≡ None) }
+    ensures refused { IfErr result (λ e. (u : Feature) × (feature_used allowed (map (λ m. m.now) modules.now) ≡ Some u) × (e ≡ error.UnstableFeature u)) }
 {
-    let modules = all_modules(alloc, justfile)?;
-    if let Some(feature) = unstable_feature(wanted.unstable, modules.as_slice()) {
-        return Err(Error::UnstableFeature(feature));
+    match unstable_feature(allowed, modules) {
+        Some(feature) => Err(Error::UnstableFeature(feature)),
+        None => Ok(()),
     }
-    match dotenv_not_built(wanted.no_dotenv, modules.as_slice()) {
+}
+
+/// Refuses a setting that asks for a dotenv file, which isn't built.
+fn check_dotenv(alloc: Global, no_dotenv: bool, modules: &[&Justfile]) -> Result<(), Error>
+    ensures built { IfOk result (λ _. dotenv_word no_dotenv (map (λ m. m.now) modules.now) ≡ None) }
+    ensures refused { IfErr result (OrMemory (λ e. (word : List ℕ) × (dotenv_word no_dotenv (map (λ m. m.now) modules.now) ≡ Some word) × (e ≡ error.NotBuilt word))) }
+{
+    match dotenv_not_built(no_dotenv, modules) {
         Some(word) => Err(not_built_error(alloc, word)),
         None => Ok(()),
     }
@@ -49,8 +58,8 @@ fn scopes_of(
     wanted: &Wanted,
 ) -> Result<Scopes, Error>
     requires { IsSound justfile.now }
-    ensures scopes { IfOk result (λ s. (modules : List Justfile) → AreModules (justfile.now ∷ []) modules → EvaluatesVariables (record { wanted = wanted.now; environ = environ.now; justfile = justfile.now; modules = modules }) (Ok (record { wanted = wanted.now; justfile = justfile.now; modules = modules; scopes = s }))) }
-    ensures refused { IfErr result (OrMemory (λ e. (modules : List Justfile) → AreModules (justfile.now ∷ []) modules → EvaluatesVariables (record { wanted = wanted.now; environ = environ.now; justfile = justfile.now; modules = modules }) (Err e))) }
+    ensures scopes { IfOk result (λ s. (modules : List Justfile) → AreModules (justfile.now ∷ []) modules → IsEvaluation modules [] environ.now wanted.now.overrides (Ok s)) }
+    ensures refused { IfErr result (OrMemory (λ e. (l : LangError) × ((modules : List Justfile) → AreModules (justfile.now ∷ []) modules → IsEvaluation modules [] environ.now wanted.now.overrides (Err l)) × (e ≡ error_of_lang l))) }
 {
     match evaluate(alloc, justfile, &[], environ, wanted.overrides.as_slice()) {
         Ok(scopes) => Ok(scopes),
@@ -58,25 +67,39 @@ fn scopes_of(
     }
 }
 
-/// The plan that is asked of a justfile.
+/// The plan that is asked of a justfile with these modules.
 fn plan_of_project(
     alloc: Global,
     justfile: &Justfile,
+    modules: &[&Justfile],
     environ: &Environ,
     wanted: &Wanted,
 ) -> Result<(Plan, Seq<bool>), Error>
-    requires { IsSound justfile.now }
-    ensures plan { IfOk result (λ p. (modules : List Justfile) → AreModules (justfile.now ∷ []) modules → PlansProject (record { wanted = wanted.now; environ = environ.now; justfile = justfile.now; modules = modules }) (Ok (outline_of p.0 (option_map non_zero_u64_get wanted.now.jobs) p.1))) }
-    ensures refused { IfErr result (OrMemory (λ e. (modules : List Justfile) → AreModules (justfile.now ∷ []) modules → PlansProject (record { wanted = wanted.now; environ = environ.now; justfile = justfile.now; modules = modules }) (Err e))) }
+    requires sound { IsSound justfile.now }
+    requires modules { AreModules (justfile.now ∷ []) (map (λ m. m.now) modules.now) }
+    ensures plan { IfOk result (λ p. PlansProject (record { wanted = wanted.now; environ = environ.now; justfile = justfile.now; modules = map (λ m. m.now) modules.now }) (Ok (outline_of p.0 (option_map non_zero_u64_get wanted.now.jobs) p.1))) }
+    ensures refused { IfErr result (OrMemory (λ e. PlansProject (record { wanted = wanted.now; environ = environ.now; justfile = justfile.now; modules = map (λ m. m.now) modules.now }) (Err e))) }
 {
-    check_forms(alloc, justfile, wanted)?;
-    let scopes = scopes_of(alloc, justfile, environ, wanted)?;
-    plan_of_keys(alloc, justfile, &scopes, wanted)
+    match check_features(wanted.unstable, modules) {
+        Ok(()) => {}
+        Err(error) => return Err(error),
+    }
+    match check_dotenv(alloc, wanted.no_dotenv, modules) {
+        Ok(()) => {}
+        Err(error) => return Err(error),
+    }
+    let scopes = match scopes_of(alloc, justfile, environ, wanted) {
+        Ok(scopes) => scopes,
+        Err(error) => return Err(error),
+    };
+    match plan_of_keys(alloc, justfile, &scopes, wanted) {
+        Ok(planned) => Ok(planned),
+        Err(error) => Err(error),
+    }
 }
 
 /// The plan that is asked of the sources of a project, the first of which is its justfile, with of each node whether the message of its
 /// exit code is told.
-#[tactic(auto, using(crate::proofs::Sound::is_sound))]
 pub fn plan_of_sources(
     alloc: Global,
     sources: &[Source],
@@ -91,5 +114,9 @@ pub fn plan_of_sources(
         Err(error) => return Err(Error::from(error)),
     };
     projects_end();
-    plan_of_project(alloc, &justfile, environ, wanted)
+    let modules = all_modules(alloc, &justfile)?;
+    match plan_of_project(alloc, &justfile, modules.as_slice(), environ, wanted) {
+        Ok(planned) => Ok(planned),
+        Err(error) => Err(error),
+    }
 }

@@ -1,0 +1,216 @@
+-- The chain of a request, from what its calls answered.
+use Rattle.std.proofs.Common.{◌≡◌, ◌≢◌, ◌∙◌, ℕ, inl, inr, Bool, List, [], ◌∷◌, Option, Some, None, option_map, Result, Ok, Err, refl, sym, ap, subst}
+use Rattle.std.specs.Int.NonZero.{non_zero_u64_get}
+use Rattle.just_path.specs.declared.environ.Environ.{Environ}
+use Rattle.just_lang.specs.declared.key.Key.{Key}
+use Rattle.just_lang.specs.declared.node.Closure.{Closure}
+use Rattle.just_lang.specs.declared.project.Justfile.{Justfile}
+use Rattle.just_lang.specs.declared.project.LangError.{LangError}
+use Rattle.just_lang.specs.declared.project.LangError.TheVariants as lang
+use Rattle.just_lang.specs.declared.scope.Override.{Override}
+use Rattle.just_lang.specs.declared.scope.Scopes.{Scopes}
+use Rattle.just_lang.specs.declared.source.Source.{Source}
+use Rattle.just_value.specs.Answers.{Answer, and_then}
+use Rattle.just_value.specs.Modules.{AreModules}
+use Rattle.just_value.proofs.Nesting.{same_modules}
+use Rattle.just_assemble.specs.Projects.{IsFirstError}
+use Rattle.just_project.specs.Assembled.{IsJustfileOfSources}
+use Rattle.just_variables.specs.Evaluations.{IsEvaluation}
+use Rattle.just_invocations.specs.Invocations.{Invokes, within_one}
+use Rattle.just_closure.specs.Closures.{IsClosureOf}
+use Rattle.just_closure.specs.Visits.{Visits}
+use Rattle.just_eval.specs.Closures.{around_of}
+use Rattle.just_plans.specs.declared.node_plan.NodePlan.{NodePlan}
+use Rattle.just_sched.specs.declared.plan.Plan.{Plan}
+use Rattle.just_sched.specs.declared.plan_node.PlanNode.{PlanNode}
+use Rattle.just_errors.specs.Refusals.{error_of_lang}
+use Rattle.just_errors.specs.declared.error.Error.{Error}
+use Rattle.just_planning.specs.Own.{OrMemory}
+use Rattle.just_planning.specs.Forms.{unstable_feature, dotenv_not_built, node_not_built}
+use Rattle.just_planning.specs.Planned.{plan_nodes, messages_of, plans_in, RefusesNodes}
+use Rattle.just_planning.specs.Request.{SourcesRequest, ProjectRequest, ScopesRequest, KeysRequest, ClosureRequest, Outline, outline_of, ChecksFeatures, AsksNoDotenv, AsksKeys, PlansClosure, PlansKeys, PlansProject, PlansSources}
+use Rattle.just_planning.specs.Steps.{stops, goes_on}
+use Rattle.just_planning.specs.declared.wanted.Wanted.{Wanted}
+use Rattle.just_planning.proofs.Refusals.{RefusedBy, lang_refused}
+
+-- ---- what is known
+
+abbrev sources_in : Wanted → Environ → List Source → SourcesRequest
+sources_in wanted environ sources = record { wanted = wanted; environ = environ; sources = sources }
+
+abbrev project_in : Wanted → Environ → Justfile → List Justfile → ProjectRequest
+project_in wanted environ j modules = record { wanted = wanted; environ = environ; justfile = j; modules = modules }
+
+abbrev scopes_in : Wanted → Justfile → List Justfile → Scopes → ScopesRequest
+scopes_in wanted j modules scopes = record { wanted = wanted; justfile = j; modules = modules; scopes = scopes }
+
+abbrev keys_in : Wanted → List Justfile → Scopes → List Key → KeysRequest
+keys_in wanted modules scopes keys = record { wanted = wanted; modules = modules; scopes = scopes; keys = keys }
+
+abbrev closure_in : Wanted → List Justfile → Scopes → Closure → ClosureRequest
+closure_in wanted modules scopes c = record { wanted = wanted; modules = modules; scopes = scopes; closure = c }
+
+abbrev outline_with : List PlanNode → List ℕ → Option ℕ → List Bool → Outline
+outline_with nodes invocations jobs messages = record { nodes = nodes; invocations = invocations; jobs = jobs; messages = messages }
+
+-- the plan of a run that is wanted so
+abbrev outline : Wanted → Plan × List Bool → Outline
+outline wanted p = outline_of p.0 (option_map non_zero_u64_get wanted.jobs) p.1
+
+-- ---- behind the closure
+
+module _ (wanted : Wanted) (scopes : Scopes) (c : Closure) where
+  -- a closure of whose nodes each is planned
+  module _ (ms : List Justfile) where
+    nodes_planned : (p : Plan × List Bool) → node_not_built wanted.flags ms c.nodes ≡ None
+        → (plans : List NodePlan) × (plans_in wanted.flags ms scopes c ≡ Ok plans) × (p.0.nodes ≡ plan_nodes c.nodes plans)
+        → p.0.invocations ≡ c.invocations → p.1 ≡ messages_of ms c.nodes → PlansClosure (closure_in wanted ms scopes c) (Ok (outline wanted p))
+    nodes_planned p built plans invocations messages =
+        let jobs = option_map non_zero_u64_get wanted.jobs in
+        let same : outline wanted p ≡ outline_with (plan_nodes c.nodes plans.0) c.invocations jobs (messages_of ms c.nodes) =
+        ap (λ (nodes : List PlanNode). outline_with nodes p.0.invocations jobs p.1) plans.2
+        ∙ ap (λ (numbers : List ℕ). outline_with (plan_nodes c.nodes plans.0) numbers jobs p.1) invocations
+        ∙ ap (λ (told : List Bool). outline_with (plan_nodes c.nodes plans.0) c.invocations jobs told) messages in
+        goes_on (closure_in wanted ms scopes c) (built, refl) (plans.0, plans.1, same)
+
+    -- a closure that has no plan
+    nodes_refused : (e : Error) → RefusesNodes wanted.flags ms scopes c e → PlansClosure (closure_in wanted ms scopes c) (Err e)
+    nodes_refused e (inl unbuilt) = stops e unbuilt refl
+    nodes_refused e (inr refused) = goes_on (closure_in wanted ms scopes c) (refused.0, refl) (refused.1, refused.2, refused.3)
+
+  -- its modules are one list
+  module _ (j : Justfile) (ms : List Justfile) (are : AreModules (j ∷ []) ms) where
+    same_plan : (r : Result Outline Error) → PlansClosure (closure_in wanted ms scopes c) r → (modules : List Justfile) → AreModules (j ∷ []) modules → PlansClosure (closure_in wanted modules scopes c) r
+    same_plan r plans modules others = subst (λ xs. PlansClosure (closure_in wanted xs scopes c) r) (same_modules (j ∷ []) ms modules are others) plans
+
+    pub closure_planned : (seen : Scopes) → seen ≡ scopes → (p : Plan × List Bool) → node_not_built wanted.flags ms c.nodes ≡ None
+        → (plans : List NodePlan) × (plans_in wanted.flags ms seen c ≡ Ok plans) × (p.0.nodes ≡ plan_nodes c.nodes plans)
+        → p.0.invocations ≡ c.invocations → p.1 ≡ messages_of ms c.nodes
+        → (modules : List Justfile) → AreModules (j ∷ []) modules → PlansClosure (closure_in wanted modules scopes c) (Ok (outline wanted p))
+    closure_planned seen same p built plans invocations messages =
+        same_plan (Ok (outline wanted p)) (nodes_planned ms p built
+        (plans.0, subst (λ s. plans_in wanted.flags ms s c ≡ Ok plans.0) same plans.1, plans.2) invocations messages)
+
+    pub closure_refused : (seen : Scopes) → seen ≡ scopes → (e : Error) → OrMemory (λ x. RefusesNodes wanted.flags ms seen c x) e
+        → OrMemory (λ x. (modules : List Justfile) → AreModules (j ∷ []) modules → PlansClosure (closure_in wanted modules scopes c) (Err x)) e
+    closure_refused seen same e (inl wants) = inl wants
+    closure_refused seen same e (inr why) = inr (same_plan (Err e) (nodes_refused ms e (subst (λ s. RefusesNodes wanted.flags ms s c e) same why)))
+
+-- ---- behind the values of the variables
+
+module _ (wanted : Wanted) (j : Justfile) (scopes : Scopes) where
+  -- an answer behind the values, in any list of the modules
+  abbrev PlansAll : Result Outline Error → Type 0
+  PlansAll r = (modules : List Justfile) → AreModules (j ∷ []) modules → PlansKeys (scopes_in wanted j modules scopes) r
+
+  abbrev AsksAll : Answer (List Key) → Type 0
+  AsksAll answer = (modules : List Justfile) → AreModules (j ∷ []) modules → AsksKeys (scopes_in wanted j modules scopes) answer
+
+  -- what the words ask for, of one recipe alone where that is wanted
+  module _ (words : List (List ℕ)) (same_words : words ≡ wanted.words) where
+    pub asked_within : (asked : List Key) (answer : Answer (List Key)) → ((modules : List Justfile) → AreModules (j ∷ []) modules → Invokes modules scopes j words (Ok asked))
+        → answer ≡ within_one wanted.one asked → AsksAll answer
+    asked_within asked answer invokes is modules are = (Ok asked, subst (λ ws. Invokes modules scopes j ws (Ok asked)) same_words (invokes modules are), is)
+
+    pub asked_none : (l : LangError) → (l ≢ lang.NoMemory → (modules : List Justfile) → AreModules (j ∷ []) modules → Invokes modules scopes j words (Err l))
+        → l ≢ lang.NoMemory → AsksAll (Err l)
+    asked_none l invokes not modules are = (Err l, subst (λ ws. Invokes modules scopes j ws (Err l)) same_words (invokes not modules are), refl)
+
+  keys_stop : (e : Error) → OrMemory (RefusedBy (λ l. AsksAll (Err l))) e → OrMemory (λ x. PlansAll (Err x)) e
+  keys_stop e (inl wants) = inl wants
+  keys_stop e (inr why) = inr (λ modules are. stops e (why.0, why.1 modules are, why.2) refl)
+
+  -- the words ask for no keys
+  pub keys_refused : (l : LangError) → (l ≢ lang.NoMemory → AsksAll (Err l)) → (e : Error) → e ≡ error_of_lang l → OrMemory (λ x. PlansAll (Err x)) e
+  keys_refused l why e is = keys_stop e (lang_refused (λ m. AsksAll (Err m)) l why e is)
+
+  module _ (asked : List Key) (asks_them : AsksAll (Ok asked)) (keys : List Key) (same_keys : keys ≡ asked) where
+    asks : AsksAll (Ok keys)
+    asks = subst (λ ks. AsksAll (Ok ks)) (sym same_keys) asks_them
+
+    abbrev VisitsAll : LangError → Type 0
+    VisitsAll l = (modules : List Justfile) → AreModules (j ∷ []) modules → Visits (around_of wanted.no_deps modules scopes) (Ok []) None keys (Err l)
+
+    visits_stop : (e : Error) → OrMemory (RefusedBy VisitsAll) e → OrMemory (λ x. PlansAll (Err x)) e
+    visits_stop e (inl wants) = inl wants
+    visits_stop e (inr why) = inr (λ modules are. goes_on (keys_in wanted modules scopes keys) (refl, refl, refl, asks modules are) (stops e (why.0, why.1 modules are, why.2) refl))
+
+    -- their closure is refused
+    pub visits_refused : (l : LangError) → (l ≢ lang.NoMemory → VisitsAll l) → (e : Error) → e ≡ error_of_lang l → OrMemory (λ x. PlansAll (Err x)) e
+    visits_refused l why e is = visits_stop e (lang_refused VisitsAll l why e is)
+
+    module _ (c : Closure) (closes : (modules : List Justfile) → AreModules (j ∷ []) modules → IsClosureOf (around_of wanted.no_deps modules scopes) keys c) where
+      -- what the steps behind the closure answer is the answer
+      pub closed_plan : (r : Result Outline Error) → ((modules : List Justfile) → AreModules (j ∷ []) modules → PlansClosure (closure_in wanted modules scopes c) r) → PlansAll r
+      closed_plan r plans modules are =
+          goes_on (keys_in wanted modules scopes keys) (refl, refl, refl, asks modules are)
+          (goes_on (closure_in wanted modules scopes c) (refl, refl, refl, closes modules are) (plans modules are))
+
+      pub closed_refused : (e : Error) → OrMemory (λ x. (modules : List Justfile) → AreModules (j ∷ []) modules → PlansClosure (closure_in wanted modules scopes c) (Err x)) e → OrMemory (λ x. PlansAll (Err x)) e
+      closed_refused e (inl wants) = inl wants
+      closed_refused e (inr plans) = inr (closed_plan (Err e) plans)
+
+-- ---- behind the check of the settings
+
+-- a variable has no value
+pub values_lost : (j : Justfile) (environ : Environ) (overrides given : List Override) → given ≡ overrides
+    → (l : LangError) → (l ≢ lang.NoMemory → (ms : List Justfile) → AreModules (j ∷ []) ms → IsEvaluation ms [] environ given (Err l)) → (e : Error) → e ≡ error_of_lang l
+    → OrMemory (RefusedBy (λ m. (ms : List Justfile) → AreModules (j ∷ []) ms → IsEvaluation ms [] environ overrides (Err m))) e
+values_lost j environ overrides given same l why e is =
+    lang_refused (λ m. (ms : List Justfile) → AreModules (j ∷ []) ms → IsEvaluation ms [] environ overrides (Err m)) l
+    (λ not ms are. subst (λ os. IsEvaluation ms [] environ os (Err l)) same (why not ms are)) e is
+
+-- ---- behind the justfile
+
+module _ (wanted : Wanted) (environ : Environ) (j : Justfile) (modules : List Justfile) (are : AreModules (j ∷ []) modules) where
+  -- a module uses an unstable feature
+  pub features_refused : (e : Error) → ChecksFeatures (project_in wanted environ j modules) (Err e) → OrMemory (λ x. PlansProject (project_in wanted environ j modules) (Err x)) e
+  features_refused e why = inr (stops e why refl)
+
+  module _ (stable : unstable_feature wanted.unstable modules ≡ None) where
+    -- a module asks for a dotenv file
+    pub dotenv_refused : (e : Error) → OrMemory (λ x. AsksNoDotenv (project_in wanted environ j modules) (Err x)) e → OrMemory (λ x. PlansProject (project_in wanted environ j modules) (Err x)) e
+    dotenv_refused e (inl wants) = inl wants
+    dotenv_refused e (inr why) = inr (goes_on (project_in wanted environ j modules) (stable, refl) (stops e why refl))
+
+    module _ (built : dotenv_not_built wanted.no_dotenv modules ≡ None) where
+      -- a variable has no value
+      pub values_refused : (e : Error) → OrMemory (RefusedBy (λ l. (ms : List Justfile) → AreModules (j ∷ []) ms → IsEvaluation ms [] environ wanted.overrides (Err l))) e
+          → OrMemory (λ x. PlansProject (project_in wanted environ j modules) (Err x)) e
+      values_refused e (inl wants) = inl wants
+      values_refused e (inr why) =
+          inr (goes_on (project_in wanted environ j modules) (stable, refl) (goes_on (project_in wanted environ j modules) (built, refl)
+          (stops e (why.0, why.1 modules are, why.2) refl)))
+
+      module _ (scopes : Scopes) (evaluates : (ms : List Justfile) → AreModules (j ∷ []) ms → IsEvaluation ms [] environ wanted.overrides (Ok scopes)) where
+        -- what the steps behind the values answer is the answer
+        pub valued_plan : (r : Result Outline Error) → ((ms : List Justfile) → AreModules (j ∷ []) ms → PlansKeys (scopes_in wanted j ms scopes) r) → PlansProject (project_in wanted environ j modules) r
+        valued_plan r plans =
+            goes_on (project_in wanted environ j modules) (stable, refl) (goes_on (project_in wanted environ j modules) (built, refl)
+            (goes_on (scopes_in wanted j modules scopes) (refl, refl, refl, evaluates modules are) (plans modules are)))
+
+        pub valued_refused : (e : Error) → OrMemory (λ x. (ms : List Justfile) → AreModules (j ∷ []) ms → PlansKeys (scopes_in wanted j ms scopes) (Err x)) e
+            → OrMemory (λ x. PlansProject (project_in wanted environ j modules) (Err x)) e
+        valued_refused e (inl wants) = inl wants
+        valued_refused e (inr plans) = inr (valued_plan (Err e) plans)
+
+-- ---- behind the sources
+
+module _ (wanted : Wanted) (environ : Environ) (sources : List Source) where
+  rules_stop : (e : Error) → OrMemory (RefusedBy (λ l. IsFirstError sources environ.pairs l)) e → OrMemory (λ x. PlansSources (sources_in wanted environ sources) (Err x)) e
+  rules_stop e (inl wants) = inl wants
+  rules_stop e (inr why) = inr (stops e why refl)
+
+  -- they break a rule
+  pub rules_refused : (l : LangError) → (l ≢ lang.NoMemory → IsFirstError sources environ.pairs l) → (e : Error) → e ≡ error_of_lang l
+      → OrMemory (λ x. PlansSources (sources_in wanted environ sources) (Err x)) e
+  rules_refused l why e is = rules_stop e (lang_refused (λ m. IsFirstError sources environ.pairs m) l why e is)
+
+  module _ (j : Justfile) (made : IsJustfileOfSources sources environ.pairs j) (modules : List Justfile) (are : AreModules (j ∷ []) modules) where
+    -- what the steps behind the justfile answer is the answer
+    pub assembled_plan : (r : Result Outline Error) → PlansProject (project_in wanted environ j modules) r → PlansSources (sources_in wanted environ sources) r
+    assembled_plan r plans = goes_on (project_in wanted environ j modules) (refl, refl, made, are) plans
+
+    pub assembled_refused : (e : Error) → OrMemory (λ x. PlansProject (project_in wanted environ j modules) (Err x)) e → OrMemory (λ x. PlansSources (sources_in wanted environ sources) (Err x)) e
+    assembled_refused e (inl wants) = inl wants
+    assembled_refused e (inr plans) = inr (assembled_plan (Err e) plans)
