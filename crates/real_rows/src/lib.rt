@@ -7,3 +7,5 @@ mod children;
 mod real;
 #[cfg(test)]
 mod real_edges;
+#[cfg(test)]
+mod scripts;

@@ -3,4 +3,4 @@
 
 mod plans;
 
-pub use plans::{left, memory, plan_of};
+pub use plans::{NotPlanned, left, memory, plan_of};

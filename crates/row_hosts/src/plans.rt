@@ -78,9 +78,26 @@ fn wanted(alloc: Global, name: &str) -> Result<Wanted, NoMemory> {
     })
 }
 
+/// Why there is no plan of a recipe.
+#[derive(Clone, Copy, Debug, PartialEq, Eq)]
+pub enum NotPlanned {
+    /// The text or the name is refused.
+    Refused,
+    NoMemory,
+}
+
 /// The plan of a recipe of that justfile, with each node's priors side by side.
 /// No clause: it serves tests alone.
-pub fn plan_of(alloc: Global, text: &str, name: &str) -> Result<Plan, Error> {
+pub fn plan_of(alloc: Global, text: &str, name: &str) -> Result<Plan, NotPlanned> {
+    match planned(alloc, text, name) {
+        Ok(plan) => Ok(plan),
+        Err(Error::NoMemory) => Err(NotPlanned::NoMemory),
+        Err(_) => Err(NotPlanned::Refused),
+    }
+}
+
+/// The same, with why it is refused.
+fn planned(alloc: Global, text: &str, name: &str) -> Result<Plan, Error> {
     let sources = [Source {
         path: Utf8Path::new("/justfile").to_path_buf(alloc)?,
         root: Utf8Path::new("/").to_path_buf(alloc)?,
