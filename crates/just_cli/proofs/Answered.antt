@@ -20,18 +20,18 @@ module _ (jobs : Option ℕ) (messages : List Bool) (words : List (List ℕ)) (w
   own_plan p q asks asked = ∥∥₁_map asked (λ k. same_found (outline_of p jobs messages) q (one_answer words w (Ok (outline_of p jobs messages)) (Ok q) k tt asks tt))
 
   -- a request that is a refusal has no plan
-  no_plan : (e : Error) (p : Plan) → Asks words (Some w) (Err e) → IsOwn {Outline} (Err e) → IsAsked words (Some w) p jobs messages → ⊥
+  no_plan : (e : Error) (p : Plan) → Asks words (Some w) (Err e) → IsOwn {A = Outline} (Err e) → IsAsked words (Some w) p jobs messages → ⊥
   no_plan e p asks own asked =
       ∥∥₁_elim asked (λ x y. absurd x) (λ k. refused_or_found e (outline_of p jobs messages) (one_answer words w (Err e) (Ok (outline_of p jobs messages)) asks own k tt))
 
   -- a refusal is beside the request, or the request's own
-  beside_or_own : (e : Error) (fault big : Bool) → is_fault e ≡ fault → is_too_big e ≡ big → Asks words (Some w) (Err e) → IsBeside words (Some w) e ⊎ IsOwn {Outline} (Err e)
+  beside_or_own : (e : Error) (fault big : Bool) → is_fault e ≡ fault → is_too_big e ≡ big → Asks words (Some w) (Err e) → IsBeside words (Some w) e ⊎ IsOwn {A = Outline} (Err e)
   beside_or_own e true big f b asks = inl (call_failed f asks)
-  beside_or_own e false true f b asks = inl (too_big b asks)
+  beside_or_own e false true f b asks = inl (too_big (b, asks))
   beside_or_own e false false f b asks = inr (f, b)
 
   -- a request that is a run is refused beside itself alone
-  beside_run : (q : Outline) (e : Error) → Asks words (Some w) (Ok q) → Asks words (Some w) (Err e) → IsBeside words (Some w) e ⊎ IsOwn {Outline} (Err e) → IsBeside words (Some w) e
+  beside_run : (q : Outline) (e : Error) → Asks words (Some w) (Ok q) → Asks words (Some w) (Err e) → IsBeside words (Some w) e ⊎ IsOwn {A = Outline} (Err e) → IsBeside words (Some w) e
   beside_run q e asks refuses (inl b) = b
   beside_run q e asks refuses (inr own) = absurd (refused_or_found e q (one_answer words w (Err e) (Ok q) refuses own asks tt))
 
@@ -40,11 +40,11 @@ module _ (jobs : Option ℕ) (messages : List Bool) (words : List (List ℕ)) (w
   beside q e asks (inr is) = no_memory is
 
   -- a request that is a refusal is refused by its own error, or beside itself
-  own_or_beside : (e f : Error) → Asks words (Some w) (Err e) → IsOwn {Outline} (Err e) → Asks words (Some w) (Err f) → IsBeside words (Some w) f ⊎ IsOwn {Outline} (Err f) → (f ≡ e) ⊎ IsBeside words (Some w) f
+  own_or_beside : (e f : Error) → Asks words (Some w) (Err e) → IsOwn {A = Outline} (Err e) → Asks words (Some w) (Err f) → IsBeside words (Some w) f ⊎ IsOwn {A = Outline} (Err f) → (f ≡ e) ⊎ IsBeside words (Some w) f
   own_or_beside e f asks own refuses (inl b) = inr b
   own_or_beside e f asks own refuses (inr other) = let both = one_answer words w (Err f) (Err e) refuses other asks own in let same : f ≡ e = cc in inl same
 
-  own_error : (e f : Error) → Asks words (Some w) (Err e) → IsOwn {Outline} (Err e) → RefusedFor words (Some w) f → (f ≡ e) ⊎ IsBeside words (Some w) f
+  own_error : (e f : Error) → Asks words (Some w) (Err e) → IsOwn {A = Outline} (Err e) → RefusedFor words (Some w) f → (f ≡ e) ⊎ IsBeside words (Some w) f
   own_error e f asks own (inl refuses) = own_or_beside e f asks own refuses (beside_or_own f (is_fault f) (is_too_big f) refl refl refuses)
   own_error e f asks own (inr is) = inr (no_memory is)
 
@@ -53,7 +53,7 @@ module _ (jobs : Option ℕ) (messages : List Bool) (words : List (List ℕ)) (w
   granted q None e asks asked refused = ∥∥₁_map (refused refl) (λ k. beside q e asks k)
   granted q (Some p) e asks asked refused = own_plan p q asks asked
 
-  denied : (e : Error) (plan : Option Plan) (f : Error) → Asks words (Some w) (Err e) → IsOwn {Outline} (Err e) → MatchOption plan (Unit {0}) (λ p. IsAsked words (Some w) p jobs messages) → (plan ≡ None → ∥ RefusedFor words (Some w) f ∥₁)
+  denied : (e : Error) (plan : Option Plan) (f : Error) → Asks words (Some w) (Err e) → IsOwn {A = Outline} (Err e) → MatchOption plan (Unit {0}) (λ p. IsAsked words (Some w) p jobs messages) → (plan ≡ None → ∥ RefusedFor words (Some w) f ∥₁)
       → (plan ≡ None) × ∥ (f ≡ e) ⊎ IsBeside words (Some w) f ∥₁
   denied e None f asks own asked refused = (refl, ∥∥₁_map (refused refl) (λ k. own_error e f asks own k))
   denied e (Some p) f asks own asked refused = absurd (no_plan e p asks own asked)

@@ -37,6 +37,10 @@ module _ (words : List (List ℕ)) (told : Option World) where
     pub asks_quiet : (a : Arguments) (quiet : Bool) → Means words environ.pairs (Ok (read.Go a)) → quiet ≡ a.quiet → AsksQuiet words told quiet
     asks_quiet a quiet means is = record { environ = environ; arguments = a; given = given; means = means; quiet_is = is }
 
+-- where memory is wanting, nothing is known of the words
+pub quiet_unread : (words : List (List ℕ)) (told : Option World) (e : Error) → e ≡ error.NoMemory → AskQuiet words told false e
+quiet_unread words told e is = unread refl (inl is)
+
 -- where memory is wanting, misses are all that was left
 pub ends_with_misses : (es : List Entry) → AreMisses es → EndsWith error.NoMemory es
 ends_with_misses es misses = (es, misses, sym (append-nil es))

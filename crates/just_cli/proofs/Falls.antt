@@ -1,6 +1,7 @@
 -- What follows for a run that failed, or came to its end, from what it left.
 use Rattle.std.proofs.Common.{◌≡◌, ℕ, zero, suc, ◌+◌, ◌<◌, ◌++◌, ◌||◌, inl, inr, Bool, true, false, cond, List, [], ◌∷◌, count_by, Contains, Option, Some, None, Result, Ok, Err, IfErr, MatchOption, refl, ap, sym, ◌∙◌, subst, append_assoc, arith}
 use Rattle.std.specs.List.{list_any}
+use Rattle.std.proofs.Math.Bool.{Bool-set}
 use Rattle.std.proofs.Math.Bridge.{le_prop}
 use Rattle.std.proofs.Math.Logic.{∥∥₁_elim}
 use Rattle.std.proofs.lemmas.List.{append_cancel_left}
@@ -27,12 +28,12 @@ use Rattle.just_cli.specs.declared.ended.Failure.{Failure}
 use Rattle.just_cli.specs.declared.ended.Report.{Report}
 use Rattle.just_errors.specs.declared.error.Error.{Error}
 use Rattle.just_errors.specs.declared.error.Error.TheVariants as error
-use Rattle.just_cli.specs.Caused.{IsCaused}
+use Rattle.just_outcome.specs.Caused.{IsCaused}
 use Rattle.just_planning.specs.Own.{is_failed_call, is_missed_call, is_fault, is_miss}
 use Rattle.just_cli.specs.Faults.{entries_of}
-use Rattle.just_cli.proofs.Caused.{memory_alone}
+use Rattle.just_outcome.proofs.Laws.{only_memory}
 use Rattle.just_cli.specs.Record.{Stretches, EndsWith, EndsIll, EndsBefore, IsQuiet}
-use Rattle.just_cli.proofs.Worlds.{worlds_set, errors_set}
+use Rattle.just_cli.proofs.Worlds.{worlds_set}
 
 -- what a failure leaves: with no plan, a refusal before the book
 abbrev pub Failed : Option ℕ → List Bool → Bool → Result Report Failure → List Entry → List Entry → Type 0
@@ -173,14 +174,23 @@ misses_rise jobs messages quiet (Err f) old new failed = λ is. rises is_missed 
 
 -- ---- favourable records
 
+-- want of memory, as a test
+abbrev is_wanting : Error → Bool
+is_wanting error.NoMemory = true
+is_wanting _ = false
+
+wanting : (e : Error) → is_wanting e ≡ true → e ≡ error.NoMemory
+wanting error.NoMemory is = refl
+wanting _ is = absurd (cc)
+
 memory_by : (jobs : Option ℕ) (messages : List Bool) (quiet : Bool) (o : Option Plan) (h : List Event) (e : Error) (old new : List Entry) → MatchOption o (∥ EndsBefore quiet e old new ∥₁) (λ plan. ∥ EndsIll plan jobs messages quiet h e old new ∥₁) → (p : Plan) → o ≡ Some p → (es : List Entry) → new ≡ old ++ es → IsFavourable es → e ≡ error.NoMemory
 memory_by jobs messages quiet None h e old new failed p is es grew good = absurd (cc)
 memory_by jobs messages quiet (Some plan) h e old new failed p is es grew good =
-    ∥∥₁_elim failed (errors_set _ _) (λ k.
+    wanting e (∥∥₁_elim failed (Bool-set _ _) (λ k.
     let s = k.stretches in
     let same : s.pre ++ (s.mid ++ s.post) ≡ es = append_cancel_left old (s.pre ++ (s.mid ++ s.post)) es (sym s.grew ∙ grew) in
-    memory_alone plan.nodes h e s.mid k.caused (λ x c. All-contains (λ y. is_favourable y ≡ true) es x good
-    (subst (λ ys. Contains ys x) same (Contains-append_right s.pre (s.mid ++ s.post) x (Contains-append_left s.mid s.post x c)))))
+    ap (λ y. is_wanting y) (only_memory plan.nodes h e s.mid k.caused (λ x c. All-contains (λ y. is_favourable y ≡ true) es x good
+    (subst (λ ys. Contains ys x) same (Contains-append_right s.pre (s.mid ++ s.post) x (Contains-append_left s.mid s.post x c)))))))
 
 -- a run that failed over a favourable record wanted memory
 pub memory_wanted : (jobs : Option ℕ) (messages : List Bool) (quiet : Bool) (r : Result Report Failure) (old new : List Entry) → Failed jobs messages quiet r old new → IfErr r (λ f. (p : Plan) → f.plan ≡ Some p → (es : List Entry) → new ≡ old ++ es → IsFavourable es → f.error ≡ error.NoMemory)

@@ -8,6 +8,8 @@ use Rattle.just_outside.specs.declared.entry.Call.{Call}
 use Rattle.just_outside.specs.declared.entry.Call.TheVariants as call
 use Rattle.just_outside.specs.declared.entry.HostFault.{HostFault}
 use Rattle.just_outside.specs.declared.entry.HostFault.TheVariants as fault
+use Rattle.just_env.specs.declared.search_error.SearchError.{SearchError}
+use Rattle.just_env.specs.declared.search_error.SearchError.TheVariants as search
 use Rattle.just_words.specs.declared.words.Read.TheVariants as read
 use Rattle.just_words.proofs.Laws.{one_meaning}
 use Rattle.just_errors.specs.declared.error.Error.{Error}
@@ -15,8 +17,12 @@ use Rattle.just_errors.specs.declared.error.Error.TheVariants as error
 use Rattle.just_planning.specs.Own.{is_fault, IsOwn}
 use Rattle.just_cli.specs.Faults.{CallGives, FaultFits, io_error, folder_error}
 use Rattle.just_cli.specs.Words.{WordsRequest, ArgumentsRequest, FolderRequest, ConfigRequest, WantedRequest, FindsEnviron, ReadsWords, FindsFolder, GivesConfig, IsBuilt, Configures}
-use Rattle.just_planning.specs.Request.{Outline, AssemblesJustfile, ChecksFeatures, AsksNoDotenv, EvaluatesVariables, InvokesKeys, ClosesKeys, ChecksRecipes, MakesPlan, PlansKeys, PlansProject, PlansSources}
-use Rattle.just_cli.specs.Request.{LoadsSources, environ_shown, folder_shown, EnvironGiven, FolderGiven, Serves, Asks}
+use Rattle.just_errors.specs.Refusals.{error_of_search}
+use Rattle.just_agree.specs.Loading.{tells_failure}
+use Rattle.just_agree.proofs.Laws.{loads_agree}
+use Rattle.just_planning.specs.Request.{SourcesRequest, Outline, PlansSources}
+use Rattle.just_planning.proofs.Laws.{plans_agree}
+use Rattle.just_cli.specs.Request.{justfile_in, LoadsSources, environ_shown, folder_shown, EnvironGiven, FolderGiven, Serves, Asks}
 use Rattle.just_cli.proofs.Arguments.{arguments_one}
 use Rattle.just_planning.proofs.Steps.{GivesOwn, same_refusal, refused_or_found, same_found, then_own}
 
@@ -31,7 +37,7 @@ held_none o x p q = let both : None ≡ Some x = sym p ∙ q in let no : ⊥ = c
 
 -- a call that is shown to have an answer isn't refused, unless it fails
 module _ {A : Type 0} (c : Call) (told : HostFault → Error) (fails : (d : Call) → is_fault (told (fault.Failed d)) ≡ true) (x : A) where
-  unrefused : (e : Error) (f : HostFault) → e ≡ told f → FaultFits {A} c (Some (Ok x)) f → is_fault e ≡ false → ⊥
+  unrefused : (e : Error) (f : HostFault) → e ≡ told f → FaultFits {A = A} c (Some (Ok x)) f → is_fault e ≡ false → ⊥
   unrefused e (fault.Missed m) is shown own = absurd (let no : ⊥ = cc in no)
   unrefused e (fault.Failed d) is same own = true≢false (sym (fails d) ∙ ap (λ z. is_fault z) (sym is) ∙ own)
   unrefused e fault.NoMemory is wanting own = wanting
@@ -99,14 +105,42 @@ configures = then_own GivesConfig IsBuilt gives_config is_built
 
 -- ---- the project
 
--- over a told world one project is loaded: by a law on loading
-loads_sources : (w : World) → GivesOwn (LoadsSources (Some w))
-loads_sources w k r s p m q n = ?loads
+-- a refusal that tells of no failed call is one of a search that tells of none
+own_load : (f : SearchError) → is_fault (error_of_search f) ≡ false → tells_failure f ≡ false
+own_load (search.FilesystemIo path (fault.Failed c)) own = absurd (true≢false own)
+own_load (search.FilesystemIo path (fault.Missed m)) own = refl
+own_load (search.FilesystemIo path fault.NoMemory) own = refl
+own_load (search.Load path (fault.Failed c)) own = absurd (true≢false own)
+own_load (search.Load path (fault.Missed m)) own = refl
+own_load (search.Load path fault.NoMemory) own = refl
+own_load _ own = refl
+
+load_refused : (f : SearchError) (e : Error) → e ≡ error_of_search f → is_fault e ≡ false → tells_failure f ≡ false
+load_refused f e is own = own_load f (ap (λ x. is_fault x) (sym is) ∙ own)
+
+-- over a told world one project is loaded
+module _ (w : World) where
+  loads_sources : GivesOwn (LoadsSources (Some w))
+  loads_sources k (Ok a) (Ok b) p m q n =
+      let same = loads_agree w [] (justfile_in k.wanted.flags.folder) (Ok a.sources) (Ok b.sources) p.2 tt q.2 tt in
+      let sources : a.sources ≡ b.sources = cc in
+      ap (λ x. Ok x)
+      (ap (λ x. let z : SourcesRequest = record { wanted = x; environ = a.environ; sources = a.sources } in z) (p.0 ∙ sym q.0)
+      ∙ ap (λ x. let z : SourcesRequest = record { wanted = b.wanted; environ = x; sources = a.sources } in z) (p.1 ∙ sym q.1)
+      ∙ ap (λ x. let z : SourcesRequest = record { wanted = b.wanted; environ = b.environ; sources = x } in z) sources)
+  loads_sources k (Ok a) (Err f) p m q n =
+      let same = loads_agree w [] (justfile_in k.wanted.flags.folder) (Ok a.sources) (Err q.0) p.2 tt q.1 (load_refused q.0 f q.2 n.0) in absurd (let no : ⊥ = cc in no)
+  loads_sources k (Err e) (Ok b) p m q n =
+      let same = loads_agree w [] (justfile_in k.wanted.flags.folder) (Err p.0) (Ok b.sources) p.1 (load_refused p.0 e p.2 m.0) q.2 tt in absurd (let no : ⊥ = cc in no)
+  loads_sources k (Err e) (Err f) p m q n =
+      let same = loads_agree w [] (justfile_in k.wanted.flags.folder) (Err p.0) (Err q.0) p.1 (load_refused p.0 e p.2 m.0) q.1 (load_refused q.0 f q.2 n.0) in
+      let refusals : p.0 ≡ q.0 = cc in
+      ap (λ x. Err x) (p.2 ∙ ap (λ x. error_of_search x) refusals ∙ sym q.2)
 
 -- ---- the chain
 
 serves_own : (w : World) → GivesOwn (Serves (Some w))
-serves_own w = then_own (FindsFolder (FolderGiven (Some w))) _ (finds_folder w) (then_own Configures _ configures (then_own (LoadsSources (Some w)) PlansSources (loads_sources w) plans_sources))
+serves_own w = then_own (FindsFolder (FolderGiven (Some w))) _ (finds_folder w) (then_own Configures _ configures (then_own (LoadsSources (Some w)) PlansSources (loads_sources w) plans_agree))
 
 -- in a world words ask for one thing: a run of one plan, or a refusal with one error
 pub one_answer : (words : List (List ℕ)) (w : World) (r s : Result Outline Error) → Asks words (Some w) r → IsOwn r → Asks words (Some w) s → IsOwn s → r ≡ s

@@ -19,7 +19,7 @@ use Rattle.just_cli.specs.declared.ended.Failure.{Failure}
 use Rattle.just_cli.specs.declared.ended.Report.{Report}
 use Rattle.just_errors.specs.declared.error.Error.{Error}
 use Rattle.just_planning.specs.Own.{OrMemory}
-use Rattle.just_cli.specs.Outcome.{IsErrorFor}
+use Rattle.just_outcome.specs.Outcome.{IsErrorFor}
 use Rattle.just_cli.specs.Quiet.{AskQuiet}
 use Rattle.just_cli.specs.Record.{IsBook, IsTold, AreMisses, EndsWith, EndsWell, EndsIll, EndsBefore}
 use Rattle.just_planning.specs.Request.{outline_of}
@@ -27,7 +27,7 @@ use Rattle.just_cli.specs.Request.{Asks, IsAsked, RefusedFor}
 use Rattle.just_cli.specs.Run.{IsRun}
 use Rattle.just_errors.specs.Codes.{exit_code}
 use Rattle.just_cli.proofs.Answered.{answered}
-use Rattle.just_cli.proofs.Caused.{caused, memory_left}
+use Rattle.just_outcome.proofs.Laws.{error_caused, only_memory_left}
 use Rattle.just_cli.proofs.Falls.{faults_rise, misses_rise, memory_wanted, world_left}
 use Rattle.just_cli.proofs.Served.{served}
 
@@ -106,7 +106,7 @@ module _ (plan : Plan) (jobs : Option ℕ) (old pre entered : List Entry) (grew 
 
   ends_ill : (messages : List Bool) (quiet : Bool) (e : Error) (new : List Entry) → IsErrorFor plan.nodes messages h v (Some e) → IsToldBehind quiet e now new → ∥ EndsIll plan jobs messages quiet h e old new ∥₁
   ends_ill messages quiet e new decided told = ∥∥₁_map d.kept (λ k.
-      let cause = caused (run_over plan jobs entered) h k.gained k.legal k.matches messages v e d.verdict decided in
+      let cause = error_caused (run_over plan jobs entered) h k.gained k.legal k.matches messages v e d.verdict decided in
       record {
         stretches = record { pre = pre; mid = k.gained; post = told.0; grew = told.1 ∙ (ap (λ es. es ++ told.0) k.grew ∙ grown k.gained told.0) };
         prepared = misses;
@@ -116,7 +116,7 @@ module _ (plan : Plan) (jobs : Option ℕ) (old pre entered : List Entry) (grew 
         decided = decided;
         nothing_left = here (λ s. (has_caught h ≡ true) ⊎ (HasWork s h → ⊥)) d.nothing_left;
         caused = cause;
-        favoured = memory_left plan.nodes h e k.gained cause;
+        favoured = only_memory_left plan.nodes h e k.gained cause;
         told = told.2;
       })
 
@@ -130,10 +130,10 @@ went_well nodes messages shown verdict.NoMemory is = absurd (let no : ⊥ = cc i
 some_none : {A : Type 0} (x : A) → Some x ≡ None → ⊥
 some_none x is = let no : ⊥ = cc in no
 
-pub run_well : (words : List (List ℕ)) (told after : Option World) (old pre entered now : List Entry) (w seen : Option World) (jobs : Option ℕ) (messages : List Bool) (quiet : Bool) (plan driven : Plan) (h : List Event) (v : Verdict) (r : Result Report Failure) (nodes : List PlanNode) (shown : List Event)
+pub run_well : (words : List (List ℕ)) (told after : Option World) (old pre entered now : List Entry) (w seen : Option World) (jobs : Option ℕ) (messages : List Bool) (quiet : Bool) (plan driven : Plan) (h : List Event) (v : Verdict) (r : Result Report Failure) (nodes : List PlanNode) (heard : List Bool) (shown : List Event)
     → r ≡ Ok (record { plan = driven; history = h }) → IsDriven (start_with plan jobs entered w) driven h v now seen → Asks words told (Ok (outline_of plan jobs messages))
-    → entered ≡ old ++ pre → AreMisses pre → w ≡ told → after ≡ seen → IsErrorFor nodes messages shown v None → IsRun words told after old now r
-run_well words told after old pre entered now w seen jobs messages quiet plan driven h v r nodes shown is driven_so asks grew misses w_is after_is no_error =
+    → entered ≡ old ++ pre → AreMisses pre → w ≡ told → after ≡ seen → IsErrorFor nodes heard shown v None → IsRun words told after old now r
+run_well words told after old pre entered now w seen jobs messages quiet plan driven h v r nodes heard shown is driven_so asks grew misses w_is after_is no_error =
     let d : IsDriven (start_with plan jobs entered w) plan h v now seen = subst (λ p. IsDriven (start_with plan jobs entered w) p h v now seen) driven_so.plan driven_so in
     let report : Report = record { plan = plan; history = h } in
     let same : r ≡ Ok report = is ∙ ap (λ p. let x : Report = record { plan = p; history = h } in Ok x) driven_so.plan in
@@ -144,7 +144,7 @@ run_well words told after old pre entered now w seen jobs messages quiet plan dr
       messages = messages;
       quiet = quiet;
       quiet_is = tt;
-      ran = ends_well plan jobs old pre entered grew misses w h v now seen d (went_well nodes messages shown v no_error);
+      ran = ends_well plan jobs old pre entered grew misses w h v now seen d (went_well nodes heard shown v no_error);
       asked = asked;
       refused = tt;
       answered = fits;
@@ -158,14 +158,14 @@ run_well words told after old pre entered now w seen jobs messages quiet plan dr
       untouched = λ es grown calm. after_is ∙ (world_left (start_with plan jobs entered w) h old pre now now seen [] es grew d.kept (sym (append-nil now)) grown calm ∙ w_is);
     })
 
-pub run_ill : (words : List (List ℕ)) (told after : Option World) (old pre entered now new : List Entry) (w seen : Option World) (jobs : Option ℕ) (messages : List Bool) (quiet : Bool) (plan driven : Plan) (h shown : List Event) (v : Verdict) (e : Error) (r : Result Report Failure)
+pub run_ill : (words : List (List ℕ)) (told after : Option World) (old pre entered now new : List Entry) (w seen : Option World) (jobs : Option ℕ) (messages : List Bool) (quiet : Bool) (plan driven : Plan) (h : List Event) (heard : List Bool) (shown : List Event) (v : Verdict) (e : Error) (r : Result Report Failure)
     → r ≡ Err (record { error = e; plan = Some driven; history = h; code = exit_code e }) → IsDriven (start_with plan jobs entered w) driven h v now seen → Asks words told (Ok (outline_of plan jobs messages)) → AskQuiet words told quiet e
-    → entered ≡ old ++ pre → AreMisses pre → w ≡ told → after ≡ seen → IsErrorFor driven.nodes messages shown v (Some e) → shown ≡ h → IsToldBehind quiet e now new → IsRun words told after old new r
-run_ill words told after old pre entered now new w seen jobs messages quiet plan driven h shown v e r is driven_so asks asks_quiet grew misses w_is after_is error_is shown_is tells =
+    → entered ≡ old ++ pre → AreMisses pre → w ≡ told → after ≡ seen → IsErrorFor driven.nodes heard shown v (Some e) → heard ≡ messages → shown ≡ h → IsToldBehind quiet e now new → IsRun words told after old new r
+run_ill words told after old pre entered now new w seen jobs messages quiet plan driven h heard shown v e r is driven_so asks asks_quiet grew misses w_is after_is error_is heard_is shown_is tells =
     let d : IsDriven (start_with plan jobs entered w) plan h v now seen = subst (λ p. IsDriven (start_with plan jobs entered w) p h v now seen) driven_so.plan driven_so in
     let f : Failure = record { error = e; plan = Some plan; history = h; code = exit_code e } in
     let same : r ≡ Err f = is ∙ ap (λ p. let x : Failure = record { error = e; plan = Some p; history = h; code = exit_code e } in Err x) driven_so.plan in
-    let decided : IsErrorFor plan.nodes messages h v (Some e) = subst (λ k. IsErrorFor plan.nodes messages k v (Some e)) shown_is (subst (λ p. IsErrorFor p.nodes messages shown v (Some e)) driven_so.plan error_is) in
+    let decided : IsErrorFor plan.nodes messages h v (Some e) = subst (λ k. IsErrorFor plan.nodes messages k v (Some e)) shown_is (subst (λ ms. IsErrorFor plan.nodes ms shown v (Some e)) heard_is (subst (λ p. IsErrorFor p.nodes heard shown v (Some e)) driven_so.plan error_is)) in
     let asked : IsAsked words told plan jobs messages = ∣ asks ∣₁ in
     let refused : f.plan ≡ None → ∥ RefusedFor words told e ∥₁ = λ none. absurd (some_none plan none) in
     let left = ends_ill plan jobs old pre entered grew misses w h v now seen d messages quiet e new decided tells in

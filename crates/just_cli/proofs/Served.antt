@@ -10,28 +10,27 @@ use Rattle.just_sched.specs.declared.plan.Plan.{Plan}
 use Rattle.just_errors.specs.declared.error.Error.TheVariants as error
 use Rattle.just_cli.specs.declared.ended.Failure.{Failure}
 use Rattle.just_cli.specs.declared.ended.Report.{Report}
-use Rattle.just_cli.specs.Answered.{IsBeside, call_failed, too_big, no_memory, IsAnswered, IsServed}
+use Rattle.just_cli.specs.Answered.{IsBeside, call_failed, too_big, no_memory, IsTooBig, IsAnswered, IsServed}
 use Rattle.just_cli.specs.Record.{EndsIll, EndsBefore, Hindered, before, within}
-use Rattle.just_planning.specs.Own.{is_too_big}
 use Rattle.just_planning.specs.Request.{Outline, outline_of}
 use Rattle.just_cli.proofs.Falls.{Failed}
 
 module _ (words : List (List ℕ)) (w : World) (jobs : Option ℕ) (messages : List Bool) (quiet : Bool) (f : Failure) (old new : List Entry) where
   -- a call that failed before the book, or what else is beside a request
-  stood_before : f.plan ≡ None → IsBeside words (Some w) f.error → EndsBefore quiet f.error old new → (f.error ≡ error.NoMemory) ⊎ ((is_too_big f.error ≡ true) ⊎ Hindered f jobs old new)
+  stood_before : f.plan ≡ None → IsBeside words (Some w) f.error → EndsBefore quiet f.error old new → (f.error ≡ error.NoMemory) ⊎ (IsTooBig words (Some w) f.error ⊎ Hindered f jobs old new)
   stood_before unplanned (no_memory is) k = inl is
-  stood_before unplanned (too_big is asks) k = inr (inl is)
+  stood_before unplanned (too_big big) k = inr (inl big)
   stood_before unplanned (call_failed is asks) k = inr (inr (before k.stretches unplanned is k.prepared k.unopened))
 
   -- an entry of the book's stretch that isn't favourable
   stood_within : (p : Plan) → f.plan ≡ Some p → (k : EndsIll p jobs messages quiet f.history f.error old new) → (b : Bool) → list_all is_favourable k.stretches.mid ≡ b
-      → (f.error ≡ error.NoMemory) ⊎ ((is_too_big f.error ≡ true) ⊎ Hindered f jobs old new)
+      → (f.error ≡ error.NoMemory) ⊎ (IsTooBig words (Some w) f.error ⊎ Hindered f jobs old new)
   stood_within p is k true all = inl (k.favoured (AllPass-from_list_all is_favourable k.stretches.mid all))
   stood_within p is k false all = inr (inr (within p k.stretches is k.prepared k.book (λ good. true≢false (sym (list_all-from_AllPass is_favourable k.stretches.mid good) ∙ all))))
 
   stood : (q : Outline) (o : Option Plan) → f.plan ≡ o
       → MatchOption o (∥ IsBeside words (Some w) f.error ∥₁) (λ p. ∥ outline_of p jobs messages ≡ q ∥₁)
-      → MatchOption o (∥ EndsBefore quiet f.error old new ∥₁) (λ p. ∥ EndsIll p jobs messages quiet f.history f.error old new ∥₁) → ∥ (f.error ≡ error.NoMemory) ⊎ ((is_too_big f.error ≡ true) ⊎ Hindered f jobs old new) ∥₁
+      → MatchOption o (∥ EndsBefore quiet f.error old new ∥₁) (λ p. ∥ EndsIll p jobs messages quiet f.history f.error old new ∥₁) → ∥ (f.error ≡ error.NoMemory) ⊎ (IsTooBig words (Some w) f.error ⊎ Hindered f jobs old new) ∥₁
   stood q None is beside failed = ∥∥₁_elim beside ∥∥₁_prop (λ b. ∥∥₁_map failed (λ k. stood_before is b k))
   stood q (Some p) is own failed = ∥∥₁_map failed (λ k. stood_within p is k (list_all is_favourable k.stretches.mid) refl)
 

@@ -1,12 +1,10 @@
--- Worlds and errors can be written down as trees, so there is one way for two of them to be equal.
+-- Worlds can be written down as trees, so there is one way for two of them to be equal.
 use Rattle.std.proofs.Common.{ℕ, refl, List, Option}
 use Rattle.std.specs.Coded.{Coded, Coded-set, coded_ℕ, coded_list, coded×, coded_option, code_by}
 use Rattle.std.specs.FinMap as map
 use Rattle.just_outside.specs.contracts.tree.Thing as thing_contract
 use Rattle.just_outside.specs.Sights.{Tree}
 use Rattle.just_outside.specs.World.{World}
-use Rattle.just_errors.specs.contracts.error.Error as error_contract
-use Rattle.just_errors.specs.declared.error.Error.{Error}
 
 abbrev text_code : Coded (List ℕ)
 text_code = coded_list coded_ℕ
@@ -19,6 +17,3 @@ world_code =
 
 pub worlds_set : IsSet (Option World)
 worlds_set = Coded-set (coded_option world_code)
-
-pub errors_set : IsSet Error
-errors_set = Coded-set error_contract.the_row.coded

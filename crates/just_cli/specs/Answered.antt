@@ -11,11 +11,15 @@ use Rattle.just_cli.specs.Record.{Hindered}
 use Rattle.just_planning.specs.Request.{Outline, outline_of}
 use Rattle.just_cli.specs.Request.{Asks}
 
+-- the words are refused since a pattern of the project is too big for the library
+abbrev pub IsTooBig : List (List ℕ) → Option World → Error → Type 0
+IsTooBig words told e = (is_too_big e ≡ true) × Asks words told (Err e)
+
 -- An error that words and world don't determine: a call of the host failed, a pattern is too big for the library, or memory is
 -- wanting.
 pub data IsBeside (words : List (List ℕ)) (told : Option World) (e : Error) : Type 0 where
   call_failed : is_fault e ≡ true → Asks words told (Err e) → IsBeside words told e
-  too_big : is_too_big e ≡ true → Asks words told (Err e) → IsBeside words told e
+  too_big : IsTooBig words told e → IsBeside words told e
   no_memory : e ≡ error.NoMemory → IsBeside words told e
 
 -- A request that is a run gets its own plan; one that is a refusal gets no plan, and its own error. An error that is neither's may
@@ -32,4 +36,4 @@ IsAnswered words told jobs messages answer = MatchOption told (Unit {0}) (λ w. 
 -- stood against it.
 abbrev pub IsServed : List (List ℕ) → Option World → Option ℕ → Result Report Failure → List Entry → List Entry → Type 0
 IsServed words told jobs answer old new =
-    MatchOption told (Unit {0}) (λ w. (p : Outline) → Asks words (Some w) (Ok p) → IfErr answer (λ f. ∥ (f.error ≡ error.NoMemory) ⊎ ((is_too_big f.error ≡ true) ⊎ Hindered f jobs old new) ∥₁))
+    MatchOption told (Unit {0}) (λ w. (p : Outline) → Asks words (Some w) (Ok p) → IfErr answer (λ f. ∥ (f.error ≡ error.NoMemory) ⊎ (IsTooBig words (Some w) f.error ⊎ Hindered f jobs old new) ∥₁))

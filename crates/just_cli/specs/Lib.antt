@@ -1,10 +1,8 @@
 -- The definitions that the contracts of the top calls cite.
 pub mod Answered
-pub mod Caused
 pub mod Exit
 pub mod Faults
 pub mod Options
-pub mod Outcome
 pub mod Questions
 pub mod Quiet
 pub mod Record

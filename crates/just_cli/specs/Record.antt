@@ -16,10 +16,10 @@ use Rattle.just_sched.specs.Match.{Matches}
 use Rattle.just_sched.specs.Start.{run_over}
 use Rattle.just_sched.specs.State.{has_caught}
 use Rattle.just_sched.specs.Verdict.{IsVerdict, NoneDecides}
-use Rattle.just_cli.specs.Caused.{IsCaused}
+use Rattle.just_outcome.specs.Caused.{IsCaused}
 use Rattle.just_planning.specs.Own.{is_fault}
 use Rattle.just_cli.specs.Faults.{entries_of}
-use Rattle.just_cli.specs.Outcome.{IsErrorFor}
+use Rattle.just_outcome.specs.Outcome.{IsErrorFor}
 use Rattle.just_cli.specs.declared.ended.Failure.{Failure}
 use Rattle.just_cli.specs.Quiet.{tells}
 use Rattle.just_errors.specs.Texts.{error_text}

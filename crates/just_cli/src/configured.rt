@@ -18,6 +18,7 @@ use just_planning::{Wanted, not_built_error};
 use std::alloc::Global;
 
 /// What the words ask for, with the variables of the environment.
+#[tactic(auto, using(crate::proofs::Refusals::words_refused_by))]
 pub(crate) fn read(alloc: Global, words: &[&str], environ: &Environ) -> Result<Read, Error>
     ensures read { IfOk result (λ r. Means (map (λ w. w.now) words.now) environ.now.pairs (Ok r)) }
     ensures refused { IfErr result (OrMemory (λ e. ReadsWords (record { words = map (λ w. w.now) words.now; environ = environ.now }) (Err e))) }

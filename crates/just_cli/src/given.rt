@@ -51,6 +51,7 @@ fn folder_error(fault: HostFault) -> Error
 }
 
 /// The environment.
+#[tactic(auto, using(crate::proofs::Calls::io_entries, crate::proofs::Calls::environ_refused))]
 pub(crate) fn environment<H: Host>(alloc: Global, host: &mut H) -> Result<Environ, Error>
     ensures grew { MatchResult result (λ _. H.entries host.new ≡ H.entries host.old) (λ e. H.entries host.new ≡ H.entries host.old ++ entries_of e) }
     ensures world { H.world host.new ≡ H.world host.old }
@@ -64,6 +65,7 @@ pub(crate) fn environment<H: Host>(alloc: Global, host: &mut H) -> Result<Enviro
 }
 
 /// The current folder.
+#[tactic(auto, using(crate::proofs::Calls::folder_entries, crate::proofs::Calls::folder_refused))]
 pub(crate) fn current_folder<H: Host>(host: &mut H) -> Result<Utf8PathBuf, Error>
     ensures grew { MatchResult result (λ _. H.entries host.new ≡ H.entries host.old) (λ e. H.entries host.new ≡ H.entries host.old ++ entries_of e) }
     ensures world { H.world host.new ≡ H.world host.old }

@@ -6,7 +6,6 @@ mod ended;
 mod failure;
 mod given;
 mod options;
-mod outcome;
 mod prepare;
 mod program;
 mod runner;

@@ -5,8 +5,6 @@ ghost use Rattle.std.specs.Int.NonZero.{non_zero_u64_get};
 ghost use Rattle.just_outside.specs.declared.entry.Entry.{Entry};
 ghost use Rattle.just_config.specs.declared.help.TheConstants.{HELP};
 ghost use Rattle.just_planning.specs.Own.{OrMemory};
-ghost use Rattle.just_errors.specs.declared.error.Error.TheVariants as error;
-ghost use Rattle.just_cli.specs.declared.task.Task.TheVariants as task;
 ghost use Rattle.just_cli.specs.Questions.{version_line, IsTask, TaskEntries};
 ghost use Rattle.just_cli.specs.Quiet.{AskQuiet};
 ghost use Rattle.just_cli.specs.Record.{AreMisses, EndsWith};
@@ -71,18 +69,9 @@ fn version(alloc: Global) -> Result<Text, NoMemory>
     Ok(Text::from(format!(in alloc; "just {}\n", Version::current())?))
 }
 
-/// A text that is shown in the place of a run.
-fn shown(text: Result<Text, NoMemory>) -> Result<Task, (Error, bool)>
-    ensures { MatchResult result (λ t. (x : List ℕ) × (text ≡ Ok x) × (t ≡ task.Show x)) (λ e. e ≡ (error.NoMemory, false)) }
-{
-    match text {
-        Ok(text) => Ok(Task::Show(text)),
-        Err(NoMemory) => Err((Error::NoMemory, false)),
-    }
-}
-
 /// What the words ask for; or why they are refused, with whether they ask for quiet. The record gains the misses of files that aren't
 /// there, and the entry of the refused call, where one was refused.
+#[tactic(auto, using(crate::proofs::Silent::shows_nothing, crate::proofs::Silent::ends_nothing, crate::proofs::Asking::quiet_unread))]
 pub(crate) fn prepare<H: Host>(
     alloc: Global,
     words: &[&str],
@@ -106,8 +95,14 @@ pub(crate) fn prepare<H: Host>(
                 Err(error) => Err((error, quiet)),
             }
         }
-        Ok(Read::Help) => shown(help(alloc)),
-        Ok(Read::Version) => shown(version(alloc)),
+        Ok(Read::Help) => match help(alloc) {
+            Ok(text) => Ok(Task::Show(text)),
+            Err(NoMemory) => Err((Error::NoMemory, false)),
+        },
+        Ok(Read::Version) => match version(alloc) {
+            Ok(text) => Ok(Task::Show(text)),
+            Err(NoMemory) => Err((Error::NoMemory, false)),
+        },
         Err(error) => Err((error, false)),
     }
 }

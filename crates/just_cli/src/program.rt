@@ -82,7 +82,12 @@ where
         return NO_MEMORY;
     };
     match run(rt, alloc, words.as_slice()) {
-        Ok(Ended { host: _, result }) => exit_status(&result),
+        Ok(Ended { host, result }) => {
+            let status = exit_status(&result);
+            drop(host);
+            drop(result);
+            status
+        }
         Err(_) => NO_MEMORY,
     }
 }

@@ -5,11 +5,11 @@ ghost use Rattle.just_host.specs.Real.{record_of};
 ghost use Rattle.just_cli.specs.Run.{IsEnded};
 
 use super::failure::fail;
-use super::outcome::error_for;
 use super::prepare::prepare;
 use super::show::show;
 use super::{Ended, Error, Report, Task};
 use just_host::{Host, RealHost};
+use just_outcome::error_for;
 use just_path::{NoMemory, Seq};
 use just_sched::{Driven, drive};
 use std::alloc::Global;
