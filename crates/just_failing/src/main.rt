@@ -39,10 +39,16 @@ fn main(rt: HostRuntime) -> ExitCode {
         return ExitCode::from(NOT_SHOWN);
     };
     match run(&rt, alloc, words.as_slice()) {
-        Ok(Ended { host, result }) => match show(&rt, host.entries()) {
-            Ok(()) => ExitCode::from(exit_status(&result)),
-            Err(_) => ExitCode::from(NOT_SHOWN),
-        },
+        Ok(Ended { host, result }) => {
+            let shown = show(&rt, host.entries());
+            let status = exit_status(&result);
+            drop(host);
+            drop(result);
+            match shown {
+                Ok(()) => ExitCode::from(status),
+                Err(_) => ExitCode::from(NOT_SHOWN),
+            }
+        }
         Err(_) => ExitCode::from(NOT_SHOWN),
     }
 }

@@ -1,10 +1,10 @@
 //! The run of a row, and what it shows.
 
 use crate::{given, shown, told};
-use just_cli::{Ended, run_with};
+use just_cli::{Ended, Failure, Report, run_with};
 use just_host::MemHost;
 use serde_json::Value;
-use std::alloc::Global;
+use std::alloc::{AllocError, Global};
 use std::sync::Wait;
 use std::thread::Threads;
 use vectors::Wrong;
@@ -17,16 +17,23 @@ struct Run {
     host: MemHost,
 }
 
+/// The code of a run, and its history as it is shown.
+fn shown_end(alloc: Global, result: &Result<Report, Failure>) -> Result<(i32, String), AllocError> {
+    let (code, history) = match result {
+        Ok(report) => (0, report.history.as_slice()),
+        Err(failure) => (failure.code, failure.history.as_slice()),
+    };
+    Ok((code, format!(in alloc; "{history:?}")?))
+}
+
 /// Runs the words of a row over its host.
 fn run_of<R: Threads + Wait + Sync>(rt: &R, alloc: Global, row: &Value) -> Result<Run, Wrong> {
     let words = given::words(alloc, row)?;
     let host = given::host(alloc, row)?;
     let Ended { host, result } = run_with(rt, alloc, words.as_slice(), host);
-    let (code, history) = match result {
-        Ok(report) => (0, report.history),
-        Err(failure) => (failure.code, failure.history),
-    };
-    let history = format!(in alloc; "{:?}", history.as_slice())?;
+    let shown = shown_end(alloc, &result);
+    drop(result);
+    let (code, history) = shown?;
     Ok(Run {
         code,
         history,

@@ -11,4 +11,4 @@ returns-in-Ok-run g c =
     let words = ap (λ (ws : List (Bor (List ℕ))). map (λ w. w.now) ws) c.as_slice.ensures.value ∙ c.in-Ok.ensures in
     of_run c.in-Ok-run.field-0.result (record_of c.in-Ok-run.field-0.host)
     (subst (λ ws. IsEnded ws None None [] (record_of c.in-Ok-run.field-0.host) c.in-Ok-run.field-0.result) words c.in-Ok-run.ensures)
-    c.exit_status.ensures
+    c.exit_status-status.ensures
