@@ -91,8 +91,19 @@ pub enum NotPlanned {
 pub fn plan_of(alloc: Global, text: &str, name: &str) -> Result<Plan, NotPlanned> {
     match planned(alloc, text, name) {
         Ok(plan) => Ok(plan),
-        Err(Error::NoMemory) => Err(NotPlanned::NoMemory),
-        Err(_) => Err(NotPlanned::Refused),
+        Err(error) => {
+            let reason = reason_of(&error);
+            drop(error);
+            Err(reason)
+        }
+    }
+}
+
+/// Why that error leaves no plan.
+fn reason_of(error: &Error) -> NotPlanned {
+    match error {
+        Error::NoMemory => NotPlanned::NoMemory,
+        _ => NotPlanned::Refused,
     }
 }
 
