@@ -18,8 +18,8 @@ struct Run {
 }
 
 /// The code of a run, and its history as it is shown.
-fn shown_end(alloc: Global, result: &Result<Report, Failure>) -> Result<(i32, String), AllocError> {
-    let (code, history) = match result {
+fn shown_end(alloc: Global, answer: &Result<Report, Failure>) -> Result<(i32, String), AllocError> {
+    let (code, history) = match answer {
         Ok(report) => (0, report.history.as_slice()),
         Err(failure) => (failure.code, failure.history.as_slice()),
     };
