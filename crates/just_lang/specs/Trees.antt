@@ -7,13 +7,13 @@ use Rattle.just_syntax.specs.declared.error.FaultKind.TheVariants as fault
 use Rattle.just_syntax.specs.declared.error.ParseError.TheVariants as parse_error
 use Rattle.just_syntax.specs.File.{IsFile, first_left_out}
 use Rattle.just_syntax.specs.Faults.{Refuses}
-use Rattle.just_lang.specs.declared.assembled.Position.{Position}
+use Rattle.just_lang.specs.declared.position.Position.{Position}
 use Rattle.just_lang.specs.declared.source.Source.{Source}
 use Rattle.just_lang.specs.declared.error.CompileError.{CompileError}
 use Rattle.just_lang.specs.declared.error.CompileKind.{CompileKind}
 use Rattle.just_lang.specs.declared.error.CompileKind.TheVariants.{Syntax, Unsupported, Depth}
-use Rattle.just_lang.specs.declared.error.LangError.{LangError}
-use Rattle.just_lang.specs.declared.error.LangError.TheVariants as error
+use Rattle.just_lang.specs.declared.project.LangError.{LangError}
+use Rattle.just_lang.specs.declared.project.LangError.TheVariants as error
 
 -- a text is these items, and none of them has a left-out name
 abbrev pub IsTree : List ℕ → List AstItem → Type 0
@@ -35,6 +35,5 @@ position_of f = record { line = f.line; column = f.column }
 -- the error is the fault of the source's text, at its path; want of memory says nothing
 abbrev pub RefusesSource : Source → LangError → Type 0
 RefusesSource source (error.Compile c) = (f : Fault) × Refuses (chars source.text) (parse_error.Fault f) × (c ≡ compile_error source.path (kind_of f.kind) (position_of f))
-RefusesSource source (error.UnknownRecipe recipe) = ⊥
-RefusesSource source error.ClosureLimit = ⊥
 RefusesSource source error.NoMemory = Unit {0}
+RefusesSource source _ = ⊥

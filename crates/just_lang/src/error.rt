@@ -1,17 +1,13 @@
-//! Why a justfile, or a request of its recipes, is refused.
+//! The rules that a justfile may break, and the first that it breaks.
 
-ghost use Rattle.std.specs.Prelude.{◌≡◌};
-ghost use Rattle.just_lang.specs.declared.error.LangError.TheVariants.{NoMemory as OutOfMemory};
+use just_path::Utf8PathBuf;
 
-use just_path::{NoMemory, Text, Utf8PathBuf};
-use std::alloc::{AllocError, AllocFailed};
-
-/// The rule that a justfile breaks. Those behind `Depth` aren't asked yet.
+/// The rule that a justfile breaks.
 #[derive(Clone, Copy, Debug, PartialEq, Eq, Hash)]
 pub enum CompileKind {
     /// The text doesn't fit the grammar.
     Syntax,
-    /// A form that is left out, or isn't assembled yet.
+    /// A form that is left out.
     Unsupported,
     /// An expression has more than 256 levels.
     Depth,
@@ -57,38 +53,4 @@ pub struct CompileError {
     pub path: Utf8PathBuf,
     pub line: usize,
     pub column: usize,
-}
-
-/// Why a justfile, or a request of its recipes, is refused.
-#[derive(Debug, Drop)]
-pub enum LangError {
-    Compile(CompileError),
-    UnknownRecipe { recipe: Text },
-    /// The request needs more than 1,000,000 recipes.
-    ClosureLimit,
-    NoMemory,
-}
-
-impl From<NoMemory> for LangError {
-    ghost from_gives = { λ _ e. e ≡ OutOfMemory };
-
-    fn from(_refused: NoMemory) -> LangError {
-        LangError::NoMemory
-    }
-}
-
-impl From<AllocError> for LangError {
-    ghost from_gives = { λ _ e. e ≡ OutOfMemory };
-
-    fn from(_refused: AllocError) -> LangError {
-        LangError::NoMemory
-    }
-}
-
-impl<T: Drop> From<AllocFailed<T>> for LangError {
-    ghost from_gives = { λ _ e. e ≡ OutOfMemory };
-
-    fn from(_refused: AllocFailed<T>) -> LangError {
-        LangError::NoMemory
-    }
 }

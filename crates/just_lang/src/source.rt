@@ -4,7 +4,8 @@ ghost use Rattle.std.specs.Prelude.{◌≡◌, IfOk, IfErr, MatchResult, List};
 ghost use Rattle.just_syntax.specs.declared.ast.AstItem.{AstItem};
 ghost use Rattle.just_lang.specs.Trees.{IsTree, RefusesSource, kind_of, compile_error};
 
-use super::{CompileError, CompileKind, LangError, Position};
+use super::project::LangError;
+use super::{CompileError, CompileKind, Position};
 use just_path::{NoMemory, Text, Utf8PathBuf};
 use just_syntax::{Ast, FaultKind, ParseError, parse as tree_of};
 use std::alloc::Global;

@@ -5,10 +5,8 @@
 
 use crate::hosts::memory;
 use just_host::{Host, HostFault};
-use just_lang::{
-    AstItem, FileRef, LangError, Source, assemble, dependencies, invocations, parse, references,
-};
-use just_path::{Environ, NoMemory, Seq, Text, TryClone, Utf8Path};
+use just_lang::{Ast, AstItem, FileRef, Source, parse, references};
+use just_path::{NoMemory, Seq, Text, Utf8Path};
 use std::alloc::Global;
 use std::test::Fail;
 
@@ -20,10 +18,17 @@ fn source(alloc: Global, text: &str) -> Result<Source, NoMemory> {
     })
 }
 
+/// The tree of a text that fits the grammar; where it doesn't, memory is told to be wanting, so that the test fails.
+fn tree(alloc: Global, text: &str) -> Result<Ast, NoMemory> {
+    match parse(alloc, &source(alloc, text)?) {
+        Ok(ast) => Ok(ast),
+        Err(_) => Err(NoMemory),
+    }
+}
+
 /// How many items a text has, and the lines in which its recipes begin, one behind the other.
-fn items(alloc: Global, text: &str) -> Result<(usize, Vec<usize>), LangError> {
-    let source = source(alloc, text)?;
-    let ast = parse(alloc, &source)?;
+fn items(alloc: Global, text: &str) -> Result<(usize, Vec<usize>), NoMemory> {
+    let ast = tree(alloc, text)?;
     let mut lines = Vec::new(alloc);
     for item in ast.items.as_slice() {
         if let AstItem::Recipe(recipe) = item {
@@ -34,10 +39,9 @@ fn items(alloc: Global, text: &str) -> Result<(usize, Vec<usize>), LangError> {
 }
 
 /// The files that a text names.
-fn files(alloc: Global, text: &str) -> Result<Seq<FileRef>, LangError> {
-    let source = source(alloc, text)?;
-    let ast = parse(alloc, &source)?;
-    Ok(references(alloc, &ast)?)
+fn files(alloc: Global, text: &str) -> Result<Seq<FileRef>, NoMemory> {
+    let ast = tree(alloc, text)?;
+    references(alloc, &ast)
 }
 
 /// The path of the file of that number, empty where it has none.
@@ -51,24 +55,6 @@ fn path_of(files: &[FileRef], number: usize) -> &str {
         ) => path.as_str(),
         _ => "",
     }
-}
-
-/// How many priors a recipe of a text has, and how many of its keys are copied as they are.
-fn counts(alloc: Global, text: &str, recipe: &str) -> Result<(usize, usize), LangError> {
-    let sources = [source(alloc, text)?];
-    let environ = Environ {
-        pairs: Seq::new(alloc),
-    };
-    let justfile = assemble(alloc, &sources, &environ)?;
-    let mut priors: usize = 0;
-    let mut copied: usize = 0;
-    for key in invocations(alloc, &justfile, &[recipe])?.as_slice() {
-        priors = priors.saturating_add(dependencies(alloc, &justfile, key)?.0.len());
-        if key.try_clone()?.same(key) {
-            copied = copied.saturating_add(1);
-        }
-    }
-    Ok((priors, copied))
 }
 
 /// The home folder of a host's environment.
@@ -85,11 +71,9 @@ fn home(alloc: Global) -> Result<String, HostFault> {
 #[test]
 fn every_call_answers(rt: HostRuntime) -> Result<(), Fail> {
     let alloc = rt.alloc();
-    let text = "b: a\n\techo b\na:\n";
     let (count, lines) = items(alloc, "b: a\n  one\n\n   two\n\n# c\r\na:")?;
     assert_eq!(rt; count, 4);
     assert_eq!(rt; lines.as_slice(), [1usize, 7].as_slice());
-    assert!(rt; counts(alloc, text, "b")? == (1, 1));
     let files = files(alloc, "import 'a'\nmod? b\nmod c \"\\u{64}\"\n")?;
     assert_eq!(rt; files.len(), 3);
     assert_eq!(rt; path_of(files.as_slice(), 0), "a");

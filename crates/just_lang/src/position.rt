@@ -1,0 +1,8 @@
+//! Positions in a text.
+
+/// A place of a text: line and column count from 1, columns in characters.
+#[derive(Clone, Copy, Debug, PartialEq, Eq)]
+pub struct Position {
+    pub line: usize,
+    pub column: usize,
+}
