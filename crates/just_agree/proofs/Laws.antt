@@ -4,15 +4,18 @@ use Rattle.std.proofs.lemmas.List.Elements.{recursion_from_All}
 use Rattle.just_lang.specs.declared.project.Justfile.{Justfile}
 use Rattle.just_value.specs.Modules.{assignments_of}
 use Rattle.just_variables.specs.Uses.{AreEnding}
-use Rattle.just_agree.specs.Loading.{LoadsAgree}
+use Rattle.just_agree.specs.Loading.{LoadsAgree, RootsAgree}
 use Rattle.just_agree.specs.Evaluating.{EvaluationsAgree}
 use Rattle.just_agree.specs.Closing.{ClosuresAgree}
-use Rattle.just_agree.proofs.OneLoading.{one_loading}
+use Rattle.just_agree.proofs.OneLoading.{loads_own, one_loading}
 use Rattle.just_agree.proofs.OneEvaluation.{one_evaluation}
 use Rattle.just_agree.proofs.OneClosure.{one_closure, no_closure_refused, one_refusal}
 
 pub loads_agree : LoadsAgree
-loads_agree w before root = one_loading w before root
+loads_agree w environ before paths = loads_own w environ before paths
+
+pub roots_agree : RootsAgree
+roots_agree w before root = one_loading w before root
 
 pub evaluations_agree : EvaluationsAgree
 evaluations_agree modules dotenv environ overrides a b ends x y =

@@ -1,8 +1,7 @@
 -- A project whose variables end has one evaluation.
-use Rattle.std.proofs.Common.{◌≡◌, ℕ, zero, suc, ◌<◌, List, [], ◌∷◌, length, map, get_or, slice_get, Option, Some, None, Ok, Err, refl, sym, ap, ◌∙◌, subst, arith}
+use Rattle.std.proofs.Common.{◌≡◌, ℕ, zero, suc, ◌<◌, List, [], ◌∷◌, length, map, slice_get, Option, Ok, Err, refl, sym, ap, ◌∙◌, subst}
 use Rattle.std.specs.Prelude.{true}
 use Rattle.std.specs.List.{All, AllByRecursion, filter_map}
-use Rattle.std.specs.Option.{unwrap_or}
 use Rattle.just_path.specs.declared.environ.Environ.{Environ}
 use Rattle.just_lang.specs.declared.project.Justfile.{Justfile}
 use Rattle.just_lang.specs.declared.recipe.Modulepath.{Modulepath}
@@ -14,62 +13,42 @@ use Rattle.just_lang.specs.declared.scope.Scopes.{Scopes}
 use Rattle.just_graph.specs.Chains.{ends_within}
 use Rattle.just_graph.specs.Graph.{targets, IsAcyclic}
 use Rattle.just_graph.proofs.Chains.{nodes_end, passed_by}
-use Rattle.just_closure.proofs.Items.{In, in_contains, all_in}
+use Rattle.just_closure.proofs.Items.{in_contains, all_in}
 use Rattle.just_value.specs.Answers.{Answer, and_then}
 use Rattle.just_value.specs.Modules.{path_of, assignments_of}
 use Rattle.just_value.specs.Values.{Valued, value}
 use Rattle.just_variables.specs.Evaluations.{scope_told, IsScope, Evaluates, IsEvaluation}
-use Rattle.just_variables.specs.Outcomes.{assigned, constant_value, meaning_with, AreOutcomesOf}
+use Rattle.just_variables.specs.Outcomes.{AreOutcomesOf}
 use Rattle.just_variables.specs.Uses.{names_in, named, uses, AreEnding}
-use Rattle.just_variables.proofs.Agree.{agree}
-use Rattle.just_variables.proofs.Final.{found_there, not_there, one_some}
-use Rattle.just_variables.proofs.Lists.{passes, mapped_at, mapped_get, length_mapped, there_at_number, below_length, one_list}
+use Rattle.just_variables.proofs.Final.{one_some}
+use Rattle.just_variables.proofs.Lists.{length_mapped, there_at_number, below_length, one_list}
 use Rattle.just_variables.specs.Overrides.{variable_text}
 use Rattle.just_variables.proofs.Only.{only_unknown, only_known}
 use Rattle.just_variables.proofs.Order.{are_graph}
+use Rattle.just_variables.proofs.Unique.{same_outcome, size_of}
 
 -- ---- outcomes
 
 module _ (all : List Assignment) (given env : List ℕ → Option (List ℕ)) (os ps : List Valued) (of_os : AreOutcomesOf given env all os) (of_ps : AreOutcomesOf given env all ps) where
-  abbrev outcome_by : List Valued → Assignment → Valued
-  outcome_by qs a = assigned (given a.name) (value (meaning_with all qs) env a.value)
-
-  size_of : (qs : List Valued) → AreOutcomesOf given env all qs → length qs ≡ length all
-  size_of qs is = ap (λ l. length l) is ∙ length_mapped (outcome_by qs) all
-
-  same_meaning : (name : List ℕ) (w : Option ℕ) → named all name ≡ w → ((k : ℕ) → w ≡ Some k → slice_get os k ≡ slice_get ps k) → meaning_with all os name ≡ meaning_with all ps name
-  same_meaning name None is same = ap (λ o. unwrap_or o (constant_value name)) (not_there 0 all os name is ∙ sym (not_there 0 all ps name is))
-  same_meaning name (Some k) is same =
-      ap (λ o. unwrap_or o (constant_value name)) (found_there 0 all os name k k is (size_of os of_os) (omega arith) ∙ same k refl ∙ sym (found_there 0 all ps name k k is (size_of ps of_ps) (omega arith)))
-
-  outcome_is : (qs : List Valued) → AreOutcomesOf given env all qs → (n : ℕ) (a : Assignment) → slice_get all n ≡ Some a → slice_get qs n ≡ Some (outcome_by qs a)
-  outcome_is qs is n a at = ap (λ l. slice_get l n) is ∙ mapped_get (outcome_by qs) all n a at
-
-  -- the outcomes of an assignment are one where those of the ones that it uses are
-  same_outcome : (n : ℕ) (a : Assignment) → slice_get all n ≡ Some a → ((w : ℕ) → In w (get_or (uses all) n []) → slice_get os w ≡ slice_get ps w) → slice_get os n ≡ slice_get ps n
-  same_outcome n a at same =
-      let used : get_or (uses all) n [] ≡ filter_map (named all) (names_in a.value) = mapped_at (λ b. filter_map (named all) (names_in b.value)) all n a [] at in
-      outcome_is os of_os n a at
-      ∙ ap (λ v. Some (assigned (given a.name) v)) (agree (meaning_with all os) (meaning_with all ps) env a.value (λ name i.
-      same_meaning name (named all name) refl (λ k h. same k (subst (λ ws. In k ws) (sym used) (passes (named all) (names_in a.value) name k i h)))))
-      ∙ sym (outcome_is ps of_ps n a at)
-
   -- by how long the chains are
   same_within : (f n : ℕ) → n < length all → ends_within (targets (uses all)) f n ≡ true → slice_get os n ≡ slice_get ps n
   same_within zero n lt h = absurd (cc)
   same_within (suc f) n lt h =
       let a = there_at_number all n lt in
-      same_outcome n a.0 a.1 (λ w i.
+      same_outcome all given env os ps of_os of_ps n a.0 a.1 (λ w i.
       let below : w < length all = subst (λ l. w < l) (length_mapped (λ b. filter_map (named all) (names_in b.value)) all) (all_in (λ k. k < length (uses all)) (targets (uses all) n) w (graph_at n lt) i) in
       same_within f w below (passed_by (ends_within (targets (uses all)) f) (targets (uses all) n) w h (in_contains (targets (uses all) n) w i)))
     where
       graph_at : (m : ℕ) → m < length all → All (λ k. k < length (uses all)) (targets (uses all) m)
       graph_at m lt = are_graph all m [] (subst (λ l. m < l) (sym (length_mapped (λ b. filter_map (named all) (names_in b.value)) all)) lt)
 
+  size : (qs : List Valued) → AreOutcomesOf given env all qs → length qs ≡ length all
+  size qs is = size_of all given env os ps of_os of_ps qs is
+
   pub one_outcomes : IsAcyclic (uses all) → os ≡ ps
   one_outcomes acyclic =
-      one_list os ps (size_of os of_os ∙ sym (size_of ps of_ps)) (λ n x y at_x at_y.
-      let lt : n < length all = subst (λ l. n < l) (size_of os of_os) (below_length os n x at_x) in
+      one_list os ps (size os of_os ∙ sym (size ps of_ps)) (λ n x y at_x at_y.
+      let lt : n < length all = subst (λ l. n < l) (size os of_os) (below_length os n x at_x) in
       let below : n < length (uses all) = subst (λ l. n < l) (sym (length_mapped (λ b. filter_map (named all) (names_in b.value)) all)) lt in
       one_some x y (sym at_x ∙ same_within (length (uses all)) n lt (nodes_end (uses all) (are_graph all) acyclic n below) ∙ at_y))
 

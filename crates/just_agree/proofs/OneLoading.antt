@@ -204,7 +204,7 @@ module _ (w : World) where
         let at : p ≡ q = cc in
         same_refusal e f (named_once (source_at p x) (source_at q y) (one_source p q x y at (read_once p q at x y read reads)) (Err e) (Err f) names own also other)
 
-    loads_own : (before : List Source) (paths : List (List ℕ)) → GivesOwn (Loads (Some w) environ before paths)
+    pub loads_own : (before : List Source) (paths : List (List ℕ)) → GivesOwn (Loads (Some w) environ before paths)
     loads_own before paths r s p own q other = loads_by before paths r p own before paths s q other refl refl
 
   -- a root is loaded in one way

@@ -1,12 +1,13 @@
 -- What is loaded over a told world is one thing.
 use Rattle.std.specs.Prelude.{ℕ, ◌≡◌, Bool, true, false, List, Some, Result, Ok, Err}
 use Rattle.just_lang.specs.declared.source.Source.{Source}
+use Rattle.just_layout.specs.Paths.{Pairs}
 use Rattle.just_outside.specs.declared.entry.HostFault.{HostFault}
 use Rattle.just_outside.specs.declared.entry.HostFault.TheVariants as fault
 use Rattle.just_outside.specs.World.{World}
 use Rattle.just_env.specs.declared.search_error.SearchError.{SearchError}
 use Rattle.just_env.specs.declared.search_error.SearchError.TheVariants as error
-use Rattle.just_search.specs.Loads.{LoadsAll}
+use Rattle.just_search.specs.Loads.{Loads, LoadsAll}
 
 -- a call of the host failed, which says nothing of its world
 abbrev pub is_failure : HostFault → Bool
@@ -29,6 +30,10 @@ IsOwn (Err e) = tells_failure e ≡ false
 abbrev pub GivesOwn : {A : Type 0} → (Result A SearchError → Type 0) → Type 0
 GivesOwn {A} gives = (r s : Result A SearchError) → gives r → IsOwn r → gives s → IsOwn s → r ≡ s
 
--- over a told world a root is loaded in one way, behind any sources
+-- over a told world paths are loaded in one way over an environment, behind any sources
 abbrev pub LoadsAgree : Type 0
-LoadsAgree = (w : World) (before : List Source) (root : List ℕ) → GivesOwn (LoadsAll (Some w) before root)
+LoadsAgree = (w : World) (environ : Pairs) (before : List Source) (paths : List (List ℕ)) → GivesOwn (Loads (Some w) environ before paths)
+
+-- so is a root, over the environment of the world
+abbrev pub RootsAgree : Type 0
+RootsAgree = (w : World) (before : List Source) (root : List ℕ) → GivesOwn (LoadsAll (Some w) before root)

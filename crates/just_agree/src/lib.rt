@@ -1,14 +1,15 @@
 //! That a run is asked for one thing: a root is loaded, a project evaluated and keys closed in one way at most.
 #![tactic(auto)]
 
-ghost use Rattle.just_agree.specs.Loading.{LoadsAgree};
+ghost use Rattle.just_agree.specs.Loading.{LoadsAgree, RootsAgree};
 ghost use Rattle.just_agree.specs.Evaluating.{EvaluationsAgree};
 ghost use Rattle.just_agree.specs.Closing.{ClosuresAgree};
 
 /// Over a host that tells a world a root leads to one list of sources, or to one refusal, but where a call of the host fails. It does
 /// nothing; its contract is a law.
 pub fn loads_agree()
-    ensures { LoadsAgree }
+    ensures loads { LoadsAgree }
+    ensures roots { RootsAgree }
 {}
 
 /// Modules none of whose variables leads to itself have one evaluation: one value for each variable, or one refusal. It does nothing; its

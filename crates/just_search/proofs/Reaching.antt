@@ -1,15 +1,17 @@
 -- What was loaded, one after the other, is what the root leads to.
 use Rattle.std.proofs.Common.{◌≡◌, ℕ, true, List, [], ◌∷◌, ◌++◌, Option, None, is_some, refl, ap, sym, ◌∙◌, subst, append_assoc}
-use Rattle.std.specs.Prelude.{Contains, Result, Ok, Err}
+use Rattle.std.specs.Prelude.{Contains, Result, Ok, Err, OnOk}
 use Rattle.std.specs.List.{AllByRecursion}
 use Rattle.std.proofs.lemmas.List.{append-nil}
 use Rattle.std.proofs.lemmas.List.Elements.{Contains-append_left, Contains-append_right, All-contains_itself, recursion_from_All}
 use Rattle.just_path.specs.Clean.{cleaned}
+use Rattle.just_path.specs.declared.environ.Environ.{Environ}
 use Rattle.just_lang.specs.declared.source.Source.{Source}
 use Rattle.just_layout.specs.Paths.{Pairs}
 use Rattle.just_outside.specs.World.{World}
 use Rattle.just_env.specs.declared.search_error.SearchError.{SearchError}
-use Rattle.just_search.specs.Loads.{source_at, is_loaded, Loads, LoadsAll}
+use Rattle.just_search.specs.Loads.{source_at, is_loaded, Loads, LoadsAll, Ends}
+use Rattle.just_env.specs.Answers.{GivesEnviron}
 use Rattle.just_search.specs.Named.{SourceNames}
 use Rattle.just_search.specs.Numbers.{number_of}
 use Rattle.just_search.specs.Whole.{IsNamed, AreReached, IsClosed, IsWhole}
@@ -93,3 +95,8 @@ whole told before root new (LoadsAll.over_environ environ given loads) =
     let so = comes told environ.pairs before root before (root ∷ []) (Ok new) loads [] (sym (append-nil before)) AreReached.none (IsNamed.as_root refl, tt) in
     record { environ = environ; given = given; more = so.0; behind = so.1; root_there = so.4.0; reached = so.2; closed = so.5 }
 whole told before root new (LoadsAll.no_environ e given is) = absurd (let no : ⊥ = cc in no)
+
+-- the same over an environment that the host gives
+pub whole_over : (told : Option World) (before new : List Source) (root : List ℕ) (environ : Environ) (r : Result (Unit {0}) SearchError) → GivesEnviron told (Ok environ) → Ends (Loads told environ.pairs before (root ∷ [])) new r → OnOk r (IsWhole told before root new)
+whole_over told before new root environ (Ok x) given loads = whole told before root new (LoadsAll.over_environ environ given loads)
+whole_over told before new root environ (Err e) given loads = tt

@@ -3,6 +3,7 @@ use Rattle.std.proofs.Common.{◌≡◌, ◌⊎◌, inl, inr, ℕ, List, [], ◌
 use Rattle.std.specs.Prelude.{Result, Ok, Err}
 use Rattle.just_path.specs.declared.environ.Environ.{Environ}
 use Rattle.just_lang.specs.declared.source.Source.{Source}
+use Rattle.just_layout.specs.Paths.{Pairs}
 use Rattle.just_outside.specs.World.{World}
 use Rattle.just_env.specs.declared.search_error.SearchError.{SearchError}
 use Rattle.just_env.specs.declared.search_error.SearchError.TheVariants as error
@@ -11,12 +12,16 @@ use Rattle.just_search.specs.Loads.{Loads, LoadsAll, Ends, to_load}
 use Rattle.just_search.proofs.Skipped.{top_first}
 
 -- all that a stack of the root alone comes to
-pub root_loads : (told : Option World) (before new : List Source) (root : List ℕ) (pending : List (List ℕ)) (environ : Environ) (r : Result (Unit {0}) SearchError) → GivesEnviron told (Ok environ) → pending ≡ root ∷ [] → Ends (Loads told environ.pairs before (to_load pending)) new r → Ends (LoadsAll told before root) new r
-root_loads told before new root pending environ (Ok x) given is so =
-    LoadsAll.over_environ environ given (subst (λ ps. Loads told environ.pairs before ps (Ok new)) (ap to_load is ∙ top_first [] root) so)
-root_loads told before new root pending environ (Err e) given is (inl memory) = inl memory
-root_loads told before new root pending environ (Err e) given is (inr so) =
-    inr (LoadsAll.over_environ environ given (subst (λ ps. Loads told environ.pairs before ps (Err e)) (ap to_load is ∙ top_first [] root) so))
+pub root_loads : (told : Option World) (before new : List Source) (root : List ℕ) (pending : List (List ℕ)) (environ : Pairs) (r : Result (Unit {0}) SearchError) → pending ≡ root ∷ [] → Ends (Loads told environ before (to_load pending)) new r → Ends (Loads told environ before (root ∷ [])) new r
+root_loads told before new root pending environ (Ok x) is so = subst (λ ps. Loads told environ before ps (Ok new)) (ap to_load is ∙ top_first [] root) so
+root_loads told before new root pending environ (Err e) is (inl memory) = inl memory
+root_loads told before new root pending environ (Err e) is (inr so) = inr (subst (λ ps. Loads told environ before ps (Err e)) (ap to_load is ∙ top_first [] root) so)
+
+-- a host that gives that environment
+pub root_given : (told : Option World) (before new : List Source) (root : List ℕ) (environ : Environ) (r : Result (Unit {0}) SearchError) → GivesEnviron told (Ok environ) → Ends (Loads told environ.pairs before (root ∷ [])) new r → Ends (LoadsAll told before root) new r
+root_given told before new root environ (Ok x) given so = LoadsAll.over_environ environ given so
+root_given told before new root environ (Err e) given (inl memory) = inl memory
+root_given told before new root environ (Err e) given (inr so) = inr (LoadsAll.over_environ environ given so)
 
 -- a host that has no environment
 pub root_unread : (told : Option World) (before : List Source) (root : List ℕ) (e : SearchError) → (e ≡ error.NoMemory) ⊎ GivesEnviron told (Err e) → (e ≡ error.NoMemory) ⊎ LoadsAll told before root (Err e)

@@ -211,9 +211,14 @@ impl Loader {
     }
 
     /// Loads a source and all that it leads to. On an error those that were loaded before it stay.
-    #[tactic(auto, using(just_env::proofs::Laws::gains_nothing, just_env::proofs::Laws::gains_before, just_env::proofs::Laws::gains_none, just_env::proofs::Laws::gains_then, just_env::proofs::Laws::gains_one, crate::proofs::Growing::grown_none, crate::proofs::Rooted::root_loads, crate::proofs::Rooted::root_unread))]
-    fn load_root<H: Host>(&mut self, host: &mut H, root: Utf8Path<'_>) -> Result<(), SearchError>
-        ensures ends { Ends (LoadsAll (H.world host.old) (sources_of self.old) (text_of root.entry)) (sources_of self.new) result }
+    #[tactic(auto, using(just_env::proofs::Laws::gains_nothing, just_env::proofs::Laws::gains_before, just_env::proofs::Laws::gains_none, just_env::proofs::Laws::gains_then, just_env::proofs::Laws::gains_one, crate::proofs::Growing::grown_none, crate::proofs::Rooted::root_loads))]
+    fn load_root<H: Host>(
+        &mut self,
+        host: &mut H,
+        environ: &Environ,
+        root: Utf8Path<'_>,
+    ) -> Result<(), SearchError>
+        ensures ends { Ends (Loads (H.world host.old) environ.now.pairs (sources_of self.old) (text_of root.entry ∷ [])) (sources_of self.new) result }
         ensures grown { IsGrown (sources_of self.old) (sources_of self.new) }
         ensures gains { Gains (H.entries host.old) (H.entries host.new) result }
         ensures world { H.world host.new ≡ H.world host.old }
@@ -222,16 +227,39 @@ impl Loader {
         let alloc = self.inside.alloc;
         let mut pending = Vec::new(alloc);
         pending.push(root.to_path_buf(alloc)?)?;
-        match environment(alloc, host) {
-            Ok(environ) => self.load_pending(host, &environ, pending),
-            Err(error) => Err(error),
+        self.load_pending(host, environ, pending)
+    }
+
+    /// Loads a source and all that it leads to, over an environment: behind each source the files that its imports and modules name, in
+    /// their order, before what else is to be loaded. A file that isn't there is left out; so is one that was loaded before, with what it
+    /// names. On an error nothing is loaded.
+    #[tactic(auto, using(crate::proofs::Growing::grown_cut))]
+    pub fn load_over<H: Host>(
+        &mut self,
+        host: &mut H,
+        environ: &Environ,
+        root: Utf8Path<'_>,
+    ) -> Result<(), SearchError>
+        // The sources are those that the root leads to over the environment, or the first refusal.
+        ensures ends { Ends (Loads (H.world host.old) environ.now.pairs (sources_of self.old) (text_of root.entry ∷ [])) (sources_of self.new) result }
+        ensures same { OnErr result (sources_of self.new ≡ sources_of self.old) }
+        // The record gains misses, and the entry of the refused call.
+        ensures gains { Gains (H.entries host.old) (H.entries host.new) result }
+        ensures world { H.world host.new ≡ H.world host.old }
+        ensures spare { H.spare host.new ≡ H.spare host.old }
+    {
+        let known = self.inside.sources.len();
+        match self.load_root(host, environ, root) {
+            Ok(()) => Ok(()),
+            Err(error) => {
+                self.inside.forget(known);
+                Err(error)
+            }
         }
     }
 
-    /// Loads a source and all that it leads to: behind each source the files that its imports and modules name, in their order,
-    /// before what else is to be loaded. A file that isn't there is left out; so is one that was loaded before, with what it names.
-    /// On an error nothing is loaded.
-    #[tactic(auto, using(crate::proofs::Growing::grown_cut, crate::proofs::Reaching::whole))]
+    /// Loads a source and all that it leads to, over the environment that the host gives, as `load_over` does.
+    #[tactic(auto, using(just_env::proofs::Laws::gains_nothing, just_env::proofs::Laws::gains_before, just_env::proofs::Laws::gains_none, just_env::proofs::Laws::gains_then, just_env::proofs::Laws::gains_one, crate::proofs::Rooted::root_given, crate::proofs::Rooted::root_unread))]
     pub fn load_all<H: Host>(&mut self, host: &mut H, root: Utf8Path<'_>) -> Result<(), SearchError>
         // The sources are those that the root leads to over the host's environment, or the first refusal.
         ensures ends { Ends (LoadsAll (H.world host.old) (sources_of self.old) (text_of root.entry)) (sources_of self.new) result }
@@ -243,13 +271,9 @@ impl Loader {
         ensures world { H.world host.new ≡ H.world host.old }
         ensures spare { H.spare host.new ≡ H.spare host.old }
     {
-        let known = self.inside.sources.len();
-        match self.load_root(host, root) {
-            Ok(()) => Ok(()),
-            Err(error) => {
-                self.inside.forget(known);
-                Err(error)
-            }
+        match environment(self.inside.alloc, host) {
+            Ok(environ) => self.load_over(host, &environ, root),
+            Err(error) => Err(error),
         }
     }
 }

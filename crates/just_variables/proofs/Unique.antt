@@ -25,7 +25,7 @@ module _ (all : List Assignment) (given env : List ℕ → Option (List ℕ)) (o
   abbrev outcome_by : List Valued → Assignment → Valued
   outcome_by qs a = assigned (given a.name) (value (meaning_with all qs) env a.value)
 
-  size_of : (qs : List Valued) → AreOutcomesOf given env all qs → length qs ≡ length all
+  pub size_of : (qs : List Valued) → AreOutcomesOf given env all qs → length qs ≡ length all
   size_of qs is = ap (λ l. length l) is ∙ length_mapped (outcome_by qs) all
 
   -- a name means the same where its outcomes are one
@@ -38,7 +38,7 @@ module _ (all : List Assignment) (given env : List ℕ → Option (List ℕ)) (o
   outcome_is qs is n a at = ap (λ l. slice_get l n) is ∙ mapped_get (outcome_by qs) all n a at
 
   -- the outcomes of an assignment are one where those of the ones that it uses are
-  same_outcome : (n : ℕ) (a : Assignment) → slice_get all n ≡ Some a → ((w : ℕ) → In w (get_or (uses all) n []) → slice_get os w ≡ slice_get ps w) → slice_get os n ≡ slice_get ps n
+  pub same_outcome : (n : ℕ) (a : Assignment) → slice_get all n ≡ Some a → ((w : ℕ) → In w (get_or (uses all) n []) → slice_get os w ≡ slice_get ps w) → slice_get os n ≡ slice_get ps n
   same_outcome n a at same =
       let used : get_or (uses all) n [] ≡ filter_map (named all) (names_in a.value) = mapped_at (λ b. filter_map (named all) (names_in b.value)) all n a [] at in
       outcome_is os of_os n a at
