@@ -12,11 +12,10 @@ use Rattle.just_syntax.specs.declared.ast.AstParameter.{AstParameter}
 use Rattle.just_syntax.specs.declared.ast.AstRecipe.{AstRecipe}
 use Rattle.just_syntax.specs.declared.ast.Attribute.{Attribute}
 use Rattle.just_syntax.specs.declared.ast.StringLiteral.{StringLiteral}
-use Rattle.just_syntax.specs.Attributes.{has_key}
 use Rattle.just_spots.specs.Entries.{entries}
 use Rattle.just_rules.specs.AttributeSpots.{is_called}
 use Rattle.just_rules.specs.ConstantTexts.{const_text}
-use Rattle.just_rules.specs.Options.{is_text, makes_option, is_option_by, is_option}
+use Rattle.just_rules.specs.Options.{is_text, names_option, makes_option, is_option_by, is_option}
 use Rattle.just_names.specs.declared.arity.Arity.{Arity}
 use Rattle.just_names.specs.declared.arity.Arities.{Arities}
 use Rattle.just_names.specs.declared.names.ModuleNames.{ModuleNames}
@@ -32,7 +31,7 @@ module _ (text_of : StringLiteral → Option (List ℕ)) where
   arguments_are : (q : List ℕ) (xs : List Argument) → is_text q (option_of_arguments text_of xs) ≡ makes_option text_of q xs
   arguments_are q [] = refl
   arguments_are q (x ∷ keys) =
-      elim (has_key keys (codes "long") || has_key keys (codes "short")) as (λ b. is_text q (if b then const_text text_of x.value else None) ≡ (b && is_text q (const_text text_of x.value))) [
+      elim (names_option text_of keys) as (λ b. is_text q (if b then const_text text_of x.value else None) ≡ (b && is_text q (const_text text_of x.value))) [
         | true ↦ refl
         | false ↦ refl
       ]

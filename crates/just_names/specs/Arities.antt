@@ -12,11 +12,10 @@ use Rattle.just_syntax.specs.declared.ast.AstParameter.{AstParameter}
 use Rattle.just_syntax.specs.declared.ast.AstRecipe.{AstRecipe}
 use Rattle.just_syntax.specs.declared.ast.Attribute.{Attribute}
 use Rattle.just_syntax.specs.declared.ast.StringLiteral.{StringLiteral}
-use Rattle.just_syntax.specs.Attributes.{has_key}
 use Rattle.just_spots.specs.Entries.{entries}
 use Rattle.just_rules.specs.AttributeSpots.{is_called}
 use Rattle.just_rules.specs.ConstantTexts.{const_text}
-use Rattle.just_rules.specs.Options.{is_option_by}
+use Rattle.just_rules.specs.Options.{names_option, is_option_by}
 use Rattle.just_rules.specs.ParameterSpots.{wants_value}
 use Rattle.just_names.specs.declared.arity.Arities.{Arities}
 use Rattle.just_names.specs.declared.arity.Arity.{Arity}
@@ -35,7 +34,7 @@ module _ (text_of : StringLiteral → Option (List ℕ)) where
   -- the parameter that arguments of `arg` make an option
   abbrev pub option_of_arguments : List Argument → Option (List ℕ)
   option_of_arguments [] = None
-  option_of_arguments (x ∷ keys) = if has_key keys (codes "long") || has_key keys (codes "short") then const_text text_of x.value else None
+  option_of_arguments (x ∷ keys) = if names_option text_of keys then const_text text_of x.value else None
 
   -- the parameter that an attribute makes an option
   abbrev pub option_of : Attribute → Option (List ℕ)

@@ -1,12 +1,11 @@
 //! The parameters of a recipe that are options, as a set.
-ghost use Rattle.std.specs.Prelude.{◌≡◌, ◌||◌, ℕ, List, codes, IfOk, OnOk};
-ghost use Rattle.just_syntax.specs.Attributes.{is_key_or, has_key};
+ghost use Rattle.std.specs.Prelude.{◌≡◌, ◌||◌, ℕ, List, IfOk, OnOk};
 ghost use Rattle.just_rules.specs.Options.{is_text};
 ghost use Rattle.just_names.specs.Arities.{option_of_arguments, option_of, has_option_name, AreOptions};
 
 use just_path::{NoMemory, Text};
-use just_rules::{Texts, const_text};
-use just_syntax::{Argument, Attribute, Expr};
+use just_rules::{Texts, const_text, names_option};
+use just_syntax::{Argument, Attribute};
 use std::alloc::Global;
 use std::collections::BTreeSet;
 
@@ -16,39 +15,7 @@ pub(crate) struct Options {
     names: BTreeSet<Text>,
 }
 
-/// Whether the argument has that key, with a value or alone.
-fn is_of_key(key: &str, argument: &Argument) -> bool
-    ensures { result ≡ is_key_or key.now argument.now.key argument.now.value }
-{
-    match &argument.key {
-        Some(name) => name.text.as_str() == key,
-        None => match &argument.value {
-            Expr::Variable(name) => name.text.as_str() == key,
-            _ => false,
-        },
-    }
-}
-
-/// Whether one of the arguments has that key.
-fn has_key(arguments: &[Argument], key: &str) -> bool
-    ensures { result ≡ has_key arguments.now key.now }
-{
-    'arguments: for argument in arguments {
-        if is_of_key(key, argument) {
-            return true;
-        }
-    }
-    false
-}
-
-/// Whether keys of `arg` make its parameter an option.
-fn names_option(keys: &[Argument]) -> bool
-    ensures { result ≡ (has_key keys.now (codes "long") || has_key keys.now (codes "short")) }
-{
-    has_key(keys, "long") || has_key(keys, "short")
-}
-
-/// The name of the parameter that these arguments of `arg` make an option: `long` or `short` is among its keys.
+/// The name of the parameter that these arguments of `arg` make an option: its keys give it a name as one.
 fn option_of_arguments<T: Texts>(
     alloc: Global,
     texts: &T,
@@ -59,7 +26,7 @@ fn option_of_arguments<T: Texts>(
     match arguments {
         [] => Ok(None),
         [first, keys @ ..] => {
-            if !names_option(keys) {
+            if !names_option(alloc, texts, keys)? {
                 return Ok(None);
             }
             let text = const_text(alloc, texts, &first.value)?;

@@ -23,7 +23,7 @@ pub use duplicate_attributes::DuplicateAttribute;
 pub use expansions::ShellExpansion;
 pub use expr_text::const_text;
 pub use faults::{fault_spot, source_limit_spot};
-pub use options::is_option;
+pub use options::{is_option, names_option};
 pub use parameters::DuplicateParameter;
 pub use required::RequiredParameterFollowsDefault;
 pub use settings::{DuplicateSetting, UnknownSetting};

@@ -1,7 +1,7 @@
 -- The parameters of a recipe, with what `arg` says of each.
 use Rattle.std.specs.Prelude.{◌≡◌, ℕ, Bool, false, not, ◌&&◌, is_some, if◌then◌else◌, List, [], ◌∷◌, map, filter_map, Option, Some, None, bytes_eq, codes, chars, slice_get}
 use Rattle.std.specs.List.{list_any}
-use Rattle.std.specs.Option.{option_and_then, option_copied, option_or, unwrap_or}
+use Rattle.std.specs.Option.{option_and_then, option_copied, unwrap_or}
 use Rattle.std.specs.Ordering.{nat_cmp}
 use Rattle.std.specs.Cmp.Lexicographic.{slice_cmp}
 use Rattle.std.specs.BTreeMap.{BTreeMap, get_by}
@@ -11,7 +11,7 @@ use Rattle.just_syntax.specs.declared.ast.AstParameter.{AstParameter}
 use Rattle.just_syntax.specs.declared.ast.Attribute.{Attribute}
 use Rattle.just_syntax.specs.declared.ast.Name.{Name}
 use Rattle.just_syntax.specs.declared.ast.StringLiteral.{StringLiteral}
-use Rattle.just_syntax.specs.Attributes.{is_named}
+use Rattle.just_syntax.specs.Attributes.{is_named, has_key}
 use Rattle.just_lang.specs.declared.recipe.Parameter.{Parameter}
 use Rattle.just_lang.specs.declared.recipe.Pattern.{Pattern}
 use Rattle.just_rules.specs.AttributeSpots.{is_called}
@@ -84,9 +84,9 @@ module _ (text_of : StringLiteral → Option (List ℕ)) where
 
   -- ---- parameters
 
-  -- a long name of its own, else the parameter's where `long` stands alone
+  -- where `long` is there, its text, or the parameter's name where it has none
   abbrev pub long_of : List ℕ → List Argument → Option (List ℕ)
-  long_of name xs = option_or (value_of (codes "long") xs) (if stands_alone (codes "long") xs then Some name else None)
+  long_of name xs = if has_key xs (codes "long") then Some (unwrap_or (value_of (codes "long") xs) name) else None
 
   -- the first character of the text of `short`
   abbrev pub short_of : List Argument → Option ℕ

@@ -1,6 +1,7 @@
 //! The keys of `arg`.
 ghost use Rattle.std.specs.Prelude.{◌≡◌, ℕ, List, IfOk, OnOk};
 ghost use Rattle.std.specs.Option.{option_copied};
+ghost use Rattle.just_syntax.specs.Attributes.{is_key_or, has_key};
 ghost use Rattle.just_shapes.specs.Attributes.{first_of};
 ghost use Rattle.just_shapes.specs.Parameters.{is_alone, stands_alone, is_key, keys_behind, keys_for, or_earlier, found_at, keys_in, AreKeys, value_at, values_of, value_of};
 
@@ -98,6 +99,31 @@ pub fn stands_alone(key: &str, arguments: &[Argument]) -> bool
 {
     'arguments: for argument in arguments {
         if is_alone(key, argument) {
+            return true;
+        }
+    }
+    false
+}
+
+/// Whether the argument has that key, with a value or alone.
+fn is_key_or(key: &str, argument: &Argument) -> bool
+    ensures { result ≡ is_key_or key.now argument.now.key argument.now.value }
+{
+    match &argument.key {
+        Some(name) => name.text.as_str() == key,
+        None => match &argument.value {
+            Expr::Variable(name) => name.text.as_str() == key,
+            _ => false,
+        },
+    }
+}
+
+/// Whether one of some has that key.
+pub fn has_key(key: &str, arguments: &[Argument]) -> bool
+    ensures { result ≡ has_key arguments.now key.now }
+{
+    'arguments: for argument in arguments {
+        if is_key_or(key, argument) {
             return true;
         }
     }

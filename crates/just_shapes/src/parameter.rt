@@ -3,7 +3,7 @@ ghost use Rattle.std.specs.Prelude.{◌≡◌, IfOk, chars, codes, slice_get};
 ghost use Rattle.just_shapes.specs.Parameters.{value_of, values_of, pattern_of, long_of, short_of, number_at, parameter_with, parameters_of};
 
 use super::expansions::expanded_default;
-use super::keys::{keys_of, stands_alone, value_of, values_of};
+use super::keys::{has_key, keys_of, stands_alone, value_of, values_of};
 use super::number::number_of;
 use just_lang::{Parameter, Pattern};
 use just_path::{NoMemory, Seq, Text, TryClone};
@@ -11,7 +11,7 @@ use just_rules::Texts;
 use just_syntax::{Argument, AstParameter, Attribute};
 use std::alloc::Global;
 
-/// The long name: one of its own, else the parameter's where `long` stands alone.
+/// The long name: the text of `long`, or the parameter's name where it has none.
 fn long_of<T: Texts>(
     alloc: Global,
     texts: &T,
@@ -20,15 +20,12 @@ fn long_of<T: Texts>(
 ) -> Result<Option<Text>, NoMemory>
     ensures { IfOk result (λ t. t ≡ long_of (T.text_of texts.now) name.now arguments.now) }
 {
+    if !has_key("long", arguments) {
+        return Ok(None);
+    }
     match value_of(alloc, texts, "long", arguments)? {
         Some(text) => Ok(Some(text)),
-        None => {
-            if stands_alone("long", arguments) {
-                Ok(Some(Text::from_str(alloc, name)?))
-            } else {
-                Ok(None)
-            }
-        }
+        None => Ok(Some(Text::from_str(alloc, name)?)),
     }
 }
 

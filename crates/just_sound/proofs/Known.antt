@@ -1,8 +1,9 @@
 -- Names that no rule calls undefined are known.
 use Rattle.std.proofs.Common.{◌≡◌, ℕ, Bool, true, false, not, ◌||◌, List, [], ◌∷◌, ◌++◌, map, Option, Some, None, refl, sym, ap, ◌∙◌, subst}
-use Rattle.std.specs.Prelude.{All, IfSome, is_some, bytes_eq, option_map}
+use Rattle.std.specs.Prelude.{All, IfSome, is_some, if◌then◌else◌, bytes_eq, codes, option_map}
 use Rattle.std.specs.List.{AllByRecursion, flat_map, list_any, cons_option}
 use Rattle.std.proofs.lemmas.List.Elements.{All-from_recursion}
+use Rattle.just_syntax.specs.declared.ast.Argument.{Argument}
 use Rattle.just_syntax.specs.declared.ast.AstDependency.{AstDependency}
 use Rattle.just_syntax.specs.declared.ast.AstItem.{AstItem}
 use Rattle.just_syntax.specs.declared.ast.AstItem.TheVariants as item
@@ -25,14 +26,14 @@ use Rattle.just_spots.specs.Items.{item_name, is_assignment}
 use Rattle.just_spots.specs.Repeated.{is_among}
 use Rattle.just_spots.specs.Standing.{has_name, named, or_earlier}
 use Rattle.just_names.specs.NamesUsed.{names_of_expr}
-use Rattle.just_names.specs.ScopeSpots.{Scope, has_parameter, with_parameters, unknown_name, unknown_names, unknown_in_default, unknown_in_defaults, unknown_in_dependency, unknown_in_fragment, unknown_in_line}
-use Rattle.just_shapes.specs.Expansions.{expanded_expr, expanded_exprs, expanded_default, expanded_fragments, expanded_lines}
+use Rattle.just_names.specs.ScopeSpots.{Scope, has_parameter, with_parameters, unknown_name, unknown_names, unknown_in_default, unknown_in_defaults, unknown_in_argument, unknown_in_attribute, unknown_in_dependency, unknown_in_fragment, unknown_in_line}
+use Rattle.just_shapes.specs.Expansions.{expanded_expr, expanded_exprs, expanded_arguments, expanded_attribute, expanded_attributes, expanded_default, expanded_fragments, expanded_lines}
 use Rattle.just_shapes.specs.Parameters.{parameter_with, parameter_of, parameters_of}
 use Rattle.just_shapes.specs.Scopes.{assignments_of}
 use Rattle.just_assembly.specs.Links.{Links}
 use Rattle.just_assembly.specs.Recipes.{dependencies_of}
 use Rattle.just_assembly.specs.Standing.{names_of}
-use Rattle.just_sound.specs.Sound.{IsKnown, AreKnown, AreDefaultsKnown, parameter_names, exprs_in_fragment, exprs_in_body}
+use Rattle.just_sound.specs.Sound.{IsKnown, AreKnown, AreDefaultsKnown, parameter_names, exprs_in_cache, exprs_in_fragment, exprs_in_body}
 use Rattle.just_sound.proofs.Lists.{none_left, none_right, all_append}
 use Rattle.just_sound.proofs.Expanded.{names_stay}
 
@@ -176,6 +177,28 @@ module _ (text_of : StringLiteral → Option (List ℕ)) where
         all_append (AreKnown names) (flat_map exprs_in_fragment (expanded_fragments text_of line.fragments)) (exprs_in_body (expanded_lines text_of lines))
         (fragments_known line.fragments (none_left (unknown_in_line scope file line) (flat_map (unknown_in_line scope file) lines) h))
         (body_known lines (none_right (unknown_in_line scope file line) (flat_map (unknown_in_line scope file) lines) h))
+
+    -- the values of the keys of `cache`
+    argument_values_known : (xs : List Argument) → flat_map (unknown_in_argument scope file) xs ≡ [] → AllByRecursion (AreKnown names) (map (λ (x : Argument). x.value) (expanded_arguments text_of xs))
+    argument_values_known [] h = tt
+    argument_values_known (x ∷ xs) h = (
+      known x.value (none_left (unknown_in_argument scope file x) (flat_map (unknown_in_argument scope file) xs) h),
+      argument_values_known xs (none_right (unknown_in_argument scope file x) (flat_map (unknown_in_argument scope file) xs) h),
+    )
+
+    cache_known : (a : Attribute) → unknown_in_attribute scope file a ≡ [] → AllByRecursion (AreKnown names) (exprs_in_cache (expanded_attribute text_of a))
+    cache_known a h = by (bytes_eq a.name.text (codes "cache")) h
+      where
+        by : (b : Bool) → (if b then flat_map (unknown_in_argument scope file) a.arguments else []) ≡ [] → AllByRecursion (AreKnown names) (if b then map (λ (x : Argument). x.value) (expanded_arguments text_of a.arguments) else [])
+        by true k = argument_values_known a.arguments k
+        by false k = tt
+
+    pub attributes_known : (attributes : List Attribute) → flat_map (unknown_in_attribute scope file) attributes ≡ [] → AllByRecursion (AreKnown names) (flat_map exprs_in_cache (expanded_attributes text_of attributes))
+    attributes_known [] h = tt
+    attributes_known (a ∷ attributes) h =
+        all_append (AreKnown names) (exprs_in_cache (expanded_attribute text_of a)) (flat_map exprs_in_cache (expanded_attributes text_of attributes))
+        (cache_known a (none_left (unknown_in_attribute scope file a) (flat_map (unknown_in_attribute scope file) attributes) h))
+        (attributes_known attributes (none_right (unknown_in_attribute scope file a) (flat_map (unknown_in_attribute scope file) attributes) h))
 
   default_known : (names : List (List ℕ)) (scope : Scope) (file : ℕ) → IsScopeOf names scope → (o : Option Expr) → unknown_in_default scope file o ≡ [] → IfSome (expanded_default text_of o) (AreKnown names)
   default_known names scope file is None h = tt

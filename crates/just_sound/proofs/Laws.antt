@@ -1,6 +1,6 @@
 -- The justfile of a layout that breaks no rule is sound.
 use Rattle.std.proofs.Common.{◌≡◌, ℕ, ◌+◌, true, false, List, [], ◌∷◌, ◌++◌, map, Option, refl, sym, ap, ◌∙◌, subst}
-use Rattle.std.specs.Prelude.{All, filter}
+use Rattle.std.specs.Prelude.{All, filter, filter_map}
 use Rattle.std.specs.List.{AllByRecursion, enumerate_from, flat_map}
 use Rattle.std.proofs.lemmas.List.Elements.{All-from_recursion}
 use Rattle.just_syntax.specs.declared.ast.AstItem.{AstItem}
@@ -21,11 +21,12 @@ use Rattle.just_layout.specs.Paths.{Pairs}
 use Rattle.just_spots.specs.Items.{item_name, is_recipe_here, is_assignment}
 use Rattle.just_spots.specs.Repeated.{repeated}
 use Rattle.just_spots.specs.Standing.{Wins}
-use Rattle.just_rules.specs.ParameterSpots.{parameter_name, parameters_of as tree_parameters}
+use Rattle.just_rules.specs.AttributeSpots.{single_name, arg_name, duplicate_attribute_of}
+use Rattle.just_rules.specs.ParameterSpots.{parameter_name, parameters_of as tree_parameters, required_follows_of}
 use Rattle.just_names.specs.ScopeSpots.{Scope, module_scope, with_parameters, unknown_in_attribute, unknown_in_dependency, unknown_in_line, unknown_in_defaults, unknown_behind, unknown_in_item, undefined_in_module}
 use Rattle.just_names.specs.Standing.{standing_recipe_items, standing_variable_items}
 use Rattle.just_names.specs.TargetSpots.{DependencyIn, dependency_in, dependencies_in, miscounted_dependency, option_dependency, all_dependencies}
-use Rattle.just_shapes.specs.Expansions.{expanded_lines}
+use Rattle.just_shapes.specs.Expansions.{expanded_attributes, expanded_lines}
 use Rattle.just_shapes.specs.Parameters.{parameters_of}
 use Rattle.just_shapes.specs.Recipes.{path_within, recipe_of}
 use Rattle.just_shapes.specs.Scopes.{assignments_of}
@@ -37,12 +38,14 @@ use Rattle.just_assembly.specs.Trees.{AreModulesOf, IsJustfileOf}
 use Rattle.just_assembly.proofs.Located.{modules_are}
 use Rattle.just_sound.specs.Linked.{AreLinked}
 use Rattle.just_sound.specs.Rules.{BreaksNoRule}
-use Rattle.just_sound.specs.Sound.{AreDistinct, AreKnown, Fits, IsSoundRecipe, IsSoundModule, IsSound, variable_names, parameter_names, exprs_in_body}
+use Rattle.just_sound.specs.Sound.{AreDistinct, AreKnown, Fits, IsSoundRecipe, IsSoundModule, IsSound, variable_names, parameter_names, exprs_in_cache, exprs_in_body}
+use Rattle.just_sound.proofs.Arguments.{agreed}
 use Rattle.just_sound.proofs.Fits.{LeadsToRecipe, LeadsToModule, all_fit, recipe_aliases, module_aliases}
 use Rattle.just_sound.proofs.Found.{standing_named}
 use Rattle.just_sound.proofs.Items.{of_module, of_standing}
-use Rattle.just_sound.proofs.Known.{AreAssignments, IsScopeOf, AreArgumentsKnown, module_names, assigned, with_all, known, arguments_known, body_known, defaults_known}
+use Rattle.just_sound.proofs.Known.{AreAssignments, IsScopeOf, AreArgumentsKnown, module_names, assigned, with_all, known, arguments_known, attributes_known, body_known, defaults_known}
 use Rattle.just_sound.proofs.Lists.{none_left, none_right, none_each, all_append, all_left, all_right, all_both, all_filter, all_unmapped, flat_back, passes}
+use Rattle.just_sound.proofs.Order.{in_order}
 use Rattle.just_sound.proofs.Parameters.{distinct, parameters_distinct}
 use Rattle.just_sound.proofs.Paths.{AreApart, apart as apart_of}
 
@@ -50,6 +53,14 @@ module _ (text_of : StringLiteral → Option (List ℕ)) (links : Links) (wins :
     (js : List Justfile) (are : AreModulesOf text_of links wins layout (enumerate_from 0 layout.modules) js) where
   abbrev standing_of : Module → List (ℕ × AstItem)
   standing_of m = standing_recipe_items wins layout.files m
+
+  -- an item has no parameter twice, and no attribute
+  abbrev IsOnce : ℕ × AstItem → Type 0
+  IsOnce x = (repeated (map (parameter_name x.0) (tree_parameters x.1)) ≡ []) × (duplicate_attribute_of text_of x.0 x.1 ≡ [])
+
+  -- nor a parameter that stands behind a default and may not
+  abbrev IsOrderly : ℕ × AstItem → Type 0
+  IsOrderly x = IsOnce x × (required_follows_of text_of x.0 x.1 ≡ [])
 
   abbrev variables_of : Module → List (ℕ × AstItem)
   variables_of m = standing_variable_items wins layout.files m
@@ -98,9 +109,9 @@ module _ (text_of : StringLiteral → Option (List ℕ)) (links : Links) (wins :
         AllByRecursion (λ (d : DependencyIn). miscounted_dependency text_of wins layout d ≡ []) (dependencies_in number x)
         × AllByRecursion (λ (d : DependencyIn). option_dependency text_of wins layout d ≡ []) (dependencies_in number x)
 
-    -- and it has no parameter twice
+    -- and it has no parameter twice, nor one out of order
     abbrev IsProper : ℕ × AstItem → Type 0
-    IsProper x = (repeated (map (parameter_name x.0) (tree_parameters x.1)) ≡ []) × IsFitting x
+    IsProper x = IsOrderly x × IsFitting x
 
     -- and knows the names that it uses
     abbrev IsWell : ℕ × AstItem → Type 0
@@ -126,13 +137,19 @@ module _ (text_of : StringLiteral → Option (List ℕ)) (links : Links) (wins :
         let options = all_unmapped (λ (d : DependencyIn). option_dependency text_of wins layout d ≡ []) (dependency_in number file) (r.priors ++ r.subsequents) well.1.1.1 in
         record {
           path = ap (λ (p : Modulepath). path_within p r.name.text) (sym is.module_path);
-          parameters = parameters_distinct text_of r.attributes file r.parameters well.1.0;
+          parameters = parameters_distinct text_of r.attributes file r.parameters well.1.0.0.0;
+          order = in_order text_of r.attributes file false r.parameters
+              (agreed text_of file r.attributes (none_right (repeated (filter_map (single_name file) r.attributes)) (repeated (filter_map (arg_name text_of file) r.attributes)) well.1.0.0.1) r.parameters) well.1.0.1;
           defaults = defaults_known text_of r.attributes file scope names [] r.parameters scope_is (none_left (unknown_in_defaults scope file [] r.parameters) (unknown_behind inner file r) well.0);
           arguments =
               All-from_recursion (AreArgumentsKnown text_of all inner file inner_is) (priors ++ subsequents)
               (all_append (AreArgumentsKnown text_of all inner file inner_is) priors subsequents
               (arguments_known text_of all inner file inner_is links number r.priors (none_left (flat_map (unknown_in_dependency inner file) r.priors) (flat_map (unknown_in_dependency inner file) r.subsequents ++ flat_map (unknown_in_line inner file) r.body) further))
               (arguments_known text_of all inner file inner_is links number r.subsequents (none_left (flat_map (unknown_in_dependency inner file) r.subsequents) (flat_map (unknown_in_line inner file) r.body) last)));
+          cache =
+              All-from_recursion (AreKnown all) (caches_of r)
+              (attributes_known text_of all inner file inner_is r.attributes
+              (none_left (flat_map (unknown_in_attribute inner file) r.attributes) (flat_map (unknown_in_dependency inner file) r.priors ++ (flat_map (unknown_in_dependency inner file) r.subsequents ++ flat_map (unknown_in_line inner file) r.body)) behind));
           body =
               All-from_recursion (AreKnown all) (parts_of r) (body_known text_of all inner file inner_is r.body (none_right (flat_map (unknown_in_dependency inner file) r.subsequents) (flat_map (unknown_in_line inner file) r.body) last));
           dependencies =
@@ -142,6 +159,9 @@ module _ (text_of : StringLiteral → Option (List ℕ)) (links : Links) (wins :
               (all_fit text_of links wins layout linked apart js are number file r.subsequents (all_right (λ d. miscounted_dependency text_of wins layout (dependency_in number file d) ≡ []) r.priors r.subsequents counts) (all_right (λ d. option_dependency text_of wins layout (dependency_in number file d) ≡ []) r.priors r.subsequents options)));
         }
       where
+        caches_of : AstRecipe → List Expr
+        caches_of s = flat_map exprs_in_cache (expanded_attributes text_of s.attributes)
+
         parts_of : AstRecipe → List Expr
         parts_of s = exprs_in_body (expanded_lines text_of s.body)
 
@@ -206,10 +226,7 @@ module _ (text_of : StringLiteral → Option (List ℕ)) (links : Links) (wins :
   abbrev dependencies_at : ℕ × Module → List DependencyIn
   dependencies_at x = flat_map (dependencies_in x.0) (standing_recipe_items wins layout.files x.1)
 
-  abbrev IsOnce : ℕ × AstItem → Type 0
-  IsOnce x = repeated (map (parameter_name x.0) (tree_parameters x.1)) ≡ []
-
-  all_sound : (n : ℕ) (ms : List Module) (ks : List Justfile) → AreModulesOf text_of links wins layout (enumerate_from n ms) ks → AllByRecursion IsOnce (items_of_files layout.files)
+  all_sound : (n : ℕ) (ms : List Module) (ks : List Justfile) → AreModulesOf text_of links wins layout (enumerate_from n ms) ks → AllByRecursion IsOrderly (items_of_files layout.files)
       → AllByRecursion (λ (m : Module). undefined_in_module wins layout.files m ≡ []) ms → AllByRecursion (λ (x : ℕ × Module). AllByRecursion NoCount (dependencies_at x)) (enumerate_from n ms)
       → AllByRecursion (λ (x : ℕ × Module). AllByRecursion NoOption (dependencies_at x)) (enumerate_from n ms) → AllByRecursion (IsSoundModule js) ks
   all_sound n [] [] h once undefined counts options = tt
@@ -221,12 +238,12 @@ module _ (text_of : StringLiteral → Option (List ℕ)) (links : Links) (wins :
       (none_left (flat_map (unknown_in_item (module_scope wins layout.files m)) (variables_of m)) (flat_map (unknown_in_item (module_scope wins layout.files m)) here) undefined.0) in
       let recipes = none_each (unknown_in_item (module_scope wins layout.files m)) here
       (none_right (flat_map (unknown_in_item (module_scope wins layout.files m)) (variables_of m)) (flat_map (unknown_in_item (module_scope wins layout.files m)) here) undefined.0) in
-      let own = of_standing IsOnce wins (filter is_recipe_here (items_of_module layout.files m)) (all_filter IsOnce is_recipe_here (items_of_module layout.files m) (of_module IsOnce layout.files m once)) in
+      let own = of_standing IsOrderly wins (filter is_recipe_here (items_of_module layout.files m)) (all_filter IsOrderly is_recipe_here (items_of_module layout.files m) (of_module IsOrderly layout.files m once)) in
       let counted = flat_back NoCount (dependencies_in n) here counts.0 in
       let given = flat_back NoOption (dependencies_in n) here options.0 in
       let well =
       all_both (λ (x : ℕ × AstItem). unknown_in_item (module_scope wins layout.files m) x ≡ []) (IsProper n m k h.0.0) here recipes
-      (all_both IsOnce (IsFitting n m k h.0.0) here own
+      (all_both IsOrderly (IsFitting n m k h.0.0) here own
       (all_both (λ (x : ℕ × AstItem). AllByRecursion NoCount (dependencies_in n x)) (λ (x : ℕ × AstItem). AllByRecursion NoOption (dependencies_in n x)) here counted given)) in
       (module_sound n m k h.0.0 variables well, all_sound (n + 1) ms ks h.1 once undefined.1 counts.1 options.1)
 
@@ -234,7 +251,11 @@ module _ (text_of : StringLiteral → Option (List ℕ)) (links : Links) (wins :
   modules_sound none =
       All-from_recursion (IsSoundModule js) js
       (all_sound 0 layout.modules js are
+      (all_both IsOnce (λ (x : ℕ × AstItem). required_follows_of text_of x.0 x.1 ≡ []) (items_of_files layout.files)
+      (all_both (λ (x : ℕ × AstItem). repeated (map (parameter_name x.0) (tree_parameters x.1)) ≡ []) (λ (x : ℕ × AstItem). duplicate_attribute_of text_of x.0 x.1 ≡ []) (items_of_files layout.files)
       (none_each (λ (x : ℕ × AstItem). repeated (map (parameter_name x.0) (tree_parameters x.1))) (items_of_files layout.files) none.parameters)
+      (none_each (λ (x : ℕ × AstItem). duplicate_attribute_of text_of x.0 x.1) (items_of_files layout.files) none.attributes))
+      (none_each (λ (x : ℕ × AstItem). required_follows_of text_of x.0 x.1) (items_of_files layout.files) none.order))
       (none_each (undefined_in_module wins layout.files) layout.modules none.variables)
       (flat_back NoCount dependencies_at (enumerate_from 0 layout.modules) (none_each (miscounted_dependency text_of wins layout) (all_dependencies wins layout) none.counts))
       (flat_back NoOption dependencies_at (enumerate_from 0 layout.modules) (none_each (option_dependency text_of wins layout) (all_dependencies wins layout) none.options)))

@@ -8,6 +8,7 @@ pub mod Found
 pub mod Options
 pub mod Parameters
 pub mod Order
+pub mod Arguments
 pub mod Items
 pub mod Fits
 pub mod Laws

@@ -10,7 +10,7 @@ use Rattle.just_syntax.specs.declared.ast.Attribute.{Attribute}
 use Rattle.just_syntax.specs.declared.ast.Expr.{Expr}
 use Rattle.just_syntax.specs.declared.ast.Name.{Name}
 use Rattle.just_syntax.specs.declared.ast.StringLiteral.{StringLiteral}
-use Rattle.just_syntax.specs.Attributes.{has_key, is_key_or, is_named}
+use Rattle.just_syntax.specs.Attributes.{has_key}
 use Rattle.just_lang.specs.declared.recipe.Parameter.{Parameter}
 use Rattle.just_lang.specs.declared.recipe.Recipe.{Recipe}
 use Rattle.just_rules.specs.AttributeSpots.{is_called}
@@ -20,62 +20,58 @@ use Rattle.just_rules.specs.ParameterSpots as rule
 use Rattle.just_names.specs.TargetSpots.{is_variadic, has_option, positional, takes_count}
 use Rattle.just_shapes.specs.Attributes.{first_of}
 use Rattle.just_shapes.specs.Expansions.{expanded_expr}
-use Rattle.just_shapes.specs.Parameters.{is_key, stands_alone, values_of, value_of, keys_behind, keys_for, last_keys, keys_of, or_earlier, long_of, short_of, first_character, parameter_with, parameter_of, parameters_of}
+use Rattle.just_shapes.specs.Parameters.{is_key, value_at, values_of, value_of, keys_behind, keys_for, last_keys, keys_of, or_earlier, long_of, short_of, first_character, parameter_with, parameter_of, parameters_of}
 use Rattle.just_sound.specs.Sound.{is_option, wants_value, Takes}
 use Rattle.just_sound.proofs.Lists.{left_false, right_false}
-
--- ---- a key that isn't there
-
-module _ (text_of : StringLiteral → Option (List ℕ)) (key : List ℕ) where
-  no_value : (k : Option Name) (value : Expr) → is_key_or key k value ≡ false → (if is_key key k then const_text text_of value else None) ≡ None
-  no_value None value h = refl
-  no_value (Some n) value h = ap (λ (b : Bool). if b then const_text text_of value else None) h
-
-  not_alone : (k : Option Name) (value : Expr) → is_key_or key k value ≡ false → (not (is_some k) && is_named key value) ≡ false
-  not_alone None value h = h
-  not_alone (Some n) value h = refl
-
-  no_values : (xs : List Argument) → has_key xs key ≡ false → values_of text_of key xs ≡ []
-  no_values [] h = refl
-  no_values (x ∷ xs) h =
-      ap (λ (o : Option (List ℕ)). cons_option o (values_of text_of key xs)) (no_value x.key x.value (left_false (is_key_or key x.key x.value) (has_key xs key) h))
-      ∙ no_values xs (right_false (is_key_or key x.key x.value) (has_key xs key) h)
-
-  none_alone : (xs : List Argument) → has_key xs key ≡ false → stands_alone key xs ≡ false
-  none_alone [] h = refl
-  none_alone (x ∷ xs) h =
-      ap (λ (b : Bool). b || stands_alone key xs) (not_alone x.key x.value (left_false (is_key_or key x.key x.value) (has_key xs key) h))
-      ∙ none_alone xs (right_false (is_key_or key x.key x.value) (has_key xs key) h)
-
-  no_text : (xs : List Argument) → has_key xs key ≡ false → value_of text_of key xs ≡ None
-  no_text xs h = ap first_of (no_values xs h)
 
 -- ---- parameters that aren't options
 
 module _ (text_of : StringLiteral → Option (List ℕ)) where
-  -- neither `long` nor `short` is among the keys
+  -- the keys give no name: `long` isn't among them, and no `short` that isn't empty
   abbrev AreUnnamed : List Argument → Type 0
-  AreUnnamed keys = (has_key keys (codes "long") || has_key keys (codes "short")) ≡ false
+  AreUnnamed keys = tree.names_option text_of keys ≡ false
 
   abbrev AreUnnamedIn : Option (List Argument) → Type 0
   AreUnnamedIn None = Unit {0}
   AreUnnamedIn (Some keys) = AreUnnamed keys
 
-  no_long : (name : List ℕ) (keys : List Argument) → AreUnnamed keys → long_of text_of name keys ≡ None
-  no_long name keys h =
-      let no : has_key keys (codes "long") ≡ false = left_false (has_key keys (codes "long")) (has_key keys (codes "short")) h in
-      ap (λ (o : Option (List ℕ)). option_or o (if stands_alone (codes "long") keys then Some name else None)) (no_text text_of (codes "long") keys no)
-      ∙ ap (λ (b : Bool). if b then Some name else None) (none_alone text_of (codes "long") keys no)
+  pub long_is : (name : List ℕ) (keys : List Argument) → is_some (long_of text_of name keys) ≡ has_key keys (codes "long")
+  long_is name keys = by (has_key keys (codes "long"))
+    where
+      by : (b : Bool) → is_some (if b then Some (unwrap_or (value_of text_of (codes "long") keys) name) else None) ≡ b
+      by true = refl
+      by false = refl
 
-  no_short : (keys : List Argument) → AreUnnamed keys → short_of text_of keys ≡ None
-  no_short keys h = ap (option_and_then first_character) (no_text text_of (codes "short") keys (right_false (has_key keys (codes "long")) (has_key keys (codes "short")) h))
+  same_text : (key : List ℕ) (k : Option Name) (value : Expr) → (if tree.is_named_key key k then const_text text_of value else None) ≡ (if is_key key k then const_text text_of value else None)
+  same_text key None value = refl
+  same_text key (Some n) value = refl
+
+  text_step : (s t first : Option (List ℕ)) (texts : List (List ℕ)) → s ≡ t → first ≡ first_of texts → option_or s first ≡ first_of (cons_option t texts)
+  text_step s None first texts e h = ap (λ (o : Option (List ℕ)). option_or o first) e ∙ h
+  text_step s (Some t) first texts e h = ap (λ (o : Option (List ℕ)). option_or o first) e
+
+  -- the first text of a key, and its texts
+  first_value : (key : List ℕ) (xs : List Argument) → tree.first_text text_of key xs ≡ value_of text_of key xs
+  first_value key [] = refl
+  first_value key (x ∷ xs) = text_step (tree.text_at text_of key x) (value_at text_of key x) (tree.first_text text_of key xs) (values_of text_of key xs) (same_text key x.key x.value) (first_value key xs)
+
+  pub short_is : (keys : List Argument) → is_some (short_of text_of keys) ≡ tree.has_character (tree.first_text text_of (codes "short") keys)
+  short_is keys = by (value_of text_of (codes "short") keys) ∙ sym (ap tree.has_character (first_value (codes "short") keys))
+    where
+      by : (o : Option (List ℕ)) → is_some (option_and_then first_character o) ≡ tree.has_character o
+      by None = refl
+      by (Some t) = refl
+
+  -- a parameter's names as an option are there exactly where its keys give it one
+  pub named_is : (name : List ℕ) (keys : List Argument) → (is_some (long_of text_of name keys) || is_some (short_of text_of keys)) ≡ tree.names_option text_of keys
+  named_is name keys = ap (λ (b : Bool). b || is_some (short_of text_of keys)) (long_is name keys) ∙ ap (λ (b : Bool). has_key keys (codes "long") || b) (short_is keys)
 
   unnamed_behind : (name : List ℕ) (xs : List Argument) → tree.makes_option text_of name xs ≡ false → AreUnnamedIn (keys_behind text_of name xs)
   unnamed_behind name [] h = tt
   unnamed_behind name (x ∷ keys) h = by (tree.is_text name (const_text text_of x.value)) h
     where
-      by : (b : Bool) → ((has_key keys (codes "long") || has_key keys (codes "short")) && b) ≡ false → AreUnnamedIn (if b then Some keys else None)
-      by true k = always (has_key keys (codes "long") || has_key keys (codes "short")) k
+      by : (b : Bool) → (tree.names_option text_of keys && b) ≡ false → AreUnnamedIn (if b then Some keys else None)
+      by true k = always (tree.names_option text_of keys) k
         where
           always : (c : Bool) → (c && true) ≡ false → c ≡ false
           always true l = l
@@ -104,12 +100,12 @@ module _ (text_of : StringLiteral → Option (List ℕ)) where
   unnamed_keys None h = refl
   unnamed_keys (Some keys) h = h
 
-  not_option : (attributes : List Attribute) (p : AstParameter) → tree.is_option text_of attributes p ≡ false → is_option (parameter_of text_of attributes p) ≡ false
+  pub option_is : (attributes : List Attribute) (p : AstParameter) → is_option (parameter_of text_of attributes p) ≡ tree.names_option text_of (keys_of text_of attributes p.name.text)
   unfolding parameter_with
-  not_option attributes p h =
-      let keys = unnamed_keys (last_keys text_of attributes p.name.text) (unnamed_last p.name.text attributes h) in
-      ap (λ (o : Option (List ℕ)). is_some o || is_some (short_of text_of (keys_of text_of attributes p.name.text))) (no_long p.name.text (keys_of text_of attributes p.name.text) keys)
-      ∙ ap (λ (o : Option ℕ). is_some o) (no_short (keys_of text_of attributes p.name.text) keys)
+  option_is attributes p = named_is p.name.text (keys_of text_of attributes p.name.text)
+
+  not_option : (attributes : List Attribute) (p : AstParameter) → tree.is_option text_of attributes p ≡ false → is_option (parameter_of text_of attributes p) ≡ false
+  not_option attributes p h = option_is attributes p ∙ unnamed_keys (last_keys text_of attributes p.name.text) (unnamed_last p.name.text attributes h)
 
   no_options : (attributes : List Attribute) (ps : List AstParameter) → list_any (tree.is_option text_of attributes) ps ≡ false → list_any is_option (parameters_of text_of attributes ps) ≡ false
   no_options attributes [] h = refl

@@ -9,7 +9,7 @@ use Rattle.just_layout.specs.Paths.{Pairs}
 use Rattle.just_spots.specs.declared.spot.Spot.{Spot}
 use Rattle.just_spots.specs.Standing.{Wins}
 use Rattle.just_broken.specs.Meant.{meant}
-use Rattle.just_broken.specs.Rules.{duplicate_parameter_spots}
+use Rattle.just_broken.specs.Rules.{duplicate_attribute_spots, duplicate_parameter_spots, required_parameter_spots}
 use Rattle.just_cycles.specs.Cycles.{IsFirstSpot}
 use Rattle.just_names.specs.Lookup.{Target, Found_recipe, Found_module, Found_absent, Found_nothing, dependency_target, alias_target}
 use Rattle.just_names.specs.ScopeSpots.{undefined_variable_spots}
@@ -20,7 +20,7 @@ use Rattle.just_assemble.proofs.Unbroken.{unbroken}
 use Rattle.just_project.specs.Linked as project
 use Rattle.just_sound.specs.Linked.{path_of_target, alias_of_target, recipe_or_nothing, module_or_nothing, AreLinked}
 use Rattle.just_sound.specs.Projects.{ProjectsAreSound}
-use Rattle.just_sound.specs.Rules.{duplicate_parameters, BreaksNoRule}
+use Rattle.just_sound.specs.Rules.{duplicate_attributes, duplicate_parameters, misplaced_parameters, BreaksNoRule}
 use Rattle.just_sound.proofs.Laws.{sound_of_sources}
 
 module _ (layout : Layout) where
@@ -68,6 +68,14 @@ module _ (environ : Pairs) (wins : Wins) (layout : Layout) (none : BreaksNone en
   unfolding duplicate_parameter_spots
   parameters_once = none_at_all (duplicate_parameters layout) (unbroken environ wins layout none 13 (omega arith))
 
+  attributes_once : duplicate_attributes (meant environ) layout ≡ []
+  unfolding duplicate_attribute_spots
+  attributes_once = none_at_all (duplicate_attributes (meant environ) layout) (unbroken environ wins layout none 8 (omega arith))
+
+  in_order : misplaced_parameters (meant environ) layout ≡ []
+  unfolding required_parameter_spots
+  in_order = none_at_all (misplaced_parameters (meant environ) layout) (unbroken environ wins layout none 14 (omega arith))
+
   names_known : undefined_variable_spots wins layout ≡ []
   names_known = none_at_all (undefined_variable_spots wins layout) (unbroken environ wins layout none 15 (omega arith))
 
@@ -78,7 +86,7 @@ module _ (environ : Pairs) (wins : Wins) (layout : Layout) (none : BreaksNone en
   no_options = none_at_all (dependency_is_option_spots (meant environ) wins layout) (unbroken environ wins layout none 19 (omega arith))
 
   pub breaks_none : BreaksNoRule (meant environ) wins layout
-  breaks_none = record { parameters = parameters_once; variables = names_known; counts = counts_fit; options = no_options }
+  breaks_none = record { attributes = attributes_once; parameters = parameters_once; order = in_order; variables = names_known; counts = counts_fit; options = no_options }
 
 pub projects_are_sound : ProjectsAreSound
 projects_are_sound sources environ j made =

@@ -1,7 +1,9 @@
--- A sound justfile: its names are known, and its dependencies and aliases lead to what there is and fit.
+-- A sound justfile: its names are known, its parameters are in order, and its dependencies and aliases lead to what there is and fit.
 -- That no recipe and no variable leads to itself is said by `AreEnding` of recipes and of variables.
-use Rattle.std.specs.Prelude.{◌≡◌, ◌≢◌, ◌⊎◌, ℕ, ◌≤◌, ◌||◌, not, Bool, true, false, is_some, List, [], ◌∷◌, ◌++◌, map, filter, length, Some, All, Contains, IfSome}
+use Rattle.std.specs.Prelude.{◌≡◌, ◌≢◌, ◌⊎◌, ℕ, ◌≤◌, ◌||◌, not, Bool, true, false, is_some, List, [], ◌∷◌, ◌++◌, map, filter, length, Some, All, Contains, IfSome, if◌then◌else◌, bytes_eq, codes}
 use Rattle.std.specs.List.{flat_map, list_any}
+use Rattle.just_syntax.specs.declared.ast.Argument.{Argument}
+use Rattle.just_syntax.specs.declared.ast.Attribute.{Attribute}
 use Rattle.just_syntax.specs.declared.ast.Expr.{Expr}
 use Rattle.just_syntax.specs.declared.ast.Fragment.{Fragment}
 use Rattle.just_syntax.specs.declared.ast.Fragment.TheVariants as fragment
@@ -53,6 +55,10 @@ exprs_in_fragment (fragment.Value x) = x ∷ []
 abbrev pub exprs_in_body : List Line → List Expr
 exprs_in_body lines = flat_map (λ (line : Line). flat_map exprs_in_fragment line.fragments) lines
 
+-- the values of the keys of `cache`
+abbrev pub exprs_in_cache : Attribute → List Expr
+exprs_in_cache a = if bytes_eq a.name.text (codes "cache") then map (λ (x : Argument). x.value) a.arguments else []
+
 -- ---- parameters
 
 -- a parameter that is given by a switch
@@ -88,8 +94,10 @@ Fits modules d = (l : Located) × (recipe_at modules d.path ≡ Some l) × Takes
 pub record IsSoundRecipe (modules : List Justfile) (j : Justfile) (r : Recipe) : Type 0 where
   pub path : r.path ≡ path_within (path_of j) r.name
   pub parameters : AreDistinct (parameter_names r.parameters)
+  pub order : AreInOrder r.parameters
   pub defaults : AreDefaultsKnown (variable_names j) r.parameters
   pub arguments : All (λ (d : Dependency). All (AreKnown (parameter_names r.parameters ++ variable_names j)) d.arguments) (dependencies_of r)
+  pub cache : All (AreKnown (parameter_names r.parameters ++ variable_names j)) (flat_map exprs_in_cache r.attributes)
   pub body : All (AreKnown (parameter_names r.parameters ++ variable_names j)) (exprs_in_body r.body)
   pub dependencies : All (Fits modules) (dependencies_of r)
 
