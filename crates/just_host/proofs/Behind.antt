@@ -15,7 +15,7 @@ use Rattle.just_path.specs.declared.meta.Item.{Item}
 use Rattle.just_path.specs.declared.meta.Kind.{Kind}
 use Rattle.just_outside.specs.declared.tree.Thing.{Thing}
 use Rattle.just_outside.specs.Sights.{Tree, sight_of, seen}
-use Rattle.just_host.specs.Items.{kind_behind, AreItemsBehind}
+use Rattle.just_system.specs.Items.{kind_behind, AreItemsBehind}
 use Rattle.just_outside.proofs.Laws.{sight_seen}
 use Rattle.just_host.proofs.Things.{find_hit, find_pass}
 

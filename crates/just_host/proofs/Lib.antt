@@ -1,6 +1,9 @@
 -- Proofs of the hosts, by subject.
 pub mod Things
 pub mod Lookups
-pub mod Places
 pub mod Behind
-pub mod Limits
+pub mod Positions
+pub mod Worlds
+pub mod Below
+pub mod Checks
+pub mod Endings

@@ -1,9 +1,11 @@
 -- What a host in memory tells, and which of its calls fail.
-use Rattle.std.specs.Prelude.{ℕ, ◌≡◌, ◌==◌, ◌++◌, Bool, true, false, List, Option, Some, None, Result, Ok, Err}
+use Rattle.std.specs.Prelude.{ℕ, ◌≡◌, ◌==◌, ◌++◌, Bool, true, false, List, [], ◌∷◌, drop, Option, Some, None, Result, Ok, Err}
 use Rattle.std.specs.List.{list_any}
+use Rattle.just_path.specs.declared.host.Miss.{Miss}
 use Rattle.just_path.specs.declared.host.PathFault.{PathFault}
 use Rattle.just_path.specs.declared.host.PathFault.TheVariants as path_fault
 use Rattle.just_path.specs.declared.host.PathNote.{PathNote}
+use Rattle.just_outside.specs.declared.entry.Call.{Call}
 use Rattle.just_outside.specs.declared.entry.Entry.{Entry}
 use Rattle.just_outside.specs.declared.entry.HostFault.{HostFault}
 use Rattle.just_outside.specs.declared.entry.HostFault.TheVariants as fault
@@ -36,10 +38,35 @@ pub record Went (a b : MemHost) (n : PathNote) : Type 0 where
 pub record OnlyNotes (a b : MemHost) (count : ℕ) : Type 0 where
   pub world : world_of b ≡ world_of a
   pub endings : b.endings.items ≡ a.endings.items
-  pub answers : b.answers ≡ a.answers
+  pub answers : b.answers.items ≡ a.answers.items
   pub signals : b.signals ≡ a.signals
   pub planned : b.faults.numbers ≡ a.faults.numbers
   pub calls : b.faults.calls ≡ count
+
+-- a call leaves all but the record, what is spare and the files, and the count of calls is this
+pub record OnlyFiles (a b : MemHost) (count : ℕ) : Type 0 where
+  pub folder : b.folder.path ≡ a.folder.path
+  pub environ : b.environ.pairs ≡ a.environ.pairs
+  pub input : b.input ≡ a.input
+  pub endings : b.endings.items ≡ a.endings.items
+  pub answers : b.answers.items ≡ a.answers.items
+  pub signals : b.signals ≡ a.signals
+  pub planned : b.faults.numbers ≡ a.faults.numbers
+  pub calls : b.faults.calls ≡ count
+
+-- the next answer, empty where there is none
+abbrev pub answer_in : List (List ℕ) → List ℕ
+answer_in [] = []
+answer_in (t ∷ ts) = t
+
+-- a prompt was answered, and its answer is used; one call was counted
+pub record Answers (a b : MemHost) : Type 0 where
+  pub world : world_of b ≡ world_of a
+  pub endings : b.endings.items ≡ a.endings.items
+  pub answers : b.answers.items ≡ drop 1 a.answers.items
+  pub signals : b.signals ≡ a.signals
+  pub planned : b.faults.numbers ≡ a.faults.numbers
+  pub calls : b.faults.calls ≡ next_call a.faults.calls
 
 -- a child is started: its effects happen, and its ending is used; two calls were counted, its own and that of its end
 pub record Plays (a b : MemHost) (word : List ℕ) : Type 0 where
@@ -48,10 +75,22 @@ pub record Plays (a b : MemHost) (word : List ℕ) : Type 0 where
   pub folder : b.folder.path ≡ a.folder.path
   pub environ : b.environ.pairs ≡ a.environ.pairs
   pub input : b.input ≡ a.input
-  pub answers : b.answers ≡ a.answers
+  pub answers : b.answers.items ≡ a.answers.items
   pub signals : b.signals ≡ a.signals
   pub planned : b.faults.numbers ≡ a.faults.numbers
   pub calls : b.faults.calls ≡ next_call (next_call a.faults.calls)
+
+-- a child is run to its end: its effects happen, and its ending is used; one call was counted
+pub record Runs (a b : MemHost) (word : List ℕ) : Type 0 where
+  pub effects : files_of b.tree ≡ tree_after a.folder.path (files_of a.tree) (ending_of word a.endings.items)
+  pub endings : b.endings.items ≡ others word a.endings.items
+  pub folder : b.folder.path ≡ a.folder.path
+  pub environ : b.environ.pairs ≡ a.environ.pairs
+  pub input : b.input ≡ a.input
+  pub answers : b.answers.items ≡ a.answers.items
+  pub signals : b.signals ≡ a.signals
+  pub planned : b.faults.numbers ≡ a.faults.numbers
+  pub calls : b.faults.calls ≡ next_call a.faults.calls
 
 -- whether the next call that can fail does
 abbrev pub is_struck : Faults → Bool
@@ -90,3 +129,19 @@ PathFailsIf struck (Err e) = IsStruckPathFault struck e
 abbrev pub IsFaultOf : TreeFault → PathFault → Type 0
 IsFaultOf (tree_fault.Missed m) fault = IsMissOf m fault
 IsFaultOf tree_fault.NoMemory fault = fault ≡ path_fault.NoMemory
+
+abbrev pub IsHostMissOf : Miss → HostFault → Type 0
+IsHostMissOf m (fault.Missed n) = n ≡ m
+IsHostMissOf m (fault.Failed c) = ⊥
+IsHostMissOf m fault.NoMemory = Unit {0}
+
+-- the same of a call of a host
+abbrev pub IsHostFaultOf : TreeFault → HostFault → Type 0
+IsHostFaultOf (tree_fault.Missed m) refusal = IsHostMissOf m refusal
+IsHostFaultOf tree_fault.NoMemory refusal = refusal ≡ fault.NoMemory
+
+-- the failure of that call, or want of memory
+abbrev pub IsFailureOf : Call → HostFault → Type 0
+IsFailureOf c (fault.Missed m) = ⊥
+IsFailureOf c (fault.Failed d) = d ≡ c
+IsFailureOf c fault.NoMemory = Unit {0}

@@ -38,6 +38,11 @@ abbrev pub status_of : Option Ending → Status
 status_of (Some e) = e.status
 status_of None = Code (pos 0)
 
+-- what the child prints
+abbrev pub output_of : Option Ending → List ℕ
+output_of (Some e) = e.output
+output_of None = []
+
 abbrev pub changed : Tree → List ℕ → Option Thing → Tree
 changed tree place (Some thing) = maps.insert tree place thing
 changed tree place None = maps.remove tree place

@@ -104,7 +104,7 @@ impl Tree {
 }
 
 /// The place of the first ending of that word.
-fn ending_at(endings: &[Ending], word: &str) -> Option<usize>
+pub(crate) fn ending_at(endings: &[Ending], word: &str) -> Option<usize>
     ensures { result ≡ position (λ e. bytes_eq e.word word.now) endings.now }
 {
     endings
@@ -129,7 +129,7 @@ fn stands_at(entry: &(Place, Thing), place: &str) -> bool
 }
 
 /// Puts a thing at a place, where there is memory for it.
-fn put(things: &mut Vec<(Place, Thing)>, place: Place, thing: Thing)
+pub(crate) fn put(things: &mut Vec<(Place, Thing)>, place: Place, thing: Thing)
     requires { vec_len things.old < vec_capacity things.old }
     ensures tree { files_in things.new.items ≡ map.insert (files_in things.old.items) place.path thing }
     ensures bound { vec_len things.new ≤ vec_len things.old + 1 }

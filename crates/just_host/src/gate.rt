@@ -7,7 +7,7 @@ ghost use Rattle.just_outside.proofs.Laws.{counts_noted};
 ghost use Rattle.just_host.specs.Mem.{record_of, world_of, Went};
 
 use super::memory::{MemChild, MemDone, MemHost};
-use just_outside::{Entry, Host, HostFault, Spec, Status, Stream};
+use just_outside::{Entry, Host, HostFault, Look, Spec, Status, Stream};
 use just_path::{Environ, Item, Meta, NoMemory, PathFault, PathHost, Utf8Path, Utf8PathBuf};
 use std::sync::Arc;
 use std::sync::atomic::{AtomicBool, Ordering};
@@ -115,8 +115,52 @@ impl Host for GateHost {
         self.mem.read(path)
     }
 
+    fn input(&mut self) -> Result<String, HostFault> {
+        self.mem.input()
+    }
+
+    fn ask(&mut self, prompt: &str) -> Result<String, HostFault> {
+        self.mem.ask(prompt)
+    }
+
     fn environ(&mut self) -> Result<Environ, HostFault> {
         self.mem.environ()
+    }
+
+    fn write(&mut self, path: Utf8Path<'_>, bytes: &[u8]) -> Result<(), HostFault> {
+        self.mem.write(path, bytes)
+    }
+
+    fn temp_folder(
+        &mut self,
+        parent: Option<Utf8Path<'_>>,
+        prefix: &str,
+    ) -> Result<Utf8PathBuf, HostFault> {
+        self.mem.temp_folder(parent, prefix)
+    }
+
+    fn remove(&mut self, path: Utf8Path<'_>) -> Result<(), HostFault> {
+        self.mem.remove(path)
+    }
+
+    fn sum(&mut self, path: Utf8Path<'_>) -> Result<[u8; 32], HostFault> {
+        self.mem.sum(path)
+    }
+
+    fn probe(&mut self, entry: Utf8Path<'_>, outputs: &[Utf8PathBuf]) -> Result<Look, HostFault> {
+        self.mem.probe(entry, outputs)
+    }
+
+    fn check(&mut self, outputs: &[Utf8PathBuf]) -> Result<Option<u32>, HostFault> {
+        self.mem.check(outputs)
+    }
+
+    fn save(&mut self, entry: Utf8Path<'_>, bytes: &[u8]) -> Result<(), HostFault> {
+        self.mem.save(entry, bytes)
+    }
+
+    fn capture(&mut self, spec: &Spec, input: &[u8]) -> Result<(Status, Vec<u8>), HostFault> {
+        self.mem.capture(spec, input)
     }
 
     fn print(&mut self, stream: Stream, text: &str) -> Result<(), HostFault> {

@@ -1,5 +1,5 @@
 //! A host in memory, which does what its plot says.
-ghost use Rattle.std.specs.Prelude.{◌≡◌, ◌+◌, ◌<◌, ◌≤◌, ℕ, List, [], ◌∷◌, ◌++◌, Option, Some, Ok, refl, option_map, IfOk, OnOk, OnErr, MatchOption, MatchResult, length, string_bytes};
+ghost use Rattle.std.specs.Prelude.{◌≡◌, ◌+◌, drop, ◌<◌, ◌≤◌, ℕ, List, [], ◌∷◌, ◌++◌, Option, Some, Ok, refl, option_map, IfOk, OnOk, OnErr, MatchOption, MatchResult, length, string_bytes};
 ghost use Rattle.std.specs.FinMap as map;
 ghost use Rattle.just_path.specs.Path.{text_of};
 ghost use Rattle.just_path.specs.Comps.{slash};
@@ -9,22 +9,28 @@ ghost use Rattle.just_path.specs.declared.host.PathCall.{PathCall};
 ghost use Rattle.just_outside.specs.declared.entry.Entry.{Entry};
 ghost use Rattle.just_outside.specs.declared.entry.Status.{Status};
 ghost use Rattle.just_outside.specs.declared.outside.TheConstants.{MAX_BYTES};
-ghost use Rattle.just_outside.specs.Record.{noted, gained, IsOwn, NeverMissed, children, faults_of, misses_of, settled_entry, settled_answer, script_folder, IsStartFault};
+ghost use Rattle.just_outside.specs.Record.{noted, gained, refused, IsOwn, NeverMissed, children, faults_of, misses_of, settled_entry, settled_answer, text_or_empty, script_folder, IsStartFault, IsCaptureFault};
 ghost use Rattle.just_outside.specs.Logs.{entries_of, spare_of};
 ghost use Rattle.just_outside.specs.World.{World, view_of, ReadTells, Touched, Leaves};
+ghost use Rattle.just_outside.specs.Changes.{place_written, written, with_cache_entry, IsOfEntry, Changes};
+ghost use Rattle.just_outside.specs.Folders.{TempTells, Removes};
+ghost use Rattle.just_outside.specs.Looks.{dash, TellsAnswer, told_input, told_sum, told_check, LookTells, ChecksTo};
 ghost use Rattle.just_host.specs.Trees.{files_of};
-ghost use Rattle.just_host.specs.Mem.{record_of, world_of, Went, OnlyNotes, Plays, IsFaultOf, is_struck, is_wait_struck, waited_for, FailsIf, PathFailsIf};
-ghost use Rattle.just_host.specs.Playing.{next_call, word_of, ending_of, status_of};
+ghost use Rattle.just_host.specs.Mem.{record_of, world_of, Went, OnlyNotes, OnlyFiles, Answers, answer_in, Plays, Runs, IsFaultOf, IsHostFaultOf, IsFailureOf, is_struck, is_wait_struck, waited_for, FailsIf, PathFailsIf};
+ghost use Rattle.just_host.specs.Playing.{next_call, word_of, ending_of, status_of, output_of};
 ghost use Rattle.just_outside.proofs.Laws.{counts_noted};
 
-use super::plot::{Faults, word_of};
-use super::sights::TreeFault;
+use super::plot::{Faults, output_of, word_of};
+use super::sights::{TreeFault, copied_text};
 use super::{Ending, Place, Plot, Tree};
-use just_outside::{Call, Entry, Host, HostFault, Log, Signal, Spec, Status, Stream};
-use just_path::{
-    Environ, Item, Meta, NoMemory, PathCall, PathFault, PathHost, Seq, Text, TryClone, Utf8Path,
-    Utf8PathBuf,
+use just_outside::{
+    Call, Entry, Host, HostFault, Log, Look, MAX_BYTES, Signal, Spec, Status, Stream,
 };
+use just_path::{
+    Environ, Item, Meta, Miss, NoMemory, PathCall, PathFault, PathHost, Seq, Text, TryClone,
+    Utf8Path, Utf8PathBuf,
+};
+use just_system::{copied_bytes, copies_of, path_or_empty};
 use std::alloc::Global;
 
 /// A host in memory, which does what its plot says. It tells its world.
@@ -37,7 +43,7 @@ pub struct MemHost {
     environ: Environ,
     input: Seq<u8>,
     endings: Vec<Ending>,
-    answers: Seq<Text>,
+    answers: Vec<Text>,
     signals: Seq<(u32, Signal)>,
     faults: Faults,
 }
@@ -69,6 +75,7 @@ impl MemHost {
         ensures spare { IfOk result (λ h. spare_of h.log ≡ 0) }
         ensures world { IfOk result (λ h. world_of h ≡ record { tree = files_of tree; current = place_under slash current; environ = environ.pairs; input = plot.input }) }
         ensures endings { IfOk result (λ h. h.endings.items ≡ plot.endings.items) }
+        ensures answers { IfOk result (λ h. h.answers.items ≡ plot.answers) }
         ensures fails { IfOk result (λ h. h.faults.numbers ≡ plot.fails) }
         ensures calls { IfOk result (λ h. h.faults.calls ≡ 0) }
     {
@@ -88,7 +95,7 @@ impl MemHost {
             environ,
             input,
             endings,
-            answers,
+            answers: answers.into_vec(),
             signals,
             faults: Faults::new(fails),
         })
@@ -128,6 +135,52 @@ fn refuse(log: &mut Log, alloc: Global, path: Utf8Path<'_>, fault: TreeFault) ->
     match fault {
         TreeFault::Missed(miss) => log.path_miss(alloc, path, miss),
         TreeFault::NoMemory => PathFault::NoMemory,
+    }
+}
+
+/// The same of a call of a host.
+fn refuse_call(log: &mut Log, alloc: Global, path: Utf8Path<'_>, fault: TreeFault) -> HostFault
+    ensures entries { entries_of log.new ≡ entries_of log.old ++ refused (text_of path.entry) result }
+    ensures kind { IsHostFaultOf fault result }
+    ensures spare { spare_of log.new ≡ spare_of log.old }
+{
+    match fault {
+        TreeFault::Missed(miss) => match log.miss(alloc, path, miss) {
+            Ok(()) => HostFault::Missed(miss),
+            Err(NoMemory) => HostFault::NoMemory,
+        },
+        TreeFault::NoMemory => HostFault::NoMemory,
+    }
+}
+
+/// Notes the failure of a call, and answers it.
+fn fail(log: &mut Log, call: Call) -> HostFault
+    ensures entries { (path : List ℕ) → entries_of log.new ≡ entries_of log.old ++ refused path result }
+    ensures kind { IsFailureOf call result }
+    ensures spare { spare_of log.new ≡ spare_of log.old }
+{
+    match log.failure(call) {
+        Ok(()) => HostFault::Failed(call),
+        Err(NoMemory) => HostFault::NoMemory,
+    }
+}
+
+/// The next answer, empty where there is none.
+fn next_answer(answers: &[Text]) -> &str
+    ensures { result.now ≡ answer_in answers.now }
+{
+    match answers {
+        [] => "",
+        [first, ..] => first.as_str(),
+    }
+}
+
+/// Drops the next answer, where there is one.
+fn use_answer(answers: &mut Vec<Text>)
+    ensures { answers.new.items ≡ drop 1 answers.old.items }
+{
+    if !answers.is_empty() {
+        answers.remove(0);
     }
 }
 
@@ -264,6 +317,56 @@ impl Host for MemHost {
         }
     }
 
+    fn input(&mut self) -> Result<String, HostFault>
+        ensures entries { record_of self.new ≡ record_of self.old ++ gained dash (λ _. []) result }
+        ensures own { IsOwn Call.Input result }
+        ensures limit { IfOk result (λ s. length (string_bytes s) ≤ MAX_BYTES) }
+        ensures told { TellsAnswer (λ s. string_bytes s) told_input (Some (world_of self.old)) result }
+        ensures world { Some (world_of self.new) ≡ Some (world_of self.old) }
+        ensures spare { spare_of self.new.log ≡ spare_of self.old.log }
+        ensures fails { FailsIf (is_struck self.old.faults) result }
+        ensures stays { OnlyNotes self.old self.new (next_call self.old.faults.calls) }
+    {
+        if self.faults.strike() {
+            return Err(fail(&mut self.log, Call::Input));
+        }
+        match copied_text(self.alloc, self.input.as_slice()) {
+            Ok(text) => Ok(text),
+            Err(fault) => Err(refuse_call(&mut self.log, self.alloc, Utf8Path::new("-"), fault)),
+        }
+    }
+
+    fn ask(&mut self, prompt: &str) -> Result<String, HostFault>
+        ensures entries { record_of self.new ≡ record_of self.old ++ gained dash (λ s. Entry.Asked prompt.now (string_bytes s) ∷ []) result }
+        ensures own { IsOwn Call.Ask result }
+        ensures limit { IfOk result (λ s. length (string_bytes s) ≤ MAX_BYTES) }
+        ensures world { Some (world_of self.new) ≡ Some (world_of self.old) }
+        ensures spare { spare_of self.new.log ≡ spare_of self.old.log }
+        ensures fails { FailsIf (is_struck self.old.faults) result }
+        ensures answer { IfOk result (λ s. string_bytes s ≡ answer_in self.old.answers.items) }
+        ensures answers { OnOk result (Answers self.old self.new) }
+        ensures refused { OnErr result (OnlyNotes self.old self.new (next_call self.old.faults.calls)) }
+    {
+        if self.faults.strike() {
+            return Err(fail(&mut self.log, Call::Ask));
+        }
+        let line = next_answer(self.answers.as_slice());
+        if line.len() > MAX_BYTES {
+            return Err(refuse_call(
+                &mut self.log,
+                self.alloc,
+                Utf8Path::new("-"),
+                TreeFault::Missed(Miss::TooLarge),
+            ));
+        }
+        let noted = Text::from_str(self.alloc, line)?;
+        let answer = noted.try_clone()?.into_string();
+        let prompt = Text::from_str(self.alloc, prompt)?;
+        self.log.note(Entry::Asked(prompt, noted))?;
+        use_answer(&mut self.answers);
+        Ok(answer)
+    }
+
     fn environ(&mut self) -> Result<Environ, HostFault>
         ensures entries { record_of self.new ≡ record_of self.old ++ gained [] (λ _. []) result }
         ensures own { IsOwn Call.Environ result }
@@ -282,6 +385,66 @@ impl Host for MemHost {
         Ok(Environ { pairs })
     }
 
+    fn write(&mut self, path: Utf8Path<'_>, bytes: &[u8]) -> Result<(), HostFault>
+        ensures entries { record_of self.new ≡ record_of self.old ++ gained (text_of path.entry) (λ _. []) result }
+        ensures own { IsOwn Call.Write result }
+        ensures world { Changes (λ w. written w (text_of path.entry) bytes.now) (λ w place. place_written w (text_of path.entry) ≡ Ok place) (Some (world_of self.old)) (Some (world_of self.new)) result }
+        ensures spare { spare_of self.new.log ≡ spare_of self.old.log }
+        ensures fails { FailsIf (is_struck self.old.faults) result }
+        ensures stays { OnlyFiles self.old self.new (next_call self.old.faults.calls) }
+    {
+        if self.faults.strike() {
+            return Err(fail(&mut self.log, Call::Write));
+        }
+        match self.tree.write(self.alloc, &self.folder, path, bytes) {
+            Ok(()) => Ok(()),
+            Err(fault) => Err(refuse_call(&mut self.log, self.alloc, path, fault)),
+        }
+    }
+
+    fn temp_folder(
+        &mut self,
+        parent: Option<Utf8Path<'_>>,
+        prefix: &str,
+    ) -> Result<Utf8PathBuf, HostFault>
+        ensures entries { record_of self.new ≡ record_of self.old ++ gained (text_or_empty (option_map text_of parent.entry)) (λ p. Entry.Made p ∷ []) result }
+        ensures own { IsOwn Call.Temp result }
+        ensures world { TempTells (Some (world_of self.old)) (Some (world_of self.new)) (option_map text_of parent.entry) prefix.now result }
+        ensures spare { spare_of self.new.log ≡ spare_of self.old.log }
+        ensures fails { FailsIf (is_struck self.old.faults) result }
+        ensures stays { OnlyFiles self.old self.new (next_call self.old.faults.calls) }
+    {
+        if self.faults.strike() {
+            return Err(fail(&mut self.log, Call::Temp));
+        }
+        match self.tree.parent_place(self.alloc, &self.folder, parent) {
+            Ok(folder) => {
+                self.log.ready()?;
+                let (made, copy) = self.tree.make_fresh(self.alloc, &folder, prefix)?;
+                self.log.append(Entry::Made(copy));
+                Ok(made)
+            }
+            Err(fault) => Err(refuse_call(&mut self.log, self.alloc, path_or_empty(parent), fault)),
+        }
+    }
+
+    fn remove(&mut self, path: Utf8Path<'_>) -> Result<(), HostFault>
+        ensures entries { record_of self.new ≡ record_of self.old ++ gained (text_of path.entry) (λ _. []) result }
+        ensures own { IsOwn Call.Remove result }
+        ensures world { Removes (Some (world_of self.old)) (Some (world_of self.new)) (text_of path.entry) result }
+        ensures spare { spare_of self.new.log ≡ spare_of self.old.log }
+        ensures fails { FailsIf (is_struck self.old.faults) result }
+        ensures stays { OnlyFiles self.old self.new (next_call self.old.faults.calls) }
+    {
+        if self.faults.strike() {
+            return Err(fail(&mut self.log, Call::Remove));
+        }
+        match self.tree.remove_at(self.alloc, &self.folder, path) {
+            Ok(()) => Ok(()),
+            Err(fault) => Err(refuse_call(&mut self.log, self.alloc, path, fault)),
+        }
+    }
+
     fn print(&mut self, stream: Stream, text: &str) -> Result<(), HostFault>
         ensures entries { record_of self.new ≡ record_of self.old ++ gained [] (λ _. Entry.Printed stream text.now ∷ []) result }
         ensures own { IsOwn Call.Print result }
@@ -298,6 +461,137 @@ impl Host for MemHost {
         let text = Text::from_str(self.alloc, text)?;
         self.log.note(Entry::Printed(stream, text))?;
         Ok(())
+    }
+
+    fn sum(&mut self, path: Utf8Path<'_>) -> Result<[u8; 32], HostFault>
+        ensures entries { record_of self.new ≡ record_of self.old ++ gained (text_of path.entry) (λ d. Entry.Summed (text_of path.entry) d ∷ []) result }
+        ensures own { IsOwn Call.Sum result }
+        ensures told { TellsAnswer (λ d. d) (λ w. told_sum w (text_of path.entry)) (Some (world_of self.old)) result }
+        ensures world { Some (world_of self.new) ≡ Some (world_of self.old) }
+        ensures spare { spare_of self.new.log ≡ spare_of self.old.log }
+        ensures fails { FailsIf (is_struck self.old.faults) result }
+        ensures stays { OnlyNotes self.old self.new (next_call self.old.faults.calls) }
+    {
+        if self.faults.strike() {
+            return Err(fail(&mut self.log, Call::Sum));
+        }
+        match self.tree.sum(self.alloc, &self.folder, path) {
+            Ok(sum) => {
+                let copy = path.to_path_buf(self.alloc)?;
+                self.log.note(Entry::Summed(copy, sum))?;
+                Ok(sum)
+            }
+            Err(fault) => Err(refuse_call(&mut self.log, self.alloc, path, fault)),
+        }
+    }
+
+    fn probe(&mut self, entry: Utf8Path<'_>, outputs: &[Utf8PathBuf]) -> Result<Look, HostFault>
+        ensures entries { record_of self.new ≡ record_of self.old ++ gained (text_of entry.entry) (λ x. Entry.Probed (text_of entry.entry) outputs.now x ∷ []) result }
+        ensures own { IsOwn Call.Probe result }
+        ensures told { LookTells (Some (world_of self.old)) (text_of entry.entry) outputs.now result }
+        ensures world { Changes (λ w. with_cache_entry w (text_of entry.entry)) (λ w place. IsOfEntry w (text_of entry.entry) place) (Some (world_of self.old)) (Some (world_of self.new)) result }
+        ensures spare { spare_of self.new.log ≡ spare_of self.old.log }
+        ensures fails { FailsIf (is_struck self.old.faults) result }
+        ensures stays { OnlyFiles self.old self.new (next_call self.old.faults.calls) }
+    {
+        if self.faults.strike() {
+            return Err(fail(&mut self.log, Call::Probe));
+        }
+        let path = entry.to_path_buf(self.alloc)?;
+        let copies = copies_of(self.alloc, outputs)?;
+        let look = self.tree.look(self.alloc, &self.folder, entry, outputs)?;
+        self.log.ready()?;
+        match self.tree.make_entry(self.alloc, &self.folder, entry) {
+            Ok(()) => {
+                self.log.append(Entry::Probed(path, copies, look));
+                Ok(look)
+            }
+            Err(fault) => Err(refuse_call(&mut self.log, self.alloc, entry, fault)),
+        }
+    }
+
+    fn check(&mut self, outputs: &[Utf8PathBuf]) -> Result<Option<u32>, HostFault>
+        ensures entries { ChecksTo (record_of self.old) (record_of self.new) outputs.now result }
+        ensures own { IsOwn Call.Check result }
+        ensures told { TellsAnswer (λ o. o) (λ w. told_check w outputs.now) (Some (world_of self.old)) result }
+        ensures world { Some (world_of self.new) ≡ Some (world_of self.old) }
+        ensures spare { spare_of self.new.log ≡ spare_of self.old.log }
+        ensures fails { FailsIf (is_struck self.old.faults) result }
+        ensures stays { OnlyNotes self.old self.new (next_call self.old.faults.calls) }
+    {
+        if self.faults.strike() {
+            return Err(fail(&mut self.log, Call::Check));
+        }
+        let copies = copies_of(self.alloc, outputs)?;
+        let Some(number) = self.tree.first_missing(self.alloc, &self.folder, outputs)? else {
+            self.log.note(Entry::Checked(copies, None))?;
+            return Ok(None);
+        };
+        let output = outputs[number as usize].as_path();
+        match self.tree.absent(self.alloc, &self.folder, output, number) {
+            Ok(first) => {
+                self.log.note(Entry::Checked(copies, first))?;
+                Ok(first)
+            }
+            Err(fault) => Err(refuse_call(&mut self.log, self.alloc, output, fault)),
+        }
+    }
+
+    fn save(&mut self, entry: Utf8Path<'_>, bytes: &[u8]) -> Result<(), HostFault>
+        ensures entries { record_of self.new ≡ record_of self.old ++ gained (text_of entry.entry) (λ _. Entry.Saved (text_of entry.entry) ∷ []) result }
+        ensures own { IsOwn Call.Save result }
+        ensures world { Changes (λ w. written w (text_of entry.entry) bytes.now) (λ w place. place_written w (text_of entry.entry) ≡ Ok place) (Some (world_of self.old)) (Some (world_of self.new)) result }
+        ensures spare { spare_of self.new.log ≡ spare_of self.old.log }
+        ensures fails { FailsIf (is_struck self.old.faults) result }
+        ensures stays { OnlyFiles self.old self.new (next_call self.old.faults.calls) }
+    {
+        if self.faults.strike() {
+            return Err(fail(&mut self.log, Call::Save));
+        }
+        let path = entry.to_path_buf(self.alloc)?;
+        self.log.ready()?;
+        match self.tree.write(self.alloc, &self.folder, entry, bytes) {
+            Ok(()) => {
+                self.log.append(Entry::Saved(path));
+                Ok(())
+            }
+            Err(fault) => Err(refuse_call(&mut self.log, self.alloc, entry, fault)),
+        }
+    }
+
+    fn capture(&mut self, spec: &Spec, input: &[u8]) -> Result<(Status, Vec<u8>), HostFault>
+        ensures entries { record_of self.new ≡ record_of self.old ++ gained spec.now.program (λ r. Entry.Captured spec.now input.now r.0 r.1.items ∷ []) result }
+        ensures limit { IfOk result (λ r. length r.1.items ≤ MAX_BYTES) }
+        ensures fault { IsCaptureFault input.now result }
+        ensures leaves { Leaves (Some (world_of self.old)) (Some (world_of self.new)) result }
+        ensures spare { spare_of self.new.log ≡ spare_of self.old.log }
+        ensures fails { FailsIf (is_struck self.old.faults) result }
+        ensures told { IfOk result (λ r. (r.0 ≡ status_of (ending_of (word_of spec.now) self.old.endings.items)) × (r.1.items ≡ output_of (ending_of (word_of spec.now) self.old.endings.items))) }
+        ensures runs { OnOk result (Runs self.old self.new (word_of spec.now)) }
+        ensures refused { OnErr result (OnlyNotes self.old self.new (next_call self.old.faults.calls)) }
+    {
+        if self.faults.strike() {
+            return Err(fail(&mut self.log, Call::Capture));
+        }
+        let word = word_of(self.alloc, spec)?;
+        let output = output_of(self.alloc, self.endings.as_slice(), word.as_str())?;
+        if output.len() > MAX_BYTES {
+            return Err(refuse_call(
+                &mut self.log,
+                self.alloc,
+                Utf8Path::new(spec.program.as_str()),
+                TreeFault::Missed(Miss::TooLarge),
+            ));
+        }
+        let copy = spec.try_clone()?;
+        let fed = copied_bytes(self.alloc, input)?;
+        let noted = copied_bytes(self.alloc, output.as_slice())?;
+        self.log.ready()?;
+        let status = self
+            .tree
+            .play(self.alloc, &self.folder, &mut self.endings, word.as_str())?;
+        self.log.append(Entry::Captured(copy, fed, status, noted));
+        Ok((status, output))
     }
 
     fn start(&mut self, spec: &Spec) -> Result<MemChild, HostFault>

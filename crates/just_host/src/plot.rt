@@ -1,8 +1,9 @@
 //! What is to happen over a host in memory.
 ghost use Rattle.std.specs.Prelude.{◌≡◌, ◌==◌, [], IfOk, string_bytes};
 ghost use Rattle.std.specs.List.{list_any};
-ghost use Rattle.just_host.specs.Playing.{joined, next_call, word_of};
+ghost use Rattle.just_host.specs.Playing.{joined, next_call, word_of, ending_of, output_of};
 
+use super::files::ending_at;
 use just_outside::{Signal, Spec, Status, Thing};
 use just_path::{NoMemory, Seq, Text};
 use std::alloc::Global;
@@ -106,4 +107,14 @@ fn joined(alloc: Global, texts: &[Text]) -> Result<String, NoMemory>
         whole.push_str(text.as_str())?;
     }
     Ok(whole)
+}
+
+/// What the first child of that word prints.
+pub fn output_of(alloc: Global, endings: &[Ending], word: &str) -> Result<Vec<u8>, NoMemory>
+    ensures { IfOk result (λ v. v.items ≡ output_of (ending_of word.now endings.now)) }
+{
+    match ending_at(endings, word) {
+        Some(at) => Ok(Vec::from_slice(alloc, endings[at].output.as_slice())?),
+        None => Ok(Vec::new(alloc)),
+    }
 }

@@ -7,13 +7,12 @@ ghost use Rattle.just_outside.specs.Sights.{sight_of, seen};
 ghost use Rattle.just_outside.specs.World.{text_in, text_at};
 ghost use Rattle.just_host.specs.Files.{by_text};
 ghost use Rattle.just_host.specs.Trees.{files_of, view_from, Shows, ShowsPlace};
-ghost use Rattle.just_host.specs.Items.{AreItemsBehind};
+ghost use Rattle.just_system.specs.Items.{AreItemsBehind};
 
-use super::items::{name_behind, put_item};
-use super::text::text_of;
 use super::{Place, Tree};
 use just_outside::{MAX_BYTES, Thing};
 use just_path::{Item, Kind, Meta, Miss, NoMemory, Text, Utf8Path};
+use just_system::{name_behind, put_item, text_of};
 use std::alloc::Global;
 
 /// Why a tree has no answer.
@@ -59,7 +58,7 @@ fn meta_of(thing: &Thing) -> Meta
 }
 
 /// Whether only a folder is found by a path: it ends in `/`, or in the component `.` or `..`.
-fn asks_folder(path: &str) -> bool
+pub(crate) fn asks_folder(path: &str) -> bool
     ensures { result ≡ asks_folder path.now }
 {
     let bytes = path.as_bytes();
@@ -79,7 +78,7 @@ fn is_file(meta: Option<Meta>) -> bool
     }
 }
 
-fn is_folder(meta: Option<Meta>) -> bool
+pub(crate) fn is_folder(meta: Option<Meta>) -> bool
     ensures { result ≡ sees_folder meta }
 {
     match meta {
@@ -91,7 +90,7 @@ fn is_folder(meta: Option<Meta>) -> bool
 impl Tree {
     /// What is known of what stands at a place.
     #[tactic(auto, using(crate::proofs::Lookups::meta_some, crate::proofs::Lookups::meta_none))]
-    fn meta_at(&self, place: &[u8]) -> Option<Meta>
+    pub(crate) fn meta_at(&self, place: &[u8]) -> Option<Meta>
         ensures { result ≡ meta_seen place.now (seen (files_of self.now)) }
     {
         match self.find(place) {
@@ -125,7 +124,7 @@ impl Tree {
     }
 
     /// The miss of a place at which nothing stands.
-    fn absence(&self, place: &[u8]) -> Miss
+    pub(crate) fn absence(&self, place: &[u8]) -> Miss
         ensures { result ≡ absence place.now (seen (files_of self.now)) }
     {
         if self.goes_through_file(place) {
@@ -336,7 +335,7 @@ fn items_of(alloc: Global, things: &[(Place, Thing)], front: &str) -> Result<Vec
 }
 
 /// The text that these bytes are, or why they are none that can be read.
-fn copied_text(alloc: Global, bytes: &[u8]) -> Result<String, TreeFault>
+pub(crate) fn copied_text(alloc: Global, bytes: &[u8]) -> Result<String, TreeFault>
     ensures told { Shows string_bytes (text_in bytes.now) result }
     ensures limit { IfOk result (λ s. length (string_bytes s) ≤ MAX_BYTES) }
 {

@@ -1,2 +1,3 @@
 -- Laws of the outside.
 pub mod Laws
+pub mod Writing

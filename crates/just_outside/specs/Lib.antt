@@ -4,3 +4,6 @@ pub mod World
 pub mod Sights
 pub mod Logs
 pub mod Signals
+pub mod Changes
+pub mod Looks
+pub mod Folders

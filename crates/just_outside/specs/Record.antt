@@ -1,5 +1,5 @@
 -- How a host's record grows: what each answer of a call appends, and what is counted over a record.
-use Rattle.std.specs.Prelude.{ℕ, ◌≡◌, ◌==◌, ◌⊎◌, Bool, true, false, if◌then◌else◌, List, [], ◌∷◌, Option, Some, None, Result, Ok, Err, count_by, is_some}
+use Rattle.std.specs.Prelude.{ℕ, ◌≡◌, ◌≢◌, ◌==◌, ◌⊎◌, Bool, true, false, if◌then◌else◌, List, [], ◌∷◌, Option, Some, None, Result, Ok, Err, count_by, is_some}
 use Rattle.just_path.specs.declared.host.PathCall.{PathCall}
 use Rattle.just_path.specs.declared.host.PathCall.TheVariants as path_call
 use Rattle.just_path.specs.declared.host.Miss.{Miss}
@@ -142,3 +142,13 @@ IsStartRefusal spec fault.NoMemory = Unit {0}
 abbrev pub IsStartFault : {A : Type 0} → Spec → Result A HostFault → Type 0
 IsStartFault spec (Ok x) = Unit {0}
 IsStartFault spec (Err e) = IsStartRefusal spec e
+
+abbrev pub IsCaptureRefusal : List ℕ → HostFault → Type 0
+IsCaptureRefusal input (fault.Missed m) = Unit {0}
+IsCaptureRefusal input (fault.Failed c) = (c ≡ call.Start) ⊎ ((c ≡ call.Capture) ⊎ ((c ≡ call.Write) × (input ≢ [])))
+IsCaptureRefusal input fault.NoMemory = Unit {0}
+
+-- a capture fails as its start or as itself; where there is something to feed, as its writing too
+abbrev pub IsCaptureFault : {A : Type 0} → List ℕ → Result A HostFault → Type 0
+IsCaptureFault input (Ok x) = Unit {0}
+IsCaptureFault input (Err e) = IsCaptureRefusal input e

@@ -10,6 +10,6 @@ mod tree;
 
 pub use entry::{Call, Entry, HostFault, Look, Script, Spec, Status, Stream};
 pub use log::Log;
-pub use outside::{Host, MAX_BYTES};
+pub use outside::{Host, MAX_BYTES, MAX_SUMMED};
 pub use signal::Signal;
 pub use tree::Thing;

@@ -1,18 +1,24 @@
 //! The trait of hosts.
-ghost use Rattle.std.specs.Prelude.{◌≡◌, ◌+◌, ◌<◌, ◌≤◌, ℕ, List, [], ◌∷◌, ◌++◌, length, Option, Result, option_map, IfOk, MatchOption, OnOk, OnErr, string_bytes};
+ghost use Rattle.std.specs.Prelude.{◌≡◌, ◌+◌, ◌<◌, ◌≤◌, ℕ, List, [], ◌∷◌, ◌++◌, length, Option, Result, Ok, option_map, IfOk, MatchOption, OnOk, OnErr, string_bytes};
 ghost use Rattle.just_path.specs.Path.{text_of};
 ghost use Rattle.just_path.specs.declared.host.PathNote.{PathNote};
 ghost use Rattle.just_outside.specs.declared.entry.Entry.{Entry};
 ghost use Rattle.just_outside.specs.declared.entry.Status.{Status};
 ghost use Rattle.just_outside.specs.declared.outside.TheConstants.{MAX_BYTES};
-ghost use Rattle.just_outside.specs.Record.{gained, IsOwn, NeverMissed, noted, children, faults_of, misses_of, settled_entry, settled_answer, script_folder, IsStartFault};
+ghost use Rattle.just_outside.specs.Record.{gained, IsOwn, NeverMissed, noted, children, faults_of, misses_of, settled_entry, settled_answer, text_or_empty, script_folder, IsStartFault, IsCaptureFault};
 ghost use Rattle.just_outside.specs.World.{World, view_of, ReadTells, Touched, Leaves};
+ghost use Rattle.just_outside.specs.Changes.{place_written, written, with_cache_entry, IsOfEntry, Changes};
+ghost use Rattle.just_outside.specs.Folders.{TempTells, Removes};
+ghost use Rattle.just_outside.specs.Looks.{dash, TellsAnswer, told_input, told_sum, told_check, LookTells, ChecksTo};
 
-use super::{Call, Entry, HostFault, Spec, Status, Stream};
-use just_path::{Environ, NoMemory, PathHost, Utf8Path};
+use super::{Call, Entry, HostFault, Look, Spec, Status, Stream};
+use just_path::{Environ, NoMemory, PathHost, Utf8Path, Utf8PathBuf};
 
 /// The most bytes that a read file, a read input or a captured output may have.
 pub const MAX_BYTES: usize = 67_108_864;
+
+/// The most bytes that a summed file may have.
+pub const MAX_SUMMED: u64 = 1_099_511_627_776;
 
 /// What a run touches of the outside. Contracts know a host by its record of `entries`, which only grows; by its
 /// `spare`, the entries of `settle` that need no memory; by its `world`, where it tells one; and by the numbers of its
@@ -46,6 +52,24 @@ pub trait Host: PathHost {
         ensures world { world self.new ≡ world self.old }
         ensures spare { spare self.new ≡ spare self.old };
 
+    /// The text of standard input, to its end. A refusal names the path `-`.
+    fn input(&mut self) -> Result<String, HostFault>
+        ensures entries { entries self.new ≡ entries self.old ++ gained dash (λ _. []) result }
+        ensures own { IsOwn Call.Input result }
+        ensures limit { IfOk result (λ s. length (string_bytes s) ≤ MAX_BYTES) }
+        ensures told { TellsAnswer (λ s. string_bytes s) told_input (world self.old) result }
+        ensures world { world self.new ≡ world self.old }
+        ensures spare { spare self.new ≡ spare self.old };
+
+    /// Prints a prompt to standard error, and reads one line of standard input, without its line end; at the end of input it is empty. A refusal
+    /// names the path `-`. Nothing is told of what is answered.
+    fn ask(&mut self, prompt: &str) -> Result<String, HostFault>
+        ensures entries { entries self.new ≡ entries self.old ++ gained dash (λ s. Entry.Asked prompt.now (string_bytes s) ∷ []) result }
+        ensures own { IsOwn Call.Ask result }
+        ensures limit { IfOk result (λ s. length (string_bytes s) ≤ MAX_BYTES) }
+        ensures world { world self.new ≡ world self.old }
+        ensures spare { spare self.new ≡ spare self.old };
+
     /// The environment.
     fn environ(&mut self) -> Result<Environ, HostFault>
         ensures entries { entries self.new ≡ entries self.old ++ gained [] (λ _. []) result }
@@ -55,12 +79,78 @@ pub trait Host: PathHost {
         ensures world { world self.new ≡ world self.old }
         ensures spare { spare self.new ≡ spare self.old };
 
+    /// Writes a file: behind it, it holds these bytes and no others. Its folder has to be there.
+    fn write(&mut self, path: Utf8Path<'_>, bytes: &[u8]) -> Result<(), HostFault>
+        ensures entries { entries self.new ≡ entries self.old ++ gained (text_of path.entry) (λ _. []) result }
+        ensures own { IsOwn Call.Write result }
+        ensures world { Changes (λ w. written w (text_of path.entry) bytes.now) (λ w place. place_written w (text_of path.entry) ≡ Ok place) (world self.old) (world self.new) result }
+        ensures spare { spare self.new ≡ spare self.old };
+
+    /// Makes a fresh folder in another one, else where the host keeps temporary folders. Its name begins with `prefix`.
+    fn temp_folder(
+        &mut self,
+        parent: Option<Utf8Path<'_>>,
+        prefix: &str,
+    ) -> Result<Utf8PathBuf, HostFault>
+        ensures entries { entries self.new ≡ entries self.old ++ gained (text_or_empty (option_map text_of parent.entry)) (λ p. Entry.Made p ∷ []) result }
+        ensures own { IsOwn Call.Temp result }
+        ensures world { TempTells (world self.old) (world self.new) (option_map text_of parent.entry) prefix.now result }
+        ensures spare { spare self.new ≡ spare self.old };
+
+    /// Removes a file, a link or an empty folder.
+    fn remove(&mut self, path: Utf8Path<'_>) -> Result<(), HostFault>
+        ensures entries { entries self.new ≡ entries self.old ++ gained (text_of path.entry) (λ _. []) result }
+        ensures own { IsOwn Call.Remove result }
+        ensures world { Removes (world self.old) (world self.new) (text_of path.entry) result }
+        ensures spare { spare self.new ≡ spare self.old };
+
     /// Prints a text.
     fn print(&mut self, stream: Stream, text: &str) -> Result<(), HostFault>
         ensures entries { entries self.new ≡ entries self.old ++ gained [] (λ _. Entry.Printed stream text.now ∷ []) result }
         ensures own { IsOwn Call.Print result }
         ensures never_missed { NeverMissed result }
         ensures world { world self.new ≡ world self.old }
+        ensures spare { spare self.new ≡ spare self.old };
+
+    /// The SHA-256 of a file.
+    fn sum(&mut self, path: Utf8Path<'_>) -> Result<[u8; 32], HostFault>
+        ensures entries { entries self.new ≡ entries self.old ++ gained (text_of path.entry) (λ d. Entry.Summed (text_of path.entry) d ∷ []) result }
+        ensures own { IsOwn Call.Sum result }
+        ensures told { TellsAnswer (λ d. d) (λ w. told_sum w (text_of path.entry)) (world self.old) result }
+        ensures world { world self.new ≡ world self.old }
+        ensures spare { spare self.new ≡ spare self.old };
+
+    /// Looks at a cache entry and the outputs beside it. The entry, empty, and its folder are made where they lack. An output
+    /// that can't be found, for whatever miss, is missing.
+    fn probe(&mut self, entry: Utf8Path<'_>, outputs: &[Utf8PathBuf]) -> Result<Look, HostFault>
+        ensures entries { entries self.new ≡ entries self.old ++ gained (text_of entry.entry) (λ x. Entry.Probed (text_of entry.entry) outputs.now x ∷ []) result }
+        ensures own { IsOwn Call.Probe result }
+        ensures told { LookTells (world self.old) (text_of entry.entry) outputs.now result }
+        ensures world { Changes (λ w. with_cache_entry w (text_of entry.entry)) (λ w place. IsOfEntry w (text_of entry.entry) place) (world self.old) (world self.new) result }
+        ensures spare { spare self.new ≡ spare self.old };
+
+    /// The number of the first output that isn't there. An output that can't be found for another reason is a miss, with its path.
+    fn check(&mut self, outputs: &[Utf8PathBuf]) -> Result<Option<u32>, HostFault>
+        ensures entries { ChecksTo (entries self.old) (entries self.new) outputs.now result }
+        ensures own { IsOwn Call.Check result }
+        ensures told { TellsAnswer (λ o. o) (λ w. told_check w outputs.now) (world self.old) result }
+        ensures world { world self.new ≡ world self.old }
+        ensures spare { spare self.new ≡ spare self.old };
+
+    /// Writes a cache entry: it is emptied, and then holds these bytes. Its folder has to be there.
+    fn save(&mut self, entry: Utf8Path<'_>, bytes: &[u8]) -> Result<(), HostFault>
+        ensures entries { entries self.new ≡ entries self.old ++ gained (text_of entry.entry) (λ _. Entry.Saved (text_of entry.entry) ∷ []) result }
+        ensures own { IsOwn Call.Save result }
+        ensures world { Changes (λ w. written w (text_of entry.entry) bytes.now) (λ w place. place_written w (text_of entry.entry) ≡ Ok place) (world self.old) (world self.new) result }
+        ensures spare { spare self.new ≡ spare self.old };
+
+    /// Runs a child to its end, feeds it these bytes, and answers how it ended and what it printed. A child that stops reading is no fault. An
+    /// output beyond `MAX_BYTES` is a miss, with the program as its path.
+    fn capture(&mut self, spec: &Spec, input: &[u8]) -> Result<(Status, Vec<u8>), HostFault>
+        ensures entries { entries self.new ≡ entries self.old ++ gained spec.now.program (λ r. Entry.Captured spec.now input.now r.0 r.1.items ∷ []) result }
+        ensures limit { IfOk result (λ r. length r.1.items ≤ MAX_BYTES) }
+        ensures fault { IsCaptureFault input.now result }
+        ensures leaves { Leaves (world self.old) (world self.new) result }
         ensures spare { spare self.new ≡ spare self.old };
 
     /// Starts a child. Its number is the number of children that were started before.

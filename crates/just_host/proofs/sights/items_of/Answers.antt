@@ -4,9 +4,9 @@ use Rattle.std.specs.Ordering.{nat_cmp}
 use Rattle.std.specs.Cmp.Lexicographic.{slice_cmp}
 use Rattle.std.specs.FinMap.Entries.{put}
 use Rattle.just_path.specs.View.{named}
-use Rattle.just_host.specs.Items.{AreItemsBehind}
+use Rattle.just_system.specs.Items.{AreItemsBehind}
 use Rattle.just_host.specs.Files.{by_text}
-use Rattle.just_host.proofs.Places.{order_put}
+use Rattle.just_system.proofs.Places.{order_put}
 use Rattle.just_host.proofs.Things.{item_at, within}
 use Rattle.just_host.proofs.Behind.{thing_passed, thing_put}
 use Rattle.just_host.proofs.sights.items_of.Goals as goal

@@ -2,7 +2,7 @@
 use Rattle.std.proofs.Common.{◌≤◌, length, drop, map}
 use Rattle.just_path.specs.View.{AreInOrder}
 use Rattle.just_host.specs.Files.{by_text}
-use Rattle.just_host.specs.Items.{AreItemsBehind}
+use Rattle.just_system.specs.Items.{AreItemsBehind}
 use Rattle.just_host.proofs.sights.items_of.Given as goal
 
 abbrev pub invariant-loop-i : goal.invariant-loop-i

@@ -4,7 +4,7 @@ use Rattle.std.proofs.lemmas.Result.{IfOk-weaker}
 use Rattle.just_path.specs.Path.{pushed}
 use Rattle.just_host.specs.Files.{by_text, files_in}
 use Rattle.just_host.specs.Trees.{files_of}
-use Rattle.just_host.specs.Items.{AreItemsBehind}
+use Rattle.just_system.specs.Items.{AreItemsBehind}
 use Rattle.just_host.proofs.Behind.{items_seen}
 use Rattle.just_host.proofs.files.Tree.items.Goals as goal
 
