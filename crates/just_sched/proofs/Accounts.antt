@@ -1,11 +1,12 @@
 -- What a book's account of its run gives, and how it goes on by one event.
-use Rattle.std.proofs.Common.{◌≡◌, ℕ, ◌+◌, ◌-◌, ◌^◌, ◌<◌, ◌≤◌, true, false, cond, List, [], ◌∷◌, ◌++◌, length, count_by, Option, Some, None, MatchOption, refl, ap, sym, ◌∙◌, subst, append_assoc, append-nil, arith}
+use Rattle.std.proofs.Common.{◌≡◌, ◌==◌, Bool, ℕ, ◌+◌, ◌-◌, ◌^◌, ◌<◌, ◌≤◌, true, false, cond, List, [], ◌∷◌, ◌++◌, length, count_by, Option, Some, None, MatchOption, MatchBool, refl, ap, sym, ◌∙◌, subst, append_assoc, append-nil, arith}
 use Rattle.std.specs.Coded.{coded_option, Coded-set}
 use Rattle.std.specs.List.{list_any, range_with_len}
 use Rattle.std.proofs.Math.Bool.{Bool-set}
 use Rattle.std.proofs.Math.Bridge.{le_prop}
 use Rattle.std.proofs.Math.Logic.{∥∥₁_map, ∥∥₁_elim}
 use Rattle.std.proofs.Math.Nat.{ℕ_set}
+use Rattle.std.proofs.lemmas.Bool.{eqb-true, eqb-false}
 use Rattle.std.proofs.lemmas.List.Folds.{list_any-append}
 use Rattle.std.proofs.lemmas.List.FromFn.{length-range_with_len}
 use Rattle.std.proofs.lemmas.List.Sums.{count_by-le-length, sum_by-cons}
@@ -98,6 +99,18 @@ module _ {s : Start} {h : List Event} {now : List Entry} {w : Option World} {spa
 
   pub counted_few : taken < 2 ^ 32
   counted_few = omega (arith, counted_of, bodies_few s h)
+
+  bound_at : (j : ℕ) → s.jobs ≡ Some j → taken ≤ j
+  bound_at j is = ∥∥₁_elim account le_prop (λ a. subst (λ o. MatchOption o (Unit {0}) (λ i. taken ≤ i)) is a.bound)
+
+  full_by : (j : ℕ) (b : Bool) → s.jobs ≡ Some j → (taken == j) ≡ b → MatchBool b (s.jobs ≡ Some (open_bodies (run_of s) h)) (MatchOption s.jobs (Unit {0}) (λ i. open_bodies (run_of s) h < i))
+  full_by j true is same = is ∙ ap (λ n. Some n) (sym (eqb-true taken j same) ∙ counted_of)
+  full_by j false is other =
+      subst (λ o. MatchOption o (Unit {0}) (λ i. open_bodies (run_of s) h < i)) (sym is) (omega (arith, bound_at j is, counted_of, eqb-false taken j other))
+
+  -- whether as many bodies are open as there are jobs, or fewer
+  pub full_at : (j : ℕ) → s.jobs ≡ Some j → MatchBool (taken == j) (s.jobs ≡ Some (open_bodies (run_of s) h)) (MatchOption s.jobs (Unit {0}) (λ i. open_bodies (run_of s) h < i))
+  full_at j is = full_by j (taken == j) is refl
 
   -- there is room for the end of each command to come
   pub spared_of : total_commands s.plan.nodes ≤ spare + settle_count h
