@@ -1,0 +1,10 @@
+//! Where the user's own justfile may be.
+
+use just_path::{Text, Utf8PathBuf};
+
+/// A folder, and the name under which the justfile is looked for in it.
+#[derive(Drop)]
+pub struct Place {
+    pub folder: Utf8PathBuf,
+    pub name: Text,
+}
