@@ -1,0 +1,74 @@
+-- What is asked of a module: whether files are looked for, at which paths and under which names.
+use Rattle.std.specs.Prelude.{ℕ, not, ◌&&◌, ◌||◌, ◌==◌, Bool, true, false, if◌then◌else◌, List, [], ◌∷◌, length, Option, Some, None, is_some, codes, Result, Ok, Err}
+use Rattle.just_lang.specs.declared.project.Justfile.{Justfile}
+use Rattle.just_lang.specs.declared.settings.Settings.{Settings}
+use Rattle.just_value.specs.Modules.{path_of, settings_of}
+use Rattle.just_env_files.specs.declared.ask.DotenvAsk.{DotenvAsk}
+use Rattle.just_env_files.specs.declared.env_error.EnvError.{EnvError}
+use Rattle.just_env_files.specs.declared.env_error.EnvError.TheVariants as error
+
+abbrev pub is_any : List (List ℕ) → Bool
+is_any [] = false
+is_any (t ∷ ts) = true
+
+abbrev pub is_several : List (List ℕ) → Bool
+is_several [] = false
+is_several (t ∷ ts) = is_any ts
+
+-- the texts of an option, where it is given; else that of a setting, where it is set
+abbrev pub given : List (List ℕ) → Option (List ℕ) → List (List ℕ)
+given [] None = []
+given [] (Some text) = text ∷ []
+given (t ∷ ts) setting = t ∷ ts
+
+-- the paths of a module's files
+abbrev pub paths_given : DotenvAsk → Settings → List (List ℕ)
+paths_given ask s = given ask.paths s.dotenv_path
+
+-- their names, where the option or the setting gives some
+abbrev pub names_given : DotenvAsk → Settings → List (List ℕ)
+names_given ask s = given ask.filenames s.dotenv_filename
+
+abbrev pub or_default : List (List ℕ) → List (List ℕ)
+or_default [] = codes ".env" ∷ []
+or_default (name ∷ names) = name ∷ names
+
+-- the names under which they are looked for
+abbrev pub names_wanted : DotenvAsk → Settings → List (List ℕ)
+names_wanted ask s = or_default (names_given ask s)
+
+-- whether a module is the root
+abbrev pub is_root : Justfile → Bool
+is_root j = length (path_of j).components == 0
+
+-- whether the option gives a command to a module: it does so to the root alone
+abbrev pub has_option : DotenvAsk → Justfile → Bool
+has_option ask j = is_root j && is_any ask.commands
+
+-- whether commands give a module its pairs
+abbrev pub has_command : DotenvAsk → Justfile → Bool
+has_command ask j = has_option ask j || is_some (settings_of j).dotenv_command
+
+-- the option or the setting that gives them
+abbrev pub command_word : DotenvAsk → Justfile → List ℕ
+command_word ask j = if has_option ask j then codes "--dotenv-command" else codes "dotenv-command"
+
+-- whether the options give several names or several paths
+abbrev pub has_several : DotenvAsk → Bool
+has_several ask = is_several ask.filenames || is_several ask.paths
+
+-- whether a setting asks for dotenv files, whatever their names
+abbrev pub has_flag : Settings → Bool
+has_flag s = s.dotenv_load || (s.dotenv_override || s.dotenv_required)
+
+abbrev pub has_given : DotenvAsk → Settings → Bool
+has_given ask s = is_any (names_given ask s) || is_any (paths_given ask s)
+
+-- Whether files are looked for, for a module; or why it is refused before any file is read. Nothing is loaded where the words say so; where
+-- commands give the pairs, no file is read, and a run that only shows its commands runs none of them.
+abbrev pub looks_for_files : DotenvAsk → Justfile → Result Bool EnvError
+looks_for_files ask j =
+    if not ask.load then Ok false
+    else (if has_command ask j then (if ask.dry_run then Ok false else Err (error.NotBuilt (command_word ask j)))
+    else (if has_several ask && not (settings_of j).lists then Err error.DotenvArgumentsRequireLists
+    else Ok (has_flag (settings_of j) || has_given ask (settings_of j))))

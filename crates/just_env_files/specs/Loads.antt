@@ -1,0 +1,88 @@
+-- The dotenv pairs of the modules of a project.
+use Rattle.std.specs.Prelude.{ℕ, ◌≡◌, ◌||◌, Bool, true, false, if◌then◌else◌, List, [], ◌∷◌, ◌++◌, map, filter, Option, Some, None, is_none, Result, Ok, Err}
+use Rattle.just_path.specs.Ancestors.{ancestors_of}
+use Rattle.just_path.specs.Environ.{value_of}
+use Rattle.just_outside.specs.World.{World}
+use Rattle.just_dotenv.specs.Meaning.{Pairs}
+use Rattle.just_lang.specs.declared.project.Justfile.{Justfile, out-Justfile}
+use Rattle.just_lang.specs.declared.scope.DotenvOf.{DotenvOf}
+use Rattle.just_lang.specs.declared.settings.Settings.{Settings}
+use Rattle.just_value.specs.Modules.{path_of, settings_of, modules_of}
+use Rattle.just_commands.specs.Folders.{module_folder}
+use Rattle.just_env_files.specs.declared.ask.DotenvAsk.{DotenvAsk}
+use Rattle.just_env_files.specs.declared.env_error.EnvError.{EnvError}
+use Rattle.just_env_files.specs.declared.env_error.EnvError.TheVariants as error
+use Rattle.just_env_files.specs.Asked.{looks_for_files, paths_given, names_wanted}
+use Rattle.just_env_files.specs.Files.{LoadsUnder}
+use Rattle.just_env_files.specs.Sequences.{First}
+
+-- ---- one module
+
+-- The pairs of a module's files: those at all given paths under its folder. Where none of them is there, those of the first folder, from that one
+-- upwards, in which any file of the names is.
+pub data FindsFiles (told : Option World) (environ : Pairs) (paths names : List (List ℕ)) (folder : List ℕ) : Result (Option Pairs) EnvError → Type 0 where
+  by_paths : (pairs : Pairs) → LoadsUnder told environ paths folder (Ok (Some pairs)) → FindsFiles told environ paths names folder (Ok (Some pairs))
+  refused : (e : EnvError) → LoadsUnder told environ paths folder (Err e) → FindsFiles told environ paths names folder (Err e)
+  by_names : (r : Result (Option Pairs) EnvError) → LoadsUnder told environ paths folder (Ok None) → First (LoadsUnder told environ names) (ancestors_of folder) r
+      → FindsFiles told environ paths names folder r
+
+-- the pairs that are kept: all of them where they go before the environment, else those whose names it lacks
+abbrev pub kept : Bool → Pairs → Pairs → Pairs
+kept overrides environ pairs = filter (λ p. overrides || is_none (value_of p.0 environ)) pairs
+
+-- what a module has of the pairs that were found; a file may be required
+abbrev pub pairs_of_found : Settings → Pairs → Result (Option Pairs) EnvError → Result Pairs EnvError
+pairs_of_found s environ (Ok (Some pairs)) = Ok (kept s.dotenv_override environ pairs)
+pairs_of_found s environ (Ok None) = if s.dotenv_required then Err error.DotenvRequired else Ok []
+pairs_of_found s environ (Err e) = Err e
+
+-- the pairs of a module's files, which are looked for from that folder on
+abbrev pub FoundPairs : Option World → DotenvAsk → Pairs → List ℕ → Settings → Result Pairs EnvError → Type 0
+FoundPairs told ask environ folder s r =
+    (found : Result (Option Pairs) EnvError) × FindsFiles told environ (paths_given ask s) (names_wanted ask s) folder found × (r ≡ pairs_of_found s environ found)
+
+-- the same where files are looked for; nothing where they aren't
+abbrev pub LoadsWhere : Option World → DotenvAsk → Pairs → List ℕ → Justfile → Result Bool EnvError → Result Pairs EnvError → Type 0
+LoadsWhere told ask environ folder j (Ok true) r = FoundPairs told ask environ folder (settings_of j) r
+LoadsWhere told ask environ folder j (Ok false) r = r ≡ Ok []
+LoadsWhere told ask environ folder j (Err e) r = r ≡ Err e
+
+-- the pairs of a module itself, whose folder that is, or why they aren't loaded
+abbrev pub LoadsOwn : Option World → DotenvAsk → Pairs → List ℕ → Justfile → Result Pairs EnvError → Type 0
+LoadsOwn told ask environ folder j r = LoadsWhere told ask environ folder j (looks_for_files ask j) r
+
+-- ---- all modules
+
+-- the folder of a module of a project that is run in a working folder
+abbrev pub folder_of : List ℕ → Justfile → List ℕ
+folder_of working j = module_folder working (path_of j) (out-Justfile j).source
+
+abbrev pub dotenv_of : Justfile → Pairs → DotenvOf
+dotenv_of j pairs = record { «module» = path_of j; pairs = pairs }
+
+-- a module's pairs before those of the modules behind it
+abbrev pub before_others : DotenvOf → Result (List DotenvOf) EnvError → Result (List DotenvOf) EnvError
+before_others own (Ok others) = Ok (own ∷ others)
+before_others own (Err e) = Err e
+
+-- modules, each with the pairs that it follows
+abbrev pub Following : Type 0
+Following = List (Justfile × Pairs)
+
+-- some modules that follow the same pairs
+abbrev pub following : Pairs → List Justfile → Following
+following pairs js = map (λ j. (j, pairs)) js
+
+-- The pairs of modules and of all within them, in the order of the sources, each before those within it: behind those that a module follows
+-- come its own, and those within it follow these. Or the first refusal.
+pub data LoadsModules (told : Option World) (ask : DotenvAsk) (environ : Pairs) (working : List ℕ) : Following → Result (List DotenvOf) EnvError → Type 0 where
+  none : LoadsModules told ask environ working [] (Ok [])
+  refused : (j : Justfile) (before : Pairs) (others : Following) (e : EnvError) → LoadsOwn told ask environ (folder_of working j) j (Err e)
+      → LoadsModules told ask environ working ((j, before) ∷ others) (Err e)
+  more : (j : Justfile) (before own : Pairs) (others : Following) (r : Result (List DotenvOf) EnvError) → LoadsOwn told ask environ (folder_of working j) j (Ok own)
+      → LoadsModules told ask environ working (following (before ++ own) (modules_of j) ++ others) r
+      → LoadsModules told ask environ working ((j, before) ∷ others) (before_others (dotenv_of j (before ++ own)) r)
+
+-- the pairs of the modules of a project that is run in a working folder
+abbrev pub LoadsProject : Option World → DotenvAsk → Pairs → List ℕ → Justfile → Result (List DotenvOf) EnvError → Type 0
+LoadsProject told ask environ working j r = LoadsModules told ask environ working (following [] (j ∷ [])) r

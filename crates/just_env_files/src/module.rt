@@ -1,0 +1,93 @@
+//! The dotenv pairs of one module.
+
+ghost use Rattle.std.specs.Prelude.{◌≡◌, [], Ok, IfErr};
+ghost use Rattle.just_path.specs.Path.{text_of};
+ghost use Rattle.just_env_files.specs.Answers.{Answers, Gains, entries_of};
+ghost use Rattle.just_env_files.specs.Loads.{FoundPairs, LoadsOwn, pairs_of_found};
+
+use super::ask::{looks_for_files, names_wanted, paths_given};
+use super::climb::find_files;
+use super::pairs::{Pairs, kept};
+use super::{DotenvAsk, EnvError};
+use just_lang::Settings;
+use just_lang::project::Justfile;
+use just_outside::Host;
+use just_path::{Environ, Seq, Utf8Path};
+use std::alloc::Global;
+
+/// What a module has of the pairs of its files. A file may be required.
+fn pairs_of_found(
+    alloc: Global,
+    settings: &Settings,
+    environ: &Environ,
+    found: Option<Pairs>,
+) -> Result<Pairs, EnvError>
+    ensures pairs { Answers (λ r. r ≡ pairs_of_found settings.now environ.now.pairs (Ok found)) result }
+    ensures unheard { IfErr result (λ e. entries_of e ≡ []) }
+{
+    match found {
+        Some(pairs) => Ok(kept(alloc, settings.dotenv_override, environ, pairs)?),
+        None => {
+            if settings.dotenv_required {
+                Err(EnvError::DotenvRequired)
+            } else {
+                Ok(Seq::new(alloc))
+            }
+        }
+    }
+}
+
+/// The pairs of the files of a module in that folder, which are looked for.
+#[tactic(auto, using(crate::proofs::Record::gains_nothing, crate::proofs::Record::gains_before, crate::proofs::Record::gains_then, crate::proofs::Record::gains_unheard, just_env::proofs::Laws::gains_none, crate::proofs::Owned::found_pairs, crate::proofs::Owned::found_refused))]
+fn load_found<H: Host>(
+    alloc: Global,
+    host: &mut H,
+    ask: &DotenvAsk,
+    environ: &Environ,
+    folder: Utf8Path<'_>,
+    settings: &Settings,
+) -> Result<Pairs, EnvError>
+    ensures loaded { Answers (λ r. FoundPairs (H.world host.old) ask.now environ.now.pairs (text_of folder.entry) settings.now r) result }
+    ensures gains { Gains (H.entries host.old) (H.entries host.new) result }
+    ensures world { H.world host.new ≡ H.world host.old }
+    ensures spare { H.spare host.new ≡ H.spare host.old }
+{
+    let paths = paths_given(alloc, ask, settings)?;
+    let names = names_wanted(alloc, ask, settings)?;
+    match find_files(
+        alloc,
+        host,
+        environ,
+        paths.as_slice(),
+        names.as_slice(),
+        folder,
+    ) {
+        Ok(found) => pairs_of_found(alloc, settings, environ, found),
+        Err(error) => Err(error),
+    }
+}
+
+/// The dotenv pairs of a module in a folder, without those of the modules around it. A name that the environment has is left out, unless the
+/// module sets `dotenv-override`; of several pairs of one name the last counts.
+#[tactic(auto, using(crate::proofs::Record::gains_nothing, crate::proofs::Record::gains_before, crate::proofs::Record::gains_unheard, just_env::proofs::Laws::gains_none, crate::proofs::Owned::own_nothing, crate::proofs::Owned::own_refused, crate::proofs::Owned::own_found))]
+pub fn load_dotenv<H: Host>(
+    alloc: Global,
+    host: &mut H,
+    ask: &DotenvAsk,
+    environ: &Environ,
+    folder: Utf8Path<'_>,
+    justfile: &Justfile,
+) -> Result<Pairs, EnvError>
+    // The pairs are those that the module's settings and the words ask for, or the first refusal.
+    ensures loaded { Answers (LoadsOwn (H.world host.old) ask.now environ.now.pairs (text_of folder.entry) justfile.now) result }
+    // The record gains misses, and the entry of the refused call.
+    ensures gains { Gains (H.entries host.old) (H.entries host.new) result }
+    ensures world { H.world host.new ≡ H.world host.old }
+    ensures spare { H.spare host.new ≡ H.spare host.old }
+{
+    match looks_for_files(alloc, ask, justfile) {
+        Ok(true) => load_found(alloc, host, ask, environ, folder, &justfile.settings),
+        Ok(false) => Ok(Seq::new(alloc)),
+        Err(error) => Err(error),
+    }
+}
