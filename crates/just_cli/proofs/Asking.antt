@@ -1,8 +1,7 @@
 -- Whether the words ask for quiet, as they are read.
-use Rattle.std.proofs.Common.{◌≡◌, inl, inr, ℕ, Bool, false, List, Option, Result, Ok, Err, refl, sym, append-nil}
+use Rattle.std.proofs.Common.{◌≡◌, inl, inr, ℕ, Bool, false, List, Option, Ok, Err, refl}
 use Rattle.just_path.specs.declared.environ.Environ.{Environ}
 use Rattle.just_outside.specs.World.{World}
-use Rattle.just_outside.specs.declared.entry.Entry.{Entry}
 use Rattle.just_words.specs.declared.arguments.Arguments.{Arguments}
 use Rattle.just_words.specs.declared.words.Read.TheVariants as read
 use Rattle.just_words.specs.Words.{Means}
@@ -11,7 +10,6 @@ use Rattle.just_errors.specs.declared.error.Error.TheVariants as error
 use Rattle.just_planning.specs.Own.{OrMemory}
 use Rattle.just_cli.specs.Questions.{AsksQuiet}
 use Rattle.just_cli.specs.Quiet.{AskQuiet, as_read, unread}
-use Rattle.just_cli.specs.Record.{AreMisses, EndsWith}
 use Rattle.just_cli.specs.Request.{EnvironGiven}
 use Rattle.just_cli.specs.Words.{ReadsWords}
 
@@ -40,7 +38,3 @@ module _ (words : List (List ℕ)) (told : Option World) where
 -- where memory is wanting, nothing is known of the words
 pub quiet_unread : (words : List (List ℕ)) (told : Option World) (e : Error) → e ≡ error.NoMemory → AskQuiet words told false e
 quiet_unread words told e is = unread refl (inl is)
-
--- where memory is wanting, misses are all that was left
-pub ends_with_misses : (es : List Entry) → AreMisses es → EndsWith error.NoMemory es
-ends_with_misses es misses = (es, misses, sym (append-nil es))

@@ -32,12 +32,13 @@ use Rattle.just_outcome.specs.Caused.{IsCaused}
 use Rattle.just_planning.specs.Own.{is_failed_call, is_missed_call, is_fault, is_miss}
 use Rattle.just_cli.specs.Faults.{entries_of}
 use Rattle.just_outcome.proofs.Laws.{only_memory}
-use Rattle.just_cli.specs.Record.{Stretches, EndsWith, EndsIll, EndsBefore, IsQuiet}
+use Rattle.just_cli.specs.Preparing.{EndsWith}
+use Rattle.just_cli.specs.Record.{Stretches, EndsIll, EndsBefore, IsQuiet}
 use Rattle.just_cli.proofs.Worlds.{worlds_set}
 
 -- what a failure leaves: with no plan, a refusal before the book
-abbrev pub Failed : Option ℕ → List Bool → Bool → Result Report Failure → List Entry → List Entry → Type 0
-Failed jobs messages quiet r old new = IfErr r (λ f. MatchOption f.plan (∥ EndsBefore quiet f.error old new ∥₁) (λ p. ∥ EndsIll p jobs messages quiet f.history f.error old new ∥₁))
+abbrev pub Failed : List Entry → Option ℕ → List Bool → Bool → Result Report Failure → List Entry → List Entry → Type 0
+Failed listings jobs messages quiet r old new = IfErr r (λ f. MatchOption f.plan (∥ EndsBefore listings quiet f.error old new ∥₁) (λ p. ∥ EndsIll listings p jobs messages quiet f.history f.error old new ∥₁))
 
 -- ---- counts
 
@@ -63,18 +64,19 @@ more_before p old new s some = omega (arith, some, ap (λ es. count_by p es) s.g
 more_within : (p : Entry → Bool) (old new : List Entry) (s : Stretches old new) → 0 < count_by p s.mid → count_by p old < count_by p new
 more_within p old new s some = omega (arith, some, ap (λ es. count_by p es) s.grew, counted_parts p old s.pre s.mid s.post)
 
--- what an error's call left is counted behind misses
-counted_behind : (p : Entry → Bool) (e : Error) (es : List Entry) → EndsWith e es → 0 < count_by p (entries_of e) → 0 < count_by p es
-counted_behind p e es ends some = omega (arith, some, ap (λ xs. count_by p xs) ends.2, sum_by-append (λ x. cond (p x) 1 0) ends.0 (entries_of e))
+-- what an error's call left is counted behind listings and misses
+counted_behind : (p : Entry → Bool) (listings : List Entry) (e : Error) (es : List Entry) → EndsWith listings e es → 0 < count_by p (entries_of e) → 0 < count_by p es
+counted_behind p listings e es ends some =
+    omega (arith, some, ap (λ xs. count_by p xs) ends.2, sum_by-append (λ x. cond (p x) 1 0) listings (ends.0 ++ entries_of e), sum_by-append (λ x. cond (p x) 1 0) ends.0 (entries_of e))
 
 -- a kind of entry that shows where a kind of error is told is counted
 module _ (p : Entry → Bool) (q : Error → Bool)
     (shown : (nodes : List PlanNode) (h : List Event) (e : Error) (es : List Entry) → IsCaused nodes h e es → q e ≡ true → 0 < count_by p es)
     (refusal : (e : Error) → q e ≡ true → 0 < count_by p (entries_of e)) where
-  rises : (jobs : Option ℕ) (messages : List Bool) (quiet : Bool) (o : Option Plan) (h : List Event) (e : Error) (old new : List Entry) → MatchOption o (∥ EndsBefore quiet e old new ∥₁) (λ plan. ∥ EndsIll plan jobs messages quiet h e old new ∥₁) → q e ≡ true → count_by p old < count_by p new
-  rises jobs messages quiet None h e old new failed is =
-      ∥∥₁_elim failed le_prop (λ k. more_before p old new k.stretches (counted_behind p e k.stretches.pre k.prepared (refusal e is)))
-  rises jobs messages quiet (Some plan) h e old new failed is =
+  rises : (listings : List Entry) (jobs : Option ℕ) (messages : List Bool) (quiet : Bool) (o : Option Plan) (h : List Event) (e : Error) (old new : List Entry) → MatchOption o (∥ EndsBefore listings quiet e old new ∥₁) (λ plan. ∥ EndsIll listings plan jobs messages quiet h e old new ∥₁) → q e ≡ true → count_by p old < count_by p new
+  rises listings jobs messages quiet None h e old new failed is =
+      ∥∥₁_elim failed le_prop (λ k. more_before p old new k.stretches (counted_behind p listings e k.stretches.pre k.prepared (refusal e is)))
+  rises listings jobs messages quiet (Some plan) h e old new failed is =
       ∥∥₁_elim failed le_prop (λ k. more_within p old new k.stretches (shown plan.nodes h e k.stretches.mid k.caused is))
 
 failure_counted : (c : Call) (es : List Entry) → ShowsFailure c es → 0 < faults_of es
@@ -164,13 +166,13 @@ miss_refused (error.StdoutIo io) is = missed_counted [] io is
 miss_refused _ is = absurd (cc)
 
 -- the failure of a call whose error is told is counted in the record
-pub faults_rise : (jobs : Option ℕ) (messages : List Bool) (quiet : Bool) (r : Result Report Failure) (old new : List Entry) → Failed jobs messages quiet r old new → IfErr r (λ f. is_fault f.error ≡ true → faults_of old < faults_of new)
-faults_rise jobs messages quiet (Ok x) old new failed = tt
-faults_rise jobs messages quiet (Err f) old new failed = λ is. rises is_failed is_fault fault_shown fault_refused jobs messages quiet f.plan f.history f.error old new failed is
+pub faults_rise : (listings : List Entry) (jobs : Option ℕ) (messages : List Bool) (quiet : Bool) (r : Result Report Failure) (old new : List Entry) → Failed listings jobs messages quiet r old new → IfErr r (λ f. is_fault f.error ≡ true → faults_of old < faults_of new)
+faults_rise listings jobs messages quiet (Ok x) old new failed = tt
+faults_rise listings jobs messages quiet (Err f) old new failed = λ is. rises is_failed is_fault fault_shown fault_refused listings jobs messages quiet f.plan f.history f.error old new failed is
 
-pub misses_rise : (jobs : Option ℕ) (messages : List Bool) (quiet : Bool) (r : Result Report Failure) (old new : List Entry) → Failed jobs messages quiet r old new → IfErr r (λ f. is_miss f.error ≡ true → misses_of old < misses_of new)
-misses_rise jobs messages quiet (Ok x) old new failed = tt
-misses_rise jobs messages quiet (Err f) old new failed = λ is. rises is_missed is_miss miss_shown miss_refused jobs messages quiet f.plan f.history f.error old new failed is
+pub misses_rise : (listings : List Entry) (jobs : Option ℕ) (messages : List Bool) (quiet : Bool) (r : Result Report Failure) (old new : List Entry) → Failed listings jobs messages quiet r old new → IfErr r (λ f. is_miss f.error ≡ true → misses_of old < misses_of new)
+misses_rise listings jobs messages quiet (Ok x) old new failed = tt
+misses_rise listings jobs messages quiet (Err f) old new failed = λ is. rises is_missed is_miss miss_shown miss_refused listings jobs messages quiet f.plan f.history f.error old new failed is
 
 -- ---- favourable records
 
@@ -183,9 +185,9 @@ wanting : (e : Error) → is_wanting e ≡ true → e ≡ error.NoMemory
 wanting error.NoMemory is = refl
 wanting _ is = absurd (cc)
 
-memory_by : (jobs : Option ℕ) (messages : List Bool) (quiet : Bool) (o : Option Plan) (h : List Event) (e : Error) (old new : List Entry) → MatchOption o (∥ EndsBefore quiet e old new ∥₁) (λ plan. ∥ EndsIll plan jobs messages quiet h e old new ∥₁) → (p : Plan) → o ≡ Some p → (es : List Entry) → new ≡ old ++ es → IsFavourable es → e ≡ error.NoMemory
-memory_by jobs messages quiet None h e old new failed p is es grew good = absurd (cc)
-memory_by jobs messages quiet (Some plan) h e old new failed p is es grew good =
+memory_by : (listings : List Entry) (jobs : Option ℕ) (messages : List Bool) (quiet : Bool) (o : Option Plan) (h : List Event) (e : Error) (old new : List Entry) → MatchOption o (∥ EndsBefore listings quiet e old new ∥₁) (λ plan. ∥ EndsIll listings plan jobs messages quiet h e old new ∥₁) → (p : Plan) → o ≡ Some p → (es : List Entry) → new ≡ old ++ es → IsFavourable es → e ≡ error.NoMemory
+memory_by listings jobs messages quiet None h e old new failed p is es grew good = absurd (cc)
+memory_by listings jobs messages quiet (Some plan) h e old new failed p is es grew good =
     wanting e (∥∥₁_elim failed (Bool-set _ _) (λ k.
     let s = k.stretches in
     let same : s.pre ++ (s.mid ++ s.post) ≡ es = append_cancel_left old (s.pre ++ (s.mid ++ s.post)) es (sym s.grew ∙ grew) in
@@ -193,9 +195,9 @@ memory_by jobs messages quiet (Some plan) h e old new failed p is es grew good =
     (subst (λ ys. Contains ys x) same (Contains-append_right s.pre (s.mid ++ s.post) x (Contains-append_left s.mid s.post x c)))))))
 
 -- a run that failed over a favourable record wanted memory
-pub memory_wanted : (jobs : Option ℕ) (messages : List Bool) (quiet : Bool) (r : Result Report Failure) (old new : List Entry) → Failed jobs messages quiet r old new → IfErr r (λ f. (p : Plan) → f.plan ≡ Some p → (es : List Entry) → new ≡ old ++ es → IsFavourable es → f.error ≡ error.NoMemory)
-memory_wanted jobs messages quiet (Ok x) old new failed = tt
-memory_wanted jobs messages quiet (Err f) old new failed = memory_by jobs messages quiet f.plan f.history f.error old new failed
+pub memory_wanted : (listings : List Entry) (jobs : Option ℕ) (messages : List Bool) (quiet : Bool) (r : Result Report Failure) (old new : List Entry) → Failed listings jobs messages quiet r old new → IfErr r (λ f. (p : Plan) → f.plan ≡ Some p → (es : List Entry) → new ≡ old ++ es → IsFavourable es → f.error ≡ error.NoMemory)
+memory_wanted listings jobs messages quiet (Ok x) old new failed = tt
+memory_wanted listings jobs messages quiet (Err f) old new failed = memory_by listings jobs messages quiet f.plan f.history f.error old new failed
 
 -- ---- the world
 

@@ -5,11 +5,17 @@ pub mod Asking
 pub mod Calls
 pub mod Chain
 pub mod Falls
+pub mod Globals
 pub mod Loading
+pub mod Locating
+pub mod OneLocation
+pub mod Planless
+pub mod Prepared
 pub mod Refusals
 pub mod Requests
 pub mod Runs
 pub mod Served
+pub mod Serving
 pub mod Shown
 pub mod Silent
 pub mod Worlds

@@ -1,5 +1,5 @@
 -- What words and arguments ask for, from what the readers of words and of a configuration ensure.
-use Rattle.std.proofs.Common.{◌≡◌, ℕ, List, Some, None, inl, inr, Result, Ok, Err, IfOk, IfErr, refl, sym, ◌∙◌, ap}
+use Rattle.std.proofs.Common.{◌≡◌, ℕ, List, codes, Some, None, inl, inr, Result, Ok, Err, IfOk, IfErr, refl, sym, ◌∙◌, ap}
 use Rattle.just_path.specs.declared.environ.Environ.{Environ}
 use Rattle.just_words.specs.declared.arguments.Arguments.{Arguments}
 use Rattle.just_words.specs.declared.usage.Usage.{Usage}
@@ -13,11 +13,12 @@ use Rattle.just_config.specs.Config.{refusal, config_of, IsRefusedBy}
 use Rattle.just_errors.specs.Refusals.{usage_of_kind, error_of_usage, error_of_config}
 use Rattle.just_errors.specs.declared.error.Error.{Error}
 use Rattle.just_errors.specs.declared.error.Error.TheVariants as error
-use Rattle.just_planning.specs.declared.wanted.Wanted.{Wanted}
 use Rattle.just_planning.specs.Own.{OrMemory}
 use Rattle.just_planning.specs.Steps.{stops, goes_on}
-use Rattle.just_cli.specs.Options.{not_built}
-use Rattle.just_cli.specs.Words.{WordsRequest, FolderRequest, ConfigRequest, WantedRequest, ReadsWords, IsBuilt, Configures}
+use Rattle.just_locate.specs.declared.location.Location.{Location}
+use Rattle.just_locate.specs.declared.location.Origin.TheVariants as origin
+use Rattle.just_cli.specs.Options.{not_built, file_of}
+use Rattle.just_cli.specs.Words.{WordsRequest, FolderRequest, ConfigRequest, ReadsWords, IsBuilt, Configures, TakesFile}
 
 -- ---- words
 
@@ -38,9 +39,6 @@ asked_in a folder environ = record { arguments = a; environ = environ; folder = 
 
 abbrev config_in : Config → Environ → ConfigRequest
 config_in c environ = record { config = c; environ = environ }
-
-abbrev wanted_in : Wanted → Environ → WantedRequest
-wanted_in w environ = record { wanted = w; environ = environ }
 
 -- a refusal of arguments, or want of memory, whatever the environment is
 abbrev RefusesArguments : Arguments → List ℕ → Error → Type 0
@@ -69,27 +67,47 @@ unbuilt_told c word e unbuilt (inr is) = inr (λ environ. (word, unbuilt, is))
 
 -- what of a configuration is built, behind the arguments that give it; or that it isn't
 module _ (a : Arguments) (folder : List ℕ) (c : Config) (gives : (refusal a ≡ None) × (c ≡ config_of a folder)) where
-  behind : (environ : Environ) (r : Result WantedRequest Error) → IsBuilt (config_in c environ) r → Configures (asked_in a folder environ) r
+  behind : (environ : Environ) (r : Result ConfigRequest Error) → IsBuilt (config_in c environ) r → Configures (asked_in a folder environ) r
   behind environ r built = goes_on (config_in c environ) (gives.0, ap (λ x. config_in x environ) gives.1) built
 
-  pub built_behind : (w : Wanted) → ((environ : Environ) → IsBuilt (record { config = c; environ = environ }) (Ok (record { wanted = w; environ = environ })))
-      → (environ : Environ) → Configures (record { arguments = a; environ = environ; folder = folder }) (Ok (record { wanted = w; environ = environ }))
-  built_behind w built environ = behind environ (Ok (wanted_in w environ)) (built environ)
+  built_behind : (d : Config) → ((environ : Environ) → IsBuilt (record { config = c; environ = environ }) (Ok (record { config = d; environ = environ })))
+      → (environ : Environ) → Configures (record { arguments = a; environ = environ; folder = folder }) (Ok (record { config = d; environ = environ }))
+  built_behind d built environ = behind environ (Ok (config_in d environ)) (built environ)
 
-  pub unbuilt_behind : (e : Error) → OrMemory (λ x. (environ : Environ) → IsBuilt (record { config = c; environ = environ }) (Err x)) e
+  unbuilt_behind : (e : Error) → OrMemory (λ x. (environ : Environ) → IsBuilt (record { config = c; environ = environ }) (Err x)) e
       → OrMemory (λ x. (environ : Environ) → Configures (record { arguments = a; environ = environ; folder = folder }) (Err x)) e
   unbuilt_behind e (inl wants) = inl wants
   unbuilt_behind e (inr built) = inr (λ environ. behind environ (Err e) (built environ))
 
 -- the same, for whatever the configuration comes to
-pub each_behind : (a : Arguments) (folder : List ℕ) (c : Config) (r : Result Wanted Error) → (refusal a ≡ None) × (c ≡ config_of a folder)
-    → IfOk r (λ w. (environ : Environ) → IsBuilt (record { config = c; environ = environ }) (Ok (record { wanted = w; environ = environ })))
-    → IfOk r (λ w. (environ : Environ) → Configures (record { arguments = a; environ = environ; folder = folder }) (Ok (record { wanted = w; environ = environ })))
-each_behind a folder c (Ok w) gives built = built_behind a folder c gives w built
+pub each_given : (a : Arguments) (folder : List ℕ) (c : Config) (r : Result Config Error) → (refusal a ≡ None) × (c ≡ config_of a folder) → IfOk r (λ d. d ≡ c) → IfOk r (λ d. (refusal a ≡ None) × (d ≡ config_of a folder))
+each_given a folder c (Ok d) gives same = (gives.0, same ∙ gives.1)
+each_given a folder c (Err e) gives same = tt
+
+pub each_behind : (a : Arguments) (folder : List ℕ) (c : Config) (r : Result Config Error) → (refusal a ≡ None) × (c ≡ config_of a folder)
+    → IfOk r (λ d. (environ : Environ) → IsBuilt (record { config = c; environ = environ }) (Ok (record { config = d; environ = environ })))
+    → IfOk r (λ d. (environ : Environ) → Configures (record { arguments = a; environ = environ; folder = folder }) (Ok (record { config = d; environ = environ })))
+each_behind a folder c (Ok d) gives built = built_behind a folder c gives d built
 each_behind a folder c (Err e) gives built = tt
 
-pub each_unbuilt : (a : Arguments) (folder : List ℕ) (c : Config) (r : Result Wanted Error) → (refusal a ≡ None) × (c ≡ config_of a folder)
+pub each_unbuilt : (a : Arguments) (folder : List ℕ) (c : Config) (r : Result Config Error) → (refusal a ≡ None) × (c ≡ config_of a folder)
     → IfErr r (OrMemory (λ e. (environ : Environ) → IsBuilt (record { config = c; environ = environ }) (Err e)))
     → IfErr r (OrMemory (λ e. (environ : Environ) → Configures (record { arguments = a; environ = environ; folder = folder }) (Err e)))
-each_unbuilt a folder c (Ok w) gives why = tt
+each_unbuilt a folder c (Ok d) gives why = tt
 each_unbuilt a folder c (Err e) gives why = unbuilt_behind a folder c gives e why
+
+-- ---- the justfile
+
+-- a text that comes from elsewhere is told
+untaken_told : (c : Config) (l : Location) (word told : List ℕ) (e : Error) → file_of l.origin ≡ Err word → told ≡ word → OrMemory (λ x. x ≡ error.NotBuilt told) e
+    → OrMemory (λ x. (environ : Environ) → TakesFile (record { config = c; environ = environ; location = l }) (Err x)) e
+untaken_told c l word told e elsewhere same (inl wants) = inl wants
+untaken_told c l word told e elsewhere same (inr is) = inr (λ environ. (word, elsewhere, is ∙ ap (λ w. error.NotBuilt w) same))
+
+pub untaken_markdown : (c : Config) (l : Location) (path told : List ℕ) (e : Error) → l.origin ≡ origin.Markdown path → told ≡ codes ".md" → OrMemory (λ x. x ≡ error.NotBuilt told) e
+    → OrMemory (λ x. (environ : Environ) → TakesFile (record { config = c; environ = environ; location = l }) (Err x)) e
+untaken_markdown c l path told e is same why = untaken_told c l (codes ".md") told e (ap (λ o. file_of o) is) same why
+
+pub untaken_input : (c : Config) (l : Location) (told : List ℕ) (e : Error) → l.origin ≡ origin.StandardInput → told ≡ codes "-" → OrMemory (λ x. x ≡ error.NotBuilt told) e
+    → OrMemory (λ x. (environ : Environ) → TakesFile (record { config = c; environ = environ; location = l }) (Err x)) e
+untaken_input c l told e is same why = untaken_told c l (codes "-") told e (ap (λ o. file_of o) is) same why

@@ -1,6 +1,5 @@
 -- Each step of a request gives one answer of its own at most, and so does the request.
-use Rattle.std.proofs.Common.{◌≡◌, ℕ, true, false, true≢false, List, [], ◌∷◌, Option, Some, None, option_map, Result, Ok, Err, refl, sym, ◌∙◌, ap, subst}
-use Rattle.std.specs.Int.NonZero.{non_zero_u64_get}
+use Rattle.std.proofs.Common.{◌≡◌, ℕ, true, false, true≢false, List, [], ◌∷◌, Option, Some, None, Result, Ok, Err, ◌++◌, refl, sym, ◌∙◌, ap}
 use Rattle.just_path.specs.declared.environ.Environ.{Environ}
 use Rattle.just_path.specs.declared.host.Miss.{Miss}
 use Rattle.just_outside.specs.World.{World}
@@ -16,14 +15,21 @@ use Rattle.just_errors.specs.declared.error.Error.{Error}
 use Rattle.just_errors.specs.declared.error.Error.TheVariants as error
 use Rattle.just_planning.specs.Own.{is_fault, IsOwn}
 use Rattle.just_cli.specs.Faults.{CallGives, FaultFits, io_error, folder_error}
-use Rattle.just_cli.specs.Words.{WordsRequest, ArgumentsRequest, FolderRequest, ConfigRequest, WantedRequest, FindsEnviron, ReadsWords, FindsFolder, GivesConfig, IsBuilt, Configures}
+use Rattle.just_outside.specs.declared.entry.Entry.{Entry}
+use Rattle.just_config.specs.declared.config.Config.{Config}
+use Rattle.just_env.specs.Answers.{entries_of}
+use Rattle.just_locate.specs.declared.location.Location.{Location}
+use Rattle.just_cli.specs.Options.{file_of}
+use Rattle.just_cli.specs.Words.{WordsRequest, ArgumentsRequest, FolderRequest, ConfigRequest, LocatedRequest, JustfileRequest, FindsEnviron, ReadsWords, FindsFolder, GivesConfig, IsBuilt, Configures, FindsLocation, FindsJustfile, TakesFile}
 use Rattle.just_errors.specs.Refusals.{error_of_search}
 use Rattle.just_agree.specs.Loading.{tells_failure}
 use Rattle.just_agree.proofs.Laws.{loads_agree}
 use Rattle.just_planning.specs.Request.{SourcesRequest, Outline, PlansSources}
 use Rattle.just_planning.proofs.Laws.{plans_agree}
-use Rattle.just_cli.specs.Request.{justfile_in, LoadsSources, environ_shown, folder_shown, EnvironGiven, FolderGiven, Serves, Asks}
+use Rattle.just_planning.specs.Steps.{Then, stops, goes_on}
+use Rattle.just_cli.specs.Request.{LoadsSources, EnvironGiven, FolderGiven, Tries, Searches, Serves, Asks, NoneFailed}
 use Rattle.just_cli.proofs.Arguments.{arguments_one}
+use Rattle.just_cli.proofs.OneLocation.{by_one, own_unfailed}
 use Rattle.just_planning.proofs.Steps.{GivesOwn, same_refusal, refused_or_found, same_found, then_own}
 
 -- an option that holds something holds one thing, and not nothing
@@ -103,45 +109,126 @@ is_built k (Err e) (Err f) p m q n = ap (λ x. Err x) (p.2 ∙ ap (λ x. error.N
 configures : GivesOwn Configures
 configures = then_own GivesConfig IsBuilt gives_config is_built
 
--- ---- the project
+-- ---- the place of the justfile
 
 -- a refusal that tells of no failed call is one of a search that tells of none
-own_load : (f : SearchError) → is_fault (error_of_search f) ≡ false → tells_failure f ≡ false
-own_load (search.FilesystemIo path (fault.Failed c)) own = absurd (true≢false own)
-own_load (search.FilesystemIo path (fault.Missed m)) own = refl
-own_load (search.FilesystemIo path fault.NoMemory) own = refl
-own_load (search.Load path (fault.Failed c)) own = absurd (true≢false own)
-own_load (search.Load path (fault.Missed m)) own = refl
-own_load (search.Load path fault.NoMemory) own = refl
-own_load _ own = refl
+own_search : (f : SearchError) → is_fault (error_of_search f) ≡ false → tells_failure f ≡ false
+own_search (search.FilesystemIo path (fault.Failed c)) own = absurd (true≢false own)
+own_search (search.FilesystemIo path (fault.Missed m)) own = refl
+own_search (search.FilesystemIo path fault.NoMemory) own = refl
+own_search (search.Load path (fault.Failed c)) own = absurd (true≢false own)
+own_search (search.Load path (fault.Missed m)) own = refl
+own_search (search.Load path fault.NoMemory) own = refl
+own_search _ own = refl
 
-load_refused : (f : SearchError) (e : Error) → e ≡ error_of_search f → is_fault e ≡ false → tells_failure f ≡ false
-load_refused f e is own = own_load f (ap (λ x. is_fault x) (sym is) ∙ own)
+search_refused : (f : SearchError) (e : Error) → e ≡ error_of_search f → is_fault e ≡ false → tells_failure f ≡ false
+search_refused f e is own = own_search f (ap (λ x. is_fault x) (sym is) ∙ own)
+
+-- the step finds the justfile over listings none of which failed
+abbrev pub FindsUnfailed : World → ConfigRequest → Result LocatedRequest Error → Type 0
+FindsUnfailed w k r = (listings : List Entry) × NoneFailed listings × FindsJustfile (FindsLocation (Some w) listings) k r
+
+-- over a told world a justfile is found in one place
+module _ (w : World) where
+  location_own : (config : Config) (ls ms : List Entry) (r s : Result Location Error) → NoneFailed ls → NoneFailed ms → FindsLocation (Some w) ls config r → IsOwn r → FindsLocation (Some w) ms config s → IsOwn s → r ≡ s
+  location_own config ls ms (Ok a) (Ok b) none never p m q n =
+      let same = by_one w config config.search_config ls ms (Ok a) (Ok b) p none tt q never tt in
+      let place : a ≡ b = cc in ap (λ x. Ok x) place
+  location_own config ls ms (Ok a) (Err f) none never p m (g, q, is) n =
+      let own = search_refused g f is n.0 in
+      let same = by_one w config config.search_config ls (ms ++ entries_of g) (Ok a) (Err g) p none tt q (own_unfailed w config ms g never own) own in absurd (let no : ⊥ = cc in no)
+  location_own config ls ms (Err e) (Ok b) none never (f, p, is) m q n =
+      let own = search_refused f e is m.0 in
+      let same = by_one w config config.search_config (ls ++ entries_of f) ms (Err f) (Ok b) p (own_unfailed w config ls f none own) own q never tt in absurd (let no : ⊥ = cc in no)
+  location_own config ls ms (Err d) (Err e) none never (f, p, is) m (g, q, at) n =
+      let own = search_refused f d is m.0 in
+      let other = search_refused g e at n.0 in
+      let same = by_one w config config.search_config (ls ++ entries_of f) (ms ++ entries_of g) (Err f) (Err g) p (own_unfailed w config ls f none own) own q (own_unfailed w config ms g never other) other in
+      let refusals : f ≡ g = cc in
+      ap (λ x. Err x) (is ∙ ap (λ x. error_of_search x) refusals ∙ sym at)
+
+  finds_justfile : GivesOwn (FindsUnfailed w)
+  finds_justfile k (Ok a) (Ok b) (ls, none, p) m (ms, never, q) n =
+      ap (λ x. Ok x)
+      (ap (λ x. let z : LocatedRequest = record { config = x; environ = a.environ; location = a.location } in z) (p.0 ∙ sym q.0)
+      ∙ ap (λ x. let z : LocatedRequest = record { config = b.config; environ = x; location = a.location } in z) (p.1 ∙ sym q.1)
+      ∙ ap (λ x. let z : LocatedRequest = record { config = b.config; environ = b.environ; location = x } in z) (same_found a.location b.location (location_own k.config ls ms (Ok a.location) (Ok b.location) none never p.2 tt q.2 tt)))
+  finds_justfile k (Ok a) (Err f) (ls, none, p) m (ms, never, q) n = absurd (refused_or_found f a.location (location_own k.config ms ls (Err f) (Ok a.location) never none q n p.2 tt))
+  finds_justfile k (Err e) (Ok b) (ls, none, p) m (ms, never, q) n = absurd (refused_or_found e b.location (location_own k.config ls ms (Err e) (Ok b.location) none never p m q.2 tt))
+  finds_justfile k (Err e) (Err f) (ls, none, p) m (ms, never, q) n = same_refusal e f (location_own k.config ls ms (Err e) (Err f) none never p m q n)
+
+-- a file is one path, or it is none
+file_one : (q : LocatedRequest) (f g : List ℕ) → file_of q.location.origin ≡ Ok f → file_of q.location.origin ≡ Ok g → f ≡ g
+file_one q f g p r = let both : ◌≡◌ {A = Result (List ℕ) (List ℕ)} (Ok f) (Ok g) = sym p ∙ r in cc
+
+file_or_none : (q : LocatedRequest) (f word : List ℕ) → file_of q.location.origin ≡ Ok f → file_of q.location.origin ≡ Err word → ⊥
+file_or_none q f word p r = let both : ◌≡◌ {A = Result (List ℕ) (List ℕ)} (Ok f) (Err word) = sym p ∙ r in let no : ⊥ = cc in no
+
+word_one : (q : LocatedRequest) (v u : List ℕ) → file_of q.location.origin ≡ Err v → file_of q.location.origin ≡ Err u → v ≡ u
+word_one q v u p r = let both : ◌≡◌ {A = Result (List ℕ) (List ℕ)} (Err v) (Err u) = sym p ∙ r in cc
+
+takes_file : GivesOwn TakesFile
+takes_file k (Ok a) (Ok b) p m q n =
+    ap (λ x. Ok x)
+    (ap (λ x. let z : JustfileRequest = record { wanted = x; environ = a.environ; justfile = a.justfile } in z) (p.1 ∙ sym q.1)
+    ∙ ap (λ x. let z : JustfileRequest = record { wanted = b.wanted; environ = x; justfile = a.justfile } in z) (p.2 ∙ sym q.2)
+    ∙ ap (λ x. let z : JustfileRequest = record { wanted = b.wanted; environ = b.environ; justfile = x } in z) (file_one k a.justfile b.justfile p.0 q.0))
+takes_file k (Ok a) (Err f) p m q n = absurd (file_or_none k a.justfile q.0 p.0 q.1)
+takes_file k (Err e) (Ok b) p m q n = absurd (file_or_none k b.justfile p.0 q.0 p.1)
+takes_file k (Err e) (Err f) p m q n = ap (λ x. Err x) (p.2 ∙ ap (λ x. error.NotBuilt x) (word_one k p.0 q.0 p.1 q.1) ∙ sym q.2)
+
+-- ---- the project
 
 -- over a told world one project is loaded
 module _ (w : World) where
   loads_sources : GivesOwn (LoadsSources (Some w))
   loads_sources k (Ok a) (Ok b) p m q n =
-      let same = loads_agree w [] (justfile_in k.wanted.flags.folder) (Ok a.sources) (Ok b.sources) p.2 tt q.2 tt in
+      let same = loads_agree w k.environ.pairs [] (k.justfile ∷ []) (Ok a.sources) (Ok b.sources) p.2 tt q.2 tt in
       let sources : a.sources ≡ b.sources = cc in
       ap (λ x. Ok x)
       (ap (λ x. let z : SourcesRequest = record { wanted = x; environ = a.environ; sources = a.sources } in z) (p.0 ∙ sym q.0)
       ∙ ap (λ x. let z : SourcesRequest = record { wanted = b.wanted; environ = x; sources = a.sources } in z) (p.1 ∙ sym q.1)
       ∙ ap (λ x. let z : SourcesRequest = record { wanted = b.wanted; environ = b.environ; sources = x } in z) sources)
   loads_sources k (Ok a) (Err f) p m q n =
-      let same = loads_agree w [] (justfile_in k.wanted.flags.folder) (Ok a.sources) (Err q.0) p.2 tt q.1 (load_refused q.0 f q.2 n.0) in absurd (let no : ⊥ = cc in no)
+      let same = loads_agree w k.environ.pairs [] (k.justfile ∷ []) (Ok a.sources) (Err q.0) p.2 tt q.1 (search_refused q.0 f q.2 n.0) in absurd (let no : ⊥ = cc in no)
   loads_sources k (Err e) (Ok b) p m q n =
-      let same = loads_agree w [] (justfile_in k.wanted.flags.folder) (Err p.0) (Ok b.sources) p.1 (load_refused p.0 e p.2 m.0) q.2 tt in absurd (let no : ⊥ = cc in no)
+      let same = loads_agree w k.environ.pairs [] (k.justfile ∷ []) (Err p.0) (Ok b.sources) p.1 (search_refused p.0 e p.2 m.0) q.2 tt in absurd (let no : ⊥ = cc in no)
   loads_sources k (Err e) (Err f) p m q n =
-      let same = loads_agree w [] (justfile_in k.wanted.flags.folder) (Err p.0) (Err q.0) p.1 (load_refused p.0 e p.2 m.0) q.1 (load_refused q.0 f q.2 n.0) in
+      let same = loads_agree w k.environ.pairs [] (k.justfile ∷ []) (Err p.0) (Err q.0) p.1 (search_refused p.0 e p.2 m.0) q.1 (search_refused q.0 f q.2 n.0) in
       let refusals : p.0 ≡ q.0 = cc in
       ap (λ x. Err x) (p.2 ∙ ap (λ x. error_of_search x) refusals ∙ sym q.2)
 
 -- ---- the chain
 
-serves_own : (w : World) → GivesOwn (Serves (Some w))
-serves_own w = then_own (FindsFolder (FolderGiven (Some w))) _ (finds_folder w) (then_own Configures _ configures (then_own (LoadsSources (Some w)) PlansSources (loads_sources w) plans_agree))
+-- the steps behind the words, over listings none of which failed
+abbrev ServesUnfailed : World → ArgumentsRequest → Result Outline Error → Type 0
+ServesUnfailed w = Then (FindsFolder (FolderGiven (Some w))) (Then Configures (Then (FindsUnfailed w) (Tries (Some w))))
 
--- in a world words ask for one thing: a run of one plan, or a refusal with one error
-pub one_answer : (words : List (List ℕ)) (w : World) (r s : Result Outline Error) → Asks words (Some w) r → IsOwn r → Asks words (Some w) s → IsOwn s → r ≡ s
-one_answer words w r s p m q n = then_own (FindsEnviron (EnvironGiven (Some w))) _ (finds_environ w) (then_own ReadsWords (Serves (Some w)) reads_words (serves_own w)) words r s p m q n
+abbrev AsksUnfailed : World → List (List ℕ) → Result Outline Error → Type 0
+AsksUnfailed w = Then (FindsEnviron (EnvironGiven (Some w))) (Then ReadsWords (ServesUnfailed w))
+
+-- steps that answer more
+then_more : {A B C : Type 0} (one other : A → Result B Error → Type 0) (two more : B → Result C Error → Type 0) → ((k : A) (r : Result B Error) → one k r → other k r) → ((k : B) (r : Result C Error) → two k r → more k r)
+    → (k : A) (r : Result C Error) → Then one two k r → Then other more k r
+then_more one other two more f g k r (stops e p is) = stops e (f k (Err e) p) is
+then_more one other two more f g k r (goes_on x p rest) = goes_on x (f k (Ok x) p) (g x r rest)
+
+module _ (w : World) where
+  tries_own : GivesOwn (Tries (Some w))
+  tries_own = then_own TakesFile _ takes_file (then_own (LoadsSources (Some w)) PlansSources (loads_sources w) plans_agree)
+
+  serves_own : GivesOwn (ServesUnfailed w)
+  serves_own = then_own (FindsFolder (FolderGiven (Some w))) _ (finds_folder w) (then_own Configures _ configures (then_own (FindsUnfailed w) (Tries (Some w)) (finds_justfile w) tries_own))
+
+  asks_unfailed : (words : List (List ℕ)) (listings : List Entry) (r : Result Outline Error) → NoneFailed listings → Asks words (Some w) listings r → AsksUnfailed w words r
+  asks_unfailed words listings r none asks =
+      then_more (FindsEnviron (EnvironGiven (Some w))) (FindsEnviron (EnvironGiven (Some w))) (Then ReadsWords (Serves (Some w) listings)) (Then ReadsWords (ServesUnfailed w)) (λ k s p. p)
+      (then_more ReadsWords ReadsWords (Serves (Some w) listings) (ServesUnfailed w) (λ k s p. p)
+      (then_more (FindsFolder (FolderGiven (Some w))) (FindsFolder (FolderGiven (Some w))) (Then Configures (Searches (Some w) listings)) (Then Configures (Then (FindsUnfailed w) (Tries (Some w)))) (λ k s p. p)
+      (then_more Configures Configures (Searches (Some w) listings) (Then (FindsUnfailed w) (Tries (Some w))) (λ k s p. p)
+      (then_more (FindsJustfile (FindsLocation (Some w) listings)) (FindsUnfailed w) (Tries (Some w)) (Tries (Some w)) (λ k s p. (listings, none, p)) (λ k s p. p))))) words r asks
+
+-- in a world words ask for one thing: a run of one plan, or a refusal with one error, where no listing failed
+pub one_answer : (words : List (List ℕ)) (w : World) (ls ms : List Entry) (r s : Result Outline Error) → NoneFailed ls → NoneFailed ms → Asks words (Some w) ls r → IsOwn r → Asks words (Some w) ms s → IsOwn s → r ≡ s
+one_answer words w ls ms r s none never p m q n =
+    then_own (FindsEnviron (EnvironGiven (Some w))) _ (finds_environ w) (then_own ReadsWords (ServesUnfailed w) reads_words (serves_own w)) words r s (asks_unfailed w words ls r none p) m (asks_unfailed w words ms s never q) n

@@ -21,9 +21,10 @@ use Rattle.just_errors.specs.declared.error.Error.{Error}
 use Rattle.just_planning.specs.Own.{OrMemory}
 use Rattle.just_outcome.specs.Outcome.{IsErrorFor}
 use Rattle.just_cli.specs.Quiet.{AskQuiet}
-use Rattle.just_cli.specs.Record.{IsBook, IsTold, AreMisses, EndsWith, EndsWell, EndsIll, EndsBefore}
-use Rattle.just_planning.specs.Request.{outline_of}
-use Rattle.just_cli.specs.Request.{Asks, IsAsked, RefusedFor}
+use Rattle.just_cli.specs.Preparing.{LeavesMisses, EndsWith, Prepares}
+use Rattle.just_cli.specs.Record.{IsBook, IsTold, EndsWell, EndsIll, EndsBefore}
+use Rattle.just_planning.specs.Request.{Outline, outline_of}
+use Rattle.just_cli.specs.Request.{Asks, AsksGlobal, IsAsked, RefusedFor}
 use Rattle.just_cli.specs.Run.{IsRun}
 use Rattle.just_errors.specs.Codes.{exit_code}
 use Rattle.just_cli.proofs.Answered.{answered}
@@ -38,8 +39,8 @@ IsToldBehind quiet e now new = (es : List Entry) × (new ≡ now ++ es) × IsTol
 -- ---- without a plan
 
 -- a refusal before the book
-pub ends_before : (quiet : Bool) (e : Error) (old now new pre : List Entry) → now ≡ old ++ pre → EndsWith e pre → IsToldBehind quiet e now new → EndsBefore quiet e old new
-ends_before quiet e old now new pre grew ends told = record {
+pub ends_before : (listings : List Entry) (quiet : Bool) (e : Error) (old now new pre : List Entry) → now ≡ old ++ pre → EndsWith listings e pre → IsToldBehind quiet e now new → EndsBefore listings quiet e old new
+ends_before listings quiet e old now new pre grew ends told = record {
   stretches = record { pre = pre; mid = []; post = told.0; grew = told.1 ∙ (ap (λ es. es ++ told.0) grew ∙ append_assoc old pre told.0) };
   prepared = ends;
   unopened = refl;
@@ -47,23 +48,26 @@ ends_before quiet e old now new pre grew ends told = record {
 }
 
 -- a refusal of a request, or want of memory, as why there is no plan
-refused_for : (words : List (List ℕ)) (told : Option World) (e : Error) → OrMemory (λ f. Asks words told (Err f)) e → RefusedFor words told e
-refused_for words told e (inl wants) = inr wants
-refused_for words told e (inr asks) = inl asks
+refused_for : (words : List (List ℕ)) (told : Option World) (listings : List Entry) (e : Error) → OrMemory (λ f. Asks words told listings (Err f)) e → RefusedFor words told listings e
+refused_for words told listings e (inl wants) = inr wants
+refused_for words told listings e (inr asks) = inl asks
 
-pub run_before : (words : List (List ℕ)) (told after : Option World) (old now new pre : List Entry) (quiet : Bool) (r : Result Report Failure) (e : Error) (h : List Event)
-    → r ≡ Err (record { error = e; plan = None; history = h; code = exit_code e }) → h ≡ [] → OrMemory (λ f. Asks words told (Err f)) e → AskQuiet words told quiet e
-    → now ≡ old ++ pre → EndsWith e pre → IsToldBehind quiet e now new → after ≡ told → IsRun words told after old new r
-run_before words told after old now new pre quiet r e h is no_history why asks_quiet grew ends tells world =
+pub run_before : (words : List (List ℕ)) (told after : Option World) (old now new : List Entry) (quiet : Bool) (r : Result Report Failure) (e : Error) (h : List Event)
+    → r ≡ Err (record { error = e; plan = None; history = h; code = exit_code e }) → h ≡ [] → Prepares {A = Outline} (AsksGlobal words told) (Asks words told) old now (Err e) → AskQuiet words told quiet e
+    → IsToldBehind quiet e now new → after ≡ told → IsRun words told after old new r
+run_before words told after old now new quiet r e h is no_history p asks_quiet tells world =
     let f : Failure = record { error = e; plan = None; history = h; code = exit_code e } in
     let jobs : Option ℕ = None in
     let messages : List Bool = [] in
-    let refused : f.plan ≡ None → ∥ RefusedFor words told e ∥₁ = λ _. ∣ refused_for words told e why ∣₁ in
-    let left : ∥ EndsBefore quiet e old new ∥₁ = ∣ ends_before quiet e old now new pre grew ends tells ∣₁ in
-    let fits = answered jobs messages words told (Err f) tt refused in
+    let listings : List Entry = p.0 in
+    let refused : f.plan ≡ None → ∥ RefusedFor words told listings e ∥₁ = λ _. ∣ refused_for words told listings e p.5 ∣₁ in
+    let left : ∥ EndsBefore listings quiet e old new ∥₁ = ∣ ends_before listings quiet e old now new p.1 p.2 p.4 tells ∣₁ in
+    let fits = answered jobs messages words told listings (Err f) tt refused in
     subst (λ q. IsRun words told after old new q) (sym is) (record {
       jobs = jobs;
       messages = messages;
+      listings = listings;
+      passed = p.3;
       quiet = quiet;
       quiet_is = ∣ asks_quiet ∣₁;
       ran = tt;
@@ -71,18 +75,18 @@ run_before words told after old now new pre quiet r e h is no_history why asks_q
       refused = refused;
       answered = fits;
       failed = left;
-      complete = served words told jobs messages quiet (Err f) old new fits left;
+      complete = served words told listings jobs messages quiet (Err f) old new fits left;
       unplanned = λ _. no_history;
       code = refl;
-      favoured = memory_wanted jobs messages quiet (Err f) old new left;
-      faults = faults_rise jobs messages quiet (Err f) old new left;
-      misses = misses_rise jobs messages quiet (Err f) old new left;
+      favoured = memory_wanted listings jobs messages quiet (Err f) old new left;
+      faults = faults_rise listings jobs messages quiet (Err f) old new left;
+      misses = misses_rise listings jobs messages quiet (Err f) old new left;
       untouched = λ es grown calm. world;
     })
 
--- ---- with a plan; behind the misses of its preparation the record is `entered`
+-- ---- with a plan; behind what its preparation leaves the record is `entered`
 
-module _ (plan : Plan) (jobs : Option ℕ) (old pre entered : List Entry) (grew : entered ≡ old ++ pre) (misses : AreMisses pre) (w : Option World) (h : List Event) (v : Verdict) (now : List Entry) (seen : Option World)
+module _ (listings : List Entry) (plan : Plan) (jobs : Option ℕ) (old pre entered : List Entry) (grew : entered ≡ old ++ pre) (misses : LeavesMisses listings pre) (w : Option World) (h : List Event) (v : Verdict) (now : List Entry) (seen : Option World)
     (d : IsDriven (start_with plan jobs entered w) plan h v now seen) where
   here : (holds : Run → Type 0) → holds (run_over plan jobs entered) → holds (run_over plan jobs (old ++ pre))
   here holds a = subst (λ es. holds (run_over plan jobs es)) grew a
@@ -94,7 +98,7 @@ module _ (plan : Plan) (jobs : Option ℕ) (old pre entered : List Entry) (grew 
   grown gained post =
       ap (λ es. (es ++ gained) ++ post) grew ∙ append_assoc (old ++ pre) gained post ∙ append_assoc old pre (gained ++ post)
 
-  ends_well : v ≡ verdict.Well → ∥ EndsWell plan jobs h old now ∥₁
+  ends_well : v ≡ verdict.Well → ∥ EndsWell listings plan jobs h old now ∥₁
   ends_well well = ∥∥₁_map d.kept (λ k. record {
     stretches = record { pre = pre; mid = k.gained; post = []; grew = k.grew ∙ sym (append-nil (entered ++ k.gained)) ∙ grown k.gained [] };
     prepared = misses;
@@ -104,7 +108,7 @@ module _ (plan : Plan) (jobs : Option ℕ) (old pre entered : List Entry) (grew 
     silent = refl;
   })
 
-  ends_ill : (messages : List Bool) (quiet : Bool) (e : Error) (new : List Entry) → IsErrorFor plan.nodes messages h v (Some e) → IsToldBehind quiet e now new → ∥ EndsIll plan jobs messages quiet h e old new ∥₁
+  ends_ill : (messages : List Bool) (quiet : Bool) (e : Error) (new : List Entry) → IsErrorFor plan.nodes messages h v (Some e) → IsToldBehind quiet e now new → ∥ EndsIll listings plan jobs messages quiet h e old new ∥₁
   ends_ill messages quiet e new decided told = ∥∥₁_map d.kept (λ k.
       let cause = error_caused (run_over plan jobs entered) h k.gained k.legal k.matches messages v e d.verdict decided in
       record {
@@ -130,49 +134,56 @@ went_well nodes messages shown verdict.NoMemory is = absurd (let no : ⊥ = cc i
 some_none : {A : Type 0} (x : A) → Some x ≡ None → ⊥
 some_none x is = let no : ⊥ = cc in no
 
-pub run_well : (words : List (List ℕ)) (told after : Option World) (old pre entered now : List Entry) (w seen : Option World) (jobs : Option ℕ) (messages : List Bool) (quiet : Bool) (plan driven : Plan) (h : List Event) (v : Verdict) (r : Result Report Failure) (nodes : List PlanNode) (heard : List Bool) (shown : List Event)
-    → r ≡ Ok (record { plan = driven; history = h }) → IsDriven (start_with plan jobs entered w) driven h v now seen → Asks words told (Ok (outline_of plan jobs messages))
-    → entered ≡ old ++ pre → AreMisses pre → w ≡ told → after ≡ seen → IsErrorFor nodes heard shown v None → IsRun words told after old now r
-run_well words told after old pre entered now w seen jobs messages quiet plan driven h v r nodes heard shown is driven_so asks grew misses w_is after_is no_error =
+pub run_well : (words : List (List ℕ)) (told after : Option World) (old entered now : List Entry) (w seen : Option World) (jobs : Option ℕ) (messages : List Bool) (quiet : Bool) (plan driven : Plan) (h : List Event) (v : Verdict) (r : Result Report Failure) (nodes : List PlanNode) (heard : List Bool) (shown : List Event)
+    → r ≡ Ok (record { plan = driven; history = h }) → IsDriven (start_with plan jobs entered w) driven h v now seen → Prepares (AsksGlobal words told) (Asks words told) old entered (Ok (outline_of plan jobs messages))
+    → w ≡ told → after ≡ seen → IsErrorFor nodes heard shown v None → IsRun words told after old now r
+run_well words told after old entered now w seen jobs messages quiet plan driven h v r nodes heard shown is driven_so p w_is after_is no_error =
     let d : IsDriven (start_with plan jobs entered w) plan h v now seen = subst (λ p. IsDriven (start_with plan jobs entered w) p h v now seen) driven_so.plan driven_so in
     let report : Report = record { plan = plan; history = h } in
     let same : r ≡ Ok report = is ∙ ap (λ p. let x : Report = record { plan = p; history = h } in Ok x) driven_so.plan in
-    let asked : IsAsked words told plan jobs messages = ∣ asks ∣₁ in
-    let fits = answered jobs messages words told (Ok report) asked tt in
+    let listings : List Entry = p.0 in
+    let asked : IsAsked words told listings plan jobs messages = ∣ p.5 ∣₁ in
+    let fits = answered jobs messages words told listings (Ok report) asked tt in
     subst (λ q. IsRun words told after old now q) (sym same) (record {
       jobs = jobs;
       messages = messages;
+      listings = listings;
+      passed = p.3;
       quiet = quiet;
       quiet_is = tt;
-      ran = ends_well plan jobs old pre entered grew misses w h v now seen d (went_well nodes heard shown v no_error);
+      ran = ends_well listings plan jobs old p.1 entered p.2 p.4 w h v now seen d (went_well nodes heard shown v no_error);
       asked = asked;
       refused = tt;
       answered = fits;
       failed = tt;
-      complete = served words told jobs messages quiet (Ok report) old now fits tt;
+      complete = served words told listings jobs messages quiet (Ok report) old now fits tt;
       unplanned = tt;
       code = tt;
       favoured = tt;
       faults = tt;
       misses = tt;
-      untouched = λ es grown calm. after_is ∙ (world_left (start_with plan jobs entered w) h old pre now now seen [] es grew d.kept (sym (append-nil now)) grown calm ∙ w_is);
+      untouched = λ es grown calm. after_is ∙ (world_left (start_with plan jobs entered w) h old p.1 now now seen [] es p.2 d.kept (sym (append-nil now)) grown calm ∙ w_is);
     })
 
-pub run_ill : (words : List (List ℕ)) (told after : Option World) (old pre entered now new : List Entry) (w seen : Option World) (jobs : Option ℕ) (messages : List Bool) (quiet : Bool) (plan driven : Plan) (h : List Event) (heard : List Bool) (shown : List Event) (v : Verdict) (e : Error) (r : Result Report Failure)
-    → r ≡ Err (record { error = e; plan = Some driven; history = h; code = exit_code e }) → IsDriven (start_with plan jobs entered w) driven h v now seen → Asks words told (Ok (outline_of plan jobs messages)) → AskQuiet words told quiet e
-    → entered ≡ old ++ pre → AreMisses pre → w ≡ told → after ≡ seen → IsErrorFor driven.nodes heard shown v (Some e) → heard ≡ messages → shown ≡ h → IsToldBehind quiet e now new → IsRun words told after old new r
-run_ill words told after old pre entered now new w seen jobs messages quiet plan driven h heard shown v e r is driven_so asks asks_quiet grew misses w_is after_is error_is heard_is shown_is tells =
+pub run_ill : (words : List (List ℕ)) (told after : Option World) (old entered now new : List Entry) (w seen : Option World) (jobs : Option ℕ) (messages : List Bool) (quiet : Bool) (plan driven : Plan) (h : List Event) (heard : List Bool) (shown : List Event) (v : Verdict) (e : Error) (r : Result Report Failure)
+    → r ≡ Err (record { error = e; plan = Some driven; history = h; code = exit_code e }) → IsDriven (start_with plan jobs entered w) driven h v now seen
+    → Prepares (AsksGlobal words told) (Asks words told) old entered (Ok (outline_of plan jobs messages)) → AskQuiet words told quiet e
+    → w ≡ told → after ≡ seen → IsErrorFor driven.nodes heard shown v (Some e) → heard ≡ messages → shown ≡ h → IsToldBehind quiet e now new → IsRun words told after old new r
+run_ill words told after old entered now new w seen jobs messages quiet plan driven h heard shown v e r is driven_so p asks_quiet w_is after_is error_is heard_is shown_is tells =
     let d : IsDriven (start_with plan jobs entered w) plan h v now seen = subst (λ p. IsDriven (start_with plan jobs entered w) p h v now seen) driven_so.plan driven_so in
     let f : Failure = record { error = e; plan = Some plan; history = h; code = exit_code e } in
     let same : r ≡ Err f = is ∙ ap (λ p. let x : Failure = record { error = e; plan = Some p; history = h; code = exit_code e } in Err x) driven_so.plan in
     let decided : IsErrorFor plan.nodes messages h v (Some e) = subst (λ k. IsErrorFor plan.nodes messages k v (Some e)) shown_is (subst (λ ms. IsErrorFor plan.nodes ms shown v (Some e)) heard_is (subst (λ p. IsErrorFor p.nodes heard shown v (Some e)) driven_so.plan error_is)) in
-    let asked : IsAsked words told plan jobs messages = ∣ asks ∣₁ in
-    let refused : f.plan ≡ None → ∥ RefusedFor words told e ∥₁ = λ none. absurd (some_none plan none) in
-    let left = ends_ill plan jobs old pre entered grew misses w h v now seen d messages quiet e new decided tells in
-    let fits = answered jobs messages words told (Err f) asked refused in
+    let listings : List Entry = p.0 in
+    let asked : IsAsked words told listings plan jobs messages = ∣ p.5 ∣₁ in
+    let refused : f.plan ≡ None → ∥ RefusedFor words told listings e ∥₁ = λ none. absurd (some_none plan none) in
+    let left = ends_ill listings plan jobs old p.1 entered p.2 p.4 w h v now seen d messages quiet e new decided tells in
+    let fits = answered jobs messages words told listings (Err f) asked refused in
     subst (λ q. IsRun words told after old new q) (sym same) (record {
       jobs = jobs;
       messages = messages;
+      listings = listings;
+      passed = p.3;
       quiet = quiet;
       quiet_is = ∣ asks_quiet ∣₁;
       ran = tt;
@@ -180,11 +191,11 @@ run_ill words told after old pre entered now new w seen jobs messages quiet plan
       refused = refused;
       answered = fits;
       failed = left;
-      complete = served words told jobs messages quiet (Err f) old new fits left;
+      complete = served words told listings jobs messages quiet (Err f) old new fits left;
       unplanned = λ none. absurd (some_none plan none);
       code = refl;
-      favoured = memory_wanted jobs messages quiet (Err f) old new left;
-      faults = faults_rise jobs messages quiet (Err f) old new left;
-      misses = misses_rise jobs messages quiet (Err f) old new left;
-      untouched = λ es grown calm. after_is ∙ (world_left (start_with plan jobs entered w) h old pre now new seen tells.0 es grew d.kept tells.1 grown calm ∙ w_is);
+      favoured = memory_wanted listings jobs messages quiet (Err f) old new left;
+      faults = faults_rise listings jobs messages quiet (Err f) old new left;
+      misses = misses_rise listings jobs messages quiet (Err f) old new left;
+      untouched = λ es grown calm. after_is ∙ (world_left (start_with plan jobs entered w) h old p.1 now new seen tells.0 es p.2 d.kept tells.1 grown calm ∙ w_is);
     })

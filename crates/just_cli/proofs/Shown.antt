@@ -29,7 +29,7 @@ pub unshown : (text : List ℕ) (told after : Option World) (old now new : List 
 unshown text told after old now new r io e h is no_history error_is grew tells world =
     subst (λ q. IsShown text told after old new q) (sym is) (record {
       shown = tt;
-      unshown = (refl, no_history, refl, (io, error_is), ends_before false e old now new (refused [] io) grew ([], tt, sym (ap entries_of error_is ∙ print_entries io)) tells);
+      unshown = (refl, no_history, refl, (io, error_is), ends_before [] false e old now new (refused [] io) grew ([], tt, sym (ap entries_of error_is ∙ print_entries io)) tells);
       world = world;
     })
 

@@ -3,6 +3,7 @@ pub mod Answered
 pub mod Exit
 pub mod Faults
 pub mod Options
+pub mod Preparing
 pub mod Questions
 pub mod Quiet
 pub mod Record

@@ -1,13 +1,13 @@
 -- What of a configuration isn't built yet, and what is asked of a justfile.
-use Rattle.std.specs.Prelude.{ℕ, Bool, true, false, ◌||◌, if◌then◌else◌, nat_le, List, [], ◌∷◌, Option, Some, None, codes, is_some}
+use Rattle.std.specs.Prelude.{ℕ, Bool, true, false, ◌||◌, if◌then◌else◌, nat_le, List, [], ◌∷◌, Option, Some, None, Result, Ok, Err, codes}
 use Rattle.just_path.specs.Environ.{or_else}
 use Rattle.just_words.specs.declared.subcommand.Subcommand.{Subcommand}
 use Rattle.just_words.specs.declared.subcommand.Subcommand.TheVariants as command
 use Rattle.just_config.specs.declared.config.Config.{Config}
-use Rattle.just_config.specs.declared.search_config.SearchConfig.{SearchConfig}
-use Rattle.just_config.specs.declared.search_config.SearchConfig.TheVariants as search
 use Rattle.just_config.specs.Verbosities.{level}
 use Rattle.just_commands.specs.declared.run_flags.RunFlags.{RunFlags}
+use Rattle.just_locate.specs.declared.location.Origin.{Origin}
+use Rattle.just_locate.specs.declared.location.Origin.TheVariants as origin
 use Rattle.just_planning.specs.Forms.{word_if}
 use Rattle.just_planning.specs.declared.wanted.Wanted.{Wanted}
 
@@ -22,24 +22,14 @@ abbrev pub flag_not_built : Config → Option (List ℕ)
 flag_not_built c =
     or_else (word_if c.allow_missing (codes "--allow-missing"))
     (or_else (word_if c.default_list (codes "--default-list"))
-    (or_else (word_if c.dry_run (codes "--dry-run"))
-    (word_if c.global_justfile (codes "--global-justfile"))))
-
--- the word of the first option with one value that isn't built
-abbrev pub value_not_built : Config → Option (List ℕ)
-value_not_built c =
-    or_else (word_if (is_some c.ceiling) (codes "--ceiling"))
-    (or_else (word_if (is_some c.justfile) (codes "--justfile"))
-    (or_else (word_if (is_some c.tempdir) (codes "--tempdir"))
-    (word_if (is_some c.working_directory) (codes "--working-directory"))))
+    (word_if c.dry_run (codes "--dry-run")))
 
 -- the word of the first option with several values that isn't built
 abbrev pub list_not_built : Config → Option (List ℕ)
 list_not_built c =
     or_else (word_if (is_any c.dotenv_command) (codes "--dotenv-command"))
     (or_else (word_if (is_any c.dotenv_filename) (codes "--dotenv-filename"))
-    (or_else (word_if (is_any c.dotenv_path) (codes "--dotenv-path"))
-    (word_if (is_any c.justfile_name) (codes "--justfile-name"))))
+    (word_if (is_any c.dotenv_path) (codes "--dotenv-path")))
 
 -- the word of a command; none is built
 abbrev pub command_word : Subcommand → List ℕ
@@ -63,19 +53,15 @@ abbrev pub command_not_built : Option Subcommand → Option (List ℕ)
 command_not_built None = None
 command_not_built (Some s) = Some (command_word s)
 
--- the folder in front of the first word
-abbrev pub folder_not_built : SearchConfig → Option (List ℕ)
-folder_not_built (search.FromSearchDirectory folder) = Some folder
-folder_not_built _ = None
-
 -- the word of what isn't built, of the first in the order of the options
 abbrev pub not_built : Config → Option (List ℕ)
-not_built c =
-    or_else (flag_not_built c)
-    (or_else (value_not_built c)
-    (or_else (list_not_built c)
-    (or_else (command_not_built c.subcommand)
-    (folder_not_built c.search_config))))
+not_built c = or_else (flag_not_built c) (or_else (list_not_built c) (command_not_built c.subcommand))
+
+-- the file of a justfile; a text that comes from elsewhere isn't built, and has its word
+abbrev pub file_of : Origin → Result (List ℕ) (List ℕ)
+file_of (origin.File path) = Ok path
+file_of (origin.Markdown path) = Err (codes ".md")
+file_of origin.StandardInput = Err (codes "-")
 
 -- ---- what is asked for
 
@@ -83,9 +69,9 @@ not_built c =
 abbrev pub shell_args_of : Config → Option (List (List ℕ))
 shell_args_of c = if c.clear_shell_args || is_any c.shell_arg then Some c.shell_arg else None
 
--- how recipes are run, in the folder in which the words were given
-abbrev pub flags_of : Config → RunFlags
-flags_of c =
+-- how recipes are run, in that working folder
+abbrev pub flags_of : Config → List ℕ → RunFlags
+flags_of c folder =
     record {
       shell = c.shell;
       shell_args = shell_args_of c;
@@ -96,12 +82,12 @@ flags_of c =
       yes = c.yes;
       explain = c.explain;
       tempdir = c.tempdir;
-      folder = c.invocation_directory;
+      folder = folder;
     }
 
--- what is asked of the justfile
-abbrev pub wanted_of : Config → Wanted
-wanted_of c =
+-- what is asked of a justfile that is run in that folder
+abbrev pub wanted_of : Config → List ℕ → Wanted
+wanted_of c folder =
     record {
       words = c.arguments;
       overrides = c.overrides;
@@ -110,5 +96,5 @@ wanted_of c =
       no_dotenv = c.no_dotenv;
       unstable = c.unstable;
       jobs = c.jobs;
-      flags = flags_of c;
+      flags = flags_of c folder;
     }

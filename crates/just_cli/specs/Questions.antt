@@ -16,11 +16,12 @@ use Rattle.just_config.specs.Versions.{version_text}
 use Rattle.just_cli.specs.declared.ended.Failure.{Failure}
 use Rattle.just_cli.specs.declared.ended.Report.{Report}
 use Rattle.just_cli.specs.Faults.{print_error}
-use Rattle.just_cli.specs.Record.{AreMisses, EndsBefore}
+use Rattle.just_cli.specs.Preparing.{Prepares}
+use Rattle.just_cli.specs.Record.{EndsBefore}
 use Rattle.just_cli.specs.declared.task.Task.{Task}
 use Rattle.just_cli.specs.declared.task.Task.TheVariants as task
 use Rattle.just_planning.specs.Request.{outline_of}
-use Rattle.just_cli.specs.Request.{EnvironGiven, Asks}
+use Rattle.just_cli.specs.Request.{EnvironGiven, Asks, AsksGlobal}
 use Rattle.just_errors.specs.Codes.{exit_code}
 
 -- the line of the version: `just 1.58.0`
@@ -49,15 +50,11 @@ pub record AsksQuiet (words : List (List ℕ)) (told : Option World) (quiet : Bo
   pub means : Means words environ.pairs (Ok (read.Go arguments))
   pub quiet_is : quiet ≡ arguments.quiet
 
--- over such a host the words ask for that task
-abbrev pub IsTask : List (List ℕ) → Option World → Task → Type 0
-IsTask words told (task.Run p jobs messages quiet) = Asks words told (Ok (outline_of p (option_map non_zero_u64_get jobs) messages)) × AsksQuiet words told quiet
-IsTask words told (task.Show text) = IsQuestion words told text
-
--- what finding out about a task leaves in the record: of a run the misses of files that aren't there
-abbrev pub TaskEntries : Task → List Entry → Type 0
-TaskEntries (task.Run p jobs messages quiet) es = AreMisses es
-TaskEntries (task.Show text) es = es ≡ []
+-- Over such a host the words ask for that task. Of a run the record gained what its preparation leaves, and nothing of a text.
+abbrev pub IsTask : List (List ℕ) → Option World → List Entry → List Entry → Task → Type 0
+IsTask words told old new (task.Run p jobs messages quiet) =
+    Prepares (AsksGlobal words told) (Asks words told) old new (Ok (outline_of p (option_map non_zero_u64_get jobs) messages)) × AsksQuiet words told quiet
+IsTask words told old new (task.Show text) = (new ≡ old) × IsQuestion words told text
 
 -- nothing is run: no plan, and nothing in the history
 abbrev pub IsNothing : Report → Type 0
@@ -65,7 +62,7 @@ IsNothing r = (r.plan.nodes ≡ []) × (r.plan.invocations ≡ []) × (r.history
 
 -- the text wasn't printed, or memory was wanting; the error is told
 abbrev pub IsUnshown : Failure → List Entry → List Entry → Type 0
-IsUnshown f old new = (f.plan ≡ None) × (f.history ≡ []) × (f.code ≡ exit_code f.error) × ((io : HostFault) × (f.error ≡ print_error io)) × EndsBefore false f.error old new
+IsUnshown f old new = (f.plan ≡ None) × (f.history ≡ []) × (f.code ≡ exit_code f.error) × ((io : HostFault) × (f.error ≡ print_error io)) × EndsBefore [] false f.error old new
 
 -- the text is printed once to standard output, and the told world stays
 pub record IsShown (text : List ℕ) (told after : Option World) (old new : List Entry) (result : Result Report Failure) : Type 0 where

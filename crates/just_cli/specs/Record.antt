@@ -1,11 +1,11 @@
 -- What a run leaves in its host's record.
 use Rattle.std.specs.Prelude.{ℕ, ◌≡◌, ◌++◌, ◌⊎◌, Bool, true, false, List, [], ◌∷◌, Option, Some, None}
-use Rattle.std.specs.List.{list_any, AllByRecursion}
+use Rattle.std.specs.List.{list_any}
 use Rattle.just_outside.specs.declared.entry.Call.TheVariants as call
 use Rattle.just_outside.specs.declared.entry.Entry.{Entry}
 use Rattle.just_outside.specs.declared.entry.Entry.TheVariants as entry
 use Rattle.just_outside.specs.declared.entry.Stream.TheVariants as stream
-use Rattle.just_outside.specs.Record.{is_failed, is_missed, is_started}
+use Rattle.just_outside.specs.Record.{is_failed, is_started}
 use Rattle.just_sched.specs.declared.event.Event.{Event}
 use Rattle.just_sched.specs.declared.event.Verdict.{Verdict}
 use Rattle.just_sched.specs.declared.plan.Plan.{Plan}
@@ -18,9 +18,9 @@ use Rattle.just_sched.specs.State.{has_caught}
 use Rattle.just_sched.specs.Verdict.{IsVerdict, NoneDecides}
 use Rattle.just_outcome.specs.Caused.{IsCaused}
 use Rattle.just_planning.specs.Own.{is_fault}
-use Rattle.just_cli.specs.Faults.{entries_of}
 use Rattle.just_outcome.specs.Outcome.{IsErrorFor}
 use Rattle.just_cli.specs.declared.ended.Failure.{Failure}
+use Rattle.just_cli.specs.Preparing.{LeavesMisses, EndsWith}
 use Rattle.just_cli.specs.Quiet.{tells}
 use Rattle.just_errors.specs.Texts.{error_text}
 use Rattle.just_errors.specs.declared.error.Error.{Error}
@@ -41,14 +41,6 @@ IsPrinted e es = (es ≡ entry.Printed stream.Err (error_text e ++ 10 ∷ []) �
 abbrev pub IsTold : Bool → Error → List Entry → Type 0
 IsTold quiet e es = ((tells quiet e ≡ true) × IsPrinted e es) ⊎ ((tells quiet e ≡ false) × (es ≡ []))
 
--- misses alone: of files that aren't there, as a project is loaded
-abbrev pub AreMisses : List Entry → Type 0
-AreMisses es = AllByRecursion (λ e. is_missed e ≡ true) es
-
--- misses, and behind them the entry of the refused call that an error tells, if it tells one
-abbrev pub EndsWith : Error → List Entry → Type 0
-EndsWith e es = (misses : List Entry) × AreMisses misses × (es ≡ misses ++ entries_of e)
-
 -- no child was started, and nothing failed
 pub record IsQuiet (es : List Entry) : Type 0 where
   pub no_child : list_any is_started es ≡ false
@@ -60,11 +52,11 @@ pub record IsBook (s : Run) (h : List Event) (mid : List Entry) : Type 0 where
   pub closed : IsClosed s h
   pub matches : Matches s h mid
 
--- A run that ended well: behind the misses of its preparation the record gained just the entries of its history, which is legal and
--- complete: no node failed, and each was run to its end.
-pub record EndsWell (plan : Plan) (jobs : Option ℕ) (h : List Event) (old new : List Entry) : Type 0 where
+-- A run that ended well: behind the listings and the misses of its preparation the record gained just the entries of its history, which is
+-- legal and complete: no node failed, and each was run to its end.
+pub record EndsWell (listings : List Entry) (plan : Plan) (jobs : Option ℕ) (h : List Event) (old new : List Entry) : Type 0 where
   pub stretches : Stretches old new
-  pub prepared : AreMisses stretches.pre
+  pub prepared : LeavesMisses listings stretches.pre
   pub book : IsBook (run_over plan jobs (old ++ stretches.pre)) h stretches.mid
   pub well : NoneDecides (run_over plan jobs (old ++ stretches.pre)) h
   pub complete : IsComplete (run_over plan jobs (old ++ stretches.pre)) h
@@ -73,9 +65,9 @@ pub record EndsWell (plan : Plan) (jobs : Option ℕ) (h : List Event) (old new 
 -- A run that failed: its error is that of the history's verdict, and the record shows its cause; a favourable record shows
 -- none. A signal was caught, or nothing was left to do, so it didn't stop at its first failure. Behind the entries of its
 -- history the error was told.
-pub record EndsIll (plan : Plan) (jobs : Option ℕ) (messages : List Bool) (quiet : Bool) (h : List Event) (e : Error) (old new : List Entry) : Type 0 where
+pub record EndsIll (listings : List Entry) (plan : Plan) (jobs : Option ℕ) (messages : List Bool) (quiet : Bool) (h : List Event) (e : Error) (old new : List Entry) : Type 0 where
   pub stretches : Stretches old new
-  pub prepared : AreMisses stretches.pre
+  pub prepared : LeavesMisses listings stretches.pre
   pub book : IsBook (run_over plan jobs (old ++ stretches.pre)) h stretches.mid
   pub verdict : Verdict
   pub judged : IsVerdict (run_over plan jobs (old ++ stretches.pre)) h verdict
@@ -85,15 +77,15 @@ pub record EndsIll (plan : Plan) (jobs : Option ℕ) (messages : List Bool) (qui
   pub favoured : IsFavourable stretches.mid → e ≡ error.NoMemory
   pub told : IsTold quiet e stretches.post
 
--- A refusal before the book: behind misses the entry of the refused call, and the error was told.
-pub record EndsBefore (quiet : Bool) (e : Error) (old new : List Entry) : Type 0 where
+-- A refusal before the book: behind listings and misses the entry of the refused call, and the error was told.
+pub record EndsBefore (listings : List Entry) (quiet : Bool) (e : Error) (old new : List Entry) : Type 0 where
   pub stretches : Stretches old new
-  pub prepared : EndsWith e stretches.pre
+  pub prepared : EndsWith listings e stretches.pre
   pub unopened : stretches.mid ≡ []
   pub told : IsTold quiet e stretches.post
 
 -- What a record shows that stood against a run: before its book a failed call of the host; or in the stretch of its book an
 -- entry that isn't favourable.
-pub data Hindered (f : Failure) (jobs : Option ℕ) (old new : List Entry) : Type 0 where
-  before : (s : Stretches old new) → f.plan ≡ None → is_fault f.error ≡ true → EndsWith f.error s.pre → s.mid ≡ [] → Hindered f jobs old new
-  within : (p : Plan) (s : Stretches old new) → f.plan ≡ Some p → AreMisses s.pre → IsBook (run_over p jobs (old ++ s.pre)) f.history s.mid → (IsFavourable s.mid → ⊥) → Hindered f jobs old new
+pub data Hindered (listings : List Entry) (f : Failure) (jobs : Option ℕ) (old new : List Entry) : Type 0 where
+  before : (s : Stretches old new) → f.plan ≡ None → is_fault f.error ≡ true → EndsWith listings f.error s.pre → s.mid ≡ [] → Hindered listings f jobs old new
+  within : (p : Plan) (s : Stretches old new) → f.plan ≡ Some p → LeavesMisses listings s.pre → IsBook (run_over p jobs (old ++ s.pre)) f.history s.mid → (IsFavourable s.mid → ⊥) → Hindered listings f jobs old new

@@ -1,12 +1,18 @@
 -- What words ask for: a chain of steps from the words to the plan of a run, or to a refusal.
-use Rattle.std.specs.Prelude.{ℕ, ◌≡◌, ◌⊎◌, Bool, List, [], codes, Option, option_map, Result, Ok, Err}
-use Rattle.just_path.specs.Path.{pushed}
+use Rattle.std.specs.Prelude.{ℕ, ◌≡◌, ◌⊎◌, Bool, true, false, List, [], ◌∷◌, Option, Some, option_map, Result, Ok, Err}
+use Rattle.std.specs.List.{list_any, AllByRecursion}
 use Rattle.just_path.specs.declared.environ.Environ.{Environ}
 use Rattle.just_path.specs.declared.host.Miss.{Miss}
 use Rattle.just_outside.specs.declared.entry.Call.TheVariants as call
+use Rattle.just_outside.specs.declared.entry.Entry.{Entry}
+use Rattle.just_outside.specs.Record.{is_failed}
 use Rattle.just_outside.specs.World.{World}
+use Rattle.just_words.specs.declared.arguments.Arguments.{Arguments}
+use Rattle.just_words.specs.declared.words.Read.TheVariants as read
+use Rattle.just_words.specs.Words.{Means}
+use Rattle.just_locate.specs.Listing.{is_refused_listing}
 use Rattle.just_env.specs.declared.search_error.SearchError.{SearchError}
-use Rattle.just_search.specs.Loads.{LoadsAll}
+use Rattle.just_search.specs.Loads.{Loads}
 use Rattle.just_sched.specs.declared.plan.Plan.{Plan}
 use Rattle.just_errors.specs.Refusals.{error_of_search}
 use Rattle.just_errors.specs.declared.error.Error.{Error}
@@ -14,18 +20,14 @@ use Rattle.just_errors.specs.declared.error.Error.TheVariants as error
 use Rattle.just_cli.specs.Faults.{CallGives, io_error, folder_error}
 use Rattle.just_planning.specs.Steps.{Then}
 use Rattle.just_planning.specs.Request.{SourcesRequest, Outline, outline_of, PlansSources}
-use Rattle.just_cli.specs.Words.{ArgumentsRequest, WantedRequest, FindsEnviron, ReadsWords, FindsFolder, Configures}
+use Rattle.just_cli.specs.Words.{ArgumentsRequest, ConfigRequest, LocatedRequest, JustfileRequest, FindsEnviron, ReadsWords, FindsFolder, Configures, FindsLocation, FindsJustfile, TakesFile}
 
--- ---- the steps behind those of the words
+-- ---- the step behind those of the words
 
--- the justfile of a folder
-abbrev pub justfile_in : List ℕ → List ℕ
-justfile_in folder = pushed folder (codes "justfile")
-
--- the justfile of the folder is loaded, and all files that it leads to; over a host that tells this world, if it tells one
-abbrev pub LoadsSources : Option World → WantedRequest → Result SourcesRequest Error → Type 0
-LoadsSources told q (Ok s) = (s.wanted ≡ q.wanted) × (s.environ ≡ q.environ) × LoadsAll told [] (justfile_in q.wanted.flags.folder) (Ok s.sources)
-LoadsSources told q (Err e) = (f : SearchError) × LoadsAll told [] (justfile_in q.wanted.flags.folder) (Err f) × (e ≡ error_of_search f)
+-- the justfile is loaded, and all files that it leads to; over a host that tells this world, if it tells one
+abbrev pub LoadsSources : Option World → JustfileRequest → Result SourcesRequest Error → Type 0
+LoadsSources told j (Ok s) = (s.wanted ≡ j.wanted) × (s.environ ≡ j.environ) × Loads told j.environ.pairs [] (j.justfile ∷ []) (Ok s.sources)
+LoadsSources told j (Err e) = (f : SearchError) × Loads told j.environ.pairs [] (j.justfile ∷ []) (Err f) × (e ≡ error_of_search f)
 
 -- ---- the chain
 
@@ -42,21 +44,46 @@ EnvironGiven told = CallGives call.Environ (io_error []) (option_map environ_sho
 abbrev pub FolderGiven : Option World → Result (List ℕ) Error → Type 0
 FolderGiven told = CallGives call.Current folder_error (option_map folder_shown told)
 
--- the steps behind the words
-abbrev pub Serves : Option World → ArgumentsRequest → Result Outline Error → Type 0
-Serves told = Then (FindsFolder (FolderGiven told)) (Then Configures (Then (LoadsSources told) PlansSources))
+-- the steps behind the place of the justfile, behind the configuration, and behind the words
+abbrev pub Tries : Option World → LocatedRequest → Result Outline Error → Type 0
+Tries told = Then TakesFile (Then (LoadsSources told) PlansSources)
 
--- Over a host that tells this world, if it tells one, the words ask for that: the plan of a run, or a refusal. A call of the host
--- that fails is a refusal too; over a host that tells no world its calls may answer anything.
-abbrev pub Asks : List (List ℕ) → Option World → Result Outline Error → Type 0
-Asks words told = Then (FindsEnviron (EnvironGiven told)) (Then ReadsWords (Serves told)) words
+abbrev pub Searches : Option World → List Entry → ConfigRequest → Result Outline Error → Type 0
+Searches told listings = Then (FindsJustfile (FindsLocation told listings)) (Tries told)
+
+abbrev pub Serves : Option World → List Entry → ArgumentsRequest → Result Outline Error → Type 0
+Serves told listings = Then (FindsFolder (FolderGiven told)) (Then Configures (Searches told listings))
+
+-- Over a host that tells this world, if it tells one, and whose record gained these entries of listings that were refused as the user's own justfile was
+-- looked for, the words ask for that: the plan of a run, or a refusal. A call of the host that fails is a refusal too, but a listing among these; over a
+-- host that tells no world its calls may answer anything.
+abbrev pub Asks : List (List ℕ) → Option World → List Entry → Result Outline Error → Type 0
+Asks words told listings = Then (FindsEnviron (EnvironGiven told)) (Then ReadsWords (Serves told listings)) words
+
+-- ---- refused listings
+
+-- over such a host the words of a run ask for the user's own justfile
+abbrev pub AsksGlobal : List (List ℕ) → Option World → Type 0
+AsksGlobal words told = (environ : Environ) × (a : Arguments) × EnvironGiven told (Ok environ) × Means words environ.pairs (Ok (read.Go a)) × (a.global_justfile ≡ true)
+
+-- entries of listings that were refused and passed over: there are none, unless the user's own justfile was looked for
+abbrev pub ArePassed : Type 0 → List Entry → Type 0
+ArePassed global listings = (listings ≡ []) ⊎ (global × AllByRecursion (λ e. is_refused_listing e ≡ true) listings)
+
+-- none of these listings failed
+abbrev pub NoneFailed : List Entry → Type 0
+NoneFailed listings = list_any is_failed listings ≡ false
+
+-- the words ask for that in a told world, where no listing failed
+abbrev pub AsksIn : List (List ℕ) → World → Result Outline Error → Type 0
+AsksIn words w asked = (listings : List Entry) × NoneFailed listings × Asks words (Some w) listings asked
 
 -- ---- what a run is asked for
 
 -- the request is a run of that plan
-abbrev pub IsAsked : List (List ℕ) → Option World → Plan → Option ℕ → List Bool → Type 0
-IsAsked words told p jobs messages = ∥ Asks words told (Ok (outline_of p jobs messages)) ∥₁
+abbrev pub IsAsked : List (List ℕ) → Option World → List Entry → Plan → Option ℕ → List Bool → Type 0
+IsAsked words told listings p jobs messages = ∥ Asks words told listings (Ok (outline_of p jobs messages)) ∥₁
 
 -- why there is no plan: the request, or a call of the host that it needs, is refused so; or memory is wanting
-abbrev pub RefusedFor : List (List ℕ) → Option World → Error → Type 0
-RefusedFor words told e = Asks words told (Err e) ⊎ (e ≡ error.NoMemory)
+abbrev pub RefusedFor : List (List ℕ) → Option World → List Entry → Error → Type 0
+RefusedFor words told listings e = Asks words told listings (Err e) ⊎ (e ≡ error.NoMemory)

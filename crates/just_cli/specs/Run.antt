@@ -14,7 +14,7 @@ use Rattle.just_planning.specs.Own.{is_fault, is_miss}
 use Rattle.just_cli.specs.Questions.{IsQuestion, IsShown}
 use Rattle.just_cli.specs.Quiet.{AskQuiet}
 use Rattle.just_cli.specs.Record.{EndsWell, EndsIll, EndsBefore, IsQuiet}
-use Rattle.just_cli.specs.Request.{IsAsked, RefusedFor}
+use Rattle.just_cli.specs.Request.{AsksGlobal, ArePassed, IsAsked, RefusedFor}
 
 -- A run of these words over a host that told this world before and tells that one after it, whose record was the old one
 -- and is the new one, has this result.
@@ -23,21 +23,24 @@ pub record IsRun (words : List (List ℕ)) (told after : Option World) (old new 
   pub jobs : Option ℕ
   -- of each node whether the message of its exit code is told
   pub messages : List Bool
+  -- the entries of the listings that were refused as the user's own justfile was looked for: none, unless the words ask for it
+  pub listings : List Entry
+  pub passed : ArePassed (AsksGlobal words told) listings
   -- whether the words ask for quiet
   pub quiet : Bool
   pub quiet_is : IfErr result (λ f. ∥ AskQuiet words told quiet f.error ∥₁)
   -- a report's history is that of a run which ended well
-  pub ran : IfOk result (λ r. ∥ EndsWell r.plan jobs r.history old new ∥₁)
+  pub ran : IfOk result (λ r. ∥ EndsWell listings r.plan jobs r.history old new ∥₁)
   -- a plan, its job limit and its messages are what the words ask for
-  pub asked : MatchResult result (λ r. IsAsked words told r.plan jobs messages) (λ f. MatchOption f.plan (Unit {0}) (λ p. IsAsked words told p jobs messages))
+  pub asked : MatchResult result (λ r. IsAsked words told listings r.plan jobs messages) (λ f. MatchOption f.plan (Unit {0}) (λ p. IsAsked words told listings p jobs messages))
   -- a failure without a plan is a refusal, by the request, the host, or want of memory
-  pub refused : IfErr result (λ f. f.plan ≡ None → ∥ RefusedFor words told f.error ∥₁)
+  pub refused : IfErr result (λ f. f.plan ≡ None → ∥ RefusedFor words told listings f.error ∥₁)
   -- over a told world the result fits the request
-  pub answered : IsAnswered words told jobs messages result
+  pub answered : IsAnswered words told listings jobs messages result
   -- a failure's history is that of a run which ended ill; without a plan the book wasn't opened
-  pub failed : IfErr result (λ f. MatchOption f.plan (∥ EndsBefore quiet f.error old new ∥₁) (λ p. ∥ EndsIll p jobs messages quiet f.history f.error old new ∥₁))
+  pub failed : IfErr result (λ f. MatchOption f.plan (∥ EndsBefore listings quiet f.error old new ∥₁) (λ p. ∥ EndsIll listings p jobs messages quiet f.history f.error old new ∥₁))
   -- over a told world a run that is asked for ends well, unless something stood against it
-  pub complete : IsServed words told jobs result old new
+  pub complete : IsServed words told listings jobs result old new
   -- without a plan there is no history
   pub unplanned : IfErr result (λ f. f.plan ≡ None → f.history ≡ [])
   -- the exit code is the error's

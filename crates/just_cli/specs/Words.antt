@@ -1,6 +1,8 @@
--- What words ask for: the arguments that they mean with the variables, and the configuration that these give.
-use Rattle.std.specs.Prelude.{ℕ, ◌≡◌, List, Some, None, Result, Ok, Err}
+-- What words ask for: the arguments that they mean with the variables, the configuration that these give, and the justfile that it means.
+use Rattle.std.specs.Prelude.{ℕ, ◌≡◌, ◌++◌, List, [], Option, Some, None, Result, Ok, Err}
 use Rattle.just_path.specs.declared.environ.Environ.{Environ}
+use Rattle.just_outside.specs.declared.entry.Entry.{Entry}
+use Rattle.just_outside.specs.World.{World}
 use Rattle.just_words.specs.declared.arguments.Arguments.{Arguments}
 use Rattle.just_words.specs.declared.usage.Usage.{Usage}
 use Rattle.just_words.specs.declared.words.Read.TheVariants as read
@@ -8,10 +10,15 @@ use Rattle.just_words.specs.Words.{Means}
 use Rattle.just_config.specs.declared.config.Config.{Config}
 use Rattle.just_config.specs.declared.config_error.ConfigError.{ConfigError}
 use Rattle.just_config.specs.Config.{refusal, config_of}
+use Rattle.just_env.specs.declared.search_error.SearchError.{SearchError}
+use Rattle.just_env.specs.Answers.{entries_of}
+use Rattle.just_locate.specs.declared.location.Location.{Location}
+use Rattle.just_locate.specs.Finding.{Finds}
+use Rattle.just_errors.specs.Refusals.{error_of_search}
 use Rattle.just_errors.specs.declared.error.Error.{Error}
 use Rattle.just_errors.specs.declared.error.Error.TheVariants as error
 use Rattle.just_planning.specs.declared.wanted.Wanted.{Wanted}
-use Rattle.just_cli.specs.Options.{not_built, wanted_of}
+use Rattle.just_cli.specs.Options.{not_built, file_of, wanted_of}
 use Rattle.just_planning.specs.Steps.{Then}
 
 -- ---- what is known behind each step; the environment goes along, since values ask it too
@@ -37,10 +44,17 @@ pub record ConfigRequest : Type 0 where
   pub config : Config
   pub environ : Environ
 
--- what is asked of the justfile
-pub record WantedRequest : Type 0 where
+-- and the place of the justfile
+pub record LocatedRequest : Type 0 where
+  pub config : Config
+  pub environ : Environ
+  pub location : Location
+
+-- the justfile, and what is asked of it
+pub record JustfileRequest : Type 0 where
   pub wanted : Wanted
   pub environ : Environ
+  pub justfile : List ℕ
 
 -- ---- the steps
 
@@ -64,11 +78,27 @@ abbrev pub GivesConfig : FolderRequest → Result ConfigRequest Error → Type 0
 GivesConfig q (Ok c) = (refusal q.arguments ≡ None) × (c ≡ record { config = config_of q.arguments q.folder; environ = q.environ })
 GivesConfig q (Err e) = (f : ConfigError) × (refusal q.arguments ≡ Some f) × (e ≡ error.Config f)
 
--- all of the configuration is built, and something is asked of the justfile of the folder; or an option isn't built
-abbrev pub IsBuilt : ConfigRequest → Result WantedRequest Error → Type 0
-IsBuilt c (Ok q) = (not_built c.config ≡ None) × (q ≡ record { wanted = wanted_of c.config; environ = c.environ })
+-- all of the configuration is built; or an option isn't
+abbrev pub IsBuilt : ConfigRequest → Result ConfigRequest Error → Type 0
+IsBuilt c (Ok q) = (not_built c.config ≡ None) × (q ≡ c)
 IsBuilt c (Err e) = (word : List ℕ) × (not_built c.config ≡ Some word) × (e ≡ error.NotBuilt word)
 
 -- both steps behind the current folder
-abbrev pub Configures : FolderRequest → Result WantedRequest Error → Type 0
+abbrev pub Configures : FolderRequest → Result ConfigRequest Error → Type 0
 Configures = Then GivesConfig IsBuilt
+
+-- The place where the justfile of a configuration is, or why there is none. Behind the entries of the listings that were refused on the way the record has
+-- that of the call for which the search is refused.
+abbrev pub FindsLocation : Option World → List Entry → Config → Result Location Error → Type 0
+FindsLocation told listings config (Ok l) = Finds told config [] listings (Ok l)
+FindsLocation told listings config (Err e) = (f : SearchError) × Finds told config [] (listings ++ entries_of f) (Err f) × (e ≡ error_of_search f)
+
+-- the justfile is in the place that is found so
+abbrev pub FindsJustfile : (Config → Result Location Error → Type 0) → ConfigRequest → Result LocatedRequest Error → Type 0
+FindsJustfile finds c (Ok q) = (q.config ≡ c.config) × (q.environ ≡ c.environ) × finds c.config (Ok q.location)
+FindsJustfile finds c (Err e) = finds c.config (Err e)
+
+-- the justfile is a file, of which something is asked; or its text comes from elsewhere, which isn't built
+abbrev pub TakesFile : LocatedRequest → Result JustfileRequest Error → Type 0
+TakesFile q (Ok j) = (file_of q.location.origin ≡ Ok j.justfile) × (j.wanted ≡ wanted_of q.config q.location.working_directory) × (j.environ ≡ q.environ)
+TakesFile q (Err e) = (word : List ℕ) × (file_of q.location.origin ≡ Err word) × (e ≡ error.NotBuilt word)

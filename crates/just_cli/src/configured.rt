@@ -1,18 +1,19 @@
-//! From the words to what is asked of a justfile.
+//! From the words to their configuration, and to what is asked of a justfile.
 
-ghost use Rattle.std.specs.Prelude.{◌≡◌, ◌||◌, if◌then◌else◌, [], Some, None, map, IfOk, IfErr, Ok, Err};
+ghost use Rattle.std.specs.Prelude.{◌≡◌, ◌||◌, if◌then◌else◌, Some, None, map, IfOk, IfErr, Ok, Err};
 ghost use Rattle.just_path.specs.declared.environ.Environ.{Environ};
 ghost use Rattle.just_words.specs.Words.{Means};
 ghost use Rattle.just_config.specs.Config.{refusal, config_of};
 ghost use Rattle.just_errors.specs.declared.error.Error.TheVariants as error;
 ghost use Rattle.just_planning.specs.Own.{OrMemory};
-ghost use Rattle.just_cli.specs.Options.{is_any, flags_of, wanted_of};
-ghost use Rattle.just_cli.specs.Words.{ReadsWords, GivesConfig, IsBuilt, Configures};
+ghost use Rattle.just_cli.specs.Options.{is_any, wanted_of};
+ghost use Rattle.just_cli.specs.Words.{ReadsWords, IsBuilt, Configures, TakesFile};
 
 use super::Error;
 use super::options::{is_any, not_built};
 use just_commands::RunFlags;
 use just_config::{Arguments, Config, Read, read_words};
+use just_locate::{Location, Origin};
 use just_path::{Environ, Seq, Text, Utf8PathBuf};
 use just_planning::{Wanted, not_built_error};
 use std::alloc::Global;
@@ -50,9 +51,9 @@ fn path_of(text: Option<Text>) -> Option<Utf8PathBuf>
     }
 }
 
-/// What a configuration asks of the justfile of its folder.
-fn wanted(config: Config) -> Wanted
-    ensures { result ≡ wanted_of config }
+/// What a configuration asks of a justfile that is run in that folder.
+fn wanted(config: Config, folder: Utf8PathBuf) -> Wanted
+    ensures { result ≡ wanted_of config folder }
 {
     let flags = RunFlags {
         shell: config.shell,
@@ -64,7 +65,7 @@ fn wanted(config: Config) -> Wanted
         yes: config.yes,
         explain: config.explain,
         tempdir: path_of(config.tempdir),
-        folder: config.invocation_directory,
+        folder,
     };
     Wanted {
         words: config.arguments,
@@ -78,28 +79,50 @@ fn wanted(config: Config) -> Wanted
     }
 }
 
-/// What a configuration asks of the justfile of its folder, where all of it is built.
-fn built(alloc: Global, config: Config) -> Result<Wanted, Error>
-    ensures wanted { IfOk result (λ w. (environ : Environ) → IsBuilt (record { config = config; environ = environ }) (Ok (record { wanted = w; environ = environ }))) }
+/// A configuration all of which is built.
+fn built(alloc: Global, config: Config) -> Result<Config, Error>
+    ensures same { IfOk result (λ c. c ≡ config) }
+    ensures built { IfOk result (λ c. (environ : Environ) → IsBuilt (record { config = config; environ = environ }) (Ok (record { config = c; environ = environ }))) }
     ensures refused { IfErr result (OrMemory (λ e. (environ : Environ) → IsBuilt (record { config = config; environ = environ }) (Err e))) }
 {
     if let Some(word) = not_built(&config) {
         return Err(not_built_error(alloc, word));
     }
-    Ok(wanted(config))
+    Ok(config)
 }
 
-/// What arguments ask of the justfile of the folder where they were given.
+/// The configuration that arguments give in the folder where they were given.
 pub(crate) fn configure(
     alloc: Global,
     arguments: Arguments,
     folder: Utf8PathBuf,
-) -> Result<Wanted, Error>
-    ensures wanted { IfOk result (λ w. (environ : Environ) → Configures (record { arguments = arguments; environ = environ; folder = folder }) (Ok (record { wanted = w; environ = environ }))) }
+) -> Result<Config, Error>
+    ensures gives { IfOk result (λ c. (refusal arguments ≡ None) × (c ≡ config_of arguments folder)) }
+    ensures config { IfOk result (λ c. (environ : Environ) → Configures (record { arguments = arguments; environ = environ; folder = folder }) (Ok (record { config = c; environ = environ }))) }
     ensures refused { IfErr result (OrMemory (λ e. (environ : Environ) → Configures (record { arguments = arguments; environ = environ; folder = folder }) (Err e))) }
 {
     match Config::from_arguments(alloc, arguments, folder) {
         Ok(config) => built(alloc, config),
         Err(error) => Err(Error::from(error)),
+    }
+}
+
+/// The file of a justfile that was found, and what a configuration asks of it.
+pub(crate) fn take(
+    alloc: Global,
+    config: Config,
+    location: Location,
+) -> Result<(Wanted, Utf8PathBuf), Error>
+    ensures taken { IfOk result (λ j. (environ : Environ) → TakesFile (record { config = config; environ = environ; location = location }) (Ok (record { wanted = j.0; environ = environ; justfile = j.1 }))) }
+    ensures refused { IfErr result (OrMemory (λ e. (environ : Environ) → TakesFile (record { config = config; environ = environ; location = location }) (Err e))) }
+{
+    let Location {
+        origin,
+        working_directory,
+    } = location;
+    match origin {
+        Origin::File(path) => Ok((wanted(config, working_directory), path)),
+        Origin::Markdown(_) => Err(not_built_error(alloc, ".md")),
+        Origin::StandardInput => Err(not_built_error(alloc, "-")),
     }
 }

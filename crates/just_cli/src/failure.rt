@@ -1,6 +1,6 @@
 //! What a run answers that doesn't end well: its error, what is told of it, and its exit code.
 
-ghost use Rattle.std.specs.Prelude.{◌≡◌, ◌++◌, ◌∷◌, [], List, Option, Some, None, IfOk, string_bytes};
+ghost use Rattle.std.specs.Prelude.{◌≡◌, ◌++◌, ◌∷◌, [], List, Option, IfOk, string_bytes};
 ghost use Rattle.just_outside.specs.declared.entry.Entry.{Entry};
 ghost use Rattle.just_errors.specs.Texts.{error_text};
 ghost use Rattle.just_errors.specs.Codes.{exit_code as code_for};

@@ -1,20 +1,24 @@
-//! What the host gives to a request: the environment, the current folder, and the sources of a project.
+//! What the host gives to a request: the environment, the current folder, the place of the justfile, and the sources of its project.
 
-ghost use Rattle.std.specs.Prelude.{◌≡◌, ◌++◌, [], ℕ, List, Result, Ok, Err, IfOk, IfErr, MatchResult};
+ghost use Rattle.std.specs.Prelude.{◌≡◌, ◌++◌, ◌∷◌, [], List, Result, Ok, Err, IfOk, IfErr, MatchResult};
 ghost use Rattle.just_path.specs.Path.{text_of};
 ghost use Rattle.just_outside.specs.declared.entry.Entry.{Entry};
 ghost use Rattle.just_env.specs.declared.search_error.SearchError.{SearchError};
-ghost use Rattle.just_search.specs.Loads.{LoadsAll};
+ghost use Rattle.just_search.specs.Loads.{Loads};
 ghost use Rattle.just_search.specs.Shows.{sources_of};
 ghost use Rattle.just_errors.specs.Refusals.{error_of_search};
 ghost use Rattle.just_errors.specs.declared.error.Error.{Error};
 ghost use Rattle.just_planning.specs.Own.{OrMemory};
 ghost use Rattle.just_cli.specs.Faults.{entries_of, fault_of_path as host_fault, io_error as told_error, folder_error as told_folder};
-ghost use Rattle.just_cli.specs.Record.{AreMisses, EndsWith};
-ghost use Rattle.just_cli.specs.Request.{EnvironGiven, FolderGiven, justfile_in};
+ghost use Rattle.just_config.specs.declared.search_config.SearchConfig.TheVariants.{GlobalJustfile};
+ghost use Rattle.just_cli.specs.Preparing.{AreMisses, EndsWith};
+ghost use Rattle.just_cli.specs.Request.{EnvironGiven, FolderGiven, ArePassed};
+ghost use Rattle.just_cli.specs.Words.{FindsLocation};
 
 use super::Error;
+use just_config::Config;
 use just_host::{Call, Host, HostFault};
+use just_locate::{Location, find};
 use just_path::{Environ, PathFault, Utf8Path, Utf8PathBuf};
 use just_search::Loader;
 use std::alloc::Global;
@@ -78,24 +82,37 @@ pub(crate) fn current_folder<H: Host>(host: &mut H) -> Result<Utf8PathBuf, Error
     }
 }
 
-/// The sources of the project whose justfile stands in a folder. The record gains the misses of files that aren't there, and the entry
-/// of the refused call.
+/// The place where the justfile of a configuration is. The record gains the entries of listings that were refused as the user's own justfile was looked
+/// for, and the entry of the refused call.
+#[tactic(auto, using(crate::proofs::Locating::is_located))]
+pub(crate) fn locate<H: Host>(
+    alloc: Global,
+    host: &mut H,
+    config: &Config,
+) -> Result<Location, Error>
+    ensures located { MatchResult result (λ l. (listings : List Entry) × ArePassed (config.now.search_config ≡ GlobalJustfile) listings × (H.entries host.new ≡ H.entries host.old ++ listings) × FindsLocation (H.world host.old) listings config.now (Ok l)) (λ e. (listings : List Entry) × ArePassed (config.now.search_config ≡ GlobalJustfile) listings × (H.entries host.new ≡ H.entries host.old ++ (listings ++ entries_of e)) × OrMemory (λ x. FindsLocation (H.world host.old) listings config.now (Err x)) e) }
+    ensures world { H.world host.new ≡ H.world host.old }
+{
+    match find(alloc, config, host) {
+        Ok(location) => Ok(location),
+        Err(error) => Err(Error::from(error)),
+    }
+}
+
+/// The sources of the project of a justfile. The record gains the misses of files that aren't there, and the entry of the refused call.
 pub(crate) fn load<H: Host>(
     alloc: Global,
     host: &mut H,
-    folder: Utf8Path<'_>,
+    environ: &Environ,
+    justfile: Utf8Path<'_>,
 ) -> Result<Loader, Error>
-    ensures grew { (es : List Entry) × (H.entries host.new ≡ H.entries host.old ++ es) × MatchResult result (λ _. AreMisses es) (λ e. EndsWith e es) }
+    ensures grew { (es : List Entry) × (H.entries host.new ≡ H.entries host.old ++ es) × MatchResult result (λ _. AreMisses es) (λ e. EndsWith [] e es) }
     ensures world { H.world host.new ≡ H.world host.old }
-    ensures sources { IfOk result (λ l. LoadsAll (H.world host.old) [] (justfile_in (text_of folder.entry)) (Ok (sources_of l))) }
-    ensures refused { IfErr result (OrMemory (λ e. (f : SearchError) × LoadsAll (H.world host.old) [] (justfile_in (text_of folder.entry)) (Err f) × (e ≡ error_of_search f))) }
+    ensures sources { IfOk result (λ l. Loads (H.world host.old) environ.now.pairs [] (text_of justfile.entry ∷ []) (Ok (sources_of l))) }
+    ensures refused { IfErr result (OrMemory (λ e. (f : SearchError) × Loads (H.world host.old) environ.now.pairs [] (text_of justfile.entry ∷ []) (Err f) × (e ≡ error_of_search f))) }
 {
-    let path = match folder.join(alloc, Utf8Path::new("justfile")) {
-        Ok(path) => path,
-        Err(_) => return Err(Error::NoMemory),
-    };
     let mut loader = Loader::new(alloc);
-    match loader.load_all(host, path.as_path()) {
+    match loader.load_over(host, environ, justfile) {
         Ok(()) => Ok(loader),
         Err(error) => Err(Error::from(error)),
     }

@@ -11,6 +11,7 @@ mod program;
 mod runner;
 mod show;
 mod task;
+mod tried;
 
 pub use ended::{Ended, Failure, Report};
 pub use just_errors::Error;

@@ -2,9 +2,9 @@
 
 ghost use Rattle.std.specs.Prelude.{◌≡◌, Some};
 ghost use Rattle.std.specs.Option.{option_copied};
-ghost use Rattle.just_cli.specs.Options.{is_any, flag_not_built, value_not_built, list_not_built, command_word, command_not_built, folder_not_built, not_built};
+ghost use Rattle.just_cli.specs.Options.{is_any, flag_not_built, list_not_built, command_word, command_not_built, not_built};
 
-use just_config::{Config, SearchConfig, Subcommand};
+use just_config::{Config, Subcommand};
 use just_path::{Seq, Text};
 
 /// The word of the first flag that isn't built.
@@ -18,30 +18,7 @@ fn flag_not_built(config: &Config) -> Option<&'static str>
         return Some("--default-list");
     }
     if config.dry_run {
-        return Some("--dry-run");
-    }
-    if config.global_justfile {
-        Some("--global-justfile")
-    } else {
-        None
-    }
-}
-
-/// The word of the first option with one value that isn't built.
-fn value_not_built(config: &Config) -> Option<&'static str>
-    ensures { option_copied result ≡ value_not_built config.now }
-{
-    if config.ceiling.is_some() {
-        return Some("--ceiling");
-    }
-    if config.justfile.is_some() {
-        return Some("--justfile");
-    }
-    if config.tempdir.is_some() {
-        return Some("--tempdir");
-    }
-    if config.working_directory.is_some() {
-        Some("--working-directory")
+        Some("--dry-run")
     } else {
         None
     }
@@ -68,10 +45,7 @@ fn list_not_built(config: &Config) -> Option<&'static str>
         return Some("--dotenv-filename");
     }
     if is_any(&config.dotenv_path) {
-        return Some("--dotenv-path");
-    }
-    if is_any(&config.justfile_name) {
-        Some("--justfile-name")
+        Some("--dotenv-path")
     } else {
         None
     }
@@ -110,31 +84,15 @@ fn command_not_built(command: &Option<Subcommand>) -> Option<&'static str>
     }
 }
 
-/// The folder in front of the first word.
-fn folder_not_built(search: &SearchConfig) -> Option<&str>
-    ensures { option_copied result ≡ folder_not_built search.now }
-{
-    match search {
-        SearchConfig::FromSearchDirectory(folder) => Some(folder.as_str()),
-        _ => None,
-    }
-}
-
 /// The word of what isn't built, of the first in the order of the options.
-pub(crate) fn not_built(config: &Config) -> Option<&str>
+pub(crate) fn not_built(config: &Config) -> Option<&'static str>
     ensures { option_copied result ≡ not_built config.now }
 {
     if let Some(word) = flag_not_built(config) {
         return Some(word);
     }
-    if let Some(word) = value_not_built(config) {
-        return Some(word);
-    }
     if let Some(word) = list_not_built(config) {
         return Some(word);
     }
-    if let Some(word) = command_not_built(&config.subcommand) {
-        return Some(word);
-    }
-    folder_not_built(&config.search_config)
+    command_not_built(&config.subcommand)
 }

@@ -1,29 +1,22 @@
 //! From the words to the plan: the steps of a request, in their order.
 
-ghost use Rattle.std.specs.Prelude.{◌≡◌, ◌++◌, ℕ, [], List, map, true, false, option_map, IfOk, IfErr, MatchResult, Ok, Err};
+ghost use Rattle.std.specs.Prelude.{◌≡◌, map, true, option_map, IfOk, IfErr, MatchResult, Ok, Err};
 ghost use Rattle.std.specs.Int.NonZero.{non_zero_u64_get};
-ghost use Rattle.just_outside.specs.declared.entry.Entry.{Entry};
 ghost use Rattle.just_config.specs.declared.help.TheConstants.{HELP};
-ghost use Rattle.just_planning.specs.Own.{OrMemory};
-ghost use Rattle.just_cli.specs.Questions.{version_line, IsTask, TaskEntries};
+ghost use Rattle.just_cli.specs.Questions.{version_line, IsTask};
 ghost use Rattle.just_cli.specs.Quiet.{AskQuiet};
-ghost use Rattle.just_cli.specs.Record.{AreMisses, EndsWith};
-ghost use Rattle.just_planning.specs.Request.{outline_of};
-ghost use Rattle.just_cli.specs.Request.{Serves, Asks};
+ghost use Rattle.just_cli.specs.Preparing.{Prepares};
+ghost use Rattle.just_planning.specs.Request.{Outline, outline_of};
+ghost use Rattle.just_cli.specs.Request.{Serves, Asks, AsksGlobal};
 
 use super::configured::{configure, read};
-use super::given::{current_folder, environment, load};
+use super::given::{current_folder, environment, locate};
+use super::tried::{Planned, plan_at};
 use super::{Error, Task};
 use just_config::{Arguments, HELP, Read, Version};
 use just_host::Host;
-use just_path::{Environ, NoMemory, Seq, Text};
-use just_planning::plan_of_sources;
-use just_sched::Plan;
+use just_path::{Environ, NoMemory, Text};
 use std::alloc::Global;
-use std::num::NonZeroU64;
-
-/// A plan, its job limit, if it has one, and of each node whether the message of its exit code is told.
-type Planned = (Plan, Option<NonZeroU64>, Seq<bool>);
 
 /// The plan that arguments ask for.
 fn serve<H: Host>(
@@ -32,25 +25,23 @@ fn serve<H: Host>(
     environ: &Environ,
     host: &mut H,
 ) -> Result<Planned, Error>
-    ensures grew { (es : List Entry) × (H.entries host.new ≡ H.entries host.old ++ es) × MatchResult result (λ _. AreMisses es) (λ e. EndsWith e es) }
+    ensures served { MatchResult result (λ r. Prepares (arguments.global_justfile ≡ true) (λ ls. Serves (H.world host.old) ls (record { arguments = arguments; environ = environ.now })) (H.entries host.old) (H.entries host.new) (Ok (outline_of r.0 (option_map non_zero_u64_get r.1) r.2))) (λ e. Prepares {A = Outline} (arguments.global_justfile ≡ true) (λ ls. Serves (H.world host.old) ls (record { arguments = arguments; environ = environ.now })) (H.entries host.old) (H.entries host.new) (Err e)) }
     ensures world { H.world host.new ≡ H.world host.old }
-    ensures asked { IfOk result (λ r. Serves (H.world host.old) (record { arguments = arguments; environ = environ.now }) (Ok (outline_of r.0 (option_map non_zero_u64_get r.1) r.2))) }
-    ensures refused { IfErr result (OrMemory (λ e. Serves (H.world host.old) (record { arguments = arguments; environ = environ.now }) (Err e))) }
 {
     let folder = match current_folder(host) {
         Ok(folder) => folder,
         Err(error) => return Err(error),
     };
-    let wanted = match configure(alloc, arguments, folder) {
-        Ok(wanted) => wanted,
+    let config = match configure(alloc, arguments, folder) {
+        Ok(config) => config,
         Err(error) => return Err(error),
     };
-    let loader = match load(alloc, host, wanted.flags.folder.as_path()) {
-        Ok(loader) => loader,
+    let location = match locate(alloc, host, &config) {
+        Ok(location) => location,
         Err(error) => return Err(error),
     };
-    match plan_of_sources(alloc, loader.sources(), environ, &wanted) {
-        Ok((plan, messages)) => Ok((plan, wanted.jobs, messages)),
+    match plan_at(alloc, host, environ, config, location) {
+        Ok(planned) => Ok(planned),
         Err(error) => Err(error),
     }
 }
@@ -69,19 +60,17 @@ fn version(alloc: Global) -> Result<Text, NoMemory>
     Ok(Text::from(format!(in alloc; "just {}\n", Version::current())?))
 }
 
-/// What the words ask for; or why they are refused, with whether they ask for quiet. The record gains the misses of files that aren't
-/// there, and the entry of the refused call, where one was refused.
-#[tactic(auto, using(crate::proofs::Silent::shows_nothing, crate::proofs::Silent::ends_nothing, crate::proofs::Asking::quiet_unread))]
+/// What the words ask for; or why they are refused, with whether they ask for quiet. The record gains the entries of listings that were refused as the
+/// user's own justfile was looked for, the misses of files that aren't there, and the entry of the refused call, where one was refused.
 pub(crate) fn prepare<H: Host>(
     alloc: Global,
     words: &[&str],
     host: &mut H,
 ) -> Result<Task, (Error, bool)>
-    ensures grew { (es : List Entry) × (H.entries host.new ≡ H.entries host.old ++ es) × MatchResult result (λ t. TaskEntries t es) (λ e. EndsWith e.0 es) }
-    ensures world { H.world host.new ≡ H.world host.old }
-    ensures asked { IfOk result (IsTask (map (λ x. x.now) words.now) (H.world host.old)) }
-    ensures refused { IfErr result (λ e. OrMemory (λ x. Asks (map (λ w. w.now) words.now) (H.world host.old) (Err x)) e.0) }
+    ensures asked { IfOk result (IsTask (map (λ x. x.now) words.now) (H.world host.old) (H.entries host.old) (H.entries host.new)) }
+    ensures refused { IfErr result (λ e. Prepares {A = Outline} (AsksGlobal (map (λ w. w.now) words.now) (H.world host.old)) (Asks (map (λ w. w.now) words.now) (H.world host.old)) (H.entries host.old) (H.entries host.new) (Err e.0)) }
     ensures quiet { IfErr result (λ e. AskQuiet (map (λ x. x.now) words.now) (H.world host.old) e.1 e.0) }
+    ensures world { H.world host.new ≡ H.world host.old }
 {
     let environ = match environment(alloc, host) {
         Ok(environ) => environ,

@@ -1,5 +1,5 @@
 -- The chain of a request, from what its calls answered.
-use Rattle.std.proofs.Common.{◌≡◌, ◌≢◌, ◌∙◌, ℕ, inl, inr, Bool, List, [], ◌∷◌, Option, Some, None, option_map, Result, Ok, Err, refl, sym, ap, subst}
+use Rattle.std.proofs.Common.{◌≡◌, ◌≢◌, ◌∙◌, ℕ, inl, inr, Bool, List, [], ◌∷◌, Option, None, option_map, Result, Ok, Err, refl, sym, ap, subst}
 use Rattle.std.specs.Int.NonZero.{non_zero_u64_get}
 use Rattle.just_path.specs.declared.environ.Environ.{Environ}
 use Rattle.just_lang.specs.declared.key.Key.{Key}
@@ -10,7 +10,7 @@ use Rattle.just_lang.specs.declared.project.LangError.TheVariants as lang
 use Rattle.just_lang.specs.declared.scope.Override.{Override}
 use Rattle.just_lang.specs.declared.scope.Scopes.{Scopes}
 use Rattle.just_lang.specs.declared.source.Source.{Source}
-use Rattle.just_value.specs.Answers.{Answer, and_then}
+use Rattle.just_value.specs.Answers.{Answer}
 use Rattle.just_value.specs.Modules.{AreModules}
 use Rattle.just_value.proofs.Nesting.{same_modules}
 use Rattle.just_assemble.specs.Projects.{IsFirstError}

@@ -1,5 +1,5 @@
 -- What is said of a recipe that was found, or wasn't.
-use Rattle.std.proofs.Common.{◌≡◌, ◌∙◌, ℕ, List, [], ◌∷◌, Option, Some, None, option_map, refl, ap, sym, subst}
+use Rattle.std.proofs.Common.{◌≡◌, ◌∙◌, List, [], Option, Some, None, option_map, refl, ap, sym}
 use Rattle.just_lang.specs.declared.key.Key.{Key}
 use Rattle.just_lang.specs.declared.project.Justfile.{Justfile, out-Justfile}
 use Rattle.just_lang.specs.declared.scope.Scopes.{Scopes}

@@ -1,10 +1,8 @@
 -- Each step of a request gives one answer of its own at most, and so does the request.
-use Rattle.std.proofs.Common.{◌≡◌, ℕ, Bool, true, false, true≢false, List, [], ◌∷◌, Option, Some, None, option_map, Result, Ok, Err, refl, sym, ◌∙◌, ap, subst}
+use Rattle.std.proofs.Common.{◌≡◌, false, true≢false, List, [], ◌∷◌, Option, Some, None, option_map, Result, Ok, Err, sym, ◌∙◌, ap, subst}
 use Rattle.std.specs.Int.NonZero.{non_zero_u64_get}
-use Rattle.just_lang.specs.declared.error.CompileError.{CompileError}
 use Rattle.just_lang.specs.declared.error.CompileKind.{CompileKind}
 use Rattle.just_lang.specs.declared.key.Key.{Key}
-use Rattle.just_lang.specs.declared.node.Closure.{Closure}
 use Rattle.just_lang.specs.declared.project.Justfile.{Justfile}
 use Rattle.just_lang.specs.declared.project.LangError.{LangError}
 use Rattle.just_lang.specs.declared.project.LangError.TheVariants as lang
@@ -24,7 +22,7 @@ use Rattle.just_errors.specs.Refusals.{error_of_lang}
 use Rattle.just_errors.specs.declared.error.Error.{Error}
 use Rattle.just_errors.specs.declared.error.Error.TheVariants as error
 use Rattle.just_planning.specs.Own.{is_size, is_too_big}
-use Rattle.just_planning.specs.Planned.{plan_nodes, messages_of, plans_in, error_of_plan}
+use Rattle.just_planning.specs.Planned.{plan_nodes, messages_of, error_of_plan}
 use Rattle.just_planning.specs.Request.{SourcesRequest, ProjectRequest, ScopesRequest, KeysRequest, ClosureRequest, Outline, AssemblesJustfile, ChecksFeatures, AsksNoDotenv, EvaluatesVariables, AsksKeys, InvokesKeys, ClosesKeys, ChecksRecipes, MakesPlan, PlansClosure, PlansKeys, PlansProject, PlansSources}
 use Rattle.just_planning.proofs.Steps.{GivesOwn, GivesOwnOf, Finds, own_of, then_own, then_own_of}
 

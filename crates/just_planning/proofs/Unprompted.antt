@@ -16,7 +16,7 @@ use Rattle.just_commands.specs.Works.{recipe_work}
 use Rattle.just_commands.specs.declared.error.CommandError.{CommandError}
 use Rattle.just_commands.specs.declared.run_flags.RunFlags.{RunFlags}
 use Rattle.just_commands.specs.declared.work.Work.{Work}
-use Rattle.just_plans.specs.Plans.{PlanAnswer, then_plan, each_plan, node_plan, no_plan, recipe_plan, running, key_plan, node_plans}
+use Rattle.just_plans.specs.Plans.{PlanAnswer, then_plan, node_plan, no_plan, recipe_plan, running, key_plan, node_plans}
 use Rattle.just_plans.specs.Prompts.{question}
 use Rattle.just_plans.specs.declared.error.PlanError.TheVariants as error
 use Rattle.just_plans.specs.declared.node_plan.NodePlan.{NodePlan}

@@ -1,5 +1,5 @@
 -- The nodes with their plans are well formed, as the closure's are, and no node is asked for.
-use Rattle.std.proofs.Common.{◌≡◌, ◌^◌, ◌<◌, true, subst, sym}
+use Rattle.std.proofs.Common.{◌≡◌, ◌^◌, true, subst, sym}
 use Rattle.std.specs.Prelude.{All, is_none}
 use Rattle.just_sched.specs.declared.plan_node.PlanNode.{PlanNode}
 use Rattle.std.proofs.Common.{List}

@@ -1,5 +1,4 @@
 -- The steps behind the justfile go on from it, or the rule that the sources break is the answer.
-use Rattle.std.proofs.Common.{map}
 use Rattle.just_planning.proofs.Chain.{rules_refused, assembled_plan, assembled_refused}
 use Rattle.just_planning.proofs.Sound.{is_sound}
 use Rattle.just_planning.proofs.project.plan_of_sources.Goals as goal
