@@ -81,7 +81,7 @@ fn first_other<H: Host>(alloc: Global, host: &mut H) -> Result<Option<usize>, No
     Ok(None)
 }
 
-/// A host in memory in the folder `/p`, with this plot.
+/// A host in memory in the folder `/p`, with this plot. No clause: it serves tests alone.
 pub fn in_memory(alloc: Global, plot: Plot) -> Result<MemHost, NoMemory> {
     let mut tree = Tree::new(alloc);
     tree.insert(alloc, "/p", Thing::Folder)?;
