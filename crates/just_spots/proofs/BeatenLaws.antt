@@ -1,14 +1,14 @@
 -- Which items are beaten, by the table of pairs.
-use Rattle.std.proofs.Common.{◌≡◌, ℕ, suc, ◌+◌, ◌<◌, Bool, true, false, not, ◌&&◌, ◌||◌, cond, List, [], ◌∷◌, ◌++◌, length, drop, get_or, refl, sym, ap, ◌∙◌}
+use Rattle.std.proofs.Common.{◌≡◌, ℕ, zero, suc, ◌+◌, ◌<◌, Bool, true, false, not, ◌&&◌, ◌||◌, cond, List, [], ◌∷◌, ◌++◌, length, drop, get_or, refl, sym, ap, ◌∙◌, subst}
 use Rattle.std.specs.Prelude.{nat_eq, filter}
 use Rattle.std.specs.List.{list_any}
 use Rattle.just_syntax.specs.declared.ast.AstItem.{AstItem}
 use Rattle.just_spots.specs.declared.entries.Entry.{Entry}
 use Rattle.just_spots.specs.declared.winners.Pairs.{Pairs}
 use Rattle.just_spots.specs.Entries.{entry, entries}
-use Rattle.just_spots.specs.Standing.{has_name, is_beaten}
+use Rattle.just_spots.specs.Standing.{has_name, is_beaten, unbeaten}
 use Rattle.just_spots.specs.Items.{item_name}
-use Rattle.just_spots.specs.Winners.{importers, wins_in, has_pair, ArePairs, is_beaten_by}
+use Rattle.just_spots.specs.Winners.{importers, is_imported, wins_in, has_pair, ArePairs, is_beaten_by}
 use Rattle.just_spots.proofs.ListLaws.{entries_drop}
 
 either : {X : Type 0} (f g : X → Bool) (xs : List X) → list_any (λ x. f x || g x) xs ≡ list_any f xs || list_any g xs
@@ -85,3 +85,27 @@ unbeaten_by winners pairs items i x r are lt e t =
     ∙ ap (λ b. cond (not b)
     (entry x ∷ filter (λ y. not (is_beaten item_name (wins_in winners) (entries items) y)) (entries (drop (i + 1) items)))
     (filter (λ y. not (is_beaten item_name (wins_in winners) (entries items) y)) (entries (drop (i + 1) items)))) (sym t)
+
+-- where no file is imported, none has importers
+alone : (winners : List (List ℕ)) (file : ℕ) → list_any is_imported winners ≡ false → importers winners file ≡ []
+alone [] file e = refl
+alone ([] ∷ ws) zero e = refl
+alone ((f ∷ fs) ∷ ws) zero e = absurd (cc)
+alone ([] ∷ ws) (suc n) e = alone ws n e
+alone ((f ∷ fs) ∷ ws) (suc n) e = absurd (cc)
+
+untouched : (q : List ℕ) (fs : List ℕ) (ys : List (ℕ × AstItem)) → fs ≡ [] → list_any (λ y. has_name item_name q y && list_any (nat_eq y.0) fs) ys ≡ false
+untouched q fs ys e = subst (λ f. list_any (λ y. has_name item_name q y && list_any (nat_eq y.0) f) ys ≡ false) (sym e) (same_for_all (λ y. has_name item_name q y && false) (λ y. false) ys (λ y. with (has_name item_name q y)) ∙ never ys)
+  where
+    with : (b : Bool) → b && false ≡ false
+    with true = refl
+    with false = refl
+
+kept_all : {X : Type 0} (p : X → Bool) (xs : List X) → ((x : X) → p x ≡ true) → filter p xs ≡ xs
+kept_all p [] h = refl
+kept_all p (x ∷ xs) h = ap (λ b. cond b (x ∷ filter p xs) (filter p xs)) (h x) ∙ ap (λ ys. x ∷ ys) (kept_all p xs h)
+
+-- where no file is imported, no item is beaten
+pub unbeaten_alone : (winners : List (List ℕ)) (xs : List (ℕ × AstItem)) → list_any is_imported winners ≡ false → unbeaten item_name (wins_in winners) xs ≡ xs
+unbeaten_alone winners xs e =
+    kept_all (λ x. not (is_beaten item_name (wins_in winners) xs x)) xs (λ x. ap not (untouched (item_name x.1) (importers winners x.0) xs (alone winners x.0 e)))

@@ -50,12 +50,12 @@ kept_step test old new x rest more h e =
     ap (λ ys. ys ++ rest) h ∙ append_assoc (entries old) (cond test (entry x ∷ []) []) rest ∙ ap (λ ys. entries old ++ ys) (if_front test (entry x) rest ∙ sym e)
 
 -- a test of one at least from a place on
-pub any_here : (f : ℕ → Bool) (xs : List ℕ) (i d : ℕ) → i < length xs → list_any f (drop i xs) ≡ (f (get_or xs i d) || list_any f (drop (i + 1) xs))
+pub any_here : {A : Type 0} (f : A → Bool) (xs : List A) (i : ℕ) (d : A) → i < length xs → list_any f (drop i xs) ≡ (f (get_or xs i d) || list_any f (drop (i + 1) xs))
 any_here f xs i d h = ap (list_any f) (drop-cons xs i d h) ∙ ap (λ n. f (get_or xs i d) || list_any f (drop n xs)) (sym (add-one i))
 
-pub any_found : (f : ℕ → Bool) (xs : List ℕ) (i d : ℕ) (r : Bool) → i < length xs → r ≡ f (get_or xs i d) → r ≡ true → list_any f (drop i xs) ≡ list_any f xs → true ≡ list_any f xs
+pub any_found : {A : Type 0} (f : A → Bool) (xs : List A) (i : ℕ) (d : A) (r : Bool) → i < length xs → r ≡ f (get_or xs i d) → r ≡ true → list_any f (drop i xs) ≡ list_any f xs → true ≡ list_any f xs
 any_found f xs i d r h e t k = ap (λ b. b || list_any f (drop (i + 1) xs)) (sym t ∙ e) ∙ sym (any_here f xs i d h) ∙ k
 
-pub any_passed : (f : ℕ → Bool) (xs : List ℕ) (i d : ℕ) (r : Bool) → i < length xs → r ≡ f (get_or xs i d) → r ≡ false → list_any f (drop i xs) ≡ list_any f xs
+pub any_passed : {A : Type 0} (f : A → Bool) (xs : List A) (i : ℕ) (d : A) (r : Bool) → i < length xs → r ≡ f (get_or xs i d) → r ≡ false → list_any f (drop i xs) ≡ list_any f xs
     → list_any f (drop (i + 1) xs) ≡ list_any f xs
 any_passed f xs i d r h e n k = ap (λ b. b || list_any f (drop (i + 1) xs)) (sym n ∙ e) ∙ sym (any_here f xs i d h) ∙ k

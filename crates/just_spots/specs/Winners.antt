@@ -1,5 +1,5 @@
 -- For each file those that import it, and the names that files give.
-use Rattle.std.specs.Prelude.{◌≡◌, ℕ, nat_eq, ◌&&◌, Bool, List, [], slice_get, unwrap_or, bytes_eq}
+use Rattle.std.specs.Prelude.{◌≡◌, ℕ, nat_eq, ◌&&◌, Bool, List, [], slice_get, is_some, unwrap_or, bytes_eq}
 use Rattle.std.specs.List.{list_any}
 use Rattle.std.specs.Ordering.{nat_cmp, ordering_then}
 use Rattle.std.specs.Cmp.Lexicographic.{slice_cmp}
@@ -12,6 +12,10 @@ use Rattle.just_spots.specs.Items.{item_name}
 -- the files that import this one
 abbrev pub importers : List (List ℕ) → ℕ → List ℕ
 importers winners file = unwrap_or (slice_get winners file) []
+
+-- whether some files import another one
+abbrev pub is_imported : List ℕ → Bool
+is_imported files = is_some (slice_get files 0)
 
 -- whether the one file is among those that import the other
 abbrev pub wins_in : List (List ℕ) → Wins

@@ -4,7 +4,7 @@ ghost use Rattle.std.specs.List.{list_any};
 ghost use Rattle.just_spots.specs.Entries.{entry, entries};
 ghost use Rattle.just_spots.specs.Items.{item_name};
 ghost use Rattle.just_spots.specs.Standing.{unbeaten, last_of_each, standing};
-ghost use Rattle.just_spots.specs.Winners.{wins_in, has_pair, ArePairs, is_beaten_by};
+ghost use Rattle.just_spots.specs.Winners.{is_imported, wins_in, has_pair, ArePairs, is_beaten_by};
 
 use super::entries::{Entry, item_name};
 use super::index::index_of;
@@ -70,8 +70,26 @@ fn keep_where<'a>(kept: &mut Vec<Entry<'a>>, test: bool, one: Entry<'a>) -> Resu
     Ok(())
 }
 
-/// Those that no other one beats. For each file `winners` has those that import it, straight or through others.
-pub fn unbeaten<'a>(
+fn is_imported(files: &Seq<usize>) -> bool
+    ensures { result ≡ is_imported files.now }
+{
+    files.as_slice().first().is_some()
+}
+
+/// Whether a file is imported by another one.
+fn imports_any(winners: &[Seq<usize>]) -> bool
+    ensures { result ≡ list_any is_imported winners.now }
+{
+    'files: for files in winners {
+        if is_imported(files) {
+            return true;
+        }
+    }
+    false
+}
+
+/// Those that no other one beats, by the table of names that the files give.
+fn unbeaten_by_pairs<'a>(
     alloc: Global,
     winners: &[Seq<usize>],
     items: &[Entry<'a>],
@@ -85,6 +103,28 @@ pub fn unbeaten<'a>(
         keep_where(&mut kept, stands, *one)?;
     }
     Ok(kept)
+}
+
+fn copies<'a>(alloc: Global, items: &[Entry<'a>]) -> Result<Vec<Entry<'a>>, NoMemory>
+    ensures { IfOk result (λ v. entries v.items ≡ entries items.now) }
+{
+    let mut copies = Vec::new(alloc);
+    copies.extend_from_slice(items)?;
+    Ok(copies)
+}
+
+/// Those that no other one beats. For each file `winners` has those that import it, straight or through others.
+pub fn unbeaten<'a>(
+    alloc: Global,
+    winners: &[Seq<usize>],
+    items: &[Entry<'a>],
+) -> Result<Vec<Entry<'a>>, NoMemory>
+    ensures { IfOk result (λ v. entries v.items ≡ unbeaten item_name (wins_in winners.now) (entries items.now)) }
+{
+    if imports_any(winners) {
+        return unbeaten_by_pairs(alloc, winners, items);
+    }
+    copies(alloc, items)
 }
 
 /// The last of each name.

@@ -5,7 +5,7 @@ use Rattle.just_spots.specs.Entries.{entries}
 use Rattle.just_spots.specs.Items.{item_name}
 use Rattle.just_spots.specs.Standing.{is_beaten, unbeaten}
 use Rattle.just_spots.specs.Winners.{wins_in}
-use Rattle.just_spots.proofs.winners.unbeaten.Given as goal
+use Rattle.just_spots.proofs.winners.unbeaten_by_pairs.Given as goal
 
 abbrev pub invariant-items : goal.invariant-items
 invariant-items l =
