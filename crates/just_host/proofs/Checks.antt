@@ -1,5 +1,5 @@
 -- What a check of outputs tells.
-use Rattle.std.proofs.Common.{◌≡◌, ℕ, ◌<◌, true, List, [], ◌++◌, length, get_or, Some, Result, Ok, Err, refl, sym, ap, ◌∙◌, append-nil, arith}
+use Rattle.std.proofs.Common.{◌≡◌, ℕ, ◌<◌, true, List, [], ◌++◌, length, get_or, Some, Result, Err, refl, sym, ap, ◌∙◌, append-nil, arith}
 use Rattle.std.specs.List.{Contains}
 use Rattle.std.proofs.lemmas.Option.{slice_get_read, get_or_from_slice_get}
 use Rattle.just_path.specs.View.{View, meta_told}
@@ -10,9 +10,9 @@ use Rattle.just_outside.specs.declared.entry.HostFault.{HostFault}
 use Rattle.just_outside.specs.declared.entry.HostFault.TheVariants as fault
 use Rattle.just_outside.specs.Looks.{is_missing, first_missing, absent_or, absent_at, ChecksTo, ShowsMiss}
 use Rattle.just_outside.specs.Record.{refused}
-use Rattle.just_host.specs.declared.sights.TreeFault.{TreeFault}
-use Rattle.just_host.specs.declared.sights.TreeFault.TheVariants as tree_fault
-use Rattle.just_host.specs.Trees.{Shows}
+use Rattle.just_tree.specs.declared.sights.TreeFault.{TreeFault}
+use Rattle.just_tree.specs.declared.sights.TreeFault.TheVariants as tree_fault
+use Rattle.just_tree.specs.Trees.{Shows}
 use Rattle.just_host.specs.Mem.{IsFailureOf, IsHostFaultOf}
 use Rattle.just_host.proofs.Positions.{position_inside}
 

@@ -1,7 +1,3 @@
 -- Definitions of the hosts.
-pub mod Files
-pub mod Trees
-pub mod Removals
-pub mod Playing
 pub mod Mem
 pub mod Real

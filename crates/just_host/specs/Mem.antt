@@ -10,13 +10,13 @@ use Rattle.just_outside.specs.declared.entry.Entry.{Entry}
 use Rattle.just_outside.specs.declared.entry.HostFault.{HostFault}
 use Rattle.just_outside.specs.declared.entry.HostFault.TheVariants as fault
 use Rattle.just_host.specs.declared.memory.MemHost.{MemHost}
-use Rattle.just_host.specs.declared.plot.Faults.{Faults}
+use Rattle.just_tree.specs.declared.plot.Faults.{Faults}
 use Rattle.just_outside.specs.declared.entry.Status.{Status}
 use Rattle.just_outside.specs.Record.{noted, IsMissOf}
-use Rattle.just_host.specs.declared.sights.TreeFault.{TreeFault}
-use Rattle.just_host.specs.declared.sights.TreeFault.TheVariants as tree_fault
-use Rattle.just_host.specs.Playing.{ending_of, others, tree_after, next_call}
-use Rattle.just_host.specs.Trees.{files_of}
+use Rattle.just_tree.specs.declared.sights.TreeFault.{TreeFault}
+use Rattle.just_tree.specs.declared.sights.TreeFault.TheVariants as tree_fault
+use Rattle.just_tree.specs.Playing.{ending_of, others, tree_after, next_call}
+use Rattle.just_tree.specs.Trees.{files_of}
 use Rattle.just_outside.specs.Logs.{entries_of, spare_of}
 use Rattle.just_outside.specs.World.{World}
 

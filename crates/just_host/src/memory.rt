@@ -1,6 +1,5 @@
 //! A host in memory, which does what its plot says.
-ghost use Rattle.std.specs.Prelude.{◌≡◌, ◌+◌, drop, ◌<◌, ◌≤◌, ℕ, List, [], ◌∷◌, ◌++◌, Option, Some, Ok, refl, option_map, IfOk, OnOk, OnErr, MatchOption, MatchResult, length, string_bytes};
-ghost use Rattle.std.specs.FinMap as map;
+ghost use Rattle.std.specs.Prelude.{◌≡◌, ◌+◌, drop, ◌<◌, ◌≤◌, ℕ, List, [], ◌∷◌, ◌++◌, Option, Some, Ok, refl, option_map, IfOk, OnOk, OnErr, MatchResult, length, string_bytes};
 ghost use Rattle.just_path.specs.Path.{text_of};
 ghost use Rattle.just_path.specs.Comps.{slash};
 ghost use Rattle.just_path.specs.Host.{note_of, note_of_fault};
@@ -11,18 +10,16 @@ ghost use Rattle.just_outside.specs.declared.entry.Status.{Status};
 ghost use Rattle.just_outside.specs.declared.outside.TheConstants.{MAX_BYTES};
 ghost use Rattle.just_outside.specs.Record.{noted, gained, refused, IsOwn, NeverMissed, children, faults_of, misses_of, settled_entry, settled_answer, text_or_empty, script_folder, IsStartFault, IsCaptureFault};
 ghost use Rattle.just_outside.specs.Logs.{entries_of, spare_of};
-ghost use Rattle.just_outside.specs.World.{World, view_of, ReadTells, Touched, Leaves};
+ghost use Rattle.just_outside.specs.World.{view_of, ReadTells, Touched, Leaves};
 ghost use Rattle.just_outside.specs.Changes.{place_written, written, with_cache_entry, IsOfEntry, Changes};
 ghost use Rattle.just_outside.specs.Folders.{TempTells, Removes};
 ghost use Rattle.just_outside.specs.Looks.{dash, TellsAnswer, told_input, told_sum, told_check, LookTells, ChecksTo};
-ghost use Rattle.just_host.specs.Trees.{files_of};
+ghost use Rattle.just_tree.specs.Trees.{files_of};
 ghost use Rattle.just_host.specs.Mem.{record_of, world_of, Went, OnlyNotes, OnlyFiles, Answers, answer_in, Plays, Runs, IsFaultOf, IsHostFaultOf, IsFailureOf, is_struck, is_wait_struck, waited_for, FailsIf, PathFailsIf};
-ghost use Rattle.just_host.specs.Playing.{next_call, word_of, ending_of, status_of, output_of};
+ghost use Rattle.just_tree.specs.Playing.{next_call, word_of, ending_of, status_of, output_of};
 ghost use Rattle.just_outside.proofs.Laws.{counts_noted};
 
-use super::plot::{Faults, output_of, word_of};
-use super::sights::{TreeFault, copied_text};
-use super::{Ending, Place, Plot, Tree};
+use just_files::{copied_bytes, copies_of, path_or_empty};
 use just_outside::{
     Call, Entry, Host, HostFault, Log, Look, MAX_BYTES, Signal, Spec, Status, Stream,
 };
@@ -30,7 +27,7 @@ use just_path::{
     Environ, Item, Meta, Miss, NoMemory, PathCall, PathFault, PathHost, Seq, Text, TryClone,
     Utf8Path, Utf8PathBuf,
 };
-use just_system::{copied_bytes, copies_of, path_or_empty};
+use just_tree::{Ending, Faults, Place, Plot, Tree, TreeFault, copied_text, output_of, word_of};
 use std::alloc::Global;
 
 /// A host in memory, which does what its plot says. It tells its world.

@@ -1,6 +1,4 @@
--- Definitions of the host of this process, and of what hosts have in common.
-pub mod Texts
-pub mod Items
+-- Definitions of the host of this process.
 pub mod Commands
 pub mod ScriptFiles
 pub mod Real

@@ -6,8 +6,9 @@ ghost use Rattle.just_outside.specs.declared.entry.HostFault.{HostFault};
 ghost use Rattle.just_outside.specs.Record.{IsCaptureFault};
 
 use super::command::{command_of, status_of};
-use super::disk::temp_folder;
-use super::script::{ScriptFile, in_memory, place, remove};
+use super::script::{ScriptFile, place, remove};
+use just_files::disk::temp_folder;
+use just_files::in_memory;
 use just_outside::{Call, HostFault, MAX_BYTES, Spec, Status};
 use just_path::{Miss, Utf8Path};
 use std::alloc::Global;

@@ -14,10 +14,12 @@ ghost use Rattle.just_system.specs.Real.{record_of, path_of};
 use super::capturing::capture;
 use super::child::{RealChild, RealDone};
 use super::command::command_of;
-use super::copies::{copied_bytes, copies_of, path_or_empty};
-use super::disk::{self, is_absent};
 use super::script::{ScriptFile, place, remove};
-use super::system::{ask, canonical, here, list, look, pairs, read, read_text, show, target};
+use just_files::disk::{self, is_absent};
+use just_files::system::{
+    ask, canonical, here, list, look, miss_of, pairs, read, read_text, show, target,
+};
+use just_files::{copied_bytes, copies_of, path_or_empty};
 use just_outside::{Call, Entry, Host, HostFault, Log, Look, Script, Spec, Status, Stream};
 use just_path::{
     Environ, Item, Meta, Miss, NoMemory, PathCall, PathFault, PathHost, Seq, Text, TryClone,
@@ -61,25 +63,6 @@ impl<R> RealHost<R> {
         ensures { result.now ≡ record_of self.now }
     {
         self.log.entries()
-    }
-}
-
-/// The miss that an error of the system is, if it is one.
-pub(crate) fn miss_of(error: &io::Error) -> Option<Miss> {
-    let from_system = error.raw_os_error().is_some();
-    match error.kind() {
-        ErrorKind::NotFound => Some(Miss::NotFound),
-        // a NUL in the path, which std refuses itself
-        ErrorKind::InvalidInput if !from_system => Some(Miss::NotFound),
-        // the path is too long, or what the system answered isn't UTF-8
-        ErrorKind::InvalidFilename if from_system => Some(Miss::NotFound),
-        ErrorKind::InvalidFilename | ErrorKind::InvalidData => Some(Miss::NotUtf8),
-        ErrorKind::NotADirectory => Some(Miss::NotFolder),
-        ErrorKind::IsADirectory => Some(Miss::IsFolder),
-        ErrorKind::DirectoryNotEmpty => Some(Miss::NotEmpty),
-        // more bytes than may be read
-        ErrorKind::FileTooLarge if !from_system => Some(Miss::TooLarge),
-        _ => None,
     }
 }
 

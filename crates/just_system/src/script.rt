@@ -1,35 +1,22 @@
 //! The files of scripts: each in a fresh folder of its own, which goes when its child has ended. Nothing is claimed of what the system answers, so that
 //! clauses speak of paths alone.
-ghost use Rattle.std.specs.Prelude.{◌≡◌, Ok, IfOk, string_bytes};
+ghost use Rattle.std.specs.Prelude.{◌≡◌, IfOk};
 ghost use Rattle.just_system.specs.ScriptFiles.{path_in};
 
+use just_files::{fresh_folder, in_memory};
 use just_outside::Script;
-use just_path::{NoMemory, Text, Utf8Path, Utf8PathBuf};
+use just_path::{NoMemory, Text, Utf8Path};
 use std::alloc::Global;
-use std::env;
-use std::fs::{self, DirBuilder, Files, Permissions};
-use std::io::{self, ErrorKind, Read};
-use std::os::unix::fs::{DirBuilderExt, PermissionsExt};
+use std::fs::{self, Files, Permissions};
+use std::os::unix::fs::PermissionsExt;
 use std::rt::Env;
-
-/// How many names are tried for a fresh folder.
-const ATTEMPTS: usize = 16;
+use std::{env, io};
 
 /// The file of a script, and the folder that is made for it.
 #[derive(Drop)]
 pub(crate) struct ScriptFile {
     pub(crate) folder: Text,
     pub(crate) path: Text,
-}
-
-/// Hands on what was made; want of memory as an error of the system.
-pub(crate) fn in_memory<T>(made: Result<T, NoMemory>) -> io::Result<T>
-    ensures { IfOk result (λ x. made ≡ Ok x) }
-{
-    match made {
-        Ok(value) => Ok(value),
-        Err(NoMemory) => Err(io::Error::from(ErrorKind::OutOfMemory)),
-    }
 }
 
 /// The path of a name in a folder.
@@ -40,49 +27,6 @@ fn path_in(alloc: Global, folder: &str, name: &str) -> Result<Text, NoMemory>
     path.push_str("/")?;
     path.push_str(name)?;
     Ok(Text::from(path))
-}
-
-/// A number of 64 bits that tells a folder from those of other programs.
-/// No clause: nothing is claimed of what the system answers.
-fn random_number<F: Files>(files: &F) -> io::Result<u64> {
-    let mut bytes = [0u8; 8];
-    fs::open(files, "/dev/urandom")?.read_exact(&mut bytes)?;
-    Ok(u64::from_le_bytes(bytes))
-}
-
-/// A path in a folder whose name begins with `prefix`, and hardly stands there.
-/// No clause: nothing is claimed of what the system answers.
-fn random_path<F: Files>(
-    files: &F,
-    alloc: Global,
-    parent: Utf8Path<'_>,
-    prefix: &str,
-) -> io::Result<Utf8PathBuf> {
-    let number = random_number(files)?;
-    let name = format!(in alloc; "{prefix}{number:016x}")?;
-    in_memory(parent.join(alloc, Utf8Path::new(name.as_str())))
-}
-
-/// Makes a fresh folder in another, which this user alone may use. Its name begins with `prefix`.
-/// No clause: nothing is claimed of what the system answers.
-pub(crate) fn fresh_folder<F: Files>(
-    files: &F,
-    alloc: Global,
-    parent: Utf8Path<'_>,
-    prefix: &str,
-) -> io::Result<Utf8PathBuf> {
-    for _ in 0..ATTEMPTS {
-        let folder = random_path(files, alloc, parent, prefix)?;
-        match DirBuilder::new()
-            .mode(0o700)
-            .create(files, folder.as_path().as_str())
-        {
-            Ok(()) => return Ok(folder),
-            Err(error) if error.kind() == ErrorKind::AlreadyExists => {}
-            Err(error) => return Err(error),
-        }
-    }
-    Err(io::Error::from(ErrorKind::AlreadyExists))
 }
 
 /// The file of that name in a folder.

@@ -1,0 +1,3 @@
+-- Proofs of what hosts have in common.
+pub mod Places
+pub mod Limits

@@ -1,0 +1,174 @@
+//! What is done to the system's files. An error that is a miss has the kind of one. No function here has a clause, since nothing is claimed of
+//! what the system does.
+
+use super::fresh::fresh_folder;
+use just_outside::{Look, MAX_SUMMED};
+use just_path::{Kind, Utf8Path, Utf8PathBuf};
+use sha2::{Digest, Sha256};
+use std::alloc::Global;
+use std::env;
+use std::fs::{self, File, Files, OpenFile, OpenOptions};
+use std::io::{self, ErrorKind, Read, Write};
+use std::rt::Env;
+
+/// How many bytes are read at once where a file is summed.
+const PIECE: usize = 65_536;
+
+/// Refuses a path at which something stands that is no file, so that nothing is waited for when it is opened.
+fn refuse_others<F: Files>(files: &F, path: &str) -> io::Result<()> {
+    match super::system::look(files, path, true) {
+        Ok(meta) => match meta.kind {
+            Kind::File => Ok(()),
+            Kind::Folder => Err(io::Error::from(ErrorKind::IsADirectory)),
+            Kind::Link | Kind::Other => Err(io::Error::from(ErrorKind::Other)),
+        },
+        Err(error) if error.kind() == ErrorKind::NotFound => Ok(()),
+        Err(error) => Err(error),
+    }
+}
+
+/// Writes a file, which is made where it lacks: it holds these bytes and no others. What is no file isn't opened.
+pub fn write<F: Files>(files: &F, path: &str, bytes: &[u8]) -> io::Result<()> {
+    refuse_others(files, path)?;
+    fs::write(files, path, bytes)
+}
+
+/// Removes a file, a link or an empty folder; of a link not what it leads to.
+pub fn remove<F: Files>(files: &F, path: &str) -> io::Result<()> {
+    match super::system::look(files, path, false)?.kind {
+        Kind::Folder => fs::remove_dir(files, path),
+        Kind::File | Kind::Link | Kind::Other => fs::remove_file(files, path),
+    }
+}
+
+/// Makes a fresh folder in another one, else in the system's for temporary files. Its name begins with `prefix`, and this user alone may use it.
+pub fn temp_folder<R: Files + Env>(
+    rt: &R,
+    alloc: Global,
+    parent: Option<Utf8Path<'_>>,
+    prefix: &str,
+) -> io::Result<Utf8PathBuf> {
+    match parent {
+        Some(parent) => fresh_folder(rt, alloc, parent, prefix),
+        None => {
+            let folder = Utf8PathBuf::from(env::temp_dir(&(rt, alloc))?.into_string());
+            fresh_folder(rt, alloc, folder.as_path(), prefix)
+        }
+    }
+}
+
+/// The SHA-256 of a file, which is read piece by piece. Where it has more than `MAX_SUMMED` bytes, the error is `FileTooLarge`; what is no file isn't opened.
+pub fn sum<F: Files>(files: &F, alloc: Global, path: &str) -> io::Result<[u8; 32]> {
+    refuse_others(files, path)?;
+    let mut file = fs::open(files, path)?;
+    let mut piece = Vec::new(alloc);
+    piece.resize(PIECE, 0u8)?;
+    sum_of(&mut file, piece.as_mut_slice())
+}
+
+/// The SHA-256 of what a reader gives up to its end, unless it is too much.
+fn sum_of<R: Read>(reader: &mut R, piece: &mut [u8]) -> io::Result<[u8; 32]> {
+    let mut hasher = Sha256::new();
+    let mut count: u64 = 0;
+    for _ in 0..u64::MAX {
+        let taken = match reader.read(piece) {
+            Ok(0) => return Ok(hasher.finalize()),
+            Ok(taken) => taken,
+            Err(error) if error.kind() == ErrorKind::Interrupted => 0,
+            Err(error) => return Err(error),
+        };
+        hasher.update(&piece[..taken]);
+        count = count.saturating_add(taken as u64);
+        if count > MAX_SUMMED {
+            return Err(io::Error::from(ErrorKind::FileTooLarge));
+        }
+    }
+    Err(io::Error::from(ErrorKind::Other))
+}
+
+/// Opens a cache entry, which is made where it lacks.
+fn open_entry<F: Files<File = File>>(files: &F, path: &str) -> io::Result<File> {
+    refuse_others(files, path)?;
+    OpenOptions::new()
+        .read(true)
+        .write(true)
+        .create(true)
+        .open(files, path)
+}
+
+/// Makes the folder that a cache entry is in, where it lacks.
+fn make_folder_of<F: Files>(files: &F, entry: Utf8Path<'_>) -> io::Result<()> {
+    let Some(folder) = entry.parent() else {
+        return Ok(());
+    };
+    if folder.as_str().is_empty() {
+        return Ok(());
+    }
+    match fs::create_dir(files, folder.as_str()) {
+        Err(error) if error.kind() != ErrorKind::AlreadyExists => Err(error),
+        _ => Ok(()),
+    }
+}
+
+/// The length of a cache entry, while no other program writes it.
+fn entry_length<F: Files<File = File>>(files: &F, entry: Utf8Path<'_>) -> io::Result<u64> {
+    make_folder_of(files, entry)?;
+    let file = open_entry(files, entry.as_str())?;
+    file.lock()?;
+    let length = file.metadata()?.len();
+    file.unlock()?;
+    Ok(length)
+}
+
+/// Looks at a cache entry, which is made with its folder where it lacks, and at the outputs beside it. An output lacks where an error that is a miss tells so;
+/// the number of the first one, from 0 on, is answered.
+pub fn probe<F: Files<File = File>>(
+    files: &F,
+    entry: Utf8Path<'_>,
+    outputs: &[Utf8PathBuf],
+) -> io::Result<Look> {
+    if entry_length(files, entry)? == 0 {
+        return Ok(Look::Empty);
+    }
+    for i in 0..outputs.len() {
+        if is_missing(files, outputs[i].as_path().as_str())? {
+            return Ok(Look::OutputMissing(number_of(i)?));
+        }
+    }
+    Ok(Look::Full)
+}
+
+/// The number of an output, unless it is too great for one.
+fn number_of(at: usize) -> io::Result<u32> {
+    match u32::try_from(at) {
+        Ok(number) => Ok(number),
+        Err(_) => Err(io::Error::from(ErrorKind::OutOfMemory)),
+    }
+}
+
+/// Whether nothing is found where a path leads.
+fn is_missing<F: Files>(files: &F, path: &str) -> io::Result<bool> {
+    match super::system::look(files, path, true) {
+        Ok(_) => Ok(false),
+        Err(error) if super::system::miss_of(&error).is_some() => Ok(true),
+        Err(error) => Err(error),
+    }
+}
+
+/// Whether nothing stands where a path leads. Another miss is an error.
+pub fn is_absent<F: Files>(files: &F, path: &str) -> io::Result<bool> {
+    match super::system::look(files, path, true) {
+        Ok(_) => Ok(false),
+        Err(error) if error.kind() == ErrorKind::NotFound => Ok(true),
+        Err(error) => Err(error),
+    }
+}
+
+/// Writes a cache entry, which is made where it lacks, while no other program looks at it. Its folder isn't made.
+pub fn save<F: Files<File = File>>(files: &F, path: &str, bytes: &[u8]) -> io::Result<()> {
+    let mut file = open_entry(files, path)?;
+    file.lock()?;
+    file.set_len(0)?;
+    file.write_all(bytes)?;
+    file.unlock()
+}
