@@ -1,5 +1,5 @@
 -- That a record shows the error of a run that failed.
-use Rattle.std.proofs.Common.{◌≡◌, ◌≢◌, ◌⊎◌, ℕ, ℤ, suc, ◌-◌, inl, inr, Bool, true, false, List, [], ◌∷◌, length, slice_get, Contains, Option, Some, None, pos, true≢false, refl, ap, sym, subst, arith}
+use Rattle.std.proofs.Common.{◌≡◌, ◌≢◌, ◌⊎◌, ℕ, ℤ, suc, ◌-◌, inl, inr, Bool, true, false, List, [], ◌∷◌, length, slice_get, Contains, Option, Some, None, pos, true≢false, refl, ap, sym, ◌∙◌, subst, arith}
 use Rattle.std.specs.List.{last_or}
 use Rattle.std.specs.Cmp.{signed_Decides}
 use Rattle.std.proofs.lemmas.List.Elements.{All-contains}
@@ -32,7 +32,7 @@ use Rattle.just_sched.specs.Match.{Matches}
 use Rattle.just_sched.specs.State.{statuses, reason_of, caught_signal, next_step}
 use Rattle.just_sched.specs.Verdict.{IsVerdict}
 use Rattle.just_sched.specs.Causes.{ShowsFailure, ShowsMiss}
-use Rattle.just_sched.proofs.Laws.{last_status_shown, failed_by_statuses, failing_code, failing_guard, failed_call_shown, missed_call_shown, caught_signal_shown}
+use Rattle.just_sched.proofs.Laws.{last_status_shown, failed_by_statuses, failing_code, failing_guard, failed_call_shown, missed_call_shown, refusal_shown, caught_signal_shown}
 use Rattle.just_errors.specs.declared.error.Error.{Error}
 use Rattle.just_errors.specs.declared.error.Error.TheVariants as error
 use Rattle.just_outcome.specs.Caused.{IsCaused, ShowsEnd, HasFailed, HasLostChild}
@@ -91,6 +91,7 @@ module _ (s : Run) (h : List Event) (es : List Entry) (legal : IsLegal s h) (mat
 
   by_miss : (n : ℕ) (x : PlanNode) (c : Call) (m : Miss) → slice_get s.nodes n ≡ Some x → reason_of h n ≡ Some (reason.Place c m) → IsCaused s.nodes h (miss_error x c m) es
   by_miss n x call.Temp m is q = (has_failed n x (reason.Place call.Temp m) is q, missed_call_shown s h es n call.Temp m matches q)
+  by_miss n x call.Ask m is q = missed_call_shown s h es n call.Ask m matches q
   by_miss n x c m is q = missed_call_shown s h es n c m matches q
 
   -- a child that couldn't be started or waited for
@@ -112,6 +113,7 @@ module _ (s : Run) (h : List Event) (es : List Entry) (legal : IsLegal s h) (mat
       by_work n x c x.work (record { number = n; node = x; is_node = is; reason_is = q; error_is = refl; call_is = which }) (failed_call_shown s h es n c matches q)
 
   by_fault : (n : ℕ) (x : PlanNode) (c : Call) → slice_get s.nodes n ≡ Some x → reason_of h n ≡ Some (reason.Fault c) → IsCaused s.nodes h (fault_error x (statuses h n) c) es
+  by_fault n x call.Ask is q = (refl, failed_call_shown s h es n call.Ask matches q)
   by_fault n x call.Print is q = (refl, failed_call_shown s h es n call.Print matches q)
   by_fault n x call.Temp is q = (refl, has_failed n x (reason.Fault call.Temp) is q, failed_call_shown s h es n call.Temp matches q)
   by_fault n x call.Start is q = by_lost n x call.Start (inl refl) is q
@@ -120,6 +122,7 @@ module _ (s : Run) (h : List Event) (es : List Entry) (legal : IsLegal s h) (mat
 
   by_reason : (n : ℕ) (x : PlanNode) (message : Bool) (o : Option Reason) → slice_get s.nodes n ≡ Some x → reason_of h n ≡ o → IsCaused s.nodes h (failure_error x message (statuses h n) o) es
   by_reason n x message (Some reason.Status) is q = by_status n x message (last_or None (statuses h n)) is (failed_by_statuses s h n legal q) refl
+  by_reason n x message (Some reason.NotConfirmed) is q = (has_failed n x reason.NotConfirmed is q, refusal_shown s h es n legal matches q)
   by_reason n x message (Some (reason.Place c m)) is q = by_miss n x c m is q
   by_reason n x message (Some (reason.Fault c)) is q = by_fault n x c is q
   by_reason n x message _ is q = tt
@@ -171,6 +174,10 @@ memory_alone nodes h (error.Shebang recipe command argument fault.NoMemory) es a
 memory_alone nodes h (error.TempdirIo recipe (fault.Failed c)) es a all = absurd (no_failure call.Temp es a.2 all)
 memory_alone nodes h (error.TempdirIo recipe (fault.Missed m)) es a all = absurd (no_miss m es a.1 all)
 memory_alone nodes h (error.TempdirIo recipe fault.NoMemory) es a all = absurd a
+memory_alone nodes h (error.NotConfirmed recipe) es a all = absurd (true≢false (sym (all (entry.Asked a.1.0 a.1.1) a.1.2) ∙ a.1.3))
+memory_alone nodes h (error.GetConfirmation (fault.Failed c)) es a all = absurd (no_failure call.Ask es a.1 all)
+memory_alone nodes h (error.GetConfirmation (fault.Missed m)) es a all = absurd a
+memory_alone nodes h (error.GetConfirmation fault.NoMemory) es a all = absurd a
 memory_alone nodes h (error.StdoutIo (fault.Failed c)) es a all = absurd (no_failure call.Print es a.1 all)
 memory_alone nodes h (error.StdoutIo (fault.Missed m)) es a all = absurd a
 memory_alone nodes h (error.StdoutIo fault.NoMemory) es a all = absurd a

@@ -14,7 +14,7 @@ use Rattle.just_sched.specs.declared.event.Reason.{Reason}
 use Rattle.just_sched.specs.declared.event.Reason.TheVariants as reason
 use Rattle.just_sched.specs.declared.plan_node.PlanNode.{PlanNode}
 use Rattle.just_commands.specs.declared.work.Step.TheVariants as step
-use Rattle.just_sched.specs.Causes.{ShowsFailure, ShowsMiss}
+use Rattle.just_sched.specs.Causes.{ShowsFailure, ShowsMiss, ShowsRefusal}
 use Rattle.just_sched.specs.State.{next_step, reason_of, statuses}
 use Rattle.just_commands.specs.Steps.{commands_of}
 use Rattle.just_outcome.specs.Outcome.{name_of, line_of, is_guard, lost_error}
@@ -53,7 +53,7 @@ pub record HasLostChild (nodes : List PlanNode) (h : List Event) (e : Error) (c 
   pub error_is : e ≡ lost_error node (statuses h number) node.work (fault.Failed c)
   pub call_is : (c ≡ call.Start) ⊎ (c ≡ call.Wait)
 
--- the causes of an error of a child, of a temporary folder, and of a text that wasn't printed
+-- the causes of an error of a child, of a temporary folder, of a prompt, and of a text that wasn't printed
 abbrev pub ShowsChild : List PlanNode → List Event → Error → HostFault → List Entry → Type 0
 ShowsChild nodes h e (fault.Failed c) es = HasLostChild nodes h e c × ShowsFailure c es
 ShowsChild nodes h e (fault.Missed m) es = ⊥
@@ -63,6 +63,11 @@ abbrev pub ShowsFolder : List PlanNode → List Event → List ℕ → HostFault
 ShowsFolder nodes h recipe (fault.Failed c) es = (c ≡ call.Temp) × HasFailed nodes h recipe (reason.Fault call.Temp) × ShowsFailure call.Temp es
 ShowsFolder nodes h recipe (fault.Missed m) es = HasFailed nodes h recipe (reason.Place call.Temp m) × ShowsMiss m es
 ShowsFolder nodes h recipe fault.NoMemory es = ⊥
+
+abbrev pub ShowsAsking : HostFault → List Entry → Type 0
+ShowsAsking (fault.Failed c) es = (c ≡ call.Ask) × ShowsFailure call.Ask es
+ShowsAsking (fault.Missed m) es = ⊥
+ShowsAsking fault.NoMemory es = ⊥
 
 abbrev pub ShowsPrint : HostFault → List Entry → Type 0
 ShowsPrint (fault.Failed c) es = (c ≡ call.Print) × ShowsFailure call.Print es
@@ -85,6 +90,8 @@ IsCaused nodes h (error.ShellIo recipe shell io) es = ShowsChild nodes h (error.
 IsCaused nodes h (error.Script recipe command io) es = ShowsChild nodes h (error.Script recipe command io) io es
 IsCaused nodes h (error.Shebang recipe command argument io) es = ShowsChild nodes h (error.Shebang recipe command argument io) io es
 IsCaused nodes h (error.TempdirIo recipe io) es = ShowsFolder nodes h recipe io es
+IsCaused nodes h (error.NotConfirmed recipe) es = HasFailed nodes h recipe reason.NotConfirmed × ShowsRefusal es
+IsCaused nodes h (error.GetConfirmation io) es = ShowsAsking io es
 IsCaused nodes h (error.StdoutIo io) es = ShowsPrint io es
 IsCaused nodes h (error.Interrupted signal) es = Contains h (event.Caught signal) × Contains es (entry.Signalled signal)
 IsCaused nodes h error.NoMemory es = Unit {0}

@@ -1,5 +1,5 @@
 -- The error of a node that failed.
-use Rattle.std.specs.Prelude.{ℕ, ◌≡◌, ◌-◌, ◌⊎◌, Bool, true, false, if◌then◌else◌, ℤ, List, [], ◌∷◌, ◌++◌, flat_map, length, slice_get, Option, Some, None, MatchOption}
+use Rattle.std.specs.Prelude.{ℕ, ◌≡◌, ◌-◌, ◌⊎◌, Bool, true, false, if◌then◌else◌, ℤ, List, [], ◌∷◌, ◌++◌, codes, flat_map, length, slice_get, Option, Some, None, MatchOption}
 use Rattle.std.specs.List.{last_or}
 use Rattle.std.specs.Option.{unwrap_or}
 use Rattle.just_path.specs.declared.host.Miss.{Miss}
@@ -90,13 +90,15 @@ lost_error x ss (work.Lines commands) io = error.ShellIo (name_of x) (shell_of x
 lost_error x ss (work.Script c) io = script_error (name_of x) c.spec c.spec.script io
 lost_error x ss work.Empty io = error.ShellIo (name_of x) (shell_of x ss) io
 
--- the error of a body that a miss of that call ended
+-- the error of a body that a miss of that call ended; that of a prompt names standard input
 abbrev pub miss_error : PlanNode → Call → Miss → Error
+miss_error x call.Ask m = error.FilesystemIo (codes "-") (fault.Missed m)
 miss_error x call.Temp m = error.TempdirIo (name_of x) (fault.Missed m)
 miss_error x c m = error.FilesystemIo [] (fault.Missed m)
 
 -- the error of a body that a failure of that call ended
 abbrev pub fault_error : PlanNode → List Status → Call → Error
+fault_error x ss call.Ask = error.GetConfirmation (fault.Failed call.Ask)
 fault_error x ss call.Print = error.StdoutIo (fault.Failed call.Print)
 fault_error x ss call.Temp = error.TempdirIo (name_of x) (fault.Failed call.Temp)
 fault_error x ss call.Start = lost_error x ss x.work (fault.Failed call.Start)
@@ -106,6 +108,7 @@ fault_error x ss c = error.FilesystemIo [] (fault.Failed c)
 -- the error of a node that failed for that reason; other reasons don't come yet, but want of memory
 abbrev pub failure_error : PlanNode → Bool → List Status → Option Reason → Error
 failure_error x message ss (Some reason.Status) = last_error x message ss (last_or None ss)
+failure_error x message ss (Some reason.NotConfirmed) = error.NotConfirmed (name_of x)
 failure_error x message ss (Some (reason.Place c m)) = miss_error x c m
 failure_error x message ss (Some (reason.Fault c)) = fault_error x ss c
 failure_error x message ss _ = error.NoMemory
@@ -122,21 +125,24 @@ error_in None message h n = error.NoMemory
 abbrev pub node_error : List PlanNode → List Bool → List Event → ℕ → Error
 node_error nodes messages h n = error_in (slice_get nodes n) (is_told messages n) h n
 
--- whether an error names a recipe, whose name is copied
-abbrev pub names_recipe : Error → Bool
-names_recipe (error.Code recipe line code message) = true
-names_recipe (error.Signal recipe line signal) = true
-names_recipe (error.Unknown recipe line) = true
-names_recipe (error.GuardCode recipe line code) = true
-names_recipe (error.ShellIo recipe shell io) = true
-names_recipe (error.Script recipe command io) = true
-names_recipe (error.Shebang recipe command argument io) = true
-names_recipe (error.TempdirIo recipe io) = true
-names_recipe _ = false
+-- whether a text is copied for an error: the name of a recipe, or a path that isn't empty
+abbrev pub copies_text : Error → Bool
+copies_text (error.FilesystemIo [] io) = false
+copies_text (error.FilesystemIo (b ∷ bs) io) = true
+copies_text (error.NotConfirmed recipe) = true
+copies_text (error.Code recipe line code message) = true
+copies_text (error.Signal recipe line signal) = true
+copies_text (error.Unknown recipe line) = true
+copies_text (error.GuardCode recipe line code) = true
+copies_text (error.ShellIo recipe shell io) = true
+copies_text (error.Script recipe command io) = true
+copies_text (error.Shebang recipe command argument io) = true
+copies_text (error.TempdirIo recipe io) = true
+copies_text _ = false
 
--- that error; in place of one that names a recipe memory may be wanting
+-- that error; in place of one for which a text is copied memory may be wanting
 abbrev pub IsToldAs : Error → Error → Type 0
-IsToldAs wanted e = (e ≡ wanted) ⊎ ((names_recipe wanted ≡ true) × (e ≡ error.NoMemory))
+IsToldAs wanted e = (e ≡ wanted) ⊎ ((copies_text wanted ≡ true) × (e ≡ error.NoMemory))
 
 -- the error of a run of that verdict: none where it went well; that of the node that the verdict names; the caught signal;
 -- or want of memory

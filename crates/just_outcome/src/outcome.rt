@@ -1,10 +1,10 @@
 //! The error of a node that failed.
 
-ghost use Rattle.std.specs.Prelude.{◌≡◌, ◌++◌, true, [], None, length, string_bytes, IfOk, IfErr};
+ghost use Rattle.std.specs.Prelude.{◌≡◌, ◌++◌, true, [], None, codes, length, string_bytes, IfOk, IfErr};
 ghost use Rattle.std.specs.Option.{option_copied};
 ghost use Rattle.std.specs.List.{last_or};
 ghost use Rattle.just_outside.specs.Record.{text_or_empty};
-ghost use Rattle.just_outcome.specs.Outcome.{name_of as recipe_name, code_error as error_of_code, status_error as error_of_status, last_error as error_of_last, shell_of as node_shell, with_blanks, spaced, first_of, script_error as error_of_script, lost_error as error_of_lost, is_told, miss_error as error_of_miss, fault_error as error_of_fault, failure_error as error_of_failure, node_error, names_recipe, IsToldAs, IsErrorFor};
+ghost use Rattle.just_outcome.specs.Outcome.{name_of as recipe_name, code_error as error_of_code, status_error as error_of_status, last_error as error_of_last, shell_of as node_shell, with_blanks, spaced, first_of, script_error as error_of_script, lost_error as error_of_lost, is_told, miss_error as error_of_miss, fault_error as error_of_fault, failure_error as error_of_failure, node_error, copies_text, IsToldAs, IsErrorFor};
 ghost use Rattle.just_sched.specs.State.{statuses, reason_of as failure_of};
 
 use just_commands::{Command, Work, command};
@@ -68,7 +68,7 @@ fn last_error(
     number: u32,
 ) -> Result<Error, NoMemory>
     ensures error { IfOk result (λ e. e ≡ error_of_last node.now message (statuses history.now number) (last_or None (statuses history.now number))) }
-    ensures wanting { IfErr result (λ _. names_recipe (error_of_last node.now message (statuses history.now number) (last_or None (statuses history.now number))) ≡ true) }
+    ensures wanting { IfErr result (λ _. copies_text (error_of_last node.now message (statuses history.now number) (last_or None (statuses history.now number))) ≡ true) }
 {
     let Some(status) = last_status(history, number) else {
         return Ok(Error::NoMemory);
@@ -152,7 +152,7 @@ fn lost_error(
     io: HostFault,
 ) -> Result<Error, NoMemory>
     ensures error { IfOk result (λ e. e ≡ error_of_lost node.now (statuses history.now number) node.now.work io) }
-    ensures wanting { IfErr result (λ _. names_recipe (error_of_lost node.now (statuses history.now number) node.now.work io) ≡ true) }
+    ensures wanting { IfErr result (λ _. copies_text (error_of_lost node.now (statuses history.now number) node.now.work io) ≡ true) }
 {
     let recipe = name_of(alloc, node)?;
     match &node.work {
@@ -162,6 +162,16 @@ fn lost_error(
             Ok(Error::ShellIo { recipe, shell, io })
         }
     }
+}
+
+/// The error of a prompt whose answer was missed, on standard input.
+fn answer_error(alloc: Global, miss: Miss) -> Result<Error, NoMemory>
+    ensures { IfOk result (λ e. e ≡ Error.FilesystemIo (codes "-") (HostFault.Missed miss)) }
+{
+    Ok(Error::FilesystemIo {
+        path: Utf8PathBuf::from(String::from_str(alloc, "-")?),
+        io: HostFault::Missed(miss),
+    })
 }
 
 /// The error of a refused call that no text of a recipe is told of.
@@ -177,9 +187,10 @@ fn file_error(alloc: Global, io: HostFault) -> Error
 /// The error of a node's body that a miss of that call ended.
 fn miss_error(alloc: Global, node: &PlanNode, call: Call, miss: Miss) -> Result<Error, NoMemory>
     ensures error { IfOk result (λ e. e ≡ error_of_miss node.now call miss) }
-    ensures wanting { IfErr result (λ _. names_recipe (error_of_miss node.now call miss) ≡ true) }
+    ensures wanting { IfErr result (λ _. copies_text (error_of_miss node.now call miss) ≡ true) }
 {
     match call {
+        Call::Ask => answer_error(alloc, miss),
         Call::Temp => Ok(Error::TempdirIo {
             recipe: name_of(alloc, node)?,
             io: HostFault::Missed(miss),
@@ -197,10 +208,11 @@ fn fault_error(
     call: Call,
 ) -> Result<Error, NoMemory>
     ensures error { IfOk result (λ e. e ≡ error_of_fault node.now (statuses history.now number) call) }
-    ensures wanting { IfErr result (λ _. names_recipe (error_of_fault node.now (statuses history.now number) call) ≡ true) }
+    ensures wanting { IfErr result (λ _. copies_text (error_of_fault node.now (statuses history.now number) call) ≡ true) }
 {
     let io = HostFault::Failed(call);
     match call {
+        Call::Ask => Ok(Error::GetConfirmation { io }),
         Call::Print => Ok(Error::StdoutIo { io }),
         Call::Temp => Ok(Error::TempdirIo {
             recipe: name_of(alloc, node)?,
@@ -221,10 +233,13 @@ fn failure_error(
     reason: Option<Reason>,
 ) -> Result<Error, NoMemory>
     ensures error { IfOk result (λ e. e ≡ error_of_failure node.now message (statuses history.now number) reason) }
-    ensures wanting { IfErr result (λ _. names_recipe (error_of_failure node.now message (statuses history.now number) reason) ≡ true) }
+    ensures wanting { IfErr result (λ _. copies_text (error_of_failure node.now message (statuses history.now number) reason) ≡ true) }
 {
     match reason {
         Some(Reason::Status) => last_error(alloc, node, message, history, number),
+        Some(Reason::NotConfirmed) => Ok(Error::NotConfirmed {
+            recipe: name_of(alloc, node)?,
+        }),
         Some(Reason::Place(call, miss)) => miss_error(alloc, node, call, miss),
         Some(Reason::Fault(call)) => fault_error(alloc, node, history, number, call),
         _ => Ok(Error::NoMemory),

@@ -1,5 +1,5 @@
 -- What a book's account of its run gives, and how it goes on by one event.
-use Rattle.std.proofs.Common.{◌≡◌, ◌==◌, Bool, ℕ, ◌+◌, ◌-◌, ◌^◌, ◌<◌, ◌≤◌, true, false, cond, List, [], ◌∷◌, ◌++◌, length, count_by, Option, Some, None, MatchOption, MatchBool, refl, ap, sym, ◌∙◌, subst, append_assoc, append-nil, arith}
+use Rattle.std.proofs.Common.{◌≡◌, ◌==◌, Bool, ℕ, ◌+◌, ◌-◌, ◌^◌, ◌<◌, ◌≤◌, true, false, cond, List, [], ◌∷◌, ◌++◌, length, count_by, Option, Some, None, MatchOption, MatchBool, refl, ap, sym, ◌∙◌, subst, append_assoc, append-nil, arith, ◌&&◌, not}
 use Rattle.std.specs.Coded.{coded_option, Coded-set}
 use Rattle.std.specs.List.{list_any, range_with_len}
 use Rattle.std.proofs.Math.Bool.{Bool-set}
@@ -22,17 +22,18 @@ use Rattle.just_sched.specs.Legal.{Run, May, IsLegal, all_starts, open_bodies, i
 use Rattle.just_sched.specs.Match.{StandsFor}
 use Rattle.just_sched.specs.Room.{slots, settles, settle_count, total_commands}
 use Rattle.just_sched.specs.Start.{Start, IsKept, run_of}
-use Rattle.just_sched.specs.State.{signal_in, has_taken, has_given, is_over, is_open, is_running, caught_signal}
+use Rattle.just_sched.specs.State.{signal_in, has_taken, has_given, is_confirmed, is_over, is_open, is_running, caught_signal}
 use Rattle.just_sched.proofs.Counts.{over_still, running_inside, untaken}
 use Rattle.just_sched.proofs.Due.{opened}
 use Rattle.just_sched.proofs.EventRoom.{room, settle_room}
 use Rattle.just_sched.proofs.Histories.{legal_more, matches_more}
 use Rattle.just_sched.proofs.OneMore.{all_starts_more, settles_more, signal_stays}
 use Rattle.just_sched.proofs.OpenBodies.{open_gave, open_stays, open_took}
+use Rattle.just_sched.proofs.Order.{took_confirmed}
 use Rattle.just_sched.proofs.PlanShape.{IsFormed}
 use Rattle.just_sched.proofs.Range.{in_range}
 use Rattle.just_sched.proofs.Stretch.{fresh_start}
-use Rattle.just_sched.proofs.Tests.{neither}
+use Rattle.just_sched.proofs.Tests.{neither, unless}
 
 -- ---- one event more
 
@@ -137,6 +138,16 @@ module _ {s : Start} {h : List Event} {now : List Entry} {w : Option World} {spa
 
   pub not_running : (n : ℕ) → has_taken h n ≡ false → is_running h n ≡ false
   not_running n t = ∥∥₁_elim account (Bool-set _ _) (λ a. (untaken (run_of s) h n a.kept.legal t).running)
+
+  -- a node that took a job is confirmed
+  pub took_sure : (n : ℕ) → has_taken h n ≡ true → is_confirmed s.plan.nodes h n ≡ true
+  took_sure n t = ∥∥₁_elim account (Bool-set _ _) (λ a. took_confirmed (run_of s) h n a.kept.legal t)
+
+  -- one that isn't took none, so its body isn't open
+  pub unsure_free : (n : ℕ) → is_confirmed s.plan.nodes h n ≡ false → (has_taken h n ≡ false) × (is_open h n ≡ false)
+  unsure_free n q =
+      let t = unless (has_taken h n) (is_confirmed s.plan.nodes h n) (took_sure n) q in
+      (t, ap (λ b. b && not (has_given h n)) t)
 
   -- a node that runs is in its body
   pub inside_running : (n : ℕ) → is_running h n ≡ true → in_body h n ≡ true

@@ -3,7 +3,7 @@ use Rattle.std.proofs.Common.{◌≡◌, ℕ, ◌⊎◌, inl, ⊎_elim, Bool, tr
 use Rattle.std.specs.Prelude.{slice_index, Contains}
 use Rattle.just_sched.specs.declared.plan_node.PlanNode.{PlanNode}
 use Rattle.just_sched.specs.declared.progress.Progress.{Progress}
-use Rattle.just_sched.specs.State.{is_over_well, IsFinished, invoked}
+use Rattle.just_sched.specs.State.{is_over_well, is_confirmed, IsFinished, invoked}
 use Rattle.just_sched.specs.Tables.{flag, FlagsAre}
 use Rattle.just_sched.specs.Led.{IsRaised, MayFollow, IsLed}
 use Rattle.just_sched.specs.Progress.{IsClosedBut, IsTold}
@@ -15,7 +15,7 @@ use Rattle.just_sched.proofs.WantedLaws.{leads_weaker}
 pub none_up : (flags : List Bool) → FlagsAre flags (λ _. false) → (k : ℕ) → flag flags k ≡ true → ⊥
 none_up flags down k up = true≢false (sym up ∙ down k (flag_within flags k up))
 
-module _ (nodes : List PlanNode) (invocations : List ℕ) (p q : Progress) (over_is : q.over.items ≡ p.over.items) (finished_is : q.finished.items ≡ p.finished.items)
+module _ (nodes : List PlanNode) (invocations : List ℕ) (p q : Progress) (over_is : q.over.items ≡ p.over.items) (finished_is : q.finished.items ≡ p.finished.items) (confirmed_is : q.confirmed.items ≡ p.confirmed.items)
     (over : FlagsAre p.over.items (λ _. false)) (finished : FlagsAre p.finished.items (λ _. false)) (wanted : FlagsAre p.wanted.items (λ _. false))
     (raised : IsRaised p.wanted.items q.wanted.items p.pending.items q.pending.items) where
   never_over : (m : ℕ) → flag q.over.items m ≡ true → ⊥
@@ -28,13 +28,14 @@ module _ (nodes : List PlanNode) (invocations : List ℕ) (p q : Progress) (over
     subsequents = λ m left up. absurd (never_over m up);
     over = λ m e. absurd (no_next m e);
     together = λ m e all. absurd (no_next m e);
-    priors = λ m up. ⊎_elim (λ (was : flag p.wanted.items m ≡ true). absurd (none_up p.wanted.items wanted m was)) (λ (listed : Contains q.pending.items m). inl listed) (raised.noted m up);
+    priors = λ m up _. ⊎_elim (λ (was : flag p.wanted.items m ≡ true). absurd (none_up p.wanted.items wanted m was)) (λ (listed : Contains q.pending.items m). inl listed) (raised.noted m up);
   }
 
-  pub told_begun : ((k : ℕ) → flag q.wanted.items k ≡ true → (flag p.wanted.items k ≡ true) ⊎ MayFollow p.finished.items false invocations k) → IsTold nodes invocations [] q
-  told_begun only = record {
+  pub told_begun : FlagsAre p.confirmed.items (is_confirmed nodes []) → ((k : ℕ) → flag q.wanted.items k ≡ true → (flag p.wanted.items k ≡ true) ⊎ MayFollow p.finished.items false invocations k) → IsTold nodes invocations [] q
+  told_begun said only = record {
     over = subst (λ xs. FlagsAre xs (is_over_well [])) (sym over_is) over;
     finished = λ k up. absurd (none_up p.finished.items finished k (subst (λ xs. flag xs k ≡ true) finished_is up));
+    confirmed = λ k up. let was : flag p.confirmed.items k ≡ true = subst (λ xs. flag xs k ≡ true) confirmed_is up in sym (said k (flag_within p.confirmed.items k was)) ∙ was;
     wanted = λ k up. ⊎_elim (λ (was : flag p.wanted.items k ≡ true). absurd (none_up p.wanted.items wanted k was))
         (λ (next : MayFollow p.finished.items false invocations k).
         invoked k (leads_weaker (λ i. flag p.finished.items i ≡ true) (IsFinished nodes []) false invocations k (λ j lt f. absurd (none_up p.finished.items finished (slice_index invocations j) f)) next))

@@ -1,6 +1,6 @@
 -- What a record shows of a body that failed.
 use Rattle.std.proofs.Common.{◌≡◌, ℕ, ◌-◌, ◌==◌, inl, inr, ◌&&◌, not, codes, Bool, true, false, if◌then◌else◌, List, [], ◌∷◌, ◌++◌, length, slice_get, Contains, Option, Some, None, ℤ, pos, true≢false, refl, ap, sym, ◌∙◌, subst, append_assoc, append-nil, length-append, arith, eqb-true}
-use Rattle.std.specs.List.{last_or}
+use Rattle.std.specs.List.{last_or, list_any}
 use Rattle.std.specs.Ordering.{int_eq}
 use Rattle.std.proofs.lemmas.List.Elements.{Contains-append_left, Contains-append_right}
 use Rattle.just_path.specs.declared.host.Miss.{Miss}
@@ -21,21 +21,21 @@ use Rattle.just_commands.specs.declared.work.Command.{Command}
 use Rattle.just_commands.specs.declared.work.Step.{Step}
 use Rattle.just_commands.specs.declared.work.Step.TheVariants as step
 use Rattle.just_commands.specs.declared.work.Work.{Work}
-use Rattle.just_sched.specs.Causes.{ShowsFailure, ShowsMiss, EndedLast}
-use Rattle.just_sched.specs.Nodes.{command_at}
+use Rattle.just_sched.specs.Causes.{ShowsFailure, ShowsMiss, ShowsRefusal, EndedLast}
+use Rattle.just_sched.specs.Nodes.{prompt_at, command_at}
 use Rattle.just_commands.specs.Steps.{commands_of, ends_body, goes_on, is_code, start_or_well, step_behind, after}
-use Rattle.just_sched.specs.State.{status_of, reason_in, signal_in, is_done, statuses, last_start, reason_of, caught_signal, next_step}
+use Rattle.just_sched.specs.State.{answers, status_of, reason_in, signal_in, is_done, statuses, last_start, reason_of, caught_signal, next_step}
 use Rattle.just_sched.specs.Legal.{Run, Ended, IsDue, May, LegalFrom, IsLegal}
-use Rattle.just_sched.specs.Match.{StandsFor, FaultStandsFor, MissStandsFor, FailureStandsFor, BehindEcho, MatchesFrom, Matches, printed_entries}
+use Rattle.just_sched.specs.Match.{StandsFor, FaultStandsFor, MissStandsFor, FailureStandsFor, BehindEcho, MatchesFrom, Matches, printed_entries, is_yes}
 use Rattle.just_sched.proofs.AfterLaws.{after_judged}
 use Rattle.just_sched.proofs.Counts.{running_place}
 use Rattle.just_sched.proofs.Due.{inside}
 use Rattle.just_sched.proofs.Histories.{legal_holds, legal_more}
 use Rattle.just_sched.proofs.OneMore.{last_start_stays, last_started, reason_kept, reason_new, signal_kept, signal_new, statuses_ended, statuses_stay}
 use Rattle.just_sched.proofs.Others.{next_step_stays, starts_of, statuses_of}
-use Rattle.just_sched.proofs.Reasons.{reason_done, reason_due}
+use Rattle.just_sched.proofs.Reasons.{reason_done, reason_due, reason_since}
 use Rattle.just_sched.proofs.Stretch.{matches_holds, option_there}
-use Rattle.just_sched.proofs.Tests.{last_push, neither}
+use Rattle.just_sched.proofs.Tests.{any_kept, any_none, both, last_push, neither, not_true}
 
 -- ---- a history with its record
 
@@ -287,6 +287,30 @@ miss_caused s h es n c x m q =
     let p = the_part s h es n (reason.Place c x) m q in
     let shown = miss_shown s p.before p.node c x p.part p.stands in
     (shown.0, p.within (entry.Missed shown.0 x) shown.1)
+
+-- ---- a node that wasn't confirmed
+
+-- an answer by which a node isn't confirmed stands for its entry
+refused_by : (s : Run) (h : List Event) (e : Event) (n : ℕ) (fs : List Entry) → answers false n e ≡ true → StandsFor s h e fs → ShowsRefusal fs
+refused_by s h (event.Asked m y) n fs q stands =
+    let p = option_there (λ p. (answer : List ℕ) × (is_yes answer ≡ y) × (fs ≡ entry.Asked p answer ∷ [])) (prompt_at s.nodes m) stands in
+    (p.0, p.1.0, alone fs (entry.Asked p.0 p.1.0) p.1.2, p.1.1 ∙ not_true y (both (m == n) (not y) q).1)
+refused_by s h _ n fs q stands = absurd (cc)
+
+-- what a part shows of a refusal, the whole shows
+refused_within : (fs es : List Entry) → ((x : Entry) → Contains fs x → Contains es x) → ShowsRefusal fs → ShowsRefusal es
+refused_within fs es within r = (r.0, r.1, within (entry.Asked r.0 r.1) r.2, r.3)
+
+-- a refusal is shown behind one event more, by whether that refuses
+refused_more : (s : Run) (h : List Event) (e : Event) (n : ℕ) (es fs : List Entry) (b : Bool) → answers false n e ≡ b → (list_any (answers false n) h ≡ true → ShowsRefusal es) → StandsFor s h e fs → list_any (answers false n) (h ++ e ∷ []) ≡ true → ShowsRefusal (es ++ fs)
+refused_more s h e n es fs true q old stands a = refused_within fs (es ++ fs) (λ x c. Contains-append_right es fs x c) (refused_by s h e n fs q stands)
+refused_more s h e n es fs false q old stands a = refused_within es (es ++ fs) (λ x c. Contains-append_left es fs x c) (old (sym (any_none (answers false n) h e q) ∙ a))
+
+-- a node that failed since it wasn't confirmed: the record shows an answer that is no yes
+pub refusal_caused : (s : Run) (h : List Event) (es : List Entry) (n : ℕ) → IsLegal s h → Matches s h es → reason_of h n ≡ Some reason.NotConfirmed → ShowsRefusal es
+refusal_caused s h es n l m q =
+    matches_holds s (λ k fs. list_any (answers false n) k ≡ true → ShowsRefusal fs) (λ a. absurd (cc)) (λ k e fs gs old stands. refused_more s k e n fs gs (answers false n e) refl old stands) h es m
+    (reason_since s n reason.NotConfirmed (λ k. list_any (answers false n) k ≡ true) (λ k e a. any_kept (answers false n) k e a) (λ k legal may. may.0) h l q)
 
 -- ---- a signal that was caught
 

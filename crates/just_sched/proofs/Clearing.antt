@@ -11,7 +11,7 @@ use Rattle.just_sched.proofs.Entering.{no_next}
 use Rattle.just_sched.proofs.Led.{led_on}
 use Rattle.just_sched.proofs.Placing.{before_both}
 
-module _ (nodes : List PlanNode) (invocations : List ℕ) (p q : Progress) (finished_is : q.finished.items ≡ p.finished.items) (none : q.pending.items ≡ [])
+module _ (nodes : List PlanNode) (invocations : List ℕ) (p q : Progress) (finished_is : q.finished.items ≡ p.finished.items) (confirmed_is : q.confirmed.items ≡ p.confirmed.items) (none : q.pending.items ≡ [])
     (keeps : (k : ℕ) → flag p.wanted.items k ≡ true → flag q.wanted.items k ≡ true) where
   -- none is pending
   not_pending : (k : ℕ) → Contains q.pending.items k → ⊥
@@ -36,12 +36,12 @@ module _ (nodes : List PlanNode) (invocations : List ℕ) (p q : Progress) (fini
   led_over : (together : Bool) (xs : List ℕ) → IsLed p.finished.items p.wanted.items together xs → IsLed q.finished.items q.wanted.items together xs
   led_over together xs l = led_on q.finished.items p.wanted.items q.wanted.items together xs keeps (subst (λ f. IsLed f p.wanted.items together xs) (sym finished_is) l)
 
-  pub closed_cleared : q.over ≡ p.over → ((m : ℕ) → flag q.wanted.items m ≡ true → IsLed q.finished.items q.wanted.items (parallel_at nodes m) (priors_at nodes m)) → IsClosedBut nodes invocations p None → IsClosedBut nodes invocations q None
+  pub closed_cleared : q.over ≡ p.over → ((m : ℕ) → flag q.wanted.items m ≡ true → flag p.confirmed.items m ≡ true → IsLed q.finished.items q.wanted.items (parallel_at nodes m) (priors_at nodes m)) → IsClosedBut nodes invocations p None → IsClosedBut nodes invocations q None
   closed_cleared over_is led closed = record {
     finished = λ k lt left up all. subst (λ xs. flag xs k ≡ true) (sym finished_is) (closed.finished k lt left (subst (λ v. flag v.items k ≡ true) over_is up) (λ i c. subst (λ xs. flag xs i ≡ true) finished_is (all i c)));
     invoked = led_over false invocations closed.invoked;
     subsequents = λ m left up. led_over (parallel_at nodes m) (subsequents_at nodes m) (closed.subsequents m left (subst (λ v. flag v.items m ≡ true) over_is up));
     over = λ m e. absurd (no_next m e);
     together = λ m e all. absurd (no_next m e);
-    priors = λ m up. inr (led m up);
+    priors = λ m up sure. inr (led m up (subst (λ xs. flag xs m ≡ true) confirmed_is sure));
   }

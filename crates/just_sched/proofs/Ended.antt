@@ -14,11 +14,12 @@ use Rattle.just_sched.specs.declared.event.Verdict.TheVariants as verdict
 use Rattle.just_sched.specs.Idle.{IsIdle, HasWork}
 use Rattle.just_sched.specs.Legal.{Run, IsLegal, IsClosed, IsComplete}
 use Rattle.just_sched.specs.Start.{Start, IsKept, run_of}
+use Rattle.just_sched.specs.Running.{EachNoIsDone}
 use Rattle.just_sched.specs.State.{has_caught}
 use Rattle.just_sched.specs.Verdict.{IsVerdict, NoneDecides}
 use Rattle.just_sched.proofs.Complete.{complete, complete_prop, jobs_absurd}
 use Rattle.just_sched.proofs.PlanShape.{IsFormed}
-use Rattle.just_sched.proofs.Reasons.{HasNoPrompts, no_reason, unprompted_answered}
+use Rattle.just_sched.proofs.Reasons.{no_reason}
 
 -- a job limit, where there is one, is one job or more
 abbrev pub AllowsJobs : Option ℕ → Type 0
@@ -46,23 +47,22 @@ pub nothing_left_by : (s : Run) (h : List Event) (i : Idle) (jobs : Option NonZe
 nothing_left_by s h i jobs are closed is = nothing_left s h i (subst AllowsJobs are (allows jobs)) closed is
 
 -- where no node failed and nothing can be done, all is done
-pub all_done : (s : Run) (h : List Event) → ∥ IsFormed s ∥₁ → ∥ HasNoPrompts s ∥₁ → IsLegal s h → IsClosed s h → has_caught h ≡ false → NoneDecides s h → (HasWork s h → ⊥) → IsComplete s h
-all_done s h formed unprompted legal closed calm well nothing =
-    ∥∥₁_elim formed (complete_prop s h) (λ f. ∥∥₁_elim unprompted (complete_prop s h) (λ u.
-    complete s h f legal closed (no_reason s h legal well calm) (unprompted_answered s h u legal) calm nothing))
+pub all_done : (s : Run) (h : List Event) → ∥ IsFormed s ∥₁ → EachNoIsDone h → IsLegal s h → IsClosed s h → has_caught h ≡ false → NoneDecides s h → (HasWork s h → ⊥) → IsComplete s h
+all_done s h formed answered legal closed calm well nothing =
+    ∥∥₁_elim formed (complete_prop s h) (λ f. complete s h f legal closed (no_reason s h legal well calm) answered calm nothing)
 
 -- a body's end without a failure that decides, where nothing is left to do, is the end of all
-ended_complete : (s : Start) (h : List Event) (now : List Entry) (w : Option World) → ∥ IsKept s h now w ∥₁ → IsClosed (run_of s) h → NoneDecides (run_of s) h → has_caught h ≡ false → (has_caught h ≡ true) ⊎ (HasWork (run_of s) h → ⊥) → IsComplete (run_of s) h
-ended_complete s h now w kept closed none calm (inl c) = absurd (true≢false (sym c ∙ calm))
-ended_complete s h now w kept closed none calm (inr nothing) =
-    ∥∥₁_elim kept (complete_prop (run_of s) h) (λ k. all_done (run_of s) h s.plan.well s.plan.unprompted k.legal closed calm none nothing)
+ended_complete : (s : Start) (h : List Event) (now : List Entry) (w : Option World) → ∥ IsKept s h now w ∥₁ → EachNoIsDone h → IsClosed (run_of s) h → NoneDecides (run_of s) h → has_caught h ≡ false → (has_caught h ≡ true) ⊎ (HasWork (run_of s) h → ⊥) → IsComplete (run_of s) h
+ended_complete s h now w kept answered closed none calm (inl c) = absurd (true≢false (sym c ∙ calm))
+ended_complete s h now w kept answered closed none calm (inr nothing) =
+    ∥∥₁_elim kept (complete_prop (run_of s) h) (λ k. all_done (run_of s) h s.plan.well answered k.legal closed calm none nothing)
 
 -- a run that went well, and in which nothing is left to do, is complete
 pub well_complete : (s : Start) (h : List Event) (now : List Entry) (w : Option World) (v : Verdict)
-    → ∥ IsKept s h now w ∥₁ → IsClosed (run_of s) h → (has_caught h ≡ true) ⊎ (HasWork (run_of s) h → ⊥) → IsVerdict (run_of s) h v → v ≡ verdict.Well → IsComplete (run_of s) h
-well_complete s h now w v kept closed left judged well = well_by (subst (λ x. IsVerdict (run_of s) h x) well judged)
+    → ∥ IsKept s h now w ∥₁ → EachNoIsDone h → IsClosed (run_of s) h → (has_caught h ≡ true) ⊎ (HasWork (run_of s) h → ⊥) → IsVerdict (run_of s) h v → v ≡ verdict.Well → IsComplete (run_of s) h
+well_complete s h now w v kept answered closed left judged well = well_by (subst (λ x. IsVerdict (run_of s) h x) well judged)
   where
     -- a run that went well is complete, by what its verdict says
     well_by : IsVerdict (run_of s) h verdict.Well → IsComplete (run_of s) h
-    well_by (none, inl calm) = ended_complete s h now w kept closed none calm left
+    well_by (none, inl calm) = ended_complete s h now w kept answered closed none calm left
     well_by (none, inr complete) = complete

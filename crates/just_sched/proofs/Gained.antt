@@ -1,5 +1,5 @@
 -- What the calls of a host gained stands for the event that a book notes behind them.
-use Rattle.std.proofs.Common.{◌≡◌, ◌≢◌, ℕ, inl, inr, List, [], ◌∷◌, ◌++◌, Option, Some, MatchOption, Err, refl, ap, sym, subst, arith}
+use Rattle.std.proofs.Common.{◌≡◌, ◌≢◌, ℕ, inl, inr, Bool, List, [], ◌∷◌, ◌++◌, Option, Some, MatchOption, Ok, Err, refl, ap, sym, subst, arith}
 use Rattle.just_outside.specs.declared.entry.Call.TheVariants as call
 use Rattle.just_outside.specs.declared.entry.Entry.{Entry}
 use Rattle.just_outside.specs.declared.entry.Entry.TheVariants as entry
@@ -10,10 +10,10 @@ use Rattle.just_sched.specs.declared.event.Outcome.TheVariants as outcome
 use Rattle.just_sched.specs.declared.event.Reason.{Reason}
 use Rattle.just_sched.specs.declared.event.Reason.TheVariants as reason
 use Rattle.just_commands.specs.declared.work.Command.{Command}
-use Rattle.just_sched.specs.Gains.{TellGains, StartGains}
-use Rattle.just_sched.specs.Legal.{Run, Begun, Started, IsDue, May, all_starts}
-use Rattle.just_sched.specs.Match.{StandsFor, printed_entries, started_entries}
-use Rattle.just_sched.specs.Nodes.{banner_at, command_at}
+use Rattle.just_sched.specs.Gains.{TellGains, AskGains, StartGains}
+use Rattle.just_sched.specs.Legal.{Run, Asked, Begun, Started, IsDue, May, all_starts}
+use Rattle.just_sched.specs.Match.{StandsFor, printed_entries, is_yes, started_entries}
+use Rattle.just_sched.specs.Nodes.{prompt_at, banner_at, command_at}
 use Rattle.just_sched.proofs.OneMore.{all_starts_more}
 
 -- a banner that couldn't be printed ends the body so
@@ -21,6 +21,19 @@ pub begin_fails : (A : Type 0) (s : Run) (h : List Event) (n : ℕ) (r : Reason)
 begin_fails A s h n (reason.Fault call.Print) es due g = (inl due, (g.1, inl (due, g.0)))
 begin_fails A s h n reason.NoMemory es due g = ((Begun, due, λ e. cc), (Begun, printed_entries (banner_at s.nodes n), printed_entries (banner_at s.nodes n), due, refl, ap (λ x. x ++ printed_entries (banner_at s.nodes n)) (sym g.1), g.0))
 begin_fails A s h n _ es due g = absurd g
+
+-- an answer stands for its entry
+pub ask_stands : (s : Run) (h : List Event) (n : ℕ) (p : List ℕ) (y : Bool) (es : List Entry) → prompt_at s.nodes n ≡ Some p → AskGains p (Ok y) es → StandsFor s h (event.Asked n y) es
+ask_stands s h n p y es q g = subst (λ (o : Option (List ℕ)). MatchOption o ⊥ (λ t. (answer : List ℕ) × (is_yes answer ≡ y) × (es ≡ entry.Asked t answer ∷ []))) (sym q) g
+
+-- a prompt that couldn't be asked ends its node so
+pub ask_fails : (s : Run) (h : List Event) (n : ℕ) (p : List ℕ) (r : Reason) (es : List Entry) → IsDue s h n Asked → prompt_at s.nodes n ≡ Some p → AskGains p (Err r) es → May s h (event.Done n (outcome.Failed r)) × StandsFor s h (event.Done n (outcome.Failed r)) es
+ask_fails s h n p (reason.Place call.Ask m) es due q g = (due, g)
+ask_fails s h n p (reason.Fault call.Ask) es due q g = (due, g)
+ask_fails s h n p reason.NoMemory es due q g =
+    let all = subst (λ (o : Option (List ℕ)). MatchOption o ⊥ (λ t. (answer : List ℕ) × (entry.Asked p [] ∷ [] ≡ entry.Asked t answer ∷ []))) (sym q) ([], refl) in
+    ((Asked, due, λ e. cc), (Asked, entry.Asked p [] ∷ [], entry.Asked p [] ∷ [], due, all, ap (λ x. x ++ entry.Asked p [] ∷ []) (sym g), λ e. cc))
+ask_fails s h n p _ es due q g = absurd g
 
 -- a list with a last item isn't empty
 some_pushed : {A : Type 0} (xs : List A) (y : A) → xs ++ y ∷ [] ≢ []

@@ -1,42 +1,45 @@
 -- What the flags of a run say once an event is noted.
 use Rattle.std.proofs.Common.{◌≡◌, ℕ, ◌<◌, ⊎_elim, ◌==◌, ◌||◌, true, false, List, length, set, get_or-set_same, get_or-set_other, Option, Some, None, sym, ◌∙◌, ap, subst, arith}
-use Rattle.std.specs.Prelude.{All, is_none}
 use Rattle.just_sched.specs.declared.event.Event.{Event}
 use Rattle.just_sched.specs.declared.plan_node.PlanNode.{PlanNode}
 use Rattle.just_sched.specs.declared.progress.Progress.{Progress}
 use Rattle.just_sched.specs.Progress.{IsTold}
-use Rattle.just_sched.specs.Led.{AllFinished, AllWanted}
-use Rattle.just_sched.specs.State.{names, is_over_well}
+use Rattle.just_sched.specs.Led.{AllFinished, AllConfirmed, AllWanted}
+use Rattle.just_sched.specs.State.{names, is_over_well, is_confirmed}
 use Rattle.just_sched.specs.Tables.{flag, FlagsAre}
 use Rattle.just_sched.proofs.RowLaws.{same_or}
 use Rattle.just_sched.proofs.TablesLaws.{finished_as, wanted_as}
 use Rattle.just_sched.proofs.Tests.{or_false, or_true}
 
 -- a number is its own, and none other's
-same_is : (n : ℕ) → (n == n) ≡ true
+pub same_is : (n : ℕ) → (n == n) ≡ true
 same_is n = search (arith)
 
 other_is : (m n : ℕ) → (n ≡ m → ⊥) → (m == n) ≡ false
 other_is m n other = search (arith)
 
-module _ (nodes : List PlanNode) (invocations : List ℕ) (unprompted : ∥ All (λ (x : PlanNode). is_none x.prompt ≡ true) nodes ∥₁) (h later : List Event) (o : Option ℕ)
-    (by : (n : ℕ) → is_over_well later n ≡ (is_over_well h n || names o n)) (p : Progress) (told : IsTold nodes invocations h p) where
+module _ (nodes : List PlanNode) (invocations : List ℕ) (h later : List Event) (o : Option ℕ)
+    (by : (n : ℕ) → is_over_well later n ≡ (is_over_well h n || names o n)) (sure : (n : ℕ) → is_confirmed nodes h n ≡ true → is_confirmed nodes later n ≡ true) (p : Progress) (told : IsTold nodes invocations h p) where
   -- who was over well is so
   still_over : (n : ℕ) → is_over_well h n ≡ true → is_over_well later n ≡ true
   still_over n over = by n ∙ ap (λ b. b || names o n) over
 
-  -- who was finished is so, and who was wanted
+  -- who was finished is so, and who was confirmed, and who was wanted
   pub finished_still : AllFinished nodes later p.finished.items
   finished_still k up = finished_as nodes invocations h later still_over k (told.finished k up)
 
+  pub confirmed_still : AllConfirmed nodes later p.confirmed.items
+  confirmed_still k up = sure k (told.confirmed k up)
+
   pub wanted_still : AllWanted nodes invocations later p.wanted.items
-  wanted_still k up = wanted_as nodes invocations h later still_over unprompted k (told.wanted k up)
+  wanted_still k up = wanted_as nodes invocations h later still_over sure k (told.wanted k up)
 
   -- where no node that has a flag is over well by the event, the flags say what they did
   pub told_still : ((k : ℕ) → k < length p.over.items → names o k ≡ false) → IsTold nodes invocations later p
   told_still never = record {
     over = λ k lt. told.over k lt ∙ sym (by k ∙ ap (λ b. is_over_well h k || b) (never k lt) ∙ or_false (is_over_well h k));
     finished = finished_still;
+    confirmed = confirmed_still;
     wanted = wanted_still;
   }
 

@@ -90,4 +90,4 @@ closed_by a c n g rests closed m = closed_where (λ _. Unit {0}) a c n g rests (
 -- a move takes a node with no open body, so another than each that runs
 pub move_apart : (s : Run) (old new : List Event) (n m child : ℕ) → IsMove s old new n → RunsWith old m child → m ≢ n
 move_apart s old new n m child move runs same =
-    true≢false (sym (both (has_taken old m) (not (has_given old m)) runs.opened).0 ∙ ap (has_taken old) same ∙ move.ready.not_taken)
+    true≢false (sym (both (has_taken old m) (not (has_given old m)) runs.opened).0 ∙ ap (has_taken old) same ∙ move.not_taken)

@@ -14,13 +14,13 @@ use Rattle.just_sched.specs.declared.event.Reason.TheVariants as reason
 use Rattle.just_commands.specs.declared.work.Command.{Command}
 use Rattle.just_commands.specs.declared.work.Step.TheVariants as step
 use Rattle.just_commands.specs.declared.work.Work.{Work}
-use Rattle.just_sched.specs.Causes.{ShowsFailure, ShowsMiss, EndedLast}
+use Rattle.just_sched.specs.Causes.{ShowsFailure, ShowsMiss, ShowsRefusal, EndedLast}
 use Rattle.just_sched.specs.Legal.{Run, IsLegal, all_starts}
 use Rattle.just_sched.specs.Match.{Matches}
 use Rattle.just_sched.specs.Moves.{GrowsBy, IsMove, RunsWith, Rests}
 use Rattle.just_sched.specs.State.{statuses, reason_of, next_step, caught_signal, is_open}
 use Rattle.just_commands.specs.Steps.{after, commands_of}
-use Rattle.just_sched.proofs.Causes.{last_end, status_failed, failed_code, guard_code, fault_caused, miss_caused, signal_shown}
+use Rattle.just_sched.proofs.Causes.{last_end, status_failed, failed_code, guard_code, fault_caused, miss_caused, refusal_caused, signal_shown}
 use Rattle.just_sched.proofs.Grows.{grows_none, grows_turn, move_apart, runs_on, others_open, closed_where}
 use Rattle.just_sched.proofs.Stretch.{matched_children, started}
 
@@ -47,6 +47,10 @@ failed_call_shown = fault_caused
 -- Where a node's body failed by a miss, the record shows that miss.
 pub missed_call_shown : (s : Run) (h : List Event) (es : List Entry) (n : ℕ) (c : Call) (m : Miss) → Matches s h es → reason_of h n ≡ Some (reason.Place c m) → ShowsMiss m es
 missed_call_shown = miss_caused
+
+-- Where a node failed since it wasn't confirmed, the record shows an answer to a prompt that is no yes.
+pub refusal_shown : (s : Run) (h : List Event) (es : List Entry) (n : ℕ) → IsLegal s h → Matches s h es → reason_of h n ≡ Some reason.NotConfirmed → ShowsRefusal es
+refusal_shown = refusal_caused
 
 -- Where the history caught a signal, the record shows it.
 pub caught_signal_shown : (s : Run) (h : List Event) (es : List Entry) (g : Signal) → Matches s h es → caught_signal h ≡ Some g → Contains es (entry.Signalled g)

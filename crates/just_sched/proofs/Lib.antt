@@ -1,6 +1,8 @@
 -- The lemmas; the crates above take those of Laws alone.
 pub mod Accounts
 pub mod AfterLaws
+pub mod Answering
+pub mod Asking
 pub mod Beginning
 pub mod Behind
 pub mod Blank
@@ -10,6 +12,7 @@ pub mod Choices
 pub mod Clearing
 pub mod Closing
 pub mod Complete
+pub mod Confirming
 pub mod Counts
 pub mod Deciding
 pub mod Dependents

@@ -1,5 +1,5 @@
 -- The states of a node behind one event more.
-use Rattle.std.proofs.Common.{◌≡◌, ℕ, ◌+◌, ◌&&◌, ◌||◌, not, nat_lt, Bool, true, false, cond, if◌then◌else◌, List, [], ◌∷◌, ◌++◌, Some, None, is_none, filter_map, refl, ap, ap₂, ◌∙◌, eq-eqb}
+use Rattle.std.proofs.Common.{◌≡◌, ℕ, ◌+◌, ◌&&◌, ◌||◌, not, nat_lt, Bool, true, false, cond, if◌then◌else◌, List, [], ◌∷◌, ◌++◌, Some, None, is_none, filter_map, refl, ap, ap₂, sym, ◌∙◌, eq-eqb}
 use Rattle.std.specs.List.{list_any, last_or}
 use Rattle.std.proofs.lemmas.List.Folds.{list_any-append}
 use Rattle.just_outside.specs.declared.entry.Status.{Status}
@@ -12,7 +12,7 @@ use Rattle.just_sched.specs.Nodes.{prompt_at}
 use Rattle.just_sched.specs.State.{is_over, answers, takes, skips, starts, ends, concludes, gives, status_of, start_of, reason_in, signal_in, has_taken, has_given, is_skipped, is_done, is_confirmed, is_open, start_count, end_count, is_running, statuses, last_start, first, reason_of, caught_signal}
 use Rattle.just_sched.specs.Legal.{in_body, all_starts, is_start}
 use Rattle.just_sched.specs.Room.{settle_count, settles}
-use Rattle.just_sched.proofs.Tests.{any_kept, any_more, any_none, count_more, count_none, either_way, first_cons, first_kept, first_none, last_push, list_more, list_none, list_now}
+use Rattle.just_sched.proofs.Tests.{any_kept, any_more, any_none, any_now, or_true, count_more, count_none, either_way, first_cons, first_kept, first_none, last_push, list_more, list_none, list_now}
 
 -- a weaker second part keeps a disjunction
 confirmed_at : (a b c : Bool) → (a || b) ≡ true → (b ≡ true → c ≡ true) → (a || c) ≡ true
@@ -42,6 +42,21 @@ over_kept h e n o = either_way (is_skipped h n) (is_done h n) (is_skipped (h ++ 
 -- a confirmed node stays confirmed
 pub confirmed_kept : (nodes : List PlanNode) (h : List Event) (e : Event) (n : ℕ) → is_confirmed nodes h n ≡ true → is_confirmed nodes (h ++ e ∷ []) n ≡ true
 confirmed_kept nodes h e n c = confirmed_at (is_none (prompt_at nodes n)) _ _ c (any_kept (answers true n) h e)
+
+-- one that the event answers by a yes is confirmed
+pub confirmed_new : (nodes : List PlanNode) (h : List Event) (e : Event) (n : ℕ) → answers true n e ≡ true → is_confirmed nodes (h ++ e ∷ []) n ≡ true
+confirmed_new nodes h e n q = ap (λ b. is_none (prompt_at nodes n) || b) (any_now (answers true n) h e q) ∙ or_true (is_none (prompt_at nodes n))
+
+-- a node that is confirmed behind the event was so, or is answered by it
+confirmed_apart : (a b c : Bool) → (a || (b || c)) ≡ true → ((a || b) || c) ≡ true
+confirmed_apart true b c q = refl
+confirmed_apart false b c q = q
+
+-- so one of two tests passes, where the first does for a node that was confirmed
+pub confirmed_was : (nodes : List PlanNode) (h : List Event) (e : Event) (n : ℕ) (flagged named : Bool) → named ≡ answers true n e → (is_confirmed nodes h n ≡ true → flagged ≡ true) → is_confirmed nodes (h ++ e ∷ []) n ≡ true → (flagged || named) ≡ true
+confirmed_was nodes h e n flagged named same was sure =
+    either_way (is_confirmed nodes h n) (answers true n e) flagged named was (λ q. same ∙ q)
+    (confirmed_apart (is_none (prompt_at nodes n)) (list_any (answers true n) h) (answers true n e) (ap (λ b. is_none (prompt_at nodes n) || b) (sym (any_more (answers true n) h e)) ∙ sure))
 
 -- one start more, where the event is one
 pub starts_more : (h : List Event) (e : Event) (n : ℕ) → start_count (h ++ e ∷ []) n ≡ start_count h n + cond (starts n e) 1 0

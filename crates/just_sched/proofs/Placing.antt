@@ -55,12 +55,13 @@ one_left f w xs place before stops other =
 
 -- the flags say nothing false, as a node's subsequents are wanted that may come next
 pub told_through : (nodes : List PlanNode) (invocations : List ℕ) (h : List Event) (p q : Progress) (at : ℕ) → at < length p.over.items → flag p.over.items at ≡ true
-    → q.over.items ≡ p.over.items → q.finished.items ≡ p.finished.items
+    → q.over.items ≡ p.over.items → q.finished.items ≡ p.finished.items → q.confirmed.items ≡ p.confirmed.items
     → ((k : ℕ) → flag q.wanted.items k ≡ true → (flag p.wanted.items k ≡ true) ⊎ MayFollow p.finished.items false (subsequents_at nodes at) k)
     → IsTold nodes invocations h p → IsTold nodes invocations h q
-told_through nodes invocations h p q at lt up over_is finished_is only told = record {
+told_through nodes invocations h p q at lt up over_is finished_is confirmed_is only told = record {
   over = λ k within. ap (λ xs. flag xs k) over_is ∙ told.over k (omega (arith, within, ap (λ xs. length xs) over_is));
   finished = λ k raised. told.finished k (subst (λ xs. flag xs k ≡ true) finished_is raised);
+  confirmed = λ k raised. told.confirmed k (subst (λ xs. flag xs k ≡ true) confirmed_is raised);
   wanted = λ k raised. ⊎_elim (λ (was : flag p.wanted.items k ≡ true). told.wanted k was)
       (λ (next : MayFollow p.finished.items false (subsequents_at nodes at) k).
       subsequent at k (sym (told.over at lt) ∙ up)

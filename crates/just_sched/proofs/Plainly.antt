@@ -45,11 +45,11 @@ module _ (nodes : List PlanNode) (invocations : List ℕ) (h : List Event) (t : 
       }
 
   -- no node is pending
-  led_at : (m : ℕ) → flag t.progress.wanted.items m ≡ true → IsNoted nodes invocations h t → IsLed t.progress.finished.items t.progress.wanted.items (parallel_at nodes m) (priors_at nodes m)
-  led_at m up n =
+  led_at : (m : ℕ) → flag t.progress.wanted.items m ≡ true → flag t.progress.confirmed.items m ≡ true → IsNoted nodes invocations h t → IsLed t.progress.finished.items t.progress.wanted.items (parallel_at nodes m) (priors_at nodes m)
+  led_at m up sure n =
       ⊎_elim (λ (listed : Contains t.progress.pending.items m). absurd (let at : Contains [] m = subst (λ (xs : List ℕ). Contains xs m) n.none listed in omega (arith, at.1)))
       (λ (led : IsLed t.progress.finished.items t.progress.wanted.items (parallel_at nodes m) (priors_at nodes m)). led)
-      (n.closed.priors m up)
+      (n.closed.priors m up sure)
 
   pub closed_of : IsClosedBut nodes invocations t.progress None
   closed_of =
@@ -60,5 +60,5 @@ module _ (nodes : List PlanNode) (invocations : List ℕ) (h : List Event) (t : 
         subsequents = λ m left up. led_of noted p.finished.items p.wanted.items (parallel_at nodes m) (subsequents_at nodes m) (λ n. n.closed.subsequents m left up);
         over = λ m e. ∥∥₁_elim noted (Bool-set _ _) (λ n. n.closed.over m e);
         together = λ m e all. led_of noted p.finished.items p.wanted.items true (subsequents_at nodes m) (λ n. n.closed.together m e all);
-        priors = λ m up. inr (led_of noted p.finished.items p.wanted.items (parallel_at nodes m) (priors_at nodes m) (led_at m up));
+        priors = λ m up sure. inr (led_of noted p.finished.items p.wanted.items (parallel_at nodes m) (priors_at nodes m) (led_at m up sure));
       }

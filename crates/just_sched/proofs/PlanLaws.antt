@@ -91,14 +91,3 @@ module _ (nodes : List PlanNode) (invocations : List ℕ) (well : IsWellFormed (
         | Some x ↦ λ found at. slice_get_within nodes n x found
         | None ↦ λ found at. absurd (omega (arith, at.1))
       ] refl
-
--- where no node has a prompt, each is confirmed
-pub confirmed_all : (nodes : List PlanNode) (h : List Event) (n : ℕ) → ∥ All (λ (x : PlanNode). is_none x.prompt ≡ true) nodes ∥₁ → is_confirmed nodes h n ≡ true
-confirmed_all nodes h n unprompted =
-    elim (slice_get nodes n) as (λ o. slice_get nodes n ≡ o → (is_none (prompt_in o) || list_any (answers true n) h) ≡ true) [
-      | Some x ↦ λ found.
-          let none : is_none x.prompt ≡ true =
-          ∥∥₁_elim unprompted (Bool-set _ _) (λ all. subst (λ (y : PlanNode). is_none y.prompt ≡ true) (get_or_from_slice_get nodes n x x found) (all n x (slice_get_within nodes n x found))) in
-          rw none refl
-      | None ↦ λ found. refl
-    ] refl

@@ -1,4 +1,4 @@
--- The reason of a node that failed, and plans without prompts.
+-- The reason of a node that failed.
 use Rattle.std.proofs.Common.{◌≡◌, ℕ, ◌<◌, ◌==◌, ◌||◌, Bool, true, false, if◌then◌else◌, List, [], ◌∷◌, ◌++◌, length, slice_get, Option, Some, None, is_some, is_none, filter_map, All, true≢false, eqb-true, refl, ap, sym, ◌∙◌, subst}
 use Rattle.std.specs.List.{list_any, cons_option}
 use Rattle.std.proofs.lemmas.Option.{get_or_from_slice_get, slice_get_within}
@@ -71,36 +71,3 @@ reason_done [] n r e = absurd (cc)
 reason_done (event.Done m outcome.Well ∷ h) n r e = ap (λ b. (m == n) || b) (reason_done h n r e) ∙ or_true (m == n)
 reason_done (event.Done m (outcome.Failed t) ∷ h) n r e = reason_done_at h n r t (m == n) e (reason_done h n r)
 reason_done (x ∷ h) n r e = reason_done h n r e
-
--- ---- plans without prompts
-
--- no node of the run has a prompt
-abbrev pub HasNoPrompts : Run → Type 0
-HasNoPrompts s = All (λ x. is_none x.prompt ≡ true) s.nodes
-
--- what is none is none
-none_is : {A : Type 0} (o : Option A) → is_none o ≡ true → o ≡ None
-none_is None q = refl
-none_is (Some x) q = absurd (cc)
-
--- a node that may be there has no prompt
-no_prompt_at : (s : Run) (n : ℕ) (o : Option PlanNode) → HasNoPrompts s → slice_get s.nodes n ≡ o → prompt_in o ≡ None
-no_prompt_at s n None u q = refl
-no_prompt_at s n (Some x) u q =
-    none_is x.prompt (subst (λ y. is_none y.prompt ≡ true) (get_or_from_slice_get s.nodes n x x q) (u n x (slice_get_within s.nodes n x q)))
-
--- no node has a prompt
-pub no_prompt : (s : Run) (n : ℕ) → HasNoPrompts s → prompt_at s.nodes n ≡ None
-no_prompt s n u = no_prompt_at s n (slice_get s.nodes n) u refl
-
--- so none is to be asked
-pub none_to_ask : (s : Run) (h : List Event) → HasNoPrompts s → NoneToAsk s h
-none_to_ask s h u n a = true≢false (sym a.prompted ∙ ap is_some (no_prompt s n u))
-
--- and none was asked
-pub unasked : (s : Run) (h : List Event) (n : ℕ) → HasNoPrompts s → IsLegal s h → is_asked h n ≡ false
-unasked s h n u l = never s (asks n) (λ k e legal m q. none_to_ask s k u n (asked_due s k n e m q)) h l
-
--- so each no has its end
-pub unprompted_answered : (s : Run) (h : List Event) → HasNoPrompts s → IsLegal s h → (n : ℕ) → list_any (answers false n) h ≡ true → is_done h n ≡ true
-unprompted_answered s h u l n a = absurd (true≢false (sym (answered_asked false h n a) ∙ unasked s h n u l))

@@ -7,7 +7,7 @@ use Rattle.just_sched.specs.declared.progress.Progress.{Progress}
 use Rattle.just_sched.specs.Nodes.{priors_at, subsequents_at, parallel_at}
 use Rattle.just_sched.specs.State.{IsFinished, finished}
 use Rattle.just_sched.specs.Tables.{flag}
-use Rattle.just_sched.specs.Led.{IsRaised, IsLed, AllFinished, KeepsWanted}
+use Rattle.just_sched.specs.Led.{IsRaised, IsLed, ArePriorsLed, AllFinished, AllConfirmed, KeepsWanted}
 use Rattle.just_sched.specs.Progress.{IsClosedBut, IsTold}
 use Rattle.just_sched.proofs.Closing.{flag_kept, flag_other, led_finished, led_either}
 use Rattle.just_sched.proofs.Led.{same_or, led_on}
@@ -18,7 +18,7 @@ some_is : (a b : ℕ) → Some a ≡ Some b → a ≡ b
 some_is a b e = cc
 
 module _ (nodes : List PlanNode) (invocations : List ℕ) (p0 p1 : Progress) (at : ℕ) (closed : IsClosedBut nodes invocations p0 (Some at))
-    (over_is : p1.over.items ≡ p0.over.items) (finished_is : p1.finished.items ≡ p0.finished.items)
+    (over_is : p1.over.items ≡ p0.over.items) (finished_is : p1.finished.items ≡ p0.finished.items) (confirmed_is : p1.confirmed.items ≡ p0.confirmed.items)
     (raised : IsRaised p0.wanted.items p1.wanted.items p0.pending.items p1.pending.items)
     (led : IsLed p1.finished.items p1.wanted.items false (subsequents_at nodes at)) where
   led_over : (together : Bool) (xs : List ℕ) → IsLed p0.finished.items p0.wanted.items together xs → IsLed p1.finished.items p1.wanted.items together xs
@@ -39,13 +39,13 @@ module _ (nodes : List PlanNode) (invocations : List ℕ) (p0 p1 : Progress) (at
       (λ (other : m ≡ at → ⊥). led_over (parallel_at nodes m) (subsequents_at nodes m) (closed.subsequents m (λ e. other (sym (some_is at m e))) (over_before m up)))
       (same_or m at)
 
-  pub priors_led : (m : ℕ) → flag p1.wanted.items m ≡ true → Contains p1.pending.items m ⊎ IsLed p1.finished.items p1.wanted.items (parallel_at nodes m) (priors_at nodes m)
-  priors_led m up =
+  pub priors_led : ArePriorsLed (parallel_at nodes) (priors_at nodes) p1.finished.items p1.confirmed.items p1.wanted.items p1.pending.items
+  priors_led m up sure =
       ⊎_elim
       (λ (before : flag p0.wanted.items m ≡ true).
       ⊎_elim (λ (listed : Contains p0.pending.items m). inl (raised.listed m listed))
       (λ (l : IsLed p0.finished.items p0.wanted.items (parallel_at nodes m) (priors_at nodes m)). inr (led_over (parallel_at nodes m) (priors_at nodes m) l))
-      (closed.priors m before))
+      (closed.priors m before (subst (λ xs. flag xs m ≡ true) confirmed_is sure)))
       (λ (listed : Contains p1.pending.items m). inl listed)
       (raised.noted m up)
 
@@ -74,7 +74,7 @@ module _ (nodes : List PlanNode) (invocations : List ℕ) (p0 p1 : Progress) (at
       (over_too : p2.over.items ≡ p1.over.items) (set_at : p2.finished.items ≡ set p1.finished.items at true)
       (raised_too : IsRaised p1.wanted.items p2.wanted.items p1.pending.items p2.pending.items)
       (invocations_too : IsLed p2.finished.items p2.wanted.items false invocations)
-      (priors_too : (m : ℕ) → flag p2.wanted.items m ≡ true → Contains p2.pending.items m ⊎ IsLed p2.finished.items p2.wanted.items (parallel_at nodes m) (priors_at nodes m))
+      (priors_too : ArePriorsLed (parallel_at nodes) (priors_at nodes) p2.finished.items p2.confirmed.items p2.wanted.items p2.pending.items)
       (parent : (m : ℕ) → Contains (subsequents_at nodes m) at → flag p2.over.items m ≡ true → o ≡ Some m)
       (parent_over : (m : ℕ) → o ≡ Some m → flag p2.over.items m ≡ true) where
     over_first : (m : ℕ) → flag p2.over.items m ≡ true → flag p1.over.items m ≡ true
@@ -116,9 +116,9 @@ module _ (nodes : List PlanNode) (invocations : List ℕ) (p0 p1 : Progress) (at
 pub told_next : (nodes : List PlanNode) (invocations : List ℕ) (h : List Event) (p q : Progress) (at : ℕ) → at < length p.over.items → flag p.over.items at ≡ true
     → ((k : ℕ) → Contains (subsequents_at nodes at) k → flag p.finished.items k ≡ true)
     → q.over.items ≡ p.over.items → q.finished.items ≡ set p.finished.items at true
-    → KeepsWanted nodes invocations q.finished.items p.wanted.items q.wanted.items
+    → q.confirmed.items ≡ p.confirmed.items → KeepsWanted nodes invocations q.finished.items p.confirmed.items p.wanted.items q.wanted.items
     → IsTold nodes invocations h p → IsTold nodes invocations h q
-told_next nodes invocations h p q at lt up all over_is set_is keeps told =
+told_next nodes invocations h p q at lt up all over_is set_is confirmed_is keeps told =
     let done : AllFinished nodes h q.finished.items =
     λ k raised. ⊎_elim
     (λ (same : k ≡ at). subst (λ i. IsFinished nodes h i) (sym same) (finished at (sym (told.over at lt) ∙ up) (λ i c. told.finished i (all i c))))
@@ -127,5 +127,6 @@ told_next nodes invocations h p q at lt up all over_is set_is keeps told =
     record {
       over = λ k within. ap (λ xs. flag xs k) over_is ∙ told.over k (omega (arith, within, ap (λ xs. length xs) over_is));
       finished = done;
-      wanted = keeps h done told.wanted;
+      confirmed = subst (λ xs. AllConfirmed nodes h xs) (sym confirmed_is) told.confirmed;
+      wanted = keeps h done told.confirmed told.wanted;
     }

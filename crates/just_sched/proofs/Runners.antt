@@ -26,9 +26,10 @@ use Rattle.just_sched.specs.Legal.{Run, Due, Asked, Begun, Started, Ended, IsDue
 use Rattle.just_sched.specs.Match.{IsStranger}
 use Rattle.just_sched.specs.Moves.{GrowsBy, IsMove, RunsWith, Rests, MatchNext}
 use Rattle.just_sched.specs.Room.{settles, settle_count}
-use Rattle.just_sched.specs.Running.{running_bodies, EachOpenRuns, EachNoIsDone}
+use Rattle.just_sched.specs.Running.{running_bodies, EachOpenRuns}
 use Rattle.just_sched.specs.Start.{Start, run_of}
 use Rattle.just_sched.specs.State.{catches, starts, concludes, is_begun, is_done, is_open, start_count, is_running, last_start}
+use Rattle.just_sched.proofs.Asking.{to_ask_still, no_still}
 use Rattle.just_sched.proofs.Counts.{agrees, running_begun, running_inside}
 use Rattle.just_sched.proofs.Due.{by_not_done, inside, rests, runs}
 use Rattle.just_sched.proofs.EventRoom.{own, settled, split}
@@ -36,8 +37,6 @@ use Rattle.just_sched.proofs.Accounts.{node_in}
 use Rattle.just_sched.proofs.Grows.{grows_two, others_open, others_run}
 use Rattle.just_sched.proofs.Histories.{legal_holds}
 use Rattle.just_sched.proofs.PlanShape.{IsFormed}
-use Rattle.just_sched.proofs.Range.{answered_asked}
-use Rattle.just_sched.proofs.Reasons.{HasNoPrompts, none_to_ask, unasked, unprompted_answered}
 use Rattle.just_sched.proofs.Sums.{sum_add, sum_lt, sum_same, sum_zero}
 use Rattle.just_sched.proofs.Tests.{any_none, count_none, count_now, unless}
 
@@ -47,13 +46,13 @@ use Rattle.just_sched.proofs.Tests.{any_none, count_none, count_now, unless}
 unbegun_still : (s : Run) (h : List Event) (n : ℕ) → IsLegal s h → is_begun h n ≡ false → is_running h n ≡ false
 unbegun_still s h n l b = unless (is_running h n) (is_begun h n) (running_begun s h n l) b
 
--- a node with a due event that isn't an end runs nothing, where no node has a prompt
-due_still : (s : Run) (h : List Event) (n : ℕ) (d : Due) → HasNoPrompts s → IsLegal s h → IsDue s h n d → (d ≢ Ended) → is_running h n ≡ false
-due_still s h n Asked u l due other = absurd (none_to_ask s h u n due)
-due_still s h n Begun u l due other = unbegun_still s h n l due.1
-due_still s h n (Started i) u l due other = due.2
-due_still s h n Ended u l due other = absurd (other refl)
-due_still s h n _ u l due other = absurd due
+-- a node with a due event that isn't an end runs nothing
+due_still : (s : Run) (h : List Event) (n : ℕ) (d : Due) → IsLegal s h → IsDue s h n d → (d ≢ Ended) → is_running h n ≡ false
+due_still s h n Asked l due other = to_ask_still s h n l due
+due_still s h n Begun l due other = unbegun_still s h n l due.1
+due_still s h n (Started i) l due other = due.2
+due_still s h n Ended l due other = absurd (other refl)
+due_still s h n _ l due other = absurd due
 
 -- the failure isn't that of a wait
 abbrev IsNoWait : Reason → Type 0
@@ -61,30 +60,30 @@ IsNoWait (reason.Fault call.Wait) = ⊥
 IsNoWait _ = Unit {0}
 
 -- a call that misses is made before a child runs
-miss_still : (s : Run) (h : List Event) (n : ℕ) (c : Call) → HasNoPrompts s → IsLegal s h → MayMiss s h n c → is_running h n ≡ false
-miss_still s h n call.Ask u l may = due_still s h n Asked u l may (λ e. cc)
-miss_still s h n call.Temp u l may = may.1.2
-miss_still s h n _ u l may = absurd may
+miss_still : (s : Run) (h : List Event) (n : ℕ) (c : Call) → IsLegal s h → MayMiss s h n c → is_running h n ≡ false
+miss_still s h n call.Ask l may = due_still s h n Asked l may (λ e. cc)
+miss_still s h n call.Temp l may = may.1.2
+miss_still s h n _ l may = absurd may
 
 -- a call that fails, but a wait, is made before a child runs
-fail_still : (s : Run) (h : List Event) (n : ℕ) (c : Call) → HasNoPrompts s → IsLegal s h → IsNoWait (reason.Fault c) → MayFail s h n c → is_running h n ≡ false
-fail_still s h n call.Ask u l other may = due_still s h n Asked u l may (λ e. cc)
-fail_still s h n call.Print u l other (inl may) = unbegun_still s h n l may.1
-fail_still s h n call.Print u l other (inr may) = may.1.2
-fail_still s h n call.Temp u l other may = may.1.2
-fail_still s h n call.Start u l other may = may.1.2
-fail_still s h n call.Wait u l other may = absurd other
-fail_still s h n _ u l other may = absurd may
+fail_still : (s : Run) (h : List Event) (n : ℕ) (c : Call) → IsLegal s h → IsNoWait (reason.Fault c) → MayFail s h n c → is_running h n ≡ false
+fail_still s h n call.Ask l other may = due_still s h n Asked l may (λ e. cc)
+fail_still s h n call.Print l other (inl may) = unbegun_still s h n l may.1
+fail_still s h n call.Print l other (inr may) = may.1.2
+fail_still s h n call.Temp l other may = may.1.2
+fail_still s h n call.Start l other may = may.1.2
+fail_still s h n call.Wait l other may = absurd other
+fail_still s h n _ l other may = absurd may
 
 -- a body that fails, but by a wait, runs nothing
-failing_still : (s : Run) (h : List Event) (n : ℕ) (r : Reason) → HasNoPrompts s → IsLegal s h → IsNoWait r → MayFailBy s h n r → is_running h n ≡ false
-failing_still s h n reason.Status u l other may = may.between_commands
-failing_still s h n reason.NotConfirmed u l other may = absurd (true≢false (sym (answered_asked false h n may.0) ∙ unasked s h n u l))
-failing_still s h n (reason.Place c m) u l other may = miss_still s h n c u l may
-failing_still s h n (reason.Fault c) u l other may = fail_still s h n c u l other may
-failing_still s h n reason.Interrupted u l other may = may.0.1.2
-failing_still s h n reason.NoMemory u l other may = due_still s h n may.0 u l may.1 may.2
-failing_still s h n _ u l other may = absurd may
+failing_still : (s : Run) (h : List Event) (n : ℕ) (r : Reason) → IsLegal s h → IsNoWait r → MayFailBy s h n r → is_running h n ≡ false
+failing_still s h n reason.Status l other may = may.between_commands
+failing_still s h n reason.NotConfirmed l other may = no_still s h n l may.0
+failing_still s h n (reason.Place c m) l other may = miss_still s h n c l may
+failing_still s h n (reason.Fault c) l other may = fail_still s h n c l other may
+failing_still s h n reason.Interrupted l other may = may.0.1.2
+failing_still s h n reason.NoMemory l other may = due_still s h n may.0 l may.1 may.2
+failing_still s h n _ l other may = absurd may
 
 -- ---- a node's settled children are those that it started, once it is done
 
@@ -130,10 +129,10 @@ settled_wait_at s h n m true q l run old =
 settled_wait_at s h n m false q l run old = settled_as h n (event.Done m (outcome.Failed (reason.Fault call.Wait))) q refl q old
 
 -- a failure keeps what is settled
-settled_failed : (s : Run) (h : List Event) (n m : ℕ) (r : Reason) → HasNoPrompts s → IsLegal s h → MayFailBy s h m r → IsSettled h n → IsSettled (h ++ event.Done m (outcome.Failed r) ∷ []) n
-settled_failed s h n m (reason.Fault call.Wait) u l may old = settled_wait_at s h n m (m == n) refl l may.1 old
-settled_failed s h n m r u l may old =
-    settled_done_at s h n m (outcome.Failed r) (m == n) refl l refl (by_not_done s h m r may) (failing_still s h m r u l tt may) old
+settled_failed : (s : Run) (h : List Event) (n m : ℕ) (r : Reason) → IsLegal s h → MayFailBy s h m r → IsSettled h n → IsSettled (h ++ event.Done m (outcome.Failed r) ∷ []) n
+settled_failed s h n m (reason.Fault call.Wait) l may old = settled_wait_at s h n m (m == n) refl l may.1 old
+settled_failed s h n m r l may old =
+    settled_done_at s h n m (outcome.Failed r) (m == n) refl l refl (by_not_done s h m r may) (failing_still s h m r l tt may) old
 
 -- a start or an end keeps what is settled, by whether it is of the node
 settled_turn_at : (h : List Event) (n m : ℕ) (e : Event) (b : Bool) → (m == n) ≡ b → concludes n e ≡ false → is_done h m ≡ false → (b ≡ false → own settles n e ≡ false) → (b ≡ false → starts n e ≡ false) → IsSettled h n → IsSettled (h ++ e ∷ []) n
@@ -141,29 +140,29 @@ settled_turn_at h n m e true q c fresh p r old = settled_fresh h n e c (subst (�
 settled_turn_at h n m e false q c fresh p r old = settled_as h n e (p refl) (r refl) c old
 
 -- each event that may come keeps what is settled
-settled_on : (s : Run) (n : ℕ) (h : List Event) (e : Event) → HasNoPrompts s → IsLegal s h → May s h e → IsSettled h n → IsSettled (h ++ e ∷ []) n
-settled_on s n h (event.Started m i c) u l may old = settled_turn_at h n m (event.Started m i c) (m == n) refl refl (inside h m may.0.0).not_done (λ _. refl) (λ q. q) old
-settled_on s n h (event.Ended m i c t) u l may old = settled_turn_at h n m (event.Ended m i c t) (m == n) refl refl (inside h m may.0.0).not_done (λ q. q) (λ _. refl) old
-settled_on s n h (event.Done m outcome.Well) u l may old = settled_done_at s h n m outcome.Well (m == n) refl l refl may.not_done may.between_commands old
-settled_on s n h (event.Done m (outcome.Failed r)) u l may old = settled_failed s h n m r u l may old
-settled_on s n h e u l may old = settled_as h n e refl refl refl old
+settled_on : (s : Run) (n : ℕ) (h : List Event) (e : Event) → IsLegal s h → May s h e → IsSettled h n → IsSettled (h ++ e ∷ []) n
+settled_on s n h (event.Started m i c) l may old = settled_turn_at h n m (event.Started m i c) (m == n) refl refl (inside h m may.0.0).not_done (λ _. refl) (λ q. q) old
+settled_on s n h (event.Ended m i c t) l may old = settled_turn_at h n m (event.Ended m i c t) (m == n) refl refl (inside h m may.0.0).not_done (λ q. q) (λ _. refl) old
+settled_on s n h (event.Done m outcome.Well) l may old = settled_done_at s h n m outcome.Well (m == n) refl l refl may.not_done may.between_commands old
+settled_on s n h (event.Done m (outcome.Failed r)) l may old = settled_failed s h n m r l may old
+settled_on s n h e l may old = settled_as h n e refl refl refl old
 
 -- over a legal history each node that is done has as many settled children as it started
-done_settled : (s : Run) (h : List Event) (n : ℕ) → HasNoPrompts s → IsLegal s h → IsSettled h n
-done_settled s h n u l = legal_holds s (λ k. IsSettled k n) (λ d. refl) (λ k e legal old m. settled_on s n k e u legal m old) h l
+done_settled : (s : Run) (h : List Event) (n : ℕ) → IsLegal s h → IsSettled h n
+done_settled s h n l = legal_holds s (λ k. IsSettled k n) (λ d. refl) (λ k e legal old m. settled_on s n k e legal m old) h l
 
 -- ---- the number of running bodies
 
 -- a node's starts are its settled children and the one that it runs with, by whether it is done
-node_starts_at : (s : Run) (h : List Event) (n : ℕ) (done run : Bool) → HasNoPrompts s → IsLegal s h → is_done h n ≡ done → is_running h n ≡ run → count_by (own settles n) h + cond run 1 0 ≡ start_count h n
-node_starts_at s h n true true u l d r = absurd (true≢false (sym d ∙ (runs h n r).1))
-node_starts_at s h n true false u l d r = omega (arith, done_settled s h n u l d)
-node_starts_at s h n false true u l d r = omega (arith, (settled s h n l).1 d, (runs h n r).0, (agrees s h n l).high)
-node_starts_at s h n false false u l d r = omega (arith, (settled s h n l).1 d, rests h n r d, (agrees s h n l).low)
+node_starts_at : (s : Run) (h : List Event) (n : ℕ) (done run : Bool) → IsLegal s h → is_done h n ≡ done → is_running h n ≡ run → count_by (own settles n) h + cond run 1 0 ≡ start_count h n
+node_starts_at s h n true true l d r = absurd (true≢false (sym d ∙ (runs h n r).1))
+node_starts_at s h n true false l d r = omega (arith, done_settled s h n l d)
+node_starts_at s h n false true l d r = omega (arith, (settled s h n l).1 d, (runs h n r).0, (agrees s h n l).high)
+node_starts_at s h n false false l d r = omega (arith, (settled s h n l).1 d, rests h n r d, (agrees s h n l).low)
 
 -- a node's starts are its settled children and the one that it runs with
-node_starts : (s : Run) (h : List Event) (n : ℕ) → HasNoPrompts s → IsLegal s h → count_by (own settles n) h + cond (is_running h n) 1 0 ≡ start_count h n
-node_starts s h n u l = node_starts_at s h n (is_done h n) (is_running h n) u l refl refl
+node_starts : (s : Run) (h : List Event) (n : ℕ) → IsLegal s h → count_by (own settles n) h + cond (is_running h n) 1 0 ≡ start_count h n
+node_starts s h n l = node_starts_at s h n (is_done h n) (is_running h n) l refl refl
 
 -- a settled child is no caught signal
 settle_plain : (e : Event) → settles e ≡ true → catches e ≡ false
@@ -186,9 +185,9 @@ own_starts n [] = refl
 own_starts n (e ∷ h) = sum_by-cons (λ x. cond (own is_start n x) 1 0) e h ∙ ap₂ (λ a b. cond a 1 0 + b) (own_start n e) (own_starts n h) ∙ sym (sum_by-cons (λ x. cond (starts n x) 1 0) e h)
 
 -- the commands that were started are those that were settled and those that run
-pub all_balanced : (s : Run) (h : List Event) → IsFormed s → HasNoPrompts s → IsLegal s h → settle_count h + running_bodies s h ≡ all_starts h
-all_balanced s h f u l =
-    let each = sum_same (λ n. count_by (own settles n) h + cond (is_running h n) 1 0) (λ n. count_by (own is_start n) h) 0 (length s.nodes) (λ k low high. node_starts s h k u l ∙ sym (own_starts k h)) in
+pub all_balanced : (s : Run) (h : List Event) → IsFormed s → IsLegal s h → settle_count h + running_bodies s h ≡ all_starts h
+all_balanced s h f l =
+    let each = sum_same (λ n. count_by (own settles n) h + cond (is_running h n) 1 0) (λ n. count_by (own is_start n) h) 0 (length s.nodes) (λ k low high. node_starts s h k l ∙ sym (own_starts k h)) in
     let added = sum_add (λ n. count_by (own settles n) h) (λ n. cond (is_running h n) 1 0) (range_with_len 0 (length s.nodes)) in
     omega (arith, split s settles settle_plain h f l, split s is_start start_plain h f l, each, added)
 
@@ -206,15 +205,11 @@ none_counted_at s h n false q lt z = q
 module _ {s : Start} {h : List Event} {now : List Entry} {w : Option World} {spare taken : ℕ} {caught : Option Signal} (account : ∥ IsAccount s h now w spare taken caught ∥₁) where
   -- the commands that were started are those that were settled and those that run
   pub balanced : settle_count h + running_bodies (run_of s) h ≡ all_starts h
-  balanced = ∥∥₁_elim s.plan.well (ℕ_set _ _) (λ f. ∥∥₁_elim s.plan.unprompted (ℕ_set _ _) (λ u. ∥∥₁_elim account (ℕ_set _ _) (λ a. all_balanced (run_of s) h f u a.kept.legal)))
+  balanced = ∥∥₁_elim s.plan.well (ℕ_set _ _) (λ f. ∥∥₁_elim account (ℕ_set _ _) (λ a. all_balanced (run_of s) h f a.kept.legal))
 
   -- so the units of the ledger are the running bodies
   pub units_are : (total : ℕ) → settle_count h + total ≡ all_starts h → total ≡ running_bodies (run_of s) h
   units_are total t = omega (arith, t, balanced)
-
-  -- each no has its end
-  pub each_no : EachNoIsDone h
-  each_no n q = ∥∥₁_elim s.plan.unprompted (Bool-set _ _) (λ u. ∥∥₁_elim account (Bool-set _ _) (λ a. unprompted_answered (run_of s) h u a.kept.legal n q))
 
   -- a node that runs is open
   pub running_open : (n : ℕ) → is_running h n ≡ true → is_open h n ≡ true

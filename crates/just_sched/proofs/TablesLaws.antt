@@ -2,7 +2,7 @@
 use Rattle.std.proofs.Common.{◌==◌, ◌&&◌, not, if◌then◌else◌, get_or, ap₂, ◌≡◌, ℕ, ◌<◌, ◌||◌, Bool, true, false, List, [], ◌∷◌, ◌++◌, length, refl, sym, ap, ◌∙◌, arith}
 use Rattle.std.proofs.Math.Bool.{Bool-set}
 use Rattle.std.proofs.Math.Logic.{∥∥₁_elim, ∥∥₁_map}
-use Rattle.std.specs.Prelude.{filter_map, Some, None, is_some, slice_index, All, is_none}
+use Rattle.std.specs.Prelude.{filter_map, Some, None, is_some, slice_index}
 use Rattle.std.specs.List.{cons_option}
 use Rattle.just_closure.specs.WellFormed.{IsWellFormed}
 use Rattle.just_sched.specs.declared.event.Event.{Event}
@@ -14,11 +14,10 @@ use Rattle.just_sched.specs.declared.plan_node.PlanNode.{PlanNode}
 use Rattle.just_sched.specs.declared.tables.Tables.{Tables}
 use Rattle.just_sched.specs.Nodes.{priors_at, subsequents_at, parallel_at}
 use Rattle.just_sched.specs.Rows.{IsTable, IsNoted}
-use Rattle.just_sched.specs.State.{has_taken, is_done, takes, concludes, first, reason_in, reason_of, has_failed, is_open, IsToAsk, IsReady, is_over_well, IsFinished, IsWanted, MayComeNext, finished, invoked, prior, subsequent}
-use Rattle.just_sched.specs.Tables.{FlagsMean}
+use Rattle.just_sched.specs.State.{has_taken, is_done, takes, concludes, first, reason_in, reason_of, has_failed, is_open, IsReady, is_over_well, is_confirmed, IsFinished, IsWanted, MayComeNext, finished, invoked, prior, subsequent}
+use Rattle.just_sched.specs.Tables.{flag, FlagsAre, FlagsMean}
 use Rattle.just_sched.proofs.Deciding.{meant, told_finished, told_wanted}
-use Rattle.just_sched.proofs.PlanLaws.{shapes, confirmed_all}
-use Rattle.just_sched.proofs.Reasons.{none_to_ask}
+use Rattle.just_sched.proofs.PlanLaws.{shapes}
 use Rattle.just_sched.proofs.RowLaws.{reason_in_row}
 use Rattle.just_sched.proofs.Tests.{any_kept, either_way}
 use Rattle.just_sched.proofs.Telling.{tells_finished, tells_wanted}
@@ -36,13 +35,18 @@ module _ (nodes : List PlanNode) (invocations : List ℕ) (h k : List Event) (sa
   leads_as : (together : Bool) (xs : List ℕ) (n : ℕ) → MayComeNext (IsFinished nodes h) together xs n → MayComeNext (IsFinished nodes k) together xs n
   leads_as together xs n = leads_weaker (IsFinished nodes h) (IsFinished nodes k) together xs n (λ j lt f. finished_as (slice_index xs j) f)
 
-  -- so is a wanted node, where no node has a prompt
-  pub wanted_as : ∥ All (λ (x : PlanNode). is_none x.prompt ≡ true) nodes ∥₁ → (n : ℕ) → IsWanted nodes invocations h n → IsWanted nodes invocations k n
-  wanted_as unprompted n (invoked m leads) = invoked m (leads_as false invocations m leads)
-  wanted_as unprompted n (prior m q wanted is_confirmed leads) =
-      prior m q (wanted_as unprompted m wanted) (confirmed_all nodes k m unprompted) (leads_as (parallel_at nodes m) (priors_at nodes m) q leads)
-  wanted_as unprompted n (subsequent m q over leads) =
+  -- so is a wanted node, where who was confirmed is so
+  pub wanted_as : ((n : ℕ) → is_confirmed nodes h n ≡ true → is_confirmed nodes k n ≡ true) → (n : ℕ) → IsWanted nodes invocations h n → IsWanted nodes invocations k n
+  wanted_as sure n (invoked m leads) = invoked m (leads_as false invocations m leads)
+  wanted_as sure n (prior m q wanted was leads) = prior m q (wanted_as sure m wanted) (sure m was) (leads_as (parallel_at nodes m) (priors_at nodes m) q leads)
+  wanted_as sure n (subsequent m q over leads) =
       subsequent m q (same m over) (leads_as (parallel_at nodes m) (subsequents_at nodes m) q leads)
+
+-- two tests each of which gives the other are one
+same_truth : (a b : Bool) → (a ≡ true → b ≡ true) → (b ≡ true → a ≡ true) → a ≡ b
+same_truth true b f g = sym (f refl)
+same_truth false true f g = g refl
+same_truth false false f g = refl
 
 -- ---- what the tables give
 
@@ -54,17 +58,28 @@ module _ (nodes : List PlanNode) (invocations : List ℕ) (h : List Event) (t : 
   wanted_sized : length t.progress.wanted.items ≡ length nodes
   wanted_sized = omega (arith, t.progress.wanted_sized, t.progress_sized, sized)
 
+  confirmed_sized : length t.progress.confirmed.items ≡ length nodes
+  confirmed_sized = omega (arith, t.progress.confirmed_sized, t.progress_sized, sized)
+
+  -- who is confirmed is flagged so
+  heard_of : IsNoted nodes invocations h t → (k : ℕ) → k < length nodes → is_confirmed nodes h k ≡ true → flag t.progress.confirmed.items k ≡ true
+  heard_of n k lt sure = n.heard k (omega (arith, lt, confirmed_sized)) sure
+
+  -- the flags of the confirmed nodes
+  pub confirmed_of : FlagsAre t.progress.confirmed.items (is_confirmed nodes h)
+  confirmed_of k lt = ∥∥₁_elim noted (Bool-set _ _) (λ n. same_truth (flag t.progress.confirmed.items k) (is_confirmed nodes h k) (n.told.confirmed k) (n.heard k lt))
+
   -- the flags of the finished nodes
   pub finished_of : FlagsMean t.progress.finished.items (IsFinished nodes h)
   finished_of =
       meant t.progress.finished.items (IsFinished nodes h) (told_finished nodes invocations well h)
-      (∥∥₁_map noted (λ n. tells_finished nodes invocations well h t.progress over_sized wanted_sized n.told n.closed n.none (omega (arith, t.progress.finished_sized, t.progress_sized, sized))))
+      (∥∥₁_map noted (λ n. tells_finished nodes invocations well h t.progress over_sized wanted_sized n.told (heard_of n) n.closed n.none (omega (arith, t.progress.finished_sized, t.progress_sized, sized))))
 
   -- the flags of the wanted nodes
   pub wanted_of : FlagsMean t.progress.wanted.items (IsWanted nodes invocations h)
   wanted_of =
       meant t.progress.wanted.items (IsWanted nodes invocations h) (told_wanted nodes invocations well h)
-      (∥∥₁_map noted (λ n. tells_wanted nodes invocations well h t.progress over_sized wanted_sized n.told n.closed n.none))
+      (∥∥₁_map noted (λ n. tells_wanted nodes invocations well h t.progress over_sized wanted_sized n.told (heard_of n) n.closed n.none))
 
 -- who took a job or is done stays so
 pub left_kept : (h : List Event) (e : Event) (m : ℕ) → (has_taken h m || is_done h m) ≡ true → (has_taken (h ++ e ∷ []) m || is_done (h ++ e ∷ []) m) ≡ true
@@ -99,8 +114,3 @@ failed_row h rows table n d lt = ap (λ o. is_some o) (reason_in_row h rows tabl
 -- whether its body is open
 pub open_row : (h : List Event) (rows : List Row) → ∥ IsTable h rows ∥₁ → (n : ℕ) (d : Row) → n < length rows → ((get_or rows n d).taken && not (get_or rows n d).given) ≡ is_open h n
 open_row h rows table n d lt = ∥∥₁_elim table (Bool-set _ _) (λ t. ap₂ (λ a b. a && not b) (t n d lt).taken (t n d lt).given)
-
--- no node is to be asked
-pub never_to_ask : (nodes : List PlanNode) (invocations : List ℕ) (h : List Event) (n : ℕ) → ∥ All (λ (x : PlanNode). is_none x.prompt ≡ true) nodes ∥₁ → IsToAsk nodes invocations h n → ⊥
-never_to_ask nodes invocations h n unprompted asked =
-    ∥∥₁_elim unprompted (λ x. absurd x) (λ all. none_to_ask (record { nodes = nodes; invocations = invocations; jobs = None; base = 0 }) h all n asked)

@@ -9,7 +9,7 @@ use Rattle.just_sched.specs.declared.event.Outcome.TheVariants as outcome
 use Rattle.just_sched.specs.declared.event.Reason.{Reason}
 use Rattle.just_sched.specs.declared.event.Reason.TheVariants as reason
 use Rattle.just_commands.specs.declared.work.Command.{Command}
-use Rattle.just_sched.specs.Gains.{TellGains, StartGains}
+use Rattle.just_sched.specs.Gains.{TellGains, AskGains, StartGains}
 use Rattle.just_sched.specs.Legal.{Run, is_start, all_starts}
 use Rattle.just_sched.specs.Match.{StandsFor}
 use Rattle.just_sched.specs.Room.{settles, settle_count}
@@ -39,3 +39,8 @@ told_end A text n _ es g = refl
 pub unstarted_end : {C : Type 0} (number : C → ℕ) (c : Command) (n : ℕ) (r : Reason) (es : List Entry) → StartGains number c (Err r) es → settles (event.Done n (outcome.Failed r)) ≡ false
 unstarted_end number c n (reason.Fault call.Wait) es g = absurd g
 unstarted_end number c n _ es g = refl
+
+-- nor does that of a node that couldn't be asked
+pub unasked_end : (prompt : List ℕ) (n : ℕ) (r : Reason) (es : List Entry) → AskGains prompt (Err r) es → settles (event.Done n (outcome.Failed r)) ≡ false
+unasked_end prompt n (reason.Fault call.Wait) es g = absurd g
+unasked_end prompt n _ es g = refl

@@ -8,16 +8,17 @@ use Rattle.just_sched.specs.declared.event.Event.{Event}
 use Rattle.just_sched.specs.declared.plan_node.PlanNode.{PlanNode}
 use Rattle.just_sched.specs.declared.progress.Progress.{Progress}
 use Rattle.just_sched.specs.Nodes.{priors_at, subsequents_at, parallel_at}
-use Rattle.just_sched.specs.State.{is_over_well, MayComeNext, IsFinished, IsWanted, finished, invoked, prior, subsequent}
+use Rattle.just_sched.specs.State.{is_over_well, is_confirmed, MayComeNext, IsFinished, IsWanted, finished, invoked, prior, subsequent}
 use Rattle.just_sched.specs.Tables.{flag, InRange, FlagsMean}
 use Rattle.just_sched.specs.Led.{MayFollow, IsLed}
 use Rattle.just_sched.specs.Progress.{IsClosedBut, IsTold}
 use Rattle.just_sched.proofs.PlanLaws.{shapes, subsequent_behind, subsequent_within}
-use Rattle.just_sched.proofs.WantedLaws.{leads_contains, leads_weaker, subsequents_within, priors_within, invocations_within}
+use Rattle.just_sched.proofs.WantedLaws.{leads_contains, leads_weaker, subsequents_within, priors_within, priors_inside, invocations_within}
 
 module _ (nodes : List PlanNode) (invocations : List ℕ) (well : ∥ IsWellFormed (shapes nodes) invocations ∥₁) (h : List Event) (p : Progress)
     (over_sized : length p.over.items ≡ length nodes) (wanted_sized : length p.wanted.items ≡ length nodes)
-    (told : IsTold nodes invocations h p) (closed : IsClosedBut nodes invocations p None) (none : p.pending.items ≡ []) where
+    (told : IsTold nodes invocations h p) (heard : (k : ℕ) → k < length nodes → is_confirmed nodes h k ≡ true → flag p.confirmed.items k ≡ true)
+    (closed : IsClosedBut nodes invocations p None) (none : p.pending.items ≡ []) where
   over_up : (m : ℕ) → m < length nodes → is_over_well h m ≡ true → flag p.over.items m ≡ true
   over_up m lt over = told.over m (omega (arith, lt, over_sized)) ∙ over
 
@@ -38,11 +39,11 @@ module _ (nodes : List PlanNode) (invocations : List ℕ) (well : ∥ IsWellForm
 
   whole_wanted : (k : ℕ) → IsWanted nodes invocations h k → flag p.wanted.items k ≡ true
   whole_wanted k (invoked n leads) = closed.invoked n (shown false invocations n (invocations_within nodes invocations well p.wanted.items wanted_sized) leads)
-  whole_wanted k (prior m n wanted is_confirmed leads) =
+  whole_wanted k (prior m n wanted sure leads) =
       ⊎_elim (λ (listed : Contains p.pending.items m). absurd (let at : Contains [] m = subst (λ (xs : List ℕ). Contains xs m) none listed in omega (arith, at.1)))
       (λ (led : IsLed p.finished.items p.wanted.items (parallel_at nodes m) (priors_at nodes m)).
       led n (shown (parallel_at nodes m) (priors_at nodes m) n (priors_within nodes invocations well p.wanted.items m wanted_sized) leads))
-      (closed.priors m (whole_wanted m wanted))
+      (closed.priors m (whole_wanted m wanted) (heard m (priors_inside nodes invocations well m n (leads_contains (IsFinished nodes h) (parallel_at nodes m) (priors_at nodes m) n leads)) sure))
   whole_wanted k (subsequent m n over leads) =
       let inside : m < length nodes = ∥∥₁_elim well le_prop (λ w. subsequent_within nodes invocations w m n (leads_contains (IsFinished nodes h) (parallel_at nodes m) (subsequents_at nodes m) n leads)) in
       closed.subsequents m (no_next m) (over_up m inside over) n (shown (parallel_at nodes m) (subsequents_at nodes m) n (subsequents_within nodes invocations well p.wanted.items m wanted_sized) leads)

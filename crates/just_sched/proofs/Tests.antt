@@ -57,6 +57,11 @@ pub not_true : (b : Bool) → not b ≡ true → b ≡ false
 not_true true h = sym h
 not_true false h = refl
 
+-- what isn't not true is true
+pub not_false : (b : Bool) → not b ≡ false → b ≡ true
+not_false true h = refl
+not_false false h = sym h
+
 -- ---- tests, counts and lists over one event more
 
 -- a disjunction of three, in either order

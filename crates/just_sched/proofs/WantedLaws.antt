@@ -6,7 +6,7 @@ use Rattle.std.proofs.lemmas.Option.{slice_get-get_or}
 use Rattle.std.specs.Prelude.{slice_index, Contains}
 use Rattle.just_closure.specs.WellFormed.{IsWellFormed}
 use Rattle.just_sched.specs.declared.plan_node.PlanNode.{PlanNode}
-use Rattle.just_sched.specs.Nodes.{subsequents_at, priors_at, parallel_at, parallel_in}
+use Rattle.just_sched.specs.Nodes.{subsequents_at, priors_at, parallel_at, parallel_in, prompt_at, prompt_in}
 use Rattle.just_sched.specs.State.{MayComeNext}
 use Rattle.just_sched.specs.Tables.{InRange}
 use Rattle.just_sched.proofs.PlanLaws.{shapes, subsequent_behind, prior_before, prior_within, invocation_within, contains_at}
@@ -23,6 +23,9 @@ leads_weaker F G together xs k weaker leads =
 -- what the code reads of a node is what the plan says of it
 pub parallel_read : (nodes read : List PlanNode) (at : ℕ) (d : PlanNode) → read ≡ nodes → at < length nodes → (get_or read at d).parallel ≡ parallel_at nodes at
 parallel_read nodes read at d same lt = rw same (ap parallel_in (sym (slice_get-get_or nodes at d lt)))
+
+pub prompt_read : (nodes read : List PlanNode) (at : ℕ) (d : PlanNode) → read ≡ nodes → at < length nodes → (get_or read at d).prompt ≡ prompt_at nodes at
+prompt_read nodes read at d same lt = rw same (ap prompt_in (sym (slice_get-get_or nodes at d lt)))
 
 module _ (nodes : List PlanNode) (invocations : List ℕ) (well : ∥ IsWellFormed (shapes nodes) invocations ∥₁) where
   pub subsequents_within : (flags : List Bool) (at : ℕ) → length flags ≡ length nodes → InRange (subsequents_at nodes at) flags

@@ -1,5 +1,5 @@
 -- What history and record show of a body that failed.
-use Rattle.std.specs.Prelude.{ℕ, ◌≡◌, ◌+◌, ◌⊎◌, List, length, Contains}
+use Rattle.std.specs.Prelude.{ℕ, ◌≡◌, ◌+◌, ◌⊎◌, false, List, length, Contains}
 use Rattle.just_path.specs.declared.host.Miss.{Miss}
 use Rattle.just_outside.specs.declared.entry.Call.{Call}
 use Rattle.just_outside.specs.declared.entry.Call.TheVariants as call
@@ -8,6 +8,7 @@ use Rattle.just_outside.specs.declared.entry.Entry.TheVariants as entry
 use Rattle.just_outside.specs.declared.entry.Status.{Status}
 use Rattle.just_sched.specs.declared.event.Event.{Event}
 use Rattle.just_sched.specs.declared.event.Event.TheVariants as event
+use Rattle.just_sched.specs.Match.{is_yes}
 use Rattle.just_sched.specs.State.{statuses}
 
 -- a failure of the call; of a wait, maybe as the end of another child
@@ -17,6 +18,10 @@ ShowsFailure c es = Contains es (entry.Failed c) ⊎ ((c ≡ call.Wait) × (chil
 -- such a miss, of some path
 abbrev pub ShowsMiss : Miss → List Entry → Type 0
 ShowsMiss m es = (path : List ℕ) × Contains es (entry.Missed path m)
+
+-- an answer to a prompt that is no yes
+abbrev pub ShowsRefusal : List Entry → Type 0
+ShowsRefusal es = (prompt answer : List ℕ) × Contains es (entry.Asked prompt answer) × (is_yes answer ≡ false)
 
 -- the command of a node that ended last, with that status: its place and its child, the event of its start, and the entry
 -- of its end

@@ -1,14 +1,14 @@
 -- When a book has nothing to do.
-use Rattle.std.specs.Prelude.{ℕ, ◌≡◌, ◌⊎◌, true, false, List, Some}
+use Rattle.std.specs.Prelude.{ℕ, ◌≡◌, true, false, List, Some}
 use Rattle.just_sched.specs.declared.event.Event.{Event}
 use Rattle.just_sched.specs.declared.event.Idle.{Idle}
 use Rattle.just_sched.specs.declared.event.Idle.TheVariants as idle
-use Rattle.just_sched.specs.State.{IsReady, IsToAsk, has_caught}
+use Rattle.just_sched.specs.State.{IsToAsk, IsDueNext, has_caught}
 use Rattle.just_sched.specs.Legal.{Run, open_bodies}
 
 -- some node is ready or to be asked
 abbrev pub HasWork : Run → List Event → Type 0
-HasWork s h = (n : ℕ) × (IsReady s.nodes s.invocations h n ⊎ IsToAsk s.nodes s.invocations h n)
+HasWork s h = (n : ℕ) × IsDueNext s.nodes s.invocations h n
 
 -- no node is to be asked
 abbrev pub NoneToAsk : Run → List Event → Type 0

@@ -2,7 +2,7 @@
 use Rattle.std.specs.Prelude.{ℕ, ◌+◌, ◌≡◌, ◌<◌, ◌≤◌, ◌⊎◌, not, Bool, true, List, length, count_by, slice_index, slice_index_or, Contains}
 use Rattle.just_sched.specs.declared.event.Event.{Event}
 use Rattle.just_sched.specs.declared.plan_node.PlanNode.{PlanNode}
-use Rattle.just_sched.specs.State.{IsFinished, IsWanted, MayComeNext}
+use Rattle.just_sched.specs.State.{is_confirmed, IsFinished, IsWanted, MayComeNext}
 use Rattle.just_sched.specs.Tables.{flag}
 
 -- how many flags are down
@@ -30,6 +30,11 @@ MayFollow finished together xs n = MayComeNext (λ q. flag finished q ≡ true) 
 abbrev pub IsLed : List Bool → List Bool → Bool → List ℕ → Type 0
 IsLed finished wanted together xs = (k : ℕ) → MayFollow finished together xs k → flag wanted k ≡ true
 
+-- the priors of each node that is wanted and confirmed are led, or the node is one of those that are still to be gone to
+abbrev pub ArePriorsLed : (ℕ → Bool) → (ℕ → List ℕ) → List Bool → List Bool → List Bool → List ℕ → Type 0
+ArePriorsLed together priors finished confirmed wanted pending =
+    (m : ℕ) → flag wanted m ≡ true → flag confirmed m ≡ true → Contains pending m ⊎ IsLed finished wanted (together m) (priors m)
+
 -- each node of the list is flagged
 abbrev pub AreUp : List Bool → List ℕ → Type 0
 AreUp flags xs = (k : ℕ) → Contains xs k → flag flags k ≡ true
@@ -46,10 +51,15 @@ AreBefore xs finished wanted places = (m : ℕ) → IsBefore finished wanted (xs
 abbrev pub AllFinished : List PlanNode → List Event → List Bool → Type 0
 AllFinished nodes h finished = (k : ℕ) → flag finished k ≡ true → IsFinished nodes h k
 
+-- nor that it is confirmed
+abbrev pub AllConfirmed : List PlanNode → List Event → List Bool → Type 0
+AllConfirmed nodes h confirmed = (k : ℕ) → flag confirmed k ≡ true → is_confirmed nodes h k ≡ true
+
 -- nor that it is wanted
 abbrev pub AllWanted : List PlanNode → List ℕ → List Event → List Bool → Type 0
 AllWanted nodes invocations h wanted = (k : ℕ) → flag wanted k ≡ true → IsWanted nodes invocations h k
 
--- no node was flagged as wanted that isn't, by any history in which those are finished that are said to be
-abbrev pub KeepsWanted : List PlanNode → List ℕ → List Bool → List Bool → List Bool → Type 0
-KeepsWanted nodes invocations finished old new = (h : List Event) → AllFinished nodes h finished → AllWanted nodes invocations h old → AllWanted nodes invocations h new
+-- no node was flagged as wanted that isn't, by any history in which those are finished and confirmed that are said to be
+abbrev pub KeepsWanted : List PlanNode → List ℕ → List Bool → List Bool → List Bool → List Bool → Type 0
+KeepsWanted nodes invocations finished confirmed old new =
+    (h : List Event) → AllFinished nodes h finished → AllConfirmed nodes h confirmed → AllWanted nodes invocations h old → AllWanted nodes invocations h new

@@ -1,14 +1,17 @@
 -- What the calls of a book leave: the events of one node, and what became of that node.
-use Rattle.std.specs.Prelude.{ℕ, ◌<◌, ◌≡◌, ◌||◌, Bool, true, false, List, ◌++◌, Some, is_none}
+use Rattle.std.specs.Prelude.{ℕ, ◌<◌, ◌≡◌, ◌||◌, ◌⊎◌, Bool, true, false, List, [], ◌∷◌, ◌++◌, Some, is_none}
 use Rattle.std.specs.List.{AllPass}
 use Rattle.just_outside.specs.declared.outside.Host
 use Rattle.just_path.specs.declared.host.PathHost
 use Rattle.just_sched.specs.declared.event.Event.{Event}
+use Rattle.just_sched.specs.declared.event.Event.TheVariants as event
 use Rattle.just_sched.specs.declared.event.Idle.{Idle}
+use Rattle.just_sched.specs.declared.event.Outcome.TheVariants as outcome
+use Rattle.just_sched.specs.declared.event.Reason.TheVariants as reason
 use Rattle.just_sched.specs.declared.token.Next.{Next}
 use Rattle.just_sched.specs.declared.token.Next.TheVariants as next
-use Rattle.just_sched.specs.Legal.{Run}
-use Rattle.just_sched.specs.State.{node_of, is_of, is_open, is_running, has_taken, last_start, IsReady}
+use Rattle.just_sched.specs.Legal.{Run, open_bodies}
+use Rattle.just_sched.specs.State.{node_of, is_of, is_open, is_running, has_taken, is_asked, is_done, last_start, IsToAsk, IsReady}
 
 -- the event is one of the node, or a caught signal
 abbrev pub concerns : ℕ → Event → Bool
@@ -20,13 +23,20 @@ pub record GrowsBy (old new : List Event) (n : ℕ) : Type 0 where
   pub grew : new ≡ old ++ more
   pub own : AllPass (concerns n) more
 
--- One move of `next`: the ready node of least number took a job, and the history gained events of that node alone, or a
--- caught signal.
+-- the events of an answer: where a node is answered by a no, it is done by that
+abbrev pub answer_events : ℕ → Bool → List Event
+answer_events n true = event.Asked n true ∷ []
+answer_events n false = event.Asked n false ∷ event.Done n (outcome.Failed reason.NotConfirmed) ∷ []
+
+-- One move of `next`: a ready node took a job, or a node that was to be asked was asked, or is done since asking it was
+-- refused; it had taken no job before. The history gained events of that node alone, or a caught signal. No node of lesser
+-- number was to be asked; and none was ready, unless each job was taken.
 pub record IsMove (s : Run) (old new : List Event) (n : ℕ) : Type 0 where
-  pub ready : IsReady s.nodes s.invocations old n
-  pub least : (m : ℕ) → m < n → IsReady s.nodes s.invocations old m → ⊥
+  pub moved : (IsReady s.nodes s.invocations old n × (has_taken new n ≡ true)) ⊎ (IsToAsk s.nodes s.invocations old n × ((is_asked new n || is_done new n) ≡ true))
+  pub not_taken : has_taken old n ≡ false
+  pub least_to_ask : (m : ℕ) → m < n → IsToAsk s.nodes s.invocations old m → ⊥
+  pub least_ready : (m : ℕ) → m < n → IsReady s.nodes s.invocations old m → s.jobs ≡ Some (open_bodies s old)
   pub grows : GrowsBy old new n
-  pub taken : has_taken new n ≡ true
 
 -- the node's body is open, and runs with that child
 pub record RunsWith (h : List Event) (n child : ℕ) : Type 0 where

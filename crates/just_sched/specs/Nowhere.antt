@@ -1,5 +1,5 @@
 -- The run of nothing, over a host with no record.
-use Rattle.std.specs.Prelude.{◌≡◌, ◌<◌, ◌^◌, All, is_none, true, [], length, None}
+use Rattle.std.specs.Prelude.{◌≡◌, ◌<◌, ◌^◌, All, [], length, None}
 use Rattle.std.proofs.Common.{arith, lit<}
 use Rattle.just_closure.specs.WellFormed.{IsWellFormed}
 use Rattle.just_sched.specs.declared.plan_node.PlanNode.{PlanNode}
@@ -21,14 +21,10 @@ nothing_formed = record {
 pub nothing_short : All (λ (x : PlanNode). length (commands_of x.work) < 2 ^ 32) []
 nothing_short = λ k d h. absurd (omega arith)
 
--- no node has a prompt
-pub nothing_asked : All (λ (x : PlanNode). is_none x.prompt ≡ true) []
-nothing_asked = λ k d h. absurd (omega arith)
-
 -- where the name begins that no run has
 abbrev pub nowhere : Start
 nowhere = record {
-  plan = record { nodes = []; invocations = []; well = ∣ nothing_formed ∣₁; few = lit< tt; short = ∣ nothing_short ∣₁; unprompted = ∣ nothing_asked ∣₁ };
+  plan = record { nodes = []; invocations = []; well = ∣ nothing_formed ∣₁; few = lit< tt; short = ∣ nothing_short ∣₁ };
   jobs = None;
   entries = [];
   world = None;

@@ -1,12 +1,12 @@
--- What is kept of a run's progress: which nodes are over well, finished and wanted, and how far each list has come.
-use Rattle.std.specs.Prelude.{ℕ, ◌+◌, ◌≡◌, ◌<◌, ◌≤◌, ◌⊎◌, true, false, List, [], length, slice_index_or, map, Contains, Option, Some, vec_capacity}
+-- What is kept of a run's progress: which nodes are over well, finished, confirmed and wanted, and how far each list has come.
+use Rattle.std.specs.Prelude.{ℕ, ◌+◌, ◌≡◌, ◌<◌, ◌≤◌, true, false, List, [], length, slice_index_or, map, Contains, Option, Some, vec_capacity}
 use Rattle.just_sched.specs.declared.event.Event.{Event}
 use Rattle.just_sched.specs.declared.plan_node.PlanNode.{PlanNode}
 use Rattle.just_sched.specs.declared.progress.Progress.{Progress}
 use Rattle.just_sched.specs.Nodes.{priors_at, subsequents_at, parallel_at}
 use Rattle.just_sched.specs.State.{is_over_well}
 use Rattle.just_sched.specs.Tables.{flag, FlagsAre}
-use Rattle.just_sched.specs.Led.{down_count, IsBefore, IsLed, AreUp, AreBefore, AllFinished, AllWanted}
+use Rattle.just_sched.specs.Led.{down_count, IsBefore, IsLed, ArePriorsLed, AreUp, AreBefore, AllFinished, AllConfirmed, AllWanted}
 
 -- the nodes of whose priors one has that number
 abbrev pub dependents_at : Progress → ℕ → List ℕ
@@ -29,10 +29,11 @@ pub record IsClosedBut (nodes : List PlanNode) (invocations : List ℕ) (p : Pro
   pub subsequents : (m : ℕ) → (next ≡ Some m → ⊥) → flag p.over.items m ≡ true → IsLed p.finished.items p.wanted.items (parallel_at nodes m) (subsequents_at nodes m)
   pub over : (m : ℕ) → next ≡ Some m → flag p.over.items m ≡ true
   pub together : (m : ℕ) → next ≡ Some m → parallel_at nodes m ≡ true → IsLed p.finished.items p.wanted.items true (subsequents_at nodes m)
-  pub priors : (m : ℕ) → flag p.wanted.items m ≡ true → Contains p.pending.items m ⊎ IsLed p.finished.items p.wanted.items (parallel_at nodes m) (priors_at nodes m)
+  pub priors : ArePriorsLed (parallel_at nodes) (priors_at nodes) p.finished.items p.confirmed.items p.wanted.items p.pending.items
 
 -- the flags say nothing of the nodes that the history doesn't
 pub record IsTold (nodes : List PlanNode) (invocations : List ℕ) (h : List Event) (p : Progress) : Type 0 where
   pub over : FlagsAre p.over.items (is_over_well h)
   pub finished : AllFinished nodes h p.finished.items
+  pub confirmed : AllConfirmed nodes h p.confirmed.items
   pub wanted : AllWanted nodes invocations h p.wanted.items

@@ -6,8 +6,8 @@ use Rattle.just_sched.specs.declared.plan_node.PlanNode.{PlanNode}
 use Rattle.just_sched.specs.declared.row.Row.{Row}
 use Rattle.just_sched.specs.declared.tables.Tables.{Tables}
 use Rattle.just_sched.specs.Progress.{IsPlaced, IsClosedBut, IsTold}
-use Rattle.just_sched.specs.State.{takes, gives, begins, skips, starts, start_count, concludes, concludes_well, status_of, start_of, reason_in, has_taken, has_given, is_begun, is_skipped, is_done, is_over_well, statuses, last_start, reason_of}
-use Rattle.just_sched.specs.Tables.{or_first}
+use Rattle.just_sched.specs.State.{takes, gives, begins, skips, starts, start_count, concludes, concludes_well, status_of, start_of, reason_in, has_taken, has_given, is_begun, is_skipped, is_done, is_over_well, is_confirmed, statuses, last_start, reason_of}
+use Rattle.just_sched.specs.Tables.{flag, or_first}
 
 -- the row says of the node what the history says
 pub record IsRow (h : List Event) (n : ℕ) (r : Row) : Type 0 where
@@ -49,4 +49,6 @@ pub record IsNoted (nodes : List PlanNode) (invocations : List ℕ) (h : List Ev
   pub closed : IsClosedBut nodes invocations t.progress None
   pub none : t.progress.pending.items ≡ []
   pub told : IsTold nodes invocations h t.progress
+  -- who is confirmed is flagged so
+  pub heard : (k : ℕ) → k < length t.progress.confirmed.items → is_confirmed nodes h k ≡ true → flag t.progress.confirmed.items k ≡ true
   pub left : (m : ℕ) → m < t.left → (has_taken h m || is_done h m) ≡ true

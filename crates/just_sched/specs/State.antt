@@ -216,3 +216,7 @@ pub record IsReady (nodes : List PlanNode) (invocations : List ℕ) (h : List Ev
   pub priors : (q : ℕ) → Contains (priors_at nodes n) q → IsFinished nodes h q
   pub not_taken : has_taken h n ≡ false
   pub not_done : is_done h n ≡ false
+
+-- it may go on: it is ready or to be asked
+abbrev pub IsDueNext : List PlanNode → List ℕ → List Event → ℕ → Type 0
+IsDueNext nodes invocations h n = IsReady nodes invocations h n ⊎ IsToAsk nodes invocations h n

@@ -1,6 +1,6 @@
 //! The book of a run: its history, kept legal, and the moves that go on with it.
 
-ghost use Rattle.std.specs.Prelude.{◌≡◌, ◌≢◌, ◌+◌, ◌<◌, ◌≤◌, ◌⊎◌, ℕ, Bool, true, false, List, [], ◌∷◌, ◌++◌, Option, Some, None, length, option_map, IfOk, IfErr, IfSome, IfNone, OnOk, MatchOption, MatchBool, vec_len, vec_capacity};
+ghost use Rattle.std.specs.Prelude.{◌≡◌, ◌≢◌, ◌+◌, ◌<◌, ◌≤◌, ◌||◌, ◌⊎◌, ℕ, Bool, true, false, List, [], ◌∷◌, ◌++◌, Option, Some, None, length, option_map, IfOk, IfErr, IfSome, IfNone, OnOk, MatchOption, MatchBool, vec_len, vec_capacity};
 ghost use Rattle.std.specs.Int.NonZero.{non_zero_u64_get};
 ghost use Rattle.std.proofs.Props.{props};
 ghost use Rattle.just_outside.specs.Record.{children};
@@ -9,8 +9,8 @@ ghost use Rattle.just_sched.specs.Codes.{plan_code};
 ghost use Rattle.just_sched.specs.Start.{IsKept, run_of};
 ghost use Rattle.just_sched.specs.Room.{slots, total_commands, settle_count};
 ghost use Rattle.just_sched.specs.Rows.{IsNoted};
-ghost use Rattle.just_sched.specs.Running.{running_bodies, IsNotedFor};
-ghost use Rattle.just_sched.specs.State.{IsReady, is_open, is_running, is_begun, is_over as over_of, has_taken, has_caught, caught_signal, last_start as start_of, next_step as step_of};
+ghost use Rattle.just_sched.specs.Running.{running_bodies, EachNoIsDone, IsNotedFor};
+ghost use Rattle.just_sched.specs.State.{IsToAsk, IsReady, IsDueNext, is_open, is_running, is_asked, is_begun, is_done, is_over as over_of, has_taken, has_caught, caught_signal, last_start as start_of, next_step as step_of};
 ghost use Rattle.just_sched.specs.Legal.{Run, IsClosed, IsComplete, May, open_bodies, all_starts, in_body};
 ghost use Rattle.just_sched.specs.Match.{StandsFor, IsStranger};
 ghost use Rattle.just_sched.specs.Idle.{IsIdle, CanMove, HasWork};
@@ -19,8 +19,8 @@ ghost use Rattle.just_sched.specs.Verdict.{IsVerdict};
 ghost use Rattle.just_sched.specs.Moves.{GrowsBy, IsMove, RunsWith, Rests, MatchNext};
 ghost use base.Stored.{Coded-set};
 
-use super::calls::{banner, planned, start_child, tell};
-use super::noting::note;
+use super::calls::{ask, banner, planned, prompt, start_child, tell};
+use super::noting::{note, note_answer};
 use super::room::{command_count, event_count};
 use super::row::is_running;
 use super::tables::Tables;
@@ -37,7 +37,8 @@ use std::num::NonZeroU64;
 use std::sync::ledger;
 
 /// A run that goes on: its plan, its host, and the history so far, which is legal and matches what the host's record
-/// gained since the book was opened. It has room for every event, so only the host's calls take memory.
+/// gained since the book was opened, and in which each node that was answered by a no is done. It has room for every event,
+/// so only the host's calls take memory.
 pub struct Book<H: Host + Drop, P: Naming> {
     pub plan: Plan,
     /// How many bodies may be open at once; any number where it isn't given.
@@ -59,6 +60,7 @@ pub struct Book<H: Host + Drop, P: Naming> {
     ghost sized: { tables.size ≡ length plan.nodes },
     ghost noted: { ∥ IsNoted plan.nodes plan.invocations history.items tables ∥₁ },
     ghost tallied: { settle_count history.items + tally.total ≡ all_starts history.items },
+    pub ghost answered: { EachNoIsDone history.items },
 }
 
 /// What a book takes memory for.
@@ -171,8 +173,10 @@ impl<H: Host + Drop, P: Naming> Book<H, P> {
         self.tally.audit(&mut seat.share);
     }
 
-    /// Makes one move, if there is one: the ready node of least number takes a job, and its body is begun and gone on with,
-    /// until a child runs, for which the seat gains a unit, or the job is given back. It waits for no child.
+    /// Makes one move, if there is one, of the node of least number that is ready or to be asked. One that is to be asked is
+    /// asked, and is done where its answer is no yes. A ready one takes a job, and its body is begun and gone on with, until a
+    /// child runs, for which the seat gains a unit, or the job is given back. Where each job is taken, it is the node of least
+    /// number that is to be asked. It waits for no child, but for an answer.
     pub fn next(&mut self, seat: &mut Seat<P>) -> Next<H>
         ensures plan { self.new.plan ≡ self.old.plan }
         ensures jobs { self.new.jobs ≡ self.old.jobs }
@@ -187,11 +191,19 @@ impl<H: Host + Drop, P: Naming> Book<H, P> {
         if self.is_caught() {
             return Next::Idle(Idle::Signal);
         }
-        let Some(node) = self.first_ready() else {
+        let Some((node, to_ask)) = self.first_due() else {
             return Next::Idle(Idle::Nothing);
         };
+        if to_ask {
+            self.ask(node);
+            return Next::Moved;
+        }
         if self.is_full() {
-            return Next::Idle(Idle::Jobs);
+            let Some(other) = self.first_to_ask() else {
+                return Next::Idle(Idle::Jobs);
+            };
+            self.ask(other);
+            return Next::Moved;
         }
         self.take(node);
         self.advance(seat, node)
@@ -287,16 +299,26 @@ impl<H: Host + Drop, P: Naming> Book<H, P> {
         self.caught.is_some()
     }
 
-    /// The ready node of least number.
-    fn first_ready(&mut self) -> Option<u32>
+    /// The node of least number that is ready or to be asked, and whether it is to be asked.
+    fn first_due(&mut self) -> Option<(u32, bool)>
         ensures same { (self.new.history ≡ self.old.history) × (self.new.plan ≡ self.old.plan) × (self.new.jobs ≡ self.old.jobs) × (self.new.host ≡ self.old.host) × (self.new.taken ≡ self.old.taken) × (self.new.caught ≡ self.old.caught) }
-        ensures ready { IfSome result (λ n. (n < length P.start.plan.nodes) × IsReady P.start.plan.nodes P.start.plan.invocations self.old.history.items n) }
-        ensures least { IfSome result (λ n. (m : ℕ) → m < n → IsReady P.start.plan.nodes P.start.plan.invocations self.old.history.items m → ⊥) }
-        ensures none { IfNone result ((n : ℕ) → n < length P.start.plan.nodes → IsReady P.start.plan.nodes P.start.plan.invocations self.old.history.items n → ⊥) }
+        ensures due { IfSome result (λ f. (f.0 < length P.start.plan.nodes) × MatchBool f.1 (IsToAsk P.start.plan.nodes P.start.plan.invocations self.old.history.items f.0) (IsReady P.start.plan.nodes P.start.plan.invocations self.old.history.items f.0)) }
+        ensures least { IfSome result (λ f. (m : ℕ) → m < f.0 → IsDueNext P.start.plan.nodes P.start.plan.invocations self.old.history.items m → ⊥) }
+        ensures none { IfNone result ((n : ℕ) → n < length P.start.plan.nodes → IsDueNext P.start.plan.nodes P.start.plan.invocations self.old.history.items n → ⊥) }
     {
         let plan = &self.plan;
         let history = self.history.as_slice();
-        self.tables.first_ready(plan, history)
+        self.tables.first_due(plan, history)
+    }
+
+    /// The node of least number that is to be asked.
+    fn first_to_ask(&self) -> Option<u32>
+        ensures to_ask { IfSome result (λ n. (n < length P.start.plan.nodes) × IsToAsk P.start.plan.nodes P.start.plan.invocations self.now.history.items n) }
+        ensures least { IfSome result (λ n. (m : ℕ) → m < n → IsToAsk P.start.plan.nodes P.start.plan.invocations self.now.history.items m → ⊥) }
+        ensures none { IfNone result ((n : ℕ) → n < length P.start.plan.nodes → IsToAsk P.start.plan.nodes P.start.plan.invocations self.now.history.items n → ⊥) }
+    {
+        self.tables
+            .first_to_ask(&self.plan, self.history.as_slice())
     }
 
     /// Whether each job is taken.
@@ -347,6 +369,29 @@ impl<H: Host + Drop, P: Naming> Book<H, P> {
         let row = self.tables.row(node);
         let nodes = self.plan.nodes.as_slice();
         step_behind(&nodes[node as usize].work, row.ended, row.last)
+    }
+
+    /// Asks the node. It is done where the answer is no yes, or where there is none.
+    fn ask(&mut self, node: u32)
+        requires to_ask { IsToAsk P.start.plan.nodes P.start.plan.invocations self.old.history.items node }
+        requires range { node < length P.start.plan.nodes }
+        requires calm { has_caught self.old.history.items ≡ false }
+        ensures plan { self.new.plan ≡ self.old.plan }
+        ensures jobs { self.new.jobs ≡ self.old.jobs }
+        ensures grown { GrowsBy self.old.history.items self.new.history.items node }
+        ensures asked { (is_asked self.new.history.items node || is_done self.new.history.items node) ≡ true }
+        ensures rests { Rests self.new.history.items node }
+    {
+        let plan = &self.plan;
+        match ask(&mut self.host, prompt(plan, node)) {
+            Ok(said) => note_answer(&self.plan, &mut self.history, &mut self.tables, node, said),
+            Err(reason) => note(
+                &self.plan,
+                &mut self.history,
+                &mut self.tables,
+                Event::Done(node, Outcome::Failed(reason)),
+            ),
+        }
     }
 
     /// The node's body takes a job.

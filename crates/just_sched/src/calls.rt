@@ -1,12 +1,14 @@
 //! The calls of a host that the events of a body stand for.
 
-ghost use Rattle.std.specs.Prelude.{◌≡◌, ◌<◌, ◌++◌, List, [], length, Option, false, IfOk};
+ghost use Rattle.std.specs.Prelude.{◌≡◌, ◌<◌, ◌++◌, List, [], length, Option, Some, is_some, true, false, IfOk};
 ghost use Rattle.std.specs.List.{list_any};
 ghost use Rattle.std.specs.Option.{option_copied};
+ghost use Rattle.std.specs.Str.{str_eq_ignore_ascii_case};
 ghost use Rattle.just_outside.specs.declared.entry.Entry.{Entry};
 ghost use Rattle.just_outside.specs.Record.{children, is_failed};
-ghost use Rattle.just_sched.specs.Nodes.{banner_at, command_at};
-ghost use Rattle.just_sched.specs.Gains.{TellGains, StartGains, IfRefused};
+ghost use Rattle.just_sched.specs.Match.{is_yes as confirms};
+ghost use Rattle.just_sched.specs.Nodes.{prompt_at, banner_at, command_at};
+ghost use Rattle.just_sched.specs.Gains.{TellGains, AskGains, StartGains, IfRefused};
 
 use super::{Command, Plan, Reason};
 use just_commands::command;
@@ -43,6 +45,49 @@ pub(crate) fn tell<H: Host>(host: &mut H, text: &str) -> Result<(), Reason>
         Ok(()) => Ok(()),
         Err(HostFault::Failed(_)) => Err(Reason::Fault(Call::Print)),
         Err(HostFault::Missed(_)) | Err(HostFault::NoMemory) => Err(Reason::NoMemory),
+    }
+}
+
+/// What the node asks.
+pub(crate) fn prompt(plan: &Plan, node: u32) -> &str
+    requires within { node < length plan.now.nodes }
+    requires prompted { is_some (prompt_at plan.now.nodes node) ≡ true }
+    ensures { prompt_at plan.now.nodes node ≡ Some result.now }
+{
+    match &plan.nodes.as_slice()[node as usize].prompt {
+        Some(prompt) => prompt.as_str(),
+        None => unreachable!(),
+    }
+}
+
+/// Whether the text is the word, but for the case of its letters.
+fn is_word(text: &str, word: &str) -> bool
+    ensures { result ≡ str_eq_ignore_ascii_case text.now word.now }
+{
+    text.eq_ignore_ascii_case(word)
+}
+
+/// Whether the answer to a prompt confirms.
+fn is_yes(answer: &str) -> bool
+    ensures { result ≡ confirms answer.now }
+{
+    let word = answer.trim();
+    let short = is_word(word, "y");
+    let long = is_word(word, "yes");
+    short || long
+}
+
+/// Asks a prompt; whether the answer confirms.
+pub(crate) fn ask<H: Host>(host: &mut H, prompt: &str) -> Result<bool, Reason>
+    ensures gains { (es : List Entry) × (H.entries host.new ≡ H.entries host.old ++ es) × AskGains prompt.now result es }
+    ensures world { H.world host.new ≡ H.world host.old }
+    ensures spare { H.spare host.new ≡ H.spare host.old }
+{
+    match host.ask(prompt) {
+        Ok(answer) => Ok(is_yes(answer.as_str())),
+        Err(HostFault::Failed(_)) => Err(Reason::Fault(Call::Ask)),
+        Err(HostFault::Missed(miss)) => Err(Reason::Place(Call::Ask, miss)),
+        Err(HostFault::NoMemory) => Err(Reason::NoMemory),
     }
 }
 

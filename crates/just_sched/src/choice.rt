@@ -1,9 +1,10 @@
 //! Which node a book takes next, by the flags of the nodes.
 
-ghost use Rattle.std.specs.Prelude.{◌≡◌, ◌<◌, ◌||◌, ℕ, true, false, length, IfSome, IfNone};
+ghost use Rattle.std.specs.Prelude.{◌≡◌, ◌<◌, ◌||◌, ℕ, true, false, length, IfSome, IfNone, MatchBool};
 ghost use Rattle.just_sched.specs.Rows.{IsTable};
-ghost use Rattle.just_sched.specs.Tables.{FlagsMean};
-ghost use Rattle.just_sched.specs.State.{has_taken, is_done, IsFinished, IsWanted, IsReady};
+ghost use Rattle.just_sched.specs.Running.{EachNoIsDone};
+ghost use Rattle.just_sched.specs.Tables.{FlagsAre, FlagsMean};
+ghost use Rattle.just_sched.specs.State.{has_taken, is_done, is_confirmed, IsFinished, IsWanted, IsToAsk, IsReady, IsDueNext};
 
 use super::flags::all_flagged;
 use super::row::Row;
@@ -34,20 +35,54 @@ pub(crate) fn first_left(history: &[Event], rows: &[Row], from: usize) -> usize
     rows.len()
 }
 
-/// Whether the node is ready, by the table and the flags of the wanted and the finished nodes.
+/// Whether the node is to be asked, by the table and the flags of the wanted and the confirmed nodes.
+pub(crate) fn is_to_ask(
+    plan: &Plan,
+    history: &[Event],
+    at: usize,
+    wanted: &[bool],
+    confirmed: &[bool],
+    rows: &[Row],
+) -> bool
+    requires within { at < length plan.now.nodes }
+    requires wanted_sized { length wanted.now ≡ length plan.now.nodes }
+    requires confirmed_sized { length confirmed.now ≡ length plan.now.nodes }
+    requires rows_sized { length rows.now ≡ length plan.now.nodes }
+    requires wanted { FlagsMean wanted.now (IsWanted plan.now.nodes plan.now.invocations history.now) }
+    requires confirmed { FlagsAre confirmed.now (is_confirmed plan.now.nodes history.now) }
+    requires table { ∥ IsTable history.now rows.now ∥₁ }
+    requires each_no { EachNoIsDone history.now }
+    ensures is { result ≡ true → IsToAsk plan.now.nodes plan.now.invocations history.now at }
+    ensures not_so { result ≡ false → IsToAsk plan.now.nodes plan.now.invocations history.now at → ⊥ }
+{
+    let _events = history.len();
+    let _nodes = plan.nodes.len();
+    if !wanted[at] {
+        return false;
+    }
+    if confirmed[at] {
+        return false;
+    }
+    !rows[at].done
+}
+
+/// Whether the node is ready, by the table and the flags of the wanted, the confirmed and the finished nodes.
 pub(crate) fn is_ready(
     plan: &Plan,
     history: &[Event],
     at: usize,
     wanted: &[bool],
+    confirmed: &[bool],
     rows: &[Row],
     finished: &[bool],
 ) -> bool
     requires within { at < length plan.now.nodes }
     requires wanted_sized { length wanted.now ≡ length plan.now.nodes }
+    requires confirmed_sized { length confirmed.now ≡ length plan.now.nodes }
     requires rows_sized { length rows.now ≡ length plan.now.nodes }
     requires finished_sized { length finished.now ≡ length plan.now.nodes }
     requires wanted { FlagsMean wanted.now (IsWanted plan.now.nodes plan.now.invocations history.now) }
+    requires confirmed { FlagsAre confirmed.now (is_confirmed plan.now.nodes history.now) }
     requires table { ∥ IsTable history.now rows.now ∥₁ }
     requires finished { FlagsMean finished.now (IsFinished plan.now.nodes history.now) }
     ensures is { result ≡ true → IsReady plan.now.nodes plan.now.invocations history.now at }
@@ -57,33 +92,74 @@ pub(crate) fn is_ready(
     if !wanted[at] || is_taken(history, rows, at) {
         return false;
     }
+    if !confirmed[at] {
+        return false;
+    }
     let node = &plan.nodes.as_slice()[at];
     all_flagged(node.node.priors.as_slice(), finished)
 }
 
-/// The ready node of least number, by the table and the flags of the wanted and the finished nodes. It is looked for from a
-/// node on before which each took a job or is done.
+/// The node of least number that is ready or to be asked, and whether it is to be asked, by the table and the flags of the
+/// wanted, the confirmed and the finished nodes. It is looked for from a node on before which each took a job or is done.
 pub(crate) fn first_by(
     plan: &Plan,
     history: &[Event],
     left: usize,
     wanted: &[bool],
+    confirmed: &[bool],
     rows: &[Row],
     finished: &[bool],
-) -> Option<u32>
+) -> Option<(u32, bool)>
     requires left { (m : ℕ) → m < left → (has_taken history.now m || is_done history.now m) ≡ true }
     requires wanted_sized { length wanted.now ≡ length plan.now.nodes }
+    requires confirmed_sized { length confirmed.now ≡ length plan.now.nodes }
     requires rows_sized { length rows.now ≡ length plan.now.nodes }
     requires finished_sized { length finished.now ≡ length plan.now.nodes }
     requires wanted { FlagsMean wanted.now (IsWanted plan.now.nodes plan.now.invocations history.now) }
+    requires confirmed { FlagsAre confirmed.now (is_confirmed plan.now.nodes history.now) }
     requires table { ∥ IsTable history.now rows.now ∥₁ }
     requires finished { FlagsMean finished.now (IsFinished plan.now.nodes history.now) }
-    ensures ready { IfSome result (λ n. (n < length plan.now.nodes) × IsReady plan.now.nodes plan.now.invocations history.now n) }
-    ensures least { IfSome result (λ n. (m : ℕ) → m < n → IsReady plan.now.nodes plan.now.invocations history.now m → ⊥) }
-    ensures none { IfNone result ((n : ℕ) → n < length plan.now.nodes → IsReady plan.now.nodes plan.now.invocations history.now n → ⊥) }
+    requires each_no { EachNoIsDone history.now }
+    requires took { (n : ℕ) → has_taken history.now n ≡ true → is_confirmed plan.now.nodes history.now n ≡ true }
+    ensures due { IfSome result (λ f. (f.0 < length plan.now.nodes) × MatchBool f.1 (IsToAsk plan.now.nodes plan.now.invocations history.now f.0) (IsReady plan.now.nodes plan.now.invocations history.now f.0)) }
+    ensures least { IfSome result (λ f. (m : ℕ) → m < f.0 → IsDueNext plan.now.nodes plan.now.invocations history.now m → ⊥) }
+    ensures none { IfNone result ((n : ℕ) → n < length plan.now.nodes → IsDueNext plan.now.nodes plan.now.invocations history.now n → ⊥) }
 {
     for at in left..plan.nodes.len() {
-        if is_ready(plan, history, at, wanted, rows, finished) {
+        if is_to_ask(plan, history, at, wanted, confirmed, rows) {
+            return Some((at as u32, true));
+        }
+        if is_ready(plan, history, at, wanted, confirmed, rows, finished) {
+            return Some((at as u32, false));
+        }
+    }
+    None
+}
+
+/// The node of least number that is to be asked, from a node on before which each took a job or is done.
+pub(crate) fn first_asked_by(
+    plan: &Plan,
+    history: &[Event],
+    left: usize,
+    wanted: &[bool],
+    confirmed: &[bool],
+    rows: &[Row],
+) -> Option<u32>
+    requires left { (m : ℕ) → m < left → (has_taken history.now m || is_done history.now m) ≡ true }
+    requires wanted_sized { length wanted.now ≡ length plan.now.nodes }
+    requires confirmed_sized { length confirmed.now ≡ length plan.now.nodes }
+    requires rows_sized { length rows.now ≡ length plan.now.nodes }
+    requires wanted { FlagsMean wanted.now (IsWanted plan.now.nodes plan.now.invocations history.now) }
+    requires confirmed { FlagsAre confirmed.now (is_confirmed plan.now.nodes history.now) }
+    requires table { ∥ IsTable history.now rows.now ∥₁ }
+    requires each_no { EachNoIsDone history.now }
+    requires took { (n : ℕ) → has_taken history.now n ≡ true → is_confirmed plan.now.nodes history.now n ≡ true }
+    ensures to_ask { IfSome result (λ n. (n < length plan.now.nodes) × IsToAsk plan.now.nodes plan.now.invocations history.now n) }
+    ensures least { IfSome result (λ n. (m : ℕ) → m < n → IsToAsk plan.now.nodes plan.now.invocations history.now m → ⊥) }
+    ensures none { IfNone result ((n : ℕ) → n < length plan.now.nodes → IsToAsk plan.now.nodes plan.now.invocations history.now n → ⊥) }
+{
+    for at in left..plan.nodes.len() {
+        if is_to_ask(plan, history, at, wanted, confirmed, rows) {
             return Some(at as u32);
         }
     }

@@ -5,7 +5,7 @@ ghost use Rattle.just_sched.specs.declared.event.Event.{Event};
 ghost use Rattle.just_sched.specs.Nodes.{parallel_at, priors_at, subsequents_at};
 ghost use Rattle.just_sched.specs.Tables.{flag, FlagsAre};
 ghost use Rattle.just_sched.specs.State.{is_over_well};
-ghost use Rattle.just_sched.specs.Led.{IsRaised, IsLed, AllFinished, AllWanted, KeepsWanted};
+ghost use Rattle.just_sched.specs.Led.{IsRaised, IsLed, ArePriorsLed, AllFinished, AllWanted, KeepsWanted};
 ghost use Rattle.just_sched.specs.Progress.{IsPlaced, IsClosedBut, IsTold};
 
 use super::Plan;
@@ -47,7 +47,7 @@ impl Progress {
         requires size { self.old.size ≡ length plan.now.nodes }
         requires placed { IsPlaced plan.now.nodes plan.now.invocations self.old }
         ensures size { self.new.size ≡ self.old.size }
-        ensures same { (self.new.over ≡ self.old.over) × (self.new.finished ≡ self.old.finished) }
+        ensures same { (self.new.over ≡ self.old.over) × (self.new.finished ≡ self.old.finished) × (self.new.confirmed ≡ self.old.confirmed) }
         ensures placed { IsPlaced plan.now.nodes plan.now.invocations self.new }
         ensures led { IsLed self.new.finished.items self.new.wanted.items false (subsequents_at plan.now.nodes at) }
         ensures raised { IsRaised self.old.wanted.items self.new.wanted.items self.old.pending.items self.new.pending.items }
@@ -76,18 +76,20 @@ impl Progress {
         requires within { at < length plan.now.nodes }
         requires size { self.old.size ≡ length plan.now.nodes }
         requires placed { IsPlaced plan.now.nodes plan.now.invocations self.old }
-        requires priors { (m : ℕ) → flag self.old.wanted.items m ≡ true → Contains self.old.pending.items m ⊎ IsLed self.old.finished.items self.old.wanted.items (parallel_at plan.now.nodes m) (priors_at plan.now.nodes m) }
+        requires priors { ArePriorsLed (parallel_at plan.now.nodes) (priors_at plan.now.nodes) self.old.finished.items self.old.confirmed.items self.old.wanted.items self.old.pending.items }
         ensures size { self.new.size ≡ self.old.size }
         ensures over { self.new.over ≡ self.old.over }
+        ensures confirmed { self.new.confirmed ≡ self.old.confirmed }
         ensures finished { self.new.finished.items ≡ slice_set self.old.finished.items at true }
         ensures placed { IsPlaced plan.now.nodes plan.now.invocations self.new }
         ensures invocations { IsLed self.new.finished.items self.new.wanted.items false plan.now.invocations }
-        ensures priors { (m : ℕ) → flag self.new.wanted.items m ≡ true → Contains self.new.pending.items m ⊎ IsLed self.new.finished.items self.new.wanted.items (parallel_at plan.now.nodes m) (priors_at plan.now.nodes m) }
+        ensures priors { ArePriorsLed (parallel_at plan.now.nodes) (priors_at plan.now.nodes) self.new.finished.items self.new.confirmed.items self.new.wanted.items self.new.pending.items }
         ensures raised { IsRaised self.old.wanted.items self.new.wanted.items self.old.pending.items self.new.pending.items }
-        ensures wanted { KeepsWanted plan.now.nodes plan.now.invocations self.new.finished.items self.old.wanted.items self.new.wanted.items }
+        ensures wanted { KeepsWanted plan.now.nodes plan.now.invocations self.new.finished.items self.old.confirmed.items self.old.wanted.items self.new.wanted.items }
     {
         let finished = self.finished.as_mut_slice();
         finished[at] = true;
+        let confirmed = self.confirmed.as_slice();
         let wanted = self.wanted.as_mut_slice();
         let place = lead(
             plan.invocations.as_slice(),
@@ -102,6 +104,7 @@ impl Progress {
             plan,
             self.dependents[at].as_slice(),
             finished,
+            confirmed,
             wanted,
             places,
             &mut self.pending,
@@ -117,7 +120,7 @@ impl Progress {
         requires closed { IsClosedBut plan.now.nodes plan.now.invocations self.old (Some at) }
         ensures size { self.new.size ≡ self.old.size }
         ensures less { IfSome result (λ p. p < at) }
-        ensures over { self.new.over ≡ self.old.over }
+        ensures confirmed { self.new.confirmed ≡ self.old.confirmed }
         ensures placed { IsPlaced plan.now.nodes plan.now.invocations self.new }
         ensures closed { IsClosedBut plan.now.nodes plan.now.invocations self.new result }
         ensures told { (h : List Event) → IsTold plan.now.nodes plan.now.invocations h self.old → IsTold plan.now.nodes plan.now.invocations h self.new }
@@ -141,6 +144,7 @@ impl Progress {
         requires placed { IsPlaced plan.now.nodes plan.now.invocations self.old }
         requires closed { IsClosedBut plan.now.nodes plan.now.invocations self.old (Some from) }
         ensures size { self.new.size ≡ self.old.size }
+        ensures confirmed { self.new.confirmed ≡ self.old.confirmed }
         ensures placed { IsPlaced plan.now.nodes plan.now.invocations self.new }
         ensures closed { IsClosedBut plan.now.nodes plan.now.invocations self.new None }
         ensures told { (h : List Event) → IsTold plan.now.nodes plan.now.invocations h self.old → IsTold plan.now.nodes plan.now.invocations h self.new }

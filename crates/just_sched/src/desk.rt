@@ -5,7 +5,7 @@ ghost use Rattle.std.specs.List.{list_any};
 ghost use Rattle.just_sched.specs.Idle.{IsIdle};
 ghost use Rattle.just_sched.specs.Legal.{open_bodies};
 ghost use Rattle.just_sched.specs.Moves.{MatchNext};
-ghost use Rattle.just_sched.specs.Running.{EachOpenRuns, EachNoIsDone};
+ghost use Rattle.just_sched.specs.Running.{EachOpenRuns};
 ghost use Rattle.just_sched.specs.Start.{run_of};
 ghost use Rattle.just_sched.specs.State.{is_open};
 
@@ -13,12 +13,11 @@ use super::{Book, Naming, Next, OpenBody, Seat, WaitedBody};
 use just_outside::Host;
 
 /// A book each open body of which runs a child. The book's own facts hold with it: the history is legal, it matches what
-/// the host's record gained, no more bodies are open than there are jobs, and the told world is as it was where nothing was
+/// the host's record gained, each node that was answered by a no is done, no more bodies are open than there are jobs, and the told world is as it was where nothing was
 /// started and no call failed.
 pub struct Desk<H: Host + Drop, P: Naming> {
     pub book: Book<H, P>,
     ghost each_runs: { EachOpenRuns book.history.items },
-    ghost each_no: { EachNoIsDone book.history.items },
 }
 
 impl<H: Host + Drop, P: Naming> Desk<H, P> {

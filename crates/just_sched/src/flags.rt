@@ -1,8 +1,8 @@
-//! Flags of nodes, and the node that an event shows to be over well. Nothing here takes memory.
+//! Flags of nodes, and the node that an event shows to be over well or confirmed. Nothing here takes memory.
 
 ghost use Rattle.std.specs.Prelude.{◌≡◌, ◌||◌, ◌<◌, ℕ, true, false, length, Contains, slice_index};
 ghost use Rattle.just_sched.specs.Tables.{flag, InRange};
-ghost use Rattle.just_sched.specs.State.{names, skips, concludes_well};
+ghost use Rattle.just_sched.specs.State.{names, answers, skips, concludes_well};
 
 use super::{Event, Outcome};
 
@@ -12,6 +12,16 @@ pub(crate) fn over_by(event: &Event) -> Option<u32>
 {
     match event {
         Event::Skipped(node) | Event::Done(node, Outcome::Well) => Some(*node),
+        _ => None,
+    }
+}
+
+/// The node whose prompt the event shows to be answered by a yes.
+pub(crate) fn confirmed_by(event: &Event) -> Option<u32>
+    ensures { (n : ℕ) → names result n ≡ answers true n event.now }
+{
+    match event {
+        Event::Asked(node, true) => Some(*node),
         _ => None,
     }
 }

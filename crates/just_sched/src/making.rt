@@ -1,15 +1,15 @@
-//! The making of what is kept of a run's progress, and the noting of a node that is over well.
+//! The making of what is kept of a run's progress, and the noting of a node that is over well or confirmed.
 
 ghost use Rattle.std.specs.Prelude.{◌≡◌, ◌+◌, ◌<◌, ◌≤◌, ◌⊎◌, ◌||◌, ℕ, [], true, false, Some, None, IfOk, List, length, slice_index, slice_set, map, slice_index_or, Contains, vec_len, vec_capacity};
 ghost use Rattle.just_sched.specs.declared.event.Event.{Event};
 ghost use Rattle.just_sched.specs.Nodes.{priors_at};
-ghost use Rattle.just_sched.specs.Tables.{FlagsAre};
-ghost use Rattle.just_sched.specs.State.{is_over_well, names};
-ghost use Rattle.just_sched.specs.Led.{AllFinished, AllWanted};
+ghost use Rattle.just_sched.specs.Tables.{flag, FlagsAre};
+ghost use Rattle.just_sched.specs.State.{is_over_well, is_confirmed, names};
+ghost use Rattle.just_sched.specs.Led.{AllFinished, AllConfirmed, AllWanted};
 ghost use Rattle.just_sched.specs.Progress.{IsPlaced, IsClosedBut, IsTold};
 
 use super::Plan;
-use super::descent::descend;
+use super::descent::{descend, lead_priors};
 use super::progress::Progress;
 use super::spread::{lead, want_all};
 use just_path::NoMemory;
@@ -43,6 +43,19 @@ fn dependents_of(alloc: Global, plan: &Plan) -> Result<Vec<Vec<u32>>, NoMemory>
     Ok(lists)
 }
 
+/// For each node, whether it has no prompt.
+fn unprompted(alloc: Global, plan: &Plan) -> Result<Vec<bool>, NoMemory>
+    ensures len { IfOk result (λ v. vec_len v ≡ length plan.now.nodes) }
+    ensures flags { IfOk result (λ v. FlagsAre v.items (is_confirmed plan.now.nodes [])) }
+{
+    let nodes = plan.nodes.as_slice();
+    let mut flags = Vec::with_capacity(alloc, nodes.len())?;
+    for at in 0..nodes.len() {
+        flags.push(nodes[at].prompt.is_none())?;
+    }
+    Ok(flags)
+}
+
 impl Progress {
     /// Notes that a node is over well, by which its subsequents may come next; what follows from it is left to do.
     fn enter(&mut self, plan: &Plan, node: usize)
@@ -51,9 +64,10 @@ impl Progress {
         requires placed { IsPlaced plan.now.nodes plan.now.invocations self.old }
         requires closed { IsClosedBut plan.now.nodes plan.now.invocations self.old None }
         ensures size { self.new.size ≡ self.old.size }
+        ensures confirmed { self.new.confirmed ≡ self.old.confirmed }
         ensures placed { IsPlaced plan.now.nodes plan.now.invocations self.new }
         ensures closed { IsClosedBut plan.now.nodes plan.now.invocations self.new (Some node) }
-        ensures told { (h : List Event) → FlagsAre (slice_set self.old.over.items node true) (is_over_well h) → AllFinished plan.now.nodes h self.old.finished.items → AllWanted plan.now.nodes plan.now.invocations h self.old.wanted.items → IsTold plan.now.nodes plan.now.invocations h self.new }
+        ensures told { (h : List Event) → FlagsAre (slice_set self.old.over.items node true) (is_over_well h) → AllFinished plan.now.nodes h self.old.finished.items → AllConfirmed plan.now.nodes h self.old.confirmed.items → AllWanted plan.now.nodes plan.now.invocations h self.old.wanted.items → IsTold plan.now.nodes plan.now.invocations h self.new }
     {
         let over = self.over.as_mut_slice();
         over[node] = true;
@@ -71,15 +85,17 @@ impl Progress {
         requires placed { IsPlaced plan.now.nodes plan.now.invocations self.old }
         requires closed { IsClosedBut plan.now.nodes plan.now.invocations self.old None }
         ensures size { self.new.size ≡ self.old.size }
+        ensures confirmed { self.new.confirmed ≡ self.old.confirmed }
         ensures placed { IsPlaced plan.now.nodes plan.now.invocations self.new }
         ensures closed { IsClosedBut plan.now.nodes plan.now.invocations self.new None }
         ensures none { self.new.pending.items ≡ [] }
         ensures told { (h : List Event) → IsTold plan.now.nodes plan.now.invocations h self.old → IsTold plan.now.nodes plan.now.invocations h self.new }
     {
         let finished = self.finished.as_slice();
+        let confirmed = self.confirmed.as_slice();
         let wanted = self.wanted.as_mut_slice();
         let places = self.priors.as_mut_slice();
-        descend(plan, finished, wanted, places, &mut self.pending);
+        descend(plan, finished, confirmed, wanted, places, &mut self.pending);
     }
 
     /// Notes that a node is over well, and all that follows from it.
@@ -89,10 +105,11 @@ impl Progress {
         requires placed { IsPlaced plan.now.nodes plan.now.invocations self.old }
         requires closed { IsClosedBut plan.now.nodes plan.now.invocations self.old None }
         ensures size { self.new.size ≡ self.old.size }
+        ensures confirmed { self.new.confirmed ≡ self.old.confirmed }
         ensures placed { IsPlaced plan.now.nodes plan.now.invocations self.new }
         ensures closed { IsClosedBut plan.now.nodes plan.now.invocations self.new None }
         ensures none { self.new.pending.items ≡ [] }
-        ensures told { (h : List Event) → FlagsAre (slice_set self.old.over.items node true) (is_over_well h) → AllFinished plan.now.nodes h self.old.finished.items → AllWanted plan.now.nodes plan.now.invocations h self.old.wanted.items → IsTold plan.now.nodes plan.now.invocations h self.new }
+        ensures told { (h : List Event) → FlagsAre (slice_set self.old.over.items node true) (is_over_well h) → AllFinished plan.now.nodes h self.old.finished.items → AllConfirmed plan.now.nodes h self.old.confirmed.items → AllWanted plan.now.nodes plan.now.invocations h self.old.wanted.items → IsTold plan.now.nodes plan.now.invocations h self.new }
     {
         self.enter(plan, node);
         self.climb(plan, node);
@@ -105,10 +122,11 @@ impl Progress {
         requires placed { IsPlaced plan.now.nodes plan.now.invocations self.old }
         requires closed { IsClosedBut plan.now.nodes plan.now.invocations self.old None }
         ensures size { self.new.size ≡ self.old.size }
+        ensures confirmed { self.new.confirmed ≡ self.old.confirmed }
         ensures placed { IsPlaced plan.now.nodes plan.now.invocations self.new }
         ensures closed { IsClosedBut plan.now.nodes plan.now.invocations self.new None }
         ensures none { self.old.pending.items ≡ [] → self.new.pending.items ≡ [] }
-        ensures told { (h later : List Event) → ((n : ℕ) → is_over_well later n ≡ (is_over_well h n || names over n)) → IsTold plan.now.nodes plan.now.invocations h self.old → IsTold plan.now.nodes plan.now.invocations later self.new }
+        ensures told { (h later : List Event) → ((n : ℕ) → is_over_well later n ≡ (is_over_well h n || names over n)) → ((n : ℕ) → is_confirmed plan.now.nodes h n ≡ true → is_confirmed plan.now.nodes later n ≡ true) → IsTold plan.now.nodes plan.now.invocations h self.old → IsTold plan.now.nodes plan.now.invocations later self.new }
     {
         let Some(node) = over else {
             return;
@@ -119,12 +137,64 @@ impl Progress {
         }
     }
 
+    /// Notes that a node's prompt was answered by a yes, by which its priors may come next where it is wanted.
+    fn confirm(&mut self, plan: &Plan, at: usize)
+        requires within { at < length plan.now.nodes }
+        requires size { self.old.size ≡ length plan.now.nodes }
+        requires placed { IsPlaced plan.now.nodes plan.now.invocations self.old }
+        requires closed { IsClosedBut plan.now.nodes plan.now.invocations self.old None }
+        ensures size { self.new.size ≡ self.old.size }
+        ensures confirmed { self.new.confirmed.items ≡ slice_set self.old.confirmed.items at true }
+        ensures placed { IsPlaced plan.now.nodes plan.now.invocations self.new }
+        ensures closed { IsClosedBut plan.now.nodes plan.now.invocations self.new None }
+        ensures told { (h : List Event) → is_confirmed plan.now.nodes h at ≡ true → IsTold plan.now.nodes plan.now.invocations h self.old → IsTold plan.now.nodes plan.now.invocations h self.new }
+    {
+        let confirmed = self.confirmed.as_mut_slice();
+        confirmed[at] = true;
+        let finished = self.finished.as_slice();
+        let wanted = self.wanted.as_mut_slice();
+        let places = self.priors.as_mut_slice();
+        lead_priors(
+            plan,
+            at,
+            plan.nodes.as_slice()[at].parallel,
+            finished,
+            confirmed,
+            wanted,
+            places,
+            &mut self.pending,
+        );
+    }
+
+    /// The same of a node that an event shows to be confirmed, if it shows one and the plan has it, and all that follows from it.
+    pub(crate) fn hear(&mut self, plan: &Plan, said: Option<u32>)
+        requires size { self.old.size ≡ length plan.now.nodes }
+        requires placed { IsPlaced plan.now.nodes plan.now.invocations self.old }
+        requires closed { IsClosedBut plan.now.nodes plan.now.invocations self.old None }
+        ensures size { self.new.size ≡ self.old.size }
+        ensures heard { (k : ℕ) → k < length self.new.confirmed.items → (flag self.old.confirmed.items k || names said k) ≡ true → flag self.new.confirmed.items k ≡ true }
+        ensures placed { IsPlaced plan.now.nodes plan.now.invocations self.new }
+        ensures closed { IsClosedBut plan.now.nodes plan.now.invocations self.new None }
+        ensures none { self.old.pending.items ≡ [] → self.new.pending.items ≡ [] }
+        ensures told { (h : List Event) → ((n : ℕ) → names said n ≡ true → is_confirmed plan.now.nodes h n ≡ true) → IsTold plan.now.nodes plan.now.invocations h self.old → IsTold plan.now.nodes plan.now.invocations h self.new }
+    {
+        let Some(node) = said else {
+            return;
+        };
+        let at = node as usize;
+        if at < self.size {
+            self.confirm(plan, at);
+            self.clear_pending(plan);
+        }
+    }
+
     /// Nothing is over well, finished or wanted, and no list is begun.
     fn blank(alloc: Global, plan: &Plan) -> Result<Progress, NoMemory>
         ensures size { IfOk result (λ p. p.size ≡ length plan.now.nodes) }
         ensures placed { IfOk result (λ p. IsPlaced plan.now.nodes plan.now.invocations p) }
         ensures over { IfOk result (λ p. FlagsAre p.over.items (λ _. false)) }
         ensures finished { IfOk result (λ p. FlagsAre p.finished.items (λ _. false)) }
+        ensures confirmed { IfOk result (λ p. FlagsAre p.confirmed.items (is_confirmed plan.now.nodes [])) }
         ensures wanted { IfOk result (λ p. FlagsAre p.wanted.items (λ _. false)) }
         ensures invoked { IfOk result (λ p. p.invocations ≡ 0) }
         ensures none { IfOk result (λ p. p.pending.items ≡ []) }
@@ -132,6 +202,7 @@ impl Progress {
         let count = plan.nodes.len();
         let over = vec![in alloc; false; count]?;
         let finished = vec![in alloc; false; count]?;
+        let confirmed = unprompted(alloc, plan)?;
         let wanted = vec![in alloc; false; count]?;
         let priors = vec![in alloc; 0; count]?;
         let subsequents = vec![in alloc; 0; count]?;
@@ -140,6 +211,7 @@ impl Progress {
         Ok(Progress {
             over,
             finished,
+            confirmed,
             wanted,
             priors,
             subsequents,
@@ -157,6 +229,7 @@ impl Progress {
         ensures closed { IfOk result (λ p. IsClosedBut plan.now.nodes plan.now.invocations p None) }
         ensures none { IfOk result (λ p. p.pending.items ≡ []) }
         ensures told { IfOk result (λ p. IsTold plan.now.nodes plan.now.invocations [] p) }
+        ensures heard { IfOk result (λ p. FlagsAre p.confirmed.items (is_confirmed plan.now.nodes [])) }
     {
         let mut progress = Progress::blank(alloc, plan)?;
         progress.invite(plan);
@@ -170,8 +243,10 @@ impl Progress {
         requires placed { IsPlaced plan.now.nodes plan.now.invocations self.old }
         requires over { FlagsAre self.old.over.items (λ _. false) }
         requires finished { FlagsAre self.old.finished.items (λ _. false) }
+        requires confirmed { FlagsAre self.old.confirmed.items (is_confirmed plan.now.nodes []) }
         requires wanted { FlagsAre self.old.wanted.items (λ _. false) }
         ensures size { self.new.size ≡ self.old.size }
+        ensures confirmed { self.new.confirmed ≡ self.old.confirmed }
         ensures placed { IsPlaced plan.now.nodes plan.now.invocations self.new }
         ensures closed { IsClosedBut plan.now.nodes plan.now.invocations self.new None }
         ensures told { IsTold plan.now.nodes plan.now.invocations [] self.new }

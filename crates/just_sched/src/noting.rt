@@ -1,19 +1,21 @@
 //! What a book notes in its tables, and what it reads there. Only the making of the tables takes memory.
 
-ghost use Rattle.std.specs.Prelude.{◌≡◌, ◌&&◌, not, ◌<◌, ◌++◌, ◌∷◌, [], ℕ, false, length, vec_len, vec_capacity, slice_index_or, IfOk, IfSome, IfNone};
+ghost use Rattle.std.specs.Prelude.{◌≡◌, ◌&&◌, not, ◌+◌, ◌<◌, ◌≤◌, ◌++◌, ◌∷◌, [], ℕ, true, false, length, vec_len, vec_capacity, slice_index_or, IfOk, IfSome, IfNone, MatchBool};
 ghost use Rattle.just_sched.specs.Rows.{IsNoted};
-ghost use Rattle.just_sched.specs.State.{is_open as opened, caught_signal, IsReady};
+ghost use Rattle.just_sched.specs.Running.{EachNoIsDone};
+ghost use Rattle.just_sched.specs.State.{is_open as opened, has_taken, is_confirmed, caught_signal, IsToAsk, IsReady, IsDueNext};
 ghost use Rattle.just_sched.specs.NodeStates.{IsState};
 ghost use Rattle.just_sched.specs.Legal.{Run};
+ghost use Rattle.just_sched.specs.Moves.{answer_events};
 ghost use Rattle.just_sched.specs.Verdict.{IsVerdict};
 
-use super::choice::{first_by, first_left, is_ready};
-use super::flags::over_by;
+use super::choice::{first_asked_by, first_by, first_left, is_ready, is_to_ask};
+use super::flags::{confirmed_by, over_by};
 use super::progress::Progress;
 use super::row::{BLANK, Row, mark};
 use super::tables::Tables;
 use super::verdict::verdict_by;
-use super::{Event, NodeState, Plan, Verdict};
+use super::{Event, NodeState, Outcome, Plan, Reason, Verdict};
 use just_outside::Signal;
 use just_path::NoMemory;
 use std::alloc::Global;
@@ -51,15 +53,17 @@ impl Tables {
         self.rows.as_slice()[node as usize]
     }
 
-    /// The ready node of least number. It takes no memory.
-    pub(crate) fn first_ready(&mut self, plan: &Plan, history: &[Event]) -> Option<u32>
+    /// The node of least number that is ready or to be asked, and whether it is to be asked. It takes no memory.
+    pub(crate) fn first_due(&mut self, plan: &Plan, history: &[Event]) -> Option<(u32, bool)>
         requires size { self.old.size ≡ length plan.now.nodes }
         requires noted { ∥ IsNoted plan.now.nodes plan.now.invocations history.now self.old ∥₁ }
+        requires each_no { EachNoIsDone history.now }
+        requires took { (n : ℕ) → has_taken history.now n ≡ true → is_confirmed plan.now.nodes history.now n ≡ true }
         ensures size { self.new.size ≡ self.old.size }
         ensures noted { ∥ IsNoted plan.now.nodes plan.now.invocations history.now self.new ∥₁ }
-        ensures ready { IfSome result (λ n. (n < length plan.now.nodes) × IsReady plan.now.nodes plan.now.invocations history.now n) }
-        ensures least { IfSome result (λ n. (m : ℕ) → m < n → IsReady plan.now.nodes plan.now.invocations history.now m → ⊥) }
-        ensures none { IfNone result ((n : ℕ) → n < length plan.now.nodes → IsReady plan.now.nodes plan.now.invocations history.now n → ⊥) }
+        ensures due { IfSome result (λ f. (f.0 < length plan.now.nodes) × MatchBool f.1 (IsToAsk plan.now.nodes plan.now.invocations history.now f.0) (IsReady plan.now.nodes plan.now.invocations history.now f.0)) }
+        ensures least { IfSome result (λ f. (m : ℕ) → m < f.0 → IsDueNext plan.now.nodes plan.now.invocations history.now m → ⊥) }
+        ensures none { IfNone result ((n : ℕ) → n < length plan.now.nodes → IsDueNext plan.now.nodes plan.now.invocations history.now n → ⊥) }
     {
         let left = first_left(history, self.rows.as_slice(), self.left);
         self.left = left;
@@ -69,8 +73,30 @@ impl Tables {
             history,
             left,
             progress.wanted.as_slice(),
+            progress.confirmed.as_slice(),
             self.rows.as_slice(),
             progress.finished.as_slice(),
+        )
+    }
+
+    /// The node of least number that is to be asked. It takes no memory.
+    pub(crate) fn first_to_ask(&self, plan: &Plan, history: &[Event]) -> Option<u32>
+        requires size { self.now.size ≡ length plan.now.nodes }
+        requires noted { ∥ IsNoted plan.now.nodes plan.now.invocations history.now self.now ∥₁ }
+        requires each_no { EachNoIsDone history.now }
+        requires took { (n : ℕ) → has_taken history.now n ≡ true → is_confirmed plan.now.nodes history.now n ≡ true }
+        ensures to_ask { IfSome result (λ n. (n < length plan.now.nodes) × IsToAsk plan.now.nodes plan.now.invocations history.now n) }
+        ensures least { IfSome result (λ n. (m : ℕ) → m < n → IsToAsk plan.now.nodes plan.now.invocations history.now m → ⊥) }
+        ensures none { IfNone result ((n : ℕ) → n < length plan.now.nodes → IsToAsk plan.now.nodes plan.now.invocations history.now n → ⊥) }
+    {
+        let progress = &self.progress;
+        first_asked_by(
+            plan,
+            history,
+            self.left,
+            progress.wanted.as_slice(),
+            progress.confirmed.as_slice(),
+            self.rows.as_slice(),
         )
     }
 
@@ -79,11 +105,13 @@ impl Tables {
         requires within { node < length plan.now.nodes }
         requires size { self.now.size ≡ length plan.now.nodes }
         requires noted { ∥ IsNoted plan.now.nodes plan.now.invocations history.now self.now ∥₁ }
+        requires each_no { EachNoIsDone history.now }
         ensures { IsState plan.now.nodes plan.now.invocations history.now node result }
     {
         let at = node as usize;
         let rows = self.rows.as_slice();
         let finished = self.progress.finished.as_slice();
+        let confirmed = self.progress.confirmed.as_slice();
         let wanted = self.progress.wanted.as_slice();
         let row = rows[at];
         if row.reason.is_some() {
@@ -94,7 +122,9 @@ impl Tables {
             NodeState::Over
         } else if is_open(row) {
             NodeState::Open
-        } else if is_ready(plan, history, at, wanted, rows, finished) {
+        } else if is_to_ask(plan, history, at, wanted, confirmed, rows) {
+            NodeState::ToAsk
+        } else if is_ready(plan, history, at, wanted, confirmed, rows, finished) {
             NodeState::Ready
         } else {
             NodeState::Waiting
@@ -131,6 +161,33 @@ pub(crate) fn note(plan: &Plan, history: &mut Vec<Event>, tables: &mut Tables, e
 {
     mark(&mut tables.rows, &event);
     let over = over_by(&event);
+    let said = confirmed_by(&event);
     history.push_reserved(event);
     tables.progress.go_on(plan, over);
+    tables.progress.hear(plan, said);
+}
+
+/// Adds what a node's answer comes to, to a history with room for it, and notes it in the tables: that it was asked, and
+/// where the answer is a no, that it is done.
+pub(crate) fn note_answer(
+    plan: &Plan,
+    history: &mut Vec<Event>,
+    tables: &mut Tables,
+    node: u32,
+    said: bool,
+)
+    requires room { vec_len history.old + length (answer_events node said) ≤ vec_capacity history.old }
+    requires size { tables.old.size ≡ length plan.now.nodes }
+    requires noted { ∥ IsNoted plan.now.nodes plan.now.invocations history.old.items tables.old ∥₁ }
+    ensures items { history.new.items ≡ history.old.items ++ answer_events node said }
+    ensures capacity { vec_capacity history.new ≡ vec_capacity history.old }
+    ensures size { tables.new.size ≡ tables.old.size }
+    ensures noted { ∥ IsNoted plan.now.nodes plan.now.invocations history.new.items tables.new ∥₁ }
+{
+    note(plan, history, tables, Event::Asked(node, said));
+    if said {
+        return;
+    }
+    let refused = Outcome::Failed(Reason::NotConfirmed);
+    note(plan, history, tables, Event::Done(node, refused));
 }

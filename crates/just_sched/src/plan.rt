@@ -1,6 +1,6 @@
 //! The plan of a run.
 
-ghost use Rattle.std.specs.Prelude.{◌≡◌, ◌^◌, ◌<◌, ◌≤◌, ℕ, length, map, All, is_none, true};
+ghost use Rattle.std.specs.Prelude.{◌≡◌, ◌^◌, ◌<◌, ◌≤◌, ℕ, length, map, All};
 ghost use Rattle.just_closure.specs.WellFormed.{IsWellFormed};
 ghost use Rattle.just_commands.specs.Steps.{commands_of};
 
@@ -8,7 +8,7 @@ use super::PlanNode;
 use just_path::Seq;
 
 /// The nodes that a request runs, a node's number being its place, and those that were asked for. Each plan is well
-/// formed. No node of it has a prompt yet, since hosts don't ask yet.
+/// formed.
 #[derive(Debug, Drop)]
 pub struct Plan {
     pub nodes: Seq<PlanNode>,
@@ -16,5 +16,4 @@ pub struct Plan {
     pub ghost well: { ∥ IsWellFormed (map (λ x. x.node) nodes) invocations ∥₁ },
     pub ghost few: { length nodes < 2 ^ 32 },
     pub ghost short: { ∥ All (λ x. length (commands_of x.work) < 2 ^ 32) nodes ∥₁ },
-    pub ghost unprompted: { ∥ All (λ x. is_none x.prompt ≡ true) nodes ∥₁ },
 }

@@ -12,6 +12,8 @@ use super::spread::{lead, lead_all};
 pub(crate) struct Progress {
     pub over: Vec<bool>,
     pub finished: Vec<bool>,
+    /// Which nodes have no prompt, or one that was answered by a yes.
+    pub confirmed: Vec<bool>,
     pub wanted: Vec<bool>,
     /// How many of a node's priors, in front of the others, are known to be finished.
     pub priors: Vec<usize>,
@@ -21,11 +23,12 @@ pub(crate) struct Progress {
     pub invocations: usize,
     /// The nodes that have a node as a prior.
     pub dependents: Vec<Vec<u32>>,
-    /// Wanted nodes whose priors aren't yet looked at.
+    /// Wanted nodes whose priors aren't yet looked at; those of a confirmed one may come next.
     pub pending: Vec<u32>,
     pub size: usize,
     pub ghost over_sized: { vec_len over ≡ size },
     pub ghost finished_sized: { vec_len finished ≡ size },
+    pub ghost confirmed_sized: { vec_len confirmed ≡ size },
     pub ghost wanted_sized: { vec_len wanted ≡ size },
     pub ghost priors_sized: { vec_len priors ≡ size },
     pub ghost subsequents_sized: { vec_len subsequents ≡ size },

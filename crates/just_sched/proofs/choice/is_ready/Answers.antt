@@ -1,10 +1,10 @@
 -- A node is ready where its flags say so.
-use Rattle.std.proofs.Common.{◌≡◌, ℕ, ◌<◌, ◌||◌, Bool, true, false, List, arith, subst, sym, ap, ◌∙◌, refl}
+use Rattle.std.proofs.Common.{◌≡◌, ℕ, ◌<◌, ◌||◌, Bool, true, false, true≢false, List, arith, subst, sym, ap, ◌∙◌, refl}
 use Rattle.std.specs.Prelude.{slice_index, Contains}
 use Rattle.just_sched.specs.Nodes.{priors_at}
 use Rattle.just_sched.specs.State.{has_taken, is_done}
 use Rattle.just_sched.specs.Tables.{InRange}
-use Rattle.just_sched.proofs.PlanLaws.{priors_read, contains_at, confirmed_all}
+use Rattle.just_sched.proofs.PlanLaws.{priors_read, contains_at}
 use Rattle.just_sched.proofs.WantedLaws.{priors_within, priors_below}
 use Rattle.just_sched.proofs.choice.is_ready.Goals as goal
 use Rattle.just_sched.proofs.choice.is_ready.Goals.{After-as_slice-2}
@@ -30,7 +30,7 @@ returns-clause-is c = λ e.
     let apart = or_parts (has_taken c.args.history.now c.args.at) (is_done c.args.history.now c.args.at) (sym c.if-is_taken.ensures) in
     record {
       wanted = (c.requires.wanted c.args.at (omega (arith, c.requires.within, c.requires.wanted_sized))).0 c.if-not-wanted-at.false;
-      confirmed = confirmed_all plan.nodes c.args.history.now c.args.at plan.unprompted;
+      confirmed = sym (c.requires.confirmed c.args.at (omega (arith, c.requires.within, c.requires.confirmed_sized))) ∙ c.if-not-confirmed-at.false;
       priors = λ q at_prior.
           let below : q < c.args.at = priors_below plan.nodes plan.invocations plan.well c.args.at q at_prior in
           (c.requires.finished q (omega (arith, c.requires.within, c.requires.finished_sized))).0
@@ -47,3 +47,7 @@ returns-clause-not_so c = λ e ready.
     let at_prior = subst (λ (xs : List ℕ). Contains xs q) (are (goal.at.returns-clause-not_so c).After-as_slice-2) (contains_at c.as_slice-2.result.now j lt) in
     let below : q < c.args.at = priors_below plan.nodes plan.invocations plan.well c.args.at q at_prior in
     (c.requires.finished q (omega (arith, c.requires.within, c.requires.finished_sized))).1 down (ready.priors q at_prior)
+
+pub returns-then-not-confirmed-at-clause-not_so : goal.returns-then-not-confirmed-at-clause-not_so
+returns-then-not-confirmed-at-clause-not_so c = λ _ ready.
+    true≢false (sym ready.confirmed ∙ sym (c.requires.confirmed c.args.at (omega (arith, c.requires.within, c.requires.confirmed_sized))) ∙ c.if-not-confirmed-at.true)

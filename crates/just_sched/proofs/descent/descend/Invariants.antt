@@ -1,9 +1,9 @@
 -- What is known of the flags, of the places and of the list as pending nodes are taken from it.
-use Rattle.std.proofs.Common.{◌≡◌, ◌+◌, ℕ, ◌≤◌, ◌⊎◌, true, length}
-use Rattle.std.specs.Prelude.{Contains, vec_capacity}
+use Rattle.std.proofs.Common.{◌≡◌, ◌+◌, ℕ, ◌≤◌, true, length}
+use Rattle.std.specs.Prelude.{vec_capacity}
 use Rattle.just_sched.specs.Nodes.{parallel_at, priors_at}
 use Rattle.just_sched.specs.Tables.{flag}
-use Rattle.just_sched.specs.Led.{down_count, IsLed, AreUp, AreBefore, KeepsWanted}
+use Rattle.just_sched.specs.Led.{down_count, ArePriorsLed, AreUp, AreBefore, KeepsWanted}
 use Rattle.just_sched.proofs.descent.descend.Given as goal
 
 abbrev pub invariant-loop-next : goal.invariant-loop-next
@@ -13,9 +13,9 @@ invariant-loop-next l = record {
   listed : AreUp l.wanted l.pending.items;
   before : AreBefore (priors_at l.plan.nodes) l.finished l.wanted l.places;
   room : length l.pending.items + down_count l.wanted ≤ vec_capacity l.pending;
-  led : (m : ℕ) → flag l.wanted m ≡ true → Contains l.pending.items m ⊎ IsLed l.finished l.wanted (parallel_at l.plan.nodes m) (priors_at l.plan.nodes m);
+  led : ArePriorsLed (parallel_at l.plan.nodes) (priors_at l.plan.nodes) l.finished l.confirmed l.wanted l.pending.items;
   keeps : (k : ℕ) → flag l.initial.wanted k ≡ true → flag l.wanted k ≡ true;
-  wanted : KeepsWanted l.plan.nodes l.plan.invocations l.finished l.initial.wanted l.wanted;
+  wanted : KeepsWanted l.plan.nodes l.plan.invocations l.finished l.confirmed l.initial.wanted l.wanted;
   capacity : vec_capacity l.pending ≡ vec_capacity l.initial.pending;
 }
 

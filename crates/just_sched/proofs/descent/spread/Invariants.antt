@@ -12,8 +12,8 @@ invariant-loop-node l = record {
   places : length l.places ≡ length l.plan.nodes;
   listed : AreUp l.wanted l.pending.items;
   before : AreBefore (priors_at l.plan.nodes) l.finished l.wanted l.places;
-  led : (j : ℕ) → j < l.node-index → flag l.wanted (slice_index l.nodes j) ≡ true → Contains l.pending.items (slice_index l.nodes j) ⊎ IsLed l.finished l.wanted false (priors_at l.plan.nodes (slice_index l.nodes j));
+  led : (j : ℕ) → j < l.node-index → flag l.wanted (slice_index l.nodes j) ≡ true → flag l.confirmed (slice_index l.nodes j) ≡ true → Contains l.pending.items (slice_index l.nodes j) ⊎ IsLed l.finished l.wanted false (priors_at l.plan.nodes (slice_index l.nodes j));
   raised : IsRaised l.initial.wanted l.wanted l.initial.pending.items l.pending.items;
-  wanted : KeepsWanted l.plan.nodes l.plan.invocations l.finished l.initial.wanted l.wanted;
+  wanted : KeepsWanted l.plan.nodes l.plan.invocations l.finished l.confirmed l.initial.wanted l.wanted;
   capacity : vec_capacity l.pending ≡ vec_capacity l.initial.pending;
 }

@@ -1,6 +1,7 @@
 -- A book that was opened, run until it is idle, and closed is a run that was driven.
 use Rattle.std.proofs.Common.{ap, sym, ◌∙◌, subst}
 use Rattle.just_sched.specs.Legal.{IsClosed}
+use Rattle.just_sched.specs.Running.{EachNoIsDone}
 use Rattle.just_sched.specs.Start.{run_of}
 use Rattle.just_sched.specs.State.{is_open}
 use Rattle.just_sched.specs.Idle.{IsIdle}
@@ -26,5 +27,5 @@ returns-clause-driven g c =
       idle = (i, is);
       nothing_left = left;
       verdict = c.close.ensures.verdict;
-      complete = well_complete s d.history _ _ d.verdict c.close.ensures.kept closed left c.close.ensures.verdict;
+      complete = well_complete s d.history _ _ d.verdict c.close.ensures.kept (subst EachNoIsDone (sym c.close.ensures.history) c.into_book.result.answered) closed left c.close.ensures.verdict;
     }

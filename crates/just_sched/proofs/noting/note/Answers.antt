@@ -1,8 +1,10 @@
 -- An event is noted where it is added, and the run's progress goes on by it.
-use Rattle.std.proofs.Common.{◌≡◌, true, arith, sym, subst, ap, ◌∙◌, ◌||◌}
+use Rattle.std.proofs.Common.{◌≡◌, ℕ, true, arith, sym, subst, ap, ◌∙◌, ◌||◌}
 use Rattle.std.proofs.Math.Logic.{∥∥₁_map}
 use Rattle.just_sched.specs.Rows.{IsTable}
-use Rattle.just_sched.specs.State.{skips, concludes_well, is_over_well, has_taken, is_done}
+use Rattle.just_sched.specs.Tables.{flag}
+use Rattle.just_sched.proofs.OneMore.{confirmed_kept, confirmed_new, confirmed_was}
+use Rattle.just_sched.specs.State.{names, skips, concludes_well, is_over_well, is_confirmed, has_taken, is_done}
 use Rattle.just_sched.proofs.Plainly.{placed_of, closed_of}
 use Rattle.just_sched.proofs.RowLaws.{few_ended, few_starts}
 use Rattle.just_sched.proofs.TablesLaws.{rows_of, left_kept}
@@ -27,9 +29,15 @@ returns-clause-noted c =
     let grew = c.push_reserved.ensures.items in
     ∥∥₁_map c.requires.noted (λ n. record {
       rows = subst (λ k. IsTable k c.mark.new.rows.items) (sym grew) (c.mark.ensures.table h n.rows);
-      placed = c.go_on.ensures.placed;
-      closed = c.go_on.ensures.closed;
-      none = c.go_on.ensures.none n.none;
-      told = c.go_on.ensures.told h _ (λ k. ap (λ l. is_over_well l k) grew ∙ any_more (λ x. skips k x || concludes_well k x) h c.args.event ∙ ap (λ b. is_over_well h k || b) (sym (c.over_by-over.ensures k))) n.told;
+      placed = c.hear.ensures.placed;
+      closed = c.hear.ensures.closed;
+      none = c.hear.ensures.none (c.go_on.ensures.none n.none);
+      told =
+          let later = λ (k : ℕ) (sure : is_confirmed c.args.plan.now.nodes h k ≡ true). subst (λ l. is_confirmed c.args.plan.now.nodes l k ≡ true) (sym grew) (confirmed_kept c.args.plan.now.nodes h c.args.event k sure) in
+          c.hear.ensures.told _ (λ k named. subst (λ l. is_confirmed c.args.plan.now.nodes l k ≡ true) (sym grew) (confirmed_new c.args.plan.now.nodes h c.args.event k (sym (c.confirmed_by-said.ensures k) ∙ named)))
+          (c.go_on.ensures.told h _ (λ k. ap (λ l. is_over_well l k) grew ∙ any_more (λ x. skips k x || concludes_well k x) h c.args.event ∙ ap (λ b. is_over_well h k || b) (sym (c.over_by-over.ensures k))) later n.told);
+      heard = λ k lt sure. c.hear.ensures.heard k lt
+          (confirmed_was c.args.plan.now.nodes h c.args.event k (flag c.go_on.new.self.confirmed.items k) (names c.confirmed_by-said.result k) (c.confirmed_by-said.ensures k)
+          (λ was. subst (λ v. flag v.items k ≡ true) (sym c.go_on.ensures.confirmed) (n.heard k (omega (arith, lt, c.hear.new.self.confirmed_sized, c.hear.ensures.size, c.go_on.ensures.size, c.args.tables.now.progress.confirmed_sized)) was)) (subst (λ l. is_confirmed c.args.plan.now.nodes l k ≡ true) grew sure));
       left = λ m lt. subst (λ k. (has_taken k m || is_done k m) ≡ true) (sym grew) (left_kept h c.args.event m (n.left m lt));
     })

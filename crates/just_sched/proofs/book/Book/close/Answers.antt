@@ -2,6 +2,7 @@
 use Rattle.std.proofs.Common.{◌<◌, List, length, ap, sym, ◌∙◌, subst, inr}
 use Rattle.just_sched.specs.declared.plan_node.PlanNode.{PlanNode}
 use Rattle.just_sched.specs.Rows.{IsNoted}
+use Rattle.just_sched.specs.Running.{EachNoIsDone}
 use Rattle.just_sched.specs.Start.{IsKept, run_of}
 use Rattle.just_sched.specs.State.{is_open, caught_signal}
 use Rattle.just_sched.specs.Verdict.{IsVerdict}
@@ -32,4 +33,4 @@ returns-clause-verdict g c =
 
 pub returns-clause-complete : goal.returns-clause-complete
 returns-clause-complete g c = λ well nothing.
-    well_complete g.P.Naming.start _ _ _ c.verdict-verdict.result (returns-clause-kept g c) (λ n lt. ap (λ h. is_open h n) c.from.ensures ∙ c.requires n lt) (inr nothing) (returns-clause-verdict g c) well
+    well_complete g.P.Naming.start _ _ _ c.verdict-verdict.result (returns-clause-kept g c) (subst EachNoIsDone (sym c.from.ensures) c.args.self.answered) (λ n lt. ap (λ h. is_open h n) c.from.ensures ∙ c.requires n lt) (inr nothing) (returns-clause-verdict g c) well

@@ -2,6 +2,7 @@
 use Rattle.std.proofs.Common.{arith, refl, ◌∙◌, eq-eqb}
 use Rattle.just_sched.specs.declared.event.Event.TheVariants as event
 use Rattle.just_sched.proofs.Accounts.{room_for, noted_alone}
+use Rattle.just_sched.proofs.Asking.{no_kept}
 use Rattle.just_sched.proofs.Grows.{grows_one}
 use Rattle.just_sched.proofs.Behind.{open_as, over_now}
 use Rattle.just_sched.specs.Start.{run_of}
@@ -30,3 +31,6 @@ pub invariant_of-self-clause-tallied : goal.invariant_of-self-clause-tallied
 invariant_of-self-clause-tallied g c =
     let s = c.args.self.now in
     tally_done s.history.items _ c.args.node c.args.outcome _ c.note.ensures.items (silent_end (run_of g.P.Naming.start) s.history.items c.args.node c.args.outcome c.requires.stands) s.tallied
+
+pub invariant_of-self-clause-answered : goal.invariant_of-self-clause-answered
+invariant_of-self-clause-answered g c = no_kept c.args.self.now.history.items _ (event.Done c.args.node c.args.outcome) c.note.ensures.items (λ k. refl) c.args.self.now.answered

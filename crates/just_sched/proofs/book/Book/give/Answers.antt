@@ -2,6 +2,7 @@
 use Rattle.std.proofs.Common.{arith, refl, ◌∙◌, eq-eqb}
 use Rattle.just_sched.specs.declared.event.Event.TheVariants as event
 use Rattle.just_sched.proofs.Accounts.{some_taken, room_for, noted_alone, over_rests}
+use Rattle.just_sched.proofs.Asking.{no_kept}
 use Rattle.just_sched.proofs.Grows.{grows_one}
 use Rattle.just_sched.proofs.Behind.{gave_closes, running_as}
 use Rattle.just_sched.proofs.Tallies.{tally_more}
@@ -31,3 +32,6 @@ returns-clause-rests g c =
 
 pub invariant_of-self-clause-tallied : goal.invariant_of-self-clause-tallied
 invariant_of-self-clause-tallied g c = tally_more c.args.self.now.history.items _ (event.Gave c.args.node) _ _ c.note.ensures.items c.args.self.now.tallied refl
+
+pub invariant_of-self-clause-answered : goal.invariant_of-self-clause-answered
+invariant_of-self-clause-answered g c = no_kept c.args.self.now.history.items _ (event.Gave c.args.node) c.note.ensures.items (λ k. refl) c.args.self.now.answered

@@ -3,6 +3,7 @@ use Rattle.std.proofs.Common.{◌≡◌, ◌+◌, arith, ap, sym, ◌∙◌, sub
 use Rattle.just_sched.specs.Legal.{all_starts}
 use Rattle.just_sched.specs.Room.{slots, total_commands, settle_count}
 use Rattle.just_sched.specs.Rows.{IsNoted}
+use Rattle.just_sched.specs.Running.{EachNoIsDone}
 use Rattle.just_sched.specs.declared.plan.Plan.{Plan}
 use Rattle.just_sched.proofs.Accounts.{account_none}
 use Rattle.just_sched.proofs.book.Book.open.Goals as goal
@@ -26,3 +27,6 @@ invariant_of-book-clause-noted g c =
 pub invariant_of-book-clause-tallied : goal.invariant_of-book-clause-tallied
 invariant_of-book-clause-tallied g c =
     subst (λ h. settle_count h + c.open-tally.result.0.total ≡ all_starts h) (sym c.in-Ok.ensures.empty) (omega (arith, c.open-tally.ensures.total))
+
+pub invariant_of-book-clause-answered : goal.invariant_of-book-clause-answered
+invariant_of-book-clause-answered g c = subst EachNoIsDone (sym c.in-Ok.ensures.empty) (λ n a. absurd (cc a))

@@ -5,6 +5,7 @@ use Rattle.just_sched.specs.declared.event.Event.TheVariants as event
 use Rattle.just_sched.specs.declared.event.Outcome.TheVariants as outcome
 use Rattle.just_sched.specs.declared.event.Reason.TheVariants as reason
 use Rattle.just_sched.proofs.Accounts.{inside_running, room_for, settle_room_for, spared_of, noted}
+use Rattle.just_sched.proofs.Asking.{no_kept}
 use Rattle.just_sched.proofs.Grows.{grows_one}
 use Rattle.just_sched.proofs.Settling.{settled_ok, settled_err}
 use Rattle.just_sched.proofs.Behind.{done_now, done_rests, ended_rests, running_started}
@@ -67,3 +68,9 @@ pub invariant_of-self-in-Err-clause-tallied : goal.invariant_of-self-in-Err-clau
 invariant_of-self-in-Err-clause-tallied g c =
     let s = c.args.self.now in
     tally_more s.history.items _ (event.Done c.args.node (outcome.Failed (reason.Fault call.Wait))) s.tally.total _ c.note-in-Err.ensures.items s.tallied (omega (arith, c.sub.ensures.total))
+
+pub invariant_of-self-clause-answered : goal.invariant_of-self-clause-answered
+invariant_of-self-clause-answered g c = no_kept c.args.self.now.history.items _ (event.Ended c.args.node c.place-place.result c.args.child c.in-Ok.status) c.note.ensures.items (λ k. refl) c.args.self.now.answered
+
+pub invariant_of-self-in-Err-clause-answered : goal.invariant_of-self-in-Err-clause-answered
+invariant_of-self-in-Err-clause-answered g c = no_kept c.args.self.now.history.items _ (event.Done c.args.node (outcome.Failed (reason.Fault call.Wait))) c.note-in-Err.ensures.items (λ k. refl) c.args.self.now.answered

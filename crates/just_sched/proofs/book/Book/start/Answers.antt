@@ -7,6 +7,7 @@ use Rattle.just_sched.specs.Start.{run_of}
 use Rattle.just_sched.specs.declared.event.Event.TheVariants as event
 use Rattle.just_sched.specs.declared.event.Outcome.TheVariants as outcome
 use Rattle.just_sched.proofs.Accounts.{fresh_child, room_for, noted}
+use Rattle.just_sched.proofs.Asking.{no_kept}
 use Rattle.just_sched.proofs.Gained.{start_stands, start_fails, started_not_none}
 use Rattle.just_sched.proofs.Grows.{grows_one}
 use Rattle.just_sched.proofs.Behind.{open_as, over_now, place_fits, started_runs}
@@ -72,3 +73,9 @@ pub invariant_of-self-in-Err-clause-tallied : goal.invariant_of-self-in-Err-clau
 invariant_of-self-in-Err-clause-tallied g c =
     let s = c.args.self.now in
     tally_done s.history.items _ c.args.node (outcome.Failed c.in-Err.reason) _ c.note-in-Err.ensures.items (unstarted_end g.H.Host.child_number c.in-Some.command.now c.args.node c.in-Err.reason c.in-Err.ensures.gains.0 c.in-Err.ensures.gains.2) s.tallied
+
+pub invariant_of-self-clause-answered : goal.invariant_of-self-clause-answered
+invariant_of-self-clause-answered g c = no_kept c.args.self.now.history.items _ (event.Started c.args.node c.args.place c.number-child.result) c.note.ensures.items (λ k. refl) c.args.self.now.answered
+
+pub invariant_of-self-in-Err-clause-answered : goal.invariant_of-self-in-Err-clause-answered
+invariant_of-self-in-Err-clause-answered g c = no_kept c.args.self.now.history.items _ (event.Done c.args.node (outcome.Failed c.in-Err.reason)) c.note-in-Err.ensures.items (λ k. refl) c.args.self.now.answered

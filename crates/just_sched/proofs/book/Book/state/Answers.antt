@@ -3,6 +3,7 @@ use Rattle.std.proofs.Common.{length, arith, ap, sym, subst}
 use Rattle.just_sched.specs.declared.plan.Plan.{Plan}
 use Rattle.just_sched.specs.NodeStates.{IsState}
 use Rattle.just_sched.specs.Rows.{IsNoted}
+use Rattle.just_sched.specs.Running.{EachNoIsDone}
 use Rattle.just_sched.proofs.book.Book.state.Goals as goal
 
 pub state-requires-clause-within : goal.state-requires-clause-within
@@ -20,3 +21,6 @@ returns g c =
     let s = c.args.self.now in
     subst (λ (p : Plan). IsState p.nodes p.invocations s.history.items c.args.node c.state.result) s.plan_named
     (subst (λ h. IsState s.plan.nodes s.plan.invocations h c.args.node c.state.result) c.as_slice.ensures.value c.state.ensures)
+
+pub state-requires-clause-each_no : goal.state-requires-clause-each_no
+state-requires-clause-each_no g c = subst EachNoIsDone (sym c.as_slice.ensures.value) c.args.self.now.answered

@@ -3,6 +3,7 @@ use Rattle.std.proofs.Common.{arith, refl, ap, ◌∙◌, eq-eqb}
 use Rattle.just_sched.specs.State.{takes, has_taken}
 use Rattle.just_sched.specs.declared.event.Event.TheVariants as event
 use Rattle.just_sched.proofs.Accounts.{counted_few, room_for, noted_alone, not_given, not_running}
+use Rattle.just_sched.proofs.Asking.{no_kept}
 use Rattle.just_sched.proofs.Grows.{grows_one}
 use Rattle.just_sched.proofs.Behind.{running_as, took_opens}
 use Rattle.just_sched.proofs.Tests.{any_now}
@@ -39,3 +40,6 @@ returns-clause-still g c =
 
 pub invariant_of-self-clause-tallied : goal.invariant_of-self-clause-tallied
 invariant_of-self-clause-tallied g c = tally_more c.args.self.now.history.items _ (event.Took c.args.node) _ _ c.note.ensures.items c.args.self.now.tallied refl
+
+pub invariant_of-self-clause-answered : goal.invariant_of-self-clause-answered
+invariant_of-self-clause-answered g c = no_kept c.args.self.now.history.items _ (event.Took c.args.node) c.note.ensures.items (λ k. refl) c.args.self.now.answered

@@ -5,7 +5,7 @@ use Rattle.std.specs.Prelude.{Contains}
 use Rattle.std.specs.Vec.{with_items}
 use Rattle.just_sched.specs.Nodes.{priors_at, parallel_at}
 use Rattle.just_sched.specs.Tables.{flag}
-use Rattle.just_sched.specs.Led.{down_count, IsLed, AreBefore, AllWanted}
+use Rattle.just_sched.specs.Led.{down_count, IsLed, ArePriorsLed, AreBefore, AllWanted}
 use Rattle.just_sched.proofs.Clearing.{placed_cleared, closed_cleared}
 use Rattle.just_sched.proofs.progress.Progress.clear_pending.Goals as goal
 use Rattle.just_sched.proofs.progress.Progress.clear_pending.Goals.{After-descend}
@@ -24,7 +24,7 @@ returns-clause-placed c =
     let plan = c.args.plan.now in
     let self = c.args.self.now in
     let here = (goal.at.returns-clause-placed c).After-descend in
-    placed_cleared plan.nodes plan.invocations self _ refl c.descend.ensures.none (keeps_are here) refl refl refl
+    placed_cleared plan.nodes plan.invocations self _ refl refl c.descend.ensures.none (keeps_are here) refl refl refl
     (subst (λ (f : List Bool). AreBefore (priors_at plan.nodes) f (with_items self.wanted c.descend.new.wanted).items (with_items self.priors c.descend.new.places).items) c.as_slice-finished.ensures.value
     (subst (λ (w : List Bool). AreBefore (priors_at plan.nodes) c.as_slice-finished.result.now w (with_items self.priors c.descend.new.places).items) (wanted_are here)
     (subst (λ (places : List ℕ). AreBefore (priors_at plan.nodes) c.as_slice-finished.result.now c.descend.new.wanted places) (sym (with_items_is self.priors c.descend.new.places (omega (arith, c.descend.auto.places, c.as_mut_slice-places.ensures.len)))) c.descend.ensures.before)))
@@ -35,9 +35,10 @@ returns-clause-closed c =
     let plan = c.args.plan.now in
     let self = c.args.self.now in
     let here = (goal.at.returns-clause-closed c).After-descend in
-    closed_cleared plan.nodes plan.invocations self _ refl c.descend.ensures.none (keeps_are here) refl
-    (subst (λ (f : List Bool). (m : ℕ) → flag (with_items self.wanted c.descend.new.wanted).items m ≡ true → IsLed f (with_items self.wanted c.descend.new.wanted).items (parallel_at plan.nodes m) (priors_at plan.nodes m)) c.as_slice-finished.ensures.value
-    (subst (λ (w : List Bool). (m : ℕ) → flag w m ≡ true → IsLed c.as_slice-finished.result.now w (parallel_at plan.nodes m) (priors_at plan.nodes m)) (wanted_are here) c.descend.ensures.led))
+    closed_cleared plan.nodes plan.invocations self _ refl refl c.descend.ensures.none (keeps_are here) refl
+    (subst (λ (f : List Bool). (m : ℕ) → flag (with_items self.wanted c.descend.new.wanted).items m ≡ true → flag self.confirmed.items m ≡ true → IsLed f (with_items self.wanted c.descend.new.wanted).items (parallel_at plan.nodes m) (priors_at plan.nodes m)) c.as_slice-finished.ensures.value
+    (subst (λ (w : List Bool). (m : ℕ) → flag w m ≡ true → flag self.confirmed.items m ≡ true → IsLed c.as_slice-finished.result.now w (parallel_at plan.nodes m) (priors_at plan.nodes m)) (wanted_are here)
+    (subst (λ (s : List Bool). (m : ℕ) → flag c.descend.new.wanted m ≡ true → flag s m ≡ true → IsLed c.as_slice-finished.result.now c.descend.new.wanted (parallel_at plan.nodes m) (priors_at plan.nodes m)) c.as_slice-confirmed.ensures.value c.descend.ensures.led)))
     c.requires.closed
 
 pub returns-clause-told : goal.returns-clause-told
@@ -48,8 +49,10 @@ returns-clause-told c = λ h told.
     record {
       over = told.over;
       finished = told.finished;
+      confirmed = told.confirmed;
       wanted = subst (λ (w : List Bool). AllWanted plan.nodes plan.invocations h w) (wanted_are here)
           (c.descend.ensures.wanted h (λ k up. told.finished k (subst (λ (f : List Bool). flag f k ≡ true) c.as_slice-finished.ensures.value up))
+          (λ k up. told.confirmed k (subst (λ (s : List Bool). flag s k ≡ true) c.as_slice-confirmed.ensures.value up))
           (λ k up. told.wanted k (subst (λ (w : List Bool). flag w k ≡ true) c.as_mut_slice-wanted.ensures.value up)));
     }
 
@@ -57,5 +60,6 @@ pub descend-requires-clause-led : goal.descend-requires-clause-led
 descend-requires-clause-led c =
     let plan = c.args.plan.now in
     let self = c.args.self.now in
-    subst (λ (f : List Bool). (m : ℕ) → flag c.as_mut_slice-wanted.result.now m ≡ true → Contains self.pending.items m ⊎ IsLed f c.as_mut_slice-wanted.result.now (parallel_at plan.nodes m) (priors_at plan.nodes m)) (sym c.as_slice-finished.ensures.value)
-    (subst (λ (w : List Bool). (m : ℕ) → flag w m ≡ true → Contains self.pending.items m ⊎ IsLed self.finished.items w (parallel_at plan.nodes m) (priors_at plan.nodes m)) (sym c.as_mut_slice-wanted.ensures.value) c.requires.closed.priors)
+    subst (λ (f : List Bool). ArePriorsLed (parallel_at plan.nodes) (priors_at plan.nodes) f c.as_slice-confirmed.result.now c.as_mut_slice-wanted.result.now self.pending.items) (sym c.as_slice-finished.ensures.value)
+    (subst (λ (s : List Bool). ArePriorsLed (parallel_at plan.nodes) (priors_at plan.nodes) self.finished.items s c.as_mut_slice-wanted.result.now self.pending.items) (sym c.as_slice-confirmed.ensures.value)
+    (subst (λ (w : List Bool). ArePriorsLed (parallel_at plan.nodes) (priors_at plan.nodes) self.finished.items self.confirmed.items w self.pending.items) (sym c.as_mut_slice-wanted.ensures.value) c.requires.closed.priors))

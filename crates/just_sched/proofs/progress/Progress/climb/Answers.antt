@@ -13,6 +13,7 @@ loop-next-preserved c =
     record {
       within = below_too c.rise-next.result c.in-Some.at n (subst (λ (o : Option ℕ). IfSome o (λ k. k < n)) c.in-Some.is c.loop-next.invariant.within) c.rise-next.ensures.less;
       size = c.rise-next.ensures.size ∙ c.loop-next.invariant.size;
+      confirmed = c.rise-next.ensures.confirmed ∙ c.loop-next.invariant.confirmed;
       placed = c.rise-next.ensures.placed;
       closed = c.rise-next.ensures.closed;
       told = λ h told. c.rise-next.ensures.told h (c.loop-next.invariant.told h told);

@@ -9,6 +9,7 @@ abbrev pub invariant-loop-next : goal.invariant-loop-next
 invariant-loop-next l = record {
   within : IfSome l.next (λ n. n < length l.plan.nodes);
   size : l.self.size ≡ l.fn.self.size;
+  confirmed : l.self.confirmed ≡ l.fn.self.confirmed;
   placed : IsPlaced l.plan.nodes l.plan.invocations l.self;
   closed : IsClosedBut l.plan.nodes l.plan.invocations l.self l.next;
   told : (h : List Event) → IsTold l.plan.nodes l.plan.invocations h l.fn.self → IsTold l.plan.nodes l.plan.invocations h l.self;

@@ -48,18 +48,18 @@ returns-clause-closed c =
     let self = c.args.self.now in
     let here = (goal.at.returns-clause-closed c).After-want_all in
     let same = are (goal.at.returns-clause-closed c).After-as_slice-2 in
-    entered plan.nodes plan.invocations self _ c.args.node (omega (arith, c.requires.within, self.over_sized, c.requires.size)) (over_are here) refl (raised_is here)
+    entered plan.nodes plan.invocations self _ c.args.node (omega (arith, c.requires.within, self.over_sized, c.requires.size)) (over_are here) refl refl (raised_is here)
     (λ _. subst (λ (w : List Bool). IsLed self.finished.items w true (subsequents_at plan.nodes c.args.node)) (wanted_are here)
     (subst (λ (xs : List ℕ). IsLed self.finished.items c.want_all.new.wanted true xs) same (led_all self.finished.items c.want_all.new.wanted c.as_slice-2.result.now c.want_all.ensures.flagged)))
     c.requires.closed
 
 pub returns-clause-told : goal.returns-clause-told
-returns-clause-told c = λ h over done are_wanted.
+returns-clause-told c = λ h over done said are_wanted.
     let plan = c.args.plan.now in
     let self = c.args.self.now in
     let here = (goal.at.returns-clause-told c).After-want_all in
     let place = (goal.at.returns-clause-told c).After-as_slice-2 in
-    told_entered plan.nodes plan.invocations self _ c.args.node (omega (arith, c.requires.within, self.over_sized, c.requires.size)) (over_are here) refl (raised_is here) h over done are_wanted
+    told_entered plan.nodes plan.invocations self _ c.args.node (omega (arith, c.requires.within, self.over_sized, c.requires.size)) (over_are here) refl refl (raised_is here) h over done said are_wanted
     (subst (λ (w : List Bool). (k : ℕ) → flag w k ≡ true → (flag self.wanted.items k ≡ true) ⊎ ((parallel_at plan.nodes c.args.node ≡ true) × Contains (subsequents_at plan.nodes c.args.node) k)) (wanted_are here)
     (λ k up. ⊎_elim (λ (was : flag c.as_mut_slice-wanted.result.now k ≡ true). inl (subst (λ (w : List Bool). flag w k ≡ true) c.as_mut_slice-wanted.ensures.value was))
     (λ (at : Contains c.as_slice-2.result.now k). inr (together place, subst (λ (xs : List ℕ). Contains xs k) (are place) at))

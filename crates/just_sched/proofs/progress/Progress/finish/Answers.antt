@@ -7,7 +7,7 @@ use Rattle.std.specs.Vec.{with_items}
 use Rattle.just_sched.specs.Nodes.{priors_at, subsequents_at, parallel_at}
 use Rattle.just_sched.specs.Progress.{dependents_at}
 use Rattle.just_sched.specs.Tables.{flag, InRange}
-use Rattle.just_sched.specs.Led.{IsBefore, IsRaised, MayFollow, IsLed, AreBefore, KeepsWanted, place_of}
+use Rattle.just_sched.specs.Led.{IsBefore, IsRaised, MayFollow, IsLed, ArePriorsLed, AreBefore, KeepsWanted, place_of}
 use Rattle.just_sched.proofs.Closing.{flag_kept}
 use Rattle.just_sched.proofs.Finishing.{priors_finished, wanted_invoked}
 use Rattle.just_sched.proofs.Led.{led_to, led_on, raised_on}
@@ -97,10 +97,10 @@ returns-clause-priors c =
     let f = set c.as_mut_slice-finished.result.now c.args.at true in
     let g = set self.finished.items c.args.at true in
     let w = c.spread.new.wanted in
-    let led = subst (λ (v : List Bool). (j : ℕ) → j < length c.as_slice-2.result.now → flag w (slice_index c.as_slice-2.result.now j) ≡ true → Contains c.spread.new.pending.items (slice_index c.as_slice-2.result.now j) ⊎ IsLed v w false (priors_at plan.nodes (slice_index c.as_slice-2.result.now j))) (finished_are here) c.spread.ensures.led in
-    subst (λ (v : List Bool). (m : ℕ) → flag v m ≡ true → Contains c.spread.new.pending.items m ⊎ IsLed (with_items self.finished f).items v (parallel_at plan.nodes m) (priors_at plan.nodes m)) (sym (with_items_is self.wanted w (wanted_are here)))
-    (subst (λ (v : List Bool). (m : ℕ) → flag w m ≡ true → Contains c.spread.new.pending.items m ⊎ IsLed v w (parallel_at plan.nodes m) (priors_at plan.nodes m)) (sym (finished_are here) ∙ sym (with_items_is self.finished f (set_are here)))
-    (priors_finished plan.nodes self.finished.items self.wanted.items w self.pending.items c.spread.new.pending.items (raised_is here) c.args.at c.as_slice-2.result.now
+    let led = subst (λ (v : List Bool). (j : ℕ) → j < length c.as_slice-2.result.now → flag w (slice_index c.as_slice-2.result.now j) ≡ true → flag self.confirmed.items (slice_index c.as_slice-2.result.now j) ≡ true → Contains c.spread.new.pending.items (slice_index c.as_slice-2.result.now j) ⊎ IsLed v w false (priors_at plan.nodes (slice_index c.as_slice-2.result.now j))) (finished_are here) (subst (λ (s : List Bool). (j : ℕ) → j < length c.as_slice-2.result.now → flag w (slice_index c.as_slice-2.result.now j) ≡ true → flag s (slice_index c.as_slice-2.result.now j) ≡ true → Contains c.spread.new.pending.items (slice_index c.as_slice-2.result.now j) ⊎ IsLed f w false (priors_at plan.nodes (slice_index c.as_slice-2.result.now j))) c.as_slice-confirmed.ensures.value c.spread.ensures.led) in
+    subst (λ (v : List Bool). ArePriorsLed (parallel_at plan.nodes) (priors_at plan.nodes) (with_items self.finished f).items self.confirmed.items v c.spread.new.pending.items) (sym (with_items_is self.wanted w (wanted_are here)))
+    (subst (λ (v : List Bool). ArePriorsLed (parallel_at plan.nodes) (priors_at plan.nodes) v self.confirmed.items w c.spread.new.pending.items) (sym (finished_are here) ∙ sym (with_items_is self.finished f (set_are here)))
+    (priors_finished plan.nodes self.finished.items self.confirmed.items self.wanted.items w self.pending.items c.spread.new.pending.items (raised_is here) c.args.at c.as_slice-2.result.now
     (λ m at. subst (λ (xs : List ℕ). Contains xs m) (sym same) (c.requires.placed.dependents m c.args.at at)) led c.requires.priors))
 
 pub returns-clause-raised : goal.returns-clause-raised
@@ -118,6 +118,6 @@ returns-clause-wanted c =
     let w = c.spread.new.wanted in
     let only = subst (λ (xs : List ℕ). (k : ℕ) → flag c.lead-place.new.wanted k ≡ true → (flag self.wanted.items k ≡ true) ⊎ MayFollow f false xs k) c.as_slice.ensures
     (subst (λ (v : List Bool). (k : ℕ) → flag c.lead-place.new.wanted k ≡ true → (flag v k ≡ true) ⊎ MayFollow f false c.as_slice.result.now k) c.as_mut_slice-wanted.ensures.value c.lead-place.ensures.only) in
-    subst (λ (v : List Bool). KeepsWanted plan.nodes plan.invocations v self.wanted.items (with_items self.wanted w).items) (sym (with_items_is self.finished f (set_are here)))
-    (subst (λ (v : List Bool). KeepsWanted plan.nodes plan.invocations f self.wanted.items v) (sym (with_items_is self.wanted w (wanted_are here)))
-    (wanted_on plan.nodes plan.invocations f self.wanted.items c.lead-place.new.wanted w (wanted_invoked plan.nodes plan.invocations f self.wanted.items c.lead-place.new.wanted only) c.spread.ensures.wanted))
+    subst (λ (v : List Bool). KeepsWanted plan.nodes plan.invocations v self.confirmed.items self.wanted.items (with_items self.wanted w).items) (sym (with_items_is self.finished f (set_are here)))
+    (subst (λ (v : List Bool). KeepsWanted plan.nodes plan.invocations f self.confirmed.items self.wanted.items v) (sym (with_items_is self.wanted w (wanted_are here)))
+    (wanted_on plan.nodes plan.invocations f self.confirmed.items self.wanted.items c.lead-place.new.wanted w (wanted_invoked plan.nodes plan.invocations f self.confirmed.items self.wanted.items c.lead-place.new.wanted only) (subst (λ (s : List Bool). KeepsWanted plan.nodes plan.invocations f s c.lead-place.new.wanted w) c.as_slice-confirmed.ensures.value c.spread.ensures.wanted)))

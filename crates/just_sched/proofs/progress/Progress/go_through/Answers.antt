@@ -110,6 +110,6 @@ returns-clause-told c = λ h up told.
     let here = (goal.at.returns-clause-told c).After-lead-place in
     let same = are (goal.at.returns-clause-told c).After-as_slice-list in
     let flags = sym (with_items_is self.wanted c.lead-place.new.wanted (wanted_are here)) in
-    told_through plan.nodes plan.invocations h self _ c.args.at (omega (arith, c.requires.within, self.over_sized, c.requires.size)) up refl refl
+    told_through plan.nodes plan.invocations h self _ c.args.at (omega (arith, c.requires.within, self.over_sized, c.requires.size)) up refl refl refl
     (subst (λ (w : List Bool). (k : ℕ) → flag w k ≡ true → (flag self.wanted.items k ≡ true) ⊎ MayFollow self.finished.items false (subsequents_at plan.nodes c.args.at) k) flags (only_is here same))
     told

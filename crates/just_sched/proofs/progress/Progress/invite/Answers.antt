@@ -54,7 +54,7 @@ returns-clause-closed c =
     let plan = c.args.plan.now in
     let self = c.args.self.now in
     let here = (goal.at.returns-clause-closed c).After-lead-place in
-    closed_begun plan.nodes plan.invocations self _ refl refl c.requires.over c.requires.finished c.requires.wanted (raised_is here)
+    closed_begun plan.nodes plan.invocations self _ refl refl refl c.requires.over c.requires.finished c.requires.wanted (raised_is here)
     (subst (λ (v : List Bool). IsLed self.finished.items v false plan.invocations) (wanted_are here)
     (subst (λ (f : List Bool). IsLed f c.lead-place.new.wanted false plan.invocations) c.as_slice-finished.ensures.value
     (subst (λ (xs : List ℕ). IsLed c.as_slice-finished.result.now c.lead-place.new.wanted false xs) c.as_slice.ensures
@@ -65,7 +65,7 @@ returns-clause-told c =
     let plan = c.args.plan.now in
     let self = c.args.self.now in
     let here = (goal.at.returns-clause-told c).After-lead-place in
-    told_begun plan.nodes plan.invocations self _ refl refl c.requires.over c.requires.finished c.requires.wanted (raised_is here)
+    told_begun plan.nodes plan.invocations self _ refl refl refl c.requires.over c.requires.finished c.requires.wanted (raised_is here) c.requires.confirmed
     (subst (λ (w : List Bool). (k : ℕ) → flag w k ≡ true → (flag self.wanted.items k ≡ true) ⊎ MayFollow self.finished.items false plan.invocations k) (wanted_are here)
     (subst (λ (v : List Bool). (k : ℕ) → flag c.lead-place.new.wanted k ≡ true → (flag v k ≡ true) ⊎ MayFollow self.finished.items false plan.invocations k) c.as_mut_slice-wanted.ensures.value
     (subst (λ (f : List Bool). (k : ℕ) → flag c.lead-place.new.wanted k ≡ true → (flag c.as_mut_slice-wanted.result.now k ≡ true) ⊎ MayFollow f false plan.invocations k) c.as_slice-finished.ensures.value

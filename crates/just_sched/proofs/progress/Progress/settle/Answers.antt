@@ -2,4 +2,4 @@
 use Rattle.just_sched.proofs.progress.Progress.settle.Goals as goal
 
 pub returns-clause-told : goal.returns-clause-told
-returns-clause-told c = λ h over done are. c.clear_pending.ensures.told h (c.climb.ensures.told h (c.enter.ensures.told h over done are))
+returns-clause-told c = λ h over done said are. c.clear_pending.ensures.told h (c.climb.ensures.told h (c.enter.ensures.told h over done said are))

@@ -1,5 +1,5 @@
 -- Blank rows, and the progress of a run of which no event speaks, say that nothing happened.
-use Rattle.std.proofs.Common.{arith}
+use Rattle.std.proofs.Common.{arith, ◌∙◌}
 use Rattle.just_sched.proofs.RowLaws.{table_blank}
 use Rattle.just_sched.proofs.tables.Tables.new.Goals as goal
 
@@ -10,5 +10,6 @@ returns-clause-noted c = ∣ record {
   closed = c.in_ok-progress.ensures.closed;
   none = c.in_ok-progress.ensures.none;
   told = c.in_ok-progress.ensures.told;
+  heard = λ k lt sure. c.in_ok-progress.ensures.heard k lt ∙ sure;
   left = λ m lt. absurd (omega (arith, lt));
 } ∣₁

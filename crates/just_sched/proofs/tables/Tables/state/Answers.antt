@@ -1,10 +1,10 @@
 -- The state of a node is read from its row and its flags.
 use Rattle.std.proofs.Common.{◌<◌, length, sym, subst, refl, ◌∙◌, arith}
 use Rattle.just_sched.specs.Rows.{IsTable}
-use Rattle.just_sched.specs.State.{IsFinished, IsWanted}
-use Rattle.just_sched.specs.Tables.{FlagsMean}
+use Rattle.just_sched.specs.State.{is_confirmed, IsFinished, IsWanted}
+use Rattle.just_sched.specs.Tables.{FlagsAre, FlagsMean}
 use Rattle.just_sched.proofs.RowLaws.{well_in_row}
-use Rattle.just_sched.proofs.TablesLaws.{rows_of, finished_of, wanted_of, failed_row, open_row, never_to_ask}
+use Rattle.just_sched.proofs.TablesLaws.{rows_of, finished_of, wanted_of, confirmed_of, failed_row, open_row}
 use Rattle.just_sched.proofs.tables.Tables.state.Goals as goal
 use Rattle.just_sched.proofs.tables.Tables.state.Goals.{After-is_some}
 
@@ -39,6 +39,27 @@ is_ready-requires-clause-wanted c =
     subst (λ flags. FlagsMean flags (IsWanted plan.nodes plan.invocations c.args.history.now)) (sym c.as_slice-wanted.ensures.value)
     (wanted_of plan.nodes plan.invocations c.args.history.now c.args.self.now plan.well c.requires.noted c.requires.size)
 
+pub is_ready-requires-clause-confirmed : goal.is_ready-requires-clause-confirmed
+is_ready-requires-clause-confirmed c =
+    let plan = c.args.plan.now in
+    subst (λ flags. FlagsAre flags (is_confirmed plan.nodes c.args.history.now)) (sym c.as_slice-confirmed.ensures.value)
+    (confirmed_of plan.nodes plan.invocations c.args.history.now c.args.self.now plan.well c.requires.noted c.requires.size)
+
+pub is_to_ask-requires-clause-table : goal.is_to_ask-requires-clause-table
+is_to_ask-requires-clause-table c = table (goal.at.is_to_ask-requires-clause-table c).After-is_some
+
+pub is_to_ask-requires-clause-wanted : goal.is_to_ask-requires-clause-wanted
+is_to_ask-requires-clause-wanted c =
+    let plan = c.args.plan.now in
+    subst (λ flags. FlagsMean flags (IsWanted plan.nodes plan.invocations c.args.history.now)) (sym c.as_slice-wanted.ensures.value)
+    (wanted_of plan.nodes plan.invocations c.args.history.now c.args.self.now plan.well c.requires.noted c.requires.size)
+
+pub is_to_ask-requires-clause-confirmed : goal.is_to_ask-requires-clause-confirmed
+is_to_ask-requires-clause-confirmed c =
+    let plan = c.args.plan.now in
+    subst (λ flags. FlagsAre flags (is_confirmed plan.nodes c.args.history.now)) (sym c.as_slice-confirmed.ensures.value)
+    (confirmed_of plan.nodes plan.invocations c.args.history.now c.args.self.now plan.well c.requires.noted c.requires.size)
+
 pub returns-then-is_some : goal.returns-then-is_some
 returns-then-is_some c =
     let s = (goal.at.returns-then-is_some c).After-is_some in
@@ -65,28 +86,37 @@ returns-then-is_open c =
       sym (open_row c.args.history.now c.as_slice-rows.result.now (table s) c.args.node _ (within s)) ∙ sym c.if-is_open.ensures,
     )
 
-pub returns-then-is_ready : goal.returns-then-is_ready
-returns-then-is_ready c =
-    let s = (goal.at.returns-then-is_ready c).After-is_some in
-    let plan = c.args.plan.now in (
+pub returns-then-is_to_ask : goal.returns-then-is_to_ask
+returns-then-is_to_ask c =
+    let s = (goal.at.returns-then-is_to_ask c).After-is_some in (
       record {
         not_failed = sym (failed_row c.args.history.now c.as_slice-rows.result.now (table s) c.args.node _ (within s)) ∙ sym c.if-is_some.ensures;
         not_over = sym (well_in_row c.args.history.now c.as_slice-rows.result.now (table s) c.args.node _ (within s)) ∙ c.if-row.false;
         not_open = sym (open_row c.args.history.now c.as_slice-rows.result.now (table s) c.args.node _ (within s)) ∙ sym c.if-is_open.ensures;
       },
-      never_to_ask plan.nodes plan.invocations c.args.history.now c.args.node plan.unprompted,
+      c.if-is_to_ask.ensures.is refl,
+    )
+
+pub returns-then-is_ready : goal.returns-then-is_ready
+returns-then-is_ready c =
+    let s = (goal.at.returns-then-is_ready c).After-is_some in (
+      record {
+        not_failed = sym (failed_row c.args.history.now c.as_slice-rows.result.now (table s) c.args.node _ (within s)) ∙ sym c.if-is_some.ensures;
+        not_over = sym (well_in_row c.args.history.now c.as_slice-rows.result.now (table s) c.args.node _ (within s)) ∙ c.if-row.false;
+        not_open = sym (open_row c.args.history.now c.as_slice-rows.result.now (table s) c.args.node _ (within s)) ∙ sym c.if-is_open.ensures;
+      },
+      c.if-is_to_ask.ensures.not_so refl,
       c.if-is_ready.ensures.is refl,
     )
 
 pub returns-else-is_ready : goal.returns-else-is_ready
 returns-else-is_ready c =
-    let s = (goal.at.returns-else-is_ready c).After-is_some in
-    let plan = c.args.plan.now in (
+    let s = (goal.at.returns-else-is_ready c).After-is_some in (
       record {
         not_failed = sym (failed_row c.args.history.now c.as_slice-rows.result.now (table s) c.args.node _ (within s)) ∙ sym c.if-is_some.ensures;
         not_over = sym (well_in_row c.args.history.now c.as_slice-rows.result.now (table s) c.args.node _ (within s)) ∙ c.if-row.false;
         not_open = sym (open_row c.args.history.now c.as_slice-rows.result.now (table s) c.args.node _ (within s)) ∙ sym c.if-is_open.ensures;
       },
-      never_to_ask plan.nodes plan.invocations c.args.history.now c.args.node plan.unprompted,
+      c.if-is_to_ask.ensures.not_so refl,
       c.if-is_ready.ensures.not_so refl,
     )

@@ -2,10 +2,10 @@
 use Rattle.std.proofs.Common.{sym, subst}
 use Rattle.std.proofs.Math.Logic.{∥∥₁_map}
 use Rattle.just_sched.specs.Rows.{IsTable}
-use Rattle.just_sched.specs.State.{IsFinished, IsWanted}
-use Rattle.just_sched.specs.Tables.{FlagsMean}
-use Rattle.just_sched.proofs.TablesLaws.{rows_of, finished_of, wanted_of, left_of}
-use Rattle.just_sched.proofs.tables.Tables.first_ready.Goals as goal
+use Rattle.just_sched.specs.State.{is_confirmed, IsFinished, IsWanted}
+use Rattle.just_sched.specs.Tables.{FlagsAre, FlagsMean}
+use Rattle.just_sched.proofs.TablesLaws.{rows_of, finished_of, wanted_of, confirmed_of, left_of}
+use Rattle.just_sched.proofs.tables.Tables.first_due.Goals as goal
 
 pub first_left-left-requires-clause-table : goal.first_left-left-requires-clause-table
 first_left-left-requires-clause-table c = subst (λ rows. ∥ IsTable c.args.history.now rows ∥₁) (sym c.as_slice.ensures.value) (rows_of c.requires.noted)
@@ -14,7 +14,7 @@ pub first_left-left-requires-clause-before : goal.first_left-left-requires-claus
 first_left-left-requires-clause-before c = left_of c.args.plan.now.nodes c.args.plan.now.invocations c.args.history.now c.args.self.now c.requires.noted
 
 pub first_by-requires-clause-table : goal.first_by-requires-clause-table
-first_by-requires-clause-table c = subst (λ rows. ∥ IsTable c.args.history.now rows ∥₁) (sym c.as_slice-3.ensures.value) (rows_of c.requires.noted)
+first_by-requires-clause-table c = subst (λ rows. ∥ IsTable c.args.history.now rows ∥₁) (sym c.as_slice-4.ensures.value) (rows_of c.requires.noted)
 
 pub first_by-requires-clause-wanted : goal.first_by-requires-clause-wanted
 first_by-requires-clause-wanted c =
@@ -25,8 +25,14 @@ first_by-requires-clause-wanted c =
 pub first_by-requires-clause-finished : goal.first_by-requires-clause-finished
 first_by-requires-clause-finished c =
     let plan = c.args.plan.now in
-    subst (λ flags. FlagsMean flags (IsFinished plan.nodes c.args.history.now)) (sym c.as_slice-4.ensures.value)
+    subst (λ flags. FlagsMean flags (IsFinished plan.nodes c.args.history.now)) (sym c.as_slice-5.ensures.value)
     (finished_of plan.nodes plan.invocations c.args.history.now c.args.self.now plan.well c.requires.noted c.requires.size)
 
 pub returns-clause-noted : goal.returns-clause-noted
-returns-clause-noted c = ∥∥₁_map c.requires.noted (λ n. record { rows = n.rows; placed = n.placed; closed = n.closed; none = n.none; told = n.told; left = c.first_left-left.ensures })
+returns-clause-noted c = ∥∥₁_map c.requires.noted (λ n. record { rows = n.rows; placed = n.placed; closed = n.closed; none = n.none; told = n.told; heard = n.heard; left = c.first_left-left.ensures })
+
+pub first_by-requires-clause-confirmed : goal.first_by-requires-clause-confirmed
+first_by-requires-clause-confirmed c =
+    let plan = c.args.plan.now in
+    subst (λ flags. FlagsAre flags (is_confirmed plan.nodes c.args.history.now)) (sym c.as_slice-3.ensures.value)
+    (confirmed_of plan.nodes plan.invocations c.args.history.now c.args.self.now plan.well c.requires.noted c.requires.size)
