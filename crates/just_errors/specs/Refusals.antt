@@ -8,6 +8,8 @@ use Rattle.just_lang.specs.declared.project.LangError.{LangError}
 use Rattle.just_lang.specs.declared.project.LangError.TheVariants as lang
 use Rattle.just_env.specs.declared.search_error.SearchError.{SearchError}
 use Rattle.just_env.specs.declared.search_error.SearchError.TheVariants as search
+use Rattle.just_env_files.specs.declared.env_error.EnvError.{EnvError}
+use Rattle.just_env_files.specs.declared.env_error.EnvError.TheVariants as env
 use Rattle.just_errors.specs.declared.error.Error.{Error}
 use Rattle.just_errors.specs.declared.error.Error.TheVariants as error
 
@@ -67,3 +69,12 @@ error_of_search (search.Load path io) = error.Load path io
 error_of_search (search.Lang l) = error_of_lang l
 error_of_search search.NoMemory = error.NoMemory
 error_of_search e = error.Search e
+
+-- of dotenv files
+abbrev pub error_of_env : EnvError → Error
+error_of_env env.DotenvRequired = error.DotenvRequired
+error_of_env (env.Dotenv path line) = error.Dotenv path line
+error_of_env env.DotenvArgumentsRequireLists = error.DotenvArgumentsRequireLists
+error_of_env (env.NotBuilt word) = error.NotBuilt word
+error_of_env (env.Io io path) = error.FilesystemIo path io
+error_of_env env.NoMemory = error.NoMemory

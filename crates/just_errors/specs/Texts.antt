@@ -37,6 +37,10 @@ search_text (search.Load path io) = naming (codes "failed to read justfile at ")
 search_text (search.Lang l) = codes "error: the justfile is refused"
 search_text search.NoMemory = codes "error: out of memory"
 
+-- a dotenv file that can't be read
+abbrev pub dotenv_text : List ℕ → ℕ → List ℕ
+dotenv_text path line = naming (codes "failed to load environment file from ") path (codes ": line " ++ decimal line)
+
 -- what an error is printed as
 abbrev pub error_text : Error → List ℕ
 error_text (error.Usage u) = naming (codes "usage: " ++ (usage_text u.kind ++ codes " ")) u.word []
@@ -54,6 +58,9 @@ error_text error.Homedir = codes "error: failed to get homedir"
 error_text (error.Compile e) = codes "error: " ++ (kind_text e.kind ++ (codes " at " ++ place_text e.path e.line e.column))
 error_text (error.Const path line column) = codes "error: not constant at " ++ place_text path line column
 error_text (error.UnstableFeature feature) = unstable_text (feature_text feature)
+error_text error.DotenvRequired = codes "error: dotenv file not found"
+error_text (error.Dotenv path line) = dotenv_text path line
+error_text error.DotenvArgumentsRequireLists = codes "error: multiple `--dotenv-filename` or `--dotenv-path` arguments require `set lists`"
 error_text (error.UnknownOverrides vs) = overrides_text vs
 error_text (error.FunctionCall name) = naming (codes "call to function `env` failed: environment variable ") name (codes " not present")
 error_text error.NoRecipes = codes "error: justfile contains no recipes"
@@ -89,6 +96,8 @@ error_text (error.ShellIo recipe shell io) = shell_text recipe shell io
 error_text (error.Script recipe command io) = script_text recipe command io
 error_text (error.Shebang recipe command argument io) = shebang_text recipe command argument io
 error_text (error.TempdirIo recipe io) = folder_text recipe io
+error_text (error.NotConfirmed recipe) = naming (codes "recipe ") recipe (codes " was not confirmed")
+error_text (error.GetConfirmation io) = codes "error: failed to read confirmation from stdin: " ++ fault_text io
 error_text (error.StdoutIo io) = codes "error: I/O error writing to stdout: " ++ fault_text io
 error_text (error.Interrupted signal) = codes "error: interrupted by " ++ name_of signal
 error_text error.NoMemory = codes "error: out of memory"

@@ -57,6 +57,15 @@ pub enum Error {
         column: usize,
     },
     UnstableFeature(UnstableFeature),
+    /// A module requires a dotenv file, and none was found.
+    DotenvRequired,
+    /// A dotenv file has a text that can't be read, from an entry on that begins on that line.
+    Dotenv {
+        path: Utf8PathBuf,
+        line: usize,
+    },
+    /// The words give several names or several paths of dotenv files, and a module doesn't set `lists`.
+    DotenvArgumentsRequireLists,
     /// The words override variables that the justfile doesn't have: each once, as `module::name`, ordered by module path and then by name.
     UnknownOverrides {
         overrides: Seq<Text>,
@@ -204,6 +213,14 @@ pub enum Error {
     /// The temporary file of a recipe's script couldn't be made.
     TempdirIo {
         recipe: Text,
+        io: HostFault,
+    },
+    /// A recipe's prompt wasn't answered by a yes.
+    NotConfirmed {
+        recipe: Text,
+    },
+    /// The answer to a prompt couldn't be read.
+    GetConfirmation {
         io: HostFault,
     },
     /// A text couldn't be printed.

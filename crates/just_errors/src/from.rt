@@ -2,11 +2,12 @@
 
 ghost use Rattle.std.specs.Prelude.{◌≡◌};
 ghost use Rattle.just_errors.specs.declared.error.Error.TheVariants.{NoMemory as OutOfMemory};
-ghost use Rattle.just_errors.specs.Refusals.{error_of_usage, error_of_config, error_of_lang, error_of_search};
+ghost use Rattle.just_errors.specs.Refusals.{error_of_usage, error_of_config, error_of_lang, error_of_search, error_of_env};
 
 use super::Error;
 use just_config::{ConfigError, Usage, UsageKind};
 use just_env::SearchError;
+use just_env_files::EnvError;
 use just_lang::project::LangError;
 use just_path::NoMemory;
 
@@ -160,6 +161,21 @@ impl From<SearchError> for Error {
             SearchError::Lang(error) => Error::from(error),
             SearchError::NoMemory => Error::NoMemory,
             other => Error::Search(other),
+        }
+    }
+}
+
+impl From<EnvError> for Error {
+    ghost from_gives = { λ d e. e ≡ error_of_env d };
+
+    fn from(error: EnvError) -> Error {
+        match error {
+            EnvError::DotenvRequired => Error::DotenvRequired,
+            EnvError::Dotenv { path, line } => Error::Dotenv { path, line },
+            EnvError::DotenvArgumentsRequireLists => Error::DotenvArgumentsRequireLists,
+            EnvError::NotBuilt { word } => Error::NotBuilt { word },
+            EnvError::Io(io, path) => Error::FilesystemIo { path, io },
+            EnvError::NoMemory => Error::NoMemory,
         }
     }
 }

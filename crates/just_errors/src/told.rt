@@ -4,7 +4,7 @@ ghost use Rattle.std.specs.Prelude.{Some};
 ghost use Rattle.std.specs.Fmt.{WritesOnOk};
 ghost use Rattle.just_env.specs.declared.search_error.SearchError.{SearchError};
 ghost use Rattle.just_errors.specs.declared.error.Error.{Error};
-ghost use Rattle.just_errors.specs.Texts.{search_text, error_text};
+ghost use Rattle.just_errors.specs.Texts.{search_text, dotenv_text, error_text};
 
 use super::Error;
 use super::failed::{
@@ -65,6 +65,16 @@ fn tell_search<W: fmt::Write>(error: &SearchError, f: &mut fmt::Formatter<W>) ->
     }
 }
 
+/// A dotenv file that can't be read.
+fn tell_dotenv<W: fmt::Write>(path: &str, line: usize, f: &mut fmt::Formatter<W>) -> fmt::Result
+    ensures { WritesOnOk W.write_str_gives f.old result (dotenv_text path.now line) f.new }
+{
+    write!(
+        f,
+        "error: failed to load environment file from `{path}`: line {line}"
+    )
+}
+
 impl fmt::Display for Error {
     ghost output = { λ e. Some (error_text e) };
 
@@ -107,6 +117,11 @@ impl fmt::Display for Error {
                 tell_place("not constant", path.as_str(), *line, *column, f)
             }
             Error::UnstableFeature(feature) => tell_unstable(feature, f),
+            Error::DotenvRequired => f.write_str("error: dotenv file not found"),
+            Error::Dotenv { path, line } => tell_dotenv(path.as_str(), *line, f),
+            Error::DotenvArgumentsRequireLists => f.write_str(
+                "error: multiple `--dotenv-filename` or `--dotenv-path` arguments require `set lists`",
+            ),
             Error::UnknownOverrides { overrides } => tell_overrides(overrides.as_slice(), f),
             Error::FunctionCall { name } => tell_naming(
                 "call to function `env` failed: environment variable ",
@@ -250,6 +265,12 @@ impl fmt::Display for Error {
                 io,
             } => tell_shebang(recipe, command.as_str(), argument, *io, f),
             Error::TempdirIo { recipe, io } => tell_folder(recipe, *io, f),
+            Error::NotConfirmed { recipe } => {
+                tell_naming("recipe ", recipe.as_str(), " was not confirmed", f)
+            }
+            Error::GetConfirmation { io } => {
+                tell_fault("failed to read confirmation from stdin: ", *io, f)
+            }
             Error::StdoutIo { io } => tell_fault("I/O error writing to stdout: ", *io, f),
             Error::Interrupted(signal) => write!(f, "error: interrupted by {signal}"),
             Error::NoMemory => f.write_str("error: out of memory"),
