@@ -1,5 +1,5 @@
 -- The chain of a request, from what its calls answered.
-use Rattle.std.proofs.Common.{◌≡◌, ◌≢◌, ◌∙◌, ℕ, inl, inr, Bool, List, [], ◌∷◌, Option, None, option_map, Result, Ok, Err, refl, sym, ap, subst}
+use Rattle.std.proofs.Common.{◌≡◌, ◌≢◌, ◌∙◌, ℕ, inl, inr, Bool, List, [], ◌∷◌, Option, Some, None, option_map, Result, Ok, Err, refl, sym, ap, subst}
 use Rattle.std.specs.Int.NonZero.{non_zero_u64_get}
 use Rattle.just_path.specs.declared.environ.Environ.{Environ}
 use Rattle.just_lang.specs.declared.key.Key.{Key}
@@ -7,6 +7,7 @@ use Rattle.just_lang.specs.declared.node.Closure.{Closure}
 use Rattle.just_lang.specs.declared.project.Justfile.{Justfile}
 use Rattle.just_lang.specs.declared.project.LangError.{LangError}
 use Rattle.just_lang.specs.declared.project.LangError.TheVariants as lang
+use Rattle.just_lang.specs.declared.scope.DotenvOf.{DotenvOf}
 use Rattle.just_lang.specs.declared.scope.Override.{Override}
 use Rattle.just_lang.specs.declared.scope.Scopes.{Scopes}
 use Rattle.just_lang.specs.declared.source.Source.{Source}
@@ -24,11 +25,13 @@ use Rattle.just_plans.specs.declared.node_plan.NodePlan.{NodePlan}
 use Rattle.just_sched.specs.declared.plan.Plan.{Plan}
 use Rattle.just_sched.specs.declared.plan_node.PlanNode.{PlanNode}
 use Rattle.just_errors.specs.Refusals.{error_of_lang}
+use Rattle.just_config.specs.declared.unstable_feature.UnstableFeature.{UnstableFeature}
 use Rattle.just_errors.specs.declared.error.Error.{Error}
+use Rattle.just_errors.specs.declared.error.Error.TheVariants as error
 use Rattle.just_planning.specs.Own.{OrMemory}
-use Rattle.just_planning.specs.Forms.{unstable_feature, dotenv_not_built, node_not_built}
+use Rattle.just_planning.specs.Forms.{unstable_feature, node_not_built}
 use Rattle.just_planning.specs.Planned.{plan_nodes, messages_of, plans_in, RefusesNodes}
-use Rattle.just_planning.specs.Request.{SourcesRequest, ProjectRequest, ScopesRequest, KeysRequest, ClosureRequest, Outline, outline_of, ChecksFeatures, AsksNoDotenv, AsksKeys, PlansClosure, PlansKeys, PlansProject, PlansSources}
+use Rattle.just_planning.specs.Request.{SourcesRequest, ProjectRequest, LoadedRequest, ScopesRequest, KeysRequest, ClosureRequest, Outline, outline_of, AsksKeys, FindsProject, PlansClosure, PlansKeys, PlansProject}
 use Rattle.just_planning.specs.Steps.{stops, goes_on}
 use Rattle.just_planning.specs.declared.wanted.Wanted.{Wanted}
 use Rattle.just_planning.proofs.Refusals.{RefusedBy, lang_refused}
@@ -40,6 +43,9 @@ sources_in wanted environ sources = record { wanted = wanted; environ = environ;
 
 abbrev project_in : Wanted → Environ → Justfile → List Justfile → ProjectRequest
 project_in wanted environ j modules = record { wanted = wanted; environ = environ; justfile = j; modules = modules }
+
+abbrev loaded_in : Wanted → Environ → Justfile → List Justfile → List DotenvOf → LoadedRequest
+loaded_in wanted environ j modules dotenv = record { wanted = wanted; environ = environ; justfile = j; modules = modules; dotenv = dotenv }
 
 abbrev scopes_in : Wanted → Justfile → List Justfile → Scopes → ScopesRequest
 scopes_in wanted j modules scopes = record { wanted = wanted; justfile = j; modules = modules; scopes = scopes }
@@ -150,67 +156,65 @@ module _ (wanted : Wanted) (j : Justfile) (scopes : Scopes) where
       closed_refused e (inl wants) = inl wants
       closed_refused e (inr plans) = inr (closed_plan (Err e) plans)
 
--- ---- behind the check of the settings
+-- ---- behind the dotenv pairs
 
 -- a variable has no value
-pub values_lost : (j : Justfile) (environ : Environ) (overrides given : List Override) → given ≡ overrides
-    → (l : LangError) → (l ≢ lang.NoMemory → (ms : List Justfile) → AreModules (j ∷ []) ms → IsEvaluation ms [] environ given (Err l)) → (e : Error) → e ≡ error_of_lang l
-    → OrMemory (RefusedBy (λ m. (ms : List Justfile) → AreModules (j ∷ []) ms → IsEvaluation ms [] environ overrides (Err m))) e
-values_lost j environ overrides given same l why e is =
-    lang_refused (λ m. (ms : List Justfile) → AreModules (j ∷ []) ms → IsEvaluation ms [] environ overrides (Err m)) l
-    (λ not ms are. subst (λ os. IsEvaluation ms [] environ os (Err l)) same (why not ms are)) e is
+pub values_lost : (j : Justfile) (dotenv loaded : List DotenvOf) → loaded ≡ dotenv → (environ : Environ) (overrides given : List Override) → given ≡ overrides
+    → (l : LangError) → (l ≢ lang.NoMemory → (ms : List Justfile) → AreModules (j ∷ []) ms → IsEvaluation ms loaded environ given (Err l)) → (e : Error) → e ≡ error_of_lang l
+    → OrMemory (RefusedBy (λ m. (ms : List Justfile) → AreModules (j ∷ []) ms → IsEvaluation ms dotenv environ overrides (Err m))) e
+values_lost j dotenv loaded pairs environ overrides given same l why e is =
+    lang_refused (λ m. (ms : List Justfile) → AreModules (j ∷ []) ms → IsEvaluation ms dotenv environ overrides (Err m)) l
+    (λ not ms are. subst (λ ds. IsEvaluation ms ds environ overrides (Err l)) pairs (subst (λ os. IsEvaluation ms loaded environ os (Err l)) same (why not ms are))) e is
 
--- ---- behind the justfile
+module _ (wanted : Wanted) (environ : Environ) (j : Justfile) (dotenv : List DotenvOf) where
+  -- an answer behind the dotenv pairs, in any list of the modules
+  abbrev PlansLoaded : Result Outline Error → Type 0
+  PlansLoaded r = (modules : List Justfile) → AreModules (j ∷ []) modules → PlansProject (loaded_in wanted environ j modules dotenv) r
 
-module _ (wanted : Wanted) (environ : Environ) (j : Justfile) (modules : List Justfile) (are : AreModules (j ∷ []) modules) where
-  -- a module uses an unstable feature
-  pub features_refused : (e : Error) → ChecksFeatures (project_in wanted environ j modules) (Err e) → OrMemory (λ x. PlansProject (project_in wanted environ j modules) (Err x)) e
-  features_refused e why = inr (stops e why refl)
+  -- a variable has no value
+  pub values_refused : (e : Error) → OrMemory (RefusedBy (λ l. (ms : List Justfile) → AreModules (j ∷ []) ms → IsEvaluation ms dotenv environ wanted.overrides (Err l))) e → OrMemory (λ x. PlansLoaded (Err x)) e
+  values_refused e (inl wants) = inl wants
+  values_refused e (inr why) = inr (λ modules are. stops e (why.0, why.1 modules are, why.2) refl)
 
-  module _ (stable : unstable_feature wanted.unstable modules ≡ None) where
-    -- a module asks for a dotenv file
-    pub dotenv_refused : (e : Error) → OrMemory (λ x. AsksNoDotenv (project_in wanted environ j modules) (Err x)) e → OrMemory (λ x. PlansProject (project_in wanted environ j modules) (Err x)) e
-    dotenv_refused e (inl wants) = inl wants
-    dotenv_refused e (inr why) = inr (goes_on (project_in wanted environ j modules) (stable, refl) (stops e why refl))
+  module _ (scopes : Scopes) (evaluates : (ms : List Justfile) → AreModules (j ∷ []) ms → IsEvaluation ms dotenv environ wanted.overrides (Ok scopes)) where
+    -- what the steps behind the values answer is the answer
+    pub valued_plan : (r : Result Outline Error) → ((ms : List Justfile) → AreModules (j ∷ []) ms → PlansKeys (scopes_in wanted j ms scopes) r) → PlansLoaded r
+    valued_plan r plans modules are = goes_on (scopes_in wanted j modules scopes) (refl, refl, refl, evaluates modules are) (plans modules are)
 
-    module _ (built : dotenv_not_built wanted.no_dotenv modules ≡ None) where
-      -- a variable has no value
-      pub values_refused : (e : Error) → OrMemory (RefusedBy (λ l. (ms : List Justfile) → AreModules (j ∷ []) ms → IsEvaluation ms [] environ wanted.overrides (Err l))) e
-          → OrMemory (λ x. PlansProject (project_in wanted environ j modules) (Err x)) e
-      values_refused e (inl wants) = inl wants
-      values_refused e (inr why) =
-          inr (goes_on (project_in wanted environ j modules) (stable, refl) (goes_on (project_in wanted environ j modules) (built, refl)
-          (stops e (why.0, why.1 modules are, why.2) refl)))
-
-      module _ (scopes : Scopes) (evaluates : (ms : List Justfile) → AreModules (j ∷ []) ms → IsEvaluation ms [] environ wanted.overrides (Ok scopes)) where
-        -- what the steps behind the values answer is the answer
-        pub valued_plan : (r : Result Outline Error) → ((ms : List Justfile) → AreModules (j ∷ []) ms → PlansKeys (scopes_in wanted j ms scopes) r) → PlansProject (project_in wanted environ j modules) r
-        valued_plan r plans =
-            goes_on (project_in wanted environ j modules) (stable, refl) (goes_on (project_in wanted environ j modules) (built, refl)
-            (goes_on (scopes_in wanted j modules scopes) (refl, refl, refl, evaluates modules are) (plans modules are)))
-
-        pub valued_refused : (e : Error) → OrMemory (λ x. (ms : List Justfile) → AreModules (j ∷ []) ms → PlansKeys (scopes_in wanted j ms scopes) (Err x)) e
-            → OrMemory (λ x. PlansProject (project_in wanted environ j modules) (Err x)) e
-        valued_refused e (inl wants) = inl wants
-        valued_refused e (inr plans) = inr (valued_plan (Err e) plans)
+    pub valued_refused : (e : Error) → OrMemory (λ x. (ms : List Justfile) → AreModules (j ∷ []) ms → PlansKeys (scopes_in wanted j ms scopes) (Err x)) e → OrMemory (λ x. PlansLoaded (Err x)) e
+    valued_refused e (inl wants) = inl wants
+    valued_refused e (inr plans) = inr (valued_plan (Err e) plans)
 
 -- ---- behind the sources
 
+-- no module of a justfile with these modules uses an unstable feature
+pub stable_all : (j : Justfile) (ms : List Justfile) → AreModules (j ∷ []) ms → (allowed : Bool) → unstable_feature allowed ms ≡ None → (modules : List Justfile) → AreModules (j ∷ []) modules → unstable_feature allowed modules ≡ None
+stable_all j ms are allowed stable modules others = subst (λ xs. unstable_feature allowed xs ≡ None) (same_modules (j ∷ []) ms modules are others) stable
+
+-- one does
+pub feature_told : (j : Justfile) (ms : List Justfile) → AreModules (j ∷ []) ms → (allowed : Bool) (e : Error) → (u : UnstableFeature) × (unstable_feature allowed ms ≡ Some u) × (e ≡ error.UnstableFeature u)
+    → OrMemory (λ x. (modules : List Justfile) × AreModules (j ∷ []) modules × (u : UnstableFeature) × (unstable_feature allowed modules ≡ Some u) × (x ≡ error.UnstableFeature u)) e
+feature_told j ms are allowed e told = inr (ms, are, told.0, told.1, told.2)
+
 module _ (wanted : Wanted) (environ : Environ) (sources : List Source) where
-  rules_stop : (e : Error) → OrMemory (RefusedBy (λ l. IsFirstError sources environ.pairs l)) e → OrMemory (λ x. PlansSources (sources_in wanted environ sources) (Err x)) e
+  rules_stop : (e : Error) → OrMemory (RefusedBy (λ l. IsFirstError sources environ.pairs l)) e → OrMemory (λ x. FindsProject (sources_in wanted environ sources) (Err x)) e
   rules_stop e (inl wants) = inl wants
   rules_stop e (inr why) = inr (stops e why refl)
 
   -- they break a rule
   pub rules_refused : (l : LangError) → (l ≢ lang.NoMemory → IsFirstError sources environ.pairs l) → (e : Error) → e ≡ error_of_lang l
-      → OrMemory (λ x. PlansSources (sources_in wanted environ sources) (Err x)) e
+      → OrMemory (λ x. FindsProject (sources_in wanted environ sources) (Err x)) e
   rules_refused l why e is = rules_stop e (lang_refused (λ m. IsFirstError sources environ.pairs m) l why e is)
 
-  module _ (j : Justfile) (made : IsJustfileOfSources sources environ.pairs j) (modules : List Justfile) (are : AreModules (j ∷ []) modules) where
-    -- what the steps behind the justfile answer is the answer
-    pub assembled_plan : (r : Result Outline Error) → PlansProject (project_in wanted environ j modules) r → PlansSources (sources_in wanted environ sources) r
-    assembled_plan r plans = goes_on (project_in wanted environ j modules) (refl, refl, made, are) plans
+  module _ (j : Justfile) (made : IsJustfileOfSources sources environ.pairs j) where
+    -- a module of their justfile uses an unstable feature
+    pub features_refused : (e : Error)
+        → OrMemory (λ x. (modules : List Justfile) × AreModules (j ∷ []) modules × (u : UnstableFeature) × (unstable_feature wanted.unstable modules ≡ Some u) × (x ≡ error.UnstableFeature u)) e
+        → OrMemory (λ x. FindsProject (sources_in wanted environ sources) (Err x)) e
+    features_refused e (inl wants) = inl wants
+    features_refused e (inr why) = inr (goes_on (project_in wanted environ j why.0) (refl, refl, made, why.1) (why.2, why.3, why.4))
 
-    pub assembled_refused : (e : Error) → OrMemory (λ x. PlansProject (project_in wanted environ j modules) (Err x)) e → OrMemory (λ x. PlansSources (sources_in wanted environ sources) (Err x)) e
-    assembled_refused e (inl wants) = inl wants
-    assembled_refused e (inr plans) = inr (assembled_plan (Err e) plans)
+    -- none does
+    pub project_found : ((ms : List Justfile) → AreModules (j ∷ []) ms → unstable_feature wanted.unstable ms ≡ None) → (modules : List Justfile) → AreModules (j ∷ []) modules
+        → FindsProject (sources_in wanted environ sources) (Ok (project_in wanted environ j modules))
+    project_found stable modules are = goes_on (project_in wanted environ j modules) (refl, refl, made, are) (stable modules are, refl)

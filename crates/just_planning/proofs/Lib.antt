@@ -1,4 +1,5 @@
 -- The lemmas of plans.
+pub mod AsMany
 pub mod Chain
 pub mod Found
 pub mod Laws
@@ -7,4 +8,3 @@ pub mod Refusals
 pub mod Requests
 pub mod Sound
 pub mod Steps
-pub mod Unprompted

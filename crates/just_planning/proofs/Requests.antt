@@ -1,5 +1,5 @@
 -- Each step of a request gives one answer of its own at most, and so does the request.
-use Rattle.std.proofs.Common.{◌≡◌, false, true≢false, List, [], ◌∷◌, Option, Some, None, option_map, Result, Ok, Err, sym, ◌∙◌, ap, subst}
+use Rattle.std.proofs.Common.{◌≡◌, ℕ, false, true≢false, List, [], ◌∷◌, Option, Some, None, option_map, Result, Ok, Err, refl, sym, ◌∙◌, ap, subst}
 use Rattle.std.specs.Int.NonZero.{non_zero_u64_get}
 use Rattle.just_lang.specs.declared.error.CompileKind.{CompileKind}
 use Rattle.just_lang.specs.declared.key.Key.{Key}
@@ -18,13 +18,21 @@ use Rattle.just_ends.proofs.Laws.{projects_end}
 use Rattle.just_eval.specs.Closures.{around_of}
 use Rattle.just_plans.specs.declared.error.PlanError.{PlanError}
 use Rattle.just_plans.specs.declared.node_plan.NodePlan.{NodePlan}
-use Rattle.just_errors.specs.Refusals.{error_of_lang}
+use Rattle.just_outside.specs.World.{World}
+use Rattle.just_outside.specs.declared.entry.HostFault.{HostFault}
+use Rattle.just_outside.specs.declared.entry.HostFault.TheVariants as fault
+use Rattle.just_env_files.specs.declared.env_error.EnvError.{EnvError}
+use Rattle.just_env_files.specs.declared.env_error.EnvError.TheVariants as env
+use Rattle.just_env_files.specs.Agree.{is_failure, tells_failure}
+use Rattle.just_env_files.proofs.Agreed.{dotenv_agrees}
+use Rattle.just_errors.specs.Refusals.{error_of_lang, error_of_env}
 use Rattle.just_errors.specs.declared.error.Error.{Error}
 use Rattle.just_errors.specs.declared.error.Error.TheVariants as error
-use Rattle.just_planning.specs.Own.{is_size, is_too_big}
+use Rattle.just_planning.specs.Own.{is_size, is_too_big, is_fault}
 use Rattle.just_planning.specs.Planned.{plan_nodes, messages_of, error_of_plan}
-use Rattle.just_planning.specs.Request.{SourcesRequest, ProjectRequest, ScopesRequest, KeysRequest, ClosureRequest, Outline, AssemblesJustfile, ChecksFeatures, AsksNoDotenv, EvaluatesVariables, AsksKeys, InvokesKeys, ClosesKeys, ChecksRecipes, MakesPlan, PlansClosure, PlansKeys, PlansProject, PlansSources}
-use Rattle.just_planning.proofs.Steps.{GivesOwn, GivesOwnOf, Finds, own_of, then_own, then_own_of}
+use Rattle.just_planning.specs.Request.{SourcesRequest, ProjectRequest, LoadedRequest, ScopesRequest, KeysRequest, ClosureRequest, Outline, AssemblesJustfile, ChecksFeatures, FindsProject, LoadsDotenv, EvaluatesVariables, AsksKeys, InvokesKeys, ClosesKeys, ChecksRecipes, MakesPlan, PlansClosure, PlansKeys, PlansProject, PlansSources}
+use Rattle.just_planning.specs.Steps.{Then}
+use Rattle.just_planning.proofs.Steps.{GivesOwn, GivesOwnOf, Finds, own_of, then_own, then_own_of, finds_then}
 
 -- ---- options and answers
 
@@ -87,31 +95,73 @@ checks_features k (Err e) (Err f) p m q n = ap (λ x. Err x) (p.2 ∙ ap (λ u. 
 keeps_features : Finds EndsProject ChecksFeatures EndsProject
 keeps_features k ends found p = subst EndsProject (sym p.1) ends
 
-asks_no_dotenv : GivesOwn AsksNoDotenv
-asks_no_dotenv k (Ok a) (Ok b) p m q n = ap (λ x. Ok x) (p.1 ∙ sym q.1)
-asks_no_dotenv k (Ok a) (Err f) p m q n = absurd (held_none _ q.0 p.0 q.1)
-asks_no_dotenv k (Err e) (Ok b) p m q n = absurd (held_none _ p.0 q.0 p.1)
-asks_no_dotenv k (Err e) (Err f) p m q n = ap (λ x. Err x) (p.2 ∙ ap (λ x. error.NotBuilt x) (held_one _ p.0 q.0 p.1 q.1) ∙ sym q.2)
+-- sources make one justfile that uses no unstable feature, or are refused in one way
+pub finds_project : GivesOwn FindsProject
+finds_project = then_own AssemblesJustfile ChecksFeatures assembles_justfile checks_features
 
-keeps_dotenv : Finds EndsProject AsksNoDotenv EndsProject
-keeps_dotenv k ends found p = subst EndsProject (sym p.1) ends
+finds_ending : Finds (λ (s : SourcesRequest). Unit {0}) FindsProject EndsProject
+finds_ending = finds_then (λ (s : SourcesRequest). Unit {0}) EndsProject EndsProject AssemblesJustfile ChecksFeatures makes_ending keeps_features
+
+-- a refusal of dotenv files is a failure of the host where the error that tells it is one
+fault_of_io : (path : List ℕ) (io : HostFault) → is_fault (error.FilesystemIo path io) ≡ is_failure io
+fault_of_io path (fault.Missed m) = refl
+fault_of_io path (fault.Failed c) = refl
+fault_of_io path fault.NoMemory = refl
+
+fault_of_env : (f : EnvError) → is_fault (error_of_env f) ≡ tells_failure f
+fault_of_env env.DotenvRequired = refl
+fault_of_env (env.Dotenv path line) = refl
+fault_of_env env.DotenvArgumentsRequireLists = refl
+fault_of_env (env.NotBuilt word) = refl
+fault_of_env (env.Io io path) = fault_of_io path io
+fault_of_env env.NoMemory = refl
+
+own_env : (f : EnvError) (e : Error) → e ≡ error_of_env f → is_fault e ≡ false → tells_failure f ≡ false
+own_env f e is own = sym (fault_of_env f) ∙ ap is_fault (sym is) ∙ own
+
+module _ (w : World) where
+  -- the modules have one list of dotenv pairs, or one refusal
+  loads_dotenv : GivesOwn (LoadsDotenv (Some w))
+  loads_dotenv k (Ok a) (Ok b) p m q n =
+      let pairs = one_found a.dotenv b.dotenv (dotenv_agrees w k.wanted.dotenv k.environ.pairs k.wanted.flags.folder k.justfile (Ok a.dotenv) (Ok b.dotenv) p.4 tt q.4 tt) in
+      ap (λ x. Ok x)
+      (ap (λ x. let z : LoadedRequest = record { wanted = x; environ = a.environ; justfile = a.justfile; modules = a.modules; dotenv = a.dotenv } in z) (p.0 ∙ sym q.0)
+      ∙ ap (λ x. let z : LoadedRequest = record { wanted = b.wanted; environ = x; justfile = a.justfile; modules = a.modules; dotenv = a.dotenv } in z) (p.1 ∙ sym q.1)
+      ∙ ap (λ x. let z : LoadedRequest = record { wanted = b.wanted; environ = b.environ; justfile = x; modules = a.modules; dotenv = a.dotenv } in z) (p.2 ∙ sym q.2)
+      ∙ ap (λ x. let z : LoadedRequest = record { wanted = b.wanted; environ = b.environ; justfile = b.justfile; modules = x; dotenv = a.dotenv } in z) (p.3 ∙ sym q.3)
+      ∙ ap (λ x. let z : LoadedRequest = record { wanted = b.wanted; environ = b.environ; justfile = b.justfile; modules = b.modules; dotenv = x } in z) pairs)
+  loads_dotenv k (Ok a) (Err f) p m q n =
+      absurd (found_or_refused a.dotenv q.0 (dotenv_agrees w k.wanted.dotenv k.environ.pairs k.wanted.flags.folder k.justfile (Ok a.dotenv) (Err q.0) p.4 tt q.1 (own_env q.0 f q.2 n.0)))
+  loads_dotenv k (Err e) (Ok b) p m q n =
+      absurd (found_or_refused b.dotenv p.0 (dotenv_agrees w k.wanted.dotenv k.environ.pairs k.wanted.flags.folder k.justfile (Ok b.dotenv) (Err p.0) q.4 tt p.1 (own_env p.0 e p.2 m.0)))
+  loads_dotenv k (Err e) (Err f) p m q n =
+      ap (λ x. Err x)
+      (p.2 ∙ ap (λ (l : EnvError). error_of_env l)
+      (one_refusal p.0 q.0 (dotenv_agrees w k.wanted.dotenv k.environ.pairs k.wanted.flags.folder k.justfile (Err p.0) (Err q.0) p.1 (own_env p.0 e p.2 m.0) q.1 (own_env q.0 f q.2 n.0))) ∙ sym q.2)
+
+-- the modules stay
+abbrev EndsLoaded : LoadedRequest → Type 0
+EndsLoaded p = End p.modules
+
+keeps_dotenv : (w : World) → Finds EndsProject (LoadsDotenv (Some w)) EndsLoaded
+keeps_dotenv w k ends found p = subst (λ (ms : List Justfile). End ms) (sym p.3) ends
 
 -- a project has one evaluation, since no variable leads to itself
-evaluates_variables : GivesOwnOf EndsProject EvaluatesVariables
+evaluates_variables : GivesOwnOf EndsLoaded EvaluatesVariables
 evaluates_variables k ends (Ok a) (Ok b) p m q n =
-    let scopes = one_found a.scopes b.scopes (evaluations_agree k.modules [] k.environ k.wanted.overrides (Ok a.scopes) (Ok b.scopes) ends.variables p.3 q.3) in
+    let scopes = one_found a.scopes b.scopes (evaluations_agree k.modules k.dotenv k.environ k.wanted.overrides (Ok a.scopes) (Ok b.scopes) ends.variables p.3 q.3) in
     ap (λ x. Ok x)
     (ap (λ x. let z : ScopesRequest = record { wanted = x; justfile = a.justfile; modules = a.modules; scopes = a.scopes } in z) (p.0 ∙ sym q.0)
     ∙ ap (λ x. let z : ScopesRequest = record { wanted = b.wanted; justfile = x; modules = a.modules; scopes = a.scopes } in z) (p.1 ∙ sym q.1)
     ∙ ap (λ x. let z : ScopesRequest = record { wanted = b.wanted; justfile = b.justfile; modules = x; scopes = a.scopes } in z) (p.2 ∙ sym q.2)
     ∙ ap (λ x. let z : ScopesRequest = record { wanted = b.wanted; justfile = b.justfile; modules = b.modules; scopes = x } in z) scopes)
 evaluates_variables k ends (Ok a) (Err f) p m q n =
-    absurd (found_or_refused a.scopes q.0 (evaluations_agree k.modules [] k.environ k.wanted.overrides (Ok a.scopes) (Err q.0) ends.variables p.3 q.1))
+    absurd (found_or_refused a.scopes q.0 (evaluations_agree k.modules k.dotenv k.environ k.wanted.overrides (Ok a.scopes) (Err q.0) ends.variables p.3 q.1))
 evaluates_variables k ends (Err e) (Ok b) p m q n =
-    absurd (found_or_refused b.scopes p.0 (evaluations_agree k.modules [] k.environ k.wanted.overrides (Ok b.scopes) (Err p.0) ends.variables q.3 p.1))
+    absurd (found_or_refused b.scopes p.0 (evaluations_agree k.modules k.dotenv k.environ k.wanted.overrides (Ok b.scopes) (Err p.0) ends.variables q.3 p.1))
 evaluates_variables k ends (Err e) (Err f) p m q n =
     ap (λ x. Err x)
-    (p.2 ∙ ap (λ (l : LangError). error_of_lang l) (one_refusal p.0 q.0 (evaluations_agree k.modules [] k.environ k.wanted.overrides (Err p.0) (Err q.0) ends.variables p.1 q.1)) ∙ sym q.2)
+    (p.2 ∙ ap (λ (l : LangError). error_of_lang l) (one_refusal p.0 q.0 (evaluations_agree k.modules k.dotenv k.environ k.wanted.overrides (Err p.0) (Err q.0) ends.variables p.1 q.1)) ∙ sym q.2)
 
 -- ---- from the values to a closure
 
@@ -179,12 +229,13 @@ plans_keys : GivesOwn PlansKeys
 plans_keys = then_own InvokesKeys _ invokes_keys (then_own ClosesKeys PlansClosure closes_keys plans_closure)
 
 -- of a justfile whose modules come to an end
-plans_project : GivesOwnOf EndsProject PlansProject
+plans_project : GivesOwnOf EndsLoaded PlansProject
 plans_project =
-    then_own_of EndsProject EndsProject ChecksFeatures _ (own_of EndsProject ChecksFeatures checks_features) keeps_features
-    (then_own_of EndsProject EndsProject AsksNoDotenv _ (own_of EndsProject AsksNoDotenv asks_no_dotenv) keeps_dotenv
-    (then_own_of EndsProject (λ (s : ScopesRequest). Unit {0}) EvaluatesVariables PlansKeys evaluates_variables (λ k ends found p. tt) (own_of (λ (s : ScopesRequest). Unit {0}) PlansKeys plans_keys)))
+    then_own_of EndsLoaded (λ (s : ScopesRequest). Unit {0}) EvaluatesVariables PlansKeys evaluates_variables (λ k ends found p. tt) (own_of (λ (s : ScopesRequest). Unit {0}) PlansKeys plans_keys)
 
-pub plans_sources : GivesOwn PlansSources
-plans_sources s r q =
-    then_own_of (λ (x : SourcesRequest). Unit {0}) EndsProject AssemblesJustfile PlansProject (own_of (λ (x : SourcesRequest). Unit {0}) AssemblesJustfile assembles_justfile) makes_ending plans_project s tt r q
+loaded_plan : (w : World) → GivesOwnOf EndsProject (Then (LoadsDotenv (Some w)) PlansProject)
+loaded_plan w = then_own_of EndsProject EndsLoaded (LoadsDotenv (Some w)) PlansProject (own_of EndsProject (LoadsDotenv (Some w)) (loads_dotenv w)) (keeps_dotenv w) plans_project
+
+pub plans_sources : (w : World) → GivesOwn (PlansSources (Some w))
+plans_sources w s r q =
+    then_own_of (λ (x : SourcesRequest). Unit {0}) EndsProject FindsProject _ (own_of (λ (x : SourcesRequest). Unit {0}) FindsProject finds_project) finds_ending (loaded_plan w) s tt r q

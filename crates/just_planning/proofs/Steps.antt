@@ -58,3 +58,9 @@ then_own_of has has_next one two a finds b known h r s (goes_on x p more) own (s
     absurd (refused_or_found f x (a known h (Err f) (Ok x) q (own_refusal s f at other) p tt))
 then_own_of has has_next one two a finds b known h r s (goes_on x p more) own (goes_on y q further) other =
     b y (finds known h y q) r s (subst (λ z. two z r) (same_found x y (a known h (Ok x) (Ok y) p tt q tt)) more) own further other
+
+-- what two steps find has the property that the second one's has
+pub finds_then : {A B C : Type 0} (has : A → Type 0) (has_next : B → Type 0) (has_last : C → Type 0) (one : A → Result B Error → Type 0) (two : B → Result C Error → Type 0)
+    → Finds has one has_next → Finds has_next two has_last → Finds has (Then one two) has_last
+finds_then has has_next has_last one two f g known h found (stops e p is) = absurd (refused_or_found e found (sym is))
+finds_then has has_next has_last one two f g known h found (goes_on x p more) = g x (f known h x p) found more

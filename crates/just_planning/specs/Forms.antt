@@ -1,11 +1,10 @@
 -- Unstable features that a project uses, and forms of it that aren't built yet.
-use Rattle.std.specs.Prelude.{ℕ, not, ◌&&◌, ◌||◌, Bool, if◌then◌else◌, List, [], ◌∷◌, Option, Some, None, codes, is_some}
+use Rattle.std.specs.Prelude.{ℕ, not, ◌&&◌, ◌||◌, Bool, if◌then◌else◌, List, [], ◌∷◌, Option, Some, None, codes}
 use Rattle.std.specs.List.{list_any}
 use Rattle.just_path.specs.Environ.{or_else}
 use Rattle.just_lang.specs.declared.node.Node.{Node}
 use Rattle.just_lang.specs.declared.project.Justfile.{Justfile}
 use Rattle.just_lang.specs.declared.recipe.Recipe.{Recipe}
-use Rattle.just_lang.specs.declared.settings.Settings.{Settings}
 use Rattle.just_value.specs.Modules.{recipes_of, settings_of, Located, recipe_at}
 use Rattle.just_config.specs.declared.unstable_feature.UnstableFeature.{UnstableFeature}
 use Rattle.just_config.specs.declared.unstable_feature.UnstableFeature.TheVariants as feature
@@ -39,34 +38,12 @@ feature_in (j ∷ js) = or_else (feature_of j) (feature_in js)
 abbrev pub unstable_feature : Bool → List Justfile → Option UnstableFeature
 unstable_feature allowed modules = if allowed then None else feature_in modules
 
--- ---- dotenv files
-
--- the first setting of a module by which dotenv files are loaded
-abbrev pub dotenv_setting : Settings → Option (List ℕ)
-dotenv_setting s =
-    or_else (word_if s.dotenv_load (codes "dotenv-load"))
-    (or_else (word_if s.dotenv_override (codes "dotenv-override"))
-    (or_else (word_if s.dotenv_required (codes "dotenv-required"))
-    (or_else (word_if (is_some s.dotenv_command) (codes "dotenv-command"))
-    (or_else (word_if (is_some s.dotenv_filename) (codes "dotenv-filename"))
-    (word_if (is_some s.dotenv_path) (codes "dotenv-path"))))))
-
-abbrev pub dotenv_in : List Justfile → Option (List ℕ)
-dotenv_in [] = None
-dotenv_in (j ∷ js) = or_else (dotenv_setting (settings_of j)) (dotenv_in js)
-
--- unless the words leave them alone
-abbrev pub dotenv_not_built : Bool → List Justfile → Option (List ℕ)
-dotenv_not_built no_dotenv modules = if no_dotenv then None else dotenv_in modules
-
 -- ---- recipes
 
--- a recipe that is to be asked for, or whose cache isn't left alone
+-- a recipe whose cache isn't left alone
 abbrev pub attribute_not_built : RunFlags → Option Located → Option (List ℕ)
 attribute_not_built flags None = None
-attribute_not_built flags (Some l) =
-    or_else (word_if (has_attribute l.recipe.attributes (codes "confirm") && not (flags.yes || flags.dry_run)) (codes "[confirm]"))
-    (word_if (is_cached l.recipe && not (flags.no_cache || flags.dry_run)) (codes "[cache]"))
+attribute_not_built flags (Some l) = word_if (is_cached l.recipe && not (flags.no_cache || flags.dry_run)) (codes "[cache]")
 
 -- of the first node whose recipe is so
 abbrev pub node_not_built : RunFlags → List Justfile → List Node → Option (List ℕ)

@@ -20,6 +20,7 @@ call_in (error.ShellIo recipe shell io) = Some ([], io)
 call_in (error.Script recipe command io) = Some ([], io)
 call_in (error.Shebang recipe command argument io) = Some ([], io)
 call_in (error.TempdirIo recipe io) = Some ([], io)
+call_in (error.GetConfirmation io) = Some ([], io)
 call_in (error.StdoutIo io) = Some ([], io)
 call_in _ = None
 

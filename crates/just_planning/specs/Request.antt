@@ -6,6 +6,7 @@ use Rattle.just_lang.specs.declared.key.Key.{Key}
 use Rattle.just_lang.specs.declared.node.Closure.{Closure}
 use Rattle.just_lang.specs.declared.project.Justfile.{Justfile}
 use Rattle.just_lang.specs.declared.project.LangError.{LangError}
+use Rattle.just_lang.specs.declared.scope.DotenvOf.{DotenvOf}
 use Rattle.just_lang.specs.declared.scope.Scopes.{Scopes}
 use Rattle.just_lang.specs.declared.source.Source.{Source}
 use Rattle.just_value.specs.Answers.{Answer, and_then}
@@ -22,10 +23,13 @@ use Rattle.just_plans.specs.declared.error.PlanError.{PlanError}
 use Rattle.just_plans.specs.declared.node_plan.NodePlan.{NodePlan}
 use Rattle.just_sched.specs.declared.plan.Plan.{Plan}
 use Rattle.just_sched.specs.declared.plan_node.PlanNode.{PlanNode}
-use Rattle.just_errors.specs.Refusals.{error_of_lang}
+use Rattle.just_outside.specs.World.{World}
+use Rattle.just_env_files.specs.declared.env_error.EnvError.{EnvError}
+use Rattle.just_env_files.specs.Loads.{LoadsProject}
+use Rattle.just_errors.specs.Refusals.{error_of_lang, error_of_env}
 use Rattle.just_errors.specs.declared.error.Error.{Error}
 use Rattle.just_errors.specs.declared.error.Error.TheVariants as error
-use Rattle.just_planning.specs.Forms.{unstable_feature, dotenv_not_built, node_not_built}
+use Rattle.just_planning.specs.Forms.{unstable_feature, node_not_built}
 use Rattle.just_planning.specs.Planned.{plan_nodes, messages_of, plans_in, error_of_plan}
 use Rattle.just_planning.specs.Steps.{Then}
 use Rattle.just_planning.specs.declared.wanted.Wanted.{Wanted}
@@ -44,6 +48,14 @@ pub record ProjectRequest : Type 0 where
   pub environ : Environ
   pub justfile : Justfile
   pub modules : List Justfile
+
+-- the dotenv pairs of each module
+pub record LoadedRequest : Type 0 where
+  pub wanted : Wanted
+  pub environ : Environ
+  pub justfile : Justfile
+  pub modules : List Justfile
+  pub dotenv : List DotenvOf
 
 -- the values of its variables
 pub record ScopesRequest : Type 0 where
@@ -89,16 +101,18 @@ abbrev pub ChecksFeatures : ProjectRequest → Result ProjectRequest Error → T
 ChecksFeatures p (Ok q) = (unstable_feature p.wanted.unstable p.modules ≡ None) × (q ≡ p)
 ChecksFeatures p (Err e) = (u : UnstableFeature) × (unstable_feature p.wanted.unstable p.modules ≡ Some u) × (e ≡ error.UnstableFeature u)
 
--- no module asks for a dotenv file, which isn't built
-abbrev pub AsksNoDotenv : ProjectRequest → Result ProjectRequest Error → Type 0
-AsksNoDotenv p (Ok q) = (dotenv_not_built p.wanted.no_dotenv p.modules ≡ None) × (q ≡ p)
-AsksNoDotenv p (Err e) = (word : List ℕ) × (dotenv_not_built p.wanted.no_dotenv p.modules ≡ Some word) × (e ≡ error.NotBuilt word)
+-- The modules have these dotenv pairs; or the first of them that is refused is told. Over a host that tells no world files may hold anything.
+abbrev pub LoadsDotenv : Option World → ProjectRequest → Result LoadedRequest Error → Type 0
+LoadsDotenv told p (Ok q) =
+    (q.wanted ≡ p.wanted) × (q.environ ≡ p.environ) × (q.justfile ≡ p.justfile) × (q.modules ≡ p.modules)
+    × LoadsProject told p.wanted.dotenv p.environ.pairs p.wanted.flags.folder p.justfile (Ok q.dotenv)
+LoadsDotenv told p (Err e) = (f : EnvError) × LoadsProject told p.wanted.dotenv p.environ.pairs p.wanted.flags.folder p.justfile (Err f) × (e ≡ error_of_env f)
 
 -- the variables have these values; or one is overridden that isn't there, or has none
-abbrev pub EvaluatesVariables : ProjectRequest → Result ScopesRequest Error → Type 0
+abbrev pub EvaluatesVariables : LoadedRequest → Result ScopesRequest Error → Type 0
 EvaluatesVariables p (Ok s) =
-    (s.wanted ≡ p.wanted) × (s.justfile ≡ p.justfile) × (s.modules ≡ p.modules) × IsEvaluation p.modules [] p.environ p.wanted.overrides (Ok s.scopes)
-EvaluatesVariables p (Err e) = (l : LangError) × IsEvaluation p.modules [] p.environ p.wanted.overrides (Err l) × (e ≡ error_of_lang l)
+    (s.wanted ≡ p.wanted) × (s.justfile ≡ p.justfile) × (s.modules ≡ p.modules) × IsEvaluation p.modules p.dotenv p.environ p.wanted.overrides (Ok s.scopes)
+EvaluatesVariables p (Err e) = (l : LangError) × IsEvaluation p.modules p.dotenv p.environ p.wanted.overrides (Err l) × (e ≡ error_of_lang l)
 
 -- what the words ask for, where one recipe alone may be wanted
 abbrev pub AsksKeys : ScopesRequest → Answer (List Key) → Type 0
@@ -128,15 +142,20 @@ MakesPlan c (Err e) = (f : PlanError) × (plans_in c.wanted.flags c.modules c.sc
 
 -- ---- the chain
 
--- the steps behind the closure, behind the values of the variables, behind the justfile, and behind the sources
+-- from the sources to the justfile
+abbrev pub FindsProject : SourcesRequest → Result ProjectRequest Error → Type 0
+FindsProject = Then AssemblesJustfile ChecksFeatures
+
+-- the steps behind the closure, behind the values of the variables, and behind the dotenv pairs
 abbrev pub PlansClosure : ClosureRequest → Result Outline Error → Type 0
 PlansClosure = Then ChecksRecipes MakesPlan
 
 abbrev pub PlansKeys : ScopesRequest → Result Outline Error → Type 0
 PlansKeys = Then InvokesKeys (Then ClosesKeys PlansClosure)
 
-abbrev pub PlansProject : ProjectRequest → Result Outline Error → Type 0
-PlansProject = Then ChecksFeatures (Then AsksNoDotenv (Then EvaluatesVariables PlansKeys))
+abbrev pub PlansProject : LoadedRequest → Result Outline Error → Type 0
+PlansProject = Then EvaluatesVariables PlansKeys
 
-abbrev pub PlansSources : SourcesRequest → Result Outline Error → Type 0
-PlansSources = Then AssemblesJustfile PlansProject
+-- all steps; the dotenv pairs are loaded over a host that tells this world, if it tells one
+abbrev pub PlansSources : Option World → SourcesRequest → Result Outline Error → Type 0
+PlansSources told = Then FindsProject (Then (LoadsDotenv told) PlansProject)

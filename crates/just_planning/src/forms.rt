@@ -9,14 +9,14 @@ ghost use Rattle.just_eval.specs.Requests.{IsIndexed};
 ghost use Rattle.just_value.specs.Modules.{recipes_of, settings_of};
 ghost use Rattle.just_errors.specs.declared.error.Error.TheVariants as error;
 ghost use Rattle.just_planning.specs.Own.{OrMemory};
-ghost use Rattle.just_planning.specs.Forms.{is_cached, feature_of, feature_in, unstable_feature, dotenv_setting, dotenv_in, dotenv_not_built, attribute_not_built, node_not_built};
+ghost use Rattle.just_planning.specs.Forms.{is_cached, feature_of, feature_in, unstable_feature, attribute_not_built, node_not_built};
 
 use just_commands::{RunFlags, has_attribute};
 use just_config::UnstableFeature;
 use just_errors::Error;
 use just_eval::{Entry, Request};
 use just_lang::project::Justfile;
-use just_lang::{Node, Recipe, Settings};
+use just_lang::{Node, Recipe};
 use just_path::Text;
 use std::alloc::Global;
 
@@ -82,62 +82,10 @@ pub(crate) fn unstable_feature(allowed: bool, modules: &[&Justfile]) -> Option<U
     feature_in(modules)
 }
 
-/// The first setting of a module by which dotenv files are loaded.
-fn dotenv_setting(settings: &Settings) -> Option<&'static str>
-    ensures { option_copied result ≡ dotenv_setting settings.now }
-{
-    if settings.dotenv_load {
-        return Some("dotenv-load");
-    }
-    if settings.dotenv_override {
-        return Some("dotenv-override");
-    }
-    if settings.dotenv_required {
-        return Some("dotenv-required");
-    }
-    if settings.dotenv_command.is_some() {
-        return Some("dotenv-command");
-    }
-    if settings.dotenv_filename.is_some() {
-        return Some("dotenv-filename");
-    }
-    if settings.dotenv_path.is_some() {
-        Some("dotenv-path")
-    } else {
-        None
-    }
-}
-
-/// The first setting of these modules by which dotenv files are loaded.
-fn dotenv_in(modules: &[&Justfile]) -> Option<&'static str>
-    ensures { option_copied result ≡ dotenv_in (map (λ m. m.now) modules.now) }
-{
-    'modules: for module in modules {
-        if let Some(word) = dotenv_setting(&module.settings) {
-            return Some(word);
-        }
-    }
-    None
-}
-
-/// The first setting of a project by which dotenv files are loaded, unless the words leave them alone.
-pub(crate) fn dotenv_not_built(no_dotenv: bool, modules: &[&Justfile]) -> Option<&'static str>
-    ensures { option_copied result ≡ dotenv_not_built no_dotenv (map (λ m. m.now) modules.now) }
-{
-    if no_dotenv {
-        return None;
-    }
-    dotenv_in(modules)
-}
-
 /// The attribute of a recipe that isn't built, where it matters to this run.
 fn attribute_not_built(flags: &RunFlags, recipe: &Recipe) -> Option<&'static str>
     ensures { (parent : Justfile) → option_copied result ≡ attribute_not_built flags.now (Some (record { parent = parent; recipe = recipe.now })) }
 {
-    let asks = has_attribute(recipe.attributes.as_slice(), "confirm");
-    if asks && !(flags.yes || flags.dry_run) {
-        return Some("[confirm]");
-    }
     if is_cached(recipe) && !(flags.no_cache || flags.dry_run) {
         Some("[cache]")
     } else {

@@ -9,6 +9,7 @@ mod project;
 mod wanted;
 
 pub use forms::not_built_error;
+pub use just_env_files::DotenvAsk;
 pub use law::plans_agree;
-pub use project::plan_of_sources;
+pub use project::{plan_of_project, project_of_sources};
 pub use wanted::Wanted;

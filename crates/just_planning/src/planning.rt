@@ -1,6 +1,6 @@
 //! The plan of a closure.
 
-ghost use Rattle.std.specs.Prelude.{◌≡◌, ◌^◌, ◌<◌, List, length, map, All, None, is_none, true, option_map, Ok, Err, IfOk, IfErr};
+ghost use Rattle.std.specs.Prelude.{◌≡◌, ◌^◌, ◌<◌, List, length, map, All, None, option_map, Ok, Err, IfOk, IfErr};
 ghost use Rattle.just_closure.specs.WellFormed.{IsWellFormed};
 ghost use Rattle.just_eval.specs.Entries.{located_of};
 ghost use Rattle.just_eval.specs.Requests.{IsIndexed};
@@ -190,7 +190,6 @@ fn plan_with(
     requires formed { IsWellFormed nodes invocations }
     requires few { length nodes < 2 ^ 32 }
     requires same { length nodes ≡ length plans }
-    requires unprompted { All (λ p. is_none p.prompt ≡ true) plans }
     ensures nodes { IfOk result (λ p. p.nodes ≡ plan_nodes nodes plans) }
     ensures invocations { IfOk result (λ p. p.invocations ≡ invocations) }
 {

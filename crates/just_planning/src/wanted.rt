@@ -1,6 +1,7 @@
 //! What is asked of a justfile.
 
 use just_commands::RunFlags;
+use just_env_files::DotenvAsk;
 use just_lang::Override;
 use just_path::{Seq, Text};
 use std::num::NonZeroU64;
@@ -16,8 +17,8 @@ pub struct Wanted {
     pub one: bool,
     /// Whether recipes are run without their dependencies.
     pub no_deps: bool,
-    /// Whether no dotenv file is loaded.
-    pub no_dotenv: bool,
+    /// Which dotenv files are loaded.
+    pub dotenv: DotenvAsk,
     /// Whether unstable features may be used.
     pub unstable: bool,
     /// How many bodies may be open at once.

@@ -8,7 +8,7 @@ use just_errors::Error;
 use just_host::{Host, MemHost, Plot, Tree};
 use just_lang::Source;
 use just_path::{Environ, NoMemory, Seq, Text, Utf8Path};
-use just_planning::{Wanted, plan_of_sources};
+use just_planning::{DotenvAsk, Wanted, plan_of_project, project_of_sources};
 use just_sched::{Driven, Event, Plan, PlanNode, Verdict};
 use std::alloc::Global;
 
@@ -62,6 +62,17 @@ fn plain_flags(alloc: Global) -> Result<RunFlags, NoMemory> {
     })
 }
 
+/// No dotenv files.
+fn no_dotenv(alloc: Global) -> DotenvAsk {
+    DotenvAsk {
+        commands: Seq::new(alloc),
+        filenames: Seq::new(alloc),
+        paths: Seq::new(alloc),
+        load: false,
+        dry_run: false,
+    }
+}
+
 /// That one recipe.
 fn wanted(alloc: Global, name: &str) -> Result<Wanted, NoMemory> {
     let mut words = Vec::new(alloc);
@@ -71,7 +82,7 @@ fn wanted(alloc: Global, name: &str) -> Result<Wanted, NoMemory> {
         overrides: Seq::new(alloc),
         one: false,
         no_deps: false,
-        no_dotenv: false,
+        dotenv: no_dotenv(alloc),
         unstable: false,
         jobs: None,
         flags: plain_flags(alloc)?,
@@ -118,7 +129,8 @@ fn planned(alloc: Global, text: &str, name: &str) -> Result<Plan, Error> {
         pairs: Seq::new(alloc),
     };
     let wanted = wanted(alloc, name)?;
-    let (plan, _) = plan_of_sources(alloc, &sources, &environ, &wanted)?;
+    let justfile = project_of_sources(alloc, &sources, &environ, &wanted)?;
+    let (plan, _) = plan_of_project(alloc, &justfile, &[], &environ, &wanted)?;
     Ok(beside(alloc, plan)?)
 }
 

@@ -1,5 +1,5 @@
 -- The plan with each node's priors side by side is a plan.
-use Rattle.std.proofs.Common.{◌≡◌, ◌<◌, ◌^◌, length, map, All, true, is_none, List, sym, subst, ap, ◌∙◌, arith}
+use Rattle.std.proofs.Common.{◌≡◌, ◌<◌, ◌^◌, length, map, All, List, sym, subst, ap, ◌∙◌, arith}
 use Rattle.std.proofs.Math.Logic.{∥∥₁_map}
 use Rattle.std.proofs.lemmas.List.{length-map}
 use Rattle.std.proofs.lemmas.List.Elements.{All-map}
@@ -18,5 +18,4 @@ invariant_of-result c =
       well = subst (λ (xs : List PlanNode). ∥ IsWellFormed (map (λ x. x.node) xs) c.args.plan.invocations ∥₁) (sym are) (subst (λ xs. ∥ IsWellFormed xs c.args.plan.invocations ∥₁) (sym (map-map (λ (x : PlanNode). x.node) beside_of nodes)) c.args.plan.well);
       few = subst (λ (xs : List PlanNode). length xs < 2 ^ 32) (sym are) (subst (λ n. n < 2 ^ 32) (sym (length-map nodes beside_of)) c.args.plan.few);
       short = subst (λ (xs : List PlanNode). ∥ All (λ x. length (commands_of x.work) < 2 ^ 32) xs ∥₁) (sym are) (∥∥₁_map c.args.plan.short (λ all. All-map (λ (x : PlanNode). length (commands_of x.work) < 2 ^ 32) beside_of nodes all));
-      unprompted = subst (λ (xs : List PlanNode). ∥ All (λ x. is_none x.prompt ≡ true) xs ∥₁) (sym are) (∥∥₁_map c.args.plan.unprompted (λ all. All-map (λ (x : PlanNode). is_none x.prompt ≡ true) beside_of nodes all));
     }
