@@ -1,0 +1,4 @@
+-- The lemmas of what is tried.
+pub mod Folders
+pub mod Names
+pub mod Rising

@@ -1,0 +1,2 @@
+-- The definitions of which justfiles are tried behind one.
+pub mod Fallback

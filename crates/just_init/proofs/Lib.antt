@@ -1,0 +1,2 @@
+-- The lemmas of where a justfile is to be written.
+pub mod Writing

@@ -1,0 +1,2 @@
+-- The definitions of where a justfile is to be written.
+pub mod Inits

@@ -1,0 +1,2 @@
+-- The lemmas of looks for a program.
+pub mod Looks

@@ -1,0 +1,2 @@
+-- The definitions of which program a name means.
+pub mod Programs
