@@ -4,6 +4,7 @@ pub mod Arguments
 pub mod Asking
 pub mod Calls
 pub mod Chain
+pub mod Dotenv
 pub mod Falls
 pub mod Globals
 pub mod Loading

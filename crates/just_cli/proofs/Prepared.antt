@@ -1,5 +1,5 @@
 -- What a preparation answers and leaves, from the answers of its calls.
-use Rattle.std.proofs.Common.{◌≡◌, ◌++◌, inl, inr, List, [], Result, Ok, Err, refl, sym, ◌∙◌, ap, append_assoc, append-nil}
+use Rattle.std.proofs.Common.{◌≡◌, ◌++◌, inl, inr, List, [], ◌∷◌, Result, Ok, Err, refl, sym, ◌∙◌, ap, append_assoc, append-nil}
 use Rattle.just_outside.specs.declared.entry.Entry.{Entry}
 use Rattle.just_errors.specs.declared.error.Error.{Error}
 use Rattle.just_errors.specs.declared.error.Error.TheVariants as error
@@ -43,6 +43,23 @@ left_nothing old e silent = ([], sym (append-nil old), ([], tt, sym silent))
 -- nor does it behind misses
 pub left_misses : (old new : List Entry) (e : Error) → entries_of e ≡ [] → (es : List Entry) × (new ≡ old ++ es) × AreMisses es → (es : List Entry) × (new ≡ old ++ es) × EndsWith [] e es
 left_misses old new e silent gains = (gains.0, gains.1, (gains.0, gains.2, sym (append-nil gains.0) ∙ ap (λ xs. gains.0 ++ xs) (sym silent)))
+
+-- misses behind misses
+all_misses : (xs ys : List Entry) → AreMisses xs → AreMisses ys → AreMisses (xs ++ ys)
+all_misses [] ys h g = g
+all_misses (x ∷ xs) ys h g = (h.0, all_misses xs ys h.1 g)
+
+pub misses_then : (old middle new : List Entry) → (es : List Entry) × (middle ≡ old ++ es) × AreMisses es → (es : List Entry) × (new ≡ middle ++ es) × AreMisses es → (es : List Entry) × (new ≡ old ++ es) × AreMisses es
+misses_then old middle new first second =
+    (first.0 ++ second.0, second.1 ∙ (ap (λ xs. xs ++ second.0) first.1 ∙ append_assoc old first.0 second.0), all_misses first.0 second.0 first.2 second.2)
+
+-- a refusal behind misses
+pub ends_then : (old middle new : List Entry) (e : Error) → (es : List Entry) × (middle ≡ old ++ es) × AreMisses es → (es : List Entry) × (new ≡ middle ++ es) × EndsWith [] e es → (es : List Entry) × (new ≡ old ++ es) × EndsWith [] e es
+ends_then old middle new e first second = (
+  first.0 ++ second.0,
+  second.1 ∙ (ap (λ xs. xs ++ second.0) first.1 ∙ append_assoc old first.0 second.0),
+  (first.0 ++ second.2.0, all_misses first.0 second.2.0 first.2 second.2.1, ap (λ xs. first.0 ++ xs) second.2.2 ∙ sym (append_assoc first.0 second.2.0 (entries_of e))),
+)
 
 -- ---- a preparation as one of more
 

@@ -1,5 +1,5 @@
 -- Each step of a request gives one answer of its own at most, and so does the request.
-use Rattle.std.proofs.Common.{◌≡◌, ℕ, true, false, true≢false, List, [], ◌∷◌, Option, Some, None, Result, Ok, Err, ◌++◌, refl, sym, ◌∙◌, ap}
+use Rattle.std.proofs.Common.{◌≡◌, ℕ, Bool, true, false, true≢false, List, [], ◌∷◌, Option, Some, None, Result, Ok, Err, ◌++◌, refl, sym, ◌∙◌, ap, subst}
 use Rattle.just_path.specs.declared.environ.Environ.{Environ}
 use Rattle.just_path.specs.declared.host.Miss.{Miss}
 use Rattle.just_outside.specs.World.{World}
@@ -19,15 +19,16 @@ use Rattle.just_outside.specs.declared.entry.Entry.{Entry}
 use Rattle.just_config.specs.declared.config.Config.{Config}
 use Rattle.just_env.specs.Answers.{entries_of}
 use Rattle.just_locate.specs.declared.location.Location.{Location}
-use Rattle.just_cli.specs.Options.{file_of}
+use Rattle.just_cli.specs.Options.{file_of, looks_above, standing}
 use Rattle.just_cli.specs.Words.{WordsRequest, ArgumentsRequest, FolderRequest, ConfigRequest, LocatedRequest, JustfileRequest, FindsEnviron, ReadsWords, FindsFolder, GivesConfig, IsBuilt, Configures, FindsLocation, FindsJustfile, TakesFile}
 use Rattle.just_errors.specs.Refusals.{error_of_search}
 use Rattle.just_agree.specs.Loading.{tells_failure}
 use Rattle.just_agree.proofs.Laws.{loads_agree}
-use Rattle.just_planning.specs.Request.{SourcesRequest, Outline, PlansSources}
+use Rattle.just_planning.specs.Request.{SourcesRequest, ProjectRequest, Outline, FindsProject, PlansSources}
 use Rattle.just_planning.proofs.Laws.{plans_agree}
+use Rattle.just_planning.proofs.Requests.{finds_project}
 use Rattle.just_planning.specs.Steps.{Then, stops, goes_on}
-use Rattle.just_cli.specs.Request.{LoadsSources, EnvironGiven, FolderGiven, Tries, Searches, Serves, Asks, NoneFailed}
+use Rattle.just_cli.specs.Request.{LoadsSources, EnvironGiven, FolderGiven, FindsProjectOf, FindsProjectAt, PlansLoaded, Tries, Searches, Serves, Asks, NoneFailed}
 use Rattle.just_cli.proofs.Arguments.{arguments_one}
 use Rattle.just_cli.proofs.OneLocation.{by_one, own_unfailed}
 use Rattle.just_planning.proofs.Steps.{GivesOwn, same_refusal, refused_or_found, same_found, then_own}
@@ -213,9 +214,50 @@ then_more : {A B C : Type 0} (one other : A → Result B Error → Type 0) (two 
 then_more one other two more f g k r (stops e p is) = stops e (f k (Err e) p) is
 then_more one other two more f g k r (goes_on x p rest) = goes_on x (f k (Ok x) p) (g x r rest)
 
+-- an answer that stands is the world's own where the answer was
+stands_own : (above : Bool) (x : Result Outline Error) → IsOwn (standing above x) → IsOwn x
+stands_own above (Ok o) own = tt
+stands_own true (Err (error.UnknownRecipe recipe)) own = (refl, refl)
+stands_own true (Err (error.UnknownSubmodule path)) own = (refl, refl)
+stands_own true (Err _) own = own
+stands_own false (Err e) own = own
+
+own_standing : (r x : Result Outline Error) (above : Bool) → r ≡ standing above x → IsOwn r → IsOwn x
+own_standing r x above is own = stands_own above x (subst (λ (z : Result Outline Error). IsOwn z) is own)
+
+own_refused : (r : Result Outline Error) (e : Error) → r ≡ Err e → IsOwn r → IsOwn {A = ProjectRequest} (Err e)
+own_refused r e is own = subst (λ (z : Result Outline Error). IsOwn z) is own
+
+-- the steps from the place of a justfile to its plan, in a row
+abbrev PlansAt : World → LocatedRequest → Result Outline Error → Type 0
+PlansAt w = Then TakesFile (Then (LoadsSources (Some w)) (PlansSources (Some w)))
+
+planned_of : (w : World) (j : JustfileRequest) (p : ProjectRequest) (x : Result Outline Error) → FindsProjectOf (Some w) j (Ok p) → PlansLoaded (Some w) p x → Then (LoadsSources (Some w)) (PlansSources (Some w)) j x
+planned_of w j p x (stops e lost is) plans = absurd (refused_or_found e p (sym is))
+planned_of w j p x (goes_on s loads finds) plans = goes_on s loads (goes_on p finds plans)
+
+planned_at : (w : World) (q : LocatedRequest) (p : ProjectRequest) (x : Result Outline Error) → FindsProjectAt (Some w) q (Ok p) → PlansLoaded (Some w) p x → PlansAt w q x
+planned_at w q p x (stops e lost is) plans = absurd (refused_or_found e p (sym is))
+planned_at w q p x (goes_on j takes finds) plans = goes_on j takes (planned_of w j p x finds plans)
+
 module _ (w : World) where
+  project_own : GivesOwn (FindsProjectAt (Some w))
+  project_own = then_own TakesFile _ takes_file (then_own (LoadsSources (Some w)) FindsProject (loads_sources w) finds_project)
+
+  plan_own : GivesOwn (PlansAt w)
+  plan_own = then_own TakesFile _ takes_file (then_own (LoadsSources (Some w)) (PlansSources (Some w)) (loads_sources w) (plans_agree w))
+
   tries_own : GivesOwn (Tries (Some w))
-  tries_own = then_own TakesFile _ takes_file (then_own (LoadsSources (Some w)) PlansSources (loads_sources w) plans_agree)
+  tries_own q r s (Tries.no_project e f is) own (Tries.no_project d g at) other =
+      is ∙ same_refusal e d (project_own q (Err e) (Err d) f (own_refused r e is own) g (own_refused s d at other)) ∙ sym at
+  tries_own q r s (Tries.no_project e f is) own (Tries.of_project p x g plans at) other =
+      absurd (refused_or_found e p (project_own q (Err e) (Ok p) f (own_refused r e is own) g tt))
+  tries_own q r s (Tries.of_project p x f plans is) own (Tries.no_project d g at) other =
+      absurd (refused_or_found d p (project_own q (Err d) (Ok p) g (own_refused s d at other) f tt))
+  tries_own q r s (Tries.of_project p x f plans is) own (Tries.of_project k y g others at) other =
+      let project : p ≡ k = same_found p k (project_own q (Ok p) (Ok k) f tt g tt) in
+      let answer : x ≡ y = plan_own q x y (planned_at w q p x f plans) (own_standing r x (looks_above q.config p.justfile) is own) (planned_at w q k y g others) (own_standing s y (looks_above q.config k.justfile) at other) in
+      is ∙ (ap (λ (z : ProjectRequest). standing (looks_above q.config z.justfile) x) project ∙ ap (λ z. standing (looks_above q.config k.justfile) z) answer ∙ sym at)
 
   serves_own : GivesOwn (ServesUnfailed w)
   serves_own = then_own (FindsFolder (FolderGiven (Some w))) _ (finds_folder w) (then_own Configures _ configures (then_own (FindsUnfailed w) (Tries (Some w)) (finds_justfile w) tries_own))

@@ -1,11 +1,19 @@
 -- What of a configuration isn't built yet, and what is asked of a justfile.
-use Rattle.std.specs.Prelude.{ℕ, Bool, true, false, ◌||◌, if◌then◌else◌, nat_le, List, [], ◌∷◌, Option, Some, None, Result, Ok, Err, codes}
+use Rattle.std.specs.Prelude.{ℕ, Bool, true, false, not, ◌||◌, ◌&&◌, if◌then◌else◌, nat_le, List, [], ◌∷◌, Option, Some, None, Result, Ok, Err, codes}
 use Rattle.just_path.specs.Environ.{or_else}
 use Rattle.just_words.specs.declared.subcommand.Subcommand.{Subcommand}
 use Rattle.just_words.specs.declared.subcommand.Subcommand.TheVariants as command
 use Rattle.just_config.specs.declared.config.Config.{Config}
+use Rattle.just_config.specs.declared.search_config.SearchConfig.{SearchConfig}
+use Rattle.just_config.specs.declared.search_config.SearchConfig.TheVariants as search
 use Rattle.just_config.specs.Verbosities.{level}
+use Rattle.just_errors.specs.declared.error.Error.{Error}
+use Rattle.just_errors.specs.declared.error.Error.TheVariants as error
+use Rattle.just_lang.specs.declared.project.Justfile.{Justfile}
+use Rattle.just_value.specs.Modules.{settings_of}
+use Rattle.just_planning.specs.Request.{Outline}
 use Rattle.just_commands.specs.declared.run_flags.RunFlags.{RunFlags}
+use Rattle.just_env_files.specs.declared.ask.DotenvAsk.{DotenvAsk}
 use Rattle.just_locate.specs.declared.location.Origin.{Origin}
 use Rattle.just_locate.specs.declared.location.Origin.TheVariants as origin
 use Rattle.just_planning.specs.Forms.{word_if}
@@ -23,13 +31,6 @@ flag_not_built c =
     or_else (word_if c.allow_missing (codes "--allow-missing"))
     (or_else (word_if c.default_list (codes "--default-list"))
     (word_if c.dry_run (codes "--dry-run")))
-
--- the word of the first option with several values that isn't built
-abbrev pub list_not_built : Config → Option (List ℕ)
-list_not_built c =
-    or_else (word_if (is_any c.dotenv_command) (codes "--dotenv-command"))
-    (or_else (word_if (is_any c.dotenv_filename) (codes "--dotenv-filename"))
-    (word_if (is_any c.dotenv_path) (codes "--dotenv-path")))
 
 -- the word of a command; none is built
 abbrev pub command_word : Subcommand → List ℕ
@@ -55,7 +56,7 @@ command_not_built (Some s) = Some (command_word s)
 
 -- the word of what isn't built, of the first in the order of the options
 abbrev pub not_built : Config → Option (List ℕ)
-not_built c = or_else (flag_not_built c) (or_else (list_not_built c) (command_not_built c.subcommand))
+not_built c = or_else (flag_not_built c) (command_not_built c.subcommand)
 
 -- the file of a justfile; a text that comes from elsewhere isn't built, and has its word
 abbrev pub file_of : Origin → Result (List ℕ) (List ℕ)
@@ -85,6 +86,10 @@ flags_of c folder =
       folder = folder;
     }
 
+-- which dotenv files are asked for
+abbrev pub dotenv_of : Config → DotenvAsk
+dotenv_of c = record { commands = c.dotenv_command; filenames = c.dotenv_filename; paths = c.dotenv_path; load = not c.no_dotenv; dry_run = c.dry_run }
+
 -- what is asked of a justfile that is run in that folder
 abbrev pub wanted_of : Config → List ℕ → Wanted
 wanted_of c folder =
@@ -93,8 +98,31 @@ wanted_of c folder =
       overrides = c.overrides;
       one = c.one;
       no_deps = c.no_deps;
-      no_dotenv = c.no_dotenv;
+      dotenv = dotenv_of c;
       unstable = c.unstable;
       jobs = c.jobs;
       flags = flags_of c folder;
     }
+
+-- ---- justfiles above
+
+-- whether a justfile is searched for folder by folder
+abbrev pub is_searching : SearchConfig → Bool
+is_searching search.FromInvocationDirectory = true
+is_searching (search.FromSearchDirectory folder) = true
+is_searching _ = false
+
+-- whether a justfile above is tried where this one lacks what is asked for
+abbrev pub looks_above : Config → Justfile → Bool
+looks_above c j = is_searching c.search_config && (settings_of j).fallback
+
+-- whether a justfile lacks a recipe or a module that is asked for
+abbrev pub is_lacking : Error → Bool
+is_lacking (error.UnknownRecipe recipe) = true
+is_lacking (error.UnknownSubmodule path) = true
+is_lacking _ = false
+
+-- an answer that stands; where a justfile above would be tried, which isn't built, the word of the setting is told
+abbrev pub standing : Bool → Result Outline Error → Result Outline Error
+standing above (Ok o) = Ok o
+standing above (Err e) = if above && is_lacking e then Err (error.NotBuilt (codes "fallback")) else Err e

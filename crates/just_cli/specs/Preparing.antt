@@ -8,7 +8,7 @@ use Rattle.just_planning.specs.Own.{OrMemory}
 use Rattle.just_cli.specs.Faults.{entries_of}
 use Rattle.just_cli.specs.Request.{ArePassed}
 
--- misses alone: of files that aren't there, as a project is loaded
+-- misses alone: of files that aren't there, as a project and its dotenv files are loaded
 abbrev pub AreMisses : List Entry → Type 0
 AreMisses es = AllByRecursion (λ e. is_missed e ≡ true) es
 

@@ -19,7 +19,8 @@ use Rattle.just_errors.specs.declared.error.Error.{Error}
 use Rattle.just_errors.specs.declared.error.Error.TheVariants as error
 use Rattle.just_cli.specs.Faults.{CallGives, io_error, folder_error}
 use Rattle.just_planning.specs.Steps.{Then}
-use Rattle.just_planning.specs.Request.{SourcesRequest, Outline, outline_of, PlansSources}
+use Rattle.just_planning.specs.Request.{SourcesRequest, ProjectRequest, Outline, outline_of, FindsProject, LoadsDotenv, PlansProject}
+use Rattle.just_cli.specs.Options.{looks_above, standing}
 use Rattle.just_cli.specs.Words.{ArgumentsRequest, ConfigRequest, LocatedRequest, JustfileRequest, FindsEnviron, ReadsWords, FindsFolder, Configures, FindsLocation, FindsJustfile, TakesFile}
 
 -- ---- the step behind those of the words
@@ -44,9 +45,22 @@ EnvironGiven told = CallGives call.Environ (io_error []) (option_map environ_sho
 abbrev pub FolderGiven : Option World → Result (List ℕ) Error → Type 0
 FolderGiven told = CallGives call.Current folder_error (option_map folder_shown told)
 
--- the steps behind the place of the justfile, behind the configuration, and behind the words
-abbrev pub Tries : Option World → LocatedRequest → Result Outline Error → Type 0
-Tries told = Then TakesFile (Then (LoadsSources told) PlansSources)
+-- the project of a justfile, and of one in its place; and the steps behind the project
+abbrev pub FindsProjectOf : Option World → JustfileRequest → Result ProjectRequest Error → Type 0
+FindsProjectOf told = Then (LoadsSources told) FindsProject
+
+abbrev pub FindsProjectAt : Option World → LocatedRequest → Result ProjectRequest Error → Type 0
+FindsProjectAt told = Then TakesFile (FindsProjectOf told)
+
+abbrev pub PlansLoaded : Option World → ProjectRequest → Result Outline Error → Type 0
+PlansLoaded told = Then (LoadsDotenv told) PlansProject
+
+-- the answer to what is asked of the justfile in a place
+pub data Tries (told : Option World) (q : LocatedRequest) (r : Result Outline Error) : Type 0 where
+  no_project : (e : Error) → FindsProjectAt told q (Err e) → r ≡ Err e → Tries told q r
+  of_project : (p : ProjectRequest) (x : Result Outline Error) → FindsProjectAt told q (Ok p) → PlansLoaded told p x → r ≡ standing (looks_above q.config p.justfile) x → Tries told q r
+
+-- the steps behind the configuration, and behind the words
 
 abbrev pub Searches : Option World → List Entry → ConfigRequest → Result Outline Error → Type 0
 Searches told listings = Then (FindsJustfile (FindsLocation told listings)) (Tries told)

@@ -13,6 +13,7 @@ use super::Error;
 use super::options::{is_any, not_built};
 use just_commands::RunFlags;
 use just_config::{Arguments, Config, Read, read_words};
+use just_env_files::DotenvAsk;
 use just_locate::{Location, Origin};
 use just_path::{Environ, Seq, Text, Utf8PathBuf};
 use just_planning::{Wanted, not_built_error};
@@ -55,6 +56,13 @@ fn path_of(text: Option<Text>) -> Option<Utf8PathBuf>
 fn wanted(config: Config, folder: Utf8PathBuf) -> Wanted
     ensures { result ≡ wanted_of config folder }
 {
+    let dotenv = DotenvAsk {
+        commands: config.dotenv_command,
+        filenames: config.dotenv_filename,
+        paths: config.dotenv_path,
+        load: !config.no_dotenv,
+        dry_run: config.dry_run,
+    };
     let flags = RunFlags {
         shell: config.shell,
         shell_args: shell_args(config.clear_shell_args, config.shell_arg),
@@ -72,7 +80,7 @@ fn wanted(config: Config, folder: Utf8PathBuf) -> Wanted
         overrides: config.overrides,
         one: config.one,
         no_deps: config.no_deps,
-        no_dotenv: config.no_dotenv,
+        dotenv,
         unstable: config.unstable,
         jobs: config.jobs,
         flags,

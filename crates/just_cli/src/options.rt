@@ -1,11 +1,17 @@
-//! What of a configuration isn't built yet.
+//! What of a configuration isn't built yet, and where a justfile above would be tried.
 
-ghost use Rattle.std.specs.Prelude.{◌≡◌, Some};
+ghost use Rattle.std.specs.Prelude.{◌≡◌, ◌&&◌, Some, Err};
 ghost use Rattle.std.specs.Option.{option_copied};
-ghost use Rattle.just_cli.specs.Options.{is_any, flag_not_built, list_not_built, command_word, command_not_built, not_built};
+ghost use Rattle.just_cli.specs.Options.{is_any, flag_not_built, command_word, command_not_built, not_built, is_searching, is_lacking, standing};
+ghost use Rattle.just_value.specs.Modules.{settings_of};
+ghost use Rattle.just_planning.specs.Own.{OrMemory};
 
-use just_config::{Config, Subcommand};
+use super::Error;
+use just_config::{Config, SearchConfig, Subcommand};
+use just_lang::project::Justfile;
 use just_path::{Seq, Text};
+use just_planning::not_built_error;
+use std::alloc::Global;
 
 /// The word of the first flag that isn't built.
 fn flag_not_built(config: &Config) -> Option<&'static str>
@@ -31,23 +37,6 @@ pub(crate) fn is_any(texts: &Seq<Text>) -> bool
     match texts.as_slice() {
         [] => false,
         [_, ..] => true,
-    }
-}
-
-/// The word of the first option with several values that isn't built.
-fn list_not_built(config: &Config) -> Option<&'static str>
-    ensures { option_copied result ≡ list_not_built config.now }
-{
-    if is_any(&config.dotenv_command) {
-        return Some("--dotenv-command");
-    }
-    if is_any(&config.dotenv_filename) {
-        return Some("--dotenv-filename");
-    }
-    if is_any(&config.dotenv_path) {
-        Some("--dotenv-path")
-    } else {
-        None
     }
 }
 
@@ -91,8 +80,43 @@ pub(crate) fn not_built(config: &Config) -> Option<&'static str>
     if let Some(word) = flag_not_built(config) {
         return Some(word);
     }
-    if let Some(word) = list_not_built(config) {
-        return Some(word);
-    }
     command_not_built(&config.subcommand)
+}
+
+/// Whether a justfile is searched for folder by folder.
+pub(crate) fn is_searching(setting: &SearchConfig) -> bool
+    ensures { result ≡ is_searching setting.now }
+{
+    matches!(
+        setting,
+        SearchConfig::FromInvocationDirectory | SearchConfig::FromSearchDirectory(_)
+    )
+}
+
+/// Whether a justfile above would be tried where this one lacks what is asked for.
+pub(crate) fn looks_above(searching: bool, justfile: &Justfile) -> bool
+    ensures { result ≡ (searching && (settings_of justfile.now).fallback) }
+{
+    searching && justfile.settings.fallback
+}
+
+/// Whether a justfile lacks a recipe or a module that is asked for.
+fn is_lacking(error: &Error) -> bool
+    ensures { result ≡ is_lacking error.now }
+{
+    matches!(
+        error,
+        Error::UnknownRecipe { .. } | Error::UnknownSubmodule { .. }
+    )
+}
+
+/// A refusal that stands; or the word of the setting, where a justfile above would be tried, which isn't built.
+pub(crate) fn standing(alloc: Global, above: bool, error: Error) -> Error
+    ensures { OrMemory (λ e. Err e ≡ standing above (Err error)) result }
+{
+    if above && is_lacking(&error) {
+        drop(error);
+        return not_built_error(alloc, "fallback");
+    }
+    error
 }

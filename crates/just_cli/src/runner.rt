@@ -19,9 +19,9 @@ use std::rt::{Files, Runtime};
 use std::sync::Wait;
 use std::thread::Threads;
 
-/// Runs what the words ask for over a host: reads the words, with the variables of its environment, and the project whose justfile is in
-/// its current folder, evaluates its variables, makes the plan, and drives it to its end. Where they ask for the help or the version, that is printed to
-/// standard output, and the report has a plan of no node. An error is told on standard error. The words are those behind the
+/// Runs what the words ask for over a host: reads the words, with the variables of its environment, finds the justfile, reads its project, loads
+/// the project's dotenv files, evaluates its variables, makes the plan, and drives it to its end. Where they ask for the help or the version, that is
+/// printed to standard output, and the report has a plan of no node. An error is told on standard error. The words are those behind the
 /// program's name. It waits for the children.
 pub fn run_with<R: Threads + Wait + Sync, H: Host + Send + Drop>(
     rt: &R,

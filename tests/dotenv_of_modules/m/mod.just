@@ -1,0 +1,4 @@
+set dotenv-filename := 'n.env'
+
+s:
+	@echo "$A $B"
