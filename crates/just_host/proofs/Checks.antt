@@ -1,9 +1,11 @@
 -- What a check of outputs tells.
-use Rattle.std.proofs.Common.{◌≡◌, ℕ, ◌<◌, true, List, [], ◌++◌, length, get_or, Some, Result, Err, refl, sym, ap, ◌∙◌, append-nil, arith}
+use Rattle.std.proofs.Common.{◌≡◌, ℕ, ◌<◌, Bool, true, false, if◌then◌else◌, List, [], ◌++◌, length, get_or, Option, Some, None, IfSome, Result, Ok, Err, refl, sym, ap, ◌∙◌, append-nil, arith}
 use Rattle.std.specs.List.{Contains}
 use Rattle.std.proofs.lemmas.Option.{slice_get_read, get_or_from_slice_get}
 use Rattle.just_path.specs.View.{View, meta_told}
 use Rattle.just_path.specs.declared.host.Miss.{Miss}
+use Rattle.just_path.specs.declared.meta.Meta.{Meta}
+use Rattle.just_outside.specs.Changes.{is_not_found}
 use Rattle.just_outside.specs.declared.entry.Call.{Call}
 use Rattle.just_outside.specs.declared.entry.Entry.{Entry}
 use Rattle.just_outside.specs.declared.entry.HostFault.{HostFault}
@@ -25,6 +27,17 @@ pub check_told : (v : View) (outputs : List (List ℕ)) (i : ℕ) (x : List ℕ)
 check_told v outputs i x first is =
     let found = slice_get_read outputs (length outputs) i x refl (missing_inside v outputs i first) is in
     ap (λ o. absent_at v outputs o) first ∙ ap (λ p. absent_or i (meta_told p true v)) (get_or_from_slice_get outputs i x [] found)
+
+-- an output that is answered as absent has the number that was asked
+pub absent_inside : (b : Bool) (i n : ℕ) (m : Miss) (o : Option ℕ) → i < n → (if b then Ok (Some i) else Err m) ≡ Ok o → IfSome o (λ j. j < n)
+absent_inside true i n m None inside is = tt
+absent_inside true i n m (Some j) inside is = let same : i ≡ j = cc in omega (arith, inside, same)
+absent_inside false i n m o inside is = absurd cc
+
+pub absent_within : (i n : ℕ) (r : Result Meta Miss) (o : Option ℕ) → i < n → absent_or i r ≡ Ok o → IfSome o (λ j. j < n)
+absent_within i n (Ok m) None inside is = tt
+absent_within i n (Ok m) (Some j) inside is = absurd cc
+absent_within i n (Err m) o inside is = absent_inside (is_not_found m) i n m o inside is
 
 -- that output is one of them
 pub missing_contained : (v : View) (outputs : List (List ℕ)) (i : ℕ) (x : List ℕ) → first_missing v outputs ≡ Some i → x ≡ get_or outputs i x → Contains outputs x

@@ -1,5 +1,5 @@
 //! A host in memory, which does what its plot says.
-ghost use Rattle.std.specs.Prelude.{◌≡◌, ◌+◌, drop, ◌<◌, ◌≤◌, ℕ, List, [], ◌∷◌, ◌++◌, Option, Some, Ok, refl, option_map, IfOk, OnOk, OnErr, MatchResult, length, string_bytes};
+ghost use Rattle.std.specs.Prelude.{◌≡◌, ◌+◌, drop, ◌<◌, ◌≤◌, ℕ, List, [], ◌∷◌, ◌++◌, Option, Some, Ok, refl, option_map, IfOk, IfSome, OnOk, OnErr, MatchResult, length, string_bytes};
 ghost use Rattle.just_path.specs.Path.{text_of};
 ghost use Rattle.just_path.specs.Comps.{slash};
 ghost use Rattle.just_path.specs.Host.{note_of, note_of_fault};
@@ -510,6 +510,7 @@ impl Host for MemHost {
     fn check(&mut self, outputs: &[Utf8PathBuf]) -> Result<Option<u32>, HostFault>
         ensures entries { ChecksTo (record_of self.old) (record_of self.new) outputs.now result }
         ensures own { IsOwn Call.Check result }
+        ensures within { IfOk result (λ o. IfSome o (λ i. i < length outputs.now)) }
         ensures told { TellsAnswer (λ o. o) (λ w. told_check w outputs.now) (Some (world_of self.old)) result }
         ensures world { Some (world_of self.new) ≡ Some (world_of self.old) }
         ensures spare { spare_of self.new.log ≡ spare_of self.old.log }

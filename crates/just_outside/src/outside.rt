@@ -1,5 +1,5 @@
 //! The trait of hosts.
-ghost use Rattle.std.specs.Prelude.{◌≡◌, ◌+◌, ◌<◌, ◌≤◌, ℕ, List, [], ◌∷◌, ◌++◌, length, Option, Result, Ok, option_map, IfOk, MatchOption, OnOk, OnErr, string_bytes};
+ghost use Rattle.std.specs.Prelude.{◌≡◌, ◌+◌, ◌<◌, ◌≤◌, ℕ, List, [], ◌∷◌, ◌++◌, length, Option, Result, Ok, option_map, IfOk, IfSome, MatchOption, OnOk, OnErr, string_bytes};
 ghost use Rattle.just_path.specs.Path.{text_of};
 ghost use Rattle.just_path.specs.declared.host.PathNote.{PathNote};
 ghost use Rattle.just_outside.specs.declared.entry.Entry.{Entry};
@@ -133,6 +133,7 @@ pub trait Host: PathHost {
     fn check(&mut self, outputs: &[Utf8PathBuf]) -> Result<Option<u32>, HostFault>
         ensures entries { ChecksTo (entries self.old) (entries self.new) outputs.now result }
         ensures own { IsOwn Call.Check result }
+        ensures within { IfOk result (λ o. IfSome o (λ i. i < length outputs.now)) }
         ensures told { TellsAnswer (λ o. o) (λ w. told_check w outputs.now) (world self.old) result }
         ensures world { world self.new ≡ world self.old }
         ensures spare { spare self.new ≡ spare self.old };

@@ -1,7 +1,8 @@
 -- What a child's command is to say, and what its end is to mean.
-use Rattle.std.specs.Prelude.{ℕ, ◌≡◌, if◌then◌else◌, false, List, [], ◌∷◌, ◌++◌, Option, Some, None, option_map, ℤ}
+use Rattle.std.specs.Prelude.{ℕ, ◌≡◌, if◌then◌else◌, Bool, false, not, ◌&&◌, List, [], ◌∷◌, ◌++◌, Option, Some, None, option_map, ℤ, codes}
+use Rattle.std.specs.List.{list_any}
 use Rattle.std.specs.Str.{bytes_eq}
-use Rattle.std.specs.Process.{command_program, command_args, command_dir, command_var, clears_env, exit_code, exit_signal}
+use Rattle.std.specs.Process.{command_program, command_args, command_arg0, command_dir, command_var, clears_env, exit_code, exit_signal}
 use Rattle.std.specs.declared.alloc.Global.{Global}
 use Rattle.std.specs.declared.process.Command.{Command}
 use Rattle.std.specs.declared.process.ExitStatus.{ExitStatus}
@@ -26,13 +27,30 @@ abbrev pub arguments_with : List ℕ → Spec → Option Script → List (List �
 arguments_with file spec None = spec.arguments
 arguments_with file spec (Some s) = if s.run then s.after else spec.arguments ++ (file ∷ s.after)
 
--- a command that is the spec, whose script is in that file, if it has one: its program, arguments, folder and changes, over the environment of this process
-pub record IsCommandOf (file : List ℕ) (spec : Spec) (command : Command Global) : Type 0 where
-  pub program : command_program command ≡ program_with file spec spec.script
+-- a command that is the spec but for its program, which is that path or name, and whose script is in that file, if it has one: its arguments, folder and changes, over the environment of this process
+pub record IsCommandWith (path : List ℕ) (file : List ℕ) (spec : Spec) (command : Command Global) : Type 0 where
+  pub program : command_program command ≡ path
   pub arguments : command_args command ≡ arguments_with file spec spec.script
   pub folder : command_dir command ≡ spec.folder
   pub changes : (name : List ℕ) → command_var command name ≡ said_after name None spec.changes
   pub inherits : clears_env command ≡ false
+
+-- a command that is the spec
+abbrev pub IsCommandOf : List ℕ → Spec → Command Global → Type 0
+IsCommandOf file spec command = IsCommandWith (program_with file spec spec.script) file spec command
+
+-- the same, whose program stands at that path; the child is told the name by which it was asked for
+pub record IsCommandAt (path : List ℕ) (file : List ℕ) (spec : Spec) (command : Command Global) : Type 0 where
+  pub rest : IsCommandWith path file spec command
+  pub name : command_arg0 command ≡ Some (program_with file spec spec.script)
+
+-- some change is one of `PATH`
+abbrev pub changes_path : List (List ℕ × Option (List ℕ)) → Bool
+changes_path changes = list_any (λ c. bytes_eq c.0 (codes "PATH")) changes
+
+-- a program is asked for by the shell's name, and what is looked for is looked for in the `PATH` of this process
+abbrev pub names_shell : List ℕ → List (List ℕ × Option (List ℕ)) → Bool
+names_shell program changes = bytes_eq program (codes "sh") && not (changes_path changes)
 
 -- a child's end by its code and its signal, as the system tells them
 abbrev pub status_told : Option ℤ → Option ℤ → Status

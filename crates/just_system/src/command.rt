@@ -1,13 +1,13 @@
 //! The command of a child, and what its end means.
-ghost use Rattle.std.specs.Prelude.{◌≡◌, ◌++◌, ℕ, List, Option, Some, false, if◌then◌else◌, IfOk, OnOk};
+ghost use Rattle.std.specs.Prelude.{◌≡◌, ◌++◌, ℕ, List, Option, Some, true, false, if◌then◌else◌, IfOk, OnOk};
 ghost use Rattle.std.specs.Str.{bytes_eq};
 ghost use Rattle.std.specs.Process.{command_program, command_args, command_dir, command_var, clears_env, exit_code, exit_signal};
-ghost use Rattle.just_system.specs.Commands.{program_with, arguments_with, IsCommandOf, said_after, status_told};
+ghost use Rattle.just_system.specs.Commands.{program_with, arguments_with, IsCommandWith, IsCommandOf, IsCommandAt, changes_path, names_shell, said_after, status_told};
 
 use just_outside::{Spec, Status};
 use just_path::{NoMemory, Text};
 use std::alloc::Global;
-use std::os::unix::process::ExitStatusExt;
+use std::os::unix::process::{CommandExt, ExitStatusExt};
 use std::process::{Command, ExitStatus};
 
 /// The program of a child whose script is in that file, if it has one.
@@ -39,17 +39,49 @@ fn add_words(command: &mut Command, file: &str, spec: &Spec) -> Result<(), NoMem
     }
 }
 
-/// The command of a child whose script is in that file, if it has one. It inherits the streams of this process.
-pub fn command_of(alloc: Global, spec: &Spec, file: &str) -> Result<Command, NoMemory>
-    ensures { IfOk result (IsCommandOf file.now spec.now) }
+/// The command of a child that is that program, and whose script is in that file, if it has one. It inherits the streams of this process.
+fn command_with(alloc: Global, program: &str, spec: &Spec, file: &str) -> Result<Command, NoMemory>
+    ensures { IfOk result (IsCommandWith program.now file.now spec.now) }
 {
-    let mut command = Command::new(alloc, program_with(file, spec))?;
+    let mut command = Command::new(alloc, program)?;
     add_words(&mut command, file, spec)?;
     add_changes(&mut command, spec.changes.as_slice())?;
     if let Some(folder) = &spec.folder {
         command.current_dir(folder.as_str())?;
     }
     Ok(command)
+}
+
+/// The command of a child whose script is in that file, if it has one. It inherits the streams of this process.
+pub fn command_of(alloc: Global, spec: &Spec, file: &str) -> Result<Command, NoMemory>
+    ensures { IfOk result (IsCommandOf file.now spec.now) }
+{
+    command_with(alloc, program_with(file, spec), spec, file)
+}
+
+/// The same command, of the shell that stands at that path. The child is told the name by which it was asked for.
+pub fn command_at(alloc: Global, path: &str, spec: &Spec, file: &str) -> Result<Command, NoMemory>
+    requires { names_shell (program_with file.now spec.now spec.now.script) spec.now.changes ≡ true }
+    ensures { IfOk result (IsCommandAt path.now file.now spec.now) }
+{
+    let mut command = command_with(alloc, path, spec, file)?;
+    command.arg0(program_with(file, spec))?;
+    Ok(command)
+}
+
+/// Whether some change is one of `PATH`.
+fn changes_path(changes: &[(Text, Option<Text>)]) -> bool
+    ensures { result ≡ changes_path changes.now }
+{
+    changes.iter().any(|change| change.0.as_str() == "PATH")
+}
+
+/// Whether a child is asked for by the shell's name, and has the `PATH` of this process.
+pub fn names_shell(spec: &Spec, file: &str) -> bool
+    ensures { result ≡ names_shell (program_with file.now spec.now spec.now.script) spec.now.changes }
+{
+    let is_named = program_with(file, spec) == "sh";
+    is_named && !changes_path(spec.changes.as_slice())
 }
 
 fn add_arguments(command: &mut Command, arguments: &[Text]) -> Result<(), NoMemory>

@@ -7,6 +7,7 @@ mod child;
 mod command;
 mod real;
 mod script;
+mod shell;
 
 pub use child::{RealChild, RealDone};
 pub use real::RealHost;

@@ -1,5 +1,5 @@
 //! The host of this process, over the system.
-ghost use Rattle.std.specs.Prelude.{◌≡◌, ◌⊎◌, ◌++◌, ◌<◌, [], ◌∷◌, Ok, None, IfOk, OnOk, refl};
+ghost use Rattle.std.specs.Prelude.{◌≡◌, ◌⊎◌, ◌++◌, ◌<◌, [], ◌∷◌, Ok, None, IfOk, IfSome, OnOk, refl, length};
 ghost use Rattle.just_path.specs.Path.{text_of};
 ghost use Rattle.just_path.specs.Host.{note_of, note_of_fault};
 ghost use Rattle.just_outside.specs.declared.entry.Entry.{Entry};
@@ -13,8 +13,9 @@ ghost use Rattle.just_system.specs.Real.{record_of, path_of};
 
 use super::capturing::capture;
 use super::child::{RealChild, RealDone};
-use super::command::command_of;
+use super::command::{command_at, command_of, names_shell};
 use super::script::{ScriptFile, place, remove};
+use super::shell::Shell;
 use just_files::disk::{self, is_absent};
 use just_files::system::{
     ask, canonical, here, list, look, miss_of, pairs, read, read_text, show, target,
@@ -35,11 +36,13 @@ use std::rt::{Env, Files, Runtime};
 ///
 /// A path that the system can't take, such as one with a NUL, isn't found. What is neither a file nor a folder isn't
 /// read. The script of a child is written to a file in a fresh folder, which goes when the child's end is noted; what can't be removed stays.
+/// The shell is looked for in `PATH` at the first start, and started from where it stood then as long as it can be.
 #[derive(Drop)]
 pub struct RealHost<R> {
     rt: R,
     alloc: Global,
     log: Log,
+    shell: Shell,
 }
 
 impl<R: Runtime> RealHost<R> {
@@ -53,6 +56,7 @@ impl<R: Runtime> RealHost<R> {
             rt,
             alloc,
             log: Log::new(alloc),
+            shell: Shell::Unknown,
         })
     }
 }
@@ -130,12 +134,14 @@ fn refuse_capture(log: &mut Log, alloc: Global, program: &Text, fault: HostFault
     }
 }
 
-/// The number of the first output that isn't there, and the place of one that isn't found for another reason, with its error.
-/// No clause: nothing is claimed of files.
+/// The number of the first output that isn't there, and the place of one that isn't found for another reason, with its error. Nothing
+/// is claimed of files.
 fn first_absent<F: Files>(
     files: &F,
     outputs: &[Utf8PathBuf],
-) -> Result<Option<usize>, (usize, io::Error)> {
+) -> Result<Option<usize>, (usize, io::Error)>
+    ensures { IfOk result (λ o. IfSome o (λ i. i < length outputs.now)) }
+{
     for i in 0..outputs.len() {
         match is_absent(files, outputs[i].as_path().as_str()) {
             Ok(false) => {}
@@ -217,6 +223,8 @@ fn answer_check(
 ) -> Result<Option<u32>, HostFault>
     requires room { HasRoom log.old }
     requires copies { copies ≡ outputs.now }
+    requires told { IfOk told (λ o. IfSome o (λ i. i < length outputs.now)) }
+    ensures within { IfOk result (λ o. IfSome o (λ i. i < length outputs.now)) }
     ensures entries { ChecksTo (entries_of log.old) (entries_of log.new) outputs.now result }
     ensures own { IsOwn Call.Check result }
     ensures spare { spare_of log.new ≡ spare_of log.old }
@@ -331,17 +339,47 @@ fn command_for(alloc: Global, spec: &Spec, file: &Option<ScriptFile>) -> Result<
     command_of(alloc, spec, path_of(file))
 }
 
+/// Starts a command, if there is memory for it.
+/// No clause: nothing is said of what the system starts.
+fn begin<P: Processes<Started = SystemProcess>>(
+    processes: &P,
+    command: Result<Command, NoMemory>,
+) -> io::Result<Child<SystemProcess>> {
+    match command {
+        Ok(mut command) => command.spawn(processes),
+        Err(NoMemory) => Err(io::Error::from(ErrorKind::OutOfMemory)),
+    }
+}
+
+/// Starts a child that is asked for by the shell's name from the path at which the shell was found. None where that can't be done.
+/// No clause: nothing is said of what the system starts; the command is `command_at`'s.
+fn spawn_shell<R: Runtime + Processes<Started = SystemProcess>>(
+    rt: &R,
+    alloc: Global,
+    shell: &mut Shell,
+    spec: &Spec,
+    file: &str,
+) -> Option<Child<SystemProcess>> {
+    if !names_shell(spec, file) {
+        return None;
+    }
+    shell.look(rt, alloc);
+    let path = shell.path()?;
+    begin(rt, command_at(alloc, path, spec, file)).ok()
+}
+
 /// Starts the child. Where that fails, the file of its script goes.
 /// No clause: nothing is said of what the system starts; the command is `command_for`'s.
 fn spawn<R: Runtime + Processes<Started = SystemProcess>>(
     rt: &R,
     alloc: Global,
+    shell: &mut Shell,
     spec: &Spec,
     file: &Option<ScriptFile>,
 ) -> io::Result<Child<SystemProcess>> {
-    let told = match command_for(alloc, spec, file) {
-        Ok(mut command) => command.spawn(rt),
-        Err(NoMemory) => Err(io::Error::from(ErrorKind::OutOfMemory)),
+    let told = match spawn_shell(rt, alloc, shell, spec, path_of(file)) {
+        Some(child) => Ok(child),
+        None => begin(rt, command_for(alloc, spec, file)),
     };
     if told.is_err() {
         clear(rt, file);
@@ -583,7 +621,7 @@ impl<R: Runtime + Files<File = File> + Processes<Started = SystemProcess>> Host 
     fn start(&mut self, spec: &Spec) -> Result<RealChild, HostFault> {
         let copy = prepare(&mut self.log, spec)?;
         let file = place_script(&self.rt, &mut self.log, self.alloc, spec)?;
-        let told = spawn(&self.rt, self.alloc, spec, &file);
+        let told = spawn(&self.rt, self.alloc, &mut self.shell, spec, &file);
         answer_start(&mut self.log, copy, file, told)
     }
 

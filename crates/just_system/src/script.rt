@@ -20,7 +20,7 @@ pub(crate) struct ScriptFile {
 }
 
 /// The path of a name in a folder.
-fn path_in(alloc: Global, folder: &str, name: &str) -> Result<Text, NoMemory>
+pub(crate) fn path_in(alloc: Global, folder: &str, name: &str) -> Result<Text, NoMemory>
     ensures { IfOk result (λ p. p ≡ path_in folder.now name.now) }
 {
     let mut path = String::from_str(alloc, folder)?;

@@ -9,3 +9,5 @@ mod real;
 mod real_edges;
 #[cfg(test)]
 mod scripts;
+#[cfg(test)]
+mod shell;

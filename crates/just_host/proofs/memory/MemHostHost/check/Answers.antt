@@ -1,5 +1,5 @@
 -- A check asks of the first output that isn't found why it isn't.
-use Rattle.std.proofs.Common.{◌≡◌, true, Some, sym, ap, subst, ◌∙◌}
+use Rattle.std.proofs.Common.{◌≡◌, true, length, Some, sym, ap, subst, ◌∙◌}
 use Rattle.std.specs.List.{Contains}
 use Rattle.just_path.specs.Path.{text_of}
 use Rattle.just_path.specs.View.{meta_told}
@@ -8,7 +8,7 @@ use Rattle.just_outside.specs.Looks.{first_missing, absent_or, told_check}
 use Rattle.just_outside.specs.World.{view_of}
 use Rattle.just_host.specs.Mem.{record_of, world_of}
 use Rattle.just_outside.specs.Logs.{entries_of}
-use Rattle.just_host.proofs.Checks.{missing_inside, check_told, missing_contained, failed_check, refused_check, refused_shows}
+use Rattle.just_host.proofs.Checks.{missing_inside, absent_within, check_told, missing_contained, failed_check, refused_check, refused_shows}
 use Rattle.just_host.proofs.memory.MemHostHost.check.Goals as goal
 
 pub returns-then-strike-clause-entries : goal.returns-then-strike-clause-entries
@@ -18,6 +18,12 @@ pub bounds-outputs-number : goal.bounds-outputs-number
 bounds-outputs-number c =
     let first : first_missing (view_of (world_of c.args.self.now)) c.args.outputs.now ≡ Some c.in-Some.number = sym c.in_ok-number.ensures ∙ c.in-Some.is in
     missing_inside (view_of (world_of c.args.self.now)) c.args.outputs.now c.in-Some.number first
+
+pub returns-in_ok-note-in-Ok-clause-within : goal.returns-in_ok-note-in-Ok-clause-within
+returns-in_ok-note-in-Ok-clause-within c =
+    let first : first_missing (view_of (world_of c.args.self.now)) c.args.outputs.now ≡ Some c.in-Some.number = sym c.in_ok-number.ensures ∙ c.in-Some.is in
+    let inside = missing_inside (view_of (world_of c.args.self.now)) c.args.outputs.now c.in-Some.number first in
+    absent_within c.in-Some.number (length c.args.outputs.now) (meta_told (text_of c.as_path-output.result) true (view_of (world_of c.args.self.now))) c.in-Ok.first inside c.in-Ok.ensures
 
 pub returns-in_ok-note-in-Ok-clause-told : goal.returns-in_ok-note-in-Ok-clause-told
 returns-in_ok-note-in-Ok-clause-told c =
