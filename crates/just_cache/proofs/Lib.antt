@@ -1,0 +1,4 @@
+-- The lemmas of a cache.
+mod Steps
+mod Puts
+mod Told

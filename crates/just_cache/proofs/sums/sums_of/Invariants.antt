@@ -1,0 +1,12 @@
+-- The names so far have their sums.
+use Rattle.std.proofs.Common.{◌≡◌, take}
+use Rattle.just_path.specs.Path.{text_of}
+use Rattle.just_cache.specs.Sums.{AreSummed}
+use Rattle.just_cache.proofs.sums.sums_of.Given as goal
+
+abbrev pub invariant-names : goal.invariant-names
+invariant-names g l = record {
+  summed : AreSummed (g.H.Host.world l.fn.host) (text_of l.folder) (take l.name-index l.names) l.given.items (g.H.Host.entries l.fn.host) (g.H.Host.entries l.host);
+  world : g.H.Host.world l.host ≡ g.H.Host.world l.fn.host;
+  spare : g.H.Host.spare l.host ≡ g.H.Host.spare l.fn.host;
+}

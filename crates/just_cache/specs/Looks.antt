@@ -1,0 +1,66 @@
+-- The status of a key by a look at its entry and outputs, and what is saved.
+use Rattle.std.specs.Prelude.{ℕ, ◌≡◌, List, [], ◌∷◌, ◌++◌, Option, Result, Ok, Err, MatchOption}
+use Rattle.just_lang.specs.declared.recipe.Modulepath.{Modulepath}
+use Rattle.just_outside.specs.declared.entry.Call.TheVariants as call
+use Rattle.just_outside.specs.declared.entry.Entry.{Entry}
+use Rattle.just_outside.specs.declared.entry.Entry.TheVariants as entry
+use Rattle.just_outside.specs.declared.entry.HostFault.{HostFault}
+use Rattle.just_outside.specs.declared.entry.Look.{Look}
+use Rattle.just_outside.specs.declared.entry.Look.TheVariants as look
+use Rattle.just_outside.specs.Changes.{Changes, IsOfEntry, with_cache_entry, place_written, written}
+use Rattle.just_outside.specs.Looks.{LookTells, look_at, told_bytes}
+use Rattle.just_outside.specs.Record.{gained, IsOwn}
+use Rattle.just_outside.specs.World.{World, view_of}
+use Rattle.just_cache.specs.declared.cache_error.CacheError.{CacheError}
+use Rattle.just_cache.specs.declared.status.CacheStatus.{CacheStatus}
+use Rattle.just_cache.specs.declared.status.CacheStatus.TheVariants as status
+use Rattle.just_cache.specs.Errors.{entry_error}
+
+-- ---- the status
+
+-- a look at an entry and outputs, as the host answered: the record gained it or its refusal, a told world shows it, and nothing of
+-- that world is changed but that the entry and its folder are there
+pub record IsProbed (told after : Option World) (path : List ℕ) (outputs : List (List ℕ)) (old new : List Entry) (answer : Result Look HostFault) : Type 0 where
+  pub entries : new ≡ old ++ gained path (λ l. entry.Probed path outputs l ∷ []) answer
+  pub own : IsOwn call.Probe answer
+  pub shown : LookTells told path outputs answer
+  pub world : Changes (λ w. with_cache_entry w path) (λ w place. IsOfEntry w path place) told after answer
+
+-- a hit exactly where the entry isn't empty and each output is there; else the lock of that entry for that recipe
+abbrev pub status_of : List ℕ → Modulepath → Look → CacheStatus
+status_of path recipe look.Full = status.Hit
+status_of path recipe look.Empty = status.Miss (record { path = path; recipe = recipe })
+status_of path recipe (look.OutputMissing n) = status.Miss (record { path = path; recipe = recipe })
+
+abbrev pub status_told : List ℕ → Modulepath → Result Look HostFault → Result CacheStatus CacheError
+status_told path recipe (Ok l) = Ok (status_of path recipe l)
+status_told path recipe (Err f) = Err (entry_error path f)
+
+-- the status of an entry by one look
+pub record GivesStatus (told after : Option World) (path : List ℕ) (outputs : List (List ℕ)) (recipe : Modulepath) (old new : List Entry) (result : Result CacheStatus CacheError) : Type 0 where
+  pub answer : Result Look HostFault
+  pub probed : IsProbed told after path outputs old new answer
+  pub status : result ≡ status_told path recipe answer
+
+-- over a told world the status is the one by the bytes of the entry and the outputs
+abbrev pub ShowsStatus : Option World → List ℕ → List (List ℕ) → Modulepath → Result CacheStatus CacheError → Type 0
+ShowsStatus told path outputs recipe (Ok s) = MatchOption told (Unit {0}) (λ w. s ≡ status_of path recipe (look_at (view_of w) outputs (told_bytes w path)))
+ShowsStatus told path outputs recipe (Err e) = Unit {0}
+
+-- ---- what is saved
+
+-- an entry that is to hold these bytes, as the host answered: the record gained it or its refusal, and nothing of a told world is
+-- changed but that entry
+pub record IsSaved (told after : Option World) (path bytes : List ℕ) (old new : List Entry) (answer : Result (Unit {0}) HostFault) : Type 0 where
+  pub entries : new ≡ old ++ gained path (λ _. entry.Saved path ∷ []) answer
+  pub own : IsOwn call.Save answer
+  pub world : Changes (λ w. written w path bytes) (λ w place. place_written w path ≡ Ok place) told after answer
+
+abbrev pub saved_told : List ℕ → Result (Unit {0}) HostFault → Result (Unit {0}) CacheError
+saved_told path (Ok done) = Ok done
+saved_told path (Err f) = Err (entry_error path f)
+
+pub record Saves (told after : Option World) (path bytes : List ℕ) (old new : List Entry) (result : Result (Unit {0}) CacheError) : Type 0 where
+  pub answer : Result (Unit {0}) HostFault
+  pub saved : IsSaved told after path bytes old new answer
+  pub result_is : result ≡ saved_told path answer
