@@ -1,3 +1,5 @@
+//! Why a row was not compared.
+
 use just_path::NoMemory;
 use std::alloc::{AllocError, AllocFailed};
 
