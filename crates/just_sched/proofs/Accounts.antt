@@ -18,22 +18,24 @@ use Rattle.just_outside.specs.World.{World}
 use Rattle.just_sched.specs.declared.event.Event.{Event}
 use Rattle.just_sched.specs.declared.event.Event.TheVariants as event
 use Rattle.just_sched.specs.Account.{IsAccount, taken_behind}
+use Rattle.just_sched.specs.Cached.{is_cached, is_looked_at}
 use Rattle.just_sched.specs.Legal.{Run, May, IsLegal, all_starts, open_bodies, in_body}
 use Rattle.just_sched.specs.Match.{StandsFor}
 use Rattle.just_sched.specs.Room.{slots, settles, settle_count, total_commands}
 use Rattle.just_sched.specs.Start.{Start, IsKept, run_of}
-use Rattle.just_sched.specs.State.{signal_in, has_taken, has_given, is_confirmed, is_over, is_open, is_running, caught_signal}
+use Rattle.just_sched.specs.State.{signal_in, has_taken, has_given, is_begun, is_confirmed, is_over, is_open, is_running, caught_signal}
 use Rattle.just_sched.proofs.Counts.{over_still, running_inside, untaken}
 use Rattle.just_sched.proofs.Due.{opened}
 use Rattle.just_sched.proofs.EventRoom.{room, settle_room}
 use Rattle.just_sched.proofs.Histories.{legal_more, matches_more}
 use Rattle.just_sched.proofs.OneMore.{all_starts_more, settles_more, signal_stays}
 use Rattle.just_sched.proofs.OpenBodies.{open_gave, open_stays, open_took}
-use Rattle.just_sched.proofs.Order.{took_confirmed}
+use Rattle.just_sched.proofs.Order.{looked_before_begun, took_confirmed}
 use Rattle.just_sched.proofs.PlanShape.{IsFormed}
 use Rattle.just_sched.proofs.Range.{in_range}
 use Rattle.just_sched.proofs.Stretch.{fresh_start}
 use Rattle.just_sched.proofs.Tests.{neither, unless}
+use Rattle.just_sched.proofs.Touching.{Leads, leads_same, touched_on, untouched_yet}
 
 -- ---- one event more
 
@@ -46,7 +48,7 @@ none_started : (h : List Event) (e : Event) → all_starts (h ++ e ∷ []) ≡ 0
 none_started h e z = omega (arith, all_starts_more h e)
 
 -- a kept run goes on by an event and its entries; the world may have been touched where that is allowed
-kept_more : (s : Start) (h : List Event) (now fs new : List Entry) (w v : Option World) (e : Event) → IsKept s h now w → new ≡ now ++ fs → May (run_of s) h e → StandsFor (run_of s) h e fs → (all_starts (h ++ e ∷ []) ≡ 0 → list_any is_failed fs ≡ false → v ≡ w) → IsKept s (h ++ e ∷ []) new v
+kept_more : (s : Start) (h : List Event) (now fs new : List Entry) (w v : Option World) (e : Event) → IsKept s h now w → new ≡ now ++ fs → May (run_of s) h e → StandsFor (run_of s) h e fs → (all_starts (h ++ e ∷ []) ≡ 0 → list_any is_failed fs ≡ false → Leads s.plan.nodes w v) → IsKept s (h ++ e ∷ []) new v
 kept_more s h now fs new w v e k gained may stands same = record {
   legal = legal_more (run_of s) h e k.legal may;
   gained = k.gained ++ fs;
@@ -54,7 +56,7 @@ kept_more s h now fs new w v e k gained may stands same = record {
   matches = matches_more (run_of s) h e k.gained fs k.matches stands;
   untouched = λ z none.
       let parts = none_failed k.gained fs none in
-      same z parts.1 ∙ k.untouched (none_started h e z) parts.0;
+      touched_on s.plan.nodes s.world w v (k.untouched (none_started h e z) parts.0) (same z parts.1);
 }
 
 -- how many bodies are open behind an event
@@ -153,6 +155,10 @@ module _ {s : Start} {h : List Event} {now : List Entry} {w : Option World} {spa
   pub inside_running : (n : ℕ) → is_running h n ≡ true → in_body h n ≡ true
   inside_running n r = ∥∥₁_elim account (Bool-set _ _) (λ a. running_inside (run_of s) h n a.kept.legal r)
 
+  -- the entry of a cached body that was begun was looked at
+  pub looked_here : (n : ℕ) → is_cached s.plan.nodes n ≡ true → is_begun h n ≡ true → is_looked_at h n ≡ true
+  looked_here n c b = ∥∥₁_elim account (Bool-set _ _) (λ a. looked_before_begun (run_of s) h n a.kept.legal c b)
+
   -- a body that is over runs nothing
   pub over_rests : (n : ℕ) → is_over h n ≡ true → is_running h n ≡ false
   over_rests n o = ∥∥₁_elim account (Bool-set _ _) (λ a. over_still (run_of s) h n a.kept.legal o)
@@ -162,16 +168,22 @@ module _ {s : Start} {h : List Event} {now : List Entry} {w : Option World} {spa
   fresh_child = ∥∥₁_elim account (ℕ_set _ _) (λ a. ap children a.kept.grew ∙ fresh_start (run_of s) h s.entries a.kept.gained a.kept.matches)
 
   -- the account is right behind an event that may come, with the entries that the event stands for
-  pub noted : (later : List Event) (fs new : List Entry) (v : Option World) (left : ℕ) (e : Event) → later ≡ h ++ e ∷ [] → new ≡ now ++ fs → May (run_of s) h e → StandsFor (run_of s) h e fs
-      → (all_starts (h ++ e ∷ []) ≡ 0 → list_any is_failed fs ≡ false → v ≡ w) → spare ≤ left + cond (settles e) 1 0 → signal_in e ≡ None
+  pub noted_leading : (later : List Event) (fs new : List Entry) (v : Option World) (left : ℕ) (e : Event) → later ≡ h ++ e ∷ [] → new ≡ now ++ fs → May (run_of s) h e → StandsFor (run_of s) h e fs
+      → (all_starts (h ++ e ∷ []) ≡ 0 → list_any is_failed fs ≡ false → Leads s.plan.nodes w v) → spare ≤ left + cond (settles e) 1 0 → signal_in e ≡ None
       → ∥ IsAccount s later new v left (taken_behind e taken) caught ∥₁
-  noted later fs new v left e grew gained may stands same room plain = subst (λ k. ∥ IsAccount s k new v left (taken_behind e taken) caught ∥₁) (sym grew) (∥∥₁_map account (λ a. record {
+  noted_leading later fs new v left e grew gained may stands same room plain = subst (λ k. ∥ IsAccount s k new v left (taken_behind e taken) caught ∥₁) (sym grew) (∥∥₁_map account (λ a. record {
     kept = kept_more s h now fs new w v e a.kept gained may stands same;
     spared = omega (arith, a.spared, room, settles_more h e);
     counted = ap (taken_behind e) a.counted ∙ sym (∥∥₁_elim s.plan.well (ℕ_set _ _) (λ f. open_behind (run_of s) h e f a.kept.legal may));
     bound = bound_behind (run_of s) h e taken a.counted may a.bound;
     signalled = a.signalled ∙ sym (signal_stays h e plain);
   }))
+
+  -- the same where the world stays as it is
+  pub noted : (later : List Event) (fs new : List Entry) (v : Option World) (left : ℕ) (e : Event) → later ≡ h ++ e ∷ [] → new ≡ now ++ fs → May (run_of s) h e → StandsFor (run_of s) h e fs
+      → (all_starts (h ++ e ∷ []) ≡ 0 → list_any is_failed fs ≡ false → v ≡ w) → spare ≤ left + cond (settles e) 1 0 → signal_in e ≡ None
+      → ∥ IsAccount s later new v left (taken_behind e taken) caught ∥₁
+  noted later fs new v left e grew gained may stands same room plain = noted_leading later fs new v left e grew gained may stands (λ z none. leads_same s.plan.nodes w v (same z none)) room plain
 
   -- the same of an event that stands for no entries
   pub noted_alone : (later : List Event) (e : Event) → later ≡ h ++ e ∷ [] → May (run_of s) h e → StandsFor (run_of s) h e [] → signal_in e ≡ None → ∥ IsAccount s later now w spare (taken_behind e taken) caught ∥₁
@@ -196,7 +208,7 @@ no_bound (Some j) = omega arith
 -- a book of no events yet has a right account where the host has room for each command's end
 pub account_none : (s : Start) (h : List Event) (now : List Entry) (w : Option World) (spare : ℕ) → h ≡ [] → now ≡ s.entries → w ≡ s.world → total_commands s.plan.nodes ≤ spare → ∥ IsAccount s h now w spare 0 None ∥₁
 account_none s h now w spare none same world enough = subst (λ k. ∥ IsAccount s k now w spare 0 None ∥₁) (sym none) (∣ record {
-  kept = record { legal = tt; gained = []; grew = same ∙ sym (append-nil s.entries); matches = refl; untouched = λ _ _. world };
+  kept = record { legal = tt; gained = []; grew = same ∙ sym (append-nil s.entries); matches = refl; untouched = λ _ _. untouched_yet s.plan.nodes s.world w world };
   spared = omega (arith, enough);
   counted = sym (none_open (range_with_len 0 (length s.plan.nodes)));
   bound = no_bound s.jobs;

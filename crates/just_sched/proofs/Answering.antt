@@ -1,6 +1,5 @@
 -- What becomes of a book's account and of its history as a node is answered.
-use Rattle.std.proofs.Common.{◌≡◌, ℕ, ◌+◌, ◌≤◌, ◌==◌, ◌&&◌, ◌||◌, Bool, true, false, List, [], ◌∷◌, ◌++◌, length, length-append, append_assoc, Option, refl, ap, sym, ◌∙◌, arith, eq-eqb}
-use Rattle.std.specs.List.{list_any}
+use Rattle.std.proofs.Common.{◌≡◌, ℕ, ◌+◌, ◌≤◌, ◌==◌, Bool, true, false, List, [], ◌∷◌, ◌++◌, length, length-append, append_assoc, Option, refl, ap, sym, ◌∙◌, arith, eq-eqb}
 use Rattle.std.proofs.Math.Bridge.{le_prop}
 use Rattle.std.proofs.Math.Logic.{∥∥₁_elim}
 use Rattle.just_outside.specs.declared.entry.Entry.{Entry}
@@ -18,7 +17,7 @@ use Rattle.just_sched.specs.Moves.{GrowsBy, Rests, answer_events}
 use Rattle.just_sched.specs.Room.{slots, settle_count}
 use Rattle.just_sched.specs.Running.{EachNoIsDone}
 use Rattle.just_sched.specs.Start.{Start, run_of}
-use Rattle.just_sched.specs.State.{asks, concludes, has_caught, is_asked, is_done, is_open, is_running, IsToAsk}
+use Rattle.just_sched.specs.State.{asks, concludes, has_caught, is_asked, is_open, is_running, IsToAsk}
 use Rattle.just_sched.proofs.Accounts.{noted, noted_alone, not_running, room_for, unsure_free}
 use Rattle.just_sched.proofs.Asking.{answered_no, asked_now, no_done, no_kept, to_ask_unsure}
 use Rattle.just_sched.proofs.Behind.{done_now, done_rests}

@@ -1,5 +1,5 @@
 -- What is asked of nodes over a legal history, and what follows where a node is to be asked.
-use Rattle.std.proofs.Common.{◌≡◌, ℕ, ◌<◌, ◌≤◌, ◌==◌, ◌&&◌, ◌||◌, not, ⊎_elim, Bool, true, false, true≢false, if◌then◌else◌, List, [], ◌∷◌, ◌++◌, length, append_assoc, arith, Option, Some, None, is_none, is_some, refl, ap, ap₂, sym, ◌∙◌, subst, eqb-true, eq-eqb}
+use Rattle.std.proofs.Common.{◌≡◌, ℕ, ◌<◌, ◌≤◌, ◌==◌, ◌&&◌, ◌||◌, not, ⊎_elim, Bool, true, false, true≢false, List, [], ◌∷◌, ◌++◌, length, append_assoc, arith, Option, Some, None, is_none, is_some, refl, ap, ap₂, sym, ◌∙◌, subst, eqb-true, eq-eqb}
 use Rattle.std.specs.List.{list_any}
 use Rattle.just_sched.specs.declared.event.Event.{Event}
 use Rattle.just_sched.specs.declared.event.Event.TheVariants as event
@@ -18,7 +18,7 @@ use Rattle.just_sched.proofs.Finish.{asked_answer}
 use Rattle.just_sched.proofs.Histories.{legal_holds}
 use Rattle.just_sched.proofs.Order.{since, took_confirmed}
 use Rattle.just_sched.proofs.Range.{answered_asked}
-use Rattle.just_sched.proofs.Tests.{and_false, any_kept, any_more, any_none, any_now, neither, or_false, unless}
+use Rattle.just_sched.proofs.Tests.{and_false, any_kept, any_none, any_now, neither, unless}
 
 -- ---- a node has one answer
 

@@ -1,5 +1,5 @@
 -- What a record shows of a body that failed.
-use Rattle.std.proofs.Common.{◌≡◌, ℕ, ◌-◌, ◌==◌, inl, inr, ◌&&◌, not, codes, Bool, true, false, if◌then◌else◌, List, [], ◌∷◌, ◌++◌, length, slice_get, Contains, Option, Some, None, ℤ, pos, true≢false, refl, ap, sym, ◌∙◌, subst, append_assoc, append-nil, length-append, arith, eqb-true}
+use Rattle.std.proofs.Common.{◌≡◌, ℕ, ◌-◌, ◌<◌, ◌==◌, inl, inr, ◌&&◌, not, codes, Bool, true, false, if◌then◌else◌, List, [], ◌∷◌, ◌++◌, length, slice_get, Contains, Option, Some, None, ℤ, pos, true≢false, refl, ap, sym, ◌∙◌, subst, append_assoc, append-nil, length-append, arith, eqb-true}
 use Rattle.std.specs.List.{last_or, list_any}
 use Rattle.std.specs.Ordering.{int_eq}
 use Rattle.std.proofs.lemmas.List.Elements.{Contains-append_left, Contains-append_right}
@@ -22,11 +22,13 @@ use Rattle.just_commands.specs.declared.work.Step.{Step}
 use Rattle.just_commands.specs.declared.work.Step.TheVariants as step
 use Rattle.just_commands.specs.declared.work.Work.{Work}
 use Rattle.just_sched.specs.Causes.{ShowsFailure, ShowsMiss, ShowsRefusal, EndedLast}
-use Rattle.just_sched.specs.Nodes.{prompt_at, command_at}
+use Rattle.just_sched.specs.declared.cache_plan.CachePlan.{CachePlan}
+use Rattle.just_sched.specs.Cached.{entry_of}
+use Rattle.just_sched.specs.Nodes.{cache_at, prompt_at, command_at}
 use Rattle.just_commands.specs.Steps.{commands_of, ends_body, goes_on, is_code, start_or_well, step_behind, after}
 use Rattle.just_sched.specs.State.{answers, status_of, reason_in, signal_in, is_done, statuses, last_start, reason_of, caught_signal, next_step}
 use Rattle.just_sched.specs.Legal.{Run, Ended, IsDue, May, LegalFrom, IsLegal}
-use Rattle.just_sched.specs.Match.{StandsFor, FaultStandsFor, MissStandsFor, FailureStandsFor, BehindEcho, MatchesFrom, Matches, printed_entries, is_yes}
+use Rattle.just_sched.specs.Match.{StandsFor, FaultStandsFor, MissStandsFor, FailureStandsFor, OfCache, SumsFirst, BehindEcho, MatchesFrom, Matches, printed_entries, summed_entries, is_yes}
 use Rattle.just_sched.proofs.AfterLaws.{after_judged}
 use Rattle.just_sched.proofs.Counts.{running_place}
 use Rattle.just_sched.proofs.Due.{inside}
@@ -34,7 +36,7 @@ use Rattle.just_sched.proofs.Histories.{legal_holds, legal_more}
 use Rattle.just_sched.proofs.OneMore.{last_start_stays, last_started, reason_kept, reason_new, signal_kept, signal_new, statuses_ended, statuses_stay}
 use Rattle.just_sched.proofs.Others.{next_step_stays, starts_of, statuses_of}
 use Rattle.just_sched.proofs.Reasons.{reason_done, reason_due, reason_since}
-use Rattle.just_sched.proofs.Stretch.{matches_holds, option_there}
+use Rattle.just_sched.proofs.Stretch.{matches_holds, option_there, sums_there}
 use Rattle.just_sched.proofs.Tests.{any_kept, any_none, both, last_push, neither, not_true}
 
 -- ---- a history with its record
@@ -254,6 +256,17 @@ behind s h n made fs b =
     let c = option_there (λ c. fs ≡ printed_entries c.echo ++ made c ∷ []) (command_at s.nodes n b.0) b.2 in
     (c.0, subst (λ k. Contains k (made c.0)) (sym c.1) (pushed (printed_entries c.0.echo) (made c.0)))
 
+-- behind sums stands what was made of them
+sums_shown : (s : Run) (n : ℕ) (many : CachePlan → ℕ → Type 0) (made : CachePlan → List (List ℕ) → Entry) (fs : List Entry) → OfCache s n (λ c. SumsFirst c (many c) (λ sums. made c sums ∷ []) fs)
+    → (c : CachePlan) × (sums : List (List ℕ)) × Contains fs (made c sums)
+sums_shown s n many made fs b =
+    let c = option_there (λ c. SumsFirst c (many c) (λ sums. made c sums ∷ []) fs) (cache_at s.nodes n) b in
+    (c.0, c.1.0, subst (λ k. Contains k (made c.0 c.1.0)) (sym c.1.2) (pushed (summed_entries c.0.paths c.1.0) (made c.0 c.1.0)))
+
+-- behind a check stands what was made
+checked_shown : (fs : List Entry) (outputs : List (List ℕ)) (x : Entry) → fs ≡ entry.Checked outputs None ∷ x ∷ [] → Contains fs x
+checked_shown fs outputs x e = subst (λ k. Contains k x) (sym e) (pushed (entry.Checked outputs None ∷ []) x)
+
 -- the part of a failed call shows the failure
 fault_shown : (s : Run) (h : List Event) (n : ℕ) (c : Call) (fs : List Entry) → FaultStandsFor s h n c fs → ShowsFailure c fs
 fault_shown s h n call.Ask fs b = inl (alone fs (entry.Failed call.Ask) b)
@@ -262,12 +275,25 @@ fault_shown s h n call.Temp fs b = inl (behind s h n (λ c. entry.Failed call.Te
 fault_shown s h n call.Start fs b = inl (behind s h n (λ c. entry.Failed call.Start) fs b).1
 fault_shown s h n call.Wait fs (inl b) = inl (alone fs (entry.Failed call.Wait) b)
 fault_shown s h n call.Wait fs (inr b) = inr (refl, b.1, b.2, alone fs (entry.Strayed b.1 b.2) b.5)
+fault_shown s h n call.Sum fs b = inl (sums_shown s n (λ c many. many < length c.paths) (λ c sums. entry.Failed call.Sum) fs b).2
+fault_shown s h n call.Probe fs b = inl (sums_shown s n (λ c many. many ≡ length c.paths) (λ c sums. entry.Failed call.Probe) fs b).2
+fault_shown s h n call.Check fs b = inl (alone fs (entry.Failed call.Check) b)
+fault_shown s h n call.Save fs b =
+    let c = option_there (λ c. fs ≡ entry.Checked c.outputs None ∷ entry.Failed call.Save ∷ []) (cache_at s.nodes n) b in
+    inl (checked_shown fs c.0.outputs (entry.Failed call.Save) c.1)
 fault_shown s h n _ fs b = absurd b
 
 -- the part of a missed call shows the miss
 miss_shown : (s : Run) (h : List Event) (n : ℕ) (c : Call) (m : Miss) (fs : List Entry) → MissStandsFor s h n c m fs → ShowsMiss m fs
 miss_shown s h n call.Ask m fs b = (codes "-", alone fs (entry.Missed (codes "-") m) b)
 miss_shown s h n call.Temp m fs b = let c = behind s h n (λ c. entry.Missed (script_folder c.spec) m) fs b in (script_folder c.0.spec, c.1)
+miss_shown s h n call.Probe m fs b = let c = sums_shown s n (λ c many. many ≡ length c.paths) (λ c sums. entry.Missed (entry_of c sums) m) fs b in (entry_of c.0 c.1, c.2)
+miss_shown s h n call.Check m fs b =
+    let c = option_there (λ c. (path : List ℕ) × Contains c.outputs path × (fs ≡ entry.Missed path m ∷ [])) (cache_at s.nodes n) b in
+    (c.1.0, alone fs (entry.Missed c.1.0 m) c.1.2)
+miss_shown s h n call.Save m fs b =
+    let x = sums_there s h n (λ c sums. fs ≡ entry.Checked c.outputs None ∷ entry.Missed (entry_of c sums) m ∷ []) b in
+    (entry_of x.0 x.1, checked_shown fs x.0.outputs (entry.Missed (entry_of x.0 x.1) m) x.2)
 miss_shown s h n _ m fs b = absurd b
 
 -- what a part shows, the whole shows

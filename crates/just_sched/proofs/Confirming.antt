@@ -1,5 +1,5 @@
 -- What is kept as one node more is confirmed, and its priors are led where it is wanted.
-use Rattle.std.proofs.Common.{◌≡◌, ℕ, ◌<◌, ◌⊎◌, inl, inr, ⊎_elim, ◌||◌, ◌==◌, Bool, true, false, List, [], ◌∷◌, ◌++◌, length, length-append, is_none, arith, set, get_or-set_same, None, Some, Option, refl, sym, ◌∙◌, ap, subst, eqb-true}
+use Rattle.std.proofs.Common.{◌≡◌, ℕ, ◌<◌, ◌⊎◌, inl, inr, ⊎_elim, ◌||◌, Bool, true, false, List, [], ◌∷◌, ◌++◌, length, length-append, is_none, arith, set, get_or-set_same, None, Some, Option, refl, sym, ◌∙◌, ap, subst, eqb-true}
 use Rattle.std.proofs.Math.Decide.{dec_lt}
 use Rattle.std.proofs.Math.Seq.{get_or-append_seam}
 use Rattle.std.proofs.lemmas.List.{get_or_append_left}
@@ -10,7 +10,7 @@ use Rattle.just_sched.specs.declared.progress.Progress.{Progress}
 use Rattle.just_sched.specs.Nodes.{priors_at, subsequents_at, parallel_at, prompt_at}
 use Rattle.just_sched.specs.State.{is_confirmed, names}
 use Rattle.just_sched.specs.Tables.{flag, FlagsAre}
-use Rattle.just_sched.specs.Led.{IsRaised, IsLed, ArePriorsLed, AllConfirmed, KeepsWanted}
+use Rattle.just_sched.specs.Led.{IsRaised, IsLed, AllConfirmed, KeepsWanted}
 use Rattle.just_sched.specs.Progress.{IsClosedBut, IsTold}
 use Rattle.just_sched.proofs.Closing.{flag_kept, flag_other}
 use Rattle.just_sched.proofs.Entering.{no_next}

@@ -9,9 +9,10 @@ use Rattle.just_commands.specs.declared.work.Step.TheVariants as step
 use Rattle.just_commands.specs.Steps.{commands_of, after, EachWentOn}
 use Rattle.just_sched.specs.Nodes.{work_at}
 use Rattle.just_sched.specs.State.{is_over, asks, takes, skips, begins, starts, ends, concludes, gives, catches, status_of, start_of, has_taken, has_given, is_begun, is_done, is_over_well, is_open, start_count, end_count, is_running, statuses, last_start, has_caught}
+use Rattle.just_sched.specs.Cached.{looks, saves}
 use Rattle.just_sched.specs.Legal.{Run, Started, Ended, in_body, IsDue, May, IsLegal}
 use Rattle.just_sched.proofs.Bodies.{after_start, all_went, went_push}
-use Rattle.just_sched.proofs.Due.{asked_due, begun_due, done_once, gave_due, inside, is_inside, is_opened, opened, rests, runs, skip_due, took_ready}
+use Rattle.just_sched.proofs.Due.{asked_due, begun_due, done_once, gave_due, inside, is_inside, is_opened, looked_due, opened, rests, runs, saved_due, skip_due, took_ready}
 use Rattle.just_sched.proofs.Histories.{legal_holds}
 use Rattle.just_sched.proofs.OneMore.{last_start_stays, last_started, statuses_ended, statuses_stay}
 use Rattle.just_sched.proofs.Order.{begun_took, begun_unskipped, gave_over, gave_took, none_zero, once, over_took, started_begun}
@@ -133,6 +134,14 @@ ended_once s h n l = once s (concludes n) (λ k e legal m q. done_once s k n e m
 -- it is skipped once at most
 pub skipped_once : (s : Run) (h : List Event) (n : ℕ) → IsLegal s h → count_by (skips n) h ≤ 1
 skipped_once s h n l = once s (skips n) (λ k e legal m q. (inside k n (skip_due s k n e m q).0).not_skipped) h l
+
+-- its entry is looked at once at most
+pub looked_once : (s : Run) (h : List Event) (n : ℕ) → IsLegal s h → count_by (looks n) h ≤ 1
+looked_once s h n l = once s (looks n) (λ k e legal m q. (looked_due s k n e m q).2) h l
+
+-- and saved once at most
+pub saved_once : (s : Run) (h : List Event) (n : ℕ) → IsLegal s h → count_by (saves n) h ≤ 1
+saved_once s h n l = once s (saves n) (λ k e legal m q. (saved_due s k n e m q).5) h l
 
 -- it gives its job back once at most
 pub gave_once : (s : Run) (h : List Event) (n : ℕ) → IsLegal s h → count_by (gives n) h ≤ 1

@@ -117,7 +117,7 @@ module _ (nodes : List PlanNode) (invocations : List ℕ) (well : ∥ IsWellForm
   told_finished n = told_finished_by (length nodes) n (omega arith)
 
   -- a wanted node is a node
-  wanted_inside : (k : ℕ) → IsWanted nodes invocations h k → k < length nodes
+  pub wanted_inside : (k : ℕ) → IsWanted nodes invocations h k → k < length nodes
   wanted_inside k (invoked n leads) = ∥∥₁_elim well le_prop (λ w. invocation_within nodes invocations w n (leads_contains (IsFinished nodes h) false invocations n leads))
   wanted_inside k (prior m n wanted is_confirmed leads) =
       let at = leads_contains (IsFinished nodes h) (parallel_at nodes m) (priors_at nodes m) n leads in

@@ -9,7 +9,8 @@ use Rattle.just_sched.specs.declared.event.Outcome.TheVariants as outcome
 use Rattle.just_sched.specs.declared.event.Reason.{Reason}
 use Rattle.just_sched.specs.declared.event.Reason.TheVariants as reason
 use Rattle.just_commands.specs.declared.work.Step.TheVariants as step
-use Rattle.just_sched.specs.State.{is_over, asks, takes, skips, begins, starts, concludes, concludes_well, gives, has_taken, has_given, is_begun, is_skipped, is_done, is_open, start_count, end_count, is_running, IsToAsk, IsReady}
+use Rattle.just_sched.specs.State.{is_over, asks, takes, skips, begins, starts, concludes, concludes_well, gives, has_taken, has_given, is_skipped, is_done, is_open, start_count, end_count, is_running, IsToAsk, IsReady}
+use Rattle.just_sched.specs.Cached.{looks, saves, saw_full}
 use Rattle.just_sched.specs.Legal.{Run, Due, Asked, Looked, Begun, Started, Ended, Saved, in_body, IsDue, MayMiss, MayFail, IsAtEnd, MayFailBy, May}
 use Rattle.just_sched.proofs.Tests.{all_both, both, neither, not_true}
 
@@ -65,34 +66,41 @@ rests h n r d = ltb-false (end_count h n) (start_count h n) (rests_at (nat_lt (e
 -- a node with a due event isn't done
 pub due_not_done : (s : Run) (h : List Event) (n : ℕ) (d : Due) → IsDue s h n d → is_done h n ≡ false
 due_not_done s h n Asked e = e.not_done
-due_not_done s h n Looked e = absurd e
+due_not_done s h n Looked e = (inside h n e.0).not_done
 due_not_done s h n Begun e = (inside h n e.0).not_done
 due_not_done s h n (Started i) e = (inside h n e.0).not_done
 due_not_done s h n Ended e = (inside h n e.0).not_done
-due_not_done s h n Saved e = absurd e
+due_not_done s h n Saved e = (inside h n e.0).not_done
 
 -- a call that may miss or fail is one of a due event
 pub miss_due : (s : Run) (h : List Event) (n : ℕ) (c : Call) → MayMiss s h n c → (d : Due) × IsDue s h n d
 miss_due s h n call.Ask m = (Asked, m)
+miss_due s h n call.Probe m = (Looked, m)
 miss_due s h n call.Temp m = (Started m.0, m.1)
+miss_due s h n call.Check m = (Saved, m)
+miss_due s h n call.Save m = (Saved, m)
 miss_due s h n _ m = absurd m
 
 -- a call that may fail is one of a due event
 pub fail_due : (s : Run) (h : List Event) (n : ℕ) (c : Call) → MayFail s h n c → (d : Due) × IsDue s h n d
 fail_due s h n call.Ask m = (Asked, m)
+fail_due s h n call.Sum m = (Looked, m)
+fail_due s h n call.Probe m = (Looked, m)
 fail_due s h n call.Print (inl m) = (Begun, m)
 fail_due s h n call.Print (inr m) = (Started m.0, m.1)
 fail_due s h n call.Temp m = (Started m.0, m.1)
 fail_due s h n call.Start m = (Started m.0, m.1)
 fail_due s h n call.Wait m = (Ended, m)
+fail_due s h n call.Check m = (Saved, m)
+fail_due s h n call.Save m = (Saved, m)
 fail_due s h n _ m = absurd m
 
 -- a node that may fail isn't done
 pub by_not_done : (s : Run) (h : List Event) (n : ℕ) (r : Reason) → MayFailBy s h n r → is_done h n ≡ false
 by_not_done s h n reason.Status m = m.not_done
 by_not_done s h n reason.NotConfirmed m = m.1
-by_not_done s h n (reason.Input j x) m = absurd m
-by_not_done s h n (reason.Output j) m = absurd m
+by_not_done s h n (reason.Input j x) m = due_not_done s h n Looked m.0
+by_not_done s h n (reason.Output j) m = due_not_done s h n Saved m.0
 by_not_done s h n (reason.Place c x) m = let d = miss_due s h n c m in due_not_done s h n d.0 d.1
 by_not_done s h n (reason.Fault c) m = let d = fail_due s h n c m in due_not_done s h n d.0 d.1
 by_not_done s h n reason.Interrupted m = due_not_done s h n (Started m.0.0) m.0.1
@@ -100,7 +108,7 @@ by_not_done s h n reason.NoMemory m = due_not_done s h n m.0 m.1
 
 -- a node that may be concluded isn't done
 end_not_done : (s : Run) (h : List Event) (n : ℕ) (o : Outcome) → May s h (event.Done n o) → is_done h n ≡ false
-end_not_done s h n outcome.Well m = m.not_done
+end_not_done s h n outcome.Well m = m.0.not_done
 end_not_done s h n (outcome.Failed r) m = by_not_done s h n r m
 
 -- an asked node is to be asked
@@ -130,16 +138,26 @@ done_once s h n _ may q = absurd (cc)
 
 -- a body that ends well is at its end
 pub well_due : (s : Run) (h : List Event) (n : ℕ) (e : Event) → May s h e → concludes_well n e ≡ true → IsAtEnd s h n step.Well
-well_due s h n (event.Done m outcome.Well) may q = subst (λ k. IsAtEnd s h k step.Well) (eqb-true m n q) may
+well_due s h n (event.Done m outcome.Well) may q = subst (λ k. IsAtEnd s h k step.Well) (eqb-true m n q) may.0
 well_due s h n (event.Done m (outcome.Failed r)) may q = absurd (cc)
 well_due s h n _ may q = absurd (cc)
+
+-- a node whose entry is looked at is due to have that
+pub looked_due : (s : Run) (h : List Event) (n : ℕ) (e : Event) → May s h e → looks n e ≡ true → IsDue s h n Looked
+looked_due s h n (event.Looked m sums seen) may q = subst (λ k. IsDue s h k Looked) (eqb-true m n q) may.0
+looked_due s h n _ may q = absurd (cc)
+
+-- and one whose entry is saved, to have that
+pub saved_due : (s : Run) (h : List Event) (n : ℕ) (e : Event) → May s h e → saves n e ≡ true → IsDue s h n Saved
+saved_due s h n (event.Saved m) may q = subst (λ k. IsDue s h k Saved) (eqb-true m n q) may
+saved_due s h n _ may q = absurd (cc)
 
 -- a job is given back by an open body that is over
 pub gave_due : (s : Run) (h : List Event) (n : ℕ) (e : Event) → May s h e → gives n e ≡ true → (is_open h n ≡ true) × (is_over h n ≡ true)
 gave_due s h n (event.Gave m) may q = subst (λ k. (is_open h k ≡ true) × (is_over h k ≡ true)) (eqb-true m n q) may
 gave_due s h n _ may q = absurd (cc)
 
--- a node that is skipped is in its body, which isn't begun
-pub skip_due : (s : Run) (h : List Event) (n : ℕ) (e : Event) → May s h e → skips n e ≡ true → (in_body h n ≡ true) × (is_begun h n ≡ false)
-skip_due s h n (event.Skipped m) may q = absurd may
+-- a node that is skipped is in its body, and its look was full
+pub skip_due : (s : Run) (h : List Event) (n : ℕ) (e : Event) → May s h e → skips n e ≡ true → (in_body h n ≡ true) × (saw_full h n ≡ true)
+skip_due s h n (event.Skipped m) may q = subst (λ k. (in_body h k ≡ true) × (saw_full h k ≡ true)) (eqb-true m n q) may
 skip_due s h n _ may q = absurd (cc)

@@ -11,12 +11,13 @@ use Rattle.just_sched.specs.declared.event.Idle.{Idle}
 use Rattle.just_sched.specs.declared.event.Idle.TheVariants as idle
 use Rattle.just_sched.specs.declared.event.Verdict.{Verdict}
 use Rattle.just_sched.specs.declared.event.Verdict.TheVariants as verdict
-use Rattle.just_sched.specs.Idle.{IsIdle, HasWork}
+use Rattle.just_sched.specs.Idle.{IsIdle, HasWork, NoneToAsk, EachWaits}
 use Rattle.just_sched.specs.Legal.{Run, IsLegal, IsClosed, IsComplete}
 use Rattle.just_sched.specs.Start.{Start, IsKept, run_of}
 use Rattle.just_sched.specs.Running.{EachNoIsDone}
 use Rattle.just_sched.specs.State.{has_caught}
 use Rattle.just_sched.specs.Verdict.{IsVerdict, NoneDecides}
+use Rattle.just_sched.proofs.ClassLaws.{class_closed}
 use Rattle.just_sched.proofs.Complete.{complete, complete_prop, jobs_absurd}
 use Rattle.just_sched.proofs.PlanShape.{IsFormed}
 use Rattle.just_sched.proofs.Reasons.{no_reason}
@@ -35,12 +36,17 @@ limit_absurd : (s : Run) (h : List Event) (jobs : Option ℕ) → s.jobs ≡ job
 limit_absurd s h (Some j) same some closed is = jobs_absurd s h j closed same some is
 limit_absurd s h None same some closed is = absurd (cc (sym same ∙ is.3))
 
+-- no node waits for an open body where none is open
+nothing_waits : (s : Run) (h : List Event) → IsClosed s h → NoneToAsk s h → EachWaits s h → HasWork s h → ⊥
+nothing_waits s h closed none waits (n, inl ready) = true≢false (sym (waits n ready) ∙ class_closed s h n closed)
+nothing_waits s h closed none waits (n, inr to_ask) = none n to_ask
+
 -- where a book with no body open is idle, a signal was caught or nothing is left to do
 pub nothing_left : (s : Run) (h : List Event) (i : Idle) → AllowsJobs s.jobs → IsClosed s h → IsIdle s h i → (has_caught h ≡ true) ⊎ (HasWork s h → ⊥)
 nothing_left s h idle.Signal some closed is = inl is
 nothing_left s h idle.Nothing some closed is = inr is.1
 nothing_left s h idle.Jobs some closed is = inr (λ work. limit_absurd s h s.jobs refl some closed is)
-nothing_left s h idle.Class some closed is = absurd is
+nothing_left s h idle.Class some closed (calm, work, none, free, waits) = inr (λ any. nothing_waits s h closed none waits any)
 
 -- the same of a limit that is given as a number
 pub nothing_left_by : (s : Run) (h : List Event) (i : Idle) (jobs : Option NonZeroU64) → option_map non_zero_u64_get jobs ≡ s.jobs → IsClosed s h → IsIdle s h i → (has_caught h ≡ true) ⊎ (HasWork s h → ⊥)

@@ -13,9 +13,10 @@ use Rattle.just_sched.specs.declared.plan_node.PlanNode.{PlanNode}
 use Rattle.just_commands.specs.Steps.{commands_of}
 use Rattle.just_sched.specs.Nodes.{work_in, work_at}
 use Rattle.just_sched.specs.State.{is_of, asks, takes, skips, begins, starts, ends, concludes, gives, catches, is_done, start_count, end_count, is_running}
+use Rattle.just_sched.specs.Cached.{looks, saves}
 use Rattle.just_sched.specs.Legal.{Run, Ended, IsDue, May, IsLegal}
 use Rattle.just_sched.specs.Room.{slots, total_commands, settles, settle_count}
-use Rattle.just_sched.proofs.Counts.{asked_once, begun_once, caught_once, ended_once, gave_once, running_inside, agrees, skipped_once, took_once}
+use Rattle.just_sched.proofs.Counts.{asked_once, begun_once, caught_once, ended_once, gave_once, looked_once, running_inside, agrees, saved_once, skipped_once, took_once}
 use Rattle.just_sched.proofs.Due.{inside, runs}
 use Rattle.just_sched.proofs.Histories.{legal_holds, legal_more}
 use Rattle.just_sched.proofs.PlanShape.{IsFormed}
@@ -83,11 +84,11 @@ either_count p [] = refl
 either_count p (x ∷ h) =
     omega (arith, sum_by-cons (λ y. cond (p y) 1 0) x h, sum_by-cons (λ y. cond (not (p y)) 1 0) x h, either_count p h, either_one (p x))
 
--- a plain event of a node is one of seven kinds
-kind_one : (s : Run) (h : List Event) (n : ℕ) (e : Event) → May s h e → cond (own is_plain n e) 1 0 ≤ cond (asks n e) 1 0 + cond (takes n e) 1 0 + cond (skips n e) 1 0 + cond (begins n e) 1 0 + cond (starts n e) 1 0 + cond (ends n e) 1 0 + cond (concludes n e) 1 0 + cond (gives n e) 1 0
-kind_one s h n (event.Looked m sums look) may = absurd may
+-- a plain event of a node is one of ten kinds
+kind_one : (s : Run) (h : List Event) (n : ℕ) (e : Event) → May s h e → cond (own is_plain n e) 1 0 ≤ cond (asks n e) 1 0 + cond (takes n e) 1 0 + cond (looks n e) 1 0 + cond (saves n e) 1 0 + cond (skips n e) 1 0 + cond (begins n e) 1 0 + cond (starts n e) 1 0 + cond (ends n e) 1 0 + cond (concludes n e) 1 0 + cond (gives n e) 1 0
+kind_one s h n (event.Looked m sums seen) may = omega arith
 kind_one s h n (event.Skipped m) may = omega arith
-kind_one s h n (event.Saved m) may = absurd may
+kind_one s h n (event.Saved m) may = omega arith
 kind_one s h n (event.Asked m y) may = omega arith
 kind_one s h n (event.Took m) may = omega arith
 kind_one s h n (event.Begun m) may = omega arith
@@ -98,18 +99,18 @@ kind_one s h n (event.Gave m) may = omega arith
 kind_one s h n (event.Caught g) may = omega arith
 
 -- the plain events of a node are counted by their kinds
-kinds : (s : Run) (h : List Event) (n : ℕ) → IsLegal s h → count_by (own is_plain n) h ≤ count_by (asks n) h + count_by (takes n) h + count_by (skips n) h + count_by (begins n) h + start_count h n + end_count h n + count_by (concludes n) h + count_by (gives n) h
+kinds : (s : Run) (h : List Event) (n : ℕ) → IsLegal s h → count_by (own is_plain n) h ≤ count_by (asks n) h + count_by (takes n) h + count_by (looks n) h + count_by (saves n) h + count_by (skips n) h + count_by (begins n) h + start_count h n + end_count h n + count_by (concludes n) h + count_by (gives n) h
 kinds s h n l =
-    legal_holds s (λ k. count_by (own is_plain n) k ≤ count_by (asks n) k + count_by (takes n) k + count_by (skips n) k + count_by (begins n) k + start_count k n + end_count k n + count_by (concludes n) k + count_by (gives n) k)
+    legal_holds s (λ k. count_by (own is_plain n) k ≤ count_by (asks n) k + count_by (takes n) k + count_by (looks n) k + count_by (saves n) k + count_by (skips n) k + count_by (begins n) k + start_count k n + end_count k n + count_by (concludes n) k + count_by (gives n) k)
     (omega arith)
-    (λ k e legal old m. omega (arith, kind_one s k n e m, old, count_more (own is_plain n) k e, count_more (asks n) k e, count_more (takes n) k e, count_more (skips n) k e, count_more (begins n) k e, count_more (starts n) k e, count_more (ends n) k e, count_more (concludes n) k e, count_more (gives n) k e))
+    (λ k e legal old m. omega (arith, kind_one s k n e m, old, count_more (own is_plain n) k e, count_more (asks n) k e, count_more (takes n) k e, count_more (looks n) k e, count_more (saves n) k e, count_more (skips n) k e, count_more (begins n) k e, count_more (starts n) k e, count_more (ends n) k e, count_more (concludes n) k e, count_more (gives n) k e))
     h l
 
 -- how many events a node can have
 node_bound : (s : Run) (h : List Event) (n : ℕ) → IsLegal s h → count_by (own is_plain n) h ≤ 8 + 2 * length (commands_of (work_at s.nodes n))
 node_bound s h n l =
     let k = agrees s h n l in
-    omega (arith, kinds s h n l, asked_once s h n l, took_once s h n l, skipped_once s h n l, begun_once s h n l, ended_once s h n l, gave_once s h n l, k.low, k.fits)
+    omega (arith, kinds s h n l, asked_once s h n l, took_once s h n l, looked_once s h n l, saved_once s h n l, skipped_once s h n l, begun_once s h n l, ended_once s h n l, gave_once s h n l, k.low, k.fits)
 
 -- a legal history has no more events than the plan has room for
 pub length_bound : (s : Run) (h : List Event) → IsFormed s → IsLegal s h → length h ≤ slots s.nodes

@@ -36,7 +36,7 @@ ask_fails s h n p reason.NoMemory es due q g =
 ask_fails s h n p _ es due q g = absurd g
 
 -- a list with a last item isn't empty
-some_pushed : {A : Type 0} (xs : List A) (y : A) → xs ++ y ∷ [] ≢ []
+pub some_pushed : {A : Type 0} (xs : List A) (y : A) → xs ++ y ∷ [] ≢ []
 some_pushed [] y e = cc
 some_pushed (x ∷ xs) y e = cc
 

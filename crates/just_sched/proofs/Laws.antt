@@ -1,5 +1,6 @@
 -- What just_sched offers to the proofs of the crates above: laws of histories, of records that they match, and of runs.
-use Rattle.std.proofs.Common.{◌≡◌, ◌≢◌, ◌-◌, ℕ, true, false, Contains, List, length, slice_get, Some, None, ℤ, pos}
+use Rattle.std.proofs.Common.{◌≡◌, ◌≢◌, ◌-◌, ◌<◌, ℕ, true, false, Contains, List, [], length, slice_get, Option, Some, None, ℤ, pos}
+use Rattle.std.specs.Prelude.{slice_index_or}
 use Rattle.std.specs.List.{list_any, last_or}
 use Rattle.just_path.specs.declared.host.Miss.{Miss}
 use Rattle.just_outside.specs.declared.entry.Call.{Call}
@@ -14,12 +15,21 @@ use Rattle.just_sched.specs.declared.event.Reason.TheVariants as reason
 use Rattle.just_commands.specs.declared.work.Command.{Command}
 use Rattle.just_commands.specs.declared.work.Step.TheVariants as step
 use Rattle.just_commands.specs.declared.work.Work.{Work}
+use Rattle.just_sched.specs.Nodes.{cache_at, paths_in, outputs_in}
 use Rattle.just_sched.specs.Causes.{ShowsFailure, ShowsMiss, ShowsRefusal, EndedLast}
-use Rattle.just_sched.specs.Legal.{Run, IsLegal, all_starts}
+use Rattle.just_outside.specs.World.{World}
+use Rattle.just_sched.specs.declared.plan_node.PlanNode.{PlanNode}
+use Rattle.just_sched.specs.CacheRule.{GoesByCacheRule, IsSkippedByLook}
+use Rattle.just_sched.specs.Cached.{is_cached, are_one_class}
+use Rattle.just_sched.specs.Touched.{IsTouched, IsTouchedAt}
+use Rattle.just_sched.specs.Legal.{Run, IsLegal, IsComplete, all_starts}
 use Rattle.just_sched.specs.Match.{Matches}
 use Rattle.just_sched.specs.Moves.{GrowsBy, IsMove, RunsWith, Rests}
 use Rattle.just_sched.specs.State.{statuses, reason_of, next_step, caught_signal, is_open}
 use Rattle.just_commands.specs.Steps.{after, commands_of}
+use Rattle.just_sched.proofs.CacheCauses.{input_shown, output_shown}
+use Rattle.just_sched.proofs.CacheRules.{each_apart, goes_by_rule, skipped_by_look}
+use Rattle.just_sched.proofs.Touching.{touched_told}
 use Rattle.just_sched.proofs.Causes.{last_end, status_failed, failed_code, guard_code, fault_caused, miss_caused, refusal_caused, signal_shown}
 use Rattle.just_sched.proofs.Grows.{grows_none, grows_turn, move_apart, runs_on, others_open, closed_where}
 use Rattle.just_sched.proofs.Stretch.{matched_children, started}
@@ -47,6 +57,14 @@ failed_call_shown = fault_caused
 -- Where a node's body failed by a miss, the record shows that miss.
 pub missed_call_shown : (s : Run) (h : List Event) (es : List Entry) (n : ℕ) (c : Call) (m : Miss) → Matches s h es → reason_of h n ≡ Some (reason.Place c m) → ShowsMiss m es
 missed_call_shown = miss_caused
+
+-- Where a node's body failed by a miss of an input, the record shows that miss on the input's path.
+pub missed_input_shown : (s : Run) (h : List Event) (es : List Entry) (n j : ℕ) (m : Miss) → Matches s h es → reason_of h n ≡ Some (reason.Input j m) → Contains es (entry.Missed (slice_index_or (paths_in (cache_at s.nodes n)) j []) m)
+missed_input_shown = input_shown
+
+-- Where it failed since an output isn't there, the record shows the check that said so.
+pub missing_output_shown : (s : Run) (h : List Event) (es : List Entry) (n j : ℕ) → Matches s h es → reason_of h n ≡ Some (reason.Output j) → Contains es (entry.Checked (outputs_in (cache_at s.nodes n)) (Some j))
+missing_output_shown = output_shown
 
 -- Where a node failed since it wasn't confirmed, the record shows an answer to a prompt that is no yes.
 pub refusal_shown : (s : Run) (h : List Event) (es : List Entry) (n : ℕ) → IsLegal s h → Matches s h es → reason_of h n ≡ Some reason.NotConfirmed → ShowsRefusal es
@@ -83,3 +101,19 @@ rests_closed = closed_where
 -- A turn of a body is of its node: its child's end was noted, and the body was gone on with.
 pub turn_grows : (a b c : List Event) (n m k : ℕ) → m ≡ n → k ≡ m → GrowsBy a b m → GrowsBy b c k → GrowsBy a c n
 turn_grows a b c n m k first after p q = grows_turn a a b c n m k first after (grows_none a n) p q
+
+-- What a run that started no child, and of which no call failed, leaves of a told world: it differs at most at the places of its caches.
+pub untouched_but_caches : (nodes : List PlanNode) (told new : Option World) → IsTouched nodes told new → IsTouchedAt nodes told new
+untouched_but_caches = touched_told
+
+-- No two open bodies of a legal history are of one class.
+pub open_apart : (s : Run) (h : List Event) → IsLegal s h → (m n : ℕ) → (m ≡ n → ⊥) → is_open h m ≡ true → is_open h n ≡ true → are_one_class s.nodes m n ≡ false
+open_apart = each_apart
+
+-- Each cached body of a legal history goes by the cache rule.
+pub cache_rule : (s : Run) (h : List Event) (n : ℕ) → IsLegal s h → is_cached s.nodes n ≡ true → GoesByCacheRule s h n
+cache_rule = goes_by_rule
+
+-- In a complete history it is skipped exactly where its look was full, and else begun.
+pub cache_rule_complete : (s : Run) (h : List Event) (n : ℕ) → IsLegal s h → IsComplete s h → n < length s.nodes → IsSkippedByLook h n
+cache_rule_complete = skipped_by_look

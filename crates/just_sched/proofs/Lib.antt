@@ -7,8 +7,14 @@ pub mod Beginning
 pub mod Behind
 pub mod Blank
 pub mod Bodies
+pub mod CacheCauses
+pub mod CacheGains
+pub mod CacheRules
+pub mod CachedLaws
+pub mod CachedMoves
 pub mod Causes
 pub mod Choices
+pub mod ClassLaws
 pub mod Clearing
 pub mod Closing
 pub mod Complete
@@ -28,6 +34,8 @@ pub mod Grows
 pub mod Histories
 pub mod Laws
 pub mod Led
+pub mod LookRows
+pub mod Looking
 pub mod OneMore
 pub mod OpenBodies
 pub mod Order
@@ -45,10 +53,13 @@ pub mod RowLaws
 pub mod Runners
 pub mod Settling
 pub mod Stretch
+pub mod Summing
 pub mod Sums
 pub mod TableLaws
 pub mod TablesLaws
 pub mod Tallies
 pub mod Telling
 pub mod Tests
+pub mod Touching
+pub mod Turns
 pub mod WantedLaws

@@ -1,15 +1,17 @@
 -- What comes before what in a legal history, and how often.
-use Rattle.std.proofs.Common.{◌≡◌, ℕ, ◌+◌, ◌≤◌, ◌||◌, Bool, true, false, cond, List, [], ◌∷◌, ◌++◌, count_by, refl, ap₂, sym, ◌∙◌, arith, true≢false}
+use Rattle.std.proofs.Common.{◌≡◌, ℕ, ◌+◌, ◌≤◌, ◌&&◌, ◌||◌, not, Bool, true, false, cond, List, [], ◌∷◌, ◌++◌, count_by, refl, ap₂, sym, ◌∙◌, arith, true≢false}
 use Rattle.std.specs.List.{list_any}
 use Rattle.std.proofs.lemmas.List.Sums.{sum_by-cons}
 use Rattle.just_sched.specs.declared.event.Event.{Event}
 use Rattle.just_sched.specs.declared.event.Event.TheVariants as event
 use Rattle.just_sched.specs.State.{is_over, takes, skips, begins, starts, concludes_well, gives, has_taken, has_given, is_begun, is_skipped, is_over_well, is_confirmed}
+use Rattle.just_sched.specs.Cached.{looks, is_cached, is_looked_at, saw_full}
 use Rattle.just_sched.specs.Legal.{Run, May, IsLegal}
-use Rattle.just_sched.proofs.Due.{begun_due, gave_due, inside, opened, skip_due, started_due, took_ready, well_due}
+use Rattle.just_sched.proofs.CachedLaws.{full_looked, full_stays}
+use Rattle.just_sched.proofs.Due.{begun_due, gave_due, inside, looked_due, opened, skip_due, started_due, took_ready, well_due}
 use Rattle.just_sched.proofs.Histories.{legal_holds}
 use Rattle.just_sched.proofs.OneMore.{confirmed_kept, over_kept}
-use Rattle.just_sched.proofs.Tests.{any_kept, any_none, count_none, count_now, excluded, neither}
+use Rattle.just_sched.proofs.Tests.{any_kept, any_none, both, count_none, count_now, excluded, neither, not_true, unless}
 
 -- ---- tests over a legal history
 
@@ -70,6 +72,46 @@ gave_over s h n l = since s (gives n) (λ k. is_over k n ≡ true) (λ k e o. ov
 pub started_begun : (s : Run) (h : List Event) (n : ℕ) → IsLegal s h → list_any (starts n) h ≡ true → is_begun h n ≡ true
 started_begun s h n l = earlier s (starts n) (begins n) (λ k e legal m q. (started_due s k n e m q).1.1) h l
 
+-- ---- a body and its cache
+
+-- a node whose entry was looked at has a cache
+pub looked_cached : (s : Run) (h : List Event) (n : ℕ) → IsLegal s h → is_looked_at h n ≡ true → is_cached s.nodes n ≡ true
+looked_cached s h n l = since s (looks n) (λ k. is_cached s.nodes n ≡ true) (λ k e c. c) (λ k e legal m q. (looked_due s k n e m q).1) h l
+
+-- what lets a cached body be begun: it was looked at, and the look wasn't full
+may_cached : (cached looked full : Bool) → cached ≡ true → (not cached || (looked && not full)) ≡ true → (looked ≡ true) × (full ≡ false)
+may_cached true looked full q m = let c = both looked (not full) m in (c.0, not_true full c.1)
+may_cached false looked full q m = absurd (cc)
+
+-- a cached body is begun once it was looked at
+pub looked_before_begun : (s : Run) (h : List Event) (n : ℕ) → IsLegal s h → is_cached s.nodes n ≡ true → is_begun h n ≡ true → is_looked_at h n ≡ true
+looked_before_begun s h n l c =
+    earlier s (begins n) (looks n) (λ k e legal m q. (may_cached (is_cached s.nodes n) (is_looked_at k n) (saw_full k n) c (begun_due s k n e m q).2).0) h l
+
+-- a cached body that wasn't looked at isn't begun
+pub unlooked_unbegun : (s : Run) (h : List Event) (n : ℕ) → IsLegal s h → is_cached s.nodes n ≡ true → is_looked_at h n ≡ false → is_begun h n ≡ false
+unlooked_unbegun s h n l c q = unless (is_begun h n) (is_looked_at h n) (looked_before_begun s h n l c) q
+
+-- a look isn't a begin
+look_no_begin : (n : ℕ) (e : Event) → looks n e ≡ true → begins n e ≡ false
+look_no_begin n (event.Looked m sums seen) q = refl
+look_no_begin n _ q = absurd (cc)
+
+-- a body isn't begun behind a full look, by whether the event looks and begins
+full_by : (s : Run) (h : List Event) (n : ℕ) (e : Event) → IsLegal s h → May s h e → (saw_full h n ≡ true → is_begun h n ≡ false) → (a b : Bool) → looks n e ≡ a → begins n e ≡ b → saw_full (h ++ e ∷ []) n ≡ true → is_begun (h ++ e ∷ []) n ≡ false
+full_by s h n e l may old true b q p full =
+    let due = looked_due s h n e may q in
+    any_none (begins n) h e (look_no_begin n e q) ∙ unlooked_unbegun s h n l due.1 due.2
+full_by s h n e l may old false true q p full =
+    let was = sym (full_stays h e n q) ∙ full in
+    let c = looked_cached s h n l (full_looked h n was) in
+    absurd (true≢false (sym was ∙ (may_cached (is_cached s.nodes n) (is_looked_at h n) (saw_full h n) c (begun_due s h n e may p).2).1))
+full_by s h n e l may old false false q p full = any_none (begins n) h e p ∙ old (sym (full_stays h e n q) ∙ full)
+
+-- a body whose look was full isn't begun
+pub full_unbegun : (s : Run) (h : List Event) (n : ℕ) → IsLegal s h → saw_full h n ≡ true → is_begun h n ≡ false
+full_unbegun s h n l = legal_holds s (λ k. saw_full k n ≡ true → is_begun k n ≡ false) (λ q. refl) (λ k e legal old m. full_by s k n e legal m old (looks n e) (begins n e) refl refl) h l
+
 -- a skip isn't a begin
 skip_no_begin : (n : ℕ) (e : Event) → skips n e ≡ true → begins n e ≡ false
 skip_no_begin n (event.Skipped m) q = refl
@@ -81,15 +123,15 @@ unbegun_at s h n e may k true q = absurd (true≢false (sym k ∙ (inside h n (b
 unbegun_at s h n e may k false q = q
 
 -- a skipped node stays unbegun behind one event more
-unbegun_by : (s : Run) (h : List Event) (n : ℕ) (e : Event) → May s h e → (is_skipped h n ≡ true → is_begun h n ≡ false) → (b : Bool) → skips n e ≡ b → is_skipped (h ++ e ∷ []) n ≡ true → is_begun (h ++ e ∷ []) n ≡ false
-unbegun_by s h n e may old true q k = any_none (begins n) h e (skip_no_begin n e q) ∙ (skip_due s h n e may q).1
-unbegun_by s h n e may old false q k =
+unbegun_by : (s : Run) (h : List Event) (n : ℕ) (e : Event) → IsLegal s h → May s h e → (is_skipped h n ≡ true → is_begun h n ≡ false) → (b : Bool) → skips n e ≡ b → is_skipped (h ++ e ∷ []) n ≡ true → is_begun (h ++ e ∷ []) n ≡ false
+unbegun_by s h n e l may old true q k = any_none (begins n) h e (skip_no_begin n e q) ∙ full_unbegun s h n l (skip_due s h n e may q).1
+unbegun_by s h n e l may old false q k =
     let was = sym (any_none (skips n) h e q) ∙ k in
     any_none (begins n) h e (unbegun_at s h n e may was (begins n e) refl) ∙ old was
 
 -- a node that was skipped isn't begun
 pub skipped_unbegun : (s : Run) (h : List Event) (n : ℕ) → IsLegal s h → is_skipped h n ≡ true → is_begun h n ≡ false
-skipped_unbegun s h n l = legal_holds s (λ k. is_skipped k n ≡ true → is_begun k n ≡ false) (λ q. refl) (λ k e legal old m. unbegun_by s k n e m old (skips n e) refl) h l
+skipped_unbegun s h n l = legal_holds s (λ k. is_skipped k n ≡ true → is_begun k n ≡ false) (λ q. refl) (λ k e legal old m. unbegun_by s k n e legal m old (skips n e) refl) h l
 
 -- a node that was begun isn't skipped
 pub begun_unskipped : (s : Run) (h : List Event) (n : ℕ) → IsLegal s h → is_begun h n ≡ true → is_skipped h n ≡ false

@@ -1,10 +1,6 @@
 -- What a well-formed plan says of the numbers in its nodes.
-use Rattle.std.proofs.Math.Bool.{Bool-set}
-use Rattle.std.specs.List.{list_any}
-use Rattle.std.specs.Prelude.{is_none}
-use Rattle.std.proofs.Common.{true, ◌||◌, ◌≡◌, ℕ, ◌<◌, List, length, get_or, map, refl, sym, ◌∙◌, ap, subst, arith}
-use Rattle.std.proofs.Math.Logic.{∥∥₁_elim}
-use Rattle.std.proofs.lemmas.Option.{slice_get-map, slice_get_within, slice_get-get_or, get_or_from_slice_get}
+use Rattle.std.proofs.Common.{Bool, is_some, ◌≡◌, ℕ, ◌<◌, List, length, get_or, map, refl, sym, ◌∙◌, ap, subst, arith}
+use Rattle.std.proofs.lemmas.Option.{slice_get-map, slice_get_within, slice_get-get_or}
 use Rattle.std.proofs.lemmas.List.{length-map}
 use Rattle.std.proofs.lemmas.Grind.{get_or_default_zero}
 use Rattle.std.specs.Prelude.{slice_index}
@@ -12,9 +8,8 @@ use Rattle.std.specs.Prelude.{Option, Some, None, slice_get, option_map, All, Co
 use Rattle.just_lang.specs.declared.node.Node.{Node}
 use Rattle.just_closure.specs.WellFormed.{IsWellFormed, round_at}
 use Rattle.just_sched.specs.declared.plan_node.PlanNode.{PlanNode}
-use Rattle.just_sched.specs.Nodes.{subsequents_at, subsequents_in, priors_at, priors_in, prompt_in}
-use Rattle.just_sched.specs.declared.event.Event.{Event}
-use Rattle.just_sched.specs.State.{is_confirmed, answers}
+use Rattle.just_sched.specs.Nodes.{subsequents_at, subsequents_in, priors_at, priors_in, cache_in}
+use Rattle.just_sched.specs.Cached.{is_cached}
 
 -- the nodes of a plan without their work
 abbrev pub shapes : List PlanNode → List Node
@@ -43,6 +38,10 @@ subsequents_read nodes read at d xs same lt is = is ∙ (rw same (ap subsequents
 -- the same of the priors
 pub priors_read : (nodes read : List PlanNode) (at : ℕ) (d : PlanNode) (xs : List ℕ) → read ≡ nodes → at < length nodes → xs ≡ (get_or read at d).node.priors → xs ≡ priors_at nodes at
 priors_read nodes read at d xs same lt is = is ∙ (rw same (ap priors_in (sym (slice_get-get_or nodes at d lt))))
+
+-- and of whether it has a cache
+pub cached_read : (nodes read : List PlanNode) (at : ℕ) (d : PlanNode) (b : Bool) → read ≡ nodes → at < length nodes → b ≡ is_some (get_or read at d).cache → b ≡ is_cached nodes at
+cached_read nodes read at d b same lt is = is ∙ (rw same (ap (λ o. is_some (cache_in o)) (sym (slice_get-get_or nodes at d lt))))
 
 module _ (nodes : List PlanNode) (invocations : List ℕ) (well : IsWellFormed (shapes nodes) invocations) where
   -- a node that is there has its shape

@@ -1,5 +1,5 @@
 -- Each event of a legal history is one of a node of the plan, or a caught signal.
-use Rattle.std.proofs.Common.{◌≡◌, ℕ, ◌<◌, ◌==◌, not, Bool, true, false, if◌then◌else◌, List, [], ◌∷◌, length, refl, subst, eq-eqb}
+use Rattle.std.proofs.Common.{◌≡◌, ℕ, ◌<◌, ◌==◌, not, Bool, true, false, if◌then◌else◌, List, [], ◌∷◌, length, subst}
 use Rattle.std.specs.List.{list_any}
 use Rattle.just_sched.specs.declared.event.Event.{Event}
 use Rattle.just_sched.specs.declared.event.Event.TheVariants as event
@@ -8,7 +8,7 @@ use Rattle.just_sched.specs.declared.event.Reason.{Reason}
 use Rattle.just_sched.specs.declared.event.Reason.TheVariants as reason
 use Rattle.just_sched.specs.State.{answers, asks, takes, catches, has_taken, is_asked, IsToAsk, IsReady, IsWanted, invoked, prior, subsequent}
 use Rattle.just_sched.specs.Legal.{Run, Due, Asked, Looked, Begun, Started, Ended, Saved, IsDue, May, IsLegal}
-use Rattle.just_sched.proofs.Due.{asked_due, fail_due, inside, miss_due, opened, skip_due, took_ready}
+use Rattle.just_sched.proofs.Due.{asked_due, fail_due, inside, miss_due, opened, took_ready}
 use Rattle.just_sched.proofs.Order.{begun_took, since}
 use Rattle.just_sched.proofs.PlanShape.{IsFormed, invocation_is, prior_is, subsequent_is}
 use Rattle.just_sched.proofs.Tests.{both, either_way}
@@ -38,11 +38,11 @@ asked_range s h n f l = since s (asks n) (λ k. n < length s.nodes) (λ k e lt. 
 -- and one with a due event
 pub due_range : (s : Run) (h : List Event) (n : ℕ) (d : Due) → IsFormed s → IsLegal s h → IsDue s h n d → n < length s.nodes
 due_range s h n Asked f l e = to_ask_there s h n f e
-due_range s h n Looked f l e = absurd e
+due_range s h n Looked f l e = in_range s h n f l (inside h n e.0).took
 due_range s h n Begun f l e = in_range s h n f l (inside h n e.0).took
 due_range s h n (Started i) f l e = in_range s h n f l (inside h n e.0).took
 due_range s h n Ended f l e = in_range s h n f l (inside h n e.0).took
-due_range s h n Saved f l e = absurd e
+due_range s h n Saved f l e = in_range s h n f l (inside h n e.0).took
 
 -- a weaker test passes too
 pub any_weaker : {A : Type 0} (p q : A → Bool) → ((x : A) → p x ≡ true → q x ≡ true) → (xs : List A) → list_any p xs ≡ true → list_any q xs ≡ true
@@ -62,8 +62,8 @@ answered_asked w h n q = any_weaker (answers w n) (asks n) (answer_asks w n) h q
 failure_range : (s : Run) (h : List Event) (n : ℕ) (r : Reason) → IsFormed s → IsLegal s h → May s h (event.Done n (outcome.Failed r)) → n < length s.nodes
 failure_range s h n reason.Status f l m = in_range s h n f l (begun_took s h n l m.begun)
 failure_range s h n reason.NotConfirmed f l m = asked_range s h n f l (answered_asked false h n m.0)
-failure_range s h n (reason.Input j x) f l m = absurd m
-failure_range s h n (reason.Output j) f l m = absurd m
+failure_range s h n (reason.Input j x) f l m = due_range s h n Looked f l m.0
+failure_range s h n (reason.Output j) f l m = due_range s h n Saved f l m.0
 failure_range s h n (reason.Place c x) f l m = let d = miss_due s h n c m in due_range s h n d.0 f l d.1
 failure_range s h n (reason.Fault c) f l m = let d = fail_due s h n c m in due_range s h n d.0 f l d.1
 failure_range s h n reason.Interrupted f l m = due_range s h n (Started m.0.0) f l m.0.1
@@ -87,13 +87,13 @@ number_of (event.Caught g) = 0
 pub event_range : (s : Run) (h : List Event) (e : Event) → IsFormed s → IsLegal s h → May s h e → catches e ≡ false → number_of e < length s.nodes
 event_range s h (event.Asked m y) f l may q = to_ask_there s h m f may.0
 event_range s h (event.Took m) f l may q = ready_there s h m f may.0
-event_range s h (event.Looked m sums look) f l may q = absurd may
-event_range s h (event.Skipped m) f l may q = in_range s h m f l (inside h m (skip_due s h m (event.Skipped m) may (eq-eqb m m refl)).0).took
+event_range s h (event.Looked m sums seen) f l may q = due_range s h m Looked f l may.0
+event_range s h (event.Skipped m) f l may q = in_range s h m f l (inside h m may.0).took
 event_range s h (event.Begun m) f l may q = due_range s h m Begun f l may
 event_range s h (event.Started m i c) f l may q = due_range s h m (Started i) f l may.0
 event_range s h (event.Ended m i c t) f l may q = due_range s h m Ended f l may.0
-event_range s h (event.Saved m) f l may q = absurd may
-event_range s h (event.Done m outcome.Well) f l may q = in_range s h m f l (begun_took s h m l may.begun)
+event_range s h (event.Saved m) f l may q = due_range s h m Saved f l may
+event_range s h (event.Done m outcome.Well) f l may q = in_range s h m f l (begun_took s h m l may.0.begun)
 event_range s h (event.Done m (outcome.Failed r)) f l may q = failure_range s h m r f l may
 event_range s h (event.Gave m) f l may q = in_range s h m f l (opened h m may.0).0
 event_range s h (event.Caught g) f l may q = absurd (cc)

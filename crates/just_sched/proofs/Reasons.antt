@@ -1,23 +1,16 @@
 -- The reason of a node that failed.
-use Rattle.std.proofs.Common.{◌≡◌, ℕ, ◌<◌, ◌==◌, ◌||◌, Bool, true, false, if◌then◌else◌, List, [], ◌∷◌, ◌++◌, length, slice_get, Option, Some, None, is_some, is_none, filter_map, All, true≢false, eqb-true, refl, ap, sym, ◌∙◌, subst}
-use Rattle.std.specs.List.{list_any, cons_option}
-use Rattle.std.proofs.lemmas.Option.{get_or_from_slice_get, slice_get_within}
+use Rattle.std.proofs.Common.{◌≡◌, ℕ, ◌<◌, ◌==◌, ◌||◌, Bool, true, false, if◌then◌else◌, List, [], ◌∷◌, ◌++◌, length, Option, Some, None, filter_map, true≢false, eqb-true, refl, ap, sym, ◌∙◌, subst}
+use Rattle.std.specs.List.{cons_option}
 use Rattle.just_sched.specs.declared.event.Event.{Event}
 use Rattle.just_sched.specs.declared.event.Event.TheVariants as event
 use Rattle.just_sched.specs.declared.event.Outcome.TheVariants as outcome
 use Rattle.just_sched.specs.declared.event.Reason.{Reason}
 use Rattle.just_sched.specs.declared.event.Reason.TheVariants as reason
-use Rattle.just_sched.specs.declared.plan_node.PlanNode.{PlanNode}
-use Rattle.just_sched.specs.Nodes.{prompt_in, prompt_at}
-use Rattle.just_sched.specs.State.{answers, asks, catches, reason_in, is_done, is_asked, first, reason_of, has_caught}
+use Rattle.just_sched.specs.State.{catches, reason_in, is_done, first, reason_of, has_caught}
 use Rattle.just_sched.specs.Legal.{Run, May, MayFailBy, IsLegal}
-use Rattle.just_sched.specs.Idle.{NoneToAsk}
 use Rattle.just_sched.specs.Verdict.{decides, NoneDecides}
-use Rattle.just_sched.proofs.Due.{asked_due}
 use Rattle.just_sched.proofs.Histories.{legal_holds}
 use Rattle.just_sched.proofs.OneMore.{reason_kept, reason_new}
-use Rattle.just_sched.proofs.Order.{never}
-use Rattle.just_sched.proofs.Range.{answered_asked}
 use Rattle.just_sched.proofs.Tests.{any_kept, or_true}
 
 -- ---- reasons and the verdict

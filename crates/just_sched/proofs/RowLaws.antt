@@ -1,5 +1,5 @@
 -- Laws of the rows of nodes.
-use Rattle.std.proofs.Common.{Bool, true, ◌≡◌, ◌==◌, ◌&&◌, not, nat_lt, if◌then◌else◌, ℕ, ◌+◌, ◌<◌, ◌≤◌, ◌⊎◌, inl, inr, ⊎_elim, ◌||◌, false, cond, List, [], ◌∷◌, ◌++◌, length, set, get_or, get_or-set_same, get_or-set_other, length-append, refl, sym, ap, ap₂, ◌∙◌, arith}
+use Rattle.std.proofs.Common.{Bool, true, ◌≡◌, ◌==◌, ◌&&◌, not, nat_lt, if◌then◌else◌, ℕ, ◌+◌, ◌<◌, ◌≤◌, ◌⊎◌, inl, inr, ⊎_elim, ◌||◌, false, cond, List, [], ◌∷◌, ◌++◌, length, set, get_or, get_or-set_same, get_or-set_other, length-append, refl, subst, sym, ap, ap₂, ◌∙◌, arith}
 use Rattle.std.proofs.Math.ListN.{length-set, replicate, length-replicate}
 use Rattle.std.proofs.lemmas.List.{get_or-replicate}
 use Rattle.std.proofs.lemmas.List.Recursion.{is_count_by}
@@ -19,9 +19,12 @@ use Rattle.std.specs.List.{last_or, cons_option}
 use Rattle.just_sched.specs.declared.event.Event.{Event}
 use Rattle.just_sched.specs.declared.event.Event.TheVariants as event
 use Rattle.just_sched.specs.declared.row.Row.{Row}
-use Rattle.just_sched.specs.Rows.{IsRow, IsTable, IsTurned}
+use Rattle.just_sched.specs.Cached.{saves}
+use Rattle.just_sched.specs.Rows.{IsRow, IsLookRow, IsTable, IsTurned}
 use Rattle.just_sched.specs.State.{is_of, takes, gives, begins, skips, starts, ends, start_count, end_count, is_running, concludes, concludes_well, status_of, start_of, reason_in, has_taken, is_begun, is_done, is_over, is_over_well, statuses, last_start, reason_of}
 use Rattle.just_sched.specs.Tables.{or_first}
+use Rattle.just_sched.proofs.CachedLaws.{saved_of, saved_stays}
+use Rattle.just_sched.proofs.LookRows.{look_stays, look_turned}
 use Rattle.just_sched.proofs.OneMore.{took_more, gave_more, done_more}
 use Rattle.just_sched.proofs.Others.{others_stay}
 use Rattle.just_sched.proofs.TableLaws.{first_push}
@@ -60,7 +63,7 @@ pub length_more : {A B : Type 0} (f : A → Option B) (xs : List A) (x : A) → 
 length_more f xs x = ap length (list_more f xs x) ∙ length-append (filter_map f xs) (filter_map f (x ∷ [])) ∙ ap (λ n. length (filter_map f xs) + n) (count_option (f x))
 
 -- the row of a node behind an event of it
-pub row_turned : (h : List Event) (n : ℕ) (e : Event) (r s : Row) → IsRow h n r → IsTurned n e r s → IsRow (h ++ e ∷ []) n s
+pub row_turned : (h : List Event) (n : ℕ) (e : Event) (r s : Row) → IsRow h n r → IsTurned n (length h) e r s → IsRow (h ++ e ∷ []) n s
 row_turned h n e r s is t = record {
   taken = t.taken ∙ ap (λ b. b || takes n e) is.taken ∙ sym (took_more h e n);
   given = t.given ∙ ap (λ b. b || gives n e) is.given ∙ sym (gave_more h e n);
@@ -73,6 +76,8 @@ row_turned h n e r s is t = record {
   ended = t.ended ∙ ap (λ k. k + cond (is_some (status_of n e)) 1 0) is.ended ∙ sym (length_more (status_of n) h e);
   last = t.last ∙ ap (or_first (status_of n e)) is.last ∙ sym (last_more (status_of n) h e);
   reason = t.reason ∙ ap (λ o. or_first o (reason_in n e)) is.reason ∙ sym (first_push (reason_in n) h e);
+  look = subst (λ o. IsLookRow (h ++ e ∷ []) n o) (sym t.look) (look_turned h n e r.look is.look);
+  saved = t.saved ∙ ap (λ b. b || saves n e) is.saved ∙ sym (any_more (saves n) h e);
 }
 
 -- the row of a node behind an event of another
@@ -91,6 +96,8 @@ row_stays h n e r is other =
       ended = is.ended ∙ ap length (sym same.statuses);
       last = is.last ∙ ap (λ ts. last_or None ts) (sym same.statuses);
       reason = is.reason ∙ sym same.reason_of;
+      look = look_stays h n e r.look other is.look;
+      saved = is.saved ∙ sym (saved_stays h e n (saved_of n e other));
     }
 
 -- two numbers are one, or not
@@ -105,7 +112,7 @@ same_or m n =
     ]
 
 -- a table behind an event of a node that has a row in it
-pub table_turned : (h : List Event) (e : Event) (rows : List Row) (at : ℕ) (d s : Row) → IsTable h rows → at < length rows → ((n : ℕ) → (n ≡ at → ⊥) → is_of n e ≡ false) → IsTurned at e (get_or rows at d) s → IsTable (h ++ e ∷ []) (set rows at s)
+pub table_turned : (h : List Event) (e : Event) (rows : List Row) (at : ℕ) (d s : Row) → IsTable h rows → at < length rows → ((n : ℕ) → (n ≡ at → ⊥) → is_of n e ≡ false) → IsTurned at (length h) e (get_or rows at d) s → IsTable (h ++ e ∷ []) (set rows at s)
 table_turned h e rows at d s is lt own turn n o within =
     ⊎_elim (λ (same : n ≡ at). rw same (rw get_or-set_same (row_turned h at e (get_or rows at d) s (is at d lt) turn)))
     (λ (other : n ≡ at → ⊥). rw get_or-set_other (row_stays h n e (get_or rows n o) (is n o (omega (arith, length-set {A = Row}, within))) (own n other)))
@@ -117,7 +124,7 @@ table_stays h e rows is others n d lt = row_stays h n e (get_or rows n d) (is n 
 
 -- the row of a node of which no event speaks
 abbrev pub blank : Row
-blank = record { taken = false; given = false; begun = false; skipped = false; done = false; well = false; starts = 0; started = None; ended = 0; last = None; reason = None }
+blank = record { taken = false; given = false; begun = false; skipped = false; done = false; well = false; starts = 0; started = None; ended = 0; last = None; reason = None; look = None; saved = false }
 
 -- a list has no more items than it is made of
 few_option : {A : Type 0} (o : Option A) (xs : List A) → length (cons_option o xs) ≤ length xs + 1
@@ -142,7 +149,7 @@ reasons_set = Coded-set (coded_option reason_contract.the_row.coded)
 pub table_blank : (rows : List Row) (n : ℕ) → rows ≡ replicate n blank → IsTable [] rows
 table_blank rows n are k d lt =
     let at : get_or rows k d ≡ blank = ap (λ xs. get_or xs k d) are ∙ get_or-replicate n k blank d (omega (arith, ap length are, length-replicate n blank, lt)) in
-    rw at (record { taken = refl; given = refl; begun = refl; skipped = refl; done = refl; well = refl; starts = refl; started = refl; ended = refl; last = refl; reason = refl })
+    rw at (record { taken = refl; given = refl; begun = refl; skipped = refl; done = refl; well = refl; starts = refl; started = refl; ended = refl; last = refl; reason = refl; look = refl; saved = refl })
 
 -- ---- what a table gives of a node that has a row in it
 

@@ -22,7 +22,7 @@ use Rattle.just_sched.specs.declared.event.Reason.TheVariants as reason
 use Rattle.just_sched.specs.declared.token.Next.{Next}
 use Rattle.just_sched.specs.declared.token.Next.TheVariants as next
 use Rattle.just_sched.specs.Account.{IsAccount}
-use Rattle.just_sched.specs.Legal.{Run, Due, Asked, Begun, Started, Ended, IsDue, May, MayFail, MayMiss, MayFailBy, IsLegal, is_start, all_starts}
+use Rattle.just_sched.specs.Legal.{Run, Due, Asked, Looked, Begun, Started, Ended, Saved, IsDue, May, MayFail, MayMiss, MayFailBy, IsLegal, is_start, all_starts}
 use Rattle.just_sched.specs.Match.{IsStranger}
 use Rattle.just_sched.specs.Moves.{GrowsBy, IsMove, RunsWith, Rests, MatchNext}
 use Rattle.just_sched.specs.Room.{settles, settle_count}
@@ -36,6 +36,7 @@ use Rattle.just_sched.proofs.EventRoom.{own, settled, split}
 use Rattle.just_sched.proofs.Accounts.{node_in}
 use Rattle.just_sched.proofs.Grows.{grows_two, others_open, others_run}
 use Rattle.just_sched.proofs.Histories.{legal_holds}
+use Rattle.just_sched.proofs.Order.{unlooked_unbegun}
 use Rattle.just_sched.proofs.PlanShape.{IsFormed}
 use Rattle.just_sched.proofs.Sums.{sum_add, sum_lt, sum_same, sum_zero}
 use Rattle.just_sched.proofs.Tests.{any_none, count_none, count_now, unless}
@@ -52,7 +53,8 @@ due_still s h n Asked l due other = to_ask_still s h n l due
 due_still s h n Begun l due other = unbegun_still s h n l due.1
 due_still s h n (Started i) l due other = due.2
 due_still s h n Ended l due other = absurd (other refl)
-due_still s h n _ l due other = absurd due
+due_still s h n Looked l due other = unbegun_still s h n l (unlooked_unbegun s h n l due.1 due.2)
+due_still s h n Saved l due other = due.2
 
 -- the failure isn't that of a wait
 abbrev IsNoWait : Reason → Type 0
@@ -63,6 +65,9 @@ IsNoWait _ = Unit {0}
 miss_still : (s : Run) (h : List Event) (n : ℕ) (c : Call) → IsLegal s h → MayMiss s h n c → is_running h n ≡ false
 miss_still s h n call.Ask l may = due_still s h n Asked l may (λ e. cc)
 miss_still s h n call.Temp l may = may.1.2
+miss_still s h n call.Probe l may = due_still s h n Looked l may (λ e. cc)
+miss_still s h n call.Check l may = may.2
+miss_still s h n call.Save l may = may.2
 miss_still s h n _ l may = absurd may
 
 -- a call that fails, but a wait, is made before a child runs
@@ -73,17 +78,22 @@ fail_still s h n call.Print l other (inr may) = may.1.2
 fail_still s h n call.Temp l other may = may.1.2
 fail_still s h n call.Start l other may = may.1.2
 fail_still s h n call.Wait l other may = absurd other
+fail_still s h n call.Sum l other may = due_still s h n Looked l may (λ e. cc)
+fail_still s h n call.Probe l other may = due_still s h n Looked l may (λ e. cc)
+fail_still s h n call.Check l other may = may.2
+fail_still s h n call.Save l other may = may.2
 fail_still s h n _ l other may = absurd may
 
 -- a body that fails, but by a wait, runs nothing
 failing_still : (s : Run) (h : List Event) (n : ℕ) (r : Reason) → IsLegal s h → IsNoWait r → MayFailBy s h n r → is_running h n ≡ false
 failing_still s h n reason.Status l other may = may.between_commands
 failing_still s h n reason.NotConfirmed l other may = no_still s h n l may.0
+failing_still s h n (reason.Input j m) l other may = due_still s h n Looked l may.0 (λ e. cc)
+failing_still s h n (reason.Output j) l other may = due_still s h n Saved l may.0 (λ e. cc)
 failing_still s h n (reason.Place c m) l other may = miss_still s h n c l may
 failing_still s h n (reason.Fault c) l other may = fail_still s h n c l other may
 failing_still s h n reason.Interrupted l other may = may.0.1.2
 failing_still s h n reason.NoMemory l other may = due_still s h n may.0 l may.1 may.2
-failing_still s h n _ l other may = absurd may
 
 -- ---- a node's settled children are those that it started, once it is done
 
@@ -143,7 +153,7 @@ settled_turn_at h n m e false q c fresh p r old = settled_as h n e (p refl) (r r
 settled_on : (s : Run) (n : ℕ) (h : List Event) (e : Event) → IsLegal s h → May s h e → IsSettled h n → IsSettled (h ++ e ∷ []) n
 settled_on s n h (event.Started m i c) l may old = settled_turn_at h n m (event.Started m i c) (m == n) refl refl (inside h m may.0.0).not_done (λ _. refl) (λ q. q) old
 settled_on s n h (event.Ended m i c t) l may old = settled_turn_at h n m (event.Ended m i c t) (m == n) refl refl (inside h m may.0.0).not_done (λ q. q) (λ _. refl) old
-settled_on s n h (event.Done m outcome.Well) l may old = settled_done_at s h n m outcome.Well (m == n) refl l refl may.not_done may.between_commands old
+settled_on s n h (event.Done m outcome.Well) l may old = settled_done_at s h n m outcome.Well (m == n) refl l refl may.0.not_done may.0.between_commands old
 settled_on s n h (event.Done m (outcome.Failed r)) l may old = settled_failed s h n m r l may old
 settled_on s n h e l may old = settled_as h n e refl refl refl old
 

@@ -13,6 +13,7 @@ use Rattle.just_sched.specs.declared.row.Row.{Row}
 use Rattle.just_sched.specs.declared.plan_node.PlanNode.{PlanNode}
 use Rattle.just_sched.specs.declared.tables.Tables.{Tables}
 use Rattle.just_sched.specs.Nodes.{priors_at, subsequents_at, parallel_at}
+use Rattle.just_sched.specs.Classes.{AreClasses, AreOpen}
 use Rattle.just_sched.specs.Rows.{IsTable, IsNoted}
 use Rattle.just_sched.specs.State.{has_taken, is_done, takes, concludes, first, reason_in, reason_of, has_failed, is_open, IsReady, is_over_well, is_confirmed, IsFinished, IsWanted, MayComeNext, finished, invoked, prior, subsequent}
 use Rattle.just_sched.specs.Tables.{flag, FlagsAre, FlagsMean}
@@ -26,6 +27,13 @@ use Rattle.just_sched.proofs.WantedLaws.{leads_weaker}
 -- the rows of tables that say what the history says
 pub rows_of : {nodes : List PlanNode} {invocations : List ℕ} {h : List Event} {t : Tables} → ∥ IsNoted nodes invocations h t ∥₁ → ∥ IsTable h t.rows.items ∥₁
 rows_of noted = ∥∥₁_map noted (λ n. n.rows)
+
+-- the numbers of the classes, and which of them have an open body
+pub classes_of : {nodes : List PlanNode} {invocations : List ℕ} {h : List Event} {t : Tables} → ∥ IsNoted nodes invocations h t ∥₁ → ∥ AreClasses nodes t.classes.items ∥₁
+classes_of noted = ∥∥₁_map noted (λ n. n.classes)
+
+pub opened_of : {nodes : List PlanNode} {invocations : List ℕ} {h : List Event} {t : Tables} → ∥ IsNoted nodes invocations h t ∥₁ → ∥ AreOpen nodes h t.classes.items t.opened.items ∥₁
+opened_of noted = ∥∥₁_map noted (λ n. n.opened)
 
 module _ (nodes : List PlanNode) (invocations : List ℕ) (h k : List Event) (same : (n : ℕ) → is_over_well h n ≡ true → is_over_well k n ≡ true) where
   -- a finished node is so by each history that has no fewer nodes over well

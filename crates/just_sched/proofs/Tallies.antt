@@ -9,7 +9,8 @@ use Rattle.just_sched.specs.declared.event.Outcome.TheVariants as outcome
 use Rattle.just_sched.specs.declared.event.Reason.{Reason}
 use Rattle.just_sched.specs.declared.event.Reason.TheVariants as reason
 use Rattle.just_commands.specs.declared.work.Command.{Command}
-use Rattle.just_sched.specs.Gains.{TellGains, AskGains, StartGains}
+use Rattle.just_sched.specs.declared.cache_plan.CachePlan.{CachePlan}
+use Rattle.just_sched.specs.Gains.{TellGains, AskGains, StartGains, LookRefusal, SaveGains}
 use Rattle.just_sched.specs.Legal.{Run, is_start, all_starts}
 use Rattle.just_sched.specs.Match.{StandsFor}
 use Rattle.just_sched.specs.Room.{settles, settle_count}
@@ -39,6 +40,15 @@ told_end A text n _ es g = refl
 pub unstarted_end : {C : Type 0} (number : C → ℕ) (c : Command) (n : ℕ) (r : Reason) (es : List Entry) → StartGains number c (Err r) es → settles (event.Done n (outcome.Failed r)) ≡ false
 unstarted_end number c n (reason.Fault call.Wait) es g = absurd g
 unstarted_end number c n _ es g = refl
+
+-- nor does that of a body whose cache couldn't be looked at, or whose entry couldn't be saved
+pub unlooked_end : (c : CachePlan) (n : ℕ) (r : Reason) (es : List Entry) → LookRefusal c r es → settles (event.Done n (outcome.Failed r)) ≡ false
+unlooked_end c n (reason.Fault call.Wait) es g = absurd g
+unlooked_end c n _ es g = refl
+
+pub unsaved_end : (c : CachePlan) (sums : List (List ℕ)) (n : ℕ) (r : Reason) (es : List Entry) → SaveGains c sums (Err r) es → settles (event.Done n (outcome.Failed r)) ≡ false
+unsaved_end c sums n (reason.Fault call.Wait) es g = absurd g
+unsaved_end c sums n _ es g = refl
 
 -- nor does that of a node that couldn't be asked
 pub unasked_end : (prompt : List ℕ) (n : ℕ) (r : Reason) (es : List Entry) → AskGains prompt (Err r) es → settles (event.Done n (outcome.Failed r)) ≡ false

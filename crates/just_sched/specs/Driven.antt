@@ -1,5 +1,5 @@
 -- What the drive of a run promises.
-use Rattle.std.specs.Prelude.{◌≡◌, ◌⊎◌, true, List, Option}
+use Rattle.std.specs.Prelude.{ℕ, ◌≡◌, ◌<◌, ◌⊎◌, true, List, length, Option}
 use Rattle.just_outside.specs.declared.entry.Entry.{Entry}
 use Rattle.just_outside.specs.World.{World}
 use Rattle.just_sched.specs.declared.event.Event.{Event}
@@ -7,6 +7,8 @@ use Rattle.just_sched.specs.declared.event.Idle.{Idle}
 use Rattle.just_sched.specs.declared.event.Verdict.{Verdict}
 use Rattle.just_sched.specs.declared.event.Verdict.TheVariants as ended
 use Rattle.just_sched.specs.declared.plan.Plan.{Plan}
+use Rattle.just_sched.specs.CacheRule.{GoesByCacheRule, IsSkippedByLook}
+use Rattle.just_sched.specs.Cached.{is_cached}
 use Rattle.just_sched.specs.Idle.{IsIdle, HasWork}
 use Rattle.just_sched.specs.Legal.{IsClosed, IsComplete}
 use Rattle.just_sched.specs.Start.{Start, IsKept, run_of}
@@ -30,3 +32,7 @@ pub record IsDriven (s : Start) (p : Plan) (h : List Event) (v : Verdict) (now :
   pub verdict : IsVerdict (run_of s) h v
   -- where all went well, each node of the plan is finished
   pub complete : v ≡ ended.Well → IsComplete (run_of s) h
+  -- each cached body went by the cache rule
+  pub cached : (n : ℕ) → is_cached s.plan.nodes n ≡ true → GoesByCacheRule (run_of s) h n
+  -- and where all went well, it was skipped exactly where its look was full, and else begun
+  pub skipped : v ≡ ended.Well → (n : ℕ) → n < length s.plan.nodes → is_cached s.plan.nodes n ≡ true → IsSkippedByLook h n

@@ -11,6 +11,8 @@ use Rattle.just_sched.specs.declared.event.Reason.TheVariants as reason
 use Rattle.just_sched.specs.declared.plan_node.PlanNode.{PlanNode}
 use Rattle.just_commands.specs.declared.work.Step.{Step}
 use Rattle.just_commands.specs.declared.work.Step.TheVariants as step
+use Rattle.just_sched.specs.Nodes.{cache_at, paths_in, outputs_in}
+use Rattle.just_sched.specs.Cached.{is_cached, is_looked_at, is_saved, saw_full, may_begin, owes_nothing, class_is_open}
 use Rattle.just_sched.specs.State.{is_begun, is_over, is_done, is_open, is_running, answers, last_start, has_caught, next_step, IsToAsk, IsReady, IsFinished}
 use Rattle.std.specs.List.{list_any}
 
@@ -35,14 +37,14 @@ pub data Due : Type 0 where
 abbrev pub in_body : List Event → ℕ → Bool
 in_body h n = is_open h n && not (is_over h n)
 
--- that event is the one that the node is due to have. Looked and Saved come with the cache, which no node has yet
+-- that event is the one that the node is due to have
 abbrev pub IsDue : Run → List Event → ℕ → Due → Type 0
 IsDue s h n Asked = IsToAsk s.nodes s.invocations h n
-IsDue s h n Looked = ⊥
-IsDue s h n Begun = (in_body h n ≡ true) × (is_begun h n ≡ false)
+IsDue s h n Looked = (in_body h n ≡ true) × (is_cached s.nodes n ≡ true) × (is_looked_at h n ≡ false)
+IsDue s h n Begun = (in_body h n ≡ true) × (is_begun h n ≡ false) × (may_begin s.nodes h n ≡ true)
 IsDue s h n (Started i) = (in_body h n ≡ true) × (is_begun h n ≡ true) × (is_running h n ≡ false) × (next_step s.nodes h n ≡ step.Start i)
 IsDue s h n Ended = (in_body h n ≡ true) × (is_running h n ≡ true)
-IsDue s h n Saved = ⊥
+IsDue s h n Saved = (in_body h n ≡ true) × (is_begun h n ≡ true) × (is_running h n ≡ false) × (next_step s.nodes h n ≡ step.Well) × (is_cached s.nodes n ≡ true) × (is_saved h n ≡ false)
 
 -- how many bodies are open
 abbrev pub open_bodies : Run → List Event → ℕ
@@ -90,8 +92,8 @@ pub record IsAtEnd (s : Run) (h : List Event) (n : ℕ) (how : Step) : Type 0 wh
 abbrev pub MayFailBy : Run → List Event → ℕ → Reason → Type 0
 MayFailBy s h n reason.Status = IsAtEnd s h n step.Failed
 MayFailBy s h n reason.NotConfirmed = (list_any (answers false n) h ≡ true) × (is_done h n ≡ false)
-MayFailBy s h n (reason.Input j m) = IsDue s h n Looked
-MayFailBy s h n (reason.Output j) = IsDue s h n Saved
+MayFailBy s h n (reason.Input j m) = IsDue s h n Looked × (j < length (paths_in (cache_at s.nodes n)))
+MayFailBy s h n (reason.Output j) = IsDue s h n Saved × (j < length (outputs_in (cache_at s.nodes n)))
 MayFailBy s h n (reason.Place c m) = MayMiss s h n c
 MayFailBy s h n (reason.Fault c) = MayFail s h n c
 MayFailBy s h n reason.Interrupted = ((i : ℕ) × IsDue s h n (Started i)) × (has_caught h ≡ true)
@@ -100,14 +102,14 @@ MayFailBy s h n reason.NoMemory = (d : Due) × IsDue s h n d × (d ≢ Ended)
 -- each event has its condition on the history before it
 abbrev pub May : Run → List Event → Event → Type 0
 May s h (event.Asked n y) = IsDue s h n Asked × (has_caught h ≡ false)
-May s h (event.Took n) = IsReady s.nodes s.invocations h n × (has_caught h ≡ false) × MatchOption s.jobs (Unit {0}) (λ j. open_bodies s h < j)
-May s h (event.Looked n sums look) = IsDue s h n Looked
-May s h (event.Skipped n) = ⊥
+May s h (event.Took n) = IsReady s.nodes s.invocations h n × (has_caught h ≡ false) × MatchOption s.jobs (Unit {0}) (λ j. open_bodies s h < j) × (class_is_open s.nodes h n ≡ false)
+May s h (event.Looked n sums seen) = IsDue s h n Looked × (length sums ≡ length (paths_in (cache_at s.nodes n)))
+May s h (event.Skipped n) = (in_body h n ≡ true) × (saw_full h n ≡ true)
 May s h (event.Begun n) = IsDue s h n Begun
 May s h (event.Started n i c) = IsDue s h n (Started i) × (has_caught h ≡ false) × (c ≡ s.base + all_starts h)
 May s h (event.Ended n i c status) = IsDue s h n Ended × (last_start h n ≡ Some (i, c))
 May s h (event.Saved n) = IsDue s h n Saved
-May s h (event.Done n outcome.Well) = IsAtEnd s h n step.Well
+May s h (event.Done n outcome.Well) = IsAtEnd s h n step.Well × (owes_nothing s.nodes h n ≡ true)
 May s h (event.Done n (outcome.Failed r)) = MayFailBy s h n r
 May s h (event.Gave n) = (is_open h n ≡ true) × (is_over h n ≡ true)
 May s h (event.Caught signal) = has_caught h ≡ false

@@ -1,6 +1,9 @@
 -- The definitions that the contracts cite.
 pub mod Account
+pub mod CacheRule
+pub mod Cached
 pub mod Causes
+pub mod Classes
 pub mod Codes
 pub mod Driven
 pub mod Favourable
@@ -20,4 +23,6 @@ pub mod Running
 pub mod Start
 pub mod State
 pub mod Tables
+pub mod Touched
+pub mod Turns
 pub mod Verdict

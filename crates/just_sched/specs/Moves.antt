@@ -10,8 +10,9 @@ use Rattle.just_sched.specs.declared.event.Outcome.TheVariants as outcome
 use Rattle.just_sched.specs.declared.event.Reason.TheVariants as reason
 use Rattle.just_sched.specs.declared.token.Next.{Next}
 use Rattle.just_sched.specs.declared.token.Next.TheVariants as next
-use Rattle.just_sched.specs.Legal.{Run, open_bodies}
-use Rattle.just_sched.specs.State.{node_of, is_of, is_open, is_running, has_taken, is_asked, is_done, last_start, IsToAsk, IsReady}
+use Rattle.just_sched.specs.Idle.{MayTake}
+use Rattle.just_sched.specs.Legal.{Run}
+use Rattle.just_sched.specs.State.{node_of, is_of, is_open, is_running, has_taken, is_asked, is_done, last_start, IsToAsk}
 
 -- the event is one of the node, or a caught signal
 abbrev pub concerns : ℕ → Event → Bool
@@ -28,14 +29,14 @@ abbrev pub answer_events : ℕ → Bool → List Event
 answer_events n true = event.Asked n true ∷ []
 answer_events n false = event.Asked n false ∷ event.Done n (outcome.Failed reason.NotConfirmed) ∷ []
 
--- One move of `next`: a ready node took a job, or a node that was to be asked was asked, or is done since asking it was
+-- One move of `next`: a node that might take a job took it, or a node that was to be asked was asked, or is done since asking it was
 -- refused; it had taken no job before. The history gained events of that node alone, or a caught signal. No node of lesser
--- number was to be asked; and none was ready, unless each job was taken.
+-- number was to be asked, and none might take a job.
 pub record IsMove (s : Run) (old new : List Event) (n : ℕ) : Type 0 where
-  pub moved : (IsReady s.nodes s.invocations old n × (has_taken new n ≡ true)) ⊎ (IsToAsk s.nodes s.invocations old n × ((is_asked new n || is_done new n) ≡ true))
+  pub moved : (MayTake s old n × (has_taken new n ≡ true)) ⊎ (IsToAsk s.nodes s.invocations old n × ((is_asked new n || is_done new n) ≡ true))
   pub not_taken : has_taken old n ≡ false
   pub least_to_ask : (m : ℕ) → m < n → IsToAsk s.nodes s.invocations old m → ⊥
-  pub least_ready : (m : ℕ) → m < n → IsReady s.nodes s.invocations old m → s.jobs ≡ Some (open_bodies s old)
+  pub least_to_take : (m : ℕ) → m < n → MayTake s old m → ⊥
   pub grows : GrowsBy old new n
 
 -- the node's body is open, and runs with that child

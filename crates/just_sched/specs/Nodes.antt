@@ -1,5 +1,6 @@
 -- What a plan says of the node of a number; nothing past the last one.
 use Rattle.std.specs.Prelude.{ℕ, Bool, false, List, [], slice_get, Option, Some, None}
+use Rattle.just_sched.specs.declared.cache_plan.CachePlan.{CachePlan}
 use Rattle.just_sched.specs.declared.plan_node.PlanNode.{PlanNode}
 use Rattle.just_commands.specs.declared.work.Command.{Command}
 use Rattle.just_commands.specs.declared.work.Work.{Work}
@@ -30,6 +31,19 @@ abbrev pub banner_in : Option PlanNode → List ℕ
 banner_in (Some x) = x.banner
 banner_in None = []
 
+abbrev pub cache_in : Option PlanNode → Option CachePlan
+cache_in (Some x) = x.cache
+cache_in None = None
+
+-- the paths of the inputs and of the outputs of a cache; none where there is no cache
+abbrev pub paths_in : Option CachePlan → List (List ℕ)
+paths_in (Some c) = c.paths
+paths_in None = []
+
+abbrev pub outputs_in : Option CachePlan → List (List ℕ)
+outputs_in (Some c) = c.outputs
+outputs_in None = []
+
 abbrev pub priors_at : List PlanNode → ℕ → List ℕ
 priors_at nodes n = priors_in (slice_get nodes n)
 
@@ -48,6 +62,10 @@ work_at nodes n = work_in (slice_get nodes n)
 
 abbrev pub banner_at : List PlanNode → ℕ → List ℕ
 banner_at nodes n = banner_in (slice_get nodes n)
+
+-- the cache of a node, if it has one
+abbrev pub cache_at : List PlanNode → ℕ → Option CachePlan
+cache_at nodes n = cache_in (slice_get nodes n)
 
 -- the command of a node at a place
 abbrev pub command_at : List PlanNode → ℕ → ℕ → Option Command

@@ -1,5 +1,5 @@
 -- The run of nothing, over a host with no record.
-use Rattle.std.specs.Prelude.{◌≡◌, ◌<◌, ◌^◌, All, [], length, None}
+use Rattle.std.specs.Prelude.{◌<◌, ◌^◌, All, [], length, None}
 use Rattle.std.proofs.Common.{arith, lit<}
 use Rattle.just_closure.specs.WellFormed.{IsWellFormed}
 use Rattle.just_sched.specs.declared.plan_node.PlanNode.{PlanNode}

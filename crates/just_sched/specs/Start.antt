@@ -8,6 +8,7 @@ use Rattle.just_sched.specs.declared.event.Event.{Event}
 use Rattle.just_sched.specs.declared.plan.Plan.{Plan}
 use Rattle.just_sched.specs.Legal.{Run, IsLegal, all_starts}
 use Rattle.just_sched.specs.Match.{Matches}
+use Rattle.just_sched.specs.Touched.{IsTouched}
 
 -- the plan, the job limit if there is one, and the host's record and told world
 pub record Start : Type 0 where
@@ -25,13 +26,14 @@ abbrev pub run_of : Start → Run
 run_of s = run_over s.plan s.jobs s.entries
 
 -- A history that was made since then, over a host whose record and told world are these now: the history is legal, it
--- matches what the record gained, and the world is as it was where no child was started and no call failed.
+-- matches what the record gained, and where no child was started and no call failed, the world is as it was but for entries of the nodes'
+-- caches.
 pub record IsKept (s : Start) (h : List Event) (now : List Entry) (world : Option World) : Type 0 where
   pub legal : IsLegal (run_of s) h
   pub gained : List Entry
   pub grew : now ≡ s.entries ++ gained
   pub matches : Matches (run_of s) h gained
-  pub untouched : all_starts h ≡ 0 → list_any is_failed gained ≡ false → world ≡ s.world
+  pub untouched : all_starts h ≡ 0 → list_any is_failed gained ≡ false → IsTouched s.plan.nodes s.world world
 
 -- what a run is of that has this plan, this job limit and a host with this record and told world
 abbrev pub start_with : Plan → Option ℕ → List Entry → Option World → Start

@@ -5,16 +5,19 @@ ghost use Rattle.std.specs.Int.NonZero.{non_zero_u64_get};
 ghost use Rattle.std.proofs.Props.{props};
 ghost use Rattle.just_outside.specs.Record.{children};
 ghost use Rattle.just_sched.specs.Account.{IsAccount};
+ghost use Rattle.just_sched.specs.CacheRule.{GoesByCacheRule};
+ghost use Rattle.just_sched.specs.Cached.{may_begin, class_is_open, is_cached, are_one_class};
 ghost use Rattle.just_sched.specs.Codes.{plan_code};
 ghost use Rattle.just_sched.specs.Start.{IsKept, run_of};
 ghost use Rattle.just_sched.specs.Room.{slots, total_commands, settle_count};
 ghost use Rattle.just_sched.specs.Rows.{IsNoted};
 ghost use Rattle.just_sched.specs.Running.{running_bodies, EachNoIsDone, IsNotedFor};
-ghost use Rattle.just_sched.specs.State.{IsToAsk, IsReady, IsDueNext, is_open, is_running, is_asked, is_begun, is_done, is_over as over_of, has_taken, has_caught, caught_signal, last_start as start_of, next_step as step_of};
+ghost use Rattle.just_sched.specs.State.{IsToAsk, IsReady, is_open, is_running, is_asked, is_begun, is_done, is_over as over_of, has_taken, has_caught, caught_signal, last_start as start_of, next_step as step_of};
 ghost use Rattle.just_sched.specs.Legal.{Run, IsClosed, IsComplete, May, open_bodies, all_starts, in_body};
 ghost use Rattle.just_sched.specs.Match.{StandsFor, IsStranger};
 ghost use Rattle.just_sched.specs.Idle.{IsIdle, CanMove, HasWork};
 ghost use Rattle.just_sched.specs.NodeStates.{IsState};
+ghost use Rattle.just_sched.specs.Turns.{IsTurn};
 ghost use Rattle.just_sched.specs.Verdict.{IsVerdict};
 ghost use Rattle.just_sched.specs.Moves.{GrowsBy, IsMove, RunsWith, Rests, MatchNext};
 ghost use base.Stored.{Coded-set};
@@ -24,6 +27,7 @@ use super::noting::{note, note_answer};
 use super::room::{command_count, event_count};
 use super::row::is_running;
 use super::tables::Tables;
+use super::turn::Turn;
 use super::{
     Driven, Event, HeldBody, Idle, Named, Naming, Next, NodeState, OpenBody, Outcome, Plan, Reason,
     Seat, Step, Verdict, WaitedBody,
@@ -38,7 +42,8 @@ use std::sync::ledger;
 
 /// A run that goes on: its plan, its host, and the history so far, which is legal and matches what the host's record
 /// gained since the book was opened, and in which each node that was answered by a no is done. It has room for every event,
-/// so only the host's calls take memory.
+/// so only the host's calls and the texts of keys and entries
+/// take memory.
 pub struct Book<H: Host + Drop, P: Naming> {
     pub plan: Plan,
     /// How many bodies may be open at once; any number where it isn't given.
@@ -49,7 +54,9 @@ pub struct Book<H: Host + Drop, P: Naming> {
     caught: Option<Signal>,
     /// How many bodies are open.
     taken: usize,
-    tables: Tables,
+    pub(crate) tables: Tables,
+    /// By it the texts of keys and entries are made.
+    pub(crate) alloc: Global,
     /// The ledger of the running bodies.
     tally: ledger::Book<P>,
     of: PhantomData<P>,
@@ -124,6 +131,7 @@ impl<H: Host + Drop, P: Naming> Book<H, P> {
                     caught: None,
                     taken: 0,
                     tables,
+                    alloc,
                     tally,
                     of: PhantomData,
                 };
@@ -140,10 +148,11 @@ impl<H: Host + Drop, P: Naming> Book<H, P> {
         self.taken
     }
 
-    /// The history so far. It is legal, and matches what the host's record gained.
+    /// The history so far. It is legal, and matches what the host's record gained; so no two open bodies are of one class.
     pub fn history(&self) -> &[Event]
         ensures items { result.now ≡ self.now.history.items }
         ensures kept { ∥ IsKept P.start result.now (H.entries self.now.host) (H.world self.now.host) ∥₁ }
+        ensures apart { (m n : ℕ) → (m ≡ n → ⊥) → is_open result.now m ≡ true → is_open result.now n ≡ true → are_one_class P.start.plan.nodes m n ≡ false }
     {
         self.history.as_slice()
     }
@@ -173,10 +182,11 @@ impl<H: Host + Drop, P: Naming> Book<H, P> {
         self.tally.audit(&mut seat.share);
     }
 
-    /// Makes one move, if there is one, of the node of least number that is ready or to be asked. One that is to be asked is
-    /// asked, and is done where its answer is no yes. A ready one takes a job, and its body is begun and gone on with, until a
-    /// child runs, for which the seat gains a unit, or the job is given back. Where each job is taken, it is the node of least
-    /// number that is to be asked. It waits for no child, but for an answer.
+    /// Makes one move, if there is one, of the node of least number that is to be asked, or is ready while no open body is of its
+    /// class. One that is to be asked is asked, and is done where its answer is no yes. A ready one takes a job, and its body is looked
+    /// up in its cache, where it has one, and skipped, or begun and gone on with, until a child runs, for which the seat gains a unit, or
+    /// the job is given back. Where each job is taken, it is the node of least number that is to be asked. It waits for no child, but
+    /// for an answer.
     pub fn next(&mut self, seat: &mut Seat<P>) -> Next<H>
         ensures plan { self.new.plan ≡ self.old.plan }
         ensures jobs { self.new.jobs ≡ self.old.jobs }
@@ -191,22 +201,30 @@ impl<H: Host + Drop, P: Naming> Book<H, P> {
         if self.is_caught() {
             return Next::Idle(Idle::Signal);
         }
-        let Some((node, to_ask)) = self.first_due() else {
-            return Next::Idle(Idle::Nothing);
-        };
-        if to_ask {
-            self.ask(node);
-            return Next::Moved;
+        match self.turn() {
+            Turn::Ask(node) => {
+                self.ask(node);
+                Next::Moved
+            }
+            Turn::Take(node) => {
+                if !self.is_full() {
+                    self.take(node);
+                    return self.advance(seat, node);
+                }
+                let Some(other) = self.first_to_ask() else {
+                    return Next::Idle(Idle::Jobs);
+                };
+                self.ask(other);
+                Next::Moved
+            }
+            Turn::Wait => {
+                if self.is_full() {
+                    return Next::Idle(Idle::Jobs);
+                }
+                Next::Idle(Idle::Class)
+            }
+            Turn::Nothing => Next::Idle(Idle::Nothing),
         }
-        if self.is_full() {
-            let Some(other) = self.first_to_ask() else {
-                return Next::Idle(Idle::Jobs);
-            };
-            self.ask(other);
-            return Next::Moved;
-        }
-        self.take(node);
-        self.advance(seat, node)
     }
 
     /// Notes how a body's child ended, for which the seat gives a unit: of the node that runs with that child, else of the
@@ -245,13 +263,14 @@ impl<H: Host + Drop, P: Naming> Book<H, P> {
         self.advance(seat, body.into_node())
     }
 
-    /// Closes the book of a run in which no body is open. It takes no memory, and time for one pass over the nodes.
+    /// Closes the book of a run in which no body is open; each cached body went by the cache rule. It takes no memory, and time for one pass over the nodes.
     pub fn close(self) -> Driven<H>
         requires { IsClosed (run_of P.start) self.history.items }
         ensures host { result.host ≡ self.host }
         ensures plan { result.plan ≡ self.plan }
         ensures history { result.history ≡ self.history.items }
         ensures kept { ∥ IsKept P.start result.history (H.entries result.host) (H.world result.host) ∥₁ }
+        ensures cached { (n : ℕ) → is_cached P.start.plan.nodes n ≡ true → GoesByCacheRule (run_of P.start) result.history n }
         ensures verdict { IsVerdict (run_of P.start) result.history result.verdict }
         ensures complete { result.verdict ≡ Verdict.Well → (HasWork (run_of P.start) result.history → ⊥) → IsComplete (run_of P.start) result.history }
     {
@@ -263,6 +282,7 @@ impl<H: Host + Drop, P: Naming> Book<H, P> {
             caught,
             taken: _,
             tables,
+            alloc: _,
             tally: _,
             of: _,
         } = self;
@@ -299,16 +319,14 @@ impl<H: Host + Drop, P: Naming> Book<H, P> {
         self.caught.is_some()
     }
 
-    /// The node of least number that is ready or to be asked, and whether it is to be asked.
-    fn first_due(&mut self) -> Option<(u32, bool)>
+    /// The next move.
+    fn turn(&mut self) -> Turn
         ensures same { (self.new.history ≡ self.old.history) × (self.new.plan ≡ self.old.plan) × (self.new.jobs ≡ self.old.jobs) × (self.new.host ≡ self.old.host) × (self.new.taken ≡ self.old.taken) × (self.new.caught ≡ self.old.caught) }
-        ensures due { IfSome result (λ f. (f.0 < length P.start.plan.nodes) × MatchBool f.1 (IsToAsk P.start.plan.nodes P.start.plan.invocations self.old.history.items f.0) (IsReady P.start.plan.nodes P.start.plan.invocations self.old.history.items f.0)) }
-        ensures least { IfSome result (λ f. (m : ℕ) → m < f.0 → IsDueNext P.start.plan.nodes P.start.plan.invocations self.old.history.items m → ⊥) }
-        ensures none { IfNone result ((n : ℕ) → n < length P.start.plan.nodes → IsDueNext P.start.plan.nodes P.start.plan.invocations self.old.history.items n → ⊥) }
+        ensures turn { IsTurn P.start.plan.nodes P.start.plan.invocations self.old.history.items result }
     {
         let plan = &self.plan;
         let history = self.history.as_slice();
-        self.tables.first_due(plan, history)
+        self.tables.turn(plan, history)
     }
 
     /// The node of least number that is to be asked.
@@ -400,6 +418,7 @@ impl<H: Host + Drop, P: Naming> Book<H, P> {
         requires range { node < length P.start.plan.nodes }
         requires calm { has_caught self.old.history.items ≡ false }
         requires free { MatchOption P.start.jobs (Unit {0}) (λ j. open_bodies (run_of P.start) self.old.history.items < j) }
+        requires apart { class_is_open P.start.plan.nodes self.old.history.items node ≡ false }
         ensures plan { self.new.plan ≡ self.old.plan }
         ensures jobs { self.new.jobs ≡ self.old.jobs }
         ensures grown { GrowsBy self.old.history.items self.new.history.items node }
@@ -435,7 +454,7 @@ impl<H: Host + Drop, P: Naming> Book<H, P> {
     }
 
     /// The node's body is done with no entry of its own: by its statuses, or since a signal was caught.
-    fn end(&mut self, node: u32, outcome: Outcome)
+    pub(crate) fn end(&mut self, node: u32, outcome: Outcome)
         requires may { May (run_of P.start) self.old.history.items (Event.Done node outcome) }
         requires stands { StandsFor (run_of P.start) self.old.history.items (Event.Done node outcome) [] }
         requires opened { is_open self.old.history.items node ≡ true }
@@ -454,9 +473,10 @@ impl<H: Host + Drop, P: Naming> Book<H, P> {
     }
 
     /// Begins the node's body, and prints its banner; false where that failed, by which the body is done.
-    fn begin(&mut self, node: u32) -> bool
+    pub(crate) fn begin(&mut self, node: u32) -> bool
         requires inside { in_body self.old.history.items node ≡ true }
         requires fresh { is_begun self.old.history.items node ≡ false }
+        requires may { may_begin P.start.plan.nodes self.old.history.items node ≡ true }
         requires still { is_running self.old.history.items node ≡ false }
         ensures plan { self.new.plan ≡ self.old.plan }
         ensures jobs { self.new.jobs ≡ self.old.jobs }
@@ -587,14 +607,14 @@ impl<H: Host + Drop, P: Naming> Book<H, P> {
                     return Next::Body(body);
                 }
             }
-            Step::Well => self.end(node, Outcome::Well),
+            Step::Well => self.end_well(node),
             Step::Failed => self.end(node, Outcome::Failed(Reason::Status)),
         }
         self.give(node);
         Next::Moved
     }
 
-    /// Goes on with an open body that runs no child: it is begun, where it wasn't, and then makes a step.
+    /// Goes on with an open body that runs no child: it is skipped or begun, where it wasn't, and then makes a step.
     fn advance(&mut self, seat: &mut Seat<P>, node: u32) -> Next<H>
         requires opened { is_open self.old.history.items node ≡ true }
         requires still { is_running self.old.history.items node ≡ false }
@@ -611,7 +631,7 @@ impl<H: Host + Drop, P: Naming> Book<H, P> {
             self.give(node);
             return Next::Moved;
         }
-        if !self.is_begun(node) && !self.begin(node) {
+        if !self.is_begun(node) && !self.enter(node) {
             self.give(node);
             return Next::Moved;
         }

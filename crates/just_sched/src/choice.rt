@@ -1,13 +1,17 @@
 //! Which node a book takes next, by the flags of the nodes.
 
-ghost use Rattle.std.specs.Prelude.{◌≡◌, ◌<◌, ◌||◌, ℕ, true, false, length, IfSome, IfNone, MatchBool};
+ghost use Rattle.std.specs.Prelude.{◌≡◌, ◌<◌, ◌||◌, ℕ, true, false, length, IfSome, IfNone};
+ghost use Rattle.just_sched.specs.Classes.{AreClasses, AreOpen};
 ghost use Rattle.just_sched.specs.Rows.{IsTable};
 ghost use Rattle.just_sched.specs.Running.{EachNoIsDone};
 ghost use Rattle.just_sched.specs.Tables.{FlagsAre, FlagsMean};
-ghost use Rattle.just_sched.specs.State.{has_taken, is_done, is_confirmed, IsFinished, IsWanted, IsToAsk, IsReady, IsDueNext};
+ghost use Rattle.just_sched.specs.Turns.{Stands, IsTurn};
+ghost use Rattle.just_sched.specs.State.{has_taken, is_done, is_confirmed, IsFinished, IsWanted, IsToAsk, IsReady};
 
+use super::classes::is_class_open;
 use super::flags::all_flagged;
 use super::row::Row;
+use super::turn::{Stand, Turn};
 use super::{Event, Plan};
 
 /// Whether the node took a job or is done.
@@ -99,9 +103,50 @@ pub(crate) fn is_ready(
     all_flagged(node.node.priors.as_slice(), finished)
 }
 
-/// The node of least number that is ready or to be asked, and whether it is to be asked, by the table and the flags of the
-/// wanted, the confirmed and the finished nodes. It is looked for from a node on before which each took a job or is done.
-pub(crate) fn first_by(
+/// How a node stands for the next move, by the table, the flags of the wanted, the confirmed and the finished nodes, and those of the
+/// classes with an open body.
+fn stand_of(
+    plan: &Plan,
+    history: &[Event],
+    at: usize,
+    wanted: &[bool],
+    confirmed: &[bool],
+    rows: &[Row],
+    finished: &[bool],
+    classes: &[usize],
+    opened: &[bool],
+) -> Stand
+    requires within { at < length plan.now.nodes }
+    requires wanted_sized { length wanted.now ≡ length plan.now.nodes }
+    requires confirmed_sized { length confirmed.now ≡ length plan.now.nodes }
+    requires rows_sized { length rows.now ≡ length plan.now.nodes }
+    requires finished_sized { length finished.now ≡ length plan.now.nodes }
+    requires classes_sized { length classes.now ≡ length plan.now.nodes }
+    requires opened_sized { length opened.now ≡ length plan.now.nodes }
+    requires wanted { FlagsMean wanted.now (IsWanted plan.now.nodes plan.now.invocations history.now) }
+    requires confirmed { FlagsAre confirmed.now (is_confirmed plan.now.nodes history.now) }
+    requires table { ∥ IsTable history.now rows.now ∥₁ }
+    requires finished { FlagsMean finished.now (IsFinished plan.now.nodes history.now) }
+    requires each_no { EachNoIsDone history.now }
+    requires classes { ∥ AreClasses plan.now.nodes classes.now ∥₁ }
+    requires opened { ∥ AreOpen plan.now.nodes history.now classes.now opened.now ∥₁ }
+    ensures { Stands plan.now.nodes plan.now.invocations history.now at result }
+{
+    if is_to_ask(plan, history, at, wanted, confirmed, rows) {
+        return Stand::ToAsk;
+    }
+    if !is_ready(plan, history, at, wanted, confirmed, rows, finished) {
+        return Stand::Idle;
+    }
+    if is_class_open(plan, history, at, classes, opened) {
+        return Stand::Waits;
+    }
+    Stand::Free
+}
+
+/// The next move, by the table, the flags of the wanted, the confirmed and the finished nodes, and those of the classes with an open
+/// body. Its node is looked for from a node on before which each took a job or is done.
+pub(crate) fn turn_by(
     plan: &Plan,
     history: &[Event],
     left: usize,
@@ -109,31 +154,38 @@ pub(crate) fn first_by(
     confirmed: &[bool],
     rows: &[Row],
     finished: &[bool],
-) -> Option<(u32, bool)>
+    classes: &[usize],
+    opened: &[bool],
+) -> Turn
     requires left { (m : ℕ) → m < left → (has_taken history.now m || is_done history.now m) ≡ true }
     requires wanted_sized { length wanted.now ≡ length plan.now.nodes }
     requires confirmed_sized { length confirmed.now ≡ length plan.now.nodes }
     requires rows_sized { length rows.now ≡ length plan.now.nodes }
     requires finished_sized { length finished.now ≡ length plan.now.nodes }
+    requires classes_sized { length classes.now ≡ length plan.now.nodes }
+    requires opened_sized { length opened.now ≡ length plan.now.nodes }
     requires wanted { FlagsMean wanted.now (IsWanted plan.now.nodes plan.now.invocations history.now) }
     requires confirmed { FlagsAre confirmed.now (is_confirmed plan.now.nodes history.now) }
     requires table { ∥ IsTable history.now rows.now ∥₁ }
     requires finished { FlagsMean finished.now (IsFinished plan.now.nodes history.now) }
     requires each_no { EachNoIsDone history.now }
     requires took { (n : ℕ) → has_taken history.now n ≡ true → is_confirmed plan.now.nodes history.now n ≡ true }
-    ensures due { IfSome result (λ f. (f.0 < length plan.now.nodes) × MatchBool f.1 (IsToAsk plan.now.nodes plan.now.invocations history.now f.0) (IsReady plan.now.nodes plan.now.invocations history.now f.0)) }
-    ensures least { IfSome result (λ f. (m : ℕ) → m < f.0 → IsDueNext plan.now.nodes plan.now.invocations history.now m → ⊥) }
-    ensures none { IfNone result ((n : ℕ) → n < length plan.now.nodes → IsDueNext plan.now.nodes plan.now.invocations history.now n → ⊥) }
+    requires classes { ∥ AreClasses plan.now.nodes classes.now ∥₁ }
+    requires opened { ∥ AreOpen plan.now.nodes history.now classes.now opened.now ∥₁ }
+    ensures { IsTurn plan.now.nodes plan.now.invocations history.now result }
 {
+    let mut waits = false;
     for at in left..plan.nodes.len() {
-        if is_to_ask(plan, history, at, wanted, confirmed, rows) {
-            return Some((at as u32, true));
-        }
-        if is_ready(plan, history, at, wanted, confirmed, rows, finished) {
-            return Some((at as u32, false));
+        match stand_of(
+            plan, history, at, wanted, confirmed, rows, finished, classes, opened,
+        ) {
+            Stand::ToAsk => return Turn::Ask(at as u32),
+            Stand::Free => return Turn::Take(at as u32),
+            Stand::Waits => waits = true,
+            Stand::Idle => {}
         }
     }
-    None
+    if waits { Turn::Wait } else { Turn::Nothing }
 }
 
 /// The node of least number that is to be asked, from a node on before which each took a job or is done.

@@ -2,8 +2,12 @@
 #![tactic(auto)]
 
 mod book;
+mod cache_plan;
+mod cached;
+mod caching;
 mod calls;
 mod choice;
+mod classes;
 mod climb;
 mod crew;
 mod descent;
@@ -30,10 +34,13 @@ mod shared;
 mod spread;
 mod tables;
 mod token;
+mod turn;
 mod verdict;
 mod worker;
 
 pub use book::Book;
+pub use cache_plan::CachePlan;
+pub use cached::entry_path_of;
 pub use desk::Desk;
 pub use driven::Driven;
 pub use driving::drive;

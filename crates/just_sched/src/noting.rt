@@ -1,19 +1,24 @@
 //! What a book notes in its tables, and what it reads there. Only the making of the tables takes memory.
 
-ghost use Rattle.std.specs.Prelude.{◌≡◌, ◌&&◌, not, ◌+◌, ◌<◌, ◌≤◌, ◌++◌, ◌∷◌, [], ℕ, true, false, length, vec_len, vec_capacity, slice_index_or, IfOk, IfSome, IfNone, MatchBool};
-ghost use Rattle.just_sched.specs.Rows.{IsNoted};
+ghost use Rattle.std.specs.Prelude.{◌≡◌, ◌&&◌, not, ◌+◌, ◌<◌, ◌≤◌, ◌++◌, ◌∷◌, [], ℕ, true, false, length, vec_len, vec_capacity, slice_index_or, IfOk, IfSome, IfNone, is_some, Some, MatchOption};
+ghost use Rattle.just_sched.specs.Cached.{is_looked_at, seen_at, sums_in};
+ghost use Rattle.just_sched.specs.Classes.{KeepsClasses};
+ghost use Rattle.just_sched.specs.Rows.{IsNoted, IsTable};
+ghost use Rattle.just_sched.specs.Turns.{IsTurn};
 ghost use Rattle.just_sched.specs.Running.{EachNoIsDone};
-ghost use Rattle.just_sched.specs.State.{is_open as opened, has_taken, is_confirmed, caught_signal, IsToAsk, IsReady, IsDueNext};
+ghost use Rattle.just_sched.specs.State.{is_open as opened, has_taken, is_confirmed, caught_signal, IsToAsk};
 ghost use Rattle.just_sched.specs.NodeStates.{IsState};
 ghost use Rattle.just_sched.specs.Legal.{Run};
 ghost use Rattle.just_sched.specs.Moves.{answer_events};
 ghost use Rattle.just_sched.specs.Verdict.{IsVerdict};
 
-use super::choice::{first_asked_by, first_by, first_left, is_ready, is_to_ask};
+use super::choice::{first_asked_by, first_left, is_ready, is_to_ask, turn_by};
+use super::classes::{class_numbers, mark_class};
 use super::flags::{confirmed_by, over_by};
 use super::progress::Progress;
 use super::row::{BLANK, Row, mark};
 use super::tables::Tables;
+use super::turn::Turn;
 use super::verdict::verdict_by;
 use super::{Event, NodeState, Outcome, Plan, Reason, Verdict};
 use just_outside::Signal;
@@ -27,6 +32,16 @@ fn is_open(row: Row) -> bool
     row.taken && !row.given
 }
 
+/// The sums of an event that is a look; none of another.
+fn sums_in(event: &Event) -> &[[u8; 32]]
+    ensures { result.now ≡ sums_in (Some event.now) }
+{
+    match event {
+        Event::Looked(_, sums, _) => sums.as_slice(),
+        _ => &[],
+    }
+}
+
 impl Tables {
     /// The tables of a plan of which no event speaks yet.
     pub(crate) fn new(alloc: Global, plan: &Plan) -> Result<Tables, NoMemory>
@@ -36,9 +51,13 @@ impl Tables {
         let count = plan.nodes.len();
         let rows = vec![in alloc; BLANK; count]?;
         let progress = Progress::new(alloc, plan)?;
+        let classes = class_numbers(alloc, plan)?;
+        let opened = vec![in alloc; false; count]?;
         Ok(Tables {
             rows,
             progress,
+            classes,
+            opened,
             left: 0,
             size: count,
         })
@@ -53,22 +72,20 @@ impl Tables {
         self.rows.as_slice()[node as usize]
     }
 
-    /// The node of least number that is ready or to be asked, and whether it is to be asked. It takes no memory.
-    pub(crate) fn first_due(&mut self, plan: &Plan, history: &[Event]) -> Option<(u32, bool)>
+    /// The next move. It takes no memory.
+    pub(crate) fn turn(&mut self, plan: &Plan, history: &[Event]) -> Turn
         requires size { self.old.size ≡ length plan.now.nodes }
         requires noted { ∥ IsNoted plan.now.nodes plan.now.invocations history.now self.old ∥₁ }
         requires each_no { EachNoIsDone history.now }
         requires took { (n : ℕ) → has_taken history.now n ≡ true → is_confirmed plan.now.nodes history.now n ≡ true }
         ensures size { self.new.size ≡ self.old.size }
         ensures noted { ∥ IsNoted plan.now.nodes plan.now.invocations history.now self.new ∥₁ }
-        ensures due { IfSome result (λ f. (f.0 < length plan.now.nodes) × MatchBool f.1 (IsToAsk plan.now.nodes plan.now.invocations history.now f.0) (IsReady plan.now.nodes plan.now.invocations history.now f.0)) }
-        ensures least { IfSome result (λ f. (m : ℕ) → m < f.0 → IsDueNext plan.now.nodes plan.now.invocations history.now m → ⊥) }
-        ensures none { IfNone result ((n : ℕ) → n < length plan.now.nodes → IsDueNext plan.now.nodes plan.now.invocations history.now n → ⊥) }
+        ensures turn { IsTurn plan.now.nodes plan.now.invocations history.now result }
     {
         let left = first_left(history, self.rows.as_slice(), self.left);
         self.left = left;
         let progress = &self.progress;
-        first_by(
+        turn_by(
             plan,
             history,
             left,
@@ -76,6 +93,8 @@ impl Tables {
             progress.confirmed.as_slice(),
             self.rows.as_slice(),
             progress.finished.as_slice(),
+            self.classes.as_slice(),
+            self.opened.as_slice(),
         )
     }
 
@@ -131,6 +150,22 @@ impl Tables {
         }
     }
 
+    /// The sums of a node's look. It takes no memory.
+    pub(crate) fn seen_sums<'a>(&self, history: &'a [Event], node: u32) -> &'a [[u8; 32]]
+        requires within { node < self.now.size }
+        requires table { ∥ IsTable history.now self.now.rows.items ∥₁ }
+        requires looked { is_looked_at history.now node ≡ true }
+        ensures { MatchOption (seen_at history.now node) ⊥ (λ seen. result.now ≡ seen.0) }
+    {
+        let Some((place, _)) = self.row(node).look else {
+            unreachable!()
+        };
+        match history.get(place) {
+            Some(event) => sums_in(event),
+            None => unreachable!(),
+        }
+    }
+
     /// How the run of a closed history went. It takes no memory.
     pub(crate) fn verdict(&self, plan: &Plan, history: &[Event], caught: Option<Signal>) -> Verdict
         requires size { self.now.size ≡ length plan.now.nodes }
@@ -154,12 +189,14 @@ pub(crate) fn note(plan: &Plan, history: &mut Vec<Event>, tables: &mut Tables, e
     requires room { vec_len history.old < vec_capacity history.old }
     requires size { tables.old.size ≡ length plan.now.nodes }
     requires noted { ∥ IsNoted plan.now.nodes plan.now.invocations history.old.items tables.old ∥₁ }
+    requires classes { KeepsClasses plan.now.nodes history.old.items event }
     ensures items { history.new.items ≡ history.old.items ++ event ∷ [] }
     ensures capacity { vec_capacity history.new ≡ vec_capacity history.old }
     ensures size { tables.new.size ≡ tables.old.size }
     ensures noted { ∥ IsNoted plan.now.nodes plan.now.invocations history.new.items tables.new ∥₁ }
 {
-    mark(&mut tables.rows, &event);
+    mark(&mut tables.rows, history.len(), &event);
+    mark_class(plan, tables.classes.as_slice(), &mut tables.opened, &event);
     let over = over_by(&event);
     let said = confirmed_by(&event);
     history.push_reserved(event);

@@ -9,7 +9,7 @@ use just_path::Seq;
 
 /// The nodes that a request runs, a node's number being its place, and those that were asked for. Each plan is well
 /// formed.
-#[derive(Debug, Drop)]
+#[derive(Drop)]
 pub struct Plan {
     pub nodes: Seq<PlanNode>,
     pub invocations: Seq<u32>,

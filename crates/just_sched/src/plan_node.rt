@@ -1,11 +1,11 @@
 //! A node of a plan.
 
-use super::Work;
+use super::{CachePlan, Work};
 use just_lang::Node;
 use just_path::Text;
 
 /// A node of a plan: its place in the closure, and what its body does.
-#[derive(Debug, Drop)]
+#[derive(Drop)]
 pub struct PlanNode {
     pub node: Node,
     /// What is asked before anything of the node; nothing where there is none.
@@ -15,4 +15,6 @@ pub struct PlanNode {
     pub work: Work,
     /// What is printed to standard error as the body begins; nothing where it is empty.
     pub banner: Text,
+    /// The cache of its body; none where it is always run.
+    pub cache: Option<CachePlan>,
 }

@@ -3,11 +3,12 @@
 ghost use Rattle.std.specs.Prelude.{◌≡◌, ◌+◌, ◌<◌, ◌^◌, ◌&&◌, not, nat_lt, ◌++◌, ◌∷◌, [], ℕ, true, false, List, length, vec_len, slice_index_or};
 ghost use Rattle.just_sched.specs.declared.event.Event.{Event};
 ghost use Rattle.just_sched.specs.declared.row.Row.{Row};
+ghost use Rattle.just_sched.specs.Cached.{is_full};
 ghost use Rattle.just_sched.specs.State.{is_of, node_of};
 ghost use Rattle.just_sched.specs.Rows.{IsTable, IsTurned};
 
 use super::{Event, Outcome, Reason};
-use just_outside::Status;
+use just_outside::{Look, Status};
 
 /// What the events so far say of one node.
 #[derive(Clone, Copy, Debug)]
@@ -29,6 +30,9 @@ pub(crate) struct Row {
     pub last: Option<Status>,
     /// Why it failed, if it did.
     pub reason: Option<Reason>,
+    /// Where in the history its look is told, and whether that was full.
+    pub look: Option<(usize, bool)>,
+    pub saved: bool,
 }
 
 /// The row of a node of which no event speaks yet.
@@ -44,14 +48,26 @@ pub(crate) const BLANK: Row = Row {
     ended: 0,
     last: None,
     reason: None,
+    look: None,
+    saved: false,
 };
 
-/// The row of a node behind an event of it.
-pub(crate) fn turned(row: Row, node: u32, event: &Event) -> Row
+/// Whether the entry wasn't empty and each output was there.
+fn is_full(seen: &Look) -> bool
+    ensures { result ≡ is_full seen.now }
+{
+    match seen {
+        Look::Full => true,
+        Look::Empty | Look::OutputMissing(_) => false,
+    }
+}
+
+/// The row of a node behind an event of it, which is told at that place.
+pub(crate) fn turned(row: Row, node: u32, place: usize, event: &Event) -> Row
     requires own { is_of node event.now ≡ true }
     requires few { row.ended < 2 ^ 63 }
     requires few_starts { row.starts < 2 ^ 63 }
-    ensures { IsTurned node event.now row result }
+    ensures { IsTurned node place event.now row result }
 {
     let mut row = row;
     match event {
@@ -80,7 +96,13 @@ pub(crate) fn turned(row: Row, node: u32, event: &Event) -> Row
                 row.reason = Some(*reason);
             }
         }
-        Event::Asked(_, _) | Event::Looked(_, _, _) | Event::Saved(_) | Event::Caught(_) => {}
+        Event::Looked(_, _, seen) => {
+            if row.look.is_none() {
+                row.look = Some((place, is_full(seen)));
+            }
+        }
+        Event::Saved(_) => row.saved = true,
+        Event::Asked(_, _) | Event::Caught(_) => {}
     }
     row
 }
@@ -111,17 +133,17 @@ pub(crate) fn node_of(event: &Event) -> Option<u32>
     }
 }
 
-/// Notes an event in the row of its node.
-pub(crate) fn mark(rows: &mut Vec<Row>, event: &Event)
+/// Notes an event, which is told at that place, in the row of its node.
+pub(crate) fn mark(rows: &mut Vec<Row>, place: usize, event: &Event)
     requires few { (n : ℕ) → (d : Row) → n < length rows.old.items → (slice_index_or rows.old.items n d).ended < 2 ^ 63 }
     requires few_starts { (n : ℕ) → (d : Row) → n < length rows.old.items → (slice_index_or rows.old.items n d).starts < 2 ^ 63 }
     ensures size { vec_len rows.new ≡ vec_len rows.old }
-    ensures table { (h : List Event) → IsTable h rows.old.items → IsTable (h ++ event.now ∷ []) rows.new.items }
+    ensures table { (h : List Event) → length h ≡ place → IsTable h rows.old.items → IsTable (h ++ event.now ∷ []) rows.new.items }
 {
     if let Some(node) = node_of(event) {
         let at = node as usize;
         if at < rows.len() {
-            rows[at] = turned(rows[at], node, event);
+            rows[at] = turned(rows[at], node, place, event);
         }
     }
 }

@@ -10,9 +10,15 @@ use super::row::Row;
 pub(crate) struct Tables {
     pub rows: Vec<Row>,
     pub progress: Progress,
+    /// The number of each node's class.
+    pub classes: Vec<usize>,
+    /// For each class whether a body of it is open.
+    pub opened: Vec<bool>,
     /// Each node before this one took a job or is done.
     pub left: usize,
     pub size: usize,
     pub ghost rows_sized: { vec_len rows ≡ size },
     pub ghost progress_sized: { progress.size ≡ size },
+    pub ghost classes_sized: { vec_len classes ≡ size },
+    pub ghost opened_sized: { vec_len opened ≡ size },
 }

@@ -24,6 +24,7 @@ fn nodes_beside(alloc: Global, nodes: Vec<PlanNode>) -> Result<Vec<PlanNode>, No
             parallel: _,
             work,
             banner,
+            cache,
         } = node;
         made.push(PlanNode {
             node,
@@ -31,6 +32,7 @@ fn nodes_beside(alloc: Global, nodes: Vec<PlanNode>) -> Result<Vec<PlanNode>, No
             parallel: true,
             work,
             banner,
+            cache,
         })?;
     }
     Ok(made)
@@ -85,6 +87,7 @@ fn wanted(alloc: Global, name: &str) -> Result<Wanted, NoMemory> {
         dotenv: no_dotenv(alloc),
         unstable: false,
         jobs: None,
+        cache_folder: Utf8Path::new("/.justcache").to_path_buf(alloc)?,
         flags: plain_flags(alloc)?,
     })
 }

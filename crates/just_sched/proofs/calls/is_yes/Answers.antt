@@ -1,5 +1,5 @@
 -- The trimmed answer is one of two words.
-use Rattle.std.proofs.Common.{◌≡◌, ℕ, ◌||◌, Bool, List, codes, ap, ap₂, sym, ◌∙◌}
+use Rattle.std.proofs.Common.{◌≡◌, ℕ, ◌||◌, Bool, List, codes, ap, ap₂, ◌∙◌}
 use Rattle.std.specs.Str.{trim, str_eq_ignore_ascii_case}
 use Rattle.just_sched.specs.Match.{is_yes}
 use Rattle.just_sched.proofs.RowLaws.{or_left, or_right}

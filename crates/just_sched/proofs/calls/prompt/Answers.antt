@@ -1,5 +1,5 @@
 -- The prompt that is read is the node's.
-use Rattle.std.proofs.Common.{◌≡◌, Some, None, is_some, true≢false, ap, sym, ◌∙◌, arith, length}
+use Rattle.std.proofs.Common.{Some, is_some, true≢false, ap, sym, ◌∙◌}
 use Rattle.just_sched.proofs.WantedLaws.{prompt_read}
 use Rattle.just_sched.proofs.calls.prompt.Goals as goal
 

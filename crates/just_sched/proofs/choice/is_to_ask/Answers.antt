@@ -1,5 +1,5 @@
 -- A node is to be asked where its flags and its row say so.
-use Rattle.std.proofs.Common.{true, false, true≢false, arith, sym, ◌∙◌}
+use Rattle.std.proofs.Common.{true≢false, arith, sym, ◌∙◌}
 use Rattle.just_sched.proofs.Asking.{to_ask_by, to_ask_unsure}
 use Rattle.just_sched.proofs.RowLaws.{done_in_row}
 use Rattle.just_sched.proofs.Tests.{not_true, not_false}

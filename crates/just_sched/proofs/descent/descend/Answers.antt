@@ -1,7 +1,6 @@
 -- The node that is taken from the list has its priors led, by which the places, the list and the flags stay right.
-use Rattle.std.proofs.Common.{◌≡◌, ℕ, ◌<◌, Bool, true, List, length, length-append, ◌∷◌, [], arith, subst, sym, ap, ◌∙◌}
-use Rattle.just_sched.specs.Nodes.{priors_at, parallel_at}
-use Rattle.just_sched.specs.Tables.{flag}
+use Rattle.std.proofs.Common.{ℕ, ◌<◌, Bool, List, length, length-append, ◌∷◌, [], arith, subst, sym, ap, ◌∙◌}
+use Rattle.just_sched.specs.Nodes.{priors_at}
 use Rattle.just_sched.specs.Led.{IsLed}
 use Rattle.just_sched.proofs.Led.{popped_in}
 use Rattle.just_sched.proofs.PriorsLed.{led_kept, wanted_on}

@@ -5,6 +5,7 @@ use Rattle.just_sched.specs.Running.{EachNoIsDone}
 use Rattle.just_sched.specs.Start.{run_of}
 use Rattle.just_sched.specs.State.{is_open}
 use Rattle.just_sched.specs.Idle.{IsIdle}
+use Rattle.just_sched.proofs.CacheRules.{kept_skipped}
 use Rattle.just_sched.proofs.Ended.{nothing_left_by, well_complete}
 use Rattle.just_sched.proofs.driving.drive_named.Goals as goal
 
@@ -20,6 +21,7 @@ returns-clause-driven g c =
     let i = c.run_all.ensures.idle.0 in
     let is = subst (λ h. IsIdle (run_of s) h i) (sym same) c.run_all.ensures.idle.1 in
     let left = nothing_left_by (run_of s) d.history i c.args.jobs c.requires.jobs closed is in
+    let complete = well_complete s d.history _ _ d.verdict c.close.ensures.kept (subst EachNoIsDone (sym c.close.ensures.history) c.into_book.result.answered) closed left c.close.ensures.verdict in
     record {
       plan = c.close.ensures.plan ∙ c.into_book.result.plan_named;
       kept = c.close.ensures.kept;
@@ -27,5 +29,7 @@ returns-clause-driven g c =
       idle = (i, is);
       nothing_left = left;
       verdict = c.close.ensures.verdict;
-      complete = well_complete s d.history _ _ d.verdict c.close.ensures.kept (subst EachNoIsDone (sym c.close.ensures.history) c.into_book.result.answered) closed left c.close.ensures.verdict;
+      complete = complete;
+      cached = c.close.ensures.cached;
+      skipped = λ well n lt cached. kept_skipped s d.history _ _ c.close.ensures.kept (complete well) n lt;
     }

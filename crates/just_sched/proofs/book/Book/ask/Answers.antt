@@ -1,5 +1,5 @@
 -- A node is answered, or is done without an answer: the events may come with what was gained, and the account goes on.
-use Rattle.std.proofs.Common.{arith, refl, is_some, ◌∙◌, ap, sym, subst, length, eq-eqb}
+use Rattle.std.proofs.Common.{arith, refl, is_some, ◌∙◌, ap, sym, length, eq-eqb}
 use Rattle.just_sched.specs.Nodes.{prompt_at}
 use Rattle.just_sched.specs.Start.{run_of}
 use Rattle.just_sched.specs.declared.event.Event.TheVariants as event

@@ -23,27 +23,27 @@ banner-requires g c =
 pub note-requires-clause-room : goal.note-requires-clause-room
 note-requires-clause-room g c =
     let s = c.args.self.now in
-    omega (arith, room_for s.account (event.Begun c.args.node) (c.requires.inside, c.requires.fresh), s.roomy, s.history.ok.0)
+    omega (arith, room_for s.account (event.Begun c.args.node) (c.requires.inside, c.requires.fresh, c.requires.may), s.roomy, s.history.ok.0)
 
 pub note-requires-in-Err-clause-room : goal.note-requires-in-Err-clause-room
 note-requires-in-Err-clause-room g c =
     let s = c.args.self.now in
     let at = c.banner.ensures ∙ ap (λ p. banner_at p.nodes c.args.node) s.plan_named in
-    let fails = begin_fails (Unit {0}) (run_of g.P.Naming.start) s.history.items c.args.node c.in-Err.reason c.in-Err.ensures.gains.0 (c.requires.inside, c.requires.fresh) (subst (λ b. TellGains {A = Unit {0}} b (Err c.in-Err.reason) c.in-Err.ensures.gains.0) at c.in-Err.ensures.gains.2) in
+    let fails = begin_fails (Unit {0}) (run_of g.P.Naming.start) s.history.items c.args.node c.in-Err.reason c.in-Err.ensures.gains.0 (c.requires.inside, c.requires.fresh, c.requires.may) (subst (λ b. TellGains {A = Unit {0}} b (Err c.in-Err.reason) c.in-Err.ensures.gains.0) at c.in-Err.ensures.gains.2) in
     omega (arith, room_for s.account (event.Done c.args.node (outcome.Failed c.in-Err.reason)) fails.0, s.roomy, s.history.ok.0)
 
 pub invariant_of-self-clause-account : goal.invariant_of-self-clause-account
 invariant_of-self-clause-account g c =
     let s = c.args.self.now in
     let at = c.banner.ensures ∙ ap (λ p. banner_at p.nodes c.args.node) s.plan_named in
-    noted s.account _ c.in-Ok.ensures.gains.0 _ _ _ (event.Begun c.args.node) c.note.ensures.items c.in-Ok.ensures.gains.1 (c.requires.inside, c.requires.fresh)
+    noted s.account _ c.in-Ok.ensures.gains.0 _ _ _ (event.Begun c.args.node) c.note.ensures.items c.in-Ok.ensures.gains.1 (c.requires.inside, c.requires.fresh, c.requires.may)
     (c.in-Ok.ensures.gains.2 ∙ ap printed_entries at) (λ _ _. c.in-Ok.ensures.world) (omega (arith, c.in-Ok.ensures.spare)) refl
 
 pub invariant_of-self-in-Err-clause-account : goal.invariant_of-self-in-Err-clause-account
 invariant_of-self-in-Err-clause-account g c =
     let s = c.args.self.now in
     let at = c.banner.ensures ∙ ap (λ p. banner_at p.nodes c.args.node) s.plan_named in
-    let fails = begin_fails (Unit {0}) (run_of g.P.Naming.start) s.history.items c.args.node c.in-Err.reason c.in-Err.ensures.gains.0 (c.requires.inside, c.requires.fresh) (subst (λ b. TellGains {A = Unit {0}} b (Err c.in-Err.reason) c.in-Err.ensures.gains.0) at c.in-Err.ensures.gains.2) in
+    let fails = begin_fails (Unit {0}) (run_of g.P.Naming.start) s.history.items c.args.node c.in-Err.reason c.in-Err.ensures.gains.0 (c.requires.inside, c.requires.fresh, c.requires.may) (subst (λ b. TellGains {A = Unit {0}} b (Err c.in-Err.reason) c.in-Err.ensures.gains.0) at c.in-Err.ensures.gains.2) in
     noted s.account _ c.in-Err.ensures.gains.0 _ _ _ (event.Done c.args.node (outcome.Failed c.in-Err.reason)) c.note-in-Err.ensures.items c.in-Err.ensures.gains.1 fails.0 fails.1
     (λ _ _. c.in-Err.ensures.world) (omega (arith, c.in-Err.ensures.spare)) refl
 

@@ -7,6 +7,7 @@ use Rattle.just_sched.specs.Start.{IsKept, run_of}
 use Rattle.just_sched.specs.State.{is_open, caught_signal}
 use Rattle.just_sched.specs.Verdict.{IsVerdict}
 use Rattle.just_sched.proofs.Accounts.{kept_of, signalled_of}
+use Rattle.just_sched.proofs.CacheRules.{kept_rule}
 use Rattle.just_sched.proofs.Ended.{well_complete}
 use Rattle.just_sched.proofs.book.Book.close.Goals as goal
 
@@ -34,3 +35,6 @@ returns-clause-verdict g c =
 pub returns-clause-complete : goal.returns-clause-complete
 returns-clause-complete g c = λ well nothing.
     well_complete g.P.Naming.start _ _ _ c.verdict-verdict.result (returns-clause-kept g c) (subst EachNoIsDone (sym c.from.ensures) c.args.self.answered) (λ n lt. ap (λ h. is_open h n) c.from.ensures ∙ c.requires n lt) (inr nothing) (returns-clause-verdict g c) well
+
+pub returns-clause-cached : goal.returns-clause-cached
+returns-clause-cached g c = kept_rule g.P.Naming.start _ _ _ (returns-clause-kept g c)

@@ -1,8 +1,10 @@
 -- A body that is over gives its job back: its event may come, and the account goes on.
-use Rattle.std.proofs.Common.{arith, refl, ◌∙◌, eq-eqb}
+use Rattle.std.proofs.Common.{arith, refl, ap, ◌∙◌, eq-eqb}
+use Rattle.just_sched.specs.Cached.{are_one_class}
 use Rattle.just_sched.specs.declared.event.Event.TheVariants as event
-use Rattle.just_sched.proofs.Accounts.{some_taken, room_for, noted_alone, over_rests}
+use Rattle.just_sched.proofs.Accounts.{kept_of, some_taken, room_for, noted_alone, over_rests}
 use Rattle.just_sched.proofs.Asking.{no_kept}
+use Rattle.just_sched.proofs.CacheRules.{kept_apart}
 use Rattle.just_sched.proofs.Grows.{grows_one}
 use Rattle.just_sched.proofs.Behind.{gave_closes, running_as}
 use Rattle.just_sched.proofs.Tallies.{tally_more}
@@ -35,3 +37,8 @@ invariant_of-self-clause-tallied g c = tally_more c.args.self.now.history.items 
 
 pub invariant_of-self-clause-answered : goal.invariant_of-self-clause-answered
 invariant_of-self-clause-answered g c = no_kept c.args.self.now.history.items _ (event.Gave c.args.node) c.note.ensures.items (λ k. refl) c.args.self.now.answered
+
+pub note-requires-clause-classes : goal.note-requires-clause-classes
+note-requires-clause-classes g c =
+    let s = c.args.self.now in
+    λ m ne o. ap (λ p. are_one_class p.nodes m c.args.node) s.plan_named ∙ kept_apart g.P.Naming.start s.history.items _ _ (kept_of s.account) m c.args.node ne o c.requires.opened

@@ -9,6 +9,6 @@ returns-clause-grown g c =
     elim c.match-next_step.branch [
       | in-Start+then-is_caught w ↦ grows_on c.args.self.now.history.items _ _ _ c.args.node w.end.ensures.grown (ap (λ b. b.history.items) w.self-is) c.give.ensures.grown
       | in-Start+else-is_caught+in_default w ↦ grows_on c.args.self.now.history.items _ _ _ c.args.node w.start.ensures.grown (ap (λ b. b.history.items) w.self-is) c.give.ensures.grown
-      | in-Well w ↦ grows_on c.args.self.now.history.items _ _ _ c.args.node w.end-in-Well.ensures.grown (ap (λ b. b.history.items) w.self-is) c.give.ensures.grown
+      | in-Well w ↦ grows_on c.args.self.now.history.items _ _ _ c.args.node w.end_well.ensures.grown (ap (λ b. b.history.items) w.self-is) c.give.ensures.grown
       | in-Failed w ↦ grows_on c.args.self.now.history.items _ _ _ c.args.node w.end-in-Failed.ensures.grown (ap (λ b. b.history.items) w.self-is) c.give.ensures.grown
     ]

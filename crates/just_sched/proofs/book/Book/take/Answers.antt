@@ -16,10 +16,10 @@ overflow_add-self g c = omega (arith, counted_few c.args.self.now.account)
 pub note-requires-clause-room : goal.note-requires-clause-room
 note-requires-clause-room g c =
     let s = c.args.self.now in
-    omega (arith, room_for s.account (event.Took c.args.node) (c.requires.ready, c.requires.calm, c.requires.free), s.roomy, s.history.ok.0)
+    omega (arith, room_for s.account (event.Took c.args.node) (c.requires.ready, c.requires.calm, c.requires.free, c.requires.apart), s.roomy, s.history.ok.0)
 
 pub invariant_of-self-clause-account : goal.invariant_of-self-clause-account
-invariant_of-self-clause-account g c = noted_alone c.args.self.now.account _ (event.Took c.args.node) c.note.ensures.items (c.requires.ready, c.requires.calm, c.requires.free) refl refl
+invariant_of-self-clause-account g c = noted_alone c.args.self.now.account _ (event.Took c.args.node) c.note.ensures.items (c.requires.ready, c.requires.calm, c.requires.free, c.requires.apart) refl refl
 
 pub returns-clause-grown : goal.returns-clause-grown
 returns-clause-grown g c = grows_one c.args.self.now.history.items _ (event.Took c.args.node) c.args.node c.note.ensures.items (eq-eqb c.args.node c.args.node refl)
@@ -43,3 +43,6 @@ invariant_of-self-clause-tallied g c = tally_more c.args.self.now.history.items 
 
 pub invariant_of-self-clause-answered : goal.invariant_of-self-clause-answered
 invariant_of-self-clause-answered g c = no_kept c.args.self.now.history.items _ (event.Took c.args.node) c.note.ensures.items (λ k. refl) c.args.self.now.answered
+
+pub note-requires-clause-classes : goal.note-requires-clause-classes
+note-requires-clause-classes g c = not_given c.args.self.now.account c.args.node c.requires.ready.not_taken

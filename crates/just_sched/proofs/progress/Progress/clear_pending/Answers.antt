@@ -1,7 +1,6 @@
 -- The priors of the pending nodes are led, by which what is known stays so and none is pending.
-use Rattle.std.proofs.Common.{◌≡◌, ℕ, ◌⊎◌, Bool, true, List, arith, subst, sym, ap, refl}
+use Rattle.std.proofs.Common.{◌≡◌, ℕ, Bool, true, List, arith, subst, sym, ap, refl}
 use Rattle.std.proofs.lemmas.List.{with_items_is}
-use Rattle.std.specs.Prelude.{Contains}
 use Rattle.std.specs.Vec.{with_items}
 use Rattle.just_sched.specs.Nodes.{priors_at, parallel_at}
 use Rattle.just_sched.specs.Tables.{flag}

@@ -1,5 +1,5 @@
 -- A node more is confirmed, and its priors are led where it is wanted.
-use Rattle.std.proofs.Common.{◌≡◌, ℕ, ◌⊎◌, Bool, true, false, List, set, get_or-set_same, arith, subst, sym, ap, ◌∙◌, refl, get_or}
+use Rattle.std.proofs.Common.{◌≡◌, ℕ, Bool, true, false, List, set, get_or-set_same, arith, subst, sym, ap, ◌∙◌, refl, get_or}
 use Rattle.std.proofs.lemmas.List.{with_items_is}
 use Rattle.std.proofs.Math.ListN.{length-set}
 use Rattle.std.specs.Vec.{with_items}

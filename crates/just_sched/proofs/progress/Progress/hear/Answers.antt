@@ -1,5 +1,5 @@
 -- Who was flagged as confirmed stays so, and so is the one that is named.
-use Rattle.std.proofs.Common.{◌≡◌, ◌||◌, ◌==◌, ℕ, true, false, arith, subst, sym, ap, ◌∙◌}
+use Rattle.std.proofs.Common.{◌≡◌, true, arith, subst, sym, ap, ◌∙◌}
 use Rattle.just_sched.specs.State.{names}
 use Rattle.just_sched.specs.Tables.{flag}
 use Rattle.just_sched.proofs.Confirming.{heard_set, heard_none}

@@ -1,5 +1,6 @@
 -- Blank rows, and the progress of a run of which no event speaks, say that nothing happened.
 use Rattle.std.proofs.Common.{arith, ◌∙◌}
+use Rattle.just_sched.proofs.ClassLaws.{none_open}
 use Rattle.just_sched.proofs.RowLaws.{table_blank}
 use Rattle.just_sched.proofs.tables.Tables.new.Goals as goal
 
@@ -12,4 +13,6 @@ returns-clause-noted c = ∣ record {
   told = c.in_ok-progress.ensures.told;
   heard = λ k lt sure. c.in_ok-progress.ensures.heard k lt ∙ sure;
   left = λ m lt. absurd (omega (arith, lt));
+  classes = c.in_ok-classes.ensures.numbered;
+  opened = none_open _ _ _ c.len-count.result (c.in_ok-opened.ensures.items_if_clones_equal (λ y e. e));
 } ∣₁
