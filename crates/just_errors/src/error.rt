@@ -215,6 +215,24 @@ pub enum Error {
         recipe: Text,
         io: HostFault,
     },
+    /// An input of a cached recipe isn't there.
+    CacheInputMissing {
+        path: Utf8PathBuf,
+    },
+    /// An input of a cached recipe is a folder.
+    CacheInputDirectory {
+        path: Utf8PathBuf,
+    },
+    /// A cached recipe ended well and didn't make what it names as its output.
+    CacheOutputMissing {
+        recipe: Text,
+        output: Text,
+    },
+    /// The entry of a cached recipe couldn't be written.
+    CacheEntryWrite {
+        path: Utf8PathBuf,
+        io: HostFault,
+    },
     /// A recipe's prompt wasn't answered by a yes.
     NotConfirmed {
         recipe: Text,
@@ -225,6 +243,15 @@ pub enum Error {
     },
     /// A text couldn't be printed.
     StdoutIo {
+        io: HostFault,
+    },
+    /// A file stands where a justfile is to be written.
+    InitExists {
+        justfile: Utf8PathBuf,
+    },
+    /// A justfile couldn't be written.
+    WriteJustfile {
+        justfile: Utf8PathBuf,
         io: HostFault,
     },
     /// A signal was caught before all recipes were done.

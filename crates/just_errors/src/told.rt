@@ -265,6 +265,18 @@ impl fmt::Display for Error {
                 io,
             } => tell_shebang(recipe, command.as_str(), argument, *io, f),
             Error::TempdirIo { recipe, io } => tell_folder(recipe, *io, f),
+            Error::CacheInputMissing { path } => {
+                tell_naming("cache input does not exist: ", path.as_str(), "", f)
+            }
+            Error::CacheInputDirectory { path } => {
+                tell_naming("cache input is directory: ", path.as_str(), "", f)
+            }
+            Error::CacheOutputMissing { recipe, output } => {
+                tell_switch(recipe, " failed to create cache output ", output, "", f)
+            }
+            Error::CacheEntryWrite { path, io } => {
+                tell_at("failed to write cache entry at ", path.as_str(), *io, f)
+            }
             Error::NotConfirmed { recipe } => {
                 tell_naming("recipe ", recipe.as_str(), " was not confirmed", f)
             }
@@ -272,6 +284,12 @@ impl fmt::Display for Error {
                 tell_fault("failed to read confirmation from stdin: ", *io, f)
             }
             Error::StdoutIo { io } => tell_fault("I/O error writing to stdout: ", *io, f),
+            Error::InitExists { justfile } => {
+                tell_naming("justfile ", justfile.as_str(), " already exists", f)
+            }
+            Error::WriteJustfile { justfile, io } => {
+                tell_at("failed to write justfile to ", justfile.as_str(), *io, f)
+            }
             Error::Interrupted(signal) => write!(f, "error: interrupted by {signal}"),
             Error::NoMemory => f.write_str("error: out of memory"),
         }

@@ -1,9 +1,11 @@
 -- That a record shows the error of a run that failed.
 use Rattle.std.proofs.Common.{◌≡◌, ◌≢◌, ◌⊎◌, ℕ, ℤ, suc, ◌-◌, inl, inr, Bool, true, false, List, [], ◌∷◌, length, slice_get, Contains, Option, Some, None, pos, true≢false, refl, ap, sym, ◌∙◌, subst, arith}
+use Rattle.std.specs.Prelude.{slice_index_or}
 use Rattle.std.specs.List.{last_or}
 use Rattle.std.specs.Cmp.{signed_Decides}
 use Rattle.std.proofs.lemmas.List.Elements.{All-contains}
 use Rattle.just_path.specs.declared.host.Miss.{Miss}
+use Rattle.just_path.specs.declared.host.Miss.TheVariants as miss
 use Rattle.just_outside.specs.declared.entry.Call.{Call}
 use Rattle.just_outside.specs.declared.entry.Call.TheVariants as call
 use Rattle.just_outside.specs.declared.entry.Entry.{Entry}
@@ -25,18 +27,18 @@ use Rattle.just_commands.specs.declared.work.Step.TheVariants as step
 use Rattle.just_commands.specs.declared.work.Work.{Work}
 use Rattle.just_commands.specs.declared.work.Work.TheVariants as work
 use Rattle.just_sched.specs.Favourable.{is_favourable, IsFavourable}
-use Rattle.just_sched.specs.Nodes.{work_in}
+use Rattle.just_sched.specs.Nodes.{work_in, cache_in, paths_in, outputs_in}
 use Rattle.just_commands.specs.Steps.{commands_of, after}
 use Rattle.just_sched.specs.Legal.{Run, IsLegal}
 use Rattle.just_sched.specs.Match.{Matches}
 use Rattle.just_sched.specs.State.{statuses, reason_of, caught_signal, next_step}
 use Rattle.just_sched.specs.Verdict.{IsVerdict}
 use Rattle.just_sched.specs.Causes.{ShowsFailure, ShowsMiss}
-use Rattle.just_sched.proofs.Laws.{last_status_shown, failed_by_statuses, failing_code, failing_guard, failed_call_shown, missed_call_shown, refusal_shown, caught_signal_shown}
+use Rattle.just_sched.proofs.Laws.{last_status_shown, failed_by_statuses, failing_code, failing_guard, failed_call_shown, missed_call_shown, missed_input_shown, missing_output_shown, refusal_shown, caught_signal_shown}
 use Rattle.just_errors.specs.declared.error.Error.{Error}
 use Rattle.just_errors.specs.declared.error.Error.TheVariants as error
-use Rattle.just_outcome.specs.Caused.{IsCaused, ShowsEnd, HasFailed, HasLostChild}
-use Rattle.just_outcome.specs.Outcome.{name_of, line_of, is_guard, is_told, code_error, status_error, script_error, lost_error, miss_error, fault_error, failure_error, last_error, error_in, node_error, IsErrorFor}
+use Rattle.just_outcome.specs.Caused.{IsCaused, ShowsEnd, HasFailed, HasLostChild, ShowsInput, ShowsOutput}
+use Rattle.just_outcome.specs.Outcome.{name_of, line_of, is_guard, is_told, code_error, script_error, shown_at, lost_error, input_error, miss_error, fault_error, failure_error, last_error, error_in, node_error, IsErrorFor}
 
 -- the signal that was caught first has its event
 caught_there : (h : List Event) (g : Signal) → caught_signal h ≡ Some g → Contains h (event.Caught g)
@@ -89,10 +91,9 @@ module _ (s : Run) (h : List Event) (es : List Entry) (legal : IsLegal s h) (mat
   abbrev has_failed : (n : ℕ) (x : PlanNode) (r : Reason) → slice_get s.nodes n ≡ Some x → reason_of h n ≡ Some r → HasFailed s.nodes h (name_of x) r
   has_failed n x r is q = record { number = n; node = x; is_node = is; recipe_is = refl; reason_is = q }
 
-  by_miss : (n : ℕ) (x : PlanNode) (c : Call) (m : Miss) → slice_get s.nodes n ≡ Some x → reason_of h n ≡ Some (reason.Place c m) → IsCaused s.nodes h (miss_error x c m) es
+  by_miss : (n : ℕ) (x : PlanNode) (c : Call) (m : Miss) → slice_get s.nodes n ≡ Some x → reason_of h n ≡ Some (reason.Place c m) → IsCaused s.nodes h (miss_error x (shown_at h n) c m) es
   by_miss n x call.Temp m is q = (has_failed n x (reason.Place call.Temp m) is q, missed_call_shown s h es n call.Temp m matches q)
-  by_miss n x call.Ask m is q = missed_call_shown s h es n call.Ask m matches q
-  by_miss n x c m is q = missed_call_shown s h es n c m matches q
+  by_miss n x c m is q = (record { number = n; node = x; why = reason.Place c m; is_node = is; reason_is = q; error_is = refl }, missed_call_shown s h es n c m matches q)
 
   -- a child that couldn't be started or waited for
   by_script : (n : ℕ) (x : PlanNode) (c : Call) (k : Command) (o : Option Script) → HasLostChild s.nodes h (script_error (name_of x) k.spec o (fault.Failed c)) c → ShowsFailure c es → IsCaused s.nodes h (script_error (name_of x) k.spec o (fault.Failed c)) es
@@ -112,17 +113,45 @@ module _ (s : Run) (h : List Event) (es : List Entry) (legal : IsLegal s h) (mat
   by_lost n x c which is q =
       by_work n x c x.work (record { number = n; node = x; is_node = is; reason_is = q; error_is = refl; call_is = which }) (failed_call_shown s h es n c matches q)
 
-  by_fault : (n : ℕ) (x : PlanNode) (c : Call) → slice_get s.nodes n ≡ Some x → reason_of h n ≡ Some (reason.Fault c) → IsCaused s.nodes h (fault_error x (statuses h n) c) es
+  by_fault : (n : ℕ) (x : PlanNode) (c : Call) → slice_get s.nodes n ≡ Some x → reason_of h n ≡ Some (reason.Fault c) → IsCaused s.nodes h (fault_error x (shown_at h n) c) es
   by_fault n x call.Ask is q = (refl, failed_call_shown s h es n call.Ask matches q)
   by_fault n x call.Print is q = (refl, failed_call_shown s h es n call.Print matches q)
   by_fault n x call.Temp is q = (refl, has_failed n x (reason.Fault call.Temp) is q, failed_call_shown s h es n call.Temp matches q)
+  by_fault n x call.Save is q = (refl, record { number = n; node = x; is_node = is; path_is = refl; reason_is = q }, failed_call_shown s h es n call.Save matches q)
   by_fault n x call.Start is q = by_lost n x call.Start (inl refl) is q
   by_fault n x call.Wait is q = by_lost n x call.Wait (inr refl) is q
-  by_fault n x c is q = failed_call_shown s h es n c matches q
+  by_fault n x c is q = (record { number = n; node = x; why = reason.Fault c; is_node = is; reason_is = q; error_is = refl }, failed_call_shown s h es n c matches q)
 
-  by_reason : (n : ℕ) (x : PlanNode) (message : Bool) (o : Option Reason) → slice_get s.nodes n ≡ Some x → reason_of h n ≡ o → IsCaused s.nodes h (failure_error x message (statuses h n) o) es
+  -- an input of a cache that is a miss, and an output that isn't there
+  missed_at : (n : ℕ) (x : PlanNode) (j : ℕ) (m : Miss) → slice_get s.nodes n ≡ Some x → reason_of h n ≡ Some (reason.Input j m) → Contains es (entry.Missed (slice_index_or (paths_in x.cache) j []) m)
+  missed_at n x j m is q = subst (λ o. Contains es (entry.Missed (slice_index_or (paths_in (cache_in o)) j []) m)) is (missed_input_shown s h es n j m matches q)
+
+  input_of : (n : ℕ) (x : PlanNode) (j : ℕ) (m : Miss) → slice_get s.nodes n ≡ Some x → reason_of h n ≡ Some (reason.Input j m) → ShowsInput s.nodes h (slice_index_or (paths_in x.cache) j []) m es
+  input_of n x j m is q = record { number = n; node = x; place = j; is_node = is; path_is = refl; reason_is = q; missed = missed_at n x j m is q }
+
+  by_input : (n : ℕ) (x : PlanNode) (j : ℕ) (m : Miss) → slice_get s.nodes n ≡ Some x → reason_of h n ≡ Some (reason.Input j m) → IsCaused s.nodes h (input_error (slice_index_or (paths_in x.cache) j []) m) es
+  by_input n x j miss.NotFound is q = input_of n x j miss.NotFound is q
+  by_input n x j miss.IsFolder is q = input_of n x j miss.IsFolder is q
+  by_input n x j m is q = (record { number = n; node = x; why = reason.Input j m; is_node = is; reason_is = q; error_is = refl }, (slice_index_or (paths_in x.cache) j [], missed_at n x j m is q))
+
+  by_output : (n : ℕ) (x : PlanNode) (j : ℕ) → slice_get s.nodes n ≡ Some x → reason_of h n ≡ Some (reason.Output j) → ShowsOutput s.nodes h (name_of x) (slice_index_or (outputs_in x.cache) j []) es
+  by_output n x j is q =
+      record {
+        number = n;
+        node = x;
+        place = j;
+        is_node = is;
+        recipe_is = refl;
+        output_is = refl;
+        reason_is = q;
+        checked = subst (λ o. Contains es (entry.Checked (outputs_in (cache_in o)) (Some j))) is (missing_output_shown s h es n j matches q);
+      }
+
+  by_reason : (n : ℕ) (x : PlanNode) (message : Bool) (o : Option Reason) → slice_get s.nodes n ≡ Some x → reason_of h n ≡ o → IsCaused s.nodes h (failure_error x message (shown_at h n) o) es
   by_reason n x message (Some reason.Status) is q = by_status n x message (last_or None (statuses h n)) is (failed_by_statuses s h n legal q) refl
   by_reason n x message (Some reason.NotConfirmed) is q = (has_failed n x reason.NotConfirmed is q, refusal_shown s h es n legal matches q)
+  by_reason n x message (Some (reason.Input j m)) is q = by_input n x j m is q
+  by_reason n x message (Some (reason.Output j)) is q = by_output n x j is q
   by_reason n x message (Some (reason.Place c m)) is q = by_miss n x c m is q
   by_reason n x message (Some (reason.Fault c)) is q = by_fault n x c is q
   by_reason n x message _ is q = tt
@@ -159,8 +188,8 @@ no_miss m es a all = true≢false (sym (all (entry.Missed a.0 m) a.1))
 
 -- a record in which nothing stood against the run shows no cause but want of memory
 pub memory_alone : (nodes : List PlanNode) (h : List Event) (e : Error) (es : List Entry) → IsCaused nodes h e es → ((x : Entry) → Contains es x → is_favourable x ≡ true) → e ≡ error.NoMemory
-memory_alone nodes h (error.FilesystemIo path (fault.Failed c)) es a all = absurd (no_failure c es a all)
-memory_alone nodes h (error.FilesystemIo path (fault.Missed m)) es a all = absurd (no_miss m es a all)
+memory_alone nodes h (error.FilesystemIo path (fault.Failed c)) es a all = absurd (no_failure c es a.1 all)
+memory_alone nodes h (error.FilesystemIo path (fault.Missed m)) es a all = absurd (no_miss m es a.1 all)
 memory_alone nodes h (error.FilesystemIo path fault.NoMemory) es a all = absurd a
 memory_alone nodes h (error.ShellIo recipe shell (fault.Failed c)) es a all = absurd (no_failure c es a.1 all)
 memory_alone nodes h (error.ShellIo recipe shell (fault.Missed m)) es a all = absurd a
@@ -174,6 +203,12 @@ memory_alone nodes h (error.Shebang recipe command argument fault.NoMemory) es a
 memory_alone nodes h (error.TempdirIo recipe (fault.Failed c)) es a all = absurd (no_failure call.Temp es a.2 all)
 memory_alone nodes h (error.TempdirIo recipe (fault.Missed m)) es a all = absurd (no_miss m es a.1 all)
 memory_alone nodes h (error.TempdirIo recipe fault.NoMemory) es a all = absurd a
+memory_alone nodes h (error.CacheInputMissing path) es a all = absurd (true≢false (sym (all (entry.Missed path miss.NotFound) a.missed)))
+memory_alone nodes h (error.CacheInputDirectory path) es a all = absurd (true≢false (sym (all (entry.Missed path miss.IsFolder) a.missed)))
+memory_alone nodes h (error.CacheOutputMissing recipe output) es a all = absurd (true≢false (sym (all (entry.Checked (outputs_in a.node.cache) (Some a.place)) a.checked)))
+memory_alone nodes h (error.CacheEntryWrite path (fault.Failed c)) es a all = absurd (no_failure call.Save es a.2 all)
+memory_alone nodes h (error.CacheEntryWrite path (fault.Missed m)) es a all = absurd a
+memory_alone nodes h (error.CacheEntryWrite path fault.NoMemory) es a all = absurd a
 memory_alone nodes h (error.NotConfirmed recipe) es a all = absurd (true≢false (sym (all (entry.Asked a.1.0 a.1.1) a.1.2) ∙ a.1.3))
 memory_alone nodes h (error.GetConfirmation (fault.Failed c)) es a all = absurd (no_failure call.Ask es a.1 all)
 memory_alone nodes h (error.GetConfirmation (fault.Missed m)) es a all = absurd a

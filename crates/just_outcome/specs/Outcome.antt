@@ -1,11 +1,13 @@
 -- The error of a node that failed.
-use Rattle.std.specs.Prelude.{ℕ, ◌≡◌, ◌-◌, ◌⊎◌, Bool, true, false, if◌then◌else◌, ℤ, List, [], ◌∷◌, ◌++◌, codes, flat_map, length, slice_get, Option, Some, None, MatchOption}
+use Rattle.std.specs.Prelude.{ℕ, ◌≡◌, ◌-◌, ◌⊎◌, Bool, true, false, if◌then◌else◌, ℤ, List, [], ◌∷◌, ◌++◌, codes, flat_map, length, slice_get, slice_index_or, Option, Some, None, MatchOption}
 use Rattle.std.specs.List.{last_or}
 use Rattle.std.specs.Option.{unwrap_or}
 use Rattle.just_path.specs.declared.host.Miss.{Miss}
+use Rattle.just_path.specs.declared.host.Miss.TheVariants as miss
 use Rattle.just_outside.specs.declared.entry.Call.{Call}
 use Rattle.just_outside.specs.declared.entry.Call.TheVariants as call
 use Rattle.just_outside.specs.declared.entry.HostFault.TheVariants as fault
+use Rattle.just_outside.specs.declared.entry.Look.{Look}
 use Rattle.just_outside.specs.declared.entry.Script.{Script}
 use Rattle.just_outside.specs.declared.entry.Spec.{Spec}
 use Rattle.just_outside.specs.declared.entry.HostFault.{HostFault}
@@ -18,6 +20,9 @@ use Rattle.just_sched.specs.declared.event.Verdict.{Verdict}
 use Rattle.just_sched.specs.declared.event.Verdict.TheVariants as verdict
 use Rattle.just_sched.specs.declared.event.Reason.TheVariants as reason
 use Rattle.just_sched.specs.declared.plan_node.PlanNode.{PlanNode}
+use Rattle.just_sched.specs.declared.cache_plan.CachePlan.{CachePlan}
+use Rattle.just_sched.specs.Cached.{entry_of, seen_at}
+use Rattle.just_sched.specs.Nodes.{paths_in, outputs_in}
 use Rattle.just_sched.specs.State.{reason_of, statuses}
 use Rattle.just_commands.specs.declared.work.Command.{Command}
 use Rattle.just_commands.specs.declared.work.Work.{Work}
@@ -90,45 +95,81 @@ lost_error x ss (work.Lines commands) io = error.ShellIo (name_of x) (shell_of x
 lost_error x ss (work.Script c) io = script_error (name_of x) c.spec c.spec.script io
 lost_error x ss work.Empty io = error.ShellIo (name_of x) (shell_of x ss) io
 
--- the error of a body that a miss of that call ended; that of a prompt names standard input
-abbrev pub miss_error : PlanNode → Call → Miss → Error
-miss_error x call.Ask m = error.FilesystemIo (codes "-") (fault.Missed m)
-miss_error x call.Temp m = error.TempdirIo (name_of x) (fault.Missed m)
-miss_error x c m = error.FilesystemIo [] (fault.Missed m)
+-- ---- caches
+
+-- the folder of a cache's entries; empty where there is no cache
+abbrev pub entries_folder : Option CachePlan → List ℕ
+entries_folder (Some c) = c.folder
+entries_folder None = []
+
+-- the path of the entry that was looked at; empty where none was
+abbrev pub entry_seen : Option CachePlan → Option (List (List ℕ) × Look) → List ℕ
+entry_seen (Some c) (Some seen) = entry_of c seen.0
+entry_seen _ _ = []
+
+-- the error of an input of that path that is a miss
+abbrev pub input_error : List ℕ → Miss → Error
+input_error path miss.NotFound = error.CacheInputMissing path
+input_error path miss.IsFolder = error.CacheInputDirectory path
+input_error path m = error.FilesystemIo path (fault.Missed m)
+
+-- ---- nodes that failed
+
+-- what a history shows of a node: the statuses of its commands, and the sums and the look at its cache
+pub record Shown : Type 0 where
+  pub ended : List Status
+  pub seen : Option (List (List ℕ) × Look)
+
+abbrev pub shown_at : List Event → ℕ → Shown
+shown_at h n = record { ended = statuses h n; seen = seen_at h n }
+
+-- the error of a body that a miss of that call ended; that of a prompt names standard input, that of an entry that is saved the entry, and others
+-- the folder of the cache
+abbrev pub miss_error : PlanNode → Shown → Call → Miss → Error
+miss_error x s call.Ask m = error.FilesystemIo (codes "-") (fault.Missed m)
+miss_error x s call.Temp m = error.TempdirIo (name_of x) (fault.Missed m)
+miss_error x s call.Save m = error.FilesystemIo (entry_seen x.cache s.seen) (fault.Missed m)
+miss_error x s c m = error.FilesystemIo (entries_folder x.cache) (fault.Missed m)
 
 -- the error of a body that a failure of that call ended
-abbrev pub fault_error : PlanNode → List Status → Call → Error
-fault_error x ss call.Ask = error.GetConfirmation (fault.Failed call.Ask)
-fault_error x ss call.Print = error.StdoutIo (fault.Failed call.Print)
-fault_error x ss call.Temp = error.TempdirIo (name_of x) (fault.Failed call.Temp)
-fault_error x ss call.Start = lost_error x ss x.work (fault.Failed call.Start)
-fault_error x ss call.Wait = lost_error x ss x.work (fault.Failed call.Wait)
-fault_error x ss c = error.FilesystemIo [] (fault.Failed c)
+abbrev pub fault_error : PlanNode → Shown → Call → Error
+fault_error x s call.Ask = error.GetConfirmation (fault.Failed call.Ask)
+fault_error x s call.Print = error.StdoutIo (fault.Failed call.Print)
+fault_error x s call.Temp = error.TempdirIo (name_of x) (fault.Failed call.Temp)
+fault_error x s call.Save = error.CacheEntryWrite (entry_seen x.cache s.seen) (fault.Failed call.Save)
+fault_error x s call.Start = lost_error x s.ended x.work (fault.Failed call.Start)
+fault_error x s call.Wait = lost_error x s.ended x.work (fault.Failed call.Wait)
+fault_error x s c = error.FilesystemIo (entries_folder x.cache) (fault.Failed c)
 
--- the error of a node that failed for that reason; other reasons don't come yet, but want of memory
-abbrev pub failure_error : PlanNode → Bool → List Status → Option Reason → Error
-failure_error x message ss (Some reason.Status) = last_error x message ss (last_or None ss)
-failure_error x message ss (Some reason.NotConfirmed) = error.NotConfirmed (name_of x)
-failure_error x message ss (Some (reason.Place c m)) = miss_error x c m
-failure_error x message ss (Some (reason.Fault c)) = fault_error x ss c
-failure_error x message ss _ = error.NoMemory
+-- the error of a node that failed for that reason; that of an interrupted one is told by the verdict alone
+abbrev pub failure_error : PlanNode → Bool → Shown → Option Reason → Error
+failure_error x message s (Some reason.Status) = last_error x message s.ended (last_or None s.ended)
+failure_error x message s (Some reason.NotConfirmed) = error.NotConfirmed (name_of x)
+failure_error x message s (Some (reason.Input j m)) = input_error (slice_index_or (paths_in x.cache) j []) m
+failure_error x message s (Some (reason.Output j)) = error.CacheOutputMissing (name_of x) (slice_index_or (outputs_in x.cache) j [])
+failure_error x message s (Some (reason.Place c m)) = miss_error x s c m
+failure_error x message s (Some (reason.Fault c)) = fault_error x s c
+failure_error x message s _ = error.NoMemory
 
 -- whether the message of a node's exit code is told
 abbrev pub is_told : List Bool → ℕ → Bool
 is_told messages n = unwrap_or (slice_get messages n) true
 
 abbrev pub error_in : Option PlanNode → Bool → List Event → ℕ → Error
-error_in (Some x) message h n = failure_error x message (statuses h n) (reason_of h n)
+error_in (Some x) message h n = failure_error x message (shown_at h n) (reason_of h n)
 error_in None message h n = error.NoMemory
 
 -- the error of the node of that number
 abbrev pub node_error : List PlanNode → List Bool → List Event → ℕ → Error
 node_error nodes messages h n = error_in (slice_get nodes n) (is_told messages n) h n
 
--- whether a text is copied for an error: the name of a recipe, or a path that isn't empty
+abbrev pub is_filled : List ℕ → Bool
+is_filled [] = false
+is_filled (b ∷ bs) = true
+
+-- whether a text is copied for an error: the name of a recipe, a path of its cache, or another path that isn't empty
 abbrev pub copies_text : Error → Bool
-copies_text (error.FilesystemIo [] io) = false
-copies_text (error.FilesystemIo (b ∷ bs) io) = true
+copies_text (error.FilesystemIo path io) = is_filled path
 copies_text (error.NotConfirmed recipe) = true
 copies_text (error.Code recipe line code message) = true
 copies_text (error.Signal recipe line signal) = true
@@ -138,6 +179,10 @@ copies_text (error.ShellIo recipe shell io) = true
 copies_text (error.Script recipe command io) = true
 copies_text (error.Shebang recipe command argument io) = true
 copies_text (error.TempdirIo recipe io) = true
+copies_text (error.CacheInputMissing path) = true
+copies_text (error.CacheInputDirectory path) = true
+copies_text (error.CacheOutputMissing recipe output) = true
+copies_text (error.CacheEntryWrite path io) = true
 copies_text _ = false
 
 -- that error; in place of one for which a text is copied memory may be wanting

@@ -4,9 +4,10 @@ ghost use Rattle.std.specs.Prelude.{◌≡◌, ◌++◌, true, [], None, codes, 
 ghost use Rattle.std.specs.Option.{option_copied};
 ghost use Rattle.std.specs.List.{last_or};
 ghost use Rattle.just_outside.specs.Record.{text_or_empty};
-ghost use Rattle.just_outcome.specs.Outcome.{name_of as recipe_name, code_error as error_of_code, status_error as error_of_status, last_error as error_of_last, shell_of as node_shell, with_blanks, spaced, first_of, script_error as error_of_script, lost_error as error_of_lost, is_told, miss_error as error_of_miss, fault_error as error_of_fault, failure_error as error_of_failure, node_error, copies_text, IsToldAs, IsErrorFor};
+ghost use Rattle.just_outcome.specs.Outcome.{shown_at, name_of as recipe_name, code_error as error_of_code, status_error as error_of_status, last_error as error_of_last, shell_of as node_shell, with_blanks, spaced, first_of, script_error as error_of_script, lost_error as error_of_lost, is_told, miss_error as error_of_miss, fault_error as error_of_fault, failure_error as error_of_failure, node_error, copies_text, IsToldAs, IsErrorFor};
 ghost use Rattle.just_sched.specs.State.{statuses, reason_of as failure_of};
 
+use super::cached::{entry_seen, folder_error, input_error, output_at, saved_error};
 use just_commands::{Command, Work, command};
 use just_errors::Error;
 use just_outside::{Call, HostFault, Spec, Status};
@@ -174,20 +175,17 @@ fn answer_error(alloc: Global, miss: Miss) -> Result<Error, NoMemory>
     })
 }
 
-/// The error of a refused call that no text of a recipe is told of.
-fn file_error(alloc: Global, io: HostFault) -> Error
-    ensures { result ≡ Error.FilesystemIo [] io }
-{
-    Error::FilesystemIo {
-        path: Utf8PathBuf::from(String::new(alloc)),
-        io,
-    }
-}
-
 /// The error of a node's body that a miss of that call ended.
-fn miss_error(alloc: Global, node: &PlanNode, call: Call, miss: Miss) -> Result<Error, NoMemory>
-    ensures error { IfOk result (λ e. e ≡ error_of_miss node.now call miss) }
-    ensures wanting { IfErr result (λ _. copies_text (error_of_miss node.now call miss) ≡ true) }
+fn miss_error(
+    alloc: Global,
+    node: &PlanNode,
+    history: &[Event],
+    number: u32,
+    call: Call,
+    miss: Miss,
+) -> Result<Error, NoMemory>
+    ensures error { IfOk result (λ e. e ≡ error_of_miss node.now (shown_at history.now number) call miss) }
+    ensures wanting { IfErr result (λ _. copies_text (error_of_miss node.now (shown_at history.now number) call miss) ≡ true) }
 {
     match call {
         Call::Ask => answer_error(alloc, miss),
@@ -195,7 +193,8 @@ fn miss_error(alloc: Global, node: &PlanNode, call: Call, miss: Miss) -> Result<
             recipe: name_of(alloc, node)?,
             io: HostFault::Missed(miss),
         }),
-        _ => Ok(file_error(alloc, HostFault::Missed(miss))),
+        Call::Save => saved_error(alloc, node, history, number, miss),
+        _ => folder_error(alloc, &node.cache, HostFault::Missed(miss)),
     }
 }
 
@@ -207,8 +206,8 @@ fn fault_error(
     number: u32,
     call: Call,
 ) -> Result<Error, NoMemory>
-    ensures error { IfOk result (λ e. e ≡ error_of_fault node.now (statuses history.now number) call) }
-    ensures wanting { IfErr result (λ _. copies_text (error_of_fault node.now (statuses history.now number) call) ≡ true) }
+    ensures error { IfOk result (λ e. e ≡ error_of_fault node.now (shown_at history.now number) call) }
+    ensures wanting { IfErr result (λ _. copies_text (error_of_fault node.now (shown_at history.now number) call) ≡ true) }
 {
     let io = HostFault::Failed(call);
     match call {
@@ -219,7 +218,11 @@ fn fault_error(
             io,
         }),
         Call::Start | Call::Wait => lost_error(alloc, node, history, number, io),
-        _ => Ok(file_error(alloc, io)),
+        Call::Save => Ok(Error::CacheEntryWrite {
+            path: entry_seen(alloc, &node.cache, history, number)?,
+            io,
+        }),
+        _ => folder_error(alloc, &node.cache, io),
     }
 }
 
@@ -232,15 +235,20 @@ fn failure_error(
     number: u32,
     reason: Option<Reason>,
 ) -> Result<Error, NoMemory>
-    ensures error { IfOk result (λ e. e ≡ error_of_failure node.now message (statuses history.now number) reason) }
-    ensures wanting { IfErr result (λ _. copies_text (error_of_failure node.now message (statuses history.now number) reason) ≡ true) }
+    ensures error { IfOk result (λ e. e ≡ error_of_failure node.now message (shown_at history.now number) reason) }
+    ensures wanting { IfErr result (λ _. copies_text (error_of_failure node.now message (shown_at history.now number) reason) ≡ true) }
 {
     match reason {
         Some(Reason::Status) => last_error(alloc, node, message, history, number),
         Some(Reason::NotConfirmed) => Ok(Error::NotConfirmed {
             recipe: name_of(alloc, node)?,
         }),
-        Some(Reason::Place(call, miss)) => miss_error(alloc, node, call, miss),
+        Some(Reason::Input(place, miss)) => input_error(alloc, &node.cache, place, miss),
+        Some(Reason::Output(place)) => Ok(Error::CacheOutputMissing {
+            recipe: name_of(alloc, node)?,
+            output: output_at(alloc, &node.cache, place)?,
+        }),
+        Some(Reason::Place(call, miss)) => miss_error(alloc, node, history, number, call, miss),
         Some(Reason::Fault(call)) => fault_error(alloc, node, history, number, call),
         _ => Ok(Error::NoMemory),
     }

@@ -26,19 +26,19 @@ both_ok (Ok y) (Err e) ps is = absurd (not_refused e ps is)
 both_ok (Err e) s ps is = absurd (not_refused e ps is)
 
 -- in a project with these modules
-module _ (flags : RunFlags) (modules : List Justfile) where
+module _ (flags : RunFlags) (folder : List ℕ) (modules : List Justfile) (scopes : Scopes) where
   module _ (lines : Key → Result (List BodyLine) LangError) (changes : Key → List (List ℕ × Option (List ℕ))) where
     -- each node has its plan
-    pub as_many_plans : (ns : List Node) (ps : List NodePlan) → node_plans flags modules lines changes ns ≡ Ok ps → length ns ≡ length ps
+    pub as_many_plans : (ns : List Node) (ps : List NodePlan) → node_plans flags folder modules scopes lines changes ns ≡ Ok ps → length ns ≡ length ps
     as_many_plans [] ps is = ap (λ (qs : List NodePlan). length qs) (ok_one [] ps is)
     as_many_plans (n ∷ ns) ps is =
-        let parts = both_ok (key_plan flags modules lines changes n.key) (node_plans flags modules lines changes ns) ps is in
+        let parts = both_ok (key_plan flags folder modules scopes lines changes n.key) (node_plans flags folder modules scopes lines changes ns) ps is in
         ap (λ k. suc k) (as_many_plans ns parts.1 parts.3) ∙ ap (λ (qs : List NodePlan). length qs) (sym parts.4)
 
 -- so it is in a project whose bodies have their lines by its scopes
-module _ (flags : RunFlags) (modules : List Justfile) (scopes : Scopes) (ns given : List Node) (same : given ≡ ns) (ps : List NodePlan) (is : plans_for flags modules scopes given ≡ Ok ps) where
-  given_is : plans_for flags modules scopes ns ≡ Ok ps
-  given_is = subst (λ xs. plans_for flags modules scopes xs ≡ Ok ps) same is
+module _ (flags : RunFlags) (folder : List ℕ) (modules : List Justfile) (scopes : Scopes) (ns given : List Node) (same : given ≡ ns) (ps : List NodePlan) (is : plans_for flags folder modules scopes given ≡ Ok ps) where
+  given_is : plans_for flags folder modules scopes ns ≡ Ok ps
+  given_is = subst (λ xs. plans_for flags folder modules scopes xs ≡ Ok ps) same is
 
   pub as_many_planned : length ns ≡ length ps
-  as_many_planned = as_many_plans flags modules (body_lines modules scopes) (changes_of modules scopes) ns ps given_is
+  as_many_planned = as_many_plans flags folder modules scopes (body_lines modules scopes) (changes_of modules scopes) ns ps given_is

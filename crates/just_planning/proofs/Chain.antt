@@ -1,9 +1,10 @@
 -- The chain of a request, from what its calls answered.
-use Rattle.std.proofs.Common.{◌≡◌, ◌≢◌, ◌∙◌, ℕ, inl, inr, Bool, List, [], ◌∷◌, Option, Some, None, option_map, Result, Ok, Err, refl, sym, ap, subst}
+use Rattle.std.proofs.Common.{◌≡◌, ◌≢◌, ◌∙◌, ℕ, inl, inr, Bool, List, [], ◌∷◌, map, zip, Option, Some, None, option_map, Result, Ok, Err, refl, sym, ap, subst}
 use Rattle.std.specs.Int.NonZero.{non_zero_u64_get}
 use Rattle.just_path.specs.declared.environ.Environ.{Environ}
 use Rattle.just_lang.specs.declared.key.Key.{Key}
 use Rattle.just_lang.specs.declared.node.Closure.{Closure}
+use Rattle.just_lang.specs.declared.node.Node.{Node}
 use Rattle.just_lang.specs.declared.project.Justfile.{Justfile}
 use Rattle.just_lang.specs.declared.project.LangError.{LangError}
 use Rattle.just_lang.specs.declared.project.LangError.TheVariants as lang
@@ -23,15 +24,14 @@ use Rattle.just_closure.specs.Visits.{Visits}
 use Rattle.just_eval.specs.Closures.{around_of}
 use Rattle.just_plans.specs.declared.node_plan.NodePlan.{NodePlan}
 use Rattle.just_sched.specs.declared.plan.Plan.{Plan}
-use Rattle.just_sched.specs.declared.plan_node.PlanNode.{PlanNode}
 use Rattle.just_errors.specs.Refusals.{error_of_lang}
 use Rattle.just_config.specs.declared.unstable_feature.UnstableFeature.{UnstableFeature}
 use Rattle.just_errors.specs.declared.error.Error.{Error}
 use Rattle.just_errors.specs.declared.error.Error.TheVariants as error
 use Rattle.just_planning.specs.Own.{OrMemory}
-use Rattle.just_planning.specs.Forms.{unstable_feature, node_not_built}
-use Rattle.just_planning.specs.Planned.{plan_nodes, messages_of, plans_in, RefusesNodes}
-use Rattle.just_planning.specs.Request.{SourcesRequest, ProjectRequest, LoadedRequest, ScopesRequest, KeysRequest, ClosureRequest, Outline, outline_of, AsksKeys, FindsProject, PlansClosure, PlansKeys, PlansProject}
+use Rattle.just_planning.specs.Forms.{unstable_feature}
+use Rattle.just_planning.specs.Planned.{planned, messages_of, plans_in, RefusesNodes}
+use Rattle.just_planning.specs.Request.{SourcesRequest, ProjectRequest, LoadedRequest, ScopesRequest, KeysRequest, ClosureRequest, Outline, outline_of, AsksKeys, FindsProject, MakesPlan, PlansKeys, PlansProject}
 use Rattle.just_planning.specs.Steps.{stops, goes_on}
 use Rattle.just_planning.specs.declared.wanted.Wanted.{Wanted}
 use Rattle.just_planning.proofs.Refusals.{RefusedBy, lang_refused}
@@ -56,7 +56,7 @@ keys_in wanted modules scopes keys = record { wanted = wanted; modules = modules
 abbrev closure_in : Wanted → List Justfile → Scopes → Closure → ClosureRequest
 closure_in wanted modules scopes c = record { wanted = wanted; modules = modules; scopes = scopes; closure = c }
 
-abbrev outline_with : List PlanNode → List ℕ → Option ℕ → List Bool → Outline
+abbrev outline_with : List (Node × NodePlan) → List ℕ → Option ℕ → List Bool → Outline
 outline_with nodes invocations jobs messages = record { nodes = nodes; invocations = invocations; jobs = jobs; messages = messages }
 
 -- the plan of a run that is wanted so
@@ -68,39 +68,34 @@ outline wanted p = outline_of p.0 (option_map non_zero_u64_get wanted.jobs) p.1
 module _ (wanted : Wanted) (scopes : Scopes) (c : Closure) where
   -- a closure of whose nodes each is planned
   module _ (ms : List Justfile) where
-    nodes_planned : (p : Plan × List Bool) → node_not_built wanted.flags ms c.nodes ≡ None
-        → (plans : List NodePlan) × (plans_in wanted.flags ms scopes c ≡ Ok plans) × (p.0.nodes ≡ plan_nodes c.nodes plans)
-        → p.0.invocations ≡ c.invocations → p.1 ≡ messages_of ms c.nodes → PlansClosure (closure_in wanted ms scopes c) (Ok (outline wanted p))
-    nodes_planned p built plans invocations messages =
+    nodes_planned : (p : Plan × List Bool) → (plans : List NodePlan) × (plans_in wanted.flags wanted.cache_folder ms scopes c ≡ Ok plans) × (map planned p.0.nodes ≡ zip c.nodes plans)
+        → p.0.invocations ≡ c.invocations → p.1 ≡ messages_of ms c.nodes → MakesPlan (closure_in wanted ms scopes c) (Ok (outline wanted p))
+    nodes_planned p plans invocations messages =
         let jobs = option_map non_zero_u64_get wanted.jobs in
-        let same : outline wanted p ≡ outline_with (plan_nodes c.nodes plans.0) c.invocations jobs (messages_of ms c.nodes) =
-        ap (λ (nodes : List PlanNode). outline_with nodes p.0.invocations jobs p.1) plans.2
-        ∙ ap (λ (numbers : List ℕ). outline_with (plan_nodes c.nodes plans.0) numbers jobs p.1) invocations
-        ∙ ap (λ (told : List Bool). outline_with (plan_nodes c.nodes plans.0) c.invocations jobs told) messages in
-        goes_on (closure_in wanted ms scopes c) (built, refl) (plans.0, plans.1, same)
-
-    -- a closure that has no plan
-    nodes_refused : (e : Error) → RefusesNodes wanted.flags ms scopes c e → PlansClosure (closure_in wanted ms scopes c) (Err e)
-    nodes_refused e (inl unbuilt) = stops e unbuilt refl
-    nodes_refused e (inr refused) = goes_on (closure_in wanted ms scopes c) (refused.0, refl) (refused.1, refused.2, refused.3)
+        let same : outline wanted p ≡ outline_with (zip c.nodes plans.0) c.invocations jobs (messages_of ms c.nodes) =
+        ap (λ (nodes : List (Node × NodePlan)). outline_with nodes p.0.invocations jobs p.1) plans.2
+        ∙ ap (λ (numbers : List ℕ). outline_with (zip c.nodes plans.0) numbers jobs p.1) invocations
+        ∙ ap (λ (told : List Bool). outline_with (zip c.nodes plans.0) c.invocations jobs told) messages in
+        (plans.0, plans.1, same)
 
   -- its modules are one list
   module _ (j : Justfile) (ms : List Justfile) (are : AreModules (j ∷ []) ms) where
-    same_plan : (r : Result Outline Error) → PlansClosure (closure_in wanted ms scopes c) r → (modules : List Justfile) → AreModules (j ∷ []) modules → PlansClosure (closure_in wanted modules scopes c) r
-    same_plan r plans modules others = subst (λ xs. PlansClosure (closure_in wanted xs scopes c) r) (same_modules (j ∷ []) ms modules are others) plans
+    same_plan : (r : Result Outline Error) → MakesPlan (closure_in wanted ms scopes c) r → (modules : List Justfile) → AreModules (j ∷ []) modules → MakesPlan (closure_in wanted modules scopes c) r
+    same_plan r plans modules others = subst (λ xs. MakesPlan (closure_in wanted xs scopes c) r) (same_modules (j ∷ []) ms modules are others) plans
 
-    pub closure_planned : (seen : Scopes) → seen ≡ scopes → (p : Plan × List Bool) → node_not_built wanted.flags ms c.nodes ≡ None
-        → (plans : List NodePlan) × (plans_in wanted.flags ms seen c ≡ Ok plans) × (p.0.nodes ≡ plan_nodes c.nodes plans)
+    pub closure_planned : (folder : List ℕ) → folder ≡ wanted.cache_folder → (seen : Scopes) → seen ≡ scopes → (p : Plan × List Bool)
+        → (plans : List NodePlan) × (plans_in wanted.flags folder ms seen c ≡ Ok plans) × (map planned p.0.nodes ≡ zip c.nodes plans)
         → p.0.invocations ≡ c.invocations → p.1 ≡ messages_of ms c.nodes
-        → (modules : List Justfile) → AreModules (j ∷ []) modules → PlansClosure (closure_in wanted modules scopes c) (Ok (outline wanted p))
-    closure_planned seen same p built plans invocations messages =
-        same_plan (Ok (outline wanted p)) (nodes_planned ms p built
-        (plans.0, subst (λ s. plans_in wanted.flags ms s c ≡ Ok plans.0) same plans.1, plans.2) invocations messages)
+        → (modules : List Justfile) → AreModules (j ∷ []) modules → MakesPlan (closure_in wanted modules scopes c) (Ok (outline wanted p))
+    closure_planned folder at seen same p plans invocations messages =
+        same_plan (Ok (outline wanted p)) (nodes_planned ms p
+        (plans.0, subst (λ s. plans_in wanted.flags wanted.cache_folder ms s c ≡ Ok plans.0) same (subst (λ f. plans_in wanted.flags f ms seen c ≡ Ok plans.0) at plans.1), plans.2) invocations messages)
 
-    pub closure_refused : (seen : Scopes) → seen ≡ scopes → (e : Error) → OrMemory (λ x. RefusesNodes wanted.flags ms seen c x) e
-        → OrMemory (λ x. (modules : List Justfile) → AreModules (j ∷ []) modules → PlansClosure (closure_in wanted modules scopes c) (Err x)) e
-    closure_refused seen same e (inl wants) = inl wants
-    closure_refused seen same e (inr why) = inr (same_plan (Err e) (nodes_refused ms e (subst (λ s. RefusesNodes wanted.flags ms s c e) same why)))
+    pub closure_refused : (folder : List ℕ) → folder ≡ wanted.cache_folder → (seen : Scopes) → seen ≡ scopes → (e : Error) → OrMemory (λ x. RefusesNodes wanted.flags folder ms seen c x) e
+        → OrMemory (λ x. (modules : List Justfile) → AreModules (j ∷ []) modules → MakesPlan (closure_in wanted modules scopes c) (Err x)) e
+    closure_refused folder at seen same e (inl wants) = inl wants
+    closure_refused folder at seen same e (inr why) =
+        inr (same_plan (Err e) (subst (λ s. RefusesNodes wanted.flags wanted.cache_folder ms s c e) same (subst (λ f. RefusesNodes wanted.flags f ms seen c e) at why)))
 
 -- ---- behind the values of the variables
 
@@ -147,12 +142,12 @@ module _ (wanted : Wanted) (j : Justfile) (scopes : Scopes) where
 
     module _ (c : Closure) (closes : (modules : List Justfile) → AreModules (j ∷ []) modules → IsClosureOf (around_of wanted.no_deps modules scopes) keys c) where
       -- what the steps behind the closure answer is the answer
-      pub closed_plan : (r : Result Outline Error) → ((modules : List Justfile) → AreModules (j ∷ []) modules → PlansClosure (closure_in wanted modules scopes c) r) → PlansAll r
+      pub closed_plan : (r : Result Outline Error) → ((modules : List Justfile) → AreModules (j ∷ []) modules → MakesPlan (closure_in wanted modules scopes c) r) → PlansAll r
       closed_plan r plans modules are =
           goes_on (keys_in wanted modules scopes keys) (refl, refl, refl, asks modules are)
           (goes_on (closure_in wanted modules scopes c) (refl, refl, refl, closes modules are) (plans modules are))
 
-      pub closed_refused : (e : Error) → OrMemory (λ x. (modules : List Justfile) → AreModules (j ∷ []) modules → PlansClosure (closure_in wanted modules scopes c) (Err x)) e → OrMemory (λ x. PlansAll (Err x)) e
+      pub closed_refused : (e : Error) → OrMemory (λ x. (modules : List Justfile) → AreModules (j ∷ []) modules → MakesPlan (closure_in wanted modules scopes c) (Err x)) e → OrMemory (λ x. PlansAll (Err x)) e
       closed_refused e (inl wants) = inl wants
       closed_refused e (inr plans) = inr (closed_plan (Err e) plans)
 

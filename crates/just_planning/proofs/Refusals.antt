@@ -1,20 +1,14 @@
 -- Refusals of lower layers: each is the error of the run that tells it, or memory is wanting.
-use Rattle.std.proofs.Common.{◌≡◌, ◌≢◌, ℕ, List, inl, inr, Option, Some, None, Result, Err}
-use Rattle.just_lang.specs.declared.node.Closure.{Closure}
-use Rattle.just_lang.specs.declared.project.Justfile.{Justfile}
+use Rattle.std.proofs.Common.{◌≡◌, ◌≢◌, inl, inr, Result, Err}
 use Rattle.just_lang.specs.declared.project.LangError.{LangError}
 use Rattle.just_lang.specs.declared.project.LangError.TheVariants as lang
-use Rattle.just_lang.specs.declared.scope.Scopes.{Scopes}
 use Rattle.just_commands.specs.declared.error.CommandError.TheVariants as command
-use Rattle.just_commands.specs.declared.run_flags.RunFlags.{RunFlags}
 use Rattle.just_plans.specs.declared.error.PlanError.{PlanError}
 use Rattle.just_plans.specs.declared.error.PlanError.TheVariants as plan_error
 use Rattle.just_errors.specs.Refusals.{error_of_lang}
 use Rattle.just_errors.specs.declared.error.Error.{Error}
-use Rattle.just_errors.specs.declared.error.Error.TheVariants as error
 use Rattle.just_planning.specs.Own.{OrMemory}
-use Rattle.just_planning.specs.Forms.{node_not_built}
-use Rattle.just_planning.specs.Planned.{plans_in, error_of_plan, RefusesNodes}
+use Rattle.just_planning.specs.Planned.{error_of_plan}
 
 -- ---- of a project, or of a request of its recipes
 
@@ -51,22 +45,3 @@ plan_refused answer (plan_error.Lang l) why e is =
 plan_refused answer (plan_error.Command (command.InvalidShebang recipe shebang)) why e is =
     inr (plan_error.Command (command.InvalidShebang recipe shebang), why (λ same. let f : ⊥ = cc in f) (λ same. let f : ⊥ = cc in f), is)
 plan_refused answer (plan_error.Command command.NoMemory) why e is = inl is
-
--- ---- of what isn't built
-
-pub not_built : (o : Option (List ℕ)) (word : List ℕ) → o ≡ Some word → (e : Error) → OrMemory (λ x. x ≡ error.NotBuilt word) e → OrMemory (λ x. (w : List ℕ) × (o ≡ Some w) × (x ≡ error.NotBuilt w)) e
-not_built o word is e (inl wants) = inl wants
-not_built o word is e (inr told) = inr (word, is, told)
-
--- ---- of the nodes of a closure
-
-module _ (flags : RunFlags) (modules : List Justfile) (scopes : Scopes) (c : Closure) where
-  -- the recipe of a node isn't built
-  pub unbuilt_refused : (word : List ℕ) → node_not_built flags modules c.nodes ≡ Some word → (e : Error) → OrMemory (λ x. x ≡ error.NotBuilt word) e → OrMemory (λ x. RefusesNodes flags modules scopes c x) e
-  unbuilt_refused word is e (inl wants) = inl wants
-  unbuilt_refused word is e (inr told) = inr (inl (word, is, told))
-
-  -- the body of one can't be run
-  pub unplanned_refused : node_not_built flags modules c.nodes ≡ None → (e : Error) → OrMemory (RefusesPlans (plans_in flags modules scopes c)) e → OrMemory (λ x. RefusesNodes flags modules scopes c x) e
-  unplanned_refused built e (inl wants) = inl wants
-  unplanned_refused built e (inr why) = inr (inr (built, why.0, why.1, why.2))

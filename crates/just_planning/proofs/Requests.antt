@@ -1,5 +1,5 @@
 -- Each step of a request gives one answer of its own at most, and so does the request.
-use Rattle.std.proofs.Common.{◌≡◌, ℕ, false, true≢false, List, [], ◌∷◌, Option, Some, None, option_map, Result, Ok, Err, refl, sym, ◌∙◌, ap, subst}
+use Rattle.std.proofs.Common.{◌≡◌, ℕ, false, true≢false, List, [], ◌∷◌, zip, Option, Some, None, option_map, Result, Ok, Err, refl, sym, ◌∙◌, ap, subst}
 use Rattle.std.specs.Int.NonZero.{non_zero_u64_get}
 use Rattle.just_lang.specs.declared.error.CompileKind.{CompileKind}
 use Rattle.just_lang.specs.declared.key.Key.{Key}
@@ -29,8 +29,8 @@ use Rattle.just_errors.specs.Refusals.{error_of_lang, error_of_env}
 use Rattle.just_errors.specs.declared.error.Error.{Error}
 use Rattle.just_errors.specs.declared.error.Error.TheVariants as error
 use Rattle.just_planning.specs.Own.{is_size, is_too_big, is_fault}
-use Rattle.just_planning.specs.Planned.{plan_nodes, messages_of, error_of_plan}
-use Rattle.just_planning.specs.Request.{SourcesRequest, ProjectRequest, LoadedRequest, ScopesRequest, KeysRequest, ClosureRequest, Outline, AssemblesJustfile, ChecksFeatures, FindsProject, LoadsDotenv, EvaluatesVariables, AsksKeys, InvokesKeys, ClosesKeys, ChecksRecipes, MakesPlan, PlansClosure, PlansKeys, PlansProject, PlansSources}
+use Rattle.just_planning.specs.Planned.{messages_of, error_of_plan}
+use Rattle.just_planning.specs.Request.{SourcesRequest, ProjectRequest, LoadedRequest, ScopesRequest, KeysRequest, ClosureRequest, Outline, AssemblesJustfile, ChecksFeatures, FindsProject, LoadsDotenv, EvaluatesVariables, AsksKeys, InvokesKeys, ClosesKeys, MakesPlan, PlansKeys, PlansProject, PlansSources}
 use Rattle.just_planning.specs.Steps.{Then}
 use Rattle.just_planning.proofs.Steps.{GivesOwn, GivesOwnOf, Finds, own_of, then_own, then_own_of, finds_then}
 
@@ -202,16 +202,10 @@ closes_keys k (Err e) (Err f) p m q n =
 
 -- ---- from a closure to a plan
 
-checks_recipes : GivesOwn ChecksRecipes
-checks_recipes k (Ok a) (Ok b) p m q n = ap (λ x. Ok x) (p.1 ∙ sym q.1)
-checks_recipes k (Ok a) (Err f) p m q n = absurd (held_none _ q.0 p.0 q.1)
-checks_recipes k (Err e) (Ok b) p m q n = absurd (held_none _ p.0 q.0 p.1)
-checks_recipes k (Err e) (Err f) p m q n = ap (λ x. Err x) (p.2 ∙ ap (λ x. error.NotBuilt x) (held_one _ p.0 q.0 p.1 q.1) ∙ sym q.2)
-
 -- the outline of a closure with these plans
 abbrev outline_with : ClosureRequest → List NodePlan → Outline
 outline_with c plans =
-    record { nodes = plan_nodes c.closure.nodes plans; invocations = c.closure.invocations; jobs = option_map non_zero_u64_get c.wanted.jobs; messages = messages_of c.modules c.closure.nodes }
+    record { nodes = zip c.closure.nodes plans; invocations = c.closure.invocations; jobs = option_map non_zero_u64_get c.wanted.jobs; messages = messages_of c.modules c.closure.nodes }
 
 -- a closure has one plan, or one refusal
 makes_plan : GivesOwn MakesPlan
@@ -222,11 +216,8 @@ makes_plan c (Err e) (Err f) p m q n = ap (λ x. Err x) (p.2 ∙ ap (λ (g : Pla
 
 -- ---- the chain
 
-plans_closure : GivesOwn PlansClosure
-plans_closure = then_own ChecksRecipes MakesPlan checks_recipes makes_plan
-
 plans_keys : GivesOwn PlansKeys
-plans_keys = then_own InvokesKeys _ invokes_keys (then_own ClosesKeys PlansClosure closes_keys plans_closure)
+plans_keys = then_own InvokesKeys _ invokes_keys (then_own ClosesKeys MakesPlan closes_keys makes_plan)
 
 -- of a justfile whose modules come to an end
 plans_project : GivesOwnOf EndsLoaded PlansProject

@@ -1,15 +1,13 @@
--- Unstable features that a project uses, and forms of it that aren't built yet.
-use Rattle.std.specs.Prelude.{ℕ, not, ◌&&◌, ◌||◌, Bool, if◌then◌else◌, List, [], ◌∷◌, Option, Some, None, codes}
+-- Unstable features that a project uses.
+use Rattle.std.specs.Prelude.{ℕ, Bool, if◌then◌else◌, List, [], ◌∷◌, Option, Some, None, codes}
 use Rattle.std.specs.List.{list_any}
 use Rattle.just_path.specs.Environ.{or_else}
-use Rattle.just_lang.specs.declared.node.Node.{Node}
 use Rattle.just_lang.specs.declared.project.Justfile.{Justfile}
 use Rattle.just_lang.specs.declared.recipe.Recipe.{Recipe}
-use Rattle.just_value.specs.Modules.{recipes_of, settings_of, Located, recipe_at}
+use Rattle.just_value.specs.Modules.{recipes_of, settings_of}
 use Rattle.just_config.specs.declared.unstable_feature.UnstableFeature.{UnstableFeature}
 use Rattle.just_config.specs.declared.unstable_feature.UnstableFeature.TheVariants as feature
 use Rattle.just_commands.specs.Attributes.{has_attribute}
-use Rattle.just_commands.specs.declared.run_flags.RunFlags.{RunFlags}
 
 -- an option's word, where the option is given
 abbrev pub word_if : Bool → List ℕ → Option (List ℕ)
@@ -37,15 +35,3 @@ feature_in (j ∷ js) = or_else (feature_of j) (feature_in js)
 -- unless the words allow them
 abbrev pub unstable_feature : Bool → List Justfile → Option UnstableFeature
 unstable_feature allowed modules = if allowed then None else feature_in modules
-
--- ---- recipes
-
--- a recipe whose cache isn't left alone
-abbrev pub attribute_not_built : RunFlags → Option Located → Option (List ℕ)
-attribute_not_built flags None = None
-attribute_not_built flags (Some l) = word_if (is_cached l.recipe && not (flags.no_cache || flags.dry_run)) (codes "[cache]")
-
--- of the first node whose recipe is so
-abbrev pub node_not_built : RunFlags → List Justfile → List Node → Option (List ℕ)
-node_not_built flags modules [] = None
-node_not_built flags modules (n ∷ ns) = or_else (attribute_not_built flags (recipe_at modules n.key.recipe)) (node_not_built flags modules ns)

@@ -1,5 +1,6 @@
 -- Errors that a request determines, and those that it doesn't.
 use Rattle.std.specs.Prelude.{ℕ, ◌≡◌, ◌⊎◌, Bool, true, false, List, [], Option, Some, None, Result, Ok, Err}
+use Rattle.just_path.specs.declared.host.Miss.TheVariants as miss
 use Rattle.just_outside.specs.declared.entry.HostFault.{HostFault}
 use Rattle.just_outside.specs.declared.entry.HostFault.TheVariants as fault
 use Rattle.just_lang.specs.declared.error.CompileKind.{CompileKind}
@@ -20,8 +21,12 @@ call_in (error.ShellIo recipe shell io) = Some ([], io)
 call_in (error.Script recipe command io) = Some ([], io)
 call_in (error.Shebang recipe command argument io) = Some ([], io)
 call_in (error.TempdirIo recipe io) = Some ([], io)
+call_in (error.CacheInputMissing path) = Some (path, fault.Missed miss.NotFound)
+call_in (error.CacheInputDirectory path) = Some (path, fault.Missed miss.IsFolder)
+call_in (error.CacheEntryWrite path io) = Some (path, io)
 call_in (error.GetConfirmation io) = Some ([], io)
 call_in (error.StdoutIo io) = Some ([], io)
+call_in (error.WriteJustfile justfile io) = Some (justfile, io)
 call_in _ = None
 
 abbrev pub is_failed_call : Option (List ℕ × HostFault) → Bool

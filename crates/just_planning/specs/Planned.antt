@@ -1,5 +1,5 @@
 -- The plan of a closure.
-use Rattle.std.specs.Prelude.{ℕ, ◌≡◌, ◌⊎◌, true, List, [], ◌∷◌, map, Option, Some, None, Bool, Result, Err}
+use Rattle.std.specs.Prelude.{ℕ, ◌≡◌, true, List, [], map, option_map, Option, Some, None, Bool, Result, Err}
 use Rattle.just_lang.specs.declared.key.Key.{Key}
 use Rattle.just_lang.specs.declared.node.Closure.{Closure}
 use Rattle.just_lang.specs.declared.node.Node.{Node}
@@ -20,8 +20,9 @@ use Rattle.just_plans.specs.Plans.{node_plans}
 use Rattle.just_errors.specs.Refusals.{error_of_lang}
 use Rattle.just_errors.specs.declared.error.Error.{Error}
 use Rattle.just_errors.specs.declared.error.Error.TheVariants as error
-use Rattle.just_planning.specs.Forms.{node_not_built}
+use Rattle.just_plans.specs.declared.node_cache.NodeCache.{NodeCache}
 use Rattle.just_plans.specs.declared.node_plan.NodePlan.{NodePlan}
+use Rattle.just_sched.specs.declared.cache_plan.CachePlan.{CachePlan}
 use Rattle.just_sched.specs.declared.plan_node.PlanNode.{PlanNode}
 
 -- what changes in the environment of the children of a key's recipe, which see its module and its parameters
@@ -33,14 +34,17 @@ changes_at scopes k (Some l) =
 abbrev pub changes_of : List Justfile → Scopes → Key → List Change
 changes_of modules scopes k = changes_at scopes k (recipe_at modules k.recipe)
 
--- a node of the closure with what is planned for it
-abbrev pub plan_node : Node → NodePlan → PlanNode
-plan_node n p = record { node = n; prompt = p.prompt; parallel = p.parallel; work = p.work; banner = p.banner }
+-- the cache of a node of a plan, without its class, which is that of its key
+abbrev pub cache_planned : CachePlan → NodeCache
+cache_planned c = record { key = c.key; folder = c.folder; inputs = c.inputs; paths = c.paths; outputs = c.outputs }
 
-abbrev pub plan_nodes : List Node → List NodePlan → List PlanNode
-plan_nodes [] plans = []
-plan_nodes (n ∷ ns) [] = []
-plan_nodes (n ∷ ns) (p ∷ ps) = plan_node n p ∷ plan_nodes ns ps
+-- what is planned for a node of a plan
+abbrev pub node_planned : PlanNode → NodePlan
+node_planned x = record { prompt = x.prompt; parallel = x.parallel; work = x.work; banner = x.banner; cache = option_map cache_planned x.cache }
+
+-- the node with what is planned for it
+abbrev pub planned : PlanNode → Node × NodePlan
+planned x = (x.node, node_planned x)
 
 -- whether the message of a recipe's exit code is told
 abbrev pub message_at : Option Located → Bool
@@ -51,12 +55,12 @@ message_at (Some l) = prints_code (settings_of l.parent) l.recipe.attributes
 abbrev pub messages_of : List Justfile → List Node → List Bool
 messages_of modules nodes = map (λ n. message_at (recipe_at modules n.key.recipe)) nodes
 
--- what is planned for each of some nodes, or the first refusal; and for each of a closure
-abbrev pub plans_for : RunFlags → List Justfile → Scopes → List Node → Result (List NodePlan) PlanError
-plans_for flags modules scopes nodes = node_plans flags modules (body_lines modules scopes) (changes_of modules scopes) nodes
+-- what is planned for each of some nodes, or the first refusal; and for each of a closure. The entries of caches stand in that folder
+abbrev pub plans_for : RunFlags → List ℕ → List Justfile → Scopes → List Node → Result (List NodePlan) PlanError
+plans_for flags folder modules scopes nodes = node_plans flags folder modules scopes (body_lines modules scopes) (changes_of modules scopes) nodes
 
-abbrev pub plans_in : RunFlags → List Justfile → Scopes → Closure → Result (List NodePlan) PlanError
-plans_in flags modules scopes c = plans_for flags modules scopes c.nodes
+abbrev pub plans_in : RunFlags → List ℕ → List Justfile → Scopes → Closure → Result (List NodePlan) PlanError
+plans_in flags folder modules scopes c = plans_for flags folder modules scopes c.nodes
 
 abbrev pub error_of_command : CommandError → Error
 error_of_command (command.InvalidShebang recipe shebang) = error.InvalidShebang recipe shebang
@@ -66,8 +70,6 @@ abbrev pub error_of_plan : PlanError → Error
 error_of_plan (plan_error.Lang l) = error_of_lang l
 error_of_plan (plan_error.Command c) = error_of_command c
 
--- why a closure has no plan: a recipe of it isn't built, or the body of a recipe can't be run
-abbrev pub RefusesNodes : RunFlags → List Justfile → Scopes → Closure → Error → Type 0
-RefusesNodes flags modules scopes c e =
-    ((word : List ℕ) × (node_not_built flags modules c.nodes ≡ Some word) × (e ≡ error.NotBuilt word))
-    ⊎ ((node_not_built flags modules c.nodes ≡ None) × (f : PlanError) × (plans_in flags modules scopes c ≡ Err f) × (e ≡ error_of_plan f))
+-- why a closure has no plan: a body can't be run, or a cache has no values
+abbrev pub RefusesNodes : RunFlags → List ℕ → List Justfile → Scopes → Closure → Error → Type 0
+RefusesNodes flags folder modules scopes c e = (f : PlanError) × (plans_in flags folder modules scopes c ≡ Err f) × (e ≡ error_of_plan f)

@@ -1,9 +1,10 @@
 -- What is asked of the sources of a project: a chain of steps from the sources to the plan of a run, or to a refusal.
-use Rattle.std.specs.Prelude.{ℕ, ◌≡◌, Bool, List, [], ◌∷◌, Option, Some, None, option_map, Result, Ok, Err}
+use Rattle.std.specs.Prelude.{ℕ, ◌≡◌, Bool, List, [], ◌∷◌, zip, map, Option, Some, None, option_map, Result, Ok, Err}
 use Rattle.std.specs.Int.NonZero.{non_zero_u64_get}
 use Rattle.just_path.specs.declared.environ.Environ.{Environ}
 use Rattle.just_lang.specs.declared.key.Key.{Key}
 use Rattle.just_lang.specs.declared.node.Closure.{Closure}
+use Rattle.just_lang.specs.declared.node.Node.{Node}
 use Rattle.just_lang.specs.declared.project.Justfile.{Justfile}
 use Rattle.just_lang.specs.declared.project.LangError.{LangError}
 use Rattle.just_lang.specs.declared.scope.DotenvOf.{DotenvOf}
@@ -22,15 +23,14 @@ use Rattle.just_eval.specs.Closures.{around_of}
 use Rattle.just_plans.specs.declared.error.PlanError.{PlanError}
 use Rattle.just_plans.specs.declared.node_plan.NodePlan.{NodePlan}
 use Rattle.just_sched.specs.declared.plan.Plan.{Plan}
-use Rattle.just_sched.specs.declared.plan_node.PlanNode.{PlanNode}
 use Rattle.just_outside.specs.World.{World}
 use Rattle.just_env_files.specs.declared.env_error.EnvError.{EnvError}
 use Rattle.just_env_files.specs.Loads.{LoadsProject}
 use Rattle.just_errors.specs.Refusals.{error_of_lang, error_of_env}
 use Rattle.just_errors.specs.declared.error.Error.{Error}
 use Rattle.just_errors.specs.declared.error.Error.TheVariants as error
-use Rattle.just_planning.specs.Forms.{unstable_feature, node_not_built}
-use Rattle.just_planning.specs.Planned.{plan_nodes, messages_of, plans_in, error_of_plan}
+use Rattle.just_planning.specs.Forms.{unstable_feature}
+use Rattle.just_planning.specs.Planned.{planned, messages_of, plans_in, error_of_plan}
 use Rattle.just_planning.specs.Steps.{Then}
 use Rattle.just_planning.specs.declared.wanted.Wanted.{Wanted}
 
@@ -78,16 +78,16 @@ pub record ClosureRequest : Type 0 where
   pub scopes : Scopes
   pub closure : Closure
 
--- the nodes of a plan, which of them are its invocations, the job limit, if there is one, and of each node whether the message of
--- its exit code is told
+-- the nodes of a plan with what is planned for each, which of them are its invocations, the job limit, if there is one, and of each node
+-- whether the message of its exit code is told
 pub record Outline : Type 0 where
-  pub nodes : List PlanNode
+  pub nodes : List (Node × NodePlan)
   pub invocations : List ℕ
   pub jobs : Option ℕ
   pub messages : List Bool
 
 abbrev pub outline_of : Plan → Option ℕ → List Bool → Outline
-outline_of p jobs messages = record { nodes = p.nodes; invocations = p.invocations; jobs = jobs; messages = messages }
+outline_of p jobs messages = record { nodes = map planned p.nodes; invocations = p.invocations; jobs = jobs; messages = messages }
 
 -- ---- the steps, in their order
 
@@ -128,17 +128,12 @@ abbrev pub ClosesKeys : KeysRequest → Result ClosureRequest Error → Type 0
 ClosesKeys k (Ok c) = (c.wanted ≡ k.wanted) × (c.modules ≡ k.modules) × (c.scopes ≡ k.scopes) × IsClosureOf (around_of k.wanted.no_deps k.modules k.scopes) k.keys c.closure
 ClosesKeys k (Err e) = (l : LangError) × Visits (around_of k.wanted.no_deps k.modules k.scopes) (Ok []) None k.keys (Err l) × (e ≡ error_of_lang l)
 
--- no recipe of the closure has to be asked for, or has a cache, which isn't built
-abbrev pub ChecksRecipes : ClosureRequest → Result ClosureRequest Error → Type 0
-ChecksRecipes c (Ok d) = (node_not_built c.wanted.flags c.modules c.closure.nodes ≡ None) × (d ≡ c)
-ChecksRecipes c (Err e) = (word : List ℕ) × (node_not_built c.wanted.flags c.modules c.closure.nodes ≡ Some word) × (e ≡ error.NotBuilt word)
-
--- each node of the closure has what its recipe's body has to run; or a body is refused
+-- each node of the closure has what its recipe's body has to run, and the cache by which the body may be skipped; or one of these is refused
 abbrev pub MakesPlan : ClosureRequest → Result Outline Error → Type 0
 MakesPlan c (Ok p) =
-    (plans : List NodePlan) × (plans_in c.wanted.flags c.modules c.scopes c.closure ≡ Ok plans)
-    × (p ≡ record { nodes = plan_nodes c.closure.nodes plans; invocations = c.closure.invocations; jobs = option_map non_zero_u64_get c.wanted.jobs; messages = messages_of c.modules c.closure.nodes })
-MakesPlan c (Err e) = (f : PlanError) × (plans_in c.wanted.flags c.modules c.scopes c.closure ≡ Err f) × (e ≡ error_of_plan f)
+    (plans : List NodePlan) × (plans_in c.wanted.flags c.wanted.cache_folder c.modules c.scopes c.closure ≡ Ok plans)
+    × (p ≡ record { nodes = zip c.closure.nodes plans; invocations = c.closure.invocations; jobs = option_map non_zero_u64_get c.wanted.jobs; messages = messages_of c.modules c.closure.nodes })
+MakesPlan c (Err e) = (f : PlanError) × (plans_in c.wanted.flags c.wanted.cache_folder c.modules c.scopes c.closure ≡ Err f) × (e ≡ error_of_plan f)
 
 -- ---- the chain
 
@@ -146,12 +141,9 @@ MakesPlan c (Err e) = (f : PlanError) × (plans_in c.wanted.flags c.modules c.sc
 abbrev pub FindsProject : SourcesRequest → Result ProjectRequest Error → Type 0
 FindsProject = Then AssemblesJustfile ChecksFeatures
 
--- the steps behind the closure, behind the values of the variables, and behind the dotenv pairs
-abbrev pub PlansClosure : ClosureRequest → Result Outline Error → Type 0
-PlansClosure = Then ChecksRecipes MakesPlan
-
+-- the steps behind the values of the variables, and behind the dotenv pairs
 abbrev pub PlansKeys : ScopesRequest → Result Outline Error → Type 0
-PlansKeys = Then InvokesKeys (Then ClosesKeys PlansClosure)
+PlansKeys = Then InvokesKeys (Then ClosesKeys MakesPlan)
 
 abbrev pub PlansProject : LoadedRequest → Result Outline Error → Type 0
 PlansProject = Then EvaluatesVariables PlansKeys

@@ -8,7 +8,7 @@ ghost use Rattle.just_closure.specs.WellFormed.{IsWellFormed};
 ghost use Rattle.just_value.specs.Modules.{AreModules};
 ghost use Rattle.just_planning.specs.Own.{OrMemory};
 ghost use Rattle.just_planning.specs.Projects.{IsSound};
-ghost use Rattle.just_planning.specs.Request.{outline_of, AsksKeys, PlansClosure, PlansKeys};
+ghost use Rattle.just_planning.specs.Request.{outline_of, AsksKeys, MakesPlan, PlansKeys};
 
 use super::Wanted;
 use super::planning::plan_of;
@@ -51,11 +51,12 @@ fn plan_of_closure(
 ) -> Result<(Plan, Seq<bool>), Error>
     requires formed { IsWellFormed closure.nodes closure.invocations }
     requires few { length closure.nodes < 2 ^ 32 }
-    ensures plan { IfOk result (λ p. (modules : List Justfile) → AreModules (justfile.now ∷ []) modules → PlansClosure (record { wanted = wanted.now; modules = modules; scopes = scopes.now; closure = closure }) (Ok (outline_of p.0 (option_map non_zero_u64_get wanted.now.jobs) p.1))) }
-    ensures refused { IfErr result (OrMemory (λ e. (modules : List Justfile) → AreModules (justfile.now ∷ []) modules → PlansClosure (record { wanted = wanted.now; modules = modules; scopes = scopes.now; closure = closure }) (Err e))) }
+    ensures plan { IfOk result (λ p. (modules : List Justfile) → AreModules (justfile.now ∷ []) modules → MakesPlan (record { wanted = wanted.now; modules = modules; scopes = scopes.now; closure = closure }) (Ok (outline_of p.0 (option_map non_zero_u64_get wanted.now.jobs) p.1))) }
+    ensures refused { IfErr result (OrMemory (λ e. (modules : List Justfile) → AreModules (justfile.now ∷ []) modules → MakesPlan (record { wanted = wanted.now; modules = modules; scopes = scopes.now; closure = closure }) (Err e))) }
 {
     let request = Request::new(alloc, justfile, scopes)?;
-    match plan_of(alloc, &request, &wanted.flags, closure) {
+    let folder = wanted.cache_folder.as_path();
+    match plan_of(alloc, &request, &wanted.flags, folder, closure) {
         Ok(planned) => Ok(planned),
         Err(error) => Err(error),
     }

@@ -1,6 +1,7 @@
 //! The plan of a closure.
 
-ghost use Rattle.std.specs.Prelude.{◌≡◌, ◌^◌, ◌<◌, List, length, map, All, None, option_map, Ok, Err, IfOk, IfErr};
+ghost use Rattle.std.specs.Prelude.{◌≡◌, ◌^◌, ◌<◌, List, length, zip, map, All, option_map, Ok, Err, IfOk, IfErr};
+ghost use Rattle.just_path.specs.Path.{text_of};
 ghost use Rattle.just_closure.specs.WellFormed.{IsWellFormed};
 ghost use Rattle.just_eval.specs.Entries.{located_of};
 ghost use Rattle.just_eval.specs.Requests.{IsIndexed};
@@ -9,20 +10,20 @@ ghost use Rattle.just_plans.specs.declared.error.PlanError.{PlanError};
 ghost use Rattle.just_plans.specs.declared.node_plan.NodePlan.{NodePlan};
 ghost use Rattle.just_commands.specs.Steps.{commands_of};
 ghost use Rattle.just_planning.specs.Own.{OrMemory};
-ghost use Rattle.just_planning.specs.Forms.{node_not_built};
-ghost use Rattle.just_planning.specs.Planned.{changes_of, plan_node, plan_nodes, message_at, messages_of, plans_for, plans_in, error_of_command, error_of_plan, RefusesNodes};
+ghost use Rattle.just_plans.specs.Caches.{IsPaired};
+ghost use Rattle.just_planning.specs.Planned.{changes_of, cache_planned, planned, message_at, messages_of, plans_for, plans_in, error_of_command, error_of_plan, RefusesNodes};
 
-use super::forms::{node_not_built as unbuilt, not_built_error};
 use just_changes::changes_of_recipe;
 use just_commands::{CommandError, RunFlags, Work, prints_code};
 use just_errors::Error;
 use just_eval::{Entry, Request};
+use just_key::class_text;
 use just_lang::project::LangError;
 use just_lang::{BodyLine, Closure, Key, Node};
 use just_lines::lines_of;
-use just_path::{NoMemory, Seq, Text};
-use just_plans::{Bodies, NodePlan, PlanError, node_plans};
-use just_sched::{Plan, PlanNode};
+use just_path::{NoMemory, Seq, Text, Utf8Path};
+use just_plans::{Bodies, NodeCache, NodePlan, PlanError, node_plans};
+use just_sched::{CachePlan, Plan, PlanNode};
 use just_value::View;
 use std::alloc::Global;
 
@@ -91,9 +92,47 @@ fn command_count(work: &Work) -> usize
     }
 }
 
+/// The cache of a node of a plan, with its class. One whose files can't be counted in 32 bits wants memory.
+fn cache_plan(alloc: Global, cache: NodeCache) -> Result<CachePlan, NoMemory>
+    requires { length cache.paths ≡ length cache.inputs }
+    ensures { IfOk result (λ c. cache_planned c ≡ cache) }
+{
+    let class = class_text(alloc, &cache.key)?;
+    let NodeCache {
+        key,
+        folder,
+        inputs,
+        paths,
+        outputs,
+    } = cache;
+    if paths.len() > u32::MAX as usize || outputs.len() > u32::MAX as usize {
+        return Err(NoMemory);
+    }
+    Ok(CachePlan {
+        key,
+        class: Text::from(class),
+        folder,
+        inputs,
+        paths,
+        outputs,
+    })
+}
+
+/// The same of a node that may have one.
+fn cache_plan_of(alloc: Global, cache: Option<NodeCache>) -> Result<Option<CachePlan>, NoMemory>
+    requires { IsPaired cache }
+    ensures { IfOk result (λ c. option_map cache_planned c ≡ cache) }
+{
+    match cache {
+        Some(cache) => Ok(Some(cache_plan(alloc, cache)?)),
+        None => Ok(None),
+    }
+}
+
 /// A node with what is planned for it. A body whose commands can't be counted in 32 bits wants memory.
-fn plan_node(node: Node, plan: NodePlan) -> Result<PlanNode, NoMemory>
-    ensures node { IfOk result (λ x. x ≡ plan_node node plan) }
+fn plan_node(alloc: Global, node: Node, plan: NodePlan) -> Result<PlanNode, NoMemory>
+    requires { IsPaired plan.cache }
+    ensures node { IfOk result (λ x. planned x ≡ (node, plan)) }
     ensures short { IfOk result (λ x. length (commands_of x.work) < 2 ^ 32) }
 {
     let NodePlan {
@@ -101,6 +140,7 @@ fn plan_node(node: Node, plan: NodePlan) -> Result<PlanNode, NoMemory>
         parallel,
         work,
         banner,
+        cache,
     } = plan;
     if command_count(&work) > u32::MAX as usize {
         return Err(NoMemory);
@@ -111,18 +151,20 @@ fn plan_node(node: Node, plan: NodePlan) -> Result<PlanNode, NoMemory>
         parallel,
         work,
         banner,
+        cache: cache_plan_of(alloc, cache)?,
     })
 }
 
 /// The nodes of a plan, which are made from the last one on.
-#[tactic(auto, using(crate::proofs::PlanNodes::all_reversed))]
+#[tactic(auto, using(crate::proofs::PlanNodes::all_reversed, crate::proofs::PlanNodes::planned_reversed))]
 fn plan_nodes(
     alloc: Global,
     nodes: Seq<Node>,
     plans: Seq<NodePlan>,
 ) -> Result<Seq<PlanNode>, NoMemory>
-    requires { length nodes ≡ length plans }
-    ensures nodes { IfOk result (λ made. made ≡ plan_nodes nodes plans) }
+    requires same { length nodes ≡ length plans }
+    requires paired { All (λ p. IsPaired p.cache) plans }
+    ensures nodes { IfOk result (λ made. map planned made ≡ zip nodes plans) }
     ensures short { IfOk result (All (λ x. length (commands_of x.work) < 2 ^ 32)) }
 {
     let mut left = nodes.into_vec();
@@ -132,7 +174,7 @@ fn plan_nodes(
         let Some(plan) = beside.pop() else {
             return Err(NoMemory);
         };
-        made.push(plan_node(node, plan)?)?;
+        made.push(plan_node(alloc, node, plan)?)?;
     }
     made.reverse();
     Ok(Seq::from(made))
@@ -167,14 +209,16 @@ fn plans_of(
     alloc: Global,
     request: &Request<'_>,
     flags: &RunFlags,
+    folder: Utf8Path<'_>,
     nodes: &[Node],
 ) -> Result<Seq<NodePlan>, Error>
     requires { IsIndexed request.now }
-    ensures plans { IfOk result (λ plans. plans_for flags.now (map (λ m. m.now) request.now.modules.items) request.now.scopes.now nodes.now ≡ Ok plans) }
-    ensures refused { IfErr result (OrMemory (λ e. (f : PlanError) × (plans_for flags.now (map (λ m. m.now) request.now.modules.items) request.now.scopes.now nodes.now ≡ Err f) × (e ≡ error_of_plan f))) }
+    ensures plans { IfOk result (λ plans. plans_for flags.now (text_of folder.entry) (map (λ m. m.now) request.now.modules.items) request.now.scopes.now nodes.now ≡ Ok plans) }
+    ensures paired { IfOk result (All (λ p. IsPaired p.cache)) }
+    ensures refused { IfErr result (OrMemory (λ e. (f : PlanError) × (plans_for flags.now (text_of folder.entry) (map (λ m. m.now) request.now.modules.items) request.now.scopes.now nodes.now ≡ Err f) × (e ≡ error_of_plan f))) }
 {
     let bodies = ProjectBodies { request };
-    match node_plans(alloc, request, &bodies, flags, nodes) {
+    match node_plans(alloc, request, &bodies, flags, folder, nodes) {
         Ok(plans) => Ok(plans),
         Err(error) => Err(plan_error(error)),
     }
@@ -190,35 +234,33 @@ fn plan_with(
     requires formed { IsWellFormed nodes invocations }
     requires few { length nodes < 2 ^ 32 }
     requires same { length nodes ≡ length plans }
-    ensures nodes { IfOk result (λ p. p.nodes ≡ plan_nodes nodes plans) }
+    requires paired { All (λ p. IsPaired p.cache) plans }
+    ensures nodes { IfOk result (λ p. map planned p.nodes ≡ zip nodes plans) }
     ensures invocations { IfOk result (λ p. p.invocations ≡ invocations) }
 {
     let nodes = plan_nodes(alloc, nodes, plans)?;
     Ok(Plan { nodes, invocations })
 }
 
-/// The plan of a closure, with of each node whether the message of its exit code is told. The first node whose recipe isn't built yet,
-/// then the first whose body can't be run, refuses it.
+/// The plan of a closure, with of each node whether the message of its exit code is told. The entries of caches stand in that folder. The
+/// first node whose body can't be run, or whose cache has no values, refuses it.
 pub(crate) fn plan_of(
     alloc: Global,
     request: &Request<'_>,
     flags: &RunFlags,
+    folder: Utf8Path<'_>,
     closure: Closure,
 ) -> Result<(Plan, Seq<bool>), Error>
     requires indexed { IsIndexed request.now }
     requires formed { IsWellFormed closure.nodes closure.invocations }
     requires few { length closure.nodes < 2 ^ 32 }
-    ensures built { IfOk result (λ _. node_not_built flags.now (map (λ m. m.now) request.now.modules.items) closure.nodes ≡ None) }
-    ensures nodes { IfOk result (λ p. (plans : List NodePlan) × (plans_in flags.now (map (λ m. m.now) request.now.modules.items) request.now.scopes.now closure ≡ Ok plans) × (p.0.nodes ≡ plan_nodes closure.nodes plans)) }
+    ensures nodes { IfOk result (λ p. (plans : List NodePlan) × (plans_in flags.now (text_of folder.entry) (map (λ m. m.now) request.now.modules.items) request.now.scopes.now closure ≡ Ok plans) × (map planned p.0.nodes ≡ zip closure.nodes plans)) }
     ensures invocations { IfOk result (λ p. p.0.invocations ≡ closure.invocations) }
     ensures messages { IfOk result (λ p. p.1 ≡ messages_of (map (λ m. m.now) request.now.modules.items) closure.nodes) }
-    ensures refused { IfErr result (OrMemory (λ e. RefusesNodes flags.now (map (λ m. m.now) request.now.modules.items) request.now.scopes.now closure e)) }
+    ensures refused { IfErr result (OrMemory (λ e. RefusesNodes flags.now (text_of folder.entry) (map (λ m. m.now) request.now.modules.items) request.now.scopes.now closure e)) }
 {
     let Closure { nodes, invocations } = closure;
-    if let Some(word) = unbuilt(request, flags, nodes.as_slice()) {
-        return Err(not_built_error(alloc, word));
-    }
-    let plans = match plans_of(alloc, request, flags, nodes.as_slice()) {
+    let plans = match plans_of(alloc, request, flags, folder, nodes.as_slice()) {
         Ok(plans) => plans,
         Err(error) => return Err(error),
     };

@@ -3,7 +3,7 @@
 use just_commands::RunFlags;
 use just_env_files::DotenvAsk;
 use just_lang::Override;
-use just_path::{Seq, Text};
+use just_path::{Seq, Text, Utf8PathBuf};
 use std::num::NonZeroU64;
 
 /// What is asked of a justfile.
@@ -23,6 +23,8 @@ pub struct Wanted {
     pub unstable: bool,
     /// How many bodies may be open at once.
     pub jobs: Option<NonZeroU64>,
+    /// The folder of the entries of caches.
+    pub cache_folder: Utf8PathBuf,
     /// How recipes are run. The folder is the one that has the justfile.
     pub flags: RunFlags,
 }

@@ -4,6 +4,7 @@ use Rattle.just_lang.specs.declared.key.Key.{Key}
 use Rattle.just_lang.specs.declared.key.Value.{Value}
 use Rattle.just_lang.specs.declared.node.BodyLine.{BodyLine}
 use Rattle.just_lang.specs.declared.node.Node.{Node}
+use Rattle.just_lang.specs.declared.scope.Scopes.{Scopes}
 use Rattle.just_lang.specs.declared.project.Justfile.{Justfile, out-Justfile}
 use Rattle.just_lang.specs.declared.project.LangError.TheVariants as lang
 use Rattle.just_value.specs.Answers.{Answer}
@@ -17,7 +18,9 @@ use Rattle.just_commands.specs.Works.{Run, recipe_work}
 use Rattle.just_plans.specs.declared.error.PlanError.{PlanError}
 use Rattle.just_plans.specs.declared.error.PlanError.TheVariants as error
 use Rattle.just_plans.specs.declared.node_plan.NodePlan.{NodePlan}
+use Rattle.just_plans.specs.declared.node_cache.NodeCache.{NodeCache}
 use Rattle.just_plans.specs.Banners.{banner}
+use Rattle.just_plans.specs.Caches.{recipe_cache}
 use Rattle.just_plans.specs.Prompts.{prompt, is_parallel}
 
 -- ---- answers that may be refusals
@@ -51,22 +54,28 @@ abbrev pub running : RunFlags → Located → List Value → List (List ℕ × O
 running flags from values changes =
     record { recipe = from.recipe; settings = settings_of from.parent; folder = folder_in flags from.parent; values = values; changes = changes; flags = flags }
 
-abbrev pub node_plan : RunFlags → Located → Work → NodePlan
-node_plan flags from w = record { prompt = prompt flags from.recipe; parallel = is_parallel from.recipe; work = w; banner = banner flags from.recipe }
+abbrev pub node_plan : RunFlags → Located → Work → Option NodeCache → NodePlan
+node_plan flags from w cache = record { prompt = prompt flags from.recipe; parallel = is_parallel from.recipe; work = w; banner = banner flags from.recipe; cache = cache }
 
 -- the plan of a path at which no recipe is
 abbrev pub no_plan : NodePlan
-no_plan = record { prompt = None; parallel = false; work = work.Empty; banner = [] }
+no_plan = record { prompt = None; parallel = false; work = work.Empty; banner = []; cache = None }
 
--- the plan of a recipe, by the lines of its body
-abbrev pub recipe_plan : RunFlags → Option Located → List Value → List (List ℕ × Option (List ℕ)) → List BodyLine → PlanAnswer NodePlan
-recipe_plan flags None values changes lines = Ok no_plan
-recipe_plan flags (Some from) values changes lines = then_plan (λ e. error.Command e) (recipe_work (running flags from values changes) lines) (λ w. Ok (node_plan flags from w))
+-- The plan of a recipe that is run so, by the lines of its body: what it has to run comes before its cache, whose entries stand in that folder.
+abbrev pub run_plan : Scopes → Located → Run → List ℕ → List BodyLine → PlanAnswer NodePlan
+run_plan scopes from run folder lines =
+    then_plan (λ e. error.Command e) (recipe_work run lines) (λ w. then_plan (λ e. error.Lang e) (recipe_cache scopes from run folder lines w) (λ cache. Ok (node_plan run.flags from w cache)))
 
--- Plans in a project with these modules, in which the bodies of keys have these lines and their children these environments.
-module _ (flags : RunFlags) (modules : List Justfile) (lines : Key → Answer (List BodyLine)) (changes : Key → List (List ℕ × Option (List ℕ))) where
+-- the same of a recipe that was found
+abbrev pub recipe_plan : RunFlags → List ℕ → Scopes → Option Located → List Value → List (List ℕ × Option (List ℕ)) → List BodyLine → PlanAnswer NodePlan
+recipe_plan flags folder scopes None values changes lines = Ok no_plan
+recipe_plan flags folder scopes (Some from) values changes lines = run_plan scopes from (running flags from values changes) folder lines
+
+-- Plans in a project with these modules and scopes, in which the bodies of keys have these lines and their children these environments, and the entries
+-- of caches stand in that folder.
+module _ (flags : RunFlags) (folder : List ℕ) (modules : List Justfile) (scopes : Scopes) (lines : Key → Answer (List BodyLine)) (changes : Key → List (List ℕ × Option (List ℕ))) where
   abbrev pub key_plan : Key → PlanAnswer NodePlan
-  key_plan k = then_plan (λ e. error.Lang e) (lines k) (recipe_plan flags (recipe_at modules k.recipe) k.arguments (changes k))
+  key_plan k = then_plan (λ e. error.Lang e) (lines k) (recipe_plan flags folder scopes (recipe_at modules k.recipe) k.arguments (changes k))
 
   abbrev pub plan_of_node : Node → PlanAnswer NodePlan
   plan_of_node n = key_plan n.key

@@ -1,5 +1,5 @@
-//! What the plan of a run says of each node of a closure: what is asked before it, what its body has to run, and what is
-//! printed in front of that.
+//! What the plan of a run says of each node of a closure: what is asked before it, what its body has to run, what is
+//! printed in front of that, and by which cache the body may be skipped.
 //!
 //! The lines of bodies and the changes of the environment come through a trait, so that this crate doesn't depend on how they are
 //! found.
@@ -7,8 +7,11 @@
 
 mod asked;
 mod bodies;
+mod caches;
 mod error;
 mod heading;
+mod keys;
+mod node_cache;
 mod node_plan;
 mod plans;
 
@@ -16,5 +19,6 @@ pub use asked::{is_parallel, prompt};
 pub use bodies::Bodies;
 pub use error::PlanError;
 pub use heading::banner;
+pub use node_cache::NodeCache;
 pub use node_plan::NodePlan;
 pub use plans::node_plans;

@@ -1,10 +1,11 @@
 //! What a plan says of a node.
 
+use super::NodeCache;
 use just_commands::Work;
 use just_path::Text;
 
 /// What a plan says of a node, beside the node itself.
-#[derive(Debug, Drop)]
+#[derive(Drop)]
 pub struct NodePlan {
     /// What is asked before the node's priors are begun, if anything is.
     pub prompt: Option<Text>,
@@ -13,4 +14,6 @@ pub struct NodePlan {
     pub work: Work,
     /// What is printed to standard error when its body is begun; nothing where it is empty.
     pub banner: Text,
+    /// The cache of its body; none where it is always run.
+    pub cache: Option<NodeCache>,
 }

@@ -1,19 +1,21 @@
 //! The plans of nodes.
 
-ghost use Rattle.std.specs.Prelude.{◌≡◌, IfOk, Some, map};
+ghost use Rattle.std.specs.Prelude.{◌≡◌, All, IfOk, map};
 ghost use Rattle.just_path.specs.Path.{text_of};
 ghost use Rattle.just_commands.specs.Works.{run_of};
-ghost use Rattle.just_eval.specs.Entries.{located_of};
+ghost use Rattle.just_eval.specs.Entries.{located_of, Sees};
 ghost use Rattle.just_eval.specs.Requests.{IsIndexed};
-ghost use Rattle.just_plans.specs.Plans.{GivesPlan, folder_in, running, node_plan, no_plan, recipe_plan, key_plan, node_plans};
+ghost use Rattle.just_plans.specs.Caches.{IsPaired};
+ghost use Rattle.just_plans.specs.Plans.{GivesPlan, folder_in, running, node_plan, no_plan, run_plan, key_plan, node_plans};
 
 use super::asked::{is_parallel, prompt};
+use super::caches::recipe_cache;
 use super::heading::banner;
-use super::{Bodies, NodePlan, PlanError};
+use super::{Bodies, NodeCache, NodePlan, PlanError};
 use just_commands::{RunFlags, Running, Work, module_folder, recipe_work};
 use just_eval::{Entry, Request};
 use just_lang::project::Justfile;
-use just_lang::{BodyLine, Key, Node, Value};
+use just_lang::{BodyLine, Key, Node, Scopes, Value};
 use just_path::{NoMemory, Seq, Text, Utf8Path};
 use std::alloc::Global;
 
@@ -26,23 +28,26 @@ fn no_plan(alloc: Global) -> NodePlan
         parallel: false,
         work: Work::Empty,
         banner: Text::from(String::new(alloc)),
+        cache: None,
     }
 }
 
-/// The plan of a recipe that has this to run.
+/// The plan of a recipe that has this to run, and that cache.
 fn node_plan(
     alloc: Global,
     flags: &RunFlags,
     from: &Entry<'_>,
     work: Work,
+    cache: Option<NodeCache>,
 ) -> Result<NodePlan, NoMemory>
-    ensures { IfOk result (λ p. p ≡ node_plan flags.now (located_of from.now) work) }
+    ensures { IfOk result (λ p. p ≡ node_plan flags.now (located_of from.now) work cache) }
 {
     Ok(NodePlan {
         prompt: prompt(alloc, flags, from.recipe)?,
         parallel: is_parallel(from.recipe),
         work,
         banner: banner(alloc, flags, from.recipe)?,
+        cache,
     })
 }
 
@@ -74,21 +79,22 @@ fn running<'r>(
     }
 }
 
-/// The plan of a recipe, by the lines of its body.
-#[tactic(auto, using(crate::proofs::KeyPlans::work_planned))]
-fn recipe_plan(
+/// The plan of a recipe that is run so, by the lines of its body.
+#[tactic(auto, using(crate::proofs::KeyPlans::run_planned))]
+fn run_plan(
     alloc: Global,
-    flags: &RunFlags,
+    scopes: &Scopes,
     from: &Entry<'_>,
-    values: &[Value],
-    changes: &[(Text, Option<Text>)],
+    run: &Running<'_>,
+    folder: Utf8Path<'_>,
     lines: &[BodyLine],
 ) -> Result<NodePlan, PlanError>
-    ensures { GivesPlan (recipe_plan flags.now (Some (located_of from.now)) values.now changes.now lines.now) result }
+    requires { Sees scopes.now from.now }
+    ensures { GivesPlan (run_plan scopes.now (located_of from.now) (run_of run.now) (text_of folder.entry) lines.now) result }
 {
-    let run = running(flags, from, values, changes);
-    let work = recipe_work(alloc, &run, lines)?;
-    Ok(node_plan(alloc, flags, from, work)?)
+    let work = recipe_work(alloc, run, lines)?;
+    let cache = recipe_cache(alloc, scopes, from, run, folder, lines, &work)?;
+    Ok(node_plan(alloc, run.flags, from, work, cache)?)
 }
 
 /// The plan of a key's recipe, by the lines of its body.
@@ -98,11 +104,12 @@ fn key_plan<B: Bodies>(
     request: &Request<'_>,
     bodies: &B,
     flags: &RunFlags,
+    folder: Utf8Path<'_>,
     key: &Key,
 ) -> Result<NodePlan, PlanError>
     requires indexed { IsIndexed request.now }
     requires known { B.known bodies.now }
-    ensures { GivesPlan (key_plan flags.now (map (λ m. m.now) request.now.modules.items) (B.lines bodies.now) (B.changes bodies.now) key.now) result }
+    ensures { GivesPlan (key_plan flags.now (text_of folder.entry) (map (λ m. m.now) request.now.modules.items) request.now.scopes.now (B.lines bodies.now) (B.changes bodies.now) key.now) result }
 {
     let lines = bodies.lines(alloc, key)?;
     let Some(from) = request.entry(&key.recipe) else {
@@ -110,33 +117,31 @@ fn key_plan<B: Bodies>(
     };
     let changes = bodies.changes(alloc, key)?;
     let values = key.arguments.as_slice();
-    recipe_plan(
-        alloc,
-        flags,
-        &from,
-        values,
-        changes.as_slice(),
-        lines.as_slice(),
-    )
+    let run = running(flags, &from, values, changes.as_slice());
+    let lines = lines.as_slice();
+    run_plan(alloc, request.scopes, &from, &run, folder, lines)
 }
 
-/// What the plan of a run says of each of some nodes: what is asked before it, what its body has to run, and what is printed when
-/// it is begun. The first node whose lines have no values, or whose script names no interpreter, refuses it.
-#[tactic(auto, using(crate::proofs::Each::each_more, crate::proofs::Each::refused_gives, crate::proofs::Each::each_end))]
+/// What the plan of a run says of each of some nodes: what is asked before it, what its body has to run, what is printed when it is
+/// begun, and its cache, whose entries stand in that folder. The first node whose lines have no values, whose script names no interpreter, or
+/// whose `cache` has no values refuses it.
+#[tactic(auto, using(crate::proofs::Each::each_more, crate::proofs::Each::refused_gives, crate::proofs::Each::each_end, crate::proofs::Paired::plans_paired))]
 pub fn node_plans<B: Bodies>(
     alloc: Global,
     request: &Request<'_>,
     bodies: &B,
     flags: &RunFlags,
+    folder: Utf8Path<'_>,
     nodes: &[Node],
 ) -> Result<Seq<NodePlan>, PlanError>
     requires indexed { IsIndexed request.now }
     requires known { B.known bodies.now }
-    ensures { GivesPlan (node_plans flags.now (map (λ m. m.now) request.now.modules.items) (B.lines bodies.now) (B.changes bodies.now) nodes.now) result }
+    ensures plans { GivesPlan (node_plans flags.now (text_of folder.entry) (map (λ m. m.now) request.now.modules.items) request.now.scopes.now (B.lines bodies.now) (B.changes bodies.now) nodes.now) result }
+    ensures paired { IfOk result (All (λ p. IsPaired p.cache)) }
 {
     let mut plans = Vec::with_capacity(alloc, nodes.len())?;
     'nodes: for node in nodes {
-        plans.push(key_plan(alloc, request, bodies, flags, &node.key)?)?;
+        plans.push(key_plan(alloc, request, bodies, flags, folder, &node.key)?)?;
     }
     Ok(Seq::from(plans))
 }

@@ -3,4 +3,4 @@ use Rattle.just_planning.proofs.Refusals.{plan_refused}
 use Rattle.just_planning.proofs.planning.plans_of.Goals as goal
 
 pub returns-in-Err-clause-refused : goal.returns-in-Err-clause-refused
-returns-in-Err-clause-refused c = plan_refused _ c.in-Err.error c.in-Err.ensures _ c.plan_error.ensures
+returns-in-Err-clause-refused c = plan_refused _ c.in-Err.error c.in-Err.ensures.plans _ c.plan_error.ensures
