@@ -1,6 +1,5 @@
 -- The chain of a request over a host, from what its calls answered.
-use Rattle.std.proofs.Common.{◌≡◌, inl, inr, ℕ, Bool, true, false, List, [], ◌∷◌, Option, Result, Ok, Err, refl, sym, ◌∙◌, ap, subst}
-use Rattle.std.specs.Prelude.{◌&&◌, if◌then◌else◌, codes}
+use Rattle.std.proofs.Common.{◌≡◌, inl, inr, ℕ, Bool, true, false, List, [], ◌∷◌, Option, Result, Ok, Err, IfOk, IfErr, refl, subst}
 use Rattle.just_path.specs.declared.environ.Environ.{Environ}
 use Rattle.just_outside.specs.World.{World}
 use Rattle.just_outside.specs.declared.entry.Entry.{Entry}
@@ -20,13 +19,11 @@ use Rattle.just_lang.specs.declared.project.Justfile.{Justfile}
 use Rattle.just_lang.specs.declared.scope.DotenvOf.{DotenvOf}
 use Rattle.just_value.specs.Modules.{AreModules, settings_of}
 use Rattle.just_env_files.specs.declared.env_error.EnvError.{EnvError}
-use Rattle.just_env_files.specs.declared.env_error.EnvError.TheVariants as env
 use Rattle.just_env_files.specs.Loads.{LoadsProject}
 use Rattle.just_errors.specs.Refusals.{error_of_env}
-use Rattle.just_errors.specs.declared.error.Error.TheVariants as error
 use Rattle.just_planning.specs.Request.{SourcesRequest, ProjectRequest, LoadedRequest, Outline, FindsProject, PlansProject}
-use Rattle.just_cli.specs.Options.{is_searching, is_lacking, looks_above, standing}
-use Rattle.just_cli.specs.Request.{FindsProjectOf, PlansLoaded, Tries, Searches, Serves, EnvironGiven, FolderGiven, Asks, AsksGlobal}
+use Rattle.just_cli.specs.NewPath.{is_init}
+use Rattle.just_cli.specs.Request.{FindsProjectOf, PlansLoaded, AnswersAt, Tries, Searches, Decides, Serves, EnvironGiven, FolderGiven, Asks, AsksGlobal}
 use Rattle.just_planning.specs.Steps.{stops, goes_on}
 use Rattle.just_cli.specs.Words.{WordsRequest, ArgumentsRequest, FolderRequest, ConfigRequest, LocatedRequest, JustfileRequest, ReadsWords, Configures, FindsLocation, TakesFile}
 
@@ -83,19 +80,27 @@ module _ (told : Option World) (wanted : Wanted) (environ : Environ) (justfile :
 -- ---- behind the project
 
 module _ (told : Option World) (wanted : Wanted) (environ : Environ) (j : Justfile) where
-  module _ (pairs seen : List DotenvOf) (loads : LoadsProject told wanted.dotenv environ.pairs wanted.flags.folder j (Ok pairs)) (same : seen ≡ pairs) where
-    behind_pairs : (r : Result Outline Error) (ms : List Justfile) → PlansProject (loaded_in wanted environ j ms seen) r → PlansLoaded told (project_in wanted environ j ms) r
-    behind_pairs r ms plans =
-        goes_on (loaded_in wanted environ j ms pairs) (refl, refl, refl, refl, loads) (subst (λ ps. PlansProject (loaded_in wanted environ j ms ps) r) same plans)
+  -- the answer to what is asked of the project, with the list of its modules
+  abbrev pub PlansIt : Result Outline Error → Type 0
+  PlansIt r = (ms : List Justfile) × AreModules (j ∷ []) ms × PlansLoaded told (project_in wanted environ j ms) r
 
-    pub loaded_plan : (o : Outline) → ((ms : List Justfile) → AreModules (j ∷ []) ms → PlansProject (loaded_in wanted environ j ms seen) (Ok o))
-        → (ms : List Justfile) → AreModules (j ∷ []) ms → PlansLoaded told (project_in wanted environ j ms) (Ok o)
-    loaded_plan o plans ms are = behind_pairs (Ok o) ms (plans ms are)
+  module _ (modules : List Justfile) (are : AreModules (j ∷ []) modules) where
+    -- its dotenv pairs aren't loaded
+    pub no_pairs : (e : Error) → OrMemory (λ x. (f : EnvError) × LoadsProject told wanted.dotenv environ.pairs wanted.flags.folder j (Err f) × (x ≡ error_of_env f)) e → OrMemory (λ x. PlansIt (Err x)) e
+    no_pairs e (inl wants) = inl wants
+    no_pairs e (inr lost) = inr (modules, are, stops e lost refl)
 
-    pub loaded_refused : (e : Error) → OrMemory (λ x. (ms : List Justfile) → AreModules (j ∷ []) ms → PlansProject (loaded_in wanted environ j ms seen) (Err x)) e
-        → OrMemory (λ x. (ms : List Justfile) → AreModules (j ∷ []) ms → PlansLoaded told (project_in wanted environ j ms) (Err x)) e
-    loaded_refused e (inl wants) = inl wants
-    loaded_refused e (inr plans) = inr (λ ms are. behind_pairs (Err e) ms (plans ms are))
+    module _ (pairs seen : List DotenvOf) (loads : LoadsProject told wanted.dotenv environ.pairs wanted.flags.folder j (Ok pairs)) (same : seen ≡ pairs) where
+      behind_pairs : (r : Result Outline Error) → PlansProject (loaded_in wanted environ j modules seen) r → PlansIt r
+      behind_pairs r plans =
+          (modules, are, goes_on (loaded_in wanted environ j modules pairs) (refl, refl, refl, refl, loads) (subst (λ ps. PlansProject (loaded_in wanted environ j modules ps) r) same plans))
+
+      pub loaded_plan : (o : Outline) → ((ms : List Justfile) → AreModules (j ∷ []) ms → PlansProject (loaded_in wanted environ j ms seen) (Ok o)) → PlansIt (Ok o)
+      loaded_plan o plans = behind_pairs (Ok o) (plans modules are)
+
+      pub loaded_refused : (e : Error) → OrMemory (λ x. (ms : List Justfile) → AreModules (j ∷ []) ms → PlansProject (loaded_in wanted environ j ms seen) (Err x)) e → OrMemory (λ x. PlansIt (Err x)) e
+      loaded_refused e (inl wants) = inl wants
+      loaded_refused e (inr plans) = inr (behind_pairs (Err e) (plans modules are))
 
 -- a refusal of arguments over a host, and of words, or want of memory
 abbrev pub RefusesRun : Option World → List Entry → Arguments → Environ → Error → Type 0
@@ -104,65 +109,41 @@ RefusesRun told listings a environ e = OrMemory (λ f. Serves told listings (arg
 abbrev pub RefusesOver : List (List ℕ) → Option World → List Entry → Error → Type 0
 RefusesOver words told listings e = OrMemory (λ f. Asks words told listings (Err f)) e
 
--- ---- behind the place of the justfile
+-- ---- the justfile in a place
 
--- want of memory stands
-one_memory : (above : Bool) (f : Error) → ◌≡◌ {A = Result Outline Error} (Err f) (standing above (Err error.NoMemory)) → f ≡ error.NoMemory
-one_memory true f is = cc
-one_memory false f is = cc
-
-memory_stands : (above : Bool) (e f : Error) → e ≡ error.NoMemory → ◌≡◌ {A = Result Outline Error} (Err f) (standing above (Err e)) → f ≡ error.NoMemory
-memory_stands above e f wants stands =
-    let same : ◌≡◌ {A = Result Outline Error} (Err f) (standing above (Err error.NoMemory)) = stands ∙ ap (λ x. standing above (Err x)) wants in one_memory above f same
-
--- a refusal that tells of no recipe and no module stands
-stood : (above : Bool) (e : Error) → is_lacking e ≡ false → ◌≡◌ {A = Result Outline Error} (Err e) (standing above (Err e))
-stood true e lacks = ap (λ b. if b then Err (error.NotBuilt (codes "fallback")) else Err e) (sym lacks)
-stood false e lacks = refl
-
-pairs_lack_none : (f : EnvError) → is_lacking (error_of_env f) ≡ false
-pairs_lack_none (env.Io io path) = refl
-pairs_lack_none _ = refl
-
--- a refusal of what is asked of the justfile in a place, or want of memory
-abbrev RefusesPlace : Option World → LocatedRequest → Error → Type 0
-RefusesPlace told q e = OrMemory (λ x. Tries told q (Err x)) e
+-- a refusal of what is asked of it, or want of memory; and whether it sets fallback
+abbrev RefusesAt : Option World → LocatedRequest → Bool → Error → Type 0
+RefusesAt told q fallback e = OrMemory (λ x. AnswersAt told q (Err x) fallback) e
 
 module _ (told : Option World) (config : Config) (environ : Environ) (location : Location) where
   -- the justfile is no file
-  pub no_file : (e : Error) → OrMemory (λ x. (environ : Environ) → TakesFile (located_in config environ location) (Err x)) e → RefusesPlace told (located_in config environ location) e
+  pub no_file : (e : Error) → OrMemory (λ x. (environ : Environ) → TakesFile (located_in config environ location) (Err x)) e → RefusesAt told (located_in config environ location) false e
   no_file e (inl wants) = inl wants
-  no_file e (inr lost) = inr (Tries.no_project e (stops e (lost environ) refl) refl)
+  no_file e (inr lost) = inr (AnswersAt.no_project e (stops e (lost environ) refl) refl refl)
 
   module _ (wanted : Wanted) (justfile : List ℕ) (takes : (environ : Environ) → TakesFile (located_in config environ location) (Ok (justfile_in wanted environ justfile))) where
     -- its project isn't made
-    pub no_project : (e : Error) → OrMemory (λ x. FindsProjectOf told (justfile_in wanted environ justfile) (Err x)) e → RefusesPlace told (located_in config environ location) e
+    pub no_project : (e : Error) → OrMemory (λ x. FindsProjectOf told (justfile_in wanted environ justfile) (Err x)) e → RefusesAt told (located_in config environ location) false e
     no_project e (inl wants) = inl wants
-    no_project e (inr lost) = inr (Tries.no_project e (goes_on (justfile_in wanted environ justfile) (takes environ) lost) refl)
+    no_project e (inr lost) = inr (AnswersAt.no_project e (goes_on (justfile_in wanted environ justfile) (takes environ) lost) refl refl)
 
-    module _ (j : Justfile) (modules : List Justfile) (are : AreModules (j ∷ []) modules)
-        (finds : (ms : List Justfile) → AreModules (j ∷ []) ms → FindsProjectOf told (justfile_in wanted environ justfile) (Ok (project_in wanted environ j ms))) where
-      tried : (x r : Result Outline Error) → ((ms : List Justfile) → AreModules (j ∷ []) ms → PlansLoaded told (project_in wanted environ j ms) x) → r ≡ standing (looks_above config j) x → Tries told (located_in config environ location) r
-      tried x r plans is =
-          Tries.of_project (project_in wanted environ j modules) x (goes_on (justfile_in wanted environ justfile) (takes environ) (finds modules are)) (plans modules are) is
+    module _ (j : Justfile) (finds : (ms : List Justfile) → AreModules (j ∷ []) ms → FindsProjectOf told (justfile_in wanted environ justfile) (Ok (project_in wanted environ j ms))) (fallback : Bool) (is : fallback ≡ (settings_of j).fallback) where
+      -- what is asked of its project is what is asked of it
+      answers : (r : Result Outline Error) → PlansIt told wanted environ j r → AnswersAt told (located_in config environ location) r fallback
+      answers r (ms, are, plans) = AnswersAt.of_project (project_in wanted environ j ms) (goes_on (justfile_in wanted environ justfile) (takes environ) (finds ms are)) plans is
 
-      -- what is planned of it stands
-      pub project_plan : (o : Outline) → ((ms : List Justfile) → AreModules (j ∷ []) ms → PlansLoaded told (project_in wanted environ j ms) (Ok o)) → Tries told (located_in config environ location) (Ok o)
-      project_plan o plans = tried (Ok o) (Ok o) plans refl
+      pub place_planned : {A : Type 0} (outline : A → Outline) (r : Result A Error) → IfOk r (λ x. PlansIt told wanted environ j (Ok (outline x))) → IfOk r (λ x. AnswersAt told (located_in config environ location) (Ok (outline x)) fallback)
+      place_planned outline (Ok x) plans = answers (Ok (outline x)) plans
+      place_planned outline (Err e) plans = tt
 
-      -- its dotenv pairs aren't loaded
-      pub no_pairs : (e : Error) → OrMemory (λ x. (f : EnvError) × LoadsProject told wanted.dotenv environ.pairs wanted.flags.folder j (Err f) × (x ≡ error_of_env f)) e → RefusesPlace told (located_in config environ location) e
-      no_pairs e (inl wants) = inl wants
-      no_pairs e (inr lost) = inr (tried (Err e) (Err e) (λ ms others. stops e lost refl) (stood (looks_above config j) e (ap (λ x. is_lacking x) lost.2 ∙ pairs_lack_none lost.0)))
+      pub place_refused : {A : Type 0} (r : Result A Error) → IfErr r (λ e. OrMemory (λ x. PlansIt told wanted environ j (Err x)) e) → IfErr r (λ e. RefusesAt told (located_in config environ location) fallback e)
+      place_refused (Ok x) why = tt
+      place_refused (Err e) (inl wants) = inl wants
+      place_refused (Err e) (inr plans) = inr (answers (Err e) plans)
 
-      -- a refusal stands, or a justfile above would be tried
-      pub no_plan : (searching above : Bool) → searching ≡ is_searching config.search_config → above ≡ (searching && (settings_of j).fallback)
-          → (e : Error) → OrMemory (λ x. (ms : List Justfile) → AreModules (j ∷ []) ms → PlansLoaded told (project_in wanted environ j ms) (Err x)) e
-          → (f : Error) → OrMemory (λ x. Err x ≡ standing above (Err e)) f → RefusesPlace told (located_in config environ location) f
-      no_plan searching above so is e why f (inl wants) = inl wants
-      no_plan searching above so is e (inl wants) f (inr stands) = inl (memory_stands above e f wants stands)
-      no_plan searching above so is e (inr plans) f (inr stands) =
-          let looks : above ≡ looks_above config j = is ∙ ap (λ b. b && (settings_of j).fallback) so in inr (tried (Err e) (Err f) plans (stands ∙ ap (λ b. standing b (Err e)) looks))
+-- a refusal of what is asked of the justfiles that are tried, or want of memory
+abbrev RefusesPlace : Option World → LocatedRequest → Error → Type 0
+RefusesPlace told q e = OrMemory (λ x. Tries told q (Err x)) e
 
 -- ---- behind the words
 
@@ -179,9 +160,14 @@ module _ (a : Arguments) (environ : Environ) (told : Option World) where
     no_configuration e (inr why) listings = inr (goes_on (folder_in a environ folder) (refl, refl, given) (stops e (why environ) refl))
 
     module _ (config : Config) (configures : (environ : Environ) → Configures (folder_in a environ folder) (Ok (config_in config environ))) (listings : List Entry) where
+      -- what is decided behind the configuration is the answer
+      pub decided : (r : Result Outline Error) → Decides told listings (config_in config environ) r → Serves told listings (arguments_in a environ) r
+      decided r decides = goes_on (folder_in a environ folder) (refl, refl, given) (goes_on (config_in config environ) (configures environ) decides)
+
+    module _ (config : Config) (configures : (environ : Environ) → Configures (folder_in a environ folder) (Ok (config_in config environ))) (plain : is_init config.subcommand ≡ false) (listings : List Entry) where
       -- what the search answers, and what stands behind it, is the answer
       searched : (r : Result Outline Error) → Searches told listings (config_in config environ) r → Serves told listings (arguments_in a environ) r
-      searched r searches = goes_on (folder_in a environ folder) (refl, refl, given) (goes_on (config_in config environ) (configures environ) searches)
+      searched r searches = decided config configures listings r (Decides.runs plain searches)
 
       -- the justfile isn't found
       pub no_location : (e : Error) → OrMemory (λ x. FindsLocation told listings config (Err x)) e → RefusesRun told listings a environ e

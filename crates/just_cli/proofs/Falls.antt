@@ -3,7 +3,7 @@ use Rattle.std.proofs.Common.{◌≡◌, ℕ, zero, suc, ◌+◌, ◌<◌, ◌++
 use Rattle.std.specs.List.{list_any}
 use Rattle.std.proofs.Math.Bool.{Bool-set}
 use Rattle.std.proofs.Math.Bridge.{le_prop}
-use Rattle.std.proofs.Math.Logic.{∥∥₁_elim}
+use Rattle.std.proofs.Math.Logic.{∥∥₁_elim, ∥∥₁_map}
 use Rattle.std.proofs.lemmas.List.{append_cancel_left}
 use Rattle.std.proofs.lemmas.List.Elements.{All-contains, Contains-append_left, Contains-append_right}
 use Rattle.std.proofs.lemmas.List.Folds.{list_any-append}
@@ -11,6 +11,7 @@ use Rattle.std.proofs.lemmas.List.Sums.{sum_by-append, sum_by-cons}
 use Rattle.just_outside.specs.World.{World}
 use Rattle.just_outside.specs.Record.{refused, faults_of, misses_of, is_failed, is_missed, is_started}
 use Rattle.just_path.specs.declared.host.Miss.{Miss}
+use Rattle.just_path.specs.declared.host.Miss.TheVariants as miss
 use Rattle.just_outside.specs.declared.entry.Call.{Call}
 use Rattle.just_outside.specs.declared.entry.Call.TheVariants as call
 use Rattle.just_outside.specs.declared.entry.Entry.{Entry}
@@ -22,6 +23,7 @@ use Rattle.just_sched.specs.declared.plan.Plan.{Plan}
 use Rattle.just_sched.specs.declared.plan_node.PlanNode.{PlanNode}
 use Rattle.just_sched.specs.Causes.{ShowsFailure, ShowsMiss}
 use Rattle.just_sched.specs.Favourable.{is_favourable, IsFavourable}
+use Rattle.just_sched.specs.Touched.{IsTouched}
 use Rattle.just_sched.specs.Start.{Start, IsKept, run_of}
 use Rattle.just_sched.proofs.Laws.{nothing_started}
 use Rattle.just_cli.specs.declared.ended.Failure.{Failure}
@@ -34,7 +36,6 @@ use Rattle.just_cli.specs.Faults.{entries_of}
 use Rattle.just_outcome.proofs.Laws.{only_memory}
 use Rattle.just_cli.specs.Preparing.{EndsWith}
 use Rattle.just_cli.specs.Record.{Stretches, EndsIll, EndsBefore, IsQuiet}
-use Rattle.just_cli.proofs.Worlds.{worlds_set}
 
 -- what a failure leaves: with no plan, a refusal before the book
 abbrev pub Failed : List Entry → Option ℕ → List Bool → Bool → Result Report Failure → List Entry → List Entry → Type 0
@@ -87,7 +88,7 @@ miss_counted : (m : Miss) (es : List Entry) → ShowsMiss m es → 0 < misses_of
 miss_counted m es c = counted is_missed es (entry.Missed c.0 m) c.1 refl
 
 fault_shown : (nodes : List PlanNode) (h : List Event) (e : Error) (es : List Entry) → IsCaused nodes h e es → is_fault e ≡ true → 0 < faults_of es
-fault_shown nodes h (error.FilesystemIo path (fault.Failed c)) es a is = failure_counted c es a
+fault_shown nodes h (error.FilesystemIo path (fault.Failed c)) es a is = failure_counted c es a.1
 fault_shown nodes h (error.FilesystemIo path (fault.Missed m)) es a is = absurd (cc)
 fault_shown nodes h (error.FilesystemIo path fault.NoMemory) es a is = absurd (cc)
 fault_shown nodes h (error.ShellIo recipe shell (fault.Failed c)) es a is = failure_counted c es a.1
@@ -104,16 +105,22 @@ fault_shown nodes h (error.CurrentDir io) es a is = absurd a
 fault_shown nodes h (error.TempdirIo recipe (fault.Failed c)) es a is = failure_counted call.Temp es a.2
 fault_shown nodes h (error.TempdirIo recipe (fault.Missed m)) es a is = absurd (cc)
 fault_shown nodes h (error.TempdirIo recipe fault.NoMemory) es a is = absurd (cc)
+fault_shown nodes h (error.CacheInputMissing path) es a is = absurd (cc)
+fault_shown nodes h (error.CacheInputDirectory path) es a is = absurd (cc)
+fault_shown nodes h (error.CacheEntryWrite path (fault.Failed c)) es a is = failure_counted call.Save es a.2
+fault_shown nodes h (error.CacheEntryWrite path (fault.Missed m)) es a is = absurd (cc)
+fault_shown nodes h (error.CacheEntryWrite path fault.NoMemory) es a is = absurd (cc)
 fault_shown nodes h (error.GetConfirmation (fault.Failed c)) es a is = failure_counted call.Ask es a.1
 fault_shown nodes h (error.GetConfirmation (fault.Missed m)) es a is = absurd (cc)
 fault_shown nodes h (error.GetConfirmation fault.NoMemory) es a is = absurd (cc)
 fault_shown nodes h (error.StdoutIo (fault.Failed c)) es a is = failure_counted call.Print es a.1
 fault_shown nodes h (error.StdoutIo (fault.Missed m)) es a is = absurd (cc)
 fault_shown nodes h (error.StdoutIo fault.NoMemory) es a is = absurd (cc)
+fault_shown nodes h (error.WriteJustfile justfile io) es a is = absurd a
 fault_shown nodes h _ es a is = absurd (cc)
 
 miss_shown : (nodes : List PlanNode) (h : List Event) (e : Error) (es : List Entry) → IsCaused nodes h e es → is_miss e ≡ true → 0 < misses_of es
-miss_shown nodes h (error.FilesystemIo path (fault.Missed m)) es a is = miss_counted m es a
+miss_shown nodes h (error.FilesystemIo path (fault.Missed m)) es a is = miss_counted m es a.1
 miss_shown nodes h (error.FilesystemIo path (fault.Failed c)) es a is = absurd (cc)
 miss_shown nodes h (error.FilesystemIo path fault.NoMemory) es a is = absurd (cc)
 miss_shown nodes h (error.ShellIo recipe shell (fault.Failed c)) es a is = absurd (cc)
@@ -130,12 +137,18 @@ miss_shown nodes h (error.CurrentDir io) es a is = absurd a
 miss_shown nodes h (error.TempdirIo recipe (fault.Missed m)) es a is = miss_counted m es a.1
 miss_shown nodes h (error.TempdirIo recipe (fault.Failed c)) es a is = absurd (cc)
 miss_shown nodes h (error.TempdirIo recipe fault.NoMemory) es a is = absurd (cc)
+miss_shown nodes h (error.CacheInputMissing path) es a is = miss_counted miss.NotFound es (path, a.missed)
+miss_shown nodes h (error.CacheInputDirectory path) es a is = miss_counted miss.IsFolder es (path, a.missed)
+miss_shown nodes h (error.CacheEntryWrite path (fault.Failed c)) es a is = absurd (cc)
+miss_shown nodes h (error.CacheEntryWrite path (fault.Missed m)) es a is = absurd a
+miss_shown nodes h (error.CacheEntryWrite path fault.NoMemory) es a is = absurd (cc)
 miss_shown nodes h (error.GetConfirmation (fault.Failed c)) es a is = absurd (cc)
 miss_shown nodes h (error.GetConfirmation (fault.Missed m)) es a is = absurd a
 miss_shown nodes h (error.GetConfirmation fault.NoMemory) es a is = absurd (cc)
 miss_shown nodes h (error.StdoutIo (fault.Failed c)) es a is = absurd (cc)
 miss_shown nodes h (error.StdoutIo (fault.Missed m)) es a is = absurd a
 miss_shown nodes h (error.StdoutIo fault.NoMemory) es a is = absurd (cc)
+miss_shown nodes h (error.WriteJustfile justfile io) es a is = absurd a
 miss_shown nodes h _ es a is = absurd (cc)
 
 -- the entry of a refused call is counted
@@ -157,8 +170,12 @@ fault_refused (error.CurrentDir io) is = failed_counted [] io is
 fault_refused (error.Script recipe command io) is = failed_counted [] io is
 fault_refused (error.Shebang recipe command argument io) is = failed_counted [] io is
 fault_refused (error.TempdirIo recipe io) is = failed_counted [] io is
+fault_refused (error.CacheInputMissing path) is = absurd (cc)
+fault_refused (error.CacheInputDirectory path) is = absurd (cc)
+fault_refused (error.CacheEntryWrite path io) is = failed_counted path io is
 fault_refused (error.GetConfirmation io) is = failed_counted [] io is
 fault_refused (error.StdoutIo io) is = failed_counted [] io is
+fault_refused (error.WriteJustfile justfile io) is = failed_counted justfile io is
 fault_refused _ is = absurd (cc)
 
 miss_refused : (e : Error) → is_miss e ≡ true → 0 < misses_of (entries_of e)
@@ -169,8 +186,12 @@ miss_refused (error.CurrentDir io) is = missed_counted [] io is
 miss_refused (error.Script recipe command io) is = missed_counted [] io is
 miss_refused (error.Shebang recipe command argument io) is = missed_counted [] io is
 miss_refused (error.TempdirIo recipe io) is = missed_counted [] io is
+miss_refused (error.CacheInputMissing path) is = missed_counted path (fault.Missed miss.NotFound) is
+miss_refused (error.CacheInputDirectory path) is = missed_counted path (fault.Missed miss.IsFolder) is
+miss_refused (error.CacheEntryWrite path io) is = missed_counted path io is
 miss_refused (error.GetConfirmation io) is = missed_counted [] io is
 miss_refused (error.StdoutIo io) is = missed_counted [] io is
+miss_refused (error.WriteJustfile justfile io) is = missed_counted justfile io is
 miss_refused _ is = absurd (cc)
 
 -- the failure of a call whose error is told is counted in the record
@@ -225,12 +246,16 @@ second_of false b e = e
 quiet_back : (p : Entry → Bool) (pre rest es : List Entry) → es ≡ pre ++ rest → list_any p es ≡ false → list_any p rest ≡ false
 quiet_back p pre rest es is none = second_of (list_any p pre) (list_any p rest) (sym (list_any-append p pre rest) ∙ (ap (λ xs. list_any p xs) (sym is) ∙ none))
 
--- where no child was started and nothing failed, a drive behind some entries leaves the world
-pub world_left : (s : Start) (h : List Event) (old pre now new : List Entry) (v : Option World) (post es : List Entry) → s.entries ≡ old ++ pre → ∥ IsKept s h now v ∥₁ → new ≡ now ++ post → new ≡ old ++ es → IsQuiet es → v ≡ s.world
+-- where no child was started and nothing failed, a drive behind some entries leaves the world but for entries of caches
+pub world_left : (s : Start) (h : List Event) (old pre now new : List Entry) (v : Option World) (post es : List Entry) → s.entries ≡ old ++ pre → ∥ IsKept s h now v ∥₁ → new ≡ now ++ post → new ≡ old ++ es → IsQuiet es → ∥ IsTouched s.plan.nodes s.world v ∥₁
 world_left s h old pre now new v post es entered kept told grew quiet =
-    ∥∥₁_elim kept (worlds_set _ _) (λ k.
+    ∥∥₁_map kept (λ k.
     let rest = k.gained ++ post in
     let same : es ≡ pre ++ rest =
     append_cancel_left old es (pre ++ rest) (sym grew ∙ told ∙ ap (λ x. x ++ post) (k.grew ∙ ap (λ x. x ++ k.gained) entered) ∙ append_assoc (old ++ pre) k.gained post ∙ append_assoc old pre rest) in
     let child = quiet_front is_started k.gained post rest refl (quiet_back is_started pre rest es same quiet.no_child) in
     k.untouched (nothing_started (run_of s) h k.gained k.matches child) (quiet_front is_failed k.gained post rest refl (quiet_back is_failed pre rest es same quiet.no_failure)))
+
+-- the same of the worlds that were told
+pub touched_between : (nodes : List PlanNode) (w told seen after : Option World) → w ≡ told → after ≡ seen → ∥ IsTouched nodes w seen ∥₁ → ∥ IsTouched nodes told after ∥₁
+touched_between nodes w told seen after w_is after_is t = subst (λ v. ∥ IsTouched nodes told v ∥₁) (sym after_is) (subst (λ v. ∥ IsTouched nodes v seen ∥₁) w_is t)

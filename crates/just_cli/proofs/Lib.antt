@@ -7,9 +7,15 @@ pub mod Chain
 pub mod Dotenv
 pub mod Falls
 pub mod Globals
+pub mod Laws
 pub mod Loading
 pub mod Locating
+pub mod NewPath
+pub mod NewJustfile
 pub mod OneLocation
+pub mod OneNew
+pub mod OneSearch
+pub mod OneTried
 pub mod Planless
 pub mod Prepared
 pub mod Refusals
@@ -19,4 +25,5 @@ pub mod Served
 pub mod Serving
 pub mod Shown
 pub mod Silent
-pub mod Worlds
+pub mod Trying
+pub mod WholeList

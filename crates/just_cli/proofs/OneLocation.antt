@@ -29,12 +29,13 @@ use Rattle.just_agree.specs.Loading.{tells_failure, IsOwn, GivesOwn}
 use Rattle.just_agree.proofs.Answers.{answered_or_refused, same_answer, same_refusal, failed, own_refusal}
 use Rattle.just_locate.specs.declared.location.Location.{Location}
 use Rattle.just_locate.specs.declared.place.Place.{Place}
-use Rattle.just_locate.specs.Climb.{candidates, chosen, LooksIn, FindsIn, folders_from}
-use Rattle.just_locate.specs.Finding.{given_path, wanted_names, as_file, as_origin, own_file, located_as, FindsFrom, FindsOwn, FindsOwnOver, FindsBy}
+use Rattle.just_locate.specs.Climb.{candidates, chosen, LooksIn, FindsIn, folders_from, folders_above}
+use Rattle.just_locate.specs.Finding.{given_path, wanted_names, as_file, as_origin, own_file, located_as, FindsFrom, FindsOwn, FindsOwnOver, FindsBy, FindsAbove}
 use Rattle.just_locate.specs.First.{AllPassed, First}
 use Rattle.just_locate.specs.Global.{global_places, same_name, LooksAtPlace, FindsAmong}
 use Rattle.just_locate.specs.Listing.{AreNamesIn, ListFaultFits, ListsFolder}
 use Rattle.just_locate.specs.Root.{if_marked, LooksForMark, FindsRoot}
+use Rattle.just_fallback.specs.Fallback.{next_found, FallsBack}
 use Rattle.just_cli.specs.Request.{NoneFailed}
 
 -- ---- names
@@ -158,7 +159,7 @@ module _ (w : World) where
   mark_one folder o p (LooksForMark.unlisted d a is) own (LooksForMark.unlisted e b at) other =
       is ∙ (ap (λ z. Some z) (same_refusal d e (lists_own w folder (Err d) (Err e) a (own_look o d is own) b (own_look p e at other))) ∙ sym at)
 
-  finds_root : (ceiling : Option (List ℕ)) (start : List ℕ) → GivesOwn (FindsRoot (Some w) ceiling start)
+  pub finds_root : (ceiling : Option (List ℕ)) (start : List ℕ) → GivesOwn (FindsRoot (Some w) ceiling start)
   finds_root ceiling start = first_own (LooksForMark (Some w)) mark_one (folders_from ceiling start) (Ok start)
 
   -- ---- the user's own justfile
@@ -269,6 +270,32 @@ module _ (w : World) where
     by_one (search.StandardInput folder) g h r s p none own q never other = p ∙ sym q
     by_one (search.WithJustfile file) g h r s p none own q never other = p ∙ sym q
     by_one (search.WithJustfileAndWorkingDirectory file folder) g h r s p none own q never other = p ∙ sym q
+
+    -- ---- above a folder
+
+    above_one : (folder : List ℕ) → GivesOwn (FindsAbove (Some w) config folder)
+    above_one folder r s (file, a, is) own (other, b, at) also =
+        is ∙ (ap (λ z. located_as as_origin z) (finds_in (wanted_names config) (folders_above config.ceiling folder) file other a (own_as as_origin file r is own) b (own_as as_origin other s at also)) ∙ sym at)
+
+    own_next : (found : Result Location SearchError) → IsOwn (next_found found) → IsOwn found
+    own_next (Ok l) own = tt
+    own_next (Err error.NotFound) own = refl
+    own_next (Err _) own = own
+
+    own_found : (found : Result Location SearchError) (r : Result (Option Location) SearchError) → r ≡ next_found found → IsOwn r → IsOwn found
+    own_found found r is own = own_next found (subst (λ (z : Result (Option Location) SearchError). IsOwn z) is own)
+
+    -- one is tried next at most
+    pub falls_one : (folder : List ℕ) → GivesOwn (FallsBack (Some w) config folder)
+    falls_one folder r s (FallsBack.above a found p is) own (FallsBack.above b other q at) also =
+        is ∙ (ap (λ z. next_found z) (above_one folder found other p (own_found found r is own) q (own_found other s at also)) ∙ sym at)
+    falls_one folder r s (FallsBack.above a found p is) own (FallsBack.given never at) also = absurd (true≢false (sym a ∙ never))
+    falls_one folder r s (FallsBack.given never is) own (FallsBack.above b other q at) also = absurd (true≢false (sym b ∙ never))
+    falls_one folder r s (FallsBack.given never is) own (FallsBack.given none at) also = is ∙ sym at
+    falls_one folder r s (FallsBack.astray a untold l p up is) own q also = absurd (let no : ⊥ = cc in no)
+    falls_one folder r s p own (FallsBack.astray a untold l q up at) also = absurd (let no : ⊥ = cc in no)
+
+    -- ---- failures
 
     no_failure : (e : SearchError) → tells_failure e ≡ false → NoneFailed (entries_of e)
     no_failure (error.FilesystemIo path (fault.Missed m)) own = refl

@@ -1,6 +1,5 @@
 -- Refusals of plans are of no call, and leave no entry in the record.
-use Rattle.std.proofs.Common.{◌≡◌, ◌&&◌, Bool, true, false, List, [], ◌∷◌, Result, Err, refl, ◌∙◌, ap}
-use Rattle.std.specs.Prelude.{if◌then◌else◌, codes}
+use Rattle.std.proofs.Common.{◌≡◌, true, List, [], ◌∷◌, Err, refl, ◌∙◌, ap}
 use Rattle.just_lang.specs.declared.project.LangError.{LangError}
 use Rattle.just_lang.specs.declared.project.LangError.TheVariants as lang
 use Rattle.just_commands.specs.declared.error.CommandError.TheVariants as command
@@ -8,14 +7,14 @@ use Rattle.just_errors.specs.Refusals.{error_of_lang}
 use Rattle.just_errors.specs.declared.error.Error.{Error}
 use Rattle.just_planning.specs.Own.{OrMemory}
 use Rattle.just_planning.specs.Planned.{error_of_plan}
-use Rattle.just_planning.specs.Request.{SourcesRequest, LoadedRequest, Outline, AssemblesJustfile, ChecksFeatures, EvaluatesVariables, InvokesKeys, ClosesKeys, ChecksRecipes, MakesPlan, FindsProject, PlansKeys, PlansProject}
+use Rattle.just_planning.specs.Request.{SourcesRequest, LoadedRequest, AssemblesJustfile, ChecksFeatures, EvaluatesVariables, InvokesKeys, ClosesKeys, MakesPlan, FindsProject, PlansKeys, PlansProject}
 use Rattle.just_plans.specs.declared.error.PlanError.{PlanError}
 use Rattle.just_plans.specs.declared.error.PlanError.TheVariants as plan_error
 use Rattle.just_errors.specs.declared.error.Error.TheVariants as error
 use Rattle.just_lang.specs.declared.project.Justfile.{Justfile}
 use Rattle.just_value.specs.Modules.{AreModules}
 use Rattle.just_cli.specs.Faults.{entries_of}
-use Rattle.just_cli.specs.Options.{is_lacking, standing}
+use Rattle.just_cli.specs.Options.{is_lacking, is_missing}
 use Rattle.just_cli.proofs.Silent.{IsSilent, then_silent, or_silent}
 
 lang_silent : (l : LangError) → entries_of (error_of_lang l) ≡ []
@@ -33,8 +32,7 @@ by_lang l e is = ap (λ x. entries_of x) is ∙ lang_silent l
 keys_silent : IsSilent PlansKeys
 keys_silent =
     then_silent InvokesKeys _ (λ k e why. by_lang why.0 e why.2)
-    (then_silent ClosesKeys _ (λ k e why. by_lang why.0 e why.2)
-    (then_silent ChecksRecipes MakesPlan (λ k e why. ap (λ x. entries_of x) why.2) (λ k e why. ap (λ x. entries_of x) why.2 ∙ plan_error_silent why.0)))
+    (then_silent ClosesKeys MakesPlan (λ k e why. by_lang why.0 e why.2) (λ k e why. ap (λ x. entries_of x) why.2 ∙ plan_error_silent why.0))
 
 project_silent : IsSilent PlansProject
 project_silent = then_silent EvaluatesVariables PlansKeys (λ p e why. by_lang why.0 e why.2) keys_silent
@@ -45,12 +43,18 @@ finds_silent = then_silent AssemblesJustfile ChecksFeatures (λ s e why. by_lang
 pub sources_silent : (s : SourcesRequest) (e : Error) → OrMemory (λ x. FindsProject s (Err x)) e → entries_of e ≡ []
 sources_silent s e why = or_silent (λ x. FindsProject s (Err x)) e (finds_silent s) why
 
--- a refusal that stands leaves no more than it did
-chosen_silent : (b : Bool) (e f : Error) → ◌≡◌ {A = Result Outline Error} (Err f) (if b then Err (error.NotBuilt (codes "fallback")) else Err e) → entries_of e ≡ [] → entries_of f ≡ []
-chosen_silent true e f is silent = let same : f ≡ error.NotBuilt (codes "fallback") = cc in ap (λ x. entries_of x) same
-chosen_silent false e f is silent = let same : f ≡ e = cc in ap (λ x. entries_of x) same ∙ silent
+pub plan_silent : (p : List Justfile → LoadedRequest) (j : Justfile) (modules : List Justfile) → AreModules (j ∷ []) modules → (e : Error) → OrMemory (λ x. (ms : List Justfile) → AreModules (j ∷ []) ms → PlansProject (p ms) (Err x)) e → entries_of e ≡ []
+plan_silent p j modules are e why = or_silent (λ x. (ms : List Justfile) → AreModules (j ∷ []) ms → PlansProject (p ms) (Err x)) e (λ x plans. project_silent (p modules) x (plans modules are)) why
 
-pub plan_silent : (p : List Justfile → LoadedRequest) (j : Justfile) (modules : List Justfile) → AreModules (j ∷ []) modules → (e : Error) → OrMemory (λ x. (ms : List Justfile) → AreModules (j ∷ []) ms → PlansProject (p ms) (Err x)) e
-    → (above : Bool) (f : Error) → OrMemory (λ x. Err x ≡ standing above (Err e)) f → entries_of f ≡ []
-plan_silent p j modules are e why above f stands =
-    or_silent (λ x. Err x ≡ standing above (Err e)) f (λ x is. chosen_silent (above && is_lacking e) e x is (or_silent (λ y. (ms : List Justfile) → AreModules (j ∷ []) ms → PlansProject (p ms) (Err y)) e (λ y plans. project_silent (p modules) y (plans modules are)) why)) stands
+-- ---- names that are missing
+
+pub lacking_silent : (e : Error) → is_lacking e ≡ true → entries_of e ≡ []
+lacking_silent (error.UnknownRecipe recipe) is = refl
+lacking_silent (error.UnknownSubmodule path) is = refl
+lacking_silent _ is = absurd (cc)
+
+pub missing_silent : (e : Error) → is_missing e ≡ true → entries_of e ≡ []
+missing_silent (error.UnknownRecipe recipe) is = refl
+missing_silent (error.UnknownSubmodule path) is = refl
+missing_silent (error.ModuleAbsent m) is = refl
+missing_silent _ is = absurd (cc)

@@ -1,5 +1,6 @@
 -- What a preparation answers and leaves, from the answers of its calls.
 use Rattle.std.proofs.Common.{◌≡◌, ◌++◌, inl, inr, List, [], ◌∷◌, Result, Ok, Err, refl, sym, ◌∙◌, ap, append_assoc, append-nil}
+use Rattle.std.specs.Prelude.{MatchResult}
 use Rattle.just_outside.specs.declared.entry.Entry.{Entry}
 use Rattle.just_errors.specs.declared.error.Error.{Error}
 use Rattle.just_errors.specs.declared.error.Error.TheVariants as error
@@ -45,7 +46,7 @@ pub left_misses : (old new : List Entry) (e : Error) → entries_of e ≡ [] →
 left_misses old new e silent gains = (gains.0, gains.1, (gains.0, gains.2, sym (append-nil gains.0) ∙ ap (λ xs. gains.0 ++ xs) (sym silent)))
 
 -- misses behind misses
-all_misses : (xs ys : List Entry) → AreMisses xs → AreMisses ys → AreMisses (xs ++ ys)
+pub all_misses : (xs ys : List Entry) → AreMisses xs → AreMisses ys → AreMisses (xs ++ ys)
 all_misses [] ys h g = g
 all_misses (x ∷ xs) ys h g = (h.0, all_misses xs ys h.1 g)
 
@@ -60,6 +61,12 @@ ends_then old middle new e first second = (
   second.1 ∙ (ap (λ xs. xs ++ second.0) first.1 ∙ append_assoc old first.0 second.0),
   (first.0 ++ second.2.0, all_misses first.0 second.2.0 first.2 second.2.1, ap (λ xs. first.0 ++ xs) second.2.2 ∙ sym (append_assoc first.0 second.2.0 (entries_of e))),
 )
+
+-- what follows misses, well or by a refusal
+pub follows_misses : {A : Type 0} (r : Result A Error) (old middle new : List Entry) → (es : List Entry) × (middle ≡ old ++ es) × AreMisses es
+    → (es : List Entry) × (new ≡ middle ++ es) × MatchResult r (λ _. AreMisses es) (λ e. EndsWith [] e es) → (es : List Entry) × (new ≡ old ++ es) × MatchResult r (λ _. AreMisses es) (λ e. EndsWith [] e es)
+follows_misses (Ok x) old middle new first second = misses_then old middle new first second
+follows_misses (Err e) old middle new first second = ends_then old middle new e first second
 
 -- ---- a preparation as one of more
 

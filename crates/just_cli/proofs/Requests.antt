@@ -7,8 +7,6 @@ use Rattle.just_outside.specs.declared.entry.Call.{Call}
 use Rattle.just_outside.specs.declared.entry.Call.TheVariants as call
 use Rattle.just_outside.specs.declared.entry.HostFault.{HostFault}
 use Rattle.just_outside.specs.declared.entry.HostFault.TheVariants as fault
-use Rattle.just_env.specs.declared.search_error.SearchError.{SearchError}
-use Rattle.just_env.specs.declared.search_error.SearchError.TheVariants as search
 use Rattle.just_words.specs.declared.words.Read.TheVariants as read
 use Rattle.just_words.proofs.Laws.{one_meaning}
 use Rattle.just_errors.specs.declared.error.Error.{Error}
@@ -19,18 +17,23 @@ use Rattle.just_outside.specs.declared.entry.Entry.{Entry}
 use Rattle.just_config.specs.declared.config.Config.{Config}
 use Rattle.just_env.specs.Answers.{entries_of}
 use Rattle.just_locate.specs.declared.location.Location.{Location}
-use Rattle.just_cli.specs.Options.{file_of, looks_above, standing}
+use Rattle.just_cli.specs.NewPath.{is_init, FindsNew}
+use Rattle.just_cli.specs.Options.{file_of, cache_beside, wanted_of, allowed}
 use Rattle.just_cli.specs.Words.{WordsRequest, ArgumentsRequest, FolderRequest, ConfigRequest, LocatedRequest, JustfileRequest, FindsEnviron, ReadsWords, FindsFolder, GivesConfig, IsBuilt, Configures, FindsLocation, FindsJustfile, TakesFile}
 use Rattle.just_errors.specs.Refusals.{error_of_search}
-use Rattle.just_agree.specs.Loading.{tells_failure}
+use Rattle.just_value.specs.Modules.{settings_of}
 use Rattle.just_agree.proofs.Laws.{loads_agree}
 use Rattle.just_planning.specs.Request.{SourcesRequest, ProjectRequest, Outline, FindsProject, PlansSources}
 use Rattle.just_planning.proofs.Laws.{plans_agree}
 use Rattle.just_planning.proofs.Requests.{finds_project}
 use Rattle.just_planning.specs.Steps.{Then, stops, goes_on}
-use Rattle.just_cli.specs.Request.{LoadsSources, EnvironGiven, FolderGiven, FindsProjectOf, FindsProjectAt, PlansLoaded, Tries, Searches, Serves, Asks, NoneFailed}
+use Rattle.just_cli.specs.Request.{LoadsSources, EnvironGiven, FolderGiven, FindsProjectOf, FindsProjectAt, PlansLoaded, AnswersAt, at_place, Tries, Decides, Serves, Asks, NoneFailed}
+use Rattle.just_cli.specs.Whole.{SetsFallback}
 use Rattle.just_cli.proofs.Arguments.{arguments_one}
-use Rattle.just_cli.proofs.OneLocation.{by_one, own_unfailed}
+use Rattle.just_cli.proofs.OneLocation.{by_one, falls_one, own_unfailed}
+use Rattle.just_cli.proofs.OneTried.{own_answer, from_one}
+use Rattle.just_cli.proofs.OneNew.{new_own}
+use Rattle.just_cli.proofs.OneSearch.{own_search, search_refused}
 use Rattle.just_planning.proofs.Steps.{GivesOwn, same_refusal, refused_or_found, same_found, then_own}
 
 -- an option that holds something holds one thing, and not nothing
@@ -112,19 +115,6 @@ configures = then_own GivesConfig IsBuilt gives_config is_built
 
 -- ---- the place of the justfile
 
--- a refusal that tells of no failed call is one of a search that tells of none
-own_search : (f : SearchError) → is_fault (error_of_search f) ≡ false → tells_failure f ≡ false
-own_search (search.FilesystemIo path (fault.Failed c)) own = absurd (true≢false own)
-own_search (search.FilesystemIo path (fault.Missed m)) own = refl
-own_search (search.FilesystemIo path fault.NoMemory) own = refl
-own_search (search.Load path (fault.Failed c)) own = absurd (true≢false own)
-own_search (search.Load path (fault.Missed m)) own = refl
-own_search (search.Load path fault.NoMemory) own = refl
-own_search _ own = refl
-
-search_refused : (f : SearchError) (e : Error) → e ≡ error_of_search f → is_fault e ≡ false → tells_failure f ≡ false
-search_refused f e is own = own_search f (ap (λ x. is_fault x) (sym is) ∙ own)
-
 -- the step finds the justfile over listings none of which failed
 abbrev pub FindsUnfailed : World → ConfigRequest → Result LocatedRequest Error → Type 0
 FindsUnfailed w k r = (listings : List Entry) × NoneFailed listings × FindsJustfile (FindsLocation (Some w) listings) k r
@@ -171,7 +161,8 @@ word_one q v u p r = let both : ◌≡◌ {A = Result (List ℕ) (List ℕ)} (Er
 takes_file : GivesOwn TakesFile
 takes_file k (Ok a) (Ok b) p m q n =
     ap (λ x. Ok x)
-    (ap (λ x. let z : JustfileRequest = record { wanted = x; environ = a.environ; justfile = a.justfile } in z) (p.1 ∙ sym q.1)
+    (ap (λ x. let z : JustfileRequest = record { wanted = x; environ = a.environ; justfile = a.justfile } in z)
+    (p.1 ∙ ap (λ j. wanted_of k.config k.location.working_directory (cache_beside j)) (file_one k a.justfile b.justfile p.0 q.0) ∙ sym q.1)
     ∙ ap (λ x. let z : JustfileRequest = record { wanted = b.wanted; environ = x; justfile = a.justfile } in z) (p.2 ∙ sym q.2)
     ∙ ap (λ x. let z : JustfileRequest = record { wanted = b.wanted; environ = b.environ; justfile = x } in z) (file_one k a.justfile b.justfile p.0 q.0))
 takes_file k (Ok a) (Err f) p m q n = absurd (file_or_none k a.justfile q.0 p.0 q.1)
@@ -201,9 +192,14 @@ module _ (w : World) where
 
 -- ---- the chain
 
--- the steps behind the words, over listings none of which failed
+-- the steps behind the configuration, over listings none of which failed
+data DecidesUnfailed (w : World) (c : ConfigRequest) (r : Result Outline Error) : Type 0 where
+  runs : is_init c.config.subcommand ≡ false → Then (FindsUnfailed w) (Tries (Some w)) c r → DecidesUnfailed w c r
+  not_new : (e : Error) → FindsNew (Some w) c (Err e) → r ≡ Err e → DecidesUnfailed w c r
+
+-- and behind the words
 abbrev ServesUnfailed : World → ArgumentsRequest → Result Outline Error → Type 0
-ServesUnfailed w = Then (FindsFolder (FolderGiven (Some w))) (Then Configures (Then (FindsUnfailed w) (Tries (Some w))))
+ServesUnfailed w = Then (FindsFolder (FolderGiven (Some w))) (Then Configures (DecidesUnfailed w))
 
 abbrev AsksUnfailed : World → List (List ℕ) → Result Outline Error → Type 0
 AsksUnfailed w = Then (FindsEnviron (EnvironGiven (Some w))) (Then ReadsWords (ServesUnfailed w))
@@ -213,17 +209,6 @@ then_more : {A B C : Type 0} (one other : A → Result B Error → Type 0) (two 
     → (k : A) (r : Result C Error) → Then one two k r → Then other more k r
 then_more one other two more f g k r (stops e p is) = stops e (f k (Err e) p) is
 then_more one other two more f g k r (goes_on x p rest) = goes_on x (f k (Ok x) p) (g x r rest)
-
--- an answer that stands is the world's own where the answer was
-stands_own : (above : Bool) (x : Result Outline Error) → IsOwn (standing above x) → IsOwn x
-stands_own above (Ok o) own = tt
-stands_own true (Err (error.UnknownRecipe recipe)) own = (refl, refl)
-stands_own true (Err (error.UnknownSubmodule path)) own = (refl, refl)
-stands_own true (Err _) own = own
-stands_own false (Err e) own = own
-
-own_standing : (r x : Result Outline Error) (above : Bool) → r ≡ standing above x → IsOwn r → IsOwn x
-own_standing r x above is own = stands_own above x (subst (λ (z : Result Outline Error). IsOwn z) is own)
 
 own_refused : (r : Result Outline Error) (e : Error) → r ≡ Err e → IsOwn r → IsOwn {A = ProjectRequest} (Err e)
 own_refused r e is own = subst (λ (z : Result Outline Error). IsOwn z) is own
@@ -247,28 +232,58 @@ module _ (w : World) where
   plan_own : GivesOwn (PlansAt w)
   plan_own = then_own TakesFile _ takes_file (then_own (LoadsSources (Some w)) (PlansSources (Some w)) (loads_sources w) (plans_agree w))
 
+  -- a justfile gives one answer, and sets fallback or doesn't
+  answers_one : (q : LocatedRequest) (r s : Result Outline Error) (f g : Bool) → AnswersAt (Some w) q r f → IsOwn r → AnswersAt (Some w) q s g → IsOwn s → (r ≡ s) × (f ≡ g)
+  answers_one q r s f g (AnswersAt.no_project e a is none) own (AnswersAt.no_project d b at never) other =
+      (is ∙ same_refusal e d (project_own q (Err e) (Err d) a (own_refused r e is own) b (own_refused s d at other)) ∙ sym at, none ∙ sym never)
+  answers_one q r s f g (AnswersAt.no_project e a is none) own (AnswersAt.of_project p b plans at) other =
+      absurd (refused_or_found e p (project_own q (Err e) (Ok p) a (own_refused r e is own) b tt))
+  answers_one q r s f g (AnswersAt.of_project p a plans is) own (AnswersAt.no_project d b at never) other =
+      absurd (refused_or_found d p (project_own q (Err d) (Ok p) b (own_refused s d at other) a tt))
+  answers_one q r s f g (AnswersAt.of_project p a plans is) own (AnswersAt.of_project k b others at) other =
+      let project : p ≡ k = same_found p k (project_own q (Ok p) (Ok k) a tt b tt) in
+      (plan_own q r s (planned_at w q p r a plans) own (planned_at w q k s b others) other, is ∙ ap (λ (z : ProjectRequest). (settings_of z.justfile).fallback) project ∙ sym at)
+
+  pub setting_one : (c : ConfigRequest) (location : Location) (r : Result Outline Error) (f g : Bool) → AnswersAt (Some w) (at_place c location) r f → IsOwn r → SetsFallback (Some w) c location g → f ≡ g
+  setting_one c location r f g (AnswersAt.no_project e a is none) own (SetsFallback.of_project p b at) =
+      absurd (refused_or_found e p (project_own (at_place c location) (Err e) (Ok p) a (own_refused r e is own) b tt))
+  setting_one c location r f g (AnswersAt.no_project e a is none) own (SetsFallback.no_project d b other never) = none ∙ sym never
+  setting_one c location r f g (AnswersAt.of_project p a plans is) own (SetsFallback.of_project k b at) =
+      is ∙ ap (λ (z : ProjectRequest). (settings_of z.justfile).fallback) (same_found p k (project_own (at_place c location) (Ok p) (Ok k) a tt b tt)) ∙ sym at
+  setting_one c location r f g (AnswersAt.of_project p a plans is) own (SetsFallback.no_project d b other never) =
+      absurd (refused_or_found d p (project_own (at_place c location) (Err d) (Ok p) b other a tt))
+
   tries_own : GivesOwn (Tries (Some w))
-  tries_own q r s (Tries.no_project e f is) own (Tries.no_project d g at) other =
-      is ∙ same_refusal e d (project_own q (Err e) (Err d) f (own_refused r e is own) g (own_refused s d at other)) ∙ sym at
-  tries_own q r s (Tries.no_project e f is) own (Tries.of_project p x g plans at) other =
-      absurd (refused_or_found e p (project_own q (Err e) (Ok p) f (own_refused r e is own) g tt))
-  tries_own q r s (Tries.of_project p x f plans is) own (Tries.no_project d g at) other =
-      absurd (refused_or_found d p (project_own q (Err d) (Ok p) g (own_refused s d at other) f tt))
-  tries_own q r s (Tries.of_project p x f plans is) own (Tries.of_project k y g others at) other =
-      let project : p ≡ k = same_found p k (project_own q (Ok p) (Ok k) f tt g tt) in
-      let answer : x ≡ y = plan_own q x y (planned_at w q p x f plans) (own_standing r x (looks_above q.config p.justfile) is own) (planned_at w q k y g others) (own_standing s y (looks_above q.config k.justfile) at other) in
-      is ∙ (ap (λ (z : ProjectRequest). standing (looks_above q.config z.justfile) x) project ∙ ap (λ z. standing (looks_above q.config k.justfile) z) answer ∙ sym at)
+  tries_own q r s (x, p, is) own (y, o, at) other =
+      is ∙ (ap (λ z. allowed q.config z) (from_one w (record { config = q.config; environ = q.environ }) own_search answers_one (falls_one w q.config) q.location x y p (own_answer q.config x r is own) o (own_answer q.config y s at other)) ∙ sym at)
+
+  searches_own : GivesOwn (Then (FindsUnfailed w) (Tries (Some w)))
+  searches_own = then_own (FindsUnfailed w) (Tries (Some w)) (finds_justfile w) tries_own
+
+  own_new : (r : Result Outline Error) (e : Error) → r ≡ Err e → IsOwn r → IsOwn {A = List ℕ} (Err e)
+  own_new r e is own = subst (λ (z : Result Outline Error). IsOwn z) is own
+
+  decides_own : GivesOwn (DecidesUnfailed w)
+  decides_own c r s (DecidesUnfailed.runs is p) own (DecidesUnfailed.runs at q) other = searches_own c r s p own q other
+  decides_own c r s (DecidesUnfailed.runs is p) own (DecidesUnfailed.not_new e q at) other = absurd (true≢false (sym q.0 ∙ is))
+  decides_own c r s (DecidesUnfailed.not_new e p is) own (DecidesUnfailed.runs at q) other = absurd (true≢false (sym p.0 ∙ at))
+  decides_own c r s (DecidesUnfailed.not_new d p is) own (DecidesUnfailed.not_new e q at) other =
+      is ∙ same_refusal d e (new_own w c.config (Err d) (Err e) p.1 (own_new r d is own) q.1 (own_new s e at other)) ∙ sym at
 
   serves_own : GivesOwn (ServesUnfailed w)
-  serves_own = then_own (FindsFolder (FolderGiven (Some w))) _ (finds_folder w) (then_own Configures _ configures (then_own (FindsUnfailed w) (Tries (Some w)) (finds_justfile w) tries_own))
+  serves_own = then_own (FindsFolder (FolderGiven (Some w))) _ (finds_folder w) (then_own Configures _ configures decides_own)
+
+  decides_more : (listings : List Entry) → NoneFailed listings → (c : ConfigRequest) (r : Result Outline Error) → Decides (Some w) listings c r → DecidesUnfailed w c r
+  decides_more listings none c r (Decides.runs is p) =
+      DecidesUnfailed.runs is (then_more (FindsJustfile (FindsLocation (Some w) listings)) (FindsUnfailed w) (Tries (Some w)) (Tries (Some w)) (λ k s p. (listings, none, p)) (λ k s p. p) c r p)
+  decides_more listings none c r (Decides.not_new e p is) = DecidesUnfailed.not_new e p is
 
   asks_unfailed : (words : List (List ℕ)) (listings : List Entry) (r : Result Outline Error) → NoneFailed listings → Asks words (Some w) listings r → AsksUnfailed w words r
   asks_unfailed words listings r none asks =
       then_more (FindsEnviron (EnvironGiven (Some w))) (FindsEnviron (EnvironGiven (Some w))) (Then ReadsWords (Serves (Some w) listings)) (Then ReadsWords (ServesUnfailed w)) (λ k s p. p)
       (then_more ReadsWords ReadsWords (Serves (Some w) listings) (ServesUnfailed w) (λ k s p. p)
-      (then_more (FindsFolder (FolderGiven (Some w))) (FindsFolder (FolderGiven (Some w))) (Then Configures (Searches (Some w) listings)) (Then Configures (Then (FindsUnfailed w) (Tries (Some w)))) (λ k s p. p)
-      (then_more Configures Configures (Searches (Some w) listings) (Then (FindsUnfailed w) (Tries (Some w))) (λ k s p. p)
-      (then_more (FindsJustfile (FindsLocation (Some w) listings)) (FindsUnfailed w) (Tries (Some w)) (Tries (Some w)) (λ k s p. (listings, none, p)) (λ k s p. p))))) words r asks
+      (then_more (FindsFolder (FolderGiven (Some w))) (FindsFolder (FolderGiven (Some w))) (Then Configures (Decides (Some w) listings)) (Then Configures (DecidesUnfailed w)) (λ k s p. p)
+      (then_more Configures Configures (Decides (Some w) listings) (DecidesUnfailed w) (λ k s p. p) (decides_more listings none)))) words r asks
 
 -- in a world words ask for one thing: a run of one plan, or a refusal with one error, where no listing failed
 pub one_answer : (words : List (List ℕ)) (w : World) (ls ms : List Entry) (r s : Result Outline Error) → NoneFailed ls → NoneFailed ms → Asks words (Some w) ls r → IsOwn r → Asks words (Some w) ms s → IsOwn s → r ≡ s

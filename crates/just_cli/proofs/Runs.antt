@@ -22,14 +22,14 @@ use Rattle.just_planning.specs.Own.{OrMemory}
 use Rattle.just_outcome.specs.Outcome.{IsErrorFor}
 use Rattle.just_cli.specs.Quiet.{AskQuiet}
 use Rattle.just_cli.specs.Preparing.{LeavesMisses, EndsWith, Prepares}
-use Rattle.just_cli.specs.Record.{IsBook, IsTold, EndsWell, EndsIll, EndsBefore}
+use Rattle.just_cli.specs.Record.{GoByCacheRule, IsBook, IsTold, EndsWell, EndsIll, EndsBefore}
 use Rattle.just_planning.specs.Request.{Outline, outline_of}
 use Rattle.just_cli.specs.Request.{Asks, AsksGlobal, IsAsked, RefusedFor}
 use Rattle.just_cli.specs.Run.{IsRun}
 use Rattle.just_errors.specs.Codes.{exit_code}
 use Rattle.just_cli.proofs.Answered.{answered}
 use Rattle.just_outcome.proofs.Laws.{error_caused, only_memory_left}
-use Rattle.just_cli.proofs.Falls.{faults_rise, misses_rise, memory_wanted, world_left}
+use Rattle.just_cli.proofs.Falls.{faults_rise, misses_rise, memory_wanted, touched_between, world_left}
 use Rattle.just_cli.proofs.Served.{served}
 
 -- what was told behind some stretch
@@ -105,6 +105,8 @@ module _ (listings : List Entry) (plan : Plan) (jobs : Option ℕ) (old pre ente
     book = the_book k;
     well = here (λ s. NoneDecides s h) (subst (λ x. IsVerdict (run_over plan jobs entered) h x) well d.verdict).0;
     complete = here (λ s. IsComplete s h) (d.complete well);
+    cached = here (λ s. GoByCacheRule s h) d.cached;
+    skipped = d.skipped well;
     silent = refl;
   })
 
@@ -118,6 +120,7 @@ module _ (listings : List Entry) (plan : Plan) (jobs : Option ℕ) (old pre ente
         verdict = v;
         judged = here (λ s. IsVerdict s h v) d.verdict;
         decided = decided;
+        cached = here (λ s. GoByCacheRule s h) d.cached;
         nothing_left = here (λ s. (has_caught h ≡ true) ⊎ (HasWork s h → ⊥)) d.nothing_left;
         caused = cause;
         favoured = only_memory_left plan.nodes h e k.gained cause;
@@ -162,7 +165,7 @@ run_well words told after old entered now w seen jobs messages quiet plan driven
       favoured = tt;
       faults = tt;
       misses = tt;
-      untouched = λ es grown calm. after_is ∙ (world_left (start_with plan jobs entered w) h old p.1 now now seen [] es p.2 d.kept (sym (append-nil now)) grown calm ∙ w_is);
+      untouched = λ es grown calm. touched_between plan.nodes w told seen after w_is after_is (world_left (start_with plan jobs entered w) h old p.1 now now seen [] es p.2 d.kept (sym (append-nil now)) grown calm);
     })
 
 pub run_ill : (words : List (List ℕ)) (told after : Option World) (old entered now new : List Entry) (w seen : Option World) (jobs : Option ℕ) (messages : List Bool) (quiet : Bool) (plan driven : Plan) (h : List Event) (heard : List Bool) (shown : List Event) (v : Verdict) (e : Error) (r : Result Report Failure)
@@ -197,5 +200,5 @@ run_ill words told after old entered now new w seen jobs messages quiet plan dri
       favoured = memory_wanted listings jobs messages quiet (Err f) old new left;
       faults = faults_rise listings jobs messages quiet (Err f) old new left;
       misses = misses_rise listings jobs messages quiet (Err f) old new left;
-      untouched = λ es grown calm. after_is ∙ (world_left (start_with plan jobs entered w) h old p.1 now new seen tells.0 es p.2 d.kept tells.1 grown calm ∙ w_is);
+      untouched = λ es grown calm. touched_between plan.nodes w told seen after w_is after_is (world_left (start_with plan jobs entered w) h old p.1 now new seen tells.0 es p.2 d.kept tells.1 grown calm);
     })

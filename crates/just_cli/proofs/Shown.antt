@@ -17,7 +17,7 @@ use Rattle.just_errors.specs.Codes.{exit_code}
 use Rattle.just_cli.proofs.Runs.{ends_before}
 
 -- the error of a text that wasn't printed has the entry of the refused print
-print_entries : (io : HostFault) → entries_of (print_error io) ≡ refused [] io
+pub print_entries : (io : HostFault) → entries_of (print_error io) ≡ refused [] io
 print_entries (fault.Missed m) = refl
 print_entries (fault.Failed c) = refl
 print_entries fault.NoMemory = refl

@@ -35,6 +35,10 @@ folder_error f = error_by (λ g. error.CurrentDir g) f
 abbrev pub print_error : HostFault → Error
 print_error f = error_by (λ g. error.StdoutIo g) f
 
+-- of a justfile that isn't written
+abbrev pub write_error : List ℕ → HostFault → Error
+write_error path f = error_by (λ g. error.WriteJustfile path g) f
+
 abbrev pub refused_in : Option (List ℕ × HostFault) → List Entry
 refused_in (Some x) = refused x.0 x.1
 refused_in None = []

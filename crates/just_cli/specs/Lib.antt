@@ -2,6 +2,7 @@
 pub mod Answered
 pub mod Exit
 pub mod Faults
+pub mod NewPath
 pub mod Options
 pub mod Preparing
 pub mod Questions
@@ -9,4 +10,6 @@ pub mod Quiet
 pub mod Record
 pub mod Request
 pub mod Run
+pub mod Whole
 pub mod Words
+pub mod Written

@@ -1,19 +1,18 @@
--- What of a configuration isn't built yet, and what is asked of a justfile.
-use Rattle.std.specs.Prelude.{ℕ, Bool, true, false, not, ◌||◌, ◌&&◌, if◌then◌else◌, nat_le, List, [], ◌∷◌, Option, Some, None, Result, Ok, Err, codes}
+-- What of a configuration isn't built yet, what is asked of a justfile, and which names may be missing.
+use Rattle.std.specs.Prelude.{ℕ, Bool, true, false, not, ◌||◌, ◌&&◌, if◌then◌else◌, nat_le, List, [], ◌∷◌, Option, Some, None, option_map, Result, Ok, Err, codes}
+use Rattle.std.specs.Int.NonZero.{non_zero_u64_get}
 use Rattle.just_path.specs.Environ.{or_else}
 use Rattle.just_words.specs.declared.subcommand.Subcommand.{Subcommand}
 use Rattle.just_words.specs.declared.subcommand.Subcommand.TheVariants as command
 use Rattle.just_config.specs.declared.config.Config.{Config}
-use Rattle.just_config.specs.declared.search_config.SearchConfig.{SearchConfig}
-use Rattle.just_config.specs.declared.search_config.SearchConfig.TheVariants as search
 use Rattle.just_config.specs.Verbosities.{level}
 use Rattle.just_errors.specs.declared.error.Error.{Error}
 use Rattle.just_errors.specs.declared.error.Error.TheVariants as error
-use Rattle.just_lang.specs.declared.project.Justfile.{Justfile}
-use Rattle.just_value.specs.Modules.{settings_of}
 use Rattle.just_planning.specs.Request.{Outline}
 use Rattle.just_commands.specs.declared.run_flags.RunFlags.{RunFlags}
 use Rattle.just_env_files.specs.declared.ask.DotenvAsk.{DotenvAsk}
+use Rattle.just_cache.specs.Places.{cache_folder}
+use Rattle.just_locate.specs.Finding.{folder_of}
 use Rattle.just_locate.specs.declared.location.Origin.{Origin}
 use Rattle.just_locate.specs.declared.location.Origin.TheVariants as origin
 use Rattle.just_planning.specs.Forms.{word_if}
@@ -28,11 +27,10 @@ is_any (t ∷ ts) = true
 -- the word of the first flag that isn't built
 abbrev pub flag_not_built : Config → Option (List ℕ)
 flag_not_built c =
-    or_else (word_if c.allow_missing (codes "--allow-missing"))
-    (or_else (word_if c.default_list (codes "--default-list"))
-    (word_if c.dry_run (codes "--dry-run")))
+    or_else (word_if c.default_list (codes "--default-list"))
+    (word_if c.dry_run (codes "--dry-run"))
 
--- the word of a command; none is built
+-- the word of a command; `--init` alone is built
 abbrev pub command_word : Subcommand → List ℕ
 command_word (command.Choose ws) = codes "--choose"
 command_word (command.Clean ws) = codes "--clean"
@@ -52,6 +50,7 @@ command_word (command.Variables ws) = codes "--variables"
 
 abbrev pub command_not_built : Option Subcommand → Option (List ℕ)
 command_not_built None = None
+command_not_built (Some (command.Init ws)) = None
 command_not_built (Some s) = Some (command_word s)
 
 -- the word of what isn't built, of the first in the order of the options
@@ -90,9 +89,13 @@ flags_of c folder =
 abbrev pub dotenv_of : Config → DotenvAsk
 dotenv_of c = record { commands = c.dotenv_command; filenames = c.dotenv_filename; paths = c.dotenv_path; load = not c.no_dotenv; dry_run = c.dry_run }
 
--- what is asked of a justfile that is run in that folder
-abbrev pub wanted_of : Config → List ℕ → Wanted
-wanted_of c folder =
+-- the folder of the cache of a justfile's recipes: beside the file
+abbrev pub cache_beside : List ℕ → List ℕ
+cache_beside file = cache_folder (folder_of file)
+
+-- what is asked of a justfile that is run in the first of these folders, and whose cache is the other
+abbrev pub wanted_of : Config → List ℕ → List ℕ → Wanted
+wanted_of c folder cache =
     record {
       words = c.arguments;
       overrides = c.overrides;
@@ -101,20 +104,11 @@ wanted_of c folder =
       dotenv = dotenv_of c;
       unstable = c.unstable;
       jobs = c.jobs;
+      cache_folder = cache;
       flags = flags_of c folder;
     }
 
--- ---- justfiles above
-
--- whether a justfile is searched for folder by folder
-abbrev pub is_searching : SearchConfig → Bool
-is_searching search.FromInvocationDirectory = true
-is_searching (search.FromSearchDirectory folder) = true
-is_searching _ = false
-
--- whether a justfile above is tried where this one lacks what is asked for
-abbrev pub looks_above : Config → Justfile → Bool
-looks_above c j = is_searching c.search_config && (settings_of j).fallback
+-- ---- names that are missing
 
 -- whether a justfile lacks a recipe or a module that is asked for
 abbrev pub is_lacking : Error → Bool
@@ -122,7 +116,22 @@ is_lacking (error.UnknownRecipe recipe) = true
 is_lacking (error.UnknownSubmodule path) = true
 is_lacking _ = false
 
--- an answer that stands; where a justfile above would be tried, which isn't built, the word of the setting is told
-abbrev pub standing : Bool → Result Outline Error → Result Outline Error
-standing above (Ok o) = Ok o
-standing above (Err e) = if above && is_lacking e then Err (error.NotBuilt (codes "fallback")) else Err e
+abbrev pub lacks : Result Outline Error → Bool
+lacks (Ok o) = false
+lacks (Err e) = is_lacking e
+
+-- whether a recipe or a module that is asked for is missing: the justfile lacks it, or the file of an optional module isn't there
+abbrev pub is_missing : Error → Bool
+is_missing (error.UnknownRecipe recipe) = true
+is_missing (error.UnknownSubmodule path) = true
+is_missing (error.ModuleAbsent m) = true
+is_missing _ = false
+
+-- the plan of no node
+abbrev pub empty_outline : Config → Outline
+empty_outline c = record { nodes = []; invocations = []; jobs = option_map non_zero_u64_get c.jobs; messages = [] }
+
+-- the answer to the words, where they may allow that a name is missing: then nothing is run
+abbrev pub allowed : Config → Result Outline Error → Result Outline Error
+allowed c (Ok o) = Ok o
+allowed c (Err e) = if c.allow_missing && is_missing e then Ok (empty_outline c) else Err e

@@ -1,5 +1,5 @@
--- Words that ask for the help or the version, and what they get.
-use Rattle.std.specs.Prelude.{ℕ, ◌≡◌, ◌++◌, Bool, false, List, [], ◌∷◌, codes, Option, Some, None, option_map, Result, Ok, IfOk, IfErr}
+-- Words that ask for the help, the version or a new justfile, and what those of a text get.
+use Rattle.std.specs.Prelude.{ℕ, ◌≡◌, ◌++◌, Bool, true, false, List, [], ◌∷◌, codes, Option, Some, None, option_map, Result, Ok, IfOk, IfErr}
 use Rattle.std.specs.Int.NonZero.{non_zero_u64_get}
 use Rattle.just_path.specs.declared.environ.Environ.{Environ}
 use Rattle.just_outside.specs.declared.entry.Entry.{Entry}
@@ -13,6 +13,7 @@ use Rattle.just_words.specs.declared.words.Read.TheVariants as read
 use Rattle.just_words.specs.Words.{Means}
 use Rattle.just_config.specs.declared.help.TheConstants.{HELP}
 use Rattle.just_config.specs.Versions.{version_text}
+use Rattle.just_env.specs.Answers.{GainsMisses}
 use Rattle.just_cli.specs.declared.ended.Failure.{Failure}
 use Rattle.just_cli.specs.declared.ended.Report.{Report}
 use Rattle.just_cli.specs.Faults.{print_error}
@@ -21,7 +22,8 @@ use Rattle.just_cli.specs.Record.{EndsBefore}
 use Rattle.just_cli.specs.declared.task.Task.{Task}
 use Rattle.just_cli.specs.declared.task.Task.TheVariants as task
 use Rattle.just_planning.specs.Request.{outline_of}
-use Rattle.just_cli.specs.Request.{EnvironGiven, Asks, AsksGlobal}
+use Rattle.just_cli.specs.Request.{EnvironGiven, Serves, ServesNew, Asks, AsksNew, AsksGlobal}
+use Rattle.just_cli.specs.Words.{ArgumentsRequest}
 use Rattle.just_errors.specs.Codes.{exit_code}
 
 -- the line of the version: `just 1.58.0`
@@ -50,11 +52,19 @@ pub record AsksQuiet (words : List (List ℕ)) (told : Option World) (quiet : Bo
   pub means : Means words environ.pairs (Ok (read.Go arguments))
   pub quiet_is : quiet ≡ arguments.quiet
 
--- Over such a host the words ask for that task. Of a run the record gained what its preparation leaves, and nothing of a text.
+-- Over such a host the words ask for that task. Of a run the record gained what its preparation leaves, of a new justfile misses, and nothing of a text.
 abbrev pub IsTask : List (List ℕ) → Option World → List Entry → List Entry → Task → Type 0
 IsTask words told old new (task.Run p jobs messages quiet) =
     Prepares (AsksGlobal words told) (Asks words told) old new (Ok (outline_of p (option_map non_zero_u64_get jobs) messages)) × AsksQuiet words told quiet
+IsTask words told old new (task.Init path quiet) = GainsMisses old new × AsksNew words told path × AsksQuiet words told quiet
 IsTask words told old new (task.Show text) = (new ≡ old) × IsQuestion words told text
+
+-- the arguments ask for that task; they ask for no text
+abbrev pub IsServed : Option World → ArgumentsRequest → List Entry → List Entry → Task → Type 0
+IsServed told a old new (task.Run p jobs messages quiet) =
+    Prepares (a.arguments.global_justfile ≡ true) (λ listings. Serves told listings a) old new (Ok (outline_of p (option_map non_zero_u64_get jobs) messages)) × (quiet ≡ a.arguments.quiet)
+IsServed told a old new (task.Init path quiet) = GainsMisses old new × ServesNew told a (Ok path) × (quiet ≡ a.arguments.quiet)
+IsServed told a old new (task.Show text) = ⊥
 
 -- nothing is run: no plan, and nothing in the history
 abbrev pub IsNothing : Report → Type 0

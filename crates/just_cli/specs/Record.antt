@@ -1,5 +1,5 @@
 -- What a run leaves in its host's record.
-use Rattle.std.specs.Prelude.{ℕ, ◌≡◌, ◌++◌, ◌⊎◌, Bool, true, false, List, [], ◌∷◌, Option, Some, None}
+use Rattle.std.specs.Prelude.{ℕ, ◌≡◌, ◌<◌, ◌++◌, ◌⊎◌, Bool, true, false, List, [], ◌∷◌, length, Option, Some, None}
 use Rattle.std.specs.List.{list_any}
 use Rattle.just_outside.specs.declared.entry.Call.TheVariants as call
 use Rattle.just_outside.specs.declared.entry.Entry.{Entry}
@@ -9,6 +9,8 @@ use Rattle.just_outside.specs.Record.{is_failed, is_started}
 use Rattle.just_sched.specs.declared.event.Event.{Event}
 use Rattle.just_sched.specs.declared.event.Verdict.{Verdict}
 use Rattle.just_sched.specs.declared.plan.Plan.{Plan}
+use Rattle.just_sched.specs.CacheRule.{GoesByCacheRule, IsSkippedByLook}
+use Rattle.just_sched.specs.Cached.{is_cached}
 use Rattle.just_sched.specs.Favourable.{IsFavourable}
 use Rattle.just_sched.specs.Idle.{HasWork}
 use Rattle.just_sched.specs.Legal.{Run, IsLegal, IsClosed, IsComplete}
@@ -52,14 +54,20 @@ pub record IsBook (s : Run) (h : List Event) (mid : List Entry) : Type 0 where
   pub closed : IsClosed s h
   pub matches : Matches s h mid
 
+-- each cached body went by the cache rule
+abbrev pub GoByCacheRule : Run → List Event → Type 0
+GoByCacheRule s h = (n : ℕ) → is_cached s.nodes n ≡ true → GoesByCacheRule s h n
+
 -- A run that ended well: behind the listings and the misses of its preparation the record gained just the entries of its history, which is
--- legal and complete: no node failed, and each was run to its end.
+-- legal and complete: no node failed, and each was run to its end, or skipped: a cached body exactly where the look at its entry was full.
 pub record EndsWell (listings : List Entry) (plan : Plan) (jobs : Option ℕ) (h : List Event) (old new : List Entry) : Type 0 where
   pub stretches : Stretches old new
   pub prepared : LeavesMisses listings stretches.pre
   pub book : IsBook (run_over plan jobs (old ++ stretches.pre)) h stretches.mid
   pub well : NoneDecides (run_over plan jobs (old ++ stretches.pre)) h
   pub complete : IsComplete (run_over plan jobs (old ++ stretches.pre)) h
+  pub cached : GoByCacheRule (run_over plan jobs (old ++ stretches.pre)) h
+  pub skipped : (n : ℕ) → n < length plan.nodes → is_cached plan.nodes n ≡ true → IsSkippedByLook h n
   pub silent : stretches.post ≡ []
 
 -- A run that failed: its error is that of the history's verdict, and the record shows its cause; a favourable record shows
@@ -72,6 +80,7 @@ pub record EndsIll (listings : List Entry) (plan : Plan) (jobs : Option ℕ) (me
   pub verdict : Verdict
   pub judged : IsVerdict (run_over plan jobs (old ++ stretches.pre)) h verdict
   pub decided : IsErrorFor plan.nodes messages h verdict (Some e)
+  pub cached : GoByCacheRule (run_over plan jobs (old ++ stretches.pre)) h
   pub nothing_left : (has_caught h ≡ true) ⊎ (HasWork (run_over plan jobs (old ++ stretches.pre)) h → ⊥)
   pub caused : IsCaused plan.nodes h e stretches.mid
   pub favoured : IsFavourable stretches.mid → e ≡ error.NoMemory

@@ -1,5 +1,5 @@
 -- What words ask for: a chain of steps from the words to the plan of a run, or to a refusal.
-use Rattle.std.specs.Prelude.{ℕ, ◌≡◌, ◌⊎◌, Bool, true, false, List, [], ◌∷◌, Option, Some, option_map, Result, Ok, Err}
+use Rattle.std.specs.Prelude.{ℕ, ◌≡◌, ◌⊎◌, ◌&&◌, Bool, true, false, List, [], ◌∷◌, Option, Some, option_map, Result, Ok, Err}
 use Rattle.std.specs.List.{list_any, AllByRecursion}
 use Rattle.just_path.specs.declared.environ.Environ.{Environ}
 use Rattle.just_path.specs.declared.host.Miss.{Miss}
@@ -20,7 +20,11 @@ use Rattle.just_errors.specs.declared.error.Error.TheVariants as error
 use Rattle.just_cli.specs.Faults.{CallGives, io_error, folder_error}
 use Rattle.just_planning.specs.Steps.{Then}
 use Rattle.just_planning.specs.Request.{SourcesRequest, ProjectRequest, Outline, outline_of, FindsProject, LoadsDotenv, PlansProject}
-use Rattle.just_cli.specs.Options.{looks_above, standing}
+use Rattle.just_cli.specs.NewPath.{is_init, FindsNew}
+use Rattle.just_locate.specs.declared.location.Location.{Location}
+use Rattle.just_fallback.specs.Fallback.{FallsBack, AreTried}
+use Rattle.just_value.specs.Modules.{settings_of}
+use Rattle.just_cli.specs.Options.{is_lacking, lacks, allowed}
 use Rattle.just_cli.specs.Words.{ArgumentsRequest, ConfigRequest, LocatedRequest, JustfileRequest, FindsEnviron, ReadsWords, FindsFolder, Configures, FindsLocation, FindsJustfile, TakesFile}
 
 -- ---- the step behind those of the words
@@ -55,21 +59,71 @@ FindsProjectAt told = Then TakesFile (FindsProjectOf told)
 abbrev pub PlansLoaded : Option World → ProjectRequest → Result Outline Error → Type 0
 PlansLoaded told = Then (LoadsDotenv told) PlansProject
 
--- the answer to what is asked of the justfile in a place
-pub data Tries (told : Option World) (q : LocatedRequest) (r : Result Outline Error) : Type 0 where
-  no_project : (e : Error) → FindsProjectAt told q (Err e) → r ≡ Err e → Tries told q r
-  of_project : (p : ProjectRequest) (x : Result Outline Error) → FindsProjectAt told q (Ok p) → PlansLoaded told p x → r ≡ standing (looks_above q.config p.justfile) x → Tries told q r
+-- ---- the justfiles that are tried
+
+-- the answer to what is asked of the justfile in a place, and whether that justfile sets fallback; one whose project is refused sets none
+pub data AnswersAt (told : Option World) (q : LocatedRequest) (r : Result Outline Error) (fallback : Bool) : Type 0 where
+  no_project : (e : Error) → FindsProjectAt told q (Err e) → r ≡ Err e → fallback ≡ false → AnswersAt told q r fallback
+  of_project : (p : ProjectRequest) → FindsProjectAt told q (Ok p) → PlansLoaded told p r → fallback ≡ (settings_of p.justfile).fallback → AnswersAt told q r fallback
+
+-- a place in which a configuration asks something of the justfile
+abbrev pub at_place : ConfigRequest → Location → LocatedRequest
+at_place c location = record { config = c.config; environ = c.environ; location = location }
+
+-- Whether another justfile is tried behind the one in a place, where r is the answer of the last one: behind each that sets fallback and lacks what is
+-- asked for. Behind one that doesn't nothing is looked at.
+pub data LooksBehind (told : Option World) (c : ConfigRequest) (r : Result Outline Error) (location : Location) (another : Bool) : Type 0 where
+  lacking : (e : Error) → AnswersAt told (at_place c location) (Err e) true → is_lacking e ≡ true → another ≡ true → LooksBehind told c r location another
+  standing : (fallback : Bool) → AnswersAt told (at_place c location) r fallback → (lacks r && fallback) ≡ false → another ≡ false → LooksBehind told c r location another
+
+-- the answer of one that is tried: that of the justfile there, or the refusal of the search
+abbrev pub AnswersItem : Option World → ConfigRequest → Result Location SearchError → Result Outline Error → Type 0
+AnswersItem told c (Ok location) r = (fallback : Bool) × AnswersAt told (at_place c location) r fallback
+AnswersItem told c (Err e) r = r ≡ Err (error_of_search e)
+
+abbrev pub AnswersLast : Option World → ConfigRequest → List (Result Location SearchError) → Result Outline Error → Type 0
+AnswersLast told c [] r = ⊥
+AnswersLast told c (item ∷ []) r = AnswersItem told c item r
+AnswersLast told c (item ∷ (next ∷ items)) r = AnswersLast told c (next ∷ items) r
+
+-- the answer of the last of the justfiles that are tried from a place on
+abbrev pub TriesFrom : Option World → ConfigRequest → Location → Result Outline Error → Type 0
+TriesFrom told c location r = (items : List (Result Location SearchError)) × AreTried told c.config (LooksBehind told c r) location items × AnswersLast told c items r
+
+-- the justfile in a place sets fallback and lacks what is asked for, and the next one is tried
+abbrev pub FallsTo : Option World → ConfigRequest → Location → Location → Type 0
+FallsTo told c location next =
+    (e : Error) × AnswersAt told (at_place c location) (Err e) true × (is_lacking e ≡ true) × FallsBack told c.config location.working_directory (Ok (Some next))
+
+-- the answer behind the place of the first of them, which the words may allow
+abbrev pub Tries : Option World → LocatedRequest → Result Outline Error → Type 0
+Tries told q r = (x : Result Outline Error) × TriesFrom told (record { config = q.config; environ = q.environ }) q.location x × (r ≡ allowed q.config x)
+
+-- ---- the whole chain
 
 -- the steps behind the configuration, and behind the words
 
 abbrev pub Searches : Option World → List Entry → ConfigRequest → Result Outline Error → Type 0
 Searches told listings = Then (FindsJustfile (FindsLocation told listings)) (Tries told)
 
+-- Words that ask for a new justfile are no run: where they aren't refused, this gives no answer.
+pub data Decides (told : Option World) (listings : List Entry) (c : ConfigRequest) (r : Result Outline Error) : Type 0 where
+  runs : is_init c.config.subcommand ≡ false → Searches told listings c r → Decides told listings c r
+  not_new : (e : Error) → FindsNew told c (Err e) → r ≡ Err e → Decides told listings c r
+
 abbrev pub Serves : Option World → List Entry → ArgumentsRequest → Result Outline Error → Type 0
-Serves told listings = Then (FindsFolder (FolderGiven told)) (Then Configures (Searches told listings))
+Serves told listings = Then (FindsFolder (FolderGiven told)) (Then Configures (Decides told listings))
+
+-- what arguments ask for that ask for a new justfile: the path where it is written, or a refusal
+abbrev pub ServesNew : Option World → ArgumentsRequest → Result (List ℕ) Error → Type 0
+ServesNew told = Then (FindsFolder (FolderGiven told)) (Then Configures (FindsNew told))
+
+-- over a host that tells this world, if it tells one, the words ask for a new justfile at that path, where no file stands
+abbrev pub AsksNew : List (List ℕ) → Option World → List ℕ → Type 0
+AsksNew words told path = Then (FindsEnviron (EnvironGiven told)) (Then ReadsWords (ServesNew told)) words (Ok path)
 
 -- Over a host that tells this world, if it tells one, and whose record gained these entries of listings that were refused as the user's own justfile was
--- looked for, the words ask for that: the plan of a run, or a refusal. A call of the host that fails is a refusal too, but a listing among these; over a
+-- looked for, the words ask for that: the plan of a run, or a refusal; where they ask for a new justfile, a refusal alone. A call of the host that fails is a refusal too, but a listing among these; over a
 -- host that tells no world its calls may answer anything.
 abbrev pub Asks : List (List ℕ) → Option World → List Entry → Result Outline Error → Type 0
 Asks words told listings = Then (FindsEnviron (EnvironGiven told)) (Then ReadsWords (Serves told listings)) words

@@ -4,6 +4,7 @@ use Rattle.just_outside.specs.Record.{faults_of, misses_of}
 use Rattle.just_outside.specs.World.{World}
 use Rattle.just_outside.specs.declared.entry.Entry.{Entry}
 use Rattle.just_sched.specs.Favourable.{IsFavourable}
+use Rattle.just_sched.specs.Touched.{IsTouched}
 use Rattle.just_sched.specs.declared.plan.Plan.{Plan}
 use Rattle.just_cli.specs.declared.ended.Failure.{Failure}
 use Rattle.just_cli.specs.declared.ended.Report.{Report}
@@ -11,10 +12,11 @@ use Rattle.just_errors.specs.Codes.{exit_code}
 use Rattle.just_errors.specs.declared.error.Error.TheVariants as error
 use Rattle.just_cli.specs.Answered.{IsAnswered, IsServed}
 use Rattle.just_planning.specs.Own.{is_fault, is_miss}
-use Rattle.just_cli.specs.Questions.{IsQuestion, IsShown}
+use Rattle.just_cli.specs.Questions.{IsQuestion, AsksQuiet, IsShown}
 use Rattle.just_cli.specs.Quiet.{AskQuiet}
 use Rattle.just_cli.specs.Record.{EndsWell, EndsIll, EndsBefore, IsQuiet}
-use Rattle.just_cli.specs.Request.{AsksGlobal, ArePassed, IsAsked, RefusedFor}
+use Rattle.just_cli.specs.Request.{AsksNew, AsksGlobal, ArePassed, IsAsked, RefusedFor}
+use Rattle.just_cli.specs.Written.{IsWritten}
 
 -- A run of these words over a host that told this world before and tells that one after it, whose record was the old one
 -- and is the new one, has this result.
@@ -50,10 +52,12 @@ pub record IsRun (words : List (List ℕ)) (told after : Option World) (old new 
   -- the error of a failed call has its failure in the record, and that of a miss its miss
   pub faults : IfErr result (λ f. is_fault f.error ≡ true → faults_of old < faults_of new)
   pub misses : IfErr result (λ f. is_miss f.error ≡ true → misses_of old < misses_of new)
-  -- where no child was started and nothing failed, the told world is as it was
-  pub untouched : (es : List Entry) → new ≡ old ++ es → IsQuiet es → after ≡ told
+  -- where no child was started and nothing failed, the told world is as it was, but for entries of the caches of a plan
+  pub untouched : (es : List Entry) → new ≡ old ++ es → IsQuiet es → MatchResult result (λ r. ∥ IsTouched r.plan.nodes told after ∥₁) (λ f. MatchOption f.plan (after ≡ told) (λ p. ∥ IsTouched p.nodes told after ∥₁))
 
--- Words that ask for the help or the version get its text; other words are a run.
+-- Words that ask for the help or the version get its text, those that ask for a new justfile have it written, and other words are a run. Words that are
+-- refused are what they were refused as: a run without a plan.
 pub data IsEnded (words : List (List ℕ)) (told after : Option World) (old new : List Entry) (result : Result Report Failure) : Type 0 where
   by_run : IsRun words told after old new result → IsEnded words told after old new result
+  by_init : (path : List ℕ) (quiet : Bool) → AsksNew words told path → AsksQuiet words told quiet → IsWritten path quiet told after old new result → IsEnded words told after old new result
   by_text : (text : List ℕ) → IsQuestion words told text → IsShown text told after old new result → IsEnded words told after old new result

@@ -18,7 +18,7 @@ use Rattle.just_errors.specs.Refusals.{error_of_search}
 use Rattle.just_errors.specs.declared.error.Error.{Error}
 use Rattle.just_errors.specs.declared.error.Error.TheVariants as error
 use Rattle.just_planning.specs.declared.wanted.Wanted.{Wanted}
-use Rattle.just_cli.specs.Options.{not_built, file_of, wanted_of}
+use Rattle.just_cli.specs.Options.{not_built, file_of, cache_beside, wanted_of}
 use Rattle.just_planning.specs.Steps.{Then}
 
 -- ---- what is known behind each step; the environment goes along, since values ask it too
@@ -100,5 +100,5 @@ FindsJustfile finds c (Err e) = finds c.config (Err e)
 
 -- the justfile is a file, of which something is asked; or its text comes from elsewhere, which isn't built
 abbrev pub TakesFile : LocatedRequest → Result JustfileRequest Error → Type 0
-TakesFile q (Ok j) = (file_of q.location.origin ≡ Ok j.justfile) × (j.wanted ≡ wanted_of q.config q.location.working_directory) × (j.environ ≡ q.environ)
+TakesFile q (Ok j) = (file_of q.location.origin ≡ Ok j.justfile) × (j.wanted ≡ wanted_of q.config q.location.working_directory (cache_beside j.justfile)) × (j.environ ≡ q.environ)
 TakesFile q (Err e) = (word : List ℕ) × (file_of q.location.origin ≡ Err word) × (e ≡ error.NotBuilt word)

@@ -6,16 +6,19 @@ ghost use Rattle.just_words.specs.Words.{Means};
 ghost use Rattle.just_config.specs.Config.{refusal, config_of};
 ghost use Rattle.just_errors.specs.declared.error.Error.TheVariants as error;
 ghost use Rattle.just_planning.specs.Own.{OrMemory};
-ghost use Rattle.just_cli.specs.Options.{is_any, wanted_of};
+ghost use Rattle.just_path.specs.Path.{text_of};
+ghost use Rattle.just_cli.specs.Options.{is_any, dotenv_of, flags_of, cache_beside, wanted_of};
 ghost use Rattle.just_cli.specs.Words.{ReadsWords, IsBuilt, Configures, TakesFile};
 
 use super::Error;
 use super::options::{is_any, not_built};
+use just_cache::Cache;
 use just_commands::RunFlags;
 use just_config::{Arguments, Config, Read, read_words};
 use just_env_files::DotenvAsk;
+use just_lang::Override;
 use just_locate::{Location, Origin};
-use just_path::{Environ, Seq, Text, Utf8PathBuf};
+use just_path::{Environ, NoMemory, Seq, Text, TryClone, Utf8Path, Utf8PathBuf};
 use just_planning::{Wanted, not_built_error};
 use std::alloc::Global;
 
@@ -52,39 +55,105 @@ fn path_of(text: Option<Text>) -> Option<Utf8PathBuf>
     }
 }
 
-/// What a configuration asks of a justfile that is run in that folder.
-fn wanted(config: Config, folder: Utf8PathBuf) -> Wanted
-    ensures { result ≡ wanted_of config folder }
+/// Which dotenv files a configuration asks for.
+fn dotenv_ask(config: &Config) -> Result<DotenvAsk, NoMemory>
+    ensures { IfOk result (λ a. a ≡ dotenv_of config.now) }
 {
-    let dotenv = DotenvAsk {
-        commands: config.dotenv_command,
-        filenames: config.dotenv_filename,
-        paths: config.dotenv_path,
+    let commands = config.dotenv_command.try_clone()?;
+    let filenames = config.dotenv_filename.try_clone()?;
+    let paths = config.dotenv_path.try_clone()?;
+    Ok(DotenvAsk {
+        commands,
+        filenames,
+        paths,
         load: !config.no_dotenv,
         dry_run: config.dry_run,
-    };
-    let flags = RunFlags {
-        shell: config.shell,
-        shell_args: shell_args(config.clear_shell_args, config.shell_arg),
+    })
+}
+
+/// How a configuration runs recipes in that folder.
+fn run_flags(config: &Config, folder: &Utf8PathBuf) -> Result<RunFlags, NoMemory>
+    ensures { IfOk result (λ f. f ≡ flags_of config.now folder.now) }
+{
+    let shell = config.shell.try_clone()?;
+    let arguments = config.shell_arg.try_clone()?;
+    let tempdir = config.tempdir.try_clone()?;
+    let folder = folder.try_clone()?;
+    Ok(RunFlags {
+        shell,
+        shell_args: shell_args(config.clear_shell_args, arguments),
         quiet: config.verbosity.quiet(),
         loquacious: config.verbosity.loquacious(),
         dry_run: config.dry_run,
         no_cache: config.no_cache,
         yes: config.yes,
         explain: config.explain,
-        tempdir: path_of(config.tempdir),
+        tempdir: path_of(tempdir),
         folder,
-    };
-    Wanted {
-        words: config.arguments,
-        overrides: config.overrides,
+    })
+}
+
+/// A copy of what the words give to a variable.
+fn copied(given: &Override) -> Result<Override, NoMemory>
+    ensures { IfOk result (λ copy. copy ≡ given.now) }
+{
+    let module = given.module.try_clone()?;
+    let name = given.name.try_clone()?;
+    let value = given.value.try_clone()?;
+    Ok(Override {
+        module,
+        name,
+        value,
+    })
+}
+
+/// A copy of what the words give to variables.
+fn all_copied(alloc: Global, overrides: &[Override]) -> Result<Seq<Override>, NoMemory>
+    ensures { IfOk result (λ copies. copies ≡ overrides.now) }
+{
+    let mut copies = Vec::new(alloc);
+    for given in overrides {
+        let copy = copied(given)?;
+        copies.push(copy)?;
+    }
+    Ok(Seq::from(copies))
+}
+
+/// The folder of the cache of a justfile's recipes.
+fn cache_beside(alloc: Global, file: Utf8Path<'_>) -> Result<Utf8PathBuf, NoMemory>
+    ensures { IfOk result (λ p. p ≡ cache_beside (text_of file.entry)) }
+{
+    match file.parent() {
+        Some(folder) => Cache::dir(alloc, folder),
+        None => Cache::dir(alloc, file),
+    }
+}
+
+/// What a configuration asks of the justfile in a file that is run in that folder.
+fn wanted(
+    alloc: Global,
+    config: &Config,
+    folder: &Utf8PathBuf,
+    file: Utf8Path<'_>,
+) -> Result<Wanted, NoMemory>
+    ensures { IfOk result (λ w. w ≡ wanted_of config.now folder.now (cache_beside (text_of file.entry))) }
+{
+    let words = config.arguments.try_clone()?;
+    let overrides = all_copied(alloc, config.overrides.as_slice())?;
+    let dotenv = dotenv_ask(config)?;
+    let flags = run_flags(config, folder)?;
+    let cache_folder = cache_beside(alloc, file)?;
+    Ok(Wanted {
+        words,
+        overrides,
         one: config.one,
         no_deps: config.no_deps,
         dotenv,
         unstable: config.unstable,
         jobs: config.jobs,
+        cache_folder,
         flags,
-    }
+    })
 }
 
 /// A configuration all of which is built.
@@ -115,21 +184,35 @@ pub(crate) fn configure(
     }
 }
 
+/// What a configuration asks of the justfile in a file, and the path of the file.
+fn of_file(
+    alloc: Global,
+    config: &Config,
+    folder: &Utf8PathBuf,
+    path: &Utf8PathBuf,
+) -> Result<(Wanted, Utf8PathBuf), NoMemory>
+    ensures wanted { IfOk result (λ j. j.0 ≡ wanted_of config.now folder.now (cache_beside path.now)) }
+    ensures path { IfOk result (λ j. j.1 ≡ path.now) }
+{
+    let path = path.try_clone()?;
+    let wanted = wanted(alloc, config, folder, path.as_path())?;
+    Ok((wanted, path))
+}
+
 /// The file of a justfile that was found, and what a configuration asks of it.
 pub(crate) fn take(
     alloc: Global,
-    config: Config,
-    location: Location,
+    config: &Config,
+    location: &Location,
 ) -> Result<(Wanted, Utf8PathBuf), Error>
-    ensures taken { IfOk result (λ j. (environ : Environ) → TakesFile (record { config = config; environ = environ; location = location }) (Ok (record { wanted = j.0; environ = environ; justfile = j.1 }))) }
-    ensures refused { IfErr result (OrMemory (λ e. (environ : Environ) → TakesFile (record { config = config; environ = environ; location = location }) (Err e))) }
+    ensures taken { IfOk result (λ j. (environ : Environ) → TakesFile (record { config = config.now; environ = environ; location = location.now }) (Ok (record { wanted = j.0; environ = environ; justfile = j.1 }))) }
+    ensures refused { IfErr result (OrMemory (λ e. (environ : Environ) → TakesFile (record { config = config.now; environ = environ; location = location.now }) (Err e))) }
 {
-    let Location {
-        origin,
-        working_directory,
-    } = location;
-    match origin {
-        Origin::File(path) => Ok((wanted(config, working_directory), path)),
+    match &location.origin {
+        Origin::File(path) => match of_file(alloc, config, &location.working_directory, path) {
+            Ok(taken) => Ok(taken),
+            Err(NoMemory) => Err(Error::NoMemory),
+        },
         Origin::Markdown(_) => Err(not_built_error(alloc, ".md")),
         Origin::StandardInput => Err(not_built_error(alloc, "-")),
     }

@@ -11,14 +11,14 @@ pub struct Ended<H> {
 }
 
 /// A run that went well: its plan and its history.
-#[derive(Debug, Drop)]
+#[derive(Drop)]
 pub struct Report {
     pub plan: Plan,
     pub history: Seq<Event>,
 }
 
 /// A run that failed or was refused. A refusal before the plan stands has no plan and an empty history.
-#[derive(Debug, Drop)]
+#[derive(Drop)]
 pub struct Failure {
     pub error: Error,
     pub plan: Option<Plan>,

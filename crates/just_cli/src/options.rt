@@ -1,25 +1,17 @@
-//! What of a configuration isn't built yet, and where a justfile above would be tried.
+//! What of a configuration isn't built yet, and which names may be missing.
 
-ghost use Rattle.std.specs.Prelude.{◌≡◌, ◌&&◌, Some, Err};
+ghost use Rattle.std.specs.Prelude.{◌≡◌};
 ghost use Rattle.std.specs.Option.{option_copied};
-ghost use Rattle.just_cli.specs.Options.{is_any, flag_not_built, command_word, command_not_built, not_built, is_searching, is_lacking, standing};
-ghost use Rattle.just_value.specs.Modules.{settings_of};
-ghost use Rattle.just_planning.specs.Own.{OrMemory};
+ghost use Rattle.just_cli.specs.Options.{is_any, flag_not_built, command_word, command_not_built, not_built, is_lacking, is_missing};
 
 use super::Error;
-use just_config::{Config, SearchConfig, Subcommand};
-use just_lang::project::Justfile;
+use just_config::{Config, Subcommand};
 use just_path::{Seq, Text};
-use just_planning::not_built_error;
-use std::alloc::Global;
 
 /// The word of the first flag that isn't built.
 fn flag_not_built(config: &Config) -> Option<&'static str>
     ensures { option_copied result ≡ flag_not_built config.now }
 {
-    if config.allow_missing {
-        return Some("--allow-missing");
-    }
     if config.default_list {
         return Some("--default-list");
     }
@@ -68,7 +60,7 @@ fn command_not_built(command: &Option<Subcommand>) -> Option<&'static str>
     ensures { option_copied result ≡ command_not_built command.now }
 {
     match command {
-        None => None,
+        None | Some(Subcommand::Init(_)) => None,
         Some(command) => Some(command_word(command)),
     }
 }
@@ -83,25 +75,8 @@ pub(crate) fn not_built(config: &Config) -> Option<&'static str>
     command_not_built(&config.subcommand)
 }
 
-/// Whether a justfile is searched for folder by folder.
-pub(crate) fn is_searching(setting: &SearchConfig) -> bool
-    ensures { result ≡ is_searching setting.now }
-{
-    matches!(
-        setting,
-        SearchConfig::FromInvocationDirectory | SearchConfig::FromSearchDirectory(_)
-    )
-}
-
-/// Whether a justfile above would be tried where this one lacks what is asked for.
-pub(crate) fn looks_above(searching: bool, justfile: &Justfile) -> bool
-    ensures { result ≡ (searching && (settings_of justfile.now).fallback) }
-{
-    searching && justfile.settings.fallback
-}
-
 /// Whether a justfile lacks a recipe or a module that is asked for.
-fn is_lacking(error: &Error) -> bool
+pub(crate) fn is_lacking(error: &Error) -> bool
     ensures { result ≡ is_lacking error.now }
 {
     matches!(
@@ -110,13 +85,12 @@ fn is_lacking(error: &Error) -> bool
     )
 }
 
-/// A refusal that stands; or the word of the setting, where a justfile above would be tried, which isn't built.
-pub(crate) fn standing(alloc: Global, above: bool, error: Error) -> Error
-    ensures { OrMemory (λ e. Err e ≡ standing above (Err error)) result }
+/// Whether a recipe or a module that is asked for is missing: the justfile lacks it, or the file of an optional module isn't there.
+pub(crate) fn is_missing(error: &Error) -> bool
+    ensures { result ≡ is_missing error.now }
 {
-    if above && is_lacking(&error) {
-        drop(error);
-        return not_built_error(alloc, "fallback");
-    }
-    error
+    matches!(
+        error,
+        Error::UnknownRecipe { .. } | Error::UnknownSubmodule { .. } | Error::ModuleAbsent { .. }
+    )
 }

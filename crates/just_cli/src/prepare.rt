@@ -1,9 +1,9 @@
-//! From the words to the plan: the steps of a request, in their order.
+//! From the words to the task: the steps of a request, in their order.
 
 ghost use Rattle.std.specs.Prelude.{◌≡◌, map, true, option_map, IfOk, IfErr, MatchResult, Ok, Err};
 ghost use Rattle.std.specs.Int.NonZero.{non_zero_u64_get};
 ghost use Rattle.just_config.specs.declared.help.TheConstants.{HELP};
-ghost use Rattle.just_cli.specs.Questions.{version_line, IsTask};
+ghost use Rattle.just_cli.specs.Questions.{version_line, IsTask, IsServed};
 ghost use Rattle.just_cli.specs.Quiet.{AskQuiet};
 ghost use Rattle.just_cli.specs.Preparing.{Prepares};
 ghost use Rattle.just_planning.specs.Request.{Outline, outline_of};
@@ -11,23 +11,25 @@ ghost use Rattle.just_cli.specs.Request.{Serves, Asks, AsksGlobal};
 
 use super::configured::{configure, read};
 use super::given::{current_folder, environment, locate};
-use super::tried::{Planned, plan_at};
+use super::init::{find_free, is_init};
+use super::tried::plan_tried;
 use super::{Error, Task};
 use just_config::{Arguments, HELP, Read, Version};
 use just_host::Host;
 use just_path::{Environ, NoMemory, Text};
 use std::alloc::Global;
 
-/// The plan that arguments ask for.
+/// The run or the new justfile that arguments ask for.
 fn serve<H: Host>(
     alloc: Global,
     arguments: Arguments,
     environ: &Environ,
     host: &mut H,
-) -> Result<Planned, Error>
-    ensures served { MatchResult result (λ r. Prepares (arguments.global_justfile ≡ true) (λ ls. Serves (H.world host.old) ls (record { arguments = arguments; environ = environ.now })) (H.entries host.old) (H.entries host.new) (Ok (outline_of r.0 (option_map non_zero_u64_get r.1) r.2))) (λ e. Prepares {A = Outline} (arguments.global_justfile ≡ true) (λ ls. Serves (H.world host.old) ls (record { arguments = arguments; environ = environ.now })) (H.entries host.old) (H.entries host.new) (Err e)) }
+) -> Result<Task, Error>
+    ensures served { MatchResult result (IsServed (H.world host.old) (record { arguments = arguments; environ = environ.now }) (H.entries host.old) (H.entries host.new)) (λ e. Prepares {A = Outline} (arguments.global_justfile ≡ true) (λ ls. Serves (H.world host.old) ls (record { arguments = arguments; environ = environ.now })) (H.entries host.old) (H.entries host.new) (Err e)) }
     ensures world { H.world host.new ≡ H.world host.old }
 {
+    let quiet = arguments.quiet;
     let folder = match current_folder(host) {
         Ok(folder) => folder,
         Err(error) => return Err(error),
@@ -36,12 +38,18 @@ fn serve<H: Host>(
         Ok(config) => config,
         Err(error) => return Err(error),
     };
+    if is_init(&config.subcommand) {
+        match find_free(alloc, host, &config) {
+            Ok(path) => return Ok(Task::Init(path, quiet)),
+            Err(error) => return Err(error),
+        }
+    }
     let location = match locate(alloc, host, &config) {
         Ok(location) => location,
         Err(error) => return Err(error),
     };
-    match plan_at(alloc, host, environ, config, location) {
-        Ok(planned) => Ok(planned),
+    match plan_tried(alloc, host, environ, config, location) {
+        Ok((plan, jobs, messages)) => Ok(Task::Run(plan, jobs, messages, quiet)),
         Err(error) => Err(error),
     }
 }
@@ -80,7 +88,7 @@ pub(crate) fn prepare<H: Host>(
         Ok(Read::Go(arguments)) => {
             let quiet = arguments.quiet;
             match serve(alloc, arguments, &environ, host) {
-                Ok((plan, jobs, messages)) => Ok(Task::Run(plan, jobs, messages, quiet)),
+                Ok(task) => Ok(task),
                 Err(error) => Err((error, quiet)),
             }
         }

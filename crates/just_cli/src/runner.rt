@@ -5,6 +5,7 @@ ghost use Rattle.just_host.specs.Real.{record_of};
 ghost use Rattle.just_cli.specs.Run.{IsEnded};
 
 use super::failure::fail;
+use super::init::init;
 use super::prepare::prepare;
 use super::show::show;
 use super::{Ended, Error, Report, Task};
@@ -21,7 +22,7 @@ use std::thread::Threads;
 
 /// Runs what the words ask for over a host: reads the words, with the variables of its environment, finds the justfile, reads its project, loads
 /// the project's dotenv files, evaluates its variables, makes the plan, and drives it to its end. Where they ask for the help or the version, that is
-/// printed to standard output, and the report has a plan of no node. An error is told on standard error. The words are those behind the
+/// printed to standard output, and where they ask for a new justfile, that is written; the report then has a plan of no node. An error is told on standard error. The words are those behind the
 /// program's name. It waits for the children.
 pub fn run_with<R: Threads + Wait + Sync, H: Host + Send + Drop>(
     rt: &R,
@@ -34,6 +35,7 @@ pub fn run_with<R: Threads + Wait + Sync, H: Host + Send + Drop>(
     let mut host = host;
     let (plan, jobs, messages, quiet) = match prepare(alloc, words, &mut host) {
         Ok(Task::Run(plan, jobs, messages, quiet)) => (plan, jobs, messages, quiet),
+        Ok(Task::Init(path, quiet)) => return init(alloc, host, path, quiet),
         Ok(Task::Show(text)) => return show(alloc, host, text.as_str()),
         Err((error, quiet)) => return fail(alloc, host, error, quiet, None, Seq::new(alloc)),
     };

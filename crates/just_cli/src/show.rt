@@ -12,7 +12,7 @@ use just_sched::Plan;
 use std::alloc::Global;
 
 /// The error of a text that wasn't printed.
-fn print_error(fault: HostFault) -> Error
+pub(crate) fn print_error(fault: HostFault) -> Error
     ensures { result ≡ print_error fault }
 {
     match fault {
@@ -22,7 +22,7 @@ fn print_error(fault: HostFault) -> Error
 }
 
 /// The plan of no node.
-fn empty_plan(alloc: Global) -> Plan
+pub(crate) fn empty_plan(alloc: Global) -> Plan
     ensures nodes { result.nodes ≡ [] }
     ensures invocations { result.invocations ≡ [] }
 {

@@ -1,6 +1,6 @@
 //! What words ask for.
 
-use just_path::{Seq, Text};
+use just_path::{Seq, Text, Utf8PathBuf};
 use just_sched::Plan;
 use std::num::NonZeroU64;
 
@@ -10,6 +10,8 @@ pub enum Task {
     /// A run of a plan, under a job limit, if there is one; of each node whether the message of its exit code is told; and whether the words
     /// ask for quiet.
     Run(Plan, Option<NonZeroU64>, Seq<bool>, bool),
+    /// A justfile that is written at that path, and whether the words ask for quiet.
+    Init(Utf8PathBuf, bool),
     /// A text that is printed.
     Show(Text),
 }

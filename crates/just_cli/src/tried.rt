@@ -1,6 +1,6 @@
-//! What is asked of the justfile in a place: from its sources to the plan.
+//! What is asked of the justfiles that are tried one behind the other: of each from its sources to the plan.
 
-ghost use Rattle.std.specs.Prelude.{◌≡◌, ◌++◌, ◌∷◌, [], List, option_map, IfOk, IfErr, MatchResult, Ok, Err};
+ghost use Rattle.std.specs.Prelude.{◌≡◌, ◌<◌, ◌&&◌, ◌++◌, ◌∷◌, [], length, List, option_map, IfOk, IfErr, MatchOption, MatchResult, Ok, Err};
 ghost use Rattle.std.specs.Int.NonZero.{non_zero_u64_get};
 ghost use Rattle.just_path.specs.Path.{text_of};
 ghost use Rattle.just_outside.specs.declared.entry.Entry.{Entry};
@@ -12,15 +12,18 @@ ghost use Rattle.just_errors.specs.Refusals.{error_of_env};
 ghost use Rattle.just_planning.specs.Own.{OrMemory};
 ghost use Rattle.just_planning.specs.Projects.{IsSound};
 ghost use Rattle.just_planning.specs.Request.{outline_of};
+ghost use Rattle.just_cli.specs.Options.{is_lacking, is_missing, empty_outline};
 ghost use Rattle.just_cli.specs.Preparing.{AreMisses, EndsWith};
-ghost use Rattle.just_cli.specs.Request.{FindsProjectOf, Tries};
+ghost use Rattle.just_cli.specs.Request.{FindsProjectOf, PlansLoaded, AnswersAt, FallsTo, TriesFrom, Tries};
 
 use super::Error;
 use super::configured::take;
 use super::given::load;
-use super::options::{is_searching, looks_above, standing};
+use super::options::{is_lacking, is_missing};
+use super::show::empty_plan;
 use just_config::Config;
 use just_env_files::load_modules;
+use just_fallback::find_fallback;
 use just_host::Host;
 use just_lang::DotenvOf;
 use just_lang::project::Justfile;
@@ -79,8 +82,172 @@ fn pairs_of<H: Host>(
     }
 }
 
-/// The plan that is asked of the justfile in a place. The record gains the misses of files that aren't there, and the entry of the refused call.
-pub(crate) fn plan_at<H: Host>(
+/// The plan that is asked of a project. The record gains the misses of files that aren't there, and the entry of the refused call.
+fn plan_of<H: Host>(
+    alloc: Global,
+    host: &mut H,
+    environ: &Environ,
+    wanted: &Wanted,
+    project: &Justfile,
+) -> Result<Planned, Error>
+    requires { IsSound project.now }
+    ensures grew { (es : List Entry) × (H.entries host.new ≡ H.entries host.old ++ es) × MatchResult result (λ _. AreMisses es) (λ e. EndsWith [] e es) }
+    ensures world { H.world host.new ≡ H.world host.old }
+    ensures plan { IfOk result (λ r. (modules : List Justfile) × AreModules (project.now ∷ []) modules × PlansLoaded (H.world host.old) (record { wanted = wanted.now; environ = environ.now; justfile = project.now; modules = modules }) (Ok (outline_of r.0 (option_map non_zero_u64_get r.1) r.2))) }
+    ensures refused { IfErr result (OrMemory (λ e. (modules : List Justfile) × AreModules (project.now ∷ []) modules × PlansLoaded (H.world host.old) (record { wanted = wanted.now; environ = environ.now; justfile = project.now; modules = modules }) (Err e))) }
+{
+    // The clauses speak of the list of the project's modules: it is there.
+    let _modules = match all_modules(alloc, project) {
+        Ok(modules) => modules,
+        Err(NoMemory) => return Err(Error::NoMemory),
+    };
+    let pairs = match pairs_of(alloc, host, environ, wanted, project) {
+        Ok(pairs) => pairs,
+        Err(error) => return Err(error),
+    };
+    match plan_of_project(alloc, project, pairs.as_slice(), environ, wanted) {
+        Ok((plan, messages)) => Ok((plan, wanted.jobs, messages)),
+        Err(error) => Err(error),
+    }
+}
+
+/// The plan that is asked of the justfile in a place, or why there is none; and whether that justfile sets fallback. The record gains the misses of files that
+/// aren't there, and the entry of the refused call.
+fn plan_at<H: Host>(
+    alloc: Global,
+    host: &mut H,
+    environ: &Environ,
+    config: &Config,
+    location: &Location,
+) -> (Result<Planned, Error>, bool)
+    ensures grew { (es : List Entry) × (H.entries host.new ≡ H.entries host.old ++ es) × MatchResult result.0 (λ _. AreMisses es) (λ e. EndsWith [] e es) }
+    ensures world { H.world host.new ≡ H.world host.old }
+    ensures plan { IfOk result.0 (λ r. AnswersAt (H.world host.old) (record { config = config.now; environ = environ.now; location = location.now }) (Ok (outline_of r.0 (option_map non_zero_u64_get r.1) r.2)) result.1) }
+    ensures refused { IfErr result.0 (OrMemory (λ e. AnswersAt (H.world host.old) (record { config = config.now; environ = environ.now; location = location.now }) (Err e) result.1)) }
+{
+    let (wanted, path) = match take(alloc, config, location) {
+        Ok(taken) => taken,
+        Err(error) => return (Err(error), false),
+    };
+    let project = match project_of(alloc, host, environ, &wanted, path.as_path()) {
+        Ok(project) => project,
+        Err(error) => return (Err(error), false),
+    };
+    let planned = plan_of(alloc, host, environ, &wanted, &project);
+    (planned, project.settings.fallback)
+}
+
+/// Whether another justfile is tried behind one that sets fallback, or doesn't, and is refused so.
+fn falls_back(fallback: bool, error: &Error) -> bool
+    ensures { result ≡ (fallback && is_lacking error.now) }
+{
+    fallback && is_lacking(error)
+}
+
+/// The plan that is asked of the justfile in a place; or why there is none, and the place of the justfile that is tried in its stead, if one is. The record
+/// gains the misses of files that aren't there, and the entry of the refused call.
+fn plan_or_next<H: Host>(
+    alloc: Global,
+    host: &mut H,
+    environ: &Environ,
+    config: &Config,
+    location: &Location,
+) -> Result<Planned, (Error, Option<Location>)>
+    ensures grew { (es : List Entry) × (H.entries host.new ≡ H.entries host.old ++ es) × MatchResult result (λ _. AreMisses es) (λ e. MatchOption e.1 (EndsWith [] e.0 es) (λ _. AreMisses es)) }
+    ensures world { H.world host.new ≡ H.world host.old }
+    ensures plan { IfOk result (λ r. TriesFrom (H.world host.old) (record { config = config.now; environ = environ.now }) location.now (Ok (outline_of r.0 (option_map non_zero_u64_get r.1) r.2))) }
+    ensures refused { IfErr result (λ e. MatchOption e.1 (OrMemory (λ x. TriesFrom (H.world host.old) (record { config = config.now; environ = environ.now }) location.now (Err x)) e.0) (λ l. FallsTo (H.world host.old) (record { config = config.now; environ = environ.now }) location.now l)) }
+    ensures higher { IfErr result (λ e. MatchOption e.1 (Unit {0}) (λ l. length l.working_directory < length location.now.working_directory)) }
+{
+    let (planned, fallback) = plan_at(alloc, host, environ, config, location);
+    let error = match planned {
+        Ok(planned) => return Ok(planned),
+        Err(error) => error,
+    };
+    if !falls_back(fallback, &error) {
+        return Err((error, None));
+    }
+    match find_fallback(alloc, location.working_directory.as_path(), config, host) {
+        Ok(next) => Err((error, next)),
+        Err(refusal) => {
+            drop(error);
+            Err((Error::from(refusal), None))
+        }
+    }
+}
+
+/// The plan that is asked of the justfiles that are tried from a place on. The record gains the misses of files that aren't there, and the entry of the refused
+/// call.
+fn plan_from<H: Host>(
+    alloc: Global,
+    host: &mut H,
+    environ: &Environ,
+    config: &Config,
+    location: Location,
+) -> Result<Planned, Error>
+    ensures grew { (es : List Entry) × (H.entries host.new ≡ H.entries host.old ++ es) × MatchResult result (λ _. AreMisses es) (λ e. EndsWith [] e es) }
+    ensures world { H.world host.new ≡ H.world host.old }
+    ensures plan { IfOk result (λ r. TriesFrom (H.world host.old) (record { config = config.now; environ = environ.now }) location (Ok (outline_of r.0 (option_map non_zero_u64_get r.1) r.2))) }
+    ensures refused { IfErr result (OrMemory (λ e. TriesFrom (H.world host.old) (record { config = config.now; environ = environ.now }) location (Err e))) }
+{
+    let mut place = location;
+    'places: loop {
+        let (error, next) = match plan_or_next(alloc, host, environ, config, &place) {
+            Ok(planned) => return Ok(planned),
+            Err(refused) => refused,
+        };
+        match next {
+            None => return Err(error),
+            Some(next) => {
+                drop(error);
+                place = next;
+            }
+        }
+    }
+}
+
+/// Whether the words allow that a name is missing.
+fn is_allowed(config: &Config, error: &Error) -> bool
+    ensures { result ≡ (config.now.allow_missing && is_missing error.now) }
+{
+    config.allow_missing && is_missing(error)
+}
+
+/// The plan of no node.
+fn plan_nothing(alloc: Global, config: &Config) -> Planned
+    ensures { outline_of result.0 (option_map non_zero_u64_get result.1) result.2 ≡ empty_outline config.now }
+{
+    (empty_plan(alloc), config.jobs, Seq::new(alloc))
+}
+
+/// The plan that is asked of the justfile in a place, and of those that are tried behind it; that of no node, where a name is missing and the words allow it. The
+/// record gains the misses of files that aren't there, and the entry of the refused call.
+fn plan_allowed<H: Host>(
+    alloc: Global,
+    host: &mut H,
+    environ: &Environ,
+    config: &Config,
+    location: Location,
+) -> Result<Planned, Error>
+    ensures grew { (es : List Entry) × (H.entries host.new ≡ H.entries host.old ++ es) × MatchResult result (λ _. AreMisses es) (λ e. EndsWith [] e es) }
+    ensures world { H.world host.new ≡ H.world host.old }
+    ensures plan { IfOk result (λ r. Tries (H.world host.old) (record { config = config.now; environ = environ.now; location = location }) (Ok (outline_of r.0 (option_map non_zero_u64_get r.1) r.2))) }
+    ensures refused { IfErr result (OrMemory (λ e. Tries (H.world host.old) (record { config = config.now; environ = environ.now; location = location }) (Err e))) }
+{
+    match plan_from(alloc, host, environ, config, location) {
+        Ok(planned) => Ok(planned),
+        Err(error) => {
+            if is_allowed(config, &error) {
+                drop(error);
+                return Ok(plan_nothing(alloc, config));
+            }
+            Err(error)
+        }
+    }
+}
+
+/// The same for a configuration that isn't used any more.
+pub(crate) fn plan_tried<H: Host>(
     alloc: Global,
     host: &mut H,
     environ: &Environ,
@@ -92,27 +259,5 @@ pub(crate) fn plan_at<H: Host>(
     ensures plan { IfOk result (λ r. Tries (H.world host.old) (record { config = config; environ = environ.now; location = location }) (Ok (outline_of r.0 (option_map non_zero_u64_get r.1) r.2))) }
     ensures refused { IfErr result (OrMemory (λ e. Tries (H.world host.old) (record { config = config; environ = environ.now; location = location }) (Err e))) }
 {
-    let searching = is_searching(&config.search_config);
-    let (wanted, path) = match take(alloc, config, location) {
-        Ok(taken) => taken,
-        Err(error) => return Err(error),
-    };
-    let project = match project_of(alloc, host, environ, &wanted, path.as_path()) {
-        Ok(project) => project,
-        Err(error) => return Err(error),
-    };
-    let above = looks_above(searching, &project);
-    // The clauses speak of the list of the project's modules: it is there.
-    let _modules = match all_modules(alloc, &project) {
-        Ok(modules) => modules,
-        Err(NoMemory) => return Err(Error::NoMemory),
-    };
-    let pairs = match pairs_of(alloc, host, environ, &wanted, &project) {
-        Ok(pairs) => pairs,
-        Err(error) => return Err(error),
-    };
-    match plan_of_project(alloc, &project, pairs.as_slice(), environ, &wanted) {
-        Ok((plan, messages)) => Ok((plan, wanted.jobs, messages)),
-        Err(error) => Err(standing(alloc, above, error)),
-    }
+    plan_allowed(alloc, host, environ, &config, location)
 }

@@ -4,7 +4,7 @@ use Rattle.just_cli.proofs.Refusals.{untaken_markdown, untaken_input}
 use Rattle.just_cli.proofs.configured.take.Goals as goal
 
 pub returns-in-Markdown-clause-refused : goal.returns-in-Markdown-clause-refused
-returns-in-Markdown-clause-refused c = untaken_markdown c.args.config c.args.location c.in-Markdown.field-0 _ _ c.in-Markdown.is refl c.not_built_error.ensures
+returns-in-Markdown-clause-refused c = untaken_markdown c.args.config.now c.args.location.now _ _ _ c.in-Markdown.is refl c.not_built_error.ensures
 
 pub returns-in-StandardInput-clause-refused : goal.returns-in-StandardInput-clause-refused
-returns-in-StandardInput-clause-refused c = untaken_input c.args.config c.args.location _ _ c.in-StandardInput.is refl c.not_built_error-in-StandardInput.ensures
+returns-in-StandardInput-clause-refused c = untaken_input c.args.config.now c.args.location.now _ _ c.in-StandardInput.is refl c.not_built_error-in-StandardInput.ensures

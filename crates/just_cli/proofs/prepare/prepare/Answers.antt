@@ -1,6 +1,6 @@
 -- What the arguments ask for is what the words ask for; or the environment isn't there, or the words are faulty.
 use Rattle.std.proofs.Common.{refl}
-use Rattle.just_cli.proofs.Asking.{quiet_without_environ, quiet_without_words, quiet_of_words, asks_quiet}
+use Rattle.just_cli.proofs.Asking.{quiet_without_environ, quiet_without_words, quiet_of_words}
 use Rattle.just_cli.proofs.Serving.{environ_lost, unanswered, words_refused, words_served, words_unserved}
 use Rattle.just_cli.proofs.prepare.prepare.Goals as goal
 
@@ -13,7 +13,7 @@ returns-in-Err-clause-quiet g c = quiet_without_environ _ _ _ c.in-Err.ensures.r
 pub returns-in-Ok-serve-clause-asked : goal.returns-in-Ok-serve-clause-asked
 returns-in-Ok-serve-clause-asked g c =
     let means = rw c.in-Ok-Go.field-0-is at c.in-Ok-Go.ensures.read in
-    (words_served _ _ _ _ c.in-Ok.ensures.gives _ means _ c.environment.ensures.world _ _ c.in-Ok.ensures.grew _ c.in-Ok-serve.ensures.served, asks_quiet _ _ _ c.in-Ok.ensures.gives _ _ means refl)
+    words_served _ _ _ _ c.in-Ok.ensures.gives _ means _ c.environment.ensures.world _ _ c.in-Ok.ensures.grew _ c.in-Ok-serve.ensures.served
 
 pub returns-in-Ok-Go-clause-refused : goal.returns-in-Ok-Go-clause-refused
 returns-in-Ok-Go-clause-refused g c =

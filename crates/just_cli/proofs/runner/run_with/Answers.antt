@@ -2,6 +2,7 @@
 use Rattle.std.proofs.Common.{◌∙◌, refl}
 use Rattle.just_cli.specs.Run.{by_run}
 use Rattle.just_cli.proofs.Asking.{quiet_read}
+use Rattle.just_cli.proofs.NewJustfile.{new_ended}
 use Rattle.just_cli.proofs.Serving.{unstarted}
 use Rattle.just_cli.proofs.Runs.{run_before, run_well, run_ill}
 use Rattle.just_cli.proofs.Shown.{text_ended}
@@ -21,6 +22,9 @@ pub returns-in-Ok-Show : goal.returns-in-Ok-Show
 returns-in-Ok-Show g c =
     let asks = rw c.in-Ok-Show.field-0-is at c.in-Ok-Show.ensures.asked in
     text_ended _ _ _ _ _ _ _ _ _ _ asks.1 c.as_str.ensures c.prepare.ensures.world asks.0 c.show.ensures
+
+pub returns-in-Ok-Init : goal.returns-in-Ok-Init
+returns-in-Ok-Init g c = new_ended _ _ _ _ _ _ _ _ _ _ (rw c.in-Ok-Init.field-0-is at c.in-Ok-Init.ensures.asked) c.prepare.ensures.world c.init.ensures
 
 pub returns-in-None : goal.returns-in-None
 returns-in-None g c =

@@ -1,0 +1,39 @@
+-- The answer of the whole list of justfiles, as far as it goes by `fallback` alone.
+use Rattle.std.specs.Prelude.{◌≡◌, ◌++◌, ◌⊎◌, Bool, true, false, List, [], ◌∷◌, Option, Some, Result, Ok, Err}
+use Rattle.std.specs.List.{AllByRecursion}
+use Rattle.just_outside.specs.World.{World}
+use Rattle.just_env.specs.declared.search_error.SearchError.{SearchError}
+use Rattle.just_locate.specs.declared.location.Location.{Location}
+use Rattle.just_fallback.specs.Fallback.{AreTried}
+use Rattle.just_value.specs.Modules.{settings_of}
+use Rattle.just_errors.specs.declared.error.Error.{Error}
+use Rattle.just_errors.specs.Refusals.{error_of_search}
+use Rattle.just_planning.specs.Own.{is_fault, IsOwn}
+use Rattle.just_planning.specs.Request.{ProjectRequest, Outline}
+use Rattle.just_cli.specs.Options.{is_lacking, lacks, allowed}
+use Rattle.just_cli.specs.Words.{ConfigRequest, LocatedRequest}
+use Rattle.just_cli.specs.Request.{FindsProjectAt, at_place, AnswersItem, Tries}
+
+-- whether the justfile in a place sets fallback; one whose project is refused sets none
+pub data SetsFallback (told : Option World) (c : ConfigRequest) (location : Location) (fallback : Bool) : Type 0 where
+  of_project : (p : ProjectRequest) → FindsProjectAt told (at_place c location) (Ok p) → fallback ≡ (settings_of p.justfile).fallback → SetsFallback told c location fallback
+  no_project : (e : Error) → FindsProjectAt told (at_place c location) (Err e) → IsOwn {A = ProjectRequest} (Err e) → fallback ≡ false → SetsFallback told c location fallback
+
+-- one that is tried lacks what is asked for
+abbrev pub Lacks : Option World → ConfigRequest → Result Location SearchError → Type 0
+Lacks told c item = (e : Error) × AnswersItem told c item (Err e) × (is_lacking e ≡ true)
+
+-- the answer of the first of some that doesn't lack it, or of the last where there is no such
+pub data AnswersFirst (told : Option World) (c : ConfigRequest) (items : List (Result Location SearchError)) (r : Result Outline Error) : Type 0 where
+  answers : (before behind : List (Result Location SearchError)) (item : Result Location SearchError) → items ≡ before ++ item ∷ behind → AllByRecursion (Lacks told c) before → AnswersItem told c item r → (lacks r ≡ false) ⊎ (behind ≡ [])
+      → AnswersFirst told c items r
+
+-- no failed call of the host is among them
+abbrev pub IsFound : Result Location SearchError → Type 0
+IsFound (Ok location) = Unit {0}
+IsFound (Err e) = is_fault (error_of_search e) ≡ false
+
+-- over a told world the answer to the words is that of the first in the whole list, which the words may allow
+abbrev pub FirstAnswers : Type 0
+FirstAnswers = (w : World) (q : LocatedRequest) (items : List (Result Location SearchError)) (r : Result Outline Error) → AreTried (Some w) q.config (SetsFallback (Some w) (record { config = q.config; environ = q.environ })) q.location items
+    → AllByRecursion IsFound items → Tries (Some w) q r → IsOwn r → (x : Result Outline Error) × AnswersFirst (Some w) (record { config = q.config; environ = q.environ }) items x × (r ≡ allowed q.config x)

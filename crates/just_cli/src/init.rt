@@ -1,0 +1,168 @@
+//! The justfile that `--init` writes.
+
+ghost use Rattle.std.specs.Prelude.{◌≡◌, ◌++◌, false, [], List, Result, Ok, Err, IfOk, IfErr, MatchResult, string_bytes};
+ghost use Rattle.just_path.specs.Path.{text_of};
+ghost use Rattle.just_outside.specs.declared.entry.Call.TheVariants.{Print as PrintCall};
+ghost use Rattle.just_outside.specs.declared.entry.Entry.{Entry};
+ghost use Rattle.just_outside.specs.declared.entry.HostFault.TheVariants.{Failed as CallFailed};
+ghost use Rattle.just_errors.specs.declared.error.Error.TheVariants.{StdoutIo as NotPrinted};
+ghost use Rattle.just_planning.specs.Own.{OrMemory};
+ghost use Rattle.just_cli.specs.Faults.{entries_of, write_error as told_error};
+ghost use Rattle.just_cli.specs.NewPath.{is_init, is_written_to, FindsPath, IsFree, FindsFree};
+ghost use Rattle.just_cli.specs.Preparing.{AreMisses, EndsWith};
+ghost use Rattle.just_cli.specs.Written.{written_line, told_line, Writes, IsUnwritten, IsWritten};
+
+use super::failure::fail;
+use super::init_text::INIT_JUSTFILE;
+use super::show::{empty_plan, print_error};
+use super::{Ended, Error, Report};
+use just_config::{Config, Subcommand};
+use just_host::{Call, Host, HostFault, Stream};
+use just_init::Search;
+use just_path::{Kind, NoMemory, PathFault, Seq, Utf8Path, Utf8PathBuf};
+use std::alloc::Global;
+
+/// Whether a command asks for a new justfile.
+pub(crate) fn is_init(command: &Option<Subcommand>) -> bool
+    ensures { result ≡ is_init command.now }
+{
+    matches!(command, Some(Subcommand::Init(_)))
+}
+
+/// Whether it is a file, or what is written as one.
+fn is_written_to(kind: Kind) -> bool
+    ensures { result ≡ is_written_to kind }
+{
+    match kind {
+        Kind::File | Kind::Other => true,
+        Kind::Folder | Kind::Link => false,
+    }
+}
+
+/// The path where a new justfile is to be written.
+#[tactic(auto, using(crate::proofs::NewPath::path_found, crate::proofs::NewPath::path_refused, crate::proofs::NewPath::path_entries))]
+fn find_path<H: Host>(alloc: Global, host: &mut H, config: &Config) -> Result<Utf8PathBuf, Error>
+    ensures grew { MatchResult result (λ _. H.entries host.new ≡ H.entries host.old) (λ e. H.entries host.new ≡ H.entries host.old ++ entries_of e) }
+    ensures world { H.world host.new ≡ H.world host.old }
+    ensures path { IfOk result (λ p. FindsPath (H.world host.old) config.now (Ok p)) }
+    ensures refused { IfErr result (OrMemory (λ e. FindsPath (H.world host.old) config.now (Err e))) }
+{
+    match Search::init(alloc, config, host) {
+        Ok(search) => Ok(search.justfile),
+        Err(error) => Err(Error::from(error)),
+    }
+}
+
+/// The path, where no file stands at it. The record gains the miss of a path at which nothing stands.
+#[tactic(auto, using(crate::proofs::NewPath::shows_found, crate::proofs::NewPath::shows_missed, crate::proofs::NewPath::leaves_nothing, crate::proofs::NewPath::leaves_miss, crate::proofs::NewPath::leaves_refusal))]
+fn if_free<H: Host>(host: &mut H, path: Utf8PathBuf) -> Result<Utf8PathBuf, Error>
+    ensures grew { (es : List Entry) × (H.entries host.new ≡ H.entries host.old ++ es) × MatchResult result (λ _. AreMisses es) (λ e. EndsWith [] e es) }
+    ensures world { H.world host.new ≡ H.world host.old }
+    ensures free { IfOk result (λ p. IsFree (H.world host.old) path (Ok p)) }
+    ensures refused { IfErr result (OrMemory (λ e. IsFree (H.world host.old) path (Err e))) }
+{
+    match host.meta(path.as_path(), true) {
+        Ok(meta) => if is_written_to(meta.kind) {
+            Err(Error::InitExists { justfile: path })
+        } else {
+            Ok(path)
+        },
+        Err(PathFault::Missed(_)) => Ok(path),
+        Err(PathFault::Failed) => Err(Error::FilesystemIo {
+            path,
+            io: HostFault::Failed(Call::Meta),
+        }),
+        Err(PathFault::NoMemory) => Err(Error::NoMemory),
+    }
+}
+
+/// The path where a new justfile is to be written, at which no file stands. The record gains its miss where nothing stands there, and the entry of
+/// the refused call.
+#[tactic(auto, using(crate::proofs::NewPath::behind_nothing, crate::proofs::NewPath::leaves_refusal))]
+pub(crate) fn find_free<H: Host>(
+    alloc: Global,
+    host: &mut H,
+    config: &Config,
+) -> Result<Utf8PathBuf, Error>
+    ensures grew { (es : List Entry) × (H.entries host.new ≡ H.entries host.old ++ es) × MatchResult result (λ _. AreMisses es) (λ e. EndsWith [] e es) }
+    ensures world { H.world host.new ≡ H.world host.old }
+    ensures free { IfOk result (λ p. FindsFree (H.world host.old) config.now (Ok p)) }
+    ensures refused { IfErr result (OrMemory (λ e. FindsFree (H.world host.old) config.now (Err e))) }
+{
+    let path = match find_path(alloc, host, config) {
+        Ok(path) => path,
+        Err(error) => return Err(error),
+    };
+    match if_free(host, path) {
+        Ok(path) => Ok(path),
+        Err(error) => Err(error),
+    }
+}
+
+/// The line that tells of a written justfile.
+fn written_line(alloc: Global, path: &str) -> Result<String, NoMemory>
+    ensures { IfOk result (λ line. string_bytes line ≡ written_line path.now) }
+{
+    Ok(format!(in alloc; "wrote justfile to `{path}`\n")?)
+}
+
+/// The error of a justfile that wasn't written.
+fn write_error(justfile: Utf8PathBuf, fault: HostFault) -> Error
+    ensures { result ≡ told_error justfile fault }
+{
+    match fault {
+        HostFault::NoMemory => Error::NoMemory,
+        HostFault::Missed(_) | HostFault::Failed(_) => Error::WriteJustfile {
+            justfile,
+            io: fault,
+        },
+    }
+}
+
+/// Tells a line on standard error, unless the words ask for quiet.
+#[tactic(auto, using(crate::proofs::NewJustfile::line_quiet, crate::proofs::NewJustfile::line_told))]
+fn tell_line<H: Host>(host: &mut H, quiet: bool, line: &str) -> Result<(), Error>
+    ensures told { IfOk result (λ _. H.entries host.new ≡ H.entries host.old ++ told_line quiet line.now) }
+    ensures untold { IfErr result (λ e. (quiet ≡ false) × OrMemory (λ x. x ≡ NotPrinted (CallFailed PrintCall)) e × (H.entries host.new ≡ H.entries host.old ++ entries_of e)) }
+    ensures world { H.world host.new ≡ H.world host.old }
+{
+    if quiet {
+        return Ok(());
+    }
+    match host.print(Stream::Err, line) {
+        Ok(()) => Ok(()),
+        Err(fault) => Err(print_error(fault)),
+    }
+}
+
+/// Writes the justfile at a path, and tells of it.
+fn write<H: Host>(alloc: Global, host: &mut H, path: Utf8PathBuf, quiet: bool) -> Result<(), Error>
+    ensures written { IfOk result (λ _. Writes path (H.world host.old) (H.world host.new) (Ok tt) × (H.entries host.new ≡ H.entries host.old ++ told_line quiet (written_line path))) }
+    ensures unwritten { IfErr result (λ e. IsUnwritten path quiet (H.world host.old) (H.world host.new) e × (H.entries host.new ≡ H.entries host.old ++ entries_of e)) }
+{
+    let line = match written_line(alloc, path.as_str()) {
+        Ok(line) => line,
+        Err(NoMemory) => return Err(Error::NoMemory),
+    };
+    match host.write(path.as_path(), INIT_JUSTFILE.as_bytes()) {
+        Ok(()) => tell_line(host, quiet, line.as_str()),
+        Err(fault) => Err(write_error(path, fault)),
+    }
+}
+
+/// Writes the justfile at a path, in the place of a run, and tells of it on standard error, unless the words ask for quiet.
+pub(crate) fn init<H: Host>(alloc: Global, host: H, path: Utf8PathBuf, quiet: bool) -> Ended<H>
+    ensures { IsWritten path quiet (H.world host) (H.world result.host) (H.entries host) (H.entries result.host) result.result }
+{
+    let mut host = host;
+    match write(alloc, &mut host, path, quiet) {
+        Ok(()) => Ended {
+            host,
+            result: Ok(Report {
+                plan: empty_plan(alloc),
+                history: Seq::new(alloc),
+            }),
+        },
+        Err(error) => fail(alloc, host, error, quiet, None, Seq::new(alloc)),
+    }
+}
