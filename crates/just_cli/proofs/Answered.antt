@@ -4,7 +4,7 @@ use Rattle.std.specs.Prelude.{MatchResult}
 use Rattle.std.proofs.Math.Logic.{∥∥₁_map, ∥∥₁_elim}
 use Rattle.just_outside.specs.World.{World}
 use Rattle.just_outside.specs.declared.entry.Entry.{Entry}
-use Rattle.just_sched.specs.declared.plan.Plan.{Plan}
+use Rattle.just_history.specs.declared.plan.Plan.{Plan}
 use Rattle.just_errors.specs.declared.error.Error.{Error}
 use Rattle.just_cli.specs.declared.ended.Failure.{Failure}
 use Rattle.just_cli.specs.declared.ended.Report.{Report}

@@ -18,14 +18,14 @@ use Rattle.just_outside.specs.declared.entry.Entry.{Entry}
 use Rattle.just_outside.specs.declared.entry.Entry.TheVariants as entry
 use Rattle.just_outside.specs.declared.entry.HostFault.{HostFault}
 use Rattle.just_outside.specs.declared.entry.HostFault.TheVariants as fault
-use Rattle.just_sched.specs.declared.event.Event.{Event}
-use Rattle.just_sched.specs.declared.plan.Plan.{Plan}
-use Rattle.just_sched.specs.declared.plan_node.PlanNode.{PlanNode}
-use Rattle.just_sched.specs.Causes.{ShowsFailure, ShowsMiss}
-use Rattle.just_sched.specs.Favourable.{is_favourable, IsFavourable}
-use Rattle.just_sched.specs.Touched.{IsTouched}
-use Rattle.just_sched.specs.Start.{Start, IsKept, run_of}
-use Rattle.just_sched.proofs.Laws.{nothing_started}
+use Rattle.just_history.specs.declared.event.Event.{Event}
+use Rattle.just_history.specs.declared.plan.Plan.{Plan}
+use Rattle.just_history.specs.declared.plan_node.PlanNode.{PlanNode}
+use Rattle.just_history.specs.Causes.{ShowsFailure, ShowsMiss}
+use Rattle.just_history.specs.Favourable.{is_favourable, IsFavourable}
+use Rattle.just_history.specs.Touched.{IsTouched}
+use Rattle.just_history.specs.Start.{Start, IsKept, run_of}
+use Rattle.just_history.proofs.Laws.{nothing_started}
 use Rattle.just_cli.specs.declared.ended.Failure.{Failure}
 use Rattle.just_cli.specs.declared.ended.Report.{Report}
 use Rattle.just_errors.specs.declared.error.Error.{Error}

@@ -10,7 +10,7 @@ use Rattle.just_outside.specs.Changes.{place_written, written, Changes}
 use Rattle.just_outside.specs.Record.{refused, IsOwnFault, IsNoMiss}
 use Rattle.just_outside.specs.World.{World}
 use Rattle.just_env.specs.Answers.{GainsMisses}
-use Rattle.just_sched.specs.declared.event.Event.{Event}
+use Rattle.just_history.specs.declared.event.Event.{Event}
 use Rattle.just_errors.specs.Codes.{exit_code}
 use Rattle.just_errors.specs.declared.error.Error.{Error}
 use Rattle.just_errors.specs.declared.error.Error.TheVariants as error

@@ -4,17 +4,17 @@ use Rattle.std.specs.Prelude.{ℕ}
 use Rattle.std.proofs.Math.Logic.{∥∥₁_map}
 use Rattle.just_outside.specs.World.{World}
 use Rattle.just_outside.specs.declared.entry.Entry.{Entry}
-use Rattle.just_sched.specs.declared.event.Event.{Event}
-use Rattle.just_sched.specs.declared.event.Verdict.{Verdict}
-use Rattle.just_sched.specs.declared.event.Verdict.TheVariants as verdict
-use Rattle.just_sched.specs.declared.plan.Plan.{Plan}
-use Rattle.just_sched.specs.declared.plan_node.PlanNode.{PlanNode}
+use Rattle.just_history.specs.declared.event.Event.{Event}
+use Rattle.just_history.specs.declared.event.Verdict.{Verdict}
+use Rattle.just_history.specs.declared.event.Verdict.TheVariants as verdict
+use Rattle.just_history.specs.declared.plan.Plan.{Plan}
+use Rattle.just_history.specs.declared.plan_node.PlanNode.{PlanNode}
 use Rattle.just_sched.specs.Driven.{IsDriven}
-use Rattle.just_sched.specs.Idle.{HasWork}
-use Rattle.just_sched.specs.Legal.{Run, IsComplete}
-use Rattle.just_sched.specs.Start.{IsKept, run_over, start_with}
-use Rattle.just_sched.specs.State.{has_caught}
-use Rattle.just_sched.specs.Verdict.{IsVerdict, NoneDecides}
+use Rattle.just_history.specs.Idle.{HasWork}
+use Rattle.just_history.specs.Legal.{Run, IsComplete}
+use Rattle.just_history.specs.Start.{IsKept, run_over, start_with}
+use Rattle.just_history.specs.State.{has_caught}
+use Rattle.just_history.specs.Verdict.{IsVerdict, NoneDecides}
 use Rattle.just_cli.specs.declared.ended.Failure.{Failure}
 use Rattle.just_cli.specs.declared.ended.Report.{Report}
 use Rattle.just_errors.specs.declared.error.Error.{Error}

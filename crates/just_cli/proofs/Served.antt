@@ -5,8 +5,8 @@ use Rattle.std.proofs.Math.Logic.{∥∥₁_map, ∥∥₁_elim, ∥∥₁_prop}
 use Rattle.std.proofs.lemmas.List.Sums.{AllPass-from_list_all, list_all-from_AllPass}
 use Rattle.just_outside.specs.World.{World}
 use Rattle.just_outside.specs.declared.entry.Entry.{Entry}
-use Rattle.just_sched.specs.Favourable.{is_favourable}
-use Rattle.just_sched.specs.declared.plan.Plan.{Plan}
+use Rattle.just_history.specs.Favourable.{is_favourable}
+use Rattle.just_history.specs.declared.plan.Plan.{Plan}
 use Rattle.just_errors.specs.declared.error.Error.TheVariants as error
 use Rattle.just_cli.specs.declared.ended.Failure.{Failure}
 use Rattle.just_cli.specs.declared.ended.Report.{Report}

@@ -5,7 +5,7 @@ use Rattle.just_outside.specs.Record.{refused}
 use Rattle.just_outside.specs.declared.entry.Entry.{Entry}
 use Rattle.just_outside.specs.declared.entry.HostFault.{HostFault}
 use Rattle.just_outside.specs.declared.entry.HostFault.TheVariants as fault
-use Rattle.just_sched.specs.declared.event.Event.{Event}
+use Rattle.just_history.specs.declared.event.Event.{Event}
 use Rattle.just_cli.specs.declared.ended.Failure.{Failure}
 use Rattle.just_cli.specs.declared.ended.Report.{Report}
 use Rattle.just_errors.specs.declared.error.Error.{Error}

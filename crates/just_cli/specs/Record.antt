@@ -6,18 +6,18 @@ use Rattle.just_outside.specs.declared.entry.Entry.{Entry}
 use Rattle.just_outside.specs.declared.entry.Entry.TheVariants as entry
 use Rattle.just_outside.specs.declared.entry.Stream.TheVariants as stream
 use Rattle.just_outside.specs.Record.{is_failed, is_started}
-use Rattle.just_sched.specs.declared.event.Event.{Event}
-use Rattle.just_sched.specs.declared.event.Verdict.{Verdict}
-use Rattle.just_sched.specs.declared.plan.Plan.{Plan}
-use Rattle.just_sched.specs.CacheRule.{GoesByCacheRule, IsSkippedByLook}
-use Rattle.just_sched.specs.Cached.{is_cached}
-use Rattle.just_sched.specs.Favourable.{IsFavourable}
-use Rattle.just_sched.specs.Idle.{HasWork}
-use Rattle.just_sched.specs.Legal.{Run, IsLegal, IsClosed, IsComplete}
-use Rattle.just_sched.specs.Match.{Matches}
-use Rattle.just_sched.specs.Start.{run_over}
-use Rattle.just_sched.specs.State.{has_caught}
-use Rattle.just_sched.specs.Verdict.{IsVerdict, NoneDecides}
+use Rattle.just_history.specs.declared.event.Event.{Event}
+use Rattle.just_history.specs.declared.event.Verdict.{Verdict}
+use Rattle.just_history.specs.declared.plan.Plan.{Plan}
+use Rattle.just_history.specs.CacheRule.{GoesByCacheRule, IsSkippedByLook}
+use Rattle.just_history.specs.Cached.{is_cached}
+use Rattle.just_history.specs.Favourable.{IsFavourable}
+use Rattle.just_history.specs.Idle.{HasWork}
+use Rattle.just_history.specs.Legal.{Run, IsLegal, IsClosed, IsComplete}
+use Rattle.just_history.specs.Match.{Matches}
+use Rattle.just_history.specs.Start.{run_over}
+use Rattle.just_history.specs.State.{has_caught}
+use Rattle.just_history.specs.Verdict.{IsVerdict, NoneDecides}
 use Rattle.just_outcome.specs.Caused.{IsCaused}
 use Rattle.just_planning.specs.Own.{is_fault}
 use Rattle.just_outcome.specs.Outcome.{IsErrorFor}

@@ -13,7 +13,7 @@ use Rattle.just_words.specs.Words.{Means}
 use Rattle.just_locate.specs.Listing.{is_refused_listing}
 use Rattle.just_env.specs.declared.search_error.SearchError.{SearchError}
 use Rattle.just_search.specs.Loads.{Loads}
-use Rattle.just_sched.specs.declared.plan.Plan.{Plan}
+use Rattle.just_history.specs.declared.plan.Plan.{Plan}
 use Rattle.just_errors.specs.Refusals.{error_of_search}
 use Rattle.just_errors.specs.declared.error.Error.{Error}
 use Rattle.just_errors.specs.declared.error.Error.TheVariants as error

@@ -3,9 +3,9 @@ use Rattle.std.specs.Prelude.{ℕ, ◌≡◌, ◌<◌, ◌++◌, Bool, true, Lis
 use Rattle.just_outside.specs.Record.{faults_of, misses_of}
 use Rattle.just_outside.specs.World.{World}
 use Rattle.just_outside.specs.declared.entry.Entry.{Entry}
-use Rattle.just_sched.specs.Favourable.{IsFavourable}
-use Rattle.just_sched.specs.Touched.{IsTouched}
-use Rattle.just_sched.specs.declared.plan.Plan.{Plan}
+use Rattle.just_history.specs.Favourable.{IsFavourable}
+use Rattle.just_history.specs.Touched.{IsTouched}
+use Rattle.just_history.specs.declared.plan.Plan.{Plan}
 use Rattle.just_cli.specs.declared.ended.Failure.{Failure}
 use Rattle.just_cli.specs.declared.ended.Report.{Report}
 use Rattle.just_errors.specs.Codes.{exit_code}

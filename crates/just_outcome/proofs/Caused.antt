@@ -15,26 +15,26 @@ use Rattle.just_outside.specs.declared.entry.Script.{Script}
 use Rattle.just_outside.specs.declared.entry.Status.{Status}
 use Rattle.just_outside.specs.declared.entry.Status.TheVariants as status
 use Rattle.just_outside.specs.declared.signal.Signal.{Signal}
-use Rattle.just_sched.specs.declared.event.Event.{Event}
-use Rattle.just_sched.specs.declared.event.Event.TheVariants as event
-use Rattle.just_sched.specs.declared.event.Reason.{Reason}
-use Rattle.just_sched.specs.declared.event.Reason.TheVariants as reason
-use Rattle.just_sched.specs.declared.event.Verdict.{Verdict}
-use Rattle.just_sched.specs.declared.event.Verdict.TheVariants as verdict
-use Rattle.just_sched.specs.declared.plan_node.PlanNode.{PlanNode}
+use Rattle.just_history.specs.declared.event.Event.{Event}
+use Rattle.just_history.specs.declared.event.Event.TheVariants as event
+use Rattle.just_history.specs.declared.event.Reason.{Reason}
+use Rattle.just_history.specs.declared.event.Reason.TheVariants as reason
+use Rattle.just_history.specs.declared.event.Verdict.{Verdict}
+use Rattle.just_history.specs.declared.event.Verdict.TheVariants as verdict
+use Rattle.just_history.specs.declared.plan_node.PlanNode.{PlanNode}
 use Rattle.just_commands.specs.declared.work.Command.{Command}
 use Rattle.just_commands.specs.declared.work.Step.TheVariants as step
 use Rattle.just_commands.specs.declared.work.Work.{Work}
 use Rattle.just_commands.specs.declared.work.Work.TheVariants as work
-use Rattle.just_sched.specs.Favourable.{is_favourable, IsFavourable}
-use Rattle.just_sched.specs.Nodes.{work_in, cache_in, paths_in, outputs_in}
+use Rattle.just_history.specs.Favourable.{is_favourable, IsFavourable}
+use Rattle.just_history.specs.Nodes.{work_in, cache_in, paths_in, outputs_in}
 use Rattle.just_commands.specs.Steps.{commands_of, after}
-use Rattle.just_sched.specs.Legal.{Run, IsLegal}
-use Rattle.just_sched.specs.Match.{Matches}
-use Rattle.just_sched.specs.State.{statuses, reason_of, caught_signal, next_step}
-use Rattle.just_sched.specs.Verdict.{IsVerdict}
-use Rattle.just_sched.specs.Causes.{ShowsFailure, ShowsMiss}
-use Rattle.just_sched.proofs.Laws.{last_status_shown, failed_by_statuses, failing_code, failing_guard, failed_call_shown, missed_call_shown, missed_input_shown, missing_output_shown, refusal_shown, caught_signal_shown}
+use Rattle.just_history.specs.Legal.{Run, IsLegal}
+use Rattle.just_history.specs.Match.{Matches}
+use Rattle.just_history.specs.State.{statuses, reason_of, caught_signal, next_step}
+use Rattle.just_history.specs.Verdict.{IsVerdict}
+use Rattle.just_history.specs.Causes.{ShowsFailure, ShowsMiss}
+use Rattle.just_history.proofs.Laws.{last_status_shown, failed_by_statuses, failing_code, failing_guard, failed_call_shown, missed_call_shown, missed_input_shown, missing_output_shown, refusal_shown, caught_signal_shown}
 use Rattle.just_errors.specs.declared.error.Error.{Error}
 use Rattle.just_errors.specs.declared.error.Error.TheVariants as error
 use Rattle.just_outcome.specs.Caused.{IsCaused, ShowsEnd, HasFailed, HasLostChild, ShowsInput, ShowsOutput}

@@ -1,13 +1,13 @@
 -- What just_outcome offers to the proofs of the crates above: the record shows the error of a run.
 use Rattle.std.proofs.Common.{◌≡◌, Bool, true, List, Some, Contains}
 use Rattle.just_outside.specs.declared.entry.Entry.{Entry}
-use Rattle.just_sched.specs.declared.event.Event.{Event}
-use Rattle.just_sched.specs.declared.event.Verdict.{Verdict}
-use Rattle.just_sched.specs.declared.plan_node.PlanNode.{PlanNode}
-use Rattle.just_sched.specs.Favourable.{is_favourable, IsFavourable}
-use Rattle.just_sched.specs.Legal.{Run, IsLegal}
-use Rattle.just_sched.specs.Match.{Matches}
-use Rattle.just_sched.specs.Verdict.{IsVerdict}
+use Rattle.just_history.specs.declared.event.Event.{Event}
+use Rattle.just_history.specs.declared.event.Verdict.{Verdict}
+use Rattle.just_history.specs.declared.plan_node.PlanNode.{PlanNode}
+use Rattle.just_history.specs.Favourable.{is_favourable, IsFavourable}
+use Rattle.just_history.specs.Legal.{Run, IsLegal}
+use Rattle.just_history.specs.Match.{Matches}
+use Rattle.just_history.specs.Verdict.{IsVerdict}
 use Rattle.just_errors.specs.declared.error.Error.{Error}
 use Rattle.just_errors.specs.declared.error.Error.TheVariants as error
 use Rattle.just_outcome.specs.Caused.{IsCaused}

@@ -4,9 +4,9 @@ use Rattle.std.specs.Prelude.{codes}
 use Rattle.just_outside.specs.declared.entry.HostFault.{HostFault}
 use Rattle.just_outside.specs.declared.entry.Look.{Look}
 use Rattle.just_errors.specs.declared.error.Error.TheVariants as error
-use Rattle.just_sched.specs.declared.cache_plan.CachePlan.{CachePlan}
+use Rattle.just_history.specs.declared.cache_plan.CachePlan.{CachePlan}
 use Rattle.just_key.specs.Digests.{digest}
-use Rattle.just_sched.specs.Cached.{key_with, entry_of}
+use Rattle.just_history.specs.Cached.{key_with, entry_of}
 use Rattle.just_outcome.specs.Outcome.{entry_seen, is_filled, copies_text}
 
 -- a path that isn't empty is copied

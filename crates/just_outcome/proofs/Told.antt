@@ -1,9 +1,9 @@
 -- The error that is told of a node.
 use Rattle.std.proofs.Common.{◌≡◌, ℕ, Bool, true, inl, inr, List, Option, Some, slice_get, refl, ap, sym, ◌∙◌, subst}
-use Rattle.just_sched.specs.declared.event.Event.{Event}
-use Rattle.just_sched.specs.declared.event.Reason.{Reason}
-use Rattle.just_sched.specs.declared.plan_node.PlanNode.{PlanNode}
-use Rattle.just_sched.specs.State.{reason_of}
+use Rattle.just_history.specs.declared.event.Event.{Event}
+use Rattle.just_history.specs.declared.event.Reason.{Reason}
+use Rattle.just_history.specs.declared.plan_node.PlanNode.{PlanNode}
+use Rattle.just_history.specs.State.{reason_of}
 use Rattle.just_errors.specs.declared.error.Error.{Error}
 use Rattle.just_errors.specs.declared.error.Error.TheVariants as error
 use Rattle.just_outcome.specs.Outcome.{shown_at, failure_error, is_told, error_in, node_error, copies_text, IsToldAs}

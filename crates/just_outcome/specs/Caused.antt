@@ -10,16 +10,16 @@ use Rattle.just_outside.specs.declared.entry.HostFault.{HostFault}
 use Rattle.just_outside.specs.declared.entry.HostFault.TheVariants as fault
 use Rattle.just_outside.specs.declared.entry.Status.{Status}
 use Rattle.just_outside.specs.declared.entry.Status.TheVariants as status
-use Rattle.just_sched.specs.declared.event.Event.{Event}
-use Rattle.just_sched.specs.declared.event.Event.TheVariants as event
-use Rattle.just_sched.specs.declared.event.Reason.{Reason}
-use Rattle.just_sched.specs.declared.event.Reason.TheVariants as reason
-use Rattle.just_sched.specs.declared.plan_node.PlanNode.{PlanNode}
+use Rattle.just_history.specs.declared.event.Event.{Event}
+use Rattle.just_history.specs.declared.event.Event.TheVariants as event
+use Rattle.just_history.specs.declared.event.Reason.{Reason}
+use Rattle.just_history.specs.declared.event.Reason.TheVariants as reason
+use Rattle.just_history.specs.declared.plan_node.PlanNode.{PlanNode}
 use Rattle.just_commands.specs.declared.work.Step.TheVariants as step
-use Rattle.just_sched.specs.Causes.{ShowsFailure, ShowsMiss, ShowsRefusal}
-use Rattle.just_sched.specs.Cached.{seen_at}
-use Rattle.just_sched.specs.Nodes.{paths_in, outputs_in}
-use Rattle.just_sched.specs.State.{next_step, reason_of, statuses}
+use Rattle.just_history.specs.Causes.{ShowsFailure, ShowsMiss, ShowsRefusal}
+use Rattle.just_history.specs.Cached.{seen_at}
+use Rattle.just_history.specs.Nodes.{paths_in, outputs_in}
+use Rattle.just_history.specs.State.{next_step, reason_of, statuses}
 use Rattle.just_commands.specs.Steps.{commands_of}
 use Rattle.just_outcome.specs.Outcome.{name_of, line_of, is_guard, lost_error, entry_seen, shown_at, failure_error}
 use Rattle.just_errors.specs.declared.error.Error.{Error}

@@ -14,16 +14,16 @@ use Rattle.just_outside.specs.declared.entry.HostFault.{HostFault}
 use Rattle.just_outside.specs.declared.entry.Status.{Status}
 use Rattle.just_outside.specs.declared.entry.Status.TheVariants as status
 use Rattle.just_outside.specs.Record.{text_or_empty}
-use Rattle.just_sched.specs.declared.event.Event.{Event}
-use Rattle.just_sched.specs.declared.event.Reason.{Reason}
-use Rattle.just_sched.specs.declared.event.Verdict.{Verdict}
-use Rattle.just_sched.specs.declared.event.Verdict.TheVariants as verdict
-use Rattle.just_sched.specs.declared.event.Reason.TheVariants as reason
-use Rattle.just_sched.specs.declared.plan_node.PlanNode.{PlanNode}
-use Rattle.just_sched.specs.declared.cache_plan.CachePlan.{CachePlan}
-use Rattle.just_sched.specs.Cached.{entry_of, seen_at}
-use Rattle.just_sched.specs.Nodes.{paths_in, outputs_in}
-use Rattle.just_sched.specs.State.{reason_of, statuses}
+use Rattle.just_history.specs.declared.event.Event.{Event}
+use Rattle.just_history.specs.declared.event.Reason.{Reason}
+use Rattle.just_history.specs.declared.event.Verdict.{Verdict}
+use Rattle.just_history.specs.declared.event.Verdict.TheVariants as verdict
+use Rattle.just_history.specs.declared.event.Reason.TheVariants as reason
+use Rattle.just_history.specs.declared.plan_node.PlanNode.{PlanNode}
+use Rattle.just_history.specs.declared.cache_plan.CachePlan.{CachePlan}
+use Rattle.just_history.specs.Cached.{entry_of, seen_at}
+use Rattle.just_history.specs.Nodes.{paths_in, outputs_in}
+use Rattle.just_history.specs.State.{reason_of, statuses}
 use Rattle.just_commands.specs.declared.work.Command.{Command}
 use Rattle.just_commands.specs.declared.work.Work.{Work}
 use Rattle.just_commands.specs.declared.work.Work.TheVariants as work

@@ -1,14 +1,14 @@
 //! The errors of caches.
 
 ghost use Rattle.std.specs.Prelude.{◌≡◌, true, [], None, slice_index_or, option_map, IfOk, IfErr};
-ghost use Rattle.just_sched.specs.Cached.{seen_at};
-ghost use Rattle.just_sched.specs.Nodes.{paths_in, outputs_in};
+ghost use Rattle.just_history.specs.Cached.{seen_at};
+ghost use Rattle.just_history.specs.Nodes.{paths_in, outputs_in};
 ghost use Rattle.just_outcome.specs.Outcome.{entries_folder, entry_seen as seen_entry, input_error as error_of_input, is_filled, copies_text};
 
 use just_errors::Error;
+use just_history::{CachePlan, Event, PlanNode, entry_path_of};
 use just_outside::HostFault;
 use just_path::{Miss, NoMemory, Text, Utf8PathBuf};
-use just_sched::{CachePlan, Event, PlanNode, entry_path_of};
 use std::alloc::Global;
 
 /// The error of a refused call on a path; without one nothing is copied.

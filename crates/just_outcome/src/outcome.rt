@@ -5,14 +5,14 @@ ghost use Rattle.std.specs.Option.{option_copied};
 ghost use Rattle.std.specs.List.{last_or};
 ghost use Rattle.just_outside.specs.Record.{text_or_empty};
 ghost use Rattle.just_outcome.specs.Outcome.{shown_at, name_of as recipe_name, code_error as error_of_code, status_error as error_of_status, last_error as error_of_last, shell_of as node_shell, with_blanks, spaced, first_of, script_error as error_of_script, lost_error as error_of_lost, is_told, miss_error as error_of_miss, fault_error as error_of_fault, failure_error as error_of_failure, node_error, copies_text, IsToldAs, IsErrorFor};
-ghost use Rattle.just_sched.specs.State.{statuses, reason_of as failure_of};
+ghost use Rattle.just_history.specs.State.{statuses, reason_of as failure_of};
 
 use super::cached::{entry_seen, folder_error, input_error, output_at, saved_error};
 use just_commands::{Command, Work, command};
 use just_errors::Error;
+use just_history::{Event, Plan, PlanNode, Reason, Verdict, last_status, reason_of, status_count};
 use just_outside::{Call, HostFault, Spec, Status};
 use just_path::{Miss, NoMemory, Text, Utf8PathBuf};
-use just_sched::{Event, Plan, PlanNode, Reason, Verdict, last_status, reason_of, status_count};
 use std::alloc::Global;
 
 /// The name of a node's recipe.

@@ -23,7 +23,7 @@ use Rattle.just_closure.specs.Closures.{IsClosureOf}
 use Rattle.just_closure.specs.Visits.{Visits}
 use Rattle.just_eval.specs.Closures.{around_of}
 use Rattle.just_plans.specs.declared.node_plan.NodePlan.{NodePlan}
-use Rattle.just_sched.specs.declared.plan.Plan.{Plan}
+use Rattle.just_history.specs.declared.plan.Plan.{Plan}
 use Rattle.just_errors.specs.Refusals.{error_of_lang}
 use Rattle.just_config.specs.declared.unstable_feature.UnstableFeature.{UnstableFeature}
 use Rattle.just_errors.specs.declared.error.Error.{Error}

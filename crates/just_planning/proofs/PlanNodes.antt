@@ -7,7 +7,7 @@ use Rattle.just_closure.specs.WellFormed.{IsWellFormed}
 use Rattle.just_lang.specs.declared.node.Node.{Node}
 use Rattle.just_plans.specs.declared.node_plan.NodePlan.{NodePlan}
 use Rattle.just_plans.specs.Caches.{IsPaired}
-use Rattle.just_sched.specs.declared.plan_node.PlanNode.{PlanNode}
+use Rattle.just_history.specs.declared.plan_node.PlanNode.{PlanNode}
 use Rattle.just_planning.specs.Planned.{planned}
 
 none_some : {B : Type 0} (n : ℕ) → 0 ≡ suc n → B

@@ -22,8 +22,8 @@ use Rattle.just_errors.specs.declared.error.Error.{Error}
 use Rattle.just_errors.specs.declared.error.Error.TheVariants as error
 use Rattle.just_plans.specs.declared.node_cache.NodeCache.{NodeCache}
 use Rattle.just_plans.specs.declared.node_plan.NodePlan.{NodePlan}
-use Rattle.just_sched.specs.declared.cache_plan.CachePlan.{CachePlan}
-use Rattle.just_sched.specs.declared.plan_node.PlanNode.{PlanNode}
+use Rattle.just_history.specs.declared.cache_plan.CachePlan.{CachePlan}
+use Rattle.just_history.specs.declared.plan_node.PlanNode.{PlanNode}
 
 -- what changes in the environment of the children of a key's recipe, which see its module and its parameters
 abbrev pub changes_at : Scopes → Key → Option Located → List Change

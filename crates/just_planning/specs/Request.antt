@@ -22,7 +22,7 @@ use Rattle.just_config.specs.declared.unstable_feature.UnstableFeature.{Unstable
 use Rattle.just_eval.specs.Closures.{around_of}
 use Rattle.just_plans.specs.declared.error.PlanError.{PlanError}
 use Rattle.just_plans.specs.declared.node_plan.NodePlan.{NodePlan}
-use Rattle.just_sched.specs.declared.plan.Plan.{Plan}
+use Rattle.just_history.specs.declared.plan.Plan.{Plan}
 use Rattle.just_outside.specs.World.{World}
 use Rattle.just_env_files.specs.declared.env_error.EnvError.{EnvError}
 use Rattle.just_env_files.specs.Loads.{LoadsProject}

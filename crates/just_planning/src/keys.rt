@@ -14,11 +14,11 @@ use super::Wanted;
 use super::planning::plan_of;
 use just_errors::Error;
 use just_eval::{Request, closure};
+use just_history::Plan;
 use just_invocations::{invocations, within_one};
 use just_lang::project::{Justfile, LangError};
 use just_lang::{Closure, Key, Scopes};
 use just_path::Seq;
-use just_sched::Plan;
 use std::alloc::Global;
 
 /// The keys that the words ask for.

@@ -17,13 +17,13 @@ use just_changes::changes_of_recipe;
 use just_commands::{CommandError, RunFlags, Work, prints_code};
 use just_errors::Error;
 use just_eval::{Entry, Request};
+use just_history::{CachePlan, Plan, PlanNode};
 use just_key::class_text;
 use just_lang::project::LangError;
 use just_lang::{BodyLine, Closure, Key, Node};
 use just_lines::lines_of;
 use just_path::{NoMemory, Seq, Text, Utf8Path};
 use just_plans::{Bodies, NodeCache, NodePlan, PlanError, node_plans};
-use just_sched::{CachePlan, Plan, PlanNode};
 use just_value::View;
 use std::alloc::Global;
 

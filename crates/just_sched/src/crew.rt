@@ -4,7 +4,8 @@ ghost use Rattle.std.specs.Prelude.{◌≡◌, ◌+◌, ◌<◌, ◌≤◌, ℕ,
 
 use super::shared::Shared;
 use super::worker::work_at;
-use super::{Naming, Plan, Seat};
+use just_book::{Naming, Seat};
+use just_history::Plan;
 use just_outside::Host;
 use std::num::NonZeroU64;
 use std::sync::Wait;

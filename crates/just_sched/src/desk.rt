@@ -2,14 +2,14 @@
 
 ghost use Rattle.std.specs.Prelude.{◌≡◌, ◌+◌, ◌<◌, ℕ, [], true, false, MatchOption};
 ghost use Rattle.std.specs.List.{list_any};
-ghost use Rattle.just_sched.specs.Idle.{IsIdle};
-ghost use Rattle.just_sched.specs.Legal.{open_bodies};
-ghost use Rattle.just_sched.specs.Moves.{MatchNext};
-ghost use Rattle.just_sched.specs.Running.{EachOpenRuns};
-ghost use Rattle.just_sched.specs.Start.{run_of};
-ghost use Rattle.just_sched.specs.State.{is_open};
+ghost use Rattle.just_history.specs.Idle.{IsIdle};
+ghost use Rattle.just_history.specs.Legal.{open_bodies};
+ghost use Rattle.just_book.specs.MoveAnswers.{MatchNext};
+ghost use Rattle.just_history.specs.Running.{EachOpenRuns};
+ghost use Rattle.just_history.specs.Start.{run_of};
+ghost use Rattle.just_history.specs.State.{is_open};
 
-use super::{Book, Naming, Next, OpenBody, Seat, WaitedBody};
+use just_book::{Book, Naming, Next, OpenBody, Seat, WaitedBody};
 use just_outside::Host;
 
 /// A book each open body of which runs a child. The book's own facts hold with it: the history is legal, it matches what

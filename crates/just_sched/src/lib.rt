@@ -1,59 +1,20 @@
-//! Running a plan: the states of its nodes, legal histories, the book that keeps one, and the drive to its end.
+//! Running a plan: workers side by side drive a book to its end. Plans, histories and books are those of the crates below.
 #![tactic(auto)]
 
-mod book;
-mod cache_plan;
-mod cached;
-mod caching;
-mod calls;
-mod choice;
-mod classes;
-mod climb;
 mod crew;
-mod descent;
 mod desk;
-mod driven;
 mod driving;
-mod ending;
-mod event;
-mod flags;
-mod look;
-mod making;
-mod named;
-mod naming;
-mod node_state;
-mod noting;
-mod plan;
-mod plan_node;
-mod progress;
-mod room;
-mod row;
-mod seat;
 mod semaphore;
 mod shared;
-mod spread;
-mod tables;
-mod token;
-mod turn;
-mod verdict;
 mod worker;
 
-pub use book::Book;
-pub use cache_plan::CachePlan;
-pub use cached::entry_path_of;
 pub use desk::Desk;
-pub use driven::Driven;
 pub use driving::drive;
-pub use event::{Event, Idle, Outcome, Reason, Verdict};
-pub use just_commands::{Command, Step, Work};
-pub use look::{last_status, reason_of, status_count};
-pub use named::Named;
-pub use naming::Naming;
-pub use node_state::NodeState;
-pub use plan::Plan;
-pub use plan_node::PlanNode;
-pub use seat::Seat;
+pub use just_book::{Book, Driven, HeldBody, Named, Naming, Next, OpenBody, Seat, WaitedBody};
+pub use just_history::{
+    CachePlan, Command, Event, Idle, NodeState, Outcome, Plan, PlanNode, Reason, Step, Verdict,
+    Work, entry_path_of, last_status, reason_of, status_count,
+};
 pub use semaphore::{Guard, Semaphore};
 pub use shared::Shared;
-pub use token::{HeldBody, Next, OpenBody, WaitedBody};
 pub use worker::work_at;

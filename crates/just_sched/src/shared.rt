@@ -1,9 +1,10 @@
 //! A run that several workers share: its desk under a lock, and where those wait who have nothing to do.
 
 ghost use Rattle.std.specs.Prelude.{◌≡◌, ◌+◌, ℕ, MatchOption};
-ghost use Rattle.just_sched.specs.Moves.{MatchNext};
+ghost use Rattle.just_book.specs.MoveAnswers.{MatchNext};
 
-use super::{Desk, Naming, Next, OpenBody, Seat, WaitedBody};
+use super::Desk;
+use just_book::{Naming, Next, OpenBody, Seat, WaitedBody};
 use just_outside::Host;
 use std::sync::{Condvar, Mutex, Wait};
 

@@ -3,7 +3,7 @@
 ghost use Rattle.std.specs.Prelude.{◌≡◌};
 
 use super::shared::Shared;
-use super::{Naming, Next, OpenBody, Seat};
+use just_book::{Naming, Next, OpenBody, Seat};
 use just_outside::Host;
 use std::sync::Wait;
 

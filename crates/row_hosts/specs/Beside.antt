@@ -1,6 +1,6 @@
 -- A node with its priors side by side.
 use Rattle.std.specs.Prelude.{true}
-use Rattle.just_sched.specs.declared.plan_node.PlanNode.{PlanNode}
+use Rattle.just_history.specs.declared.plan_node.PlanNode.{PlanNode}
 
 -- the node with its priors side by side
 abbrev pub beside_of : PlanNode → PlanNode

@@ -1,6 +1,6 @@
 -- No body is open once the desk was audited.
 use Rattle.std.proofs.Common.{ap, ◌∙◌}
-use Rattle.just_sched.specs.State.{is_open}
+use Rattle.just_history.specs.State.{is_open}
 use Rattle.book_rows.proofs.books.play.Goals as goal
 
 pub close-requires-after_bounds : goal.close-requires-after_bounds

@@ -1,7 +1,7 @@
 -- The run is driven under the name of the run that begins at the plan, the limit and the host as they are.
 use Rattle.std.proofs.Common.{option_map}
 use Rattle.std.specs.Int.NonZero.{non_zero_u64_get}
-use Rattle.just_sched.specs.Start.{start_with}
+use Rattle.just_history.specs.Start.{start_with}
 use Rattle.book_rows.proofs.books.played.Given as goal
 
 abbrev pub ghosts-play-P-Naming : goal.ghosts-play-P-Naming

@@ -1,6 +1,6 @@
 -- None of the events so far is a look at the node's cache.
 use Rattle.std.proofs.Common.{◌≡◌, drop}
-use Rattle.just_sched.specs.Cached.{seen_at}
+use Rattle.just_history.specs.Cached.{seen_at}
 use Rattle.just_outcome.proofs.cached.seen_sums.Given as goal
 
 abbrev pub invariant-events : goal.invariant-events

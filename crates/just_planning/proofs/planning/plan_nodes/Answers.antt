@@ -1,7 +1,7 @@
 -- A node more.
 use Rattle.std.proofs.Common.{rules, ◌≡◌, ◌^◌, ◌<◌, length, ◌++◌, [], ◌∷◌, ◌∙◌}
 use Rattle.just_commands.specs.Steps.{commands_of}
-use Rattle.just_sched.specs.declared.plan_node.PlanNode.{PlanNode}
+use Rattle.just_history.specs.declared.plan_node.PlanNode.{PlanNode}
 use Rattle.just_planning.proofs.PlanNodes.{even_popped, nodes_popped, all_pushed, paired_last, paired_before}
 use Rattle.just_planning.proofs.planning.plan_nodes.Goals as goal
 

@@ -5,7 +5,7 @@ use Rattle.std.proofs.lemmas.List.{length-map}
 use Rattle.std.proofs.lemmas.List.Elements.{All-map}
 use Rattle.std.proofs.lemmas.Simd.{map-map}
 use Rattle.just_closure.specs.WellFormed.{IsWellFormed}
-use Rattle.just_sched.specs.declared.plan_node.PlanNode.{PlanNode}
+use Rattle.just_history.specs.declared.plan_node.PlanNode.{PlanNode}
 use Rattle.just_commands.specs.Steps.{commands_of}
 use Rattle.row_hosts.specs.Beside.{beside_of}
 use Rattle.row_hosts.proofs.plans.beside.Goals as goal

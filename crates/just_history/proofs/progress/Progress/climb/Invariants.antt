@@ -1,0 +1,19 @@
+-- What is kept while there is a node to go on with, which comes nearer to the first.
+use Rattle.std.proofs.Common.{◌≡◌, ◌<◌, List, length, IfSome}
+use Rattle.just_history.specs.declared.event.Event.{Event}
+use Rattle.just_history.specs.Progress.{IsPlaced, IsClosedBut, IsTold}
+use Rattle.just_history.proofs.Parents.{distance}
+use Rattle.just_history.proofs.progress.Progress.climb.Given as goal
+
+abbrev pub invariant-loop-next : goal.invariant-loop-next
+invariant-loop-next l = record {
+  within : IfSome l.next (λ n. n < length l.plan.nodes);
+  size : l.self.size ≡ l.fn.self.size;
+  confirmed : l.self.confirmed ≡ l.fn.self.confirmed;
+  placed : IsPlaced l.plan.nodes l.plan.invocations l.self;
+  closed : IsClosedBut l.plan.nodes l.plan.invocations l.self l.next;
+  told : (h : List Event) → IsTold l.plan.nodes l.plan.invocations h l.fn.self → IsTold l.plan.nodes l.plan.invocations h l.self;
+}
+
+abbrev pub decreases-loop-next : goal.decreases-loop-next
+decreases-loop-next l = distance l.next

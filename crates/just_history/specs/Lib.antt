@@ -1,0 +1,23 @@
+-- What plans and histories are, and what is kept of a history in tables.
+pub mod CacheRule
+pub mod Cached
+pub mod Causes
+pub mod Classes
+pub mod Favourable
+pub mod Idle
+pub mod Led
+pub mod Legal
+pub mod Match
+pub mod Moves
+pub mod NodeStates
+pub mod Nodes
+pub mod Progress
+pub mod Room
+pub mod Rows
+pub mod Running
+pub mod Start
+pub mod State
+pub mod Tables
+pub mod Touched
+pub mod Turns
+pub mod Verdict

@@ -1,0 +1,24 @@
+//! The tables of a book: what is noted of each node, in room that is taken once.
+
+ghost use Rattle.std.specs.Prelude.{◌≡◌, vec_len};
+
+use super::progress::Progress;
+use super::row::Row;
+
+/// What is noted of each node of a plan.
+#[derive(Debug, Drop)]
+pub struct Tables {
+    pub rows: Vec<Row>,
+    pub progress: Progress,
+    /// The number of each node's class.
+    pub classes: Vec<usize>,
+    /// For each class whether a body of it is open.
+    pub opened: Vec<bool>,
+    /// Each node before this one took a job or is done.
+    pub left: usize,
+    pub size: usize,
+    pub ghost rows_sized: { vec_len rows ≡ size },
+    pub ghost progress_sized: { progress.size ≡ size },
+    pub ghost classes_sized: { vec_len classes ≡ size },
+    pub ghost opened_sized: { vec_len opened ≡ size },
+}

@@ -1,7 +1,0 @@
--- No node so far is to be asked.
-use Rattle.std.proofs.Common.{ℕ, ◌<◌}
-use Rattle.just_sched.specs.State.{IsToAsk}
-use Rattle.just_sched.proofs.choice.first_asked_by.Given as goal
-
-abbrev pub invariant-loop-at : goal.invariant-loop-at
-invariant-loop-at l = (n : ℕ) → n < l.at → IsToAsk l.plan.nodes l.plan.invocations l.history n → ⊥
