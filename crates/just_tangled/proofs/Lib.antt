@@ -1,0 +1,6 @@
+-- Lemmas of temporary folders.
+pub mod Writing
+pub mod Removing
+pub mod Items
+pub mod Placing
+pub mod Making
