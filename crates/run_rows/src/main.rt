@@ -7,7 +7,8 @@
 //! `"unknown"`; and, where it changes files, the texts by their paths, or null where one goes), `answers` (the lines that a
 //! prompt reads), and `fails` (the numbers of the calls of the host that fail). What it wants: `children` (`program`,
 //! `arguments`, `folder`, `script` of each), `prompts`, `stderr`, `code`, `history` (the events, as they are shown for
-//! developers), `after` (the files behind the run), `failed` (how many calls fail) and `stdout`. `fails` and what stands
+//! developers), `after` (the files behind the run), `failed` (how many calls fail), `stdout`, and `changes` (of each child what
+//! changes in its environment, in order: `NAME=TEXT`, or `NAME` where it is taken out). `fails` and what stands
 //! from `history` on may be left out: without `after` the files are the same behind the run as before it, without `failed`
 //! as many calls fail as `fails` lists, and without `stdout` nothing is printed there.
 //!

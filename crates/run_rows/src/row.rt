@@ -79,10 +79,10 @@ fn result_difference(alloc: Global, row: &Value, run: &Run) -> Result<Option<Str
 
 /// What differs in the files behind a run, which are those before it where the row doesn't say.
 fn tree_difference(alloc: Global, row: &Value, run: &Run) -> Result<Option<String>, Wrong> {
-    let found = format!(in alloc; "{:?}", run.host.tree())?;
+    let found = told::things(alloc, run.host.tree())?;
     let files = row.get("after").or(row.get("files")).ok_or(Wrong::Form)?;
     let tree = given::tree(alloc, given::text(row, "current")?, files)?;
-    let wanted = format!(in alloc; "{tree:?}")?;
+    let wanted = told::things(alloc, &tree)?;
     unlike(alloc, "tree", found.as_str(), wanted.as_str())
 }
 
@@ -94,6 +94,15 @@ fn output_difference(alloc: Global, row: &Value, run: &Run) -> Result<Option<Str
         _ => "",
     };
     unlike(alloc, "stdout", found.as_str(), wanted)
+}
+
+/// What differs in what changes in the environment of the children, where the row says that.
+fn changes_difference(alloc: Global, row: &Value, run: &Run) -> Result<Option<String>, Wrong> {
+    let found = told::changes(alloc, run.host.entries())?;
+    match shown::changes(alloc, row)? {
+        Some(wanted) => unlike(alloc, "changes", found.as_str(), wanted.as_str()),
+        None => Ok(None),
+    }
 }
 
 /// What differs in what the host's record tells of a run.
@@ -124,7 +133,10 @@ pub(crate) fn difference<R: Threads + Wait + Sync>(
         Some(difference) => Ok(Some(difference)),
         None => match output_difference(alloc, &row, &run)? {
             Some(difference) => Ok(Some(difference)),
-            None => result_difference(alloc, &row, &run),
+            None => Ok(either(
+                changes_difference(alloc, &row, &run)?,
+                result_difference(alloc, &row, &run)?,
+            )),
         },
     }
 }

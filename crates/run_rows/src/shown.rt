@@ -59,6 +59,22 @@ pub(crate) fn children(alloc: Global, row: &Value) -> Result<String, Wrong> {
     Ok(all)
 }
 
+/// What changes in the environment of the children of a row, a line each; none where the row doesn't say. It promises nothing beyond safety.
+pub(crate) fn changes(alloc: Global, row: &Value) -> Result<Option<String>, Wrong> {
+    let Some(Value::Array(children)) = row.get("changes") else {
+        return Ok(None);
+    };
+    let mut all = String::new(alloc);
+    for child in children {
+        match child {
+            Value::Array(changes) => push_texts(&mut all, changes.as_slice())?,
+            _ => return Err(Wrong::Form),
+        }
+        all.push_str("\n")?;
+    }
+    Ok(Some(all))
+}
+
 /// The prompts of a row, a line each. It promises nothing beyond safety.
 pub(crate) fn prompts(alloc: Global, row: &Value) -> Result<String, Wrong> {
     let mut all = String::new(alloc);

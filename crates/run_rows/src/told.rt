@@ -1,6 +1,6 @@
 //! What a host's record tells of a run, each as one text.
 
-use just_host::{Entry, Spec, Stream};
+use just_host::{Entry, Spec, Stream, Tree};
 use just_path::Text;
 use std::alloc::{AllocError, Global};
 
@@ -92,4 +92,48 @@ pub(crate) fn children(alloc: Global, entries: &[Entry]) -> Result<String, Alloc
         }
     }
     Ok(all)
+}
+
+/// What changes in the environment of a child: a name with the text that it gets, or with none, where it is taken out.
+fn push_changes(all: &mut String, spec: &Spec) -> Result<(), AllocError> {
+    for change in spec.changes.as_slice() {
+        all.push_str(" [")?;
+        all.push_str(change.0.as_str())?;
+        if let Some(text) = &change.1 {
+            all.push_str("=")?;
+            all.push_str(text.as_str())?;
+        }
+        all.push_str("]")?;
+    }
+    all.push_str("\n")
+}
+
+/// What changes in the environment of each child, a line each. It promises nothing beyond safety.
+pub(crate) fn changes(alloc: Global, entries: &[Entry]) -> Result<String, AllocError> {
+    let mut all = String::new(alloc);
+    for entry in entries {
+        if let Entry::Started(_, spec) = entry {
+            push_changes(&mut all, spec)?;
+        }
+    }
+    Ok(all)
+}
+
+/// A thing as it is shown, without what stands behind it in its list.
+fn alone(shown: &str) -> &str {
+    match shown.rsplit_once(')') {
+        Some((thing, _)) => thing,
+        None => shown,
+    }
+}
+
+/// The things of a tree, each as it is shown for developers, in the order of these texts. It promises nothing beyond safety.
+pub(crate) fn things(alloc: Global, tree: &Tree) -> Result<String, AllocError> {
+    let shown = format!(in alloc; "{tree:?}")?;
+    let mut things = Vec::new(alloc);
+    for thing in shown.as_str().split("(Place ") {
+        things.push(alone(thing))?;
+    }
+    things.sort()?;
+    format!(in alloc; "{things:?}")
 }
