@@ -1,6 +1,6 @@
 -- A project whose variables end has one evaluation.
 use Rattle.std.specs.Prelude.{◌≡◌, List, All}
-use Rattle.just_path.specs.declared.environ.Environ.{Environ}
+use Rattle.just_text.specs.declared.environ.Environ.{Environ}
 use Rattle.just_lang.specs.declared.project.Justfile.{Justfile}
 use Rattle.just_lang.specs.declared.scope.DotenvOf.{DotenvOf}
 use Rattle.just_lang.specs.declared.scope.Override.{Override}

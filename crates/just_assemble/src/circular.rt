@@ -8,7 +8,7 @@ use super::names::broken_at;
 use just_broken::Broken;
 use just_cycles::{Recipes, circular_recipe, circular_variable};
 use just_lang::CompileKind;
-use just_path::NoMemory;
+use just_text::NoMemory;
 use std::alloc::Global;
 
 /// The first variable, else the first recipe, that leads back to itself.

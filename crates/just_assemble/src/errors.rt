@@ -12,8 +12,9 @@ use just_cycles::Recipes;
 use just_lang::CompileError;
 use just_lang::project::LangError;
 use just_layout::{File, Layout, LayoutError};
-use just_path::{Environ, NoMemory, TryClone, Utf8PathBuf};
+use just_path::Utf8PathBuf;
 use just_spots::Spot;
+use just_text::{Environ, NoMemory, TryClone};
 use std::alloc::Global;
 
 /// The error of a rule on files.

@@ -14,8 +14,8 @@ use just_names::{
     Arities, Names, arities_of, first_dependency_argument_count, first_dependency_is_option,
     first_undefined_variable, first_unknown_alias_target, first_unknown_dependency,
 };
-use just_path::{Environ, NoMemory};
 use just_spots::Spot;
+use just_text::{Environ, NoMemory};
 use std::alloc::Global;
 
 /// The rule, broken at that place.

@@ -13,7 +13,7 @@ use just_lang::Source;
 use just_lang::project::LangError;
 use just_layout::{Layout, lay};
 use just_names::{Names, names_of};
-use just_path::{Environ, Seq};
+use just_text::{Environ, Seq};
 use std::alloc::Global;
 
 /// Refuses the first rule that a project breaks whose names these are.

@@ -8,7 +8,7 @@ use super::circular::first_circular;
 use super::names::first_on_names;
 use just_broken::{Broken, first_broken_behind, first_broken_item};
 use just_cycles::Recipes;
-use just_path::{Environ, NoMemory};
+use just_text::{Environ, NoMemory};
 use std::alloc::Global;
 
 /// The first broken rule of those on names and cycles and behind them.

@@ -1,7 +1,7 @@
 -- The tables of comments, one file at a time.
 use Rattle.std.proofs.Common.{◌≡◌, ℕ, zero, suc, ◌+◌, ◌<◌, List, [], ◌∷◌, ◌++◌, length, take, get_or, refl, sym, ap, subst}
 use Rattle.std.specs.Prelude.{Option, Some, None, Result, IfOk}
-use Rattle.just_path.specs.declared.memory.NoMemory.{NoMemory}
+use Rattle.just_text.specs.declared.memory.NoMemory.{NoMemory}
 use Rattle.just_syntax.specs.declared.ast.AstRecipe.{AstRecipe}
 use Rattle.just_lang.specs.declared.recipe.Dependency.{Dependency}
 use Rattle.just_lang.specs.declared.recipe.Modulepath.{Modulepath}

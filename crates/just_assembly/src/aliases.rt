@@ -6,9 +6,9 @@ ghost use Rattle.just_assembly.specs.Aliases.{recipe_alias, module_alias, target
 use super::linker::{AliasTarget, Linker};
 use super::recipes::disabled_for;
 use just_lang::{Alias, Disabled};
-use just_path::{NoMemory, Seq, Text};
 use just_spots::Entry;
 use just_syntax::{AstItem, Name};
+use just_text::{NoMemory, Seq, Text};
 use std::alloc::Global;
 
 /// The alias of that name, where its target is a recipe.

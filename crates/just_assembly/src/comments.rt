@@ -4,9 +4,9 @@ ghost use Rattle.std.specs.Option.{option_copied};
 ghost use Rattle.just_assembly.specs.Comments.{above_at, AreCommentsOf};
 
 use just_layout::File;
-use just_path::NoMemory;
 use just_shapes::{Comments, comments_of};
 use just_syntax::Name;
+use just_text::NoMemory;
 use std::alloc::Global;
 
 /// The comments of each file.

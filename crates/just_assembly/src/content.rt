@@ -23,10 +23,11 @@ use super::recipes::{Parent, disabled_recipes_of, recipes_of};
 use just_lang::project::Justfile;
 use just_lang::{Alias, Assignment, Disabled, Modulepath, Recipe, Settings};
 use just_layout::{File, Module};
-use just_path::{NoMemory, Seq, Text, TryClone, Utf8PathBuf};
+use just_path::Utf8PathBuf;
 use just_rules::Texts;
 use just_shapes::{Comments, assignments_of, settings_of, unexports_of};
 use just_spots::Entry;
+use just_text::{NoMemory, Seq, Text, TryClone};
 use std::alloc::Global;
 
 /// The path of a module's file.

@@ -8,11 +8,11 @@ ghost use Rattle.just_assembly.specs.Declarations.{declaration_of, doc_by, group
 use super::comments::above_in;
 use super::items::item_at;
 use just_layout::{File, Module};
-use just_path::{NoMemory, Seq, Text};
 use just_rules::Texts;
 use just_shapes::{Comments, doc_of, groups_of};
 use just_spots::Entry;
 use just_syntax::AstItem;
+use just_text::{NoMemory, Seq, Text};
 use std::alloc::Global;
 
 /// The `mod` that names a module; the root has none.

@@ -4,10 +4,10 @@ ghost use Rattle.just_assembly.specs.Recipes.{dependency_of, dependencies_of};
 
 use super::linker::Linker;
 use just_lang::Dependency;
-use just_path::{NoMemory, Seq};
 use just_rules::Texts;
 use just_shapes::expanded_exprs;
 use just_syntax::AstDependency;
+use just_text::{NoMemory, Seq};
 use std::alloc::Global;
 
 /// A dependency of a recipe in the module of that number, with the path of its recipe.
@@ -42,7 +42,7 @@ pub(crate) fn dependencies_of<'a, T: Texts, L: Linker<'a>>(
     requires { L.known links.now }
     ensures { IfOk result (λ ds. ds ≡ dependencies_of (L.links links.now) number (T.text_of texts.now) dependencies.now) }
 {
-    let mut all = Vec::new(alloc);
+    let mut all = Vec::with_capacity(alloc, dependencies.len())?;
     'dependencies: for dependency in dependencies {
         if let Some(made) = dependency_of(alloc, texts, links, number, dependency)? {
             all.push(made)?;

@@ -7,8 +7,8 @@ ghost use Rattle.just_spots.specs.Winners.{wins_in};
 ghost use Rattle.just_assembly.specs.Standing.{standing_recipes, standing_variables, names_of, absent_names};
 
 use just_layout::{File, Module, Placed};
-use just_path::{NoMemory, Seq, Text};
 use just_spots::{Entry, item_name, recipe_items, standing, variable_items};
+use just_text::{NoMemory, Seq, Text};
 use std::alloc::Global;
 
 /// The item at a place.

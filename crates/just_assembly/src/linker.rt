@@ -1,7 +1,7 @@
 //! What the paths in a project come to.
 use just_lang::Modulepath;
-use just_path::{NoMemory, Seq, Text};
 use just_syntax::Name;
+use just_text::{NoMemory, Seq, Text};
 use std::alloc::Global;
 
 /// What an alias's path comes to, by its path from the root.

@@ -1,6 +1,6 @@
 //! What a justfile is made of.
 use just_layout::Layout;
-use just_path::Seq;
+use just_text::Seq;
 
 /// The files of a project, and what their strings and their paths mean.
 #[derive(Drop)]

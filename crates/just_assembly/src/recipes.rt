@@ -9,11 +9,11 @@ use super::dependencies::dependencies_of;
 use super::linker::Linker;
 use super::project::Project;
 use just_lang::{Disabled, Modulepath, Recipe};
-use just_path::{NoMemory, Seq, Text};
 use just_rules::Texts;
 use just_shapes::{Comments, Surroundings, recipe_of};
 use just_spots::Entry;
 use just_syntax::{AstItem, AstRecipe};
+use just_text::{NoMemory, Seq, Text};
 use std::alloc::Global;
 
 /// A module: its number and its path.
@@ -110,7 +110,7 @@ pub(crate) fn recipes_of<'a, T: Texts, L: Linker<'a>>(
     requires links { L.known project.now.links.now }
     ensures { IfOk result (λ all. all ≡ recipes_of (L.links project.now.links.now) parent.entry.number (T.text_of project.now.texts.now) project.now.layout.now.files parent.entry.path.now (entries standing.now)) }
 {
-    let mut all = Vec::new(alloc);
+    let mut all = Vec::with_capacity(alloc, standing.len())?;
     'standing: for one in standing {
         if let Some(recipe) = recipe_at(alloc, project, comments, parent, one)? {
             all.push(recipe)?;

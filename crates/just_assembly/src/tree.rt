@@ -10,8 +10,8 @@ use super::content::module_of;
 use super::linker::Linker;
 use super::project::Project;
 use just_lang::project::Justfile;
-use just_path::{NoMemory, Seq, Text};
 use just_rules::Texts;
+use just_text::{NoMemory, Seq, Text};
 use std::alloc::Global;
 
 /// Whether a path has one name more than another, behind it.

@@ -31,7 +31,7 @@ use just_history::{
     event_count, is_running, note, note_answer,
 };
 use just_outside::{Call, Host, Signal};
-use just_path::{NoMemory, Seq};
+use just_text::{NoMemory, Seq};
 use std::alloc::Global;
 use std::marker::PhantomData;
 use std::num::NonZeroU64;

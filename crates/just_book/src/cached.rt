@@ -12,7 +12,8 @@ ghost use Rattle.just_history.specs.Touched.{IsLooked, IsWritten};
 
 use just_history::{CachePlan, Plan, Reason, entry_path_of, text_of_entry};
 use just_outside::{Call, Host, HostFault, Look};
-use just_path::{Seq, Utf8Path, Utf8PathBuf};
+use just_path::{Utf8Path, Utf8PathBuf};
+use just_text::Seq;
 use std::alloc::Global;
 
 /// The cache of the node.

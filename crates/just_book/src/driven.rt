@@ -2,7 +2,7 @@
 
 use just_history::{Event, Plan, Verdict};
 use just_outside::Host;
-use just_path::Seq;
+use just_text::Seq;
 
 /// A run that has come to its end.
 pub struct Driven<H: Host> {

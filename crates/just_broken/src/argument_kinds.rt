@@ -10,10 +10,10 @@ use super::meanings::Meanings;
 use super::modules::{first_in_files, first_in_modules};
 use super::standing_default::StandingDuplicateDefault;
 use just_layout::Layout;
-use just_path::{Environ, NoMemory, Seq};
 use just_recipe_rules::{ArgumentPatternRegex, GuardAndInfallible, first_too_big};
 use just_rules::{NotConstant, UnknownArgParameter};
 use just_spots::Spot;
+use just_text::{Environ, NoMemory, Seq};
 use std::alloc::Global;
 
 /// The first `arg` for a parameter that there isn't.

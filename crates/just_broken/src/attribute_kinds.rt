@@ -6,12 +6,12 @@ ghost use Rattle.just_broken.specs.Rules.{shell_expansion_spots, unknown_setting
 use super::meanings::Meanings;
 use super::modules::{first_in_files, first_in_modules};
 use just_layout::Layout;
-use just_path::{Environ, NoMemory};
 use just_rules::{
     AttributeConflict, DuplicateAttribute, DuplicateSetting, ShellExpansion, UnknownAttribute,
     UnknownSetting,
 };
 use just_spots::Spot;
+use just_text::{Environ, NoMemory};
 use std::alloc::Global;
 
 /// The first string with an `x` in front that can't be expanded.

@@ -12,7 +12,7 @@ use super::argument_kinds::{
 use super::broken::{Broken, broken_at};
 use just_lang::CompileKind;
 use just_layout::Layout;
-use just_path::{Environ, NoMemory, Seq};
+use just_text::{Environ, NoMemory, Seq};
 use std::alloc::Global;
 
 /// The first broken rule on `arg`, up to patterns that are no regular expressions.

@@ -8,10 +8,10 @@ ghost use Rattle.just_broken.specs.Rules.{duplicate_recipe_spots, duplicate_vari
 use super::meanings::Meanings;
 use super::modules::{first_in_files, first_in_modules};
 use just_layout::Layout;
-use just_path::{Environ, NoMemory, Seq};
 use just_recipe_rules::{DuplicateAlias, DuplicateRecipe, DuplicateVariable};
 use just_rules::{DuplicateParameter, RequiredParameterFollowsDefault};
 use just_spots::Spot;
+use just_text::{Environ, NoMemory, Seq};
 use std::alloc::Global;
 
 /// The first recipe whose name comes again in its module.

@@ -16,8 +16,8 @@ use super::duplicate_kinds::{
 use super::files::{first_fault, first_source_limit};
 use just_lang::CompileKind;
 use just_layout::Layout;
-use just_path::{Environ, NoMemory, Seq};
 use just_syntax::FaultKind;
+use just_text::{Environ, NoMemory, Seq};
 use std::alloc::Global;
 
 /// The first broken rule on files.

@@ -4,9 +4,9 @@ ghost use Rattle.just_spots.specs.Entries.{entry, entries};
 ghost use Rattle.just_layout.specs.Items.{in_file, item_at, items_of_files, items_of_module};
 
 use just_layout::{File, Module, Placed};
-use just_path::NoMemory;
 use just_spots::Entry;
 use just_syntax::AstItem;
+use just_text::NoMemory;
 use std::alloc::{AllocError, Global};
 
 /// Adds the items of the file of that number.

@@ -4,9 +4,9 @@ ghost use Rattle.just_layout.specs.Paths.{Means};
 ghost use Rattle.just_broken.specs.Meant.{meant};
 
 use just_layout::meaning;
-use just_path::{Environ, NoMemory, Text};
 use just_rules::Texts;
 use just_syntax::StringLiteral;
+use just_text::{Environ, NoMemory, Text};
 use std::alloc::Global;
 
 /// The text that a string means, with an `x` in front expanded over the environment; none where it can't be.

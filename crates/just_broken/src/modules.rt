@@ -7,10 +7,10 @@ ghost use Rattle.just_broken.specs.Rules.{of_items, of_modules};
 
 use super::items::{items_of_files, items_of_module};
 use just_layout::{File, Layout, Module};
-use just_path::NoMemory;
 use just_recipe_rules::first_in_items;
 use just_spots::{ModuleRule, Rule, Spot, earlier};
 use just_syntax::AstItem;
+use just_text::NoMemory;
 use std::alloc::Global;
 
 /// The first place where the items of one of these modules break the rule.

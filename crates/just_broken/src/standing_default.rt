@@ -1,7 +1,7 @@
 //! The rule that a module has one default recipe.
-use just_path::{NoMemory, Seq};
 use just_rules::DuplicateDefault;
 use just_spots::{Entry, ModuleRule, Spot, recipe_items, standing};
+use just_text::{NoMemory, Seq};
 use std::alloc::Global;
 
 /// The rule that of the recipes that stand in a module one at most has the attribute `default`. Its place is the second such

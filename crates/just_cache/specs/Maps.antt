@@ -6,7 +6,7 @@ use Rattle.std.specs.Map.{lookup}
 use Rattle.std.specs.Ordering.{nat_cmp}
 use Rattle.std.specs.declared.cmp.Ordering.{Ordering}
 use Rattle.hex.specs.Hex.{encode_lower}
-use Rattle.just_path.specs.Environ.{value_of}
+use Rattle.just_text.specs.Environ.{value_of}
 use Rattle.just_outside.specs.declared.entry.Entry.{Entry}
 use Rattle.just_outside.specs.World.{World}
 use Rattle.just_key.specs.Members.{object_of_inputs}

@@ -11,7 +11,8 @@ use super::{Cache, CacheError, CacheLock};
 use just_key::CacheKey;
 use just_lang::Modulepath;
 use just_outside::{Host, HostFault, Look};
-use just_path::{TryClone, Utf8Path, Utf8PathBuf};
+use just_path::{Utf8Path, Utf8PathBuf};
+use just_text::TryClone;
 use std::alloc::Global;
 
 /// Whether a body may be skipped.

@@ -7,7 +7,8 @@ ghost use Rattle.just_cache.specs.Sums.{GivesSum, AddsSum, GivesSums};
 
 use super::CacheError;
 use just_outside::{Host, HostFault};
-use just_path::{Miss, Text, Utf8Path, Utf8PathBuf};
+use just_path::{Miss, Utf8Path, Utf8PathBuf};
+use just_text::Text;
 use std::alloc::Global;
 
 /// A name with the sum of its file.

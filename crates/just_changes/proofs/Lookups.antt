@@ -10,7 +10,7 @@ use Rattle.std.specs.declared.cmp.Ordering.{Ordering}
 use Rattle.std.specs.declared.cmp.Ordering.TheVariants.{Less, Equal, Greater}
 use Rattle.std.proofs.lemmas.Map.Text.{is_eq-slice_cmp}
 use Rattle.std.proofs.lemmas.Slice.Eq.{bytes_eq-Decides}
-use Rattle.just_path.specs.Environ.{or_else, value_of}
+use Rattle.just_text.specs.Environ.{or_else, value_of}
 use Rattle.just_lang.specs.declared.scope.Level.{Level}
 use Rattle.just_changes.specs.Changes.{Change, text_cmp, exports, put_all, gets, goes, level_changes, outer, changes, is_among, taken_out, level_says, levels_say, change, AreChanges}
 

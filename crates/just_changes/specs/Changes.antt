@@ -7,7 +7,7 @@ use Rattle.std.specs.List.Sorted.{IsStrictlySortedBy}
 use Rattle.std.specs.Map.{lookup}
 use Rattle.std.specs.Ordering.{nat_cmp}
 use Rattle.std.specs.declared.cmp.Ordering.{Ordering}
-use Rattle.just_path.specs.Environ.{or_else, value_of}
+use Rattle.just_text.specs.Environ.{or_else, value_of}
 use Rattle.just_lang.specs.declared.key.Value.{Value}
 use Rattle.just_lang.specs.declared.scope.Binding.{Binding}
 use Rattle.just_lang.specs.declared.scope.Level.{Level}

@@ -7,7 +7,7 @@ ghost use Rattle.just_changes.specs.Shows.{changes_of};
 
 use super::levels::{Changes, put_levels, put_pairs};
 use just_lang::{Level, Scope, Settings};
-use just_path::{NoMemory, Seq, Text};
+use just_text::{NoMemory, Seq, Text};
 use std::alloc::Global;
 use std::collections::BTreeMap;
 

@@ -5,7 +5,7 @@ ghost use Rattle.std.specs.List.{flat_map};
 ghost use Rattle.just_changes.specs.Changes.{given_text, exported, exports, put_all, gets, goes, level_changes};
 
 use just_lang::{Binding, Level, Value};
-use just_path::{NoMemory, Text};
+use just_text::{NoMemory, Text};
 use just_value::text_of;
 use std::alloc::Global;
 use std::collections::BTreeMap;

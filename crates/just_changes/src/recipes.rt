@@ -7,7 +7,7 @@ ghost use Rattle.just_changes.specs.Changes.{changes, change, AreChanges};
 use super::environment::in_order;
 use super::levels::{put_level, put_levels, put_pairs};
 use just_lang::{Binding, Level, Parameter, Settings, Value};
-use just_path::{NoMemory, Seq, Text, TryClone};
+use just_text::{NoMemory, Seq, Text, TryClone};
 use just_value::View;
 use std::alloc::Global;
 use std::collections::BTreeMap;

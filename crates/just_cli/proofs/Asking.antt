@@ -1,6 +1,6 @@
 -- Whether the words ask for quiet, as they are read.
 use Rattle.std.proofs.Common.{◌≡◌, inl, inr, ℕ, Bool, false, List, Option, Ok, Err, refl}
-use Rattle.just_path.specs.declared.environ.Environ.{Environ}
+use Rattle.just_text.specs.declared.environ.Environ.{Environ}
 use Rattle.just_outside.specs.World.{World}
 use Rattle.just_words.specs.declared.arguments.Arguments.{Arguments}
 use Rattle.just_words.specs.declared.words.Read.TheVariants as read

@@ -1,6 +1,6 @@
 -- The chain of a request over a host, from what its calls answered.
-use Rattle.std.proofs.Common.{◌≡◌, inl, inr, ℕ, Bool, true, false, List, [], ◌∷◌, Option, Result, Ok, Err, IfOk, IfErr, refl, subst}
-use Rattle.just_path.specs.declared.environ.Environ.{Environ}
+use Rattle.std.proofs.Common.{◌≡◌, ◌++◌, ◌∙◌, inl, inr, ℕ, Bool, true, false, true≢false, List, [], ◌∷◌, map, Option, Result, Ok, Err, IfOk, IfErr, refl, sym, ap, subst, append_assoc, append-nil}
+use Rattle.just_text.specs.declared.environ.Environ.{Environ}
 use Rattle.just_outside.specs.World.{World}
 use Rattle.just_outside.specs.declared.entry.Entry.{Entry}
 use Rattle.just_lang.specs.declared.source.Source.{Source}
@@ -18,14 +18,24 @@ use Rattle.just_planning.specs.Own.{OrMemory}
 use Rattle.just_lang.specs.declared.project.Justfile.{Justfile}
 use Rattle.just_lang.specs.declared.scope.DotenvOf.{DotenvOf}
 use Rattle.just_value.specs.Modules.{AreModules, settings_of}
-use Rattle.just_env_files.specs.declared.env_error.EnvError.{EnvError}
-use Rattle.just_env_files.specs.Loads.{LoadsProject}
-use Rattle.just_errors.specs.Refusals.{error_of_env}
+use Rattle.std.specs.List.{list_any}
+use Rattle.just_outside.specs.Record.{is_failed}
+use Rattle.just_outside.specs.declared.entry.HostFault.TheVariants as fault
+use Rattle.just_env_files.specs.declared.env_error.OutputError.TheVariants as output
+use Rattle.just_env_files.specs.Captures.{Capture, told_behind, AreAmongMisses}
+use Rattle.just_errors.specs.declared.error.Error.TheVariants as error
+use Rattle.just_planning.specs.Pairs.{LoadsPairs, Runs, Leaves, ErrorLeaves, entries_of as entries_in}
+use Rattle.just_cli.specs.Faults.{entries_of}
 use Rattle.just_planning.specs.Request.{SourcesRequest, ProjectRequest, LoadedRequest, Outline, FindsProject, PlansProject}
 use Rattle.just_cli.specs.NewPath.{is_init}
-use Rattle.just_cli.specs.Request.{FindsProjectOf, PlansLoaded, AnswersAt, Tries, Searches, Decides, Serves, EnvironGiven, FolderGiven, Asks, AsksGlobal}
+use Rattle.just_cli.specs.Acts.{Act, AreActs, folders_in, captures_in, Behind}
+use Rattle.just_cli.specs.Preparing.{AreMisses, EndsWith, Answers, Performs}
+use Rattle.just_cli.specs.Taken.{TakesWanted, PlansIt, PerformsPlan}
+use Rattle.just_cli.specs.Request.{FindsProjectOf, AnswersAt, Tries, Searches, Decides, Serves, EnvironGiven, FolderGiven, Asks, AsksGlobal}
+use Rattle.just_cli.proofs.Altering.{altered_same, quiet_rest}
+use Rattle.just_cli.proofs.Prepared.{left_nothing, performs_as, performs_lost, performs_looking, performs_then, performs_refusal, performs_behind}
 use Rattle.just_planning.specs.Steps.{stops, goes_on}
-use Rattle.just_cli.specs.Words.{WordsRequest, ArgumentsRequest, FolderRequest, ConfigRequest, LocatedRequest, JustfileRequest, ReadsWords, Configures, FindsLocation, TakesFile}
+use Rattle.just_cli.specs.Words.{WordsRequest, ArgumentsRequest, FolderRequest, ConfigRequest, LocatedRequest, JustfileRequest, ReadsWords, Configures, FindsLocation}
 
 -- ---- what is known
 
@@ -79,128 +89,216 @@ module _ (told : Option World) (wanted : Wanted) (environ : Environ) (justfile :
 
 -- ---- behind the project
 
-module _ (told : Option World) (wanted : Wanted) (environ : Environ) (j : Justfile) where
-  -- the answer to what is asked of the project, with the list of its modules
-  abbrev pub PlansIt : Result Outline Error → Type 0
-  PlansIt r = (ms : List Justfile) × AreModules (j ∷ []) ms × PlansLoaded told (project_in wanted environ j ms) r
+-- entries of children that were run are those of acts
+children_acts : (cs : List Capture) (es : List Entry) → AreAmongMisses cs es → AreActs (map Act.captured cs) es
+children_acts cs es AreAmongMisses.none = AreActs.none
+children_acts cs es (AreAmongMisses.a_miss path m some rest are) = AreActs.a_miss path m (map Act.captured some) rest (children_acts some rest are)
+children_acts cs es (AreAmongMisses.a_child c some rest are) = AreActs.an_act (Act.captured c) (map Act.captured some) rest (children_acts some rest are)
+
+no_folders : (cs : List Capture) → folders_in (map Act.captured cs) ≡ []
+no_folders [] = refl
+no_folders (c ∷ cs) = no_folders cs
+
+all_captured : (cs : List Capture) → captures_in (map Act.captured cs) ≡ cs
+all_captured [] = refl
+all_captured (c ∷ cs) = ap (λ (l : List Capture). c ∷ l) (all_captured cs)
+
+no_captures : (cs : List Capture) → map Act.captured cs ≡ [] → cs ≡ []
+no_captures [] is = refl
+no_captures (c ∷ cs) is = absurd (let no : ⊥ = cc in no)
+
+-- a refusal that leaves no failure in the record leaves the world
+error_still : (old new : Option World) (path : List ℕ) (e : Error) → ErrorLeaves old new e → list_any is_failed (entries_in path e) ≡ false → new ≡ old
+error_still old new path (error.DotenvCommand command (output.Io (fault.Missed m))) left quiet = left
+error_still old new path (error.DotenvCommand command (output.Io (fault.Failed c))) left quiet = absurd (true≢false quiet)
+error_still old new path (error.DotenvCommand command (output.Io fault.NoMemory)) left quiet = left
+error_still old new path _ left quiet = left
+
+module _ (told after : Option World) (old new : List Entry) (wanted : Wanted) (environ : Environ) (j : Justfile) where
+  -- the pairs, as a part of a preparation
+  abbrev LoadsIt : List Act → Option World → Result (List DotenvOf) Error → Type 0
+  LoadsIt acts world r = (cs : List Capture) × (acts ≡ map Act.captured cs) × LoadsPairs told wanted environ j cs r × Leaves told cs world r
+
+  pairs_part : (pairs : List DotenvOf) → Runs (LoadsPairs told wanted environ j) told after old new (Ok pairs) → Performs LoadsIt told after [] [] old new (Ok pairs)
+  pairs_part pairs (cs, loads, (es, are, grew), left) = record {
+    acts = map Act.captured cs;
+    entries = es;
+    grew = grew;
+    leaves = (es, children_acts cs es are, refl);
+    folders = sym (no_folders cs);
+    answers = (cs, refl, loads, left);
+    still = λ none quiet. left ∙ ap (λ (l : List Capture). told_behind told l) (no_captures cs none);
+    alters = λ nodes alone quiet. altered_same (folders_in (map Act.captured cs)) nodes told after (left ∙ ap (λ (l : List Capture). told_behind told l) (sym (all_captured cs) ∙ alone));
+  }
+
+  or_pairs : (cs : List Capture) (e : Error) → OrMemory (λ x. LoadsPairs told wanted environ j cs (Err x)) e → ErrorLeaves (told_behind told cs) after e → OrMemory (λ x. LoadsIt (map Act.captured cs) after (Err x)) e
+  or_pairs cs e (inl wants) left = inl wants
+  or_pairs cs e (inr loads) left = inr (cs, refl, loads, left)
+
+  pairs_lost : (e : Error) → Runs {A = List DotenvOf} (LoadsPairs told wanted environ j) told after old new (Err e) → Performs LoadsIt told after [] [] old new (Err e)
+  pairs_lost e (cs, why, (middle, path, (es, are, grew), more), left) = record {
+    acts = map Act.captured cs;
+    entries = es ++ entries_in path e;
+    grew = more ∙ (ap (λ l. l ++ entries_in path e) grew ∙ append_assoc old es (entries_in path e));
+    leaves = (es, path, children_acts cs es are, refl);
+    folders = sym (no_folders cs);
+    answers = or_pairs cs e why left;
+    still = λ none quiet. error_still (told_behind told cs) after path e left (quiet_rest is_failed es (entries_in path e) quiet) ∙ ap (λ (l : List Capture). told_behind told l) (no_captures cs none);
+    alters = λ nodes alone quiet.
+        altered_same (folders_in (map Act.captured cs)) nodes told after
+        (error_still (told_behind told cs) after path e left (quiet_rest is_failed es (entries_in path e) quiet) ∙ ap (λ (l : List Capture). told_behind told l) (sym (all_captured cs) ∙ alone));
+  }
 
   module _ (modules : List Justfile) (are : AreModules (j ∷ []) modules) where
-    -- its dotenv pairs aren't loaded
-    pub no_pairs : (e : Error) → OrMemory (λ x. (f : EnvError) × LoadsProject told wanted.dotenv environ.pairs wanted.flags.folder j (Err f) × (x ≡ error_of_env f)) e → OrMemory (λ x. PlansIt (Err x)) e
-    no_pairs e (inl wants) = inl wants
-    no_pairs e (inr lost) = inr (modules, are, stops e lost refl)
+    -- the dotenv pairs aren't loaded
+    lost_so : (acts : List Act) (e : Error) → OrMemory (λ x. LoadsIt acts after (Err x)) e → OrMemory (λ x. PlansIt wanted environ j told acts after (Err x)) e
+    lost_so acts e (inl wants) = inl wants
+    lost_so acts e (inr (cs, is, loads, left)) = inr (modules, are, Behind.refused e (cs, is, loads, left) refl)
 
-    module _ (pairs seen : List DotenvOf) (loads : LoadsProject told wanted.dotenv environ.pairs wanted.flags.folder j (Ok pairs)) (same : seen ≡ pairs) where
-      behind_pairs : (r : Result Outline Error) → PlansProject (loaded_in wanted environ j modules seen) r → PlansIt r
-      behind_pairs r plans =
-          (modules, are, goes_on (loaded_in wanted environ j modules pairs) (refl, refl, refl, refl, loads) (subst (λ ps. PlansProject (loaded_in wanted environ j modules ps) r) same plans))
+    pub no_pairs : (e : Error) → Runs {A = List DotenvOf} (LoadsPairs told wanted environ j) told after old new (Err e) → PerformsPlan wanted environ j told after old new (Err e)
+    no_pairs e runs = performs_lost LoadsIt (PlansIt wanted environ j told) told after [] [] old new e (pairs_lost e runs) (λ acts why. lost_so acts e why)
 
-      pub loaded_plan : (o : Outline) → ((ms : List Justfile) → AreModules (j ∷ []) ms → PlansProject (loaded_in wanted environ j ms seen) (Ok o)) → PlansIt (Ok o)
-      loaded_plan o plans = behind_pairs (Ok o) (plans modules are)
+    module _ (pairs seen : List DotenvOf) (same : seen ≡ pairs) where
+      behind_pairs : (acts : List Act) (r : Result Outline Error) → LoadsIt acts after (Ok pairs) → PlansProject (loaded_in wanted environ j modules seen) r → PlansIt wanted environ j told acts after r
+      behind_pairs acts r (cs, is, loads, left) plans =
+          (modules, are, Behind.both (loaded_in wanted environ j modules pairs) acts [] after (cs, is, (refl, refl, refl, refl, loads), left) (refl, refl, subst (λ ps. PlansProject (loaded_in wanted environ j modules ps) r) same plans) (sym (append-nil acts)))
 
-      pub loaded_refused : (e : Error) → OrMemory (λ x. (ms : List Justfile) → AreModules (j ∷ []) ms → PlansProject (loaded_in wanted environ j ms seen) (Err x)) e → OrMemory (λ x. PlansIt (Err x)) e
-      loaded_refused e (inl wants) = inl wants
-      loaded_refused e (inr plans) = inr (behind_pairs (Err e) (plans modules are))
+      or_behind : (acts : List Act) (e : Error) → LoadsIt acts after (Ok pairs) → OrMemory (λ x. (ms : List Justfile) → AreModules (j ∷ []) ms → PlansProject (loaded_in wanted environ j ms seen) (Err x)) e → OrMemory (λ x. PlansIt wanted environ j told acts after (Err x)) e
+      or_behind acts e loads (inl wants) = inl wants
+      or_behind acts e loads (inr plans) = inr (behind_pairs acts (Err e) loads (plans modules are))
+
+      pub loaded_plan : (o : Outline) → Runs (LoadsPairs told wanted environ j) told after old new (Ok pairs) → ((ms : List Justfile) → AreModules (j ∷ []) ms → PlansProject (loaded_in wanted environ j ms seen) (Ok o)) → PerformsPlan wanted environ j told after old new (Ok o)
+      loaded_plan o runs plans = performs_as LoadsIt (PlansIt wanted environ j told) told after [] [] old new pairs o (pairs_part pairs runs) (λ acts loads. behind_pairs acts (Ok o) loads (plans modules are))
+
+      pub loaded_refused : (e : Error) → entries_of e ≡ [] → Runs (LoadsPairs told wanted environ j) told after old new (Ok pairs) → OrMemory (λ x. (ms : List Justfile) → AreModules (j ∷ []) ms → PlansProject (loaded_in wanted environ j ms seen) (Err x)) e
+          → PerformsPlan wanted environ j told after old new (Err e)
+      loaded_refused e silent runs why =
+          performs_looking LoadsIt (PlansIt wanted environ j told) told after after [] [] old new new pairs (Err e) (pairs_part pairs runs) refl (left_nothing new e silent) (λ acts loads. or_behind acts e loads why)
+
+-- memory is wanting before
+pub no_modules : (told : Option World) (old : List Entry) (wanted : Wanted) (environ : Environ) (j : Justfile) → PerformsPlan wanted environ j told told old old (Err error.NoMemory)
+no_modules told old wanted environ j = performs_refusal (PlansIt wanted environ j told) told told [] old old refl error.NoMemory (left_nothing old error.NoMemory refl) (inl refl)
 
 -- a refusal of arguments over a host, and of words, or want of memory
-abbrev pub RefusesRun : Option World → List Entry → Arguments → Environ → Error → Type 0
-RefusesRun told listings a environ e = OrMemory (λ f. Serves told listings (arguments_in a environ) (Err f)) e
+abbrev pub RefusesRun : Option World → List Entry → List Act → Option World → Arguments → Environ → Error → Type 0
+RefusesRun told listings acts after a environ e = OrMemory (λ f. Serves listings told acts after (arguments_in a environ) (Err f)) e
 
-abbrev pub RefusesOver : List (List ℕ) → Option World → List Entry → Error → Type 0
-RefusesOver words told listings e = OrMemory (λ f. Asks words told listings (Err f)) e
+abbrev pub RefusesOver : List (List ℕ) → Option World → List Entry → List Act → Option World → Error → Type 0
+RefusesOver words told listings acts after e = OrMemory (λ f. Asks words told listings acts after (Err f)) e
 
 -- ---- the justfile in a place
 
--- a refusal of what is asked of it, or want of memory; and whether it sets fallback
-abbrev RefusesAt : Option World → LocatedRequest → Bool → Error → Type 0
-RefusesAt told q fallback e = OrMemory (λ x. AnswersAt told q (Err x) fallback) e
+module _ (config : Config) (environ : Environ) (location : Location) (told : Option World) where
+  abbrev pub AsksAt : Bool → List Act → Option World → Result Outline Error → Type 0
+  AsksAt fallback acts after r = AnswersAt told acts after (located_in config environ location) r fallback
 
-module _ (told : Option World) (config : Config) (environ : Environ) (location : Location) where
-  -- the justfile is no file
-  pub no_file : (e : Error) → OrMemory (λ x. (environ : Environ) → TakesFile (located_in config environ location) (Err x)) e → RefusesAt told (located_in config environ location) false e
-  no_file e (inl wants) = inl wants
-  no_file e (inr lost) = inr (AnswersAt.no_project e (stops e (lost environ) refl) refl refl)
+  -- there is no file
+  pub no_file : (acts : List Act) (after : Option World) (e : Error) → OrMemory (λ x. TakesWanted config location told acts after (Err x)) e → OrMemory (λ x. AsksAt false acts after (Err x)) e
+  no_file acts after e (inl wants) = inl wants
+  no_file acts after e (inr lost) = inr (AnswersAt.no_project e (Behind.refused e (lost environ) refl) refl refl)
 
-  module _ (wanted : Wanted) (justfile : List ℕ) (takes : (environ : Environ) → TakesFile (located_in config environ location) (Ok (justfile_in wanted environ justfile))) where
+  module _ (wanted : Wanted) (justfile : List ℕ) (between : Option World) where
     -- its project isn't made
-    pub no_project : (e : Error) → OrMemory (λ x. FindsProjectOf told (justfile_in wanted environ justfile) (Err x)) e → RefusesAt told (located_in config environ location) false e
-    no_project e (inl wants) = inl wants
-    no_project e (inr lost) = inr (AnswersAt.no_project e (goes_on (justfile_in wanted environ justfile) (takes environ) lost) refl refl)
+    no_project : (acts : List Act) (after : Option World) (e : Error) → after ≡ between → TakesWanted config location told acts between (Ok (wanted, justfile)) → OrMemory (λ x. FindsProjectOf between (justfile_in wanted environ justfile) (Err x)) e
+        → OrMemory (λ x. AsksAt false acts after (Err x)) e
+    no_project acts after e world takes (inl wants) = inl wants
+    no_project acts after e world takes (inr lost) =
+        inr (AnswersAt.no_project e (Behind.both (justfile_in wanted environ justfile) acts [] between (takes environ) (refl, world, lost) (sym (append-nil acts))) refl refl)
 
-    module _ (j : Justfile) (finds : (ms : List Justfile) → AreModules (j ∷ []) ms → FindsProjectOf told (justfile_in wanted environ justfile) (Ok (project_in wanted environ j ms))) (fallback : Bool) (is : fallback ≡ (settings_of j).fallback) where
+    module _ (middle : Option World) (still : middle ≡ between) (j : Justfile) (finds : (ms : List Justfile) → AreModules (j ∷ []) ms → FindsProjectOf between (justfile_in wanted environ justfile) (Ok (project_in wanted environ j ms)))
+        (fallback : Bool) (is : fallback ≡ (settings_of j).fallback) where
       -- what is asked of its project is what is asked of it
-      answers : (r : Result Outline Error) → PlansIt told wanted environ j r → AnswersAt told (located_in config environ location) r fallback
-      answers r (ms, are, plans) = AnswersAt.of_project (project_in wanted environ j ms) (goes_on (justfile_in wanted environ justfile) (takes environ) (finds ms are)) plans is
+      answers : (acts more : List Act) (after : Option World) (r : Result Outline Error) → TakesWanted config location told acts between (Ok (wanted, justfile)) → PlansIt wanted environ j middle more after r → AsksAt fallback (acts ++ more) after r
+      answers acts more after r takes (ms, are, plans) =
+          AnswersAt.of_project (project_in wanted environ j ms) acts more middle
+          (Behind.both (justfile_in wanted environ justfile) acts [] between (takes environ) (refl, still, finds ms are) (sym (append-nil acts))) plans refl is
 
-      pub place_planned : {A : Type 0} (outline : A → Outline) (r : Result A Error) → IfOk r (λ x. PlansIt told wanted environ j (Ok (outline x))) → IfOk r (λ x. AnswersAt told (located_in config environ location) (Ok (outline x)) fallback)
-      place_planned outline (Ok x) plans = answers (Ok (outline x)) plans
-      place_planned outline (Err e) plans = tt
+      pub all_answers : (acts more : List Act) (after : Option World) (r : Result Outline Error) → TakesWanted config location told acts between (Ok (wanted, justfile)) → Answers (PlansIt wanted environ j middle more after) r → Answers (AsksAt fallback (acts ++ more) after) r
+      all_answers acts more after (Ok o) takes plans = answers acts more after (Ok o) takes plans
+      all_answers acts more after (Err e) takes (inl wants) = inl wants
+      all_answers acts more after (Err e) takes (inr plans) = inr (answers acts more after (Err e) takes plans)
 
-      pub place_refused : {A : Type 0} (r : Result A Error) → IfErr r (λ e. OrMemory (λ x. PlansIt told wanted environ j (Err x)) e) → IfErr r (λ e. RefusesAt told (located_in config environ location) fallback e)
-      place_refused (Ok x) why = tt
-      place_refused (Err e) (inl wants) = inl wants
-      place_refused (Err e) (inr plans) = inr (answers (Err e) plans)
+  -- the parts of a preparation
+  module _ (kept : List (List ℕ)) (old : List Entry) where
+    abbrev pub AskedAt : Bool → Option World → List (List ℕ) → List Entry → Result Outline Error → Type 0
+    AskedAt fallback after keeps new r = Performs (AsksAt fallback) told after kept keeps old new r
 
--- a refusal of what is asked of the justfiles that are tried, or want of memory
-abbrev RefusesPlace : Option World → LocatedRequest → Error → Type 0
-RefusesPlace told q e = OrMemory (λ x. Tries told q (Err x)) e
+    pub place_untaken : (after : Option World) (keeps : List (List ℕ)) (new : List Entry) (e : Error) → Performs {A = Wanted × List ℕ} (TakesWanted config location told) told after kept keeps old new (Err e) → AskedAt false after keeps new (Err e)
+    place_untaken after keeps new e p = performs_lost (TakesWanted config location told) (AsksAt false) told after kept keeps old new e p (λ acts lost. no_file acts after e lost)
+
+    module _ (between : Option World) (keeps : List (List ℕ)) (middle : List Entry) (wanted : Wanted) (justfile : List ℕ) (taken : Performs {A = Wanted × List ℕ} (TakesWanted config location told) told between kept keeps old middle (Ok (wanted, justfile))) where
+      pub place_lost : (after : Option World) (new : List Entry) (e : Error) → after ≡ between → (es : List Entry) × (new ≡ middle ++ es) × EndsWith [] e es
+          → OrMemory (λ x. FindsProjectOf between (justfile_in wanted environ justfile) (Err x)) e → AskedAt false after keeps new (Err e)
+      place_lost after new e world gains why =
+          performs_looking (TakesWanted config location told) (AsksAt false) told between after kept keeps old middle new (wanted, justfile) (Err e) taken world gains (λ acts takes. no_project wanted justfile between acts after e world takes why)
+
+      module _ (seen after : Option World) (begun new : List Entry) (still : seen ≡ between) (gains : (es : List Entry) × (begun ≡ middle ++ es) × AreMisses es) (j : Justfile)
+          (finds : (ms : List Justfile) → AreModules (j ∷ []) ms → FindsProjectOf between (justfile_in wanted environ justfile) (Ok (project_in wanted environ j ms))) (fallback : Bool) (is : fallback ≡ (settings_of j).fallback) where
+        -- the file is there, and its project is made
+        taken_here : Performs {A = Wanted × List ℕ} (λ acts world r. TakesWanted config location told acts between r) told seen kept keeps old begun (Ok (wanted, justfile))
+        taken_here =
+            performs_looking (TakesWanted config location told) (λ acts world r. TakesWanted config location told acts between r) told between seen kept keeps old middle begun (wanted, justfile) (Ok (wanted, justfile)) taken still gains (λ acts takes. takes)
+
+        pub place_asked : (r : Result Outline Error) → PerformsPlan wanted environ j seen after begun new r → AskedAt fallback after keeps new r
+        place_asked r plan =
+            performs_then (λ acts world x. TakesWanted config location told acts between x) (PlansIt wanted environ j seen) (AsksAt fallback) told seen after kept keeps keeps old begun new (wanted, justfile) r taken_here
+            (performs_behind (PlansIt wanted environ j seen) seen after keeps begun new r plan) (λ acts more takes plans. all_answers wanted justfile between seen still j finds fallback is acts more after r takes plans)
 
 -- ---- behind the words
 
 module _ (a : Arguments) (environ : Environ) (told : Option World) where
   -- the current folder isn't found
-  pub no_folder : (e : Error) → OrMemory (λ x. FolderGiven told (Err x)) e → (listings : List Entry) → RefusesRun told listings a environ e
-  no_folder e (inl wants) listings = inl wants
-  no_folder e (inr lost) listings = inr (stops e lost refl)
+  pub no_folder : (after : Option World) (e : Error) → after ≡ told → OrMemory (λ x. FolderGiven told (Err x)) e → (listings : List Entry) → RefusesRun told listings [] after a environ e
+  no_folder after e world (inl wants) listings = inl wants
+  no_folder after e world (inr lost) listings = inr (Behind.refused e (refl, world, lost) refl)
 
   module _ (folder : List ℕ) (given : FolderGiven told (Ok folder)) where
     -- the arguments give no configuration
-    pub no_configuration : (e : Error) → OrMemory (λ x. (environ : Environ) → Configures (folder_in a environ folder) (Err x)) e → (listings : List Entry) → RefusesRun told listings a environ e
-    no_configuration e (inl wants) listings = inl wants
-    no_configuration e (inr why) listings = inr (goes_on (folder_in a environ folder) (refl, refl, given) (stops e (why environ) refl))
+    pub no_configuration : (after : Option World) (e : Error) → after ≡ told → OrMemory (λ x. (environ : Environ) → Configures (folder_in a environ folder) (Err x)) e → (listings : List Entry) → RefusesRun told listings [] after a environ e
+    no_configuration after e world (inl wants) listings = inl wants
+    no_configuration after e world (inr why) listings = inr (Behind.both (folder_in a environ folder) [] [] told (refl, refl, (refl, refl, given)) (Behind.refused e (refl, world, why environ) refl) refl)
 
     module _ (config : Config) (configures : (environ : Environ) → Configures (folder_in a environ folder) (Ok (config_in config environ))) (listings : List Entry) where
       -- what is decided behind the configuration is the answer
-      pub decided : (r : Result Outline Error) → Decides told listings (config_in config environ) r → Serves told listings (arguments_in a environ) r
-      decided r decides = goes_on (folder_in a environ folder) (refl, refl, given) (goes_on (config_in config environ) (configures environ) decides)
+      pub decided : (acts : List Act) (after : Option World) (r : Result Outline Error) → Decides listings told acts after (config_in config environ) r → Serves listings told acts after (arguments_in a environ) r
+      decided acts after r decides =
+          Behind.both (folder_in a environ folder) [] acts told (refl, refl, (refl, refl, given)) (Behind.both (config_in config environ) [] acts told (refl, refl, configures environ) decides refl) refl
 
     module _ (config : Config) (configures : (environ : Environ) → Configures (folder_in a environ folder) (Ok (config_in config environ))) (plain : is_init config.subcommand ≡ false) (listings : List Entry) where
       -- what the search answers, and what stands behind it, is the answer
-      searched : (r : Result Outline Error) → Searches told listings (config_in config environ) r → Serves told listings (arguments_in a environ) r
-      searched r searches = decided config configures listings r (Decides.runs plain searches)
+      searched : (acts : List Act) (after : Option World) (r : Result Outline Error) → Searches listings told acts after (config_in config environ) r → Serves listings told acts after (arguments_in a environ) r
+      searched acts after r searches = decided config configures listings acts after r (Decides.runs plain searches)
 
       -- the justfile isn't found
-      pub no_location : (e : Error) → OrMemory (λ x. FindsLocation told listings config (Err x)) e → RefusesRun told listings a environ e
-      no_location e (inl wants) = inl wants
-      no_location e (inr lost) = inr (searched (Err e) (stops e lost refl))
+      pub no_location : (after : Option World) (e : Error) → after ≡ told → OrMemory (λ x. FindsLocation told listings config (Err x)) e → RefusesRun told listings [] after a environ e
+      no_location after e world (inl wants) = inl wants
+      no_location after e world (inr lost) = inr (searched [] after (Err e) (Behind.refused e (refl, world, lost) refl))
 
       module _ (location : Location) (finds : FindsLocation told listings config (Ok location)) where
         -- what is asked of it is the answer
-        pub tried_plan : (r : Result Outline Error) → Tries told (located_in config environ location) r → Serves told listings (arguments_in a environ) r
-        tried_plan r tries = searched r (goes_on (located_in config environ location) (refl, refl, finds) tries)
-
-        pub tried_refused : (e : Error) → RefusesPlace told (located_in config environ location) e → RefusesRun told listings a environ e
-        tried_refused e (inl wants) = inl wants
-        tried_refused e (inr tries) = inr (tried_plan (Err e) tries)
+        pub tried_plan : (acts : List Act) (after : Option World) (r : Result Outline Error) → Tries told acts after (located_in config environ location) r → Serves listings told acts after (arguments_in a environ) r
+        tried_plan acts after r tries = searched acts after r (Behind.both (located_in config environ location) [] acts told (refl, refl, (refl, refl, finds)) tries refl)
 
 -- ---- from the words on
 
 module _ (words : List (List ℕ)) (told : Option World) where
   -- the environment isn't found
-  pub no_environ : (e : Error) → OrMemory (λ x. EnvironGiven told (Err x)) e → (listings : List Entry) → RefusesOver words told listings e
-  no_environ e (inl wants) listings = inl wants
-  no_environ e (inr lost) listings = inr (stops e lost refl)
+  pub no_environ : (after : Option World) (e : Error) → after ≡ told → OrMemory (λ x. EnvironGiven told (Err x)) e → (listings : List Entry) → RefusesOver words told listings [] after e
+  no_environ after e world (inl wants) listings = inl wants
+  no_environ after e world (inr lost) listings = inr (Behind.refused e (refl, world, lost) refl)
 
   module _ (environ : Environ) (given : EnvironGiven told (Ok environ)) where
     -- the words are faulty
-    pub no_words : (e : Error) → OrMemory (λ f. ReadsWords (words_in words environ) (Err f)) e → (listings : List Entry) → RefusesOver words told listings e
-    no_words e (inl wants) listings = inl wants
-    no_words e (inr faulty) listings = inr (goes_on (words_in words environ) (refl, given) (stops e faulty refl))
+    pub no_words : (after : Option World) (e : Error) → after ≡ told → OrMemory (λ f. ReadsWords (words_in words environ) (Err f)) e → (listings : List Entry) → RefusesOver words told listings [] after e
+    no_words after e world (inl wants) listings = inl wants
+    no_words after e world (inr faulty) listings = inr (Behind.both (words_in words environ) [] [] told (refl, refl, (refl, given)) (Behind.refused e (refl, world, faulty) refl) refl)
 
     module _ (a : Arguments) (means : Means words environ.pairs (Ok (read.Go a))) (now : Option World) (same : now ≡ told) where
       -- what the arguments ask for is what the words ask for
-      pub words_ask : (listings : List Entry) (r : Result Outline Error) → Serves now listings (arguments_in a environ) r → Asks words told listings r
-      words_ask listings r serves = goes_on (words_in words environ) (refl, given) (goes_on (arguments_in a environ) (means, refl) (subst (λ t. Serves t listings (arguments_in a environ) r) same serves))
+      pub words_ask : (listings : List Entry) (acts : List Act) (after : Option World) (r : Result Outline Error) → Serves listings now acts after (arguments_in a environ) r → Asks words told listings acts after r
+      words_ask listings acts after r serves =
+          Behind.both (words_in words environ) [] acts told (refl, refl, (refl, given))
+          (Behind.both (arguments_in a environ) [] acts told (refl, refl, (means, refl)) (subst (λ t. Serves listings t acts after (arguments_in a environ) r) same serves) refl) refl
 
       -- and they ask for the user's own justfile
       pub asks_global : a.global_justfile ≡ true → AsksGlobal words told

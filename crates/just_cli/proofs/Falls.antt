@@ -9,6 +9,7 @@ use Rattle.std.proofs.lemmas.List.Elements.{All-contains, Contains-append_left, 
 use Rattle.std.proofs.lemmas.List.Folds.{list_any-append}
 use Rattle.std.proofs.lemmas.List.Sums.{sum_by-append, sum_by-cons}
 use Rattle.just_outside.specs.World.{World}
+use Rattle.just_outside.specs.Looks.{dash}
 use Rattle.just_outside.specs.Record.{refused, faults_of, misses_of, is_failed, is_missed, is_started}
 use Rattle.just_path.specs.declared.host.Miss.{Miss}
 use Rattle.just_path.specs.declared.host.Miss.TheVariants as miss
@@ -31,15 +32,20 @@ use Rattle.just_cli.specs.declared.ended.Report.{Report}
 use Rattle.just_errors.specs.declared.error.Error.{Error}
 use Rattle.just_errors.specs.declared.error.Error.TheVariants as error
 use Rattle.just_outcome.specs.Caused.{IsCaused}
-use Rattle.just_planning.specs.Own.{is_failed_call, is_missed_call, is_fault, is_miss}
-use Rattle.just_cli.specs.Faults.{entries_of}
+use Rattle.just_planning.specs.Own.{is_failed_call, is_missed_call}
+use Rattle.just_env.specs.declared.search_error.SearchError.TheVariants as search
+use Rattle.just_cli.specs.Acts.{Act}
+use Rattle.just_planning.specs.Own.{is_fault, is_miss}
+use Rattle.just_env_files.specs.declared.env_error.OutputError.TheVariants as output
+use Rattle.just_planning.specs.Pairs.{entries_of as entries_in}
 use Rattle.just_outcome.proofs.Laws.{only_memory}
-use Rattle.just_cli.specs.Preparing.{EndsWith}
-use Rattle.just_cli.specs.Record.{Stretches, EndsIll, EndsBefore, IsQuiet}
+use Rattle.just_cli.specs.Preparing.{EndsActs}
+use Rattle.just_cli.specs.Record.{Stretches, EndsIll, EndsUnopened, IsQuiet}
 
 -- what a failure leaves: with no plan, a refusal before the book
-abbrev pub Failed : List Entry → Option ℕ → List Bool → Bool → Result Report Failure → List Entry → List Entry → Type 0
-Failed listings jobs messages quiet r old new = IfErr r (λ f. MatchOption f.plan (∥ EndsBefore listings quiet f.error old new ∥₁) (λ p. ∥ EndsIll listings p jobs messages quiet f.history f.error old new ∥₁))
+abbrev pub Failed : List Entry → List Act → Option ℕ → List Bool → Bool → Result Report Failure → Option World → Option World → List Entry → List Entry → Type 0
+Failed listings acts jobs messages quiet r settled after old new =
+    IfErr r (λ f. MatchOption f.plan (∥ EndsUnopened listings acts quiet f.error settled after old new ∥₁) (λ p. ∥ EndsIll listings acts p jobs messages quiet f.history f.error settled after old new ∥₁))
 
 -- ---- counts
 
@@ -66,18 +72,18 @@ more_within : (p : Entry → Bool) (old new : List Entry) (s : Stretches old new
 more_within p old new s some = omega (arith, some, ap (λ es. count_by p es) s.grew, counted_parts p old s.pre s.mid s.post)
 
 -- what an error's call left is counted behind listings and misses
-counted_behind : (p : Entry → Bool) (listings : List Entry) (e : Error) (es : List Entry) → EndsWith listings e es → 0 < count_by p (entries_of e) → 0 < count_by p es
-counted_behind p listings e es ends some =
-    omega (arith, some, ap (λ xs. count_by p xs) ends.2, sum_by-append (λ x. cond (p x) 1 0) listings (ends.0 ++ entries_of e), sum_by-append (λ x. cond (p x) 1 0) ends.0 (entries_of e))
+counted_behind : (p : Entry → Bool) (listings : List Entry) (acts : List Act) (e : Error) (es : List Entry) → EndsActs listings acts e es → ((parent : List ℕ) → 0 < count_by p (entries_in parent e)) → 0 < count_by p es
+counted_behind p listings acts e es (among, parent, are, is) some =
+    omega (arith, some parent, ap (λ xs. count_by p xs) is, sum_by-append (λ x. cond (p x) 1 0) listings (among ++ entries_in parent e), sum_by-append (λ x. cond (p x) 1 0) among (entries_in parent e))
 
 -- a kind of entry that shows where a kind of error is told is counted
 module _ (p : Entry → Bool) (q : Error → Bool)
     (shown : (nodes : List PlanNode) (h : List Event) (e : Error) (es : List Entry) → IsCaused nodes h e es → q e ≡ true → 0 < count_by p es)
-    (refusal : (e : Error) → q e ≡ true → 0 < count_by p (entries_of e)) where
-  rises : (listings : List Entry) (jobs : Option ℕ) (messages : List Bool) (quiet : Bool) (o : Option Plan) (h : List Event) (e : Error) (old new : List Entry) → MatchOption o (∥ EndsBefore listings quiet e old new ∥₁) (λ plan. ∥ EndsIll listings plan jobs messages quiet h e old new ∥₁) → q e ≡ true → count_by p old < count_by p new
-  rises listings jobs messages quiet None h e old new failed is =
-      ∥∥₁_elim failed le_prop (λ k. more_before p old new k.stretches (counted_behind p listings e k.stretches.pre k.prepared (refusal e is)))
-  rises listings jobs messages quiet (Some plan) h e old new failed is =
+    (refusal : (e : Error) → q e ≡ true → (parent : List ℕ) → 0 < count_by p (entries_in parent e)) where
+  rises : (listings : List Entry) (acts : List Act) (settled after : Option World) (jobs : Option ℕ) (messages : List Bool) (quiet : Bool) (o : Option Plan) (h : List Event) (e : Error) (old new : List Entry) → MatchOption o (∥ EndsUnopened listings acts quiet e settled after old new ∥₁) (λ plan. ∥ EndsIll listings acts plan jobs messages quiet h e settled after old new ∥₁) → q e ≡ true → count_by p old < count_by p new
+  rises listings acts settled after jobs messages quiet None h e old new failed is =
+      ∥∥₁_elim failed le_prop (λ k. more_before p old new k.stretches (counted_behind p listings acts e k.stretches.pre k.prepared (refusal e is)))
+  rises listings acts settled after jobs messages quiet (Some plan) h e old new failed is =
       ∥∥₁_elim failed le_prop (λ k. more_within p old new k.stretches (shown plan.nodes h e k.stretches.mid k.caused is))
 
 failure_counted : (c : Call) (es : List Entry) → ShowsFailure c es → 0 < faults_of es
@@ -117,6 +123,9 @@ fault_shown nodes h (error.StdoutIo (fault.Failed c)) es a is = failure_counted 
 fault_shown nodes h (error.StdoutIo (fault.Missed m)) es a is = absurd (cc)
 fault_shown nodes h (error.StdoutIo fault.NoMemory) es a is = absurd (cc)
 fault_shown nodes h (error.WriteJustfile justfile io) es a is = absurd a
+fault_shown nodes h (error.Search (search.StdinIo io)) es a is = absurd a
+fault_shown nodes h (error.DotenvCommand command (output.Io io)) es a is = absurd a
+fault_shown nodes h (error.Search (search.TempdirIo io)) es a is = absurd a
 fault_shown nodes h _ es a is = absurd (cc)
 
 miss_shown : (nodes : List PlanNode) (h : List Event) (e : Error) (es : List Entry) → IsCaused nodes h e es → is_miss e ≡ true → 0 < misses_of es
@@ -149,6 +158,9 @@ miss_shown nodes h (error.StdoutIo (fault.Failed c)) es a is = absurd (cc)
 miss_shown nodes h (error.StdoutIo (fault.Missed m)) es a is = absurd a
 miss_shown nodes h (error.StdoutIo fault.NoMemory) es a is = absurd (cc)
 miss_shown nodes h (error.WriteJustfile justfile io) es a is = absurd a
+miss_shown nodes h (error.Search (search.StdinIo io)) es a is = absurd a
+miss_shown nodes h (error.DotenvCommand command (output.Io io)) es a is = absurd a
+miss_shown nodes h (error.Search (search.TempdirIo io)) es a is = absurd a
 miss_shown nodes h _ es a is = absurd (cc)
 
 -- the entry of a refused call is counted
@@ -162,46 +174,52 @@ missed_counted path (fault.Missed m) is = omega arith
 missed_counted path (fault.Failed c) is = absurd (cc)
 missed_counted path fault.NoMemory is = absurd (cc)
 
-fault_refused : (e : Error) → is_fault e ≡ true → 0 < faults_of (entries_of e)
-fault_refused (error.FilesystemIo path io) is = failed_counted path io is
-fault_refused (error.ShellIo recipe shell io) is = failed_counted [] io is
-fault_refused (error.Load path io) is = failed_counted path io is
-fault_refused (error.CurrentDir io) is = failed_counted [] io is
-fault_refused (error.Script recipe command io) is = failed_counted [] io is
-fault_refused (error.Shebang recipe command argument io) is = failed_counted [] io is
-fault_refused (error.TempdirIo recipe io) is = failed_counted [] io is
-fault_refused (error.CacheInputMissing path) is = absurd (cc)
-fault_refused (error.CacheInputDirectory path) is = absurd (cc)
-fault_refused (error.CacheEntryWrite path io) is = failed_counted path io is
-fault_refused (error.GetConfirmation io) is = failed_counted [] io is
-fault_refused (error.StdoutIo io) is = failed_counted [] io is
-fault_refused (error.WriteJustfile justfile io) is = failed_counted justfile io is
-fault_refused _ is = absurd (cc)
+fault_refused : (e : Error) → is_fault e ≡ true → (parent : List ℕ) → 0 < faults_of (entries_in parent e)
+fault_refused (error.FilesystemIo path io) is parent = failed_counted path io is
+fault_refused (error.ShellIo recipe shell io) is parent = failed_counted [] io is
+fault_refused (error.Load path io) is parent = failed_counted path io is
+fault_refused (error.CurrentDir io) is parent = failed_counted [] io is
+fault_refused (error.Script recipe command io) is parent = failed_counted [] io is
+fault_refused (error.Shebang recipe command argument io) is parent = failed_counted [] io is
+fault_refused (error.TempdirIo recipe io) is parent = failed_counted [] io is
+fault_refused (error.CacheInputMissing path) is parent = absurd (cc)
+fault_refused (error.CacheInputDirectory path) is parent = absurd (cc)
+fault_refused (error.CacheEntryWrite path io) is parent = failed_counted path io is
+fault_refused (error.GetConfirmation io) is parent = failed_counted [] io is
+fault_refused (error.StdoutIo io) is parent = failed_counted [] io is
+fault_refused (error.WriteJustfile justfile io) is parent = failed_counted justfile io is
+fault_refused (error.Search (search.StdinIo io)) is parent = failed_counted dash io is
+fault_refused (error.DotenvCommand command (output.Io io)) is parent = failed_counted parent io is
+fault_refused (error.Search (search.TempdirIo io)) is parent = failed_counted parent io is
+fault_refused _ is parent = absurd (cc)
 
-miss_refused : (e : Error) → is_miss e ≡ true → 0 < misses_of (entries_of e)
-miss_refused (error.FilesystemIo path io) is = missed_counted path io is
-miss_refused (error.ShellIo recipe shell io) is = missed_counted [] io is
-miss_refused (error.Load path io) is = missed_counted path io is
-miss_refused (error.CurrentDir io) is = missed_counted [] io is
-miss_refused (error.Script recipe command io) is = missed_counted [] io is
-miss_refused (error.Shebang recipe command argument io) is = missed_counted [] io is
-miss_refused (error.TempdirIo recipe io) is = missed_counted [] io is
-miss_refused (error.CacheInputMissing path) is = missed_counted path (fault.Missed miss.NotFound) is
-miss_refused (error.CacheInputDirectory path) is = missed_counted path (fault.Missed miss.IsFolder) is
-miss_refused (error.CacheEntryWrite path io) is = missed_counted path io is
-miss_refused (error.GetConfirmation io) is = missed_counted [] io is
-miss_refused (error.StdoutIo io) is = missed_counted [] io is
-miss_refused (error.WriteJustfile justfile io) is = missed_counted justfile io is
-miss_refused _ is = absurd (cc)
+miss_refused : (e : Error) → is_miss e ≡ true → (parent : List ℕ) → 0 < misses_of (entries_in parent e)
+miss_refused (error.FilesystemIo path io) is parent = missed_counted path io is
+miss_refused (error.ShellIo recipe shell io) is parent = missed_counted [] io is
+miss_refused (error.Load path io) is parent = missed_counted path io is
+miss_refused (error.CurrentDir io) is parent = missed_counted [] io is
+miss_refused (error.Script recipe command io) is parent = missed_counted [] io is
+miss_refused (error.Shebang recipe command argument io) is parent = missed_counted [] io is
+miss_refused (error.TempdirIo recipe io) is parent = missed_counted [] io is
+miss_refused (error.CacheInputMissing path) is parent = missed_counted path (fault.Missed miss.NotFound) is
+miss_refused (error.CacheInputDirectory path) is parent = missed_counted path (fault.Missed miss.IsFolder) is
+miss_refused (error.CacheEntryWrite path io) is parent = missed_counted path io is
+miss_refused (error.GetConfirmation io) is parent = missed_counted [] io is
+miss_refused (error.StdoutIo io) is parent = missed_counted [] io is
+miss_refused (error.WriteJustfile justfile io) is parent = missed_counted justfile io is
+miss_refused (error.Search (search.StdinIo io)) is parent = missed_counted dash io is
+miss_refused (error.DotenvCommand command (output.Io io)) is parent = missed_counted parent io is
+miss_refused (error.Search (search.TempdirIo io)) is parent = missed_counted parent io is
+miss_refused _ is parent = absurd (cc)
 
 -- the failure of a call whose error is told is counted in the record
-pub faults_rise : (listings : List Entry) (jobs : Option ℕ) (messages : List Bool) (quiet : Bool) (r : Result Report Failure) (old new : List Entry) → Failed listings jobs messages quiet r old new → IfErr r (λ f. is_fault f.error ≡ true → faults_of old < faults_of new)
-faults_rise listings jobs messages quiet (Ok x) old new failed = tt
-faults_rise listings jobs messages quiet (Err f) old new failed = λ is. rises is_failed is_fault fault_shown fault_refused listings jobs messages quiet f.plan f.history f.error old new failed is
+pub faults_rise : (listings : List Entry) (acts : List Act) (settled after : Option World) (jobs : Option ℕ) (messages : List Bool) (quiet : Bool) (r : Result Report Failure) (old new : List Entry) → Failed listings acts jobs messages quiet r settled after old new → IfErr r (λ f. is_fault f.error ≡ true → faults_of old < faults_of new)
+faults_rise listings acts settled after jobs messages quiet (Ok x) old new failed = tt
+faults_rise listings acts settled after jobs messages quiet (Err f) old new failed = λ is. rises is_failed is_fault fault_shown fault_refused listings acts settled after jobs messages quiet f.plan f.history f.error old new failed is
 
-pub misses_rise : (listings : List Entry) (jobs : Option ℕ) (messages : List Bool) (quiet : Bool) (r : Result Report Failure) (old new : List Entry) → Failed listings jobs messages quiet r old new → IfErr r (λ f. is_miss f.error ≡ true → misses_of old < misses_of new)
-misses_rise listings jobs messages quiet (Ok x) old new failed = tt
-misses_rise listings jobs messages quiet (Err f) old new failed = λ is. rises is_missed is_miss miss_shown miss_refused listings jobs messages quiet f.plan f.history f.error old new failed is
+pub misses_rise : (listings : List Entry) (acts : List Act) (settled after : Option World) (jobs : Option ℕ) (messages : List Bool) (quiet : Bool) (r : Result Report Failure) (old new : List Entry) → Failed listings acts jobs messages quiet r settled after old new → IfErr r (λ f. is_miss f.error ≡ true → misses_of old < misses_of new)
+misses_rise listings acts settled after jobs messages quiet (Ok x) old new failed = tt
+misses_rise listings acts settled after jobs messages quiet (Err f) old new failed = λ is. rises is_missed is_miss miss_shown miss_refused listings acts settled after jobs messages quiet f.plan f.history f.error old new failed is
 
 -- ---- favourable records
 
@@ -214,9 +232,9 @@ wanting : (e : Error) → is_wanting e ≡ true → e ≡ error.NoMemory
 wanting error.NoMemory is = refl
 wanting _ is = absurd (cc)
 
-memory_by : (listings : List Entry) (jobs : Option ℕ) (messages : List Bool) (quiet : Bool) (o : Option Plan) (h : List Event) (e : Error) (old new : List Entry) → MatchOption o (∥ EndsBefore listings quiet e old new ∥₁) (λ plan. ∥ EndsIll listings plan jobs messages quiet h e old new ∥₁) → (p : Plan) → o ≡ Some p → (es : List Entry) → new ≡ old ++ es → IsFavourable es → e ≡ error.NoMemory
-memory_by listings jobs messages quiet None h e old new failed p is es grew good = absurd (cc)
-memory_by listings jobs messages quiet (Some plan) h e old new failed p is es grew good =
+memory_by : (listings : List Entry) (acts : List Act) (settled after : Option World) (jobs : Option ℕ) (messages : List Bool) (quiet : Bool) (o : Option Plan) (h : List Event) (e : Error) (old new : List Entry) → MatchOption o (∥ EndsUnopened listings acts quiet e settled after old new ∥₁) (λ plan. ∥ EndsIll listings acts plan jobs messages quiet h e settled after old new ∥₁) → (p : Plan) → o ≡ Some p → (es : List Entry) → new ≡ old ++ es → IsFavourable es → e ≡ error.NoMemory
+memory_by listings acts settled after jobs messages quiet None h e old new failed p is es grew good = absurd (cc)
+memory_by listings acts settled after jobs messages quiet (Some plan) h e old new failed p is es grew good =
     wanting e (∥∥₁_elim failed (Bool-set _ _) (λ k.
     let s = k.stretches in
     let same : s.pre ++ (s.mid ++ s.post) ≡ es = append_cancel_left old (s.pre ++ (s.mid ++ s.post)) es (sym s.grew ∙ grew) in
@@ -224,38 +242,6 @@ memory_by listings jobs messages quiet (Some plan) h e old new failed p is es gr
     (subst (λ ys. Contains ys x) same (Contains-append_right s.pre (s.mid ++ s.post) x (Contains-append_left s.mid s.post x c)))))))
 
 -- a run that failed over a favourable record wanted memory
-pub memory_wanted : (listings : List Entry) (jobs : Option ℕ) (messages : List Bool) (quiet : Bool) (r : Result Report Failure) (old new : List Entry) → Failed listings jobs messages quiet r old new → IfErr r (λ f. (p : Plan) → f.plan ≡ Some p → (es : List Entry) → new ≡ old ++ es → IsFavourable es → f.error ≡ error.NoMemory)
-memory_wanted listings jobs messages quiet (Ok x) old new failed = tt
-memory_wanted listings jobs messages quiet (Err f) old new failed = memory_by listings jobs messages quiet f.plan f.history f.error old new failed
-
--- ---- the world
-
-first_of : (a b : Bool) → (a || b) ≡ false → a ≡ false
-first_of true b e = absurd (cc)
-first_of false b e = refl
-
--- what no entry of a list passes, none of its first part does
-quiet_front : (p : Entry → Bool) (mid post es : List Entry) → es ≡ mid ++ post → list_any p es ≡ false → list_any p mid ≡ false
-quiet_front p mid post es is none = first_of (list_any p mid) (list_any p post) (sym (list_any-append p mid post) ∙ (ap (λ xs. list_any p xs) (sym is) ∙ none))
-
-second_of : (a b : Bool) → (a || b) ≡ false → b ≡ false
-second_of true b e = absurd (cc)
-second_of false b e = e
-
--- what no entry of a list passes, none of its last part does
-quiet_back : (p : Entry → Bool) (pre rest es : List Entry) → es ≡ pre ++ rest → list_any p es ≡ false → list_any p rest ≡ false
-quiet_back p pre rest es is none = second_of (list_any p pre) (list_any p rest) (sym (list_any-append p pre rest) ∙ (ap (λ xs. list_any p xs) (sym is) ∙ none))
-
--- where no child was started and nothing failed, a drive behind some entries leaves the world but for entries of caches
-pub world_left : (s : Start) (h : List Event) (old pre now new : List Entry) (v : Option World) (post es : List Entry) → s.entries ≡ old ++ pre → ∥ IsKept s h now v ∥₁ → new ≡ now ++ post → new ≡ old ++ es → IsQuiet es → ∥ IsTouched s.plan.nodes s.world v ∥₁
-world_left s h old pre now new v post es entered kept told grew quiet =
-    ∥∥₁_map kept (λ k.
-    let rest = k.gained ++ post in
-    let same : es ≡ pre ++ rest =
-    append_cancel_left old es (pre ++ rest) (sym grew ∙ told ∙ ap (λ x. x ++ post) (k.grew ∙ ap (λ x. x ++ k.gained) entered) ∙ append_assoc (old ++ pre) k.gained post ∙ append_assoc old pre rest) in
-    let child = quiet_front is_started k.gained post rest refl (quiet_back is_started pre rest es same quiet.no_child) in
-    k.untouched (nothing_started (run_of s) h k.gained k.matches child) (quiet_front is_failed k.gained post rest refl (quiet_back is_failed pre rest es same quiet.no_failure)))
-
--- the same of the worlds that were told
-pub touched_between : (nodes : List PlanNode) (w told seen after : Option World) → w ≡ told → after ≡ seen → ∥ IsTouched nodes w seen ∥₁ → ∥ IsTouched nodes told after ∥₁
-touched_between nodes w told seen after w_is after_is t = subst (λ v. ∥ IsTouched nodes told v ∥₁) (sym after_is) (subst (λ v. ∥ IsTouched nodes v seen ∥₁) w_is t)
+pub memory_wanted : (listings : List Entry) (acts : List Act) (settled after : Option World) (jobs : Option ℕ) (messages : List Bool) (quiet : Bool) (r : Result Report Failure) (old new : List Entry) → Failed listings acts jobs messages quiet r settled after old new → IfErr r (λ f. (p : Plan) → f.plan ≡ Some p → (es : List Entry) → new ≡ old ++ es → IsFavourable es → f.error ≡ error.NoMemory)
+memory_wanted listings acts settled after jobs messages quiet (Ok x) old new failed = tt
+memory_wanted listings acts settled after jobs messages quiet (Err f) old new failed = memory_by listings acts settled after jobs messages quiet f.plan f.history f.error old new failed

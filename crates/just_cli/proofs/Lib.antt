@@ -1,10 +1,12 @@
 -- The lemmas of the top calls.
+pub mod Acting
+pub mod Altering
 pub mod Answered
 pub mod Arguments
 pub mod Asking
 pub mod Calls
 pub mod Chain
-pub mod Dotenv
+pub mod Ending
 pub mod Falls
 pub mod Globals
 pub mod Laws
@@ -12,10 +14,12 @@ pub mod Loading
 pub mod Locating
 pub mod NewPath
 pub mod NewJustfile
+pub mod OneFile
 pub mod OneLocation
 pub mod OneNew
 pub mod OneSearch
 pub mod OneTried
+pub mod PlainSearch
 pub mod Planless
 pub mod Prepared
 pub mod Refusals
@@ -25,5 +29,6 @@ pub mod Served
 pub mod Serving
 pub mod Shown
 pub mod Silent
+pub mod Taking
 pub mod Trying
 pub mod WholeList

@@ -1,5 +1,5 @@
 -- What loading a project leaves in the record: misses, and the entry of the call for which it is refused.
-use Rattle.std.proofs.Common.{◌≡◌, ◌++◌, ◌⊎◌, inl, inr, ℕ, List, [], ◌∷◌, Option, Result, Err, refl, sym, ◌∙◌, ap, subst, append_assoc}
+use Rattle.std.proofs.Common.{◌≡◌, ◌++◌, ◌⊎◌, inl, inr, ℕ, true, List, [], ◌∷◌, Option, Result, Err, refl, sym, ◌∙◌, ap, subst, append_assoc}
 use Rattle.just_outside.specs.World.{World}
 use Rattle.just_outside.specs.declared.entry.Entry.{Entry}
 use Rattle.just_lang.specs.declared.project.LangError.{LangError}
@@ -14,6 +14,7 @@ use Rattle.just_errors.specs.declared.error.Error.{Error}
 use Rattle.just_cli.specs.Faults.{entries_of}
 use Rattle.just_planning.specs.Own.{OrMemory}
 use Rattle.just_cli.specs.Preparing.{EndsWith}
+use Rattle.just_cli.proofs.PlainSearch.{is_plain}
 
 -- a broken rule has no entry
 no_entries : (l : LangError) → entries_of (error_of_lang l) ≡ []
@@ -21,14 +22,16 @@ no_entries lang.NoMemory = refl
 no_entries _ = refl
 
 -- a refusal of a search has the entry of its call
-pub same_entries : (f : SearchError) → entries_of (error_of_search f) ≡ search_entries f
-same_entries (search.Lang l) = no_entries l
-same_entries _ = refl
+pub same_entries : (f : SearchError) → is_plain f ≡ true → entries_of (error_of_search f) ≡ search_entries f
+same_entries (search.StdinIo io) plain = absurd (cc)
+same_entries (search.TempdirIo io) plain = absurd (cc)
+same_entries (search.Lang l) plain = no_entries l
+same_entries _ plain = refl
 
-pub ends_load : (old new : List Entry) (f : SearchError) (e : Error) → Gains {A = Unit {0}} old new (Err f) → e ≡ error_of_search f → (es : List Entry) × (new ≡ old ++ es) × EndsWith [] e es
-ends_load old new f e gains is = (
+pub ends_load : (old new : List Entry) (f : SearchError) (e : Error) → is_plain f ≡ true → Gains {A = Unit {0}} old new (Err f) → e ≡ error_of_search f → (es : List Entry) × (new ≡ old ++ es) × EndsWith [] e es
+ends_load old new f e plain gains is = (
   gains.1.0 ++ entries_of e,
-  gains.2 ∙ (ap (λ es. es ++ search_entries f) gains.1.1 ∙ (append_assoc old gains.1.0 (search_entries f) ∙ ap (λ es. old ++ (gains.1.0 ++ es)) (sym (ap (λ x. entries_of x) is ∙ same_entries f)))),
+  gains.2 ∙ (ap (λ es. es ++ search_entries f) gains.1.1 ∙ (append_assoc old gains.1.0 (search_entries f) ∙ ap (λ es. old ++ (gains.1.0 ++ es)) (sym (ap (λ x. entries_of x) is ∙ same_entries f plain)))),
   (gains.1.0, gains.1.2, refl),
 )
 

@@ -19,6 +19,7 @@ use Rattle.just_cli.specs.Faults.{entries_of}
 use Rattle.just_cli.specs.Request.{ArePassed}
 use Rattle.just_cli.specs.Words.{FindsLocation}
 use Rattle.just_cli.proofs.Loading.{same_entries}
+use Rattle.just_cli.proofs.PlainSearch.{located_error}
 
 -- what is left: the entries of listings, and behind them that of the call for which the search is refused
 abbrev Left : SearchConfig → List Entry → List Entry → Result Location SearchError → Type 0
@@ -68,6 +69,6 @@ module _ (told : Option World) (config : Config) where
       let way = left config.search_config old new (Err f) gains in (
         way.0,
         way.2,
-        way.1 ∙ ap (λ es. old ++ (way.0 ++ es)) (sym (ap (λ x. entries_of x) is ∙ same_entries f)),
+        way.1 ∙ ap (λ es. old ++ (way.0 ++ es)) (sym (ap (λ x. entries_of x) is ∙ same_entries f (located_error told config old new f finds))),
         why old new way.0 f e way.1 finds is,
       )

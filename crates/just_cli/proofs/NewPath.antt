@@ -21,6 +21,7 @@ use Rattle.just_cli.specs.Faults.{entries_of}
 use Rattle.just_cli.specs.NewPath.{is_written_to, is_file_found, ShowsFile, FindsPath, IsFree, FindsFree}
 use Rattle.just_cli.specs.Preparing.{AreMisses, EndsWith}
 use Rattle.just_cli.proofs.Loading.{same_entries}
+use Rattle.just_cli.proofs.PlainSearch.{init_error}
 
 -- ---- the path
 
@@ -33,8 +34,8 @@ module _ (told : Option World) (config : Config) where
   path_refused f e (inr inits) is = inr (f, inits, is)
 
 -- the error of a refused search has the entry of its call
-pub path_entries : (old new : List Entry) (f : SearchError) (e : Error) → new ≡ old ++ search_entries f → e ≡ error_of_search f → new ≡ old ++ entries_of e
-path_entries old new f e grew is = grew ∙ ap (λ es. old ++ es) (sym (ap (λ x. entries_of x) is ∙ same_entries f))
+pub path_entries : (told : Option World) (config : Config) (old new : List Entry) (f : SearchError) (e : Error) → (f ≡ search_error.NoMemory) ⊎ Inits told config (Err f) → new ≡ old ++ search_entries f → e ≡ error_of_search f → new ≡ old ++ entries_of e
+path_entries told config old new f e why grew is = grew ∙ ap (λ es. old ++ es) (sym (ap (λ x. entries_of x) is ∙ same_entries f (init_error told config f why)))
 
 -- ---- what stands there
 

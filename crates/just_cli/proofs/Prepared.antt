@@ -1,41 +1,25 @@
--- What a preparation answers and leaves, from the answers of its calls.
-use Rattle.std.proofs.Common.{◌≡◌, ◌++◌, inl, inr, List, [], ◌∷◌, Result, Ok, Err, refl, sym, ◌∙◌, ap, append_assoc, append-nil}
+-- What parts of a preparation answer and leave, from the answers of their calls.
+use Rattle.std.proofs.Common.{◌≡◌, ◌++◌, inl, inr, ℕ, Bool, true, false, List, [], ◌∷◌, Option, Result, Ok, Err, refl, sym, ◌∙◌, ap, subst, append_assoc, append-nil}
 use Rattle.std.specs.Prelude.{MatchResult}
+use Rattle.std.specs.List.{list_any}
+use Rattle.std.proofs.lemmas.List.Elements.{Contains-append_left, Contains-append_right}
+use Rattle.just_outside.specs.World.{World}
 use Rattle.just_outside.specs.declared.entry.Entry.{Entry}
+use Rattle.just_outside.specs.declared.entry.Entry.TheVariants as entry
+use Rattle.just_outside.specs.Record.{is_failed}
 use Rattle.just_errors.specs.declared.error.Error.{Error}
 use Rattle.just_errors.specs.declared.error.Error.TheVariants as error
 use Rattle.just_planning.specs.Own.{OrMemory}
+use Rattle.just_history.specs.declared.plan_node.PlanNode.{PlanNode}
+use Rattle.just_cli.specs.Acts.{Act, folders_in, captures_in, AreActs}
+use Rattle.just_cli.specs.Altered.{IsAltered}
+use Rattle.just_planning.specs.Pairs.{entries_of as entries_in}
 use Rattle.just_cli.specs.Faults.{entries_of}
-use Rattle.just_cli.specs.Preparing.{AreMisses, EndsWith, Answers, Prepares}
+use Rattle.just_cli.specs.Preparing.{AreMisses, EndsWith, LeavesActs, EndsActs, Leaves, Answers, Performs, Prepares}
 use Rattle.just_cli.specs.Request.{ArePassed}
+use Rattle.just_cli.proofs.Altering.{altered_same, altered_then, altered_more, quiet_first, quiet_rest}
 
-module _ {A : Type 0} (global : Type 0) (asks : List Entry → Result A Error → Type 0) (old : List Entry) where
-  -- a refused call
-  pub ends_call : (new : List Entry) (e : Error) → new ≡ old ++ entries_of e → ((listings : List Entry) → OrMemory (λ x. asks listings (Err x)) e) → Prepares global asks old new (Err e)
-  ends_call new e grew why = ([], entries_of e, grew, inl refl, ([], tt, refl), why [])
-
-  -- a refusal of no call leaves nothing
-  pub ends_nothing : (new : List Entry) (e : Error) → new ≡ old → entries_of e ≡ [] → ((listings : List Entry) → OrMemory (λ x. asks listings (Err x)) e) → Prepares global asks old new (Err e)
-  ends_nothing new e same silent why = ([], [], same ∙ sym (append-nil old), inl refl, ([], tt, sym silent), why [])
-
-  module _ (listings : List Entry) (passed : ArePassed global listings) where
-    -- a refused search
-    pub ends_search : (new : List Entry) (e : Error) → new ≡ old ++ (listings ++ entries_of e) → OrMemory (λ x. asks listings (Err x)) e → Prepares global asks old new (Err e)
-    ends_search new e grew why = (listings, listings ++ entries_of e, grew, passed, ([], tt, refl), why)
-
-    module _ (middle new : List Entry) (listed : middle ≡ old ++ listings) where
-      longer : (es : List Entry) → new ≡ middle ++ es → new ≡ old ++ (listings ++ es)
-      longer es grew = grew ∙ (ap (λ xs. xs ++ es) listed ∙ append_assoc old listings es)
-
-      -- a refusal behind the search
-      pub ends_behind : (e : Error) → (es : List Entry) × (new ≡ middle ++ es) × EndsWith [] e es → OrMemory (λ x. asks listings (Err x)) e → Prepares global asks old new (Err e)
-      ends_behind e gains why = (listings, listings ++ gains.0, longer gains.0 gains.1, passed, (gains.2.0, gains.2.1, ap (λ xs. listings ++ xs) gains.2.2), why)
-
-      -- an answer behind the search
-      pub ends_well : (x : A) → (es : List Entry) × (new ≡ middle ++ es) × AreMisses es → asks listings (Ok x) → Prepares global asks old new (Ok x)
-      ends_well x gains asked = (listings, listings ++ gains.0, longer gains.0 gains.1, passed, (gains.0, gains.2, refl), asked)
-
--- ---- refusals of no call behind a search
+-- ---- refusals of no call
 
 -- such a refusal leaves nothing
 pub left_nothing : (old : List Entry) (e : Error) → entries_of e ≡ [] → (es : List Entry) × (old ≡ old ++ es) × EndsWith [] e es
@@ -68,30 +52,223 @@ pub follows_misses : {A : Type 0} (r : Result A Error) (old middle new : List En
 follows_misses (Ok x) old middle new first second = misses_then old middle new first second
 follows_misses (Err e) old middle new first second = ends_then old middle new e first second
 
+-- ---- acts and their entries
+
+pub folders_append : (acts more : List Act) → folders_in (acts ++ more) ≡ folders_in acts ++ folders_in more
+folders_append [] more = refl
+folders_append (Act.made folder ∷ acts) more = ap (λ (fs : List (List ℕ)). folder ∷ fs) (folders_append acts more)
+folders_append (Act.captured c ∷ acts) more = folders_append acts more
+
+-- where no child was run for both, none was for either
+no_first : (acts more : List Act) → captures_in (acts ++ more) ≡ [] → captures_in acts ≡ []
+no_first [] more none = refl
+no_first (Act.made folder ∷ acts) more none = no_first acts more none
+no_first (Act.captured c ∷ acts) more none = absurd (let no : ⊥ = cc in no)
+
+no_rest : (acts more : List Act) → captures_in (acts ++ more) ≡ [] → captures_in more ≡ []
+no_rest [] more none = none
+no_rest (Act.made folder ∷ acts) more none = no_rest acts more none
+no_rest (Act.captured c ∷ acts) more none = absurd (let no : ⊥ = cc in no)
+
+acts_append : (acts more : List Act) (es fs : List Entry) → AreActs acts es → AreActs more fs → AreActs (acts ++ more) (es ++ fs)
+acts_append acts more es fs AreActs.none b = b
+acts_append acts more es fs (AreActs.a_miss path m some rest a) b = AreActs.a_miss path m (some ++ more) (rest ++ fs) (acts_append some more rest fs a b)
+acts_append acts more es fs (AreActs.an_act x some rest a) b = AreActs.an_act x (some ++ more) (rest ++ fs) (acts_append some more rest fs a b)
+
+misses_acts : (es : List Entry) → AreMisses es → AreActs [] es
+misses_acts [] h = AreActs.none
+misses_acts (entry.Missed path m ∷ es) h = AreActs.a_miss path m [] es (misses_acts es h.1)
+misses_acts (_ ∷ es) h = absurd (cc)
+
+left_look : {A : Type 0} (r : Result A Error) (es : List Entry) → MatchResult r (λ _. AreMisses es) (λ e. EndsWith [] e es) → Leaves [] [] r es
+left_look (Ok x) es left = (es, misses_acts es left, refl)
+left_look (Err e) es left = (left.0, [], misses_acts left.0 left.1, left.2)
+
+-- ---- a part that only looks
+
+module _ {A : Type 0} (gives : List Act → Option World → Result A Error → Type 0) (told after : Option World) (kept : List (List ℕ)) (old new : List Entry) (world : after ≡ told) where
+  looks_over : (r : Result A Error) (es : List Entry) → new ≡ old ++ es → Leaves [] [] r es → Answers (gives [] after) r → Performs gives told after kept kept old new r
+  looks_over r es grew leaves answers = record {
+    acts = [];
+    entries = es;
+    grew = grew;
+    leaves = leaves;
+    folders = sym (append-nil kept);
+    answers = answers;
+    still = λ none quiet. world;
+    alters = λ nodes alone quiet. altered_same [] nodes told after world;
+  }
+
+  -- a refusal, or an answer
+  pub performs_refusal : (e : Error) → (es : List Entry) × (new ≡ old ++ es) × EndsWith [] e es → OrMemory (λ x. gives [] after (Err x)) e → Performs gives told after kept kept old new (Err e)
+  performs_refusal e gains why = looks_over (Err e) gains.0 gains.1 (left_look {A = A} (Err e) gains.0 gains.2) why
+
+  pub performs_answer : (x : A) → (es : List Entry) × (new ≡ old ++ es) × AreMisses es → gives [] after (Ok x) → Performs gives told after kept kept old new (Ok x)
+  performs_answer x gains is = looks_over (Ok x) gains.0 gains.1 (left_look (Ok x) gains.0 gains.2) is
+
+  pub performs_either : (r : Result A Error) → (es : List Entry) × (new ≡ old ++ es) × MatchResult r (λ _. AreMisses es) (λ e. EndsWith [] e es) → Answers (gives [] after) r → Performs gives told after kept kept old new r
+  performs_either (Ok x) gains answers = performs_answer x gains answers
+  performs_either (Err e) gains answers = performs_refusal e gains answers
+
+-- ---- one part behind another
+
+nil_first : (xs ys : List Act) → xs ++ ys ≡ [] → xs ≡ []
+nil_first [] ys is = refl
+nil_first (x ∷ xs) ys is = absurd (let no : ⊥ = cc in no)
+
+nil_rest : (xs ys : List Act) → xs ++ ys ≡ [] → ys ≡ []
+nil_rest [] ys is = is
+nil_rest (x ∷ xs) ys is = absurd (let no : ⊥ = cc in no)
+
+leaves_then : {A : Type 0} (r : Result A Error) (acts more : List Act) (es fs : List Entry) → LeavesActs [] acts es → Leaves [] more r fs → Leaves [] (acts ++ more) r (es ++ fs)
+leaves_then (Ok x) acts more es fs (xs, a, is) (ys, b, at) = (xs ++ ys, acts_append acts more xs ys a b, ap (λ l. l ++ fs) is ∙ ap (λ l. xs ++ l) at)
+leaves_then (Err e) acts more es fs (xs, a, is) (ys, parent, b, at) =
+    (xs ++ ys, parent, acts_append acts more xs ys a b, ap (λ l. l ++ fs) is ∙ (ap (λ l. xs ++ l) at ∙ sym (append_assoc xs ys (entries_in parent e))))
+
+pub performs_then : {A B : Type 0} (first : List Act → Option World → Result A Error → Type 0) (second gives : List Act → Option World → Result B Error → Type 0) (told between after : Option World) (kept keep keeps : List (List ℕ)) (old middle new : List Entry) (x : A) (r : Result B Error)
+    → Performs first told between kept keep old middle (Ok x) → Performs second between after keep keeps middle new r
+    → ((acts more : List Act) → first acts between (Ok x) → Answers (second more after) r → Answers (gives (acts ++ more) after) r) → Performs gives told after kept keeps old new r
+performs_then first second gives told between after kept keep keeps old middle new x r p q both =
+    let all = folders_append p.acts q.acts in
+    record {
+      acts = p.acts ++ q.acts;
+      entries = p.entries ++ q.entries;
+      grew = q.grew ∙ (ap (λ es. es ++ q.entries) p.grew ∙ append_assoc old p.entries q.entries);
+      leaves = leaves_then r p.acts q.acts p.entries q.entries p.leaves q.leaves;
+      folders = q.folders ∙ (ap (λ fs. fs ++ folders_in q.acts) p.folders ∙ (append_assoc kept (folders_in p.acts) (folders_in q.acts) ∙ ap (λ fs. kept ++ fs) (sym all)));
+      answers = both p.acts q.acts p.answers q.answers;
+      still = λ none quiet. q.still (nil_rest p.acts q.acts none) (quiet_rest is_failed p.entries q.entries quiet) ∙ p.still (nil_first p.acts q.acts none) (quiet_first is_failed p.entries q.entries quiet);
+      alters = λ nodes alone quiet.
+          subst (λ fs. IsAltered fs nodes told after) (sym all)
+          (altered_then (folders_in p.acts ++ folders_in q.acts) nodes told between after
+          (altered_more (folders_in p.acts) (folders_in p.acts ++ folders_in q.acts) (λ f has. Contains-append_left (folders_in p.acts) (folders_in q.acts) f has) nodes told between (p.alters nodes (no_first p.acts q.acts alone) (quiet_first is_failed p.entries q.entries quiet)))
+          (altered_more (folders_in q.acts) (folders_in p.acts ++ folders_in q.acts) (λ f has. Contains-append_right (folders_in p.acts) (folders_in q.acts) f has) nodes between after (q.alters nodes (no_rest p.acts q.acts alone) (quiet_rest is_failed p.entries q.entries quiet))));
+    }
+
+-- a part behind which is only looked
+pub performs_looking : {A B : Type 0} (first : List Act → Option World → Result A Error → Type 0) (gives : List Act → Option World → Result B Error → Type 0) (told between after : Option World) (kept keeps : List (List ℕ)) (old middle new : List Entry) (x : A) (r : Result B Error)
+    → Performs first told between kept keeps old middle (Ok x) → after ≡ between → (es : List Entry) × (new ≡ middle ++ es) × MatchResult r (λ _. AreMisses es) (λ e. EndsWith [] e es) → ((acts : List Act) → first acts between (Ok x) → Answers (gives acts after) r)
+    → Performs gives told after kept keeps old new r
+performs_looking first gives told between after kept keeps old middle new x r p world (es, grew, left) more = record {
+  acts = p.acts;
+  entries = p.entries ++ es;
+  grew = grew ∙ (ap (λ l. l ++ es) p.grew ∙ append_assoc old p.entries es);
+  leaves = subst (λ l. Leaves [] l r (p.entries ++ es)) (append-nil p.acts) (leaves_then r p.acts [] p.entries es p.leaves (left_look r es left));
+  folders = p.folders;
+  answers = more p.acts p.answers;
+  still = λ none quiet. world ∙ p.still none (quiet_first is_failed p.entries es quiet);
+  alters = λ nodes alone quiet. subst (λ w. IsAltered (folders_in p.acts) nodes told w) (sym world) (p.alters nodes alone (quiet_first is_failed p.entries es quiet));
+}
+
+or_more : {A : Type 0} (one more : Result A Error → Type 0) → ((s : Result A Error) → one s → more s) → (e : Error) → OrMemory (λ x. one (Err x)) e → OrMemory (λ x. more (Err x)) e
+or_more one more over e (inl wants) = inl wants
+or_more one more over e (inr why) = inr (over (Err e) why)
+
+-- a part that keeps no folder, behind some that were kept
+pub performs_behind : {A : Type 0} (gives : List Act → Option World → Result A Error → Type 0) (told after : Option World) (kept : List (List ℕ)) (old new : List Entry) (r : Result A Error) → Performs gives told after [] [] old new r → Performs gives told after kept kept old new r
+performs_behind gives told after kept old new r p =
+    record { acts = p.acts; entries = p.entries; grew = p.grew; leaves = p.leaves; folders = sym (append-nil kept) ∙ ap (λ (fs : List (List ℕ)). kept ++ fs) p.folders; answers = p.answers; still = p.still; alters = p.alters }
+
+-- the same for what says more
+pub performs_more : {A : Type 0} (first gives : List Act → Option World → Result A Error → Type 0) (told after : Option World) (kept keeps : List (List ℕ)) (old new : List Entry) (r : Result A Error) → ((acts : List Act) (s : Result A Error) → first acts after s → gives acts after s)
+    → Performs first told after kept keeps old new r → Performs gives told after kept keeps old new r
+performs_more first gives told after kept keeps old new (Ok x) over p =
+    record { acts = p.acts; entries = p.entries; grew = p.grew; leaves = p.leaves; folders = p.folders; answers = over p.acts (Ok x) p.answers; still = p.still; alters = p.alters }
+performs_more first gives told after kept keeps old new (Err e) over p =
+    record { acts = p.acts; entries = p.entries; grew = p.grew; leaves = p.leaves; folders = p.folders; answers = or_more (λ z. first p.acts after z) (λ z. gives p.acts after z) (λ z. over p.acts z) e p.answers; still = p.still; alters = p.alters }
+
+-- the same acts for another answer
+pub performs_as : {A B : Type 0} (first : List Act → Option World → Result A Error → Type 0) (gives : List Act → Option World → Result B Error → Type 0) (told after : Option World) (kept keeps : List (List ℕ)) (old new : List Entry) (x : A) (y : B)
+    → Performs first told after kept keeps old new (Ok x) → ((acts : List Act) → first acts after (Ok x) → gives acts after (Ok y)) → Performs gives told after kept keeps old new (Ok y)
+performs_as first gives told after kept keeps old new x y p more =
+    record { acts = p.acts; entries = p.entries; grew = p.grew; leaves = p.leaves; folders = p.folders; answers = more p.acts p.answers; still = p.still; alters = p.alters }
+
+pub performs_lost : {A B : Type 0} (first : List Act → Option World → Result A Error → Type 0) (gives : List Act → Option World → Result B Error → Type 0) (told after : Option World) (kept keeps : List (List ℕ)) (old new : List Entry) (e : Error)
+    → Performs first told after kept keeps old new (Err e) → ((acts : List Act) → OrMemory (λ x. first acts after (Err x)) e → OrMemory (λ x. gives acts after (Err x)) e) → Performs gives told after kept keeps old new (Err e)
+performs_lost first gives told after kept keeps old new e p more =
+    record { acts = p.acts; entries = p.entries; grew = p.grew; leaves = p.leaves; folders = p.folders; answers = more p.acts p.answers; still = p.still; alters = p.alters }
+
+-- an answer in the place of a refusal that is of no call
+pub performs_instead : {A B : Type 0} (first : List Act → Option World → Result A Error → Type 0) (gives : List Act → Option World → Result B Error → Type 0) (told after : Option World) (kept keeps : List (List ℕ)) (old new : List Entry) (e : Error) (y : B)
+    → ((parent : List ℕ) → entries_in parent e ≡ []) → Performs first told after kept keeps old new (Err e) → ((acts : List Act) → OrMemory (λ x. first acts after (Err x)) e → gives acts after (Ok y)) → Performs gives told after kept keeps old new (Ok y)
+performs_instead first gives told after kept keeps old new e y silent p more = record {
+  acts = p.acts;
+  entries = p.entries;
+  grew = p.grew;
+  leaves = (p.leaves.0, p.leaves.2, p.leaves.3 ∙ (ap (λ xs. p.leaves.0 ++ xs) (silent p.leaves.1) ∙ append-nil p.leaves.0));
+  folders = p.folders;
+  answers = more p.acts p.answers;
+  still = p.still;
+  alters = p.alters;
+}
+
+-- want of memory behind an answer
+pub performs_short : {A B : Type 0} (first : List Act → Option World → Result A Error → Type 0) (gives : List Act → Option World → Result B Error → Type 0) (told after : Option World) (kept keeps : List (List ℕ)) (old new : List Entry) (x : A) (e : Error) → e ≡ error.NoMemory
+    → Performs first told after kept keeps old new (Ok x) → Performs gives told after kept keeps old new (Err e)
+performs_short first gives told after kept keeps old new x e is p = record {
+  acts = p.acts;
+  entries = p.entries;
+  grew = p.grew;
+  leaves = (p.leaves.0, [], p.leaves.1, p.leaves.2 ∙ (sym (append-nil p.leaves.0) ∙ ap (λ z. p.leaves.0 ++ entries_in [] z) (sym is)));
+  folders = p.folders;
+  answers = inl is;
+  still = p.still;
+  alters = p.alters;
+}
+
+-- ---- behind listings
+
+module _ {A : Type 0} (global : Type 0) (asks : List Entry → List Act → Option World → Result A Error → Type 0) (told : Option World) (kept : List (List ℕ)) (old : List Entry) where
+  -- a refused call
+  pub ends_call : (after : Option World) (new : List Entry) (e : Error) → after ≡ told → new ≡ old ++ entries_of e → ((listings : List Entry) → OrMemory (λ x. asks listings [] after (Err x)) e) → Prepares global asks told after kept kept old new (Err e)
+  ends_call after new e world grew why =
+      ([], inl refl, performs_refusal (asks []) told after kept (old ++ []) new world e (entries_of e, grew ∙ ap (λ es. es ++ entries_of e) (sym (append-nil old)), ([], tt, refl)) (why []))
+
+  -- a refusal of no call leaves nothing
+  pub ends_nothing : (after : Option World) (new : List Entry) (e : Error) → after ≡ told → new ≡ old → entries_of e ≡ [] → ((listings : List Entry) → OrMemory (λ x. asks listings [] after (Err x)) e) → Prepares global asks told after kept kept old new (Err e)
+  ends_nothing after new e world same silent why = ends_call after new e world (same ∙ (sym (append-nil old) ∙ ap (λ es. old ++ es) (sym silent))) why
+
+  module _ (listings : List Entry) (passed : ArePassed global listings) where
+    -- a refused search
+    pub ends_search : (after : Option World) (new : List Entry) (e : Error) → after ≡ told → new ≡ old ++ (listings ++ entries_of e) → OrMemory (λ x. asks listings [] after (Err x)) e → Prepares global asks told after kept kept old new (Err e)
+    ends_search after new e world grew why =
+        (listings, passed, performs_refusal (asks listings) told after kept (old ++ listings) new world e (entries_of e, grew ∙ sym (append_assoc old listings (entries_of e)), ([], tt, refl)) why)
+
 -- ---- a preparation as one of more
 
-module _ {A : Type 0} (global wider : Type 0) (asks more : List Entry → Result A Error → Type 0) (up : global → wider) (over : (listings : List Entry) (r : Result A Error) → asks listings r → more listings r) where
+module _ {A : Type 0} (global wider : Type 0) (asks more : List Entry → List Act → Option World → Result A Error → Type 0) (up : global → wider) (after : Option World) (over : (listings : List Entry) (acts : List Act) (r : Result A Error) → asks listings acts after r → more listings acts after r) where
   passed_over : (listings : List Entry) → ArePassed global listings → ArePassed wider listings
   passed_over listings (inl none) = inl none
   passed_over listings (inr some) = inr (up some.0, some.1)
 
-  or_over : (listings : List Entry) (e : Error) → OrMemory (λ x. asks listings (Err x)) e → OrMemory (λ x. more listings (Err x)) e
-  or_over listings e (inl wants) = inl wants
-  or_over listings e (inr why) = inr (over listings (Err e) why)
+  or_over : (listings : List Entry) (acts : List Act) (e : Error) → OrMemory (λ x. asks listings acts after (Err x)) e → OrMemory (λ x. more listings acts after (Err x)) e
+  or_over listings acts e (inl wants) = inl wants
+  or_over listings acts e (inr why) = inr (over listings acts (Err e) why)
 
-  answers_over : (listings : List Entry) (r : Result A Error) → Answers (asks listings) r → Answers (more listings) r
-  answers_over listings (Ok x) asked = over listings (Ok x) asked
-  answers_over listings (Err e) why = or_over listings e why
+  answers_over : (listings : List Entry) (acts : List Act) (r : Result A Error) → Answers (asks listings acts after) r → Answers (more listings acts after) r
+  answers_over listings acts (Ok x) asked = over listings acts (Ok x) asked
+  answers_over listings acts (Err e) why = or_over listings acts e why
 
-  pub prepares_over : (old now new : List Entry) (r : Result A Error) → now ≡ old → Prepares global asks now new r → Prepares wider more old new r
-  prepares_over old now new r same p = (p.0, p.1, p.2 ∙ ap (λ xs. xs ++ p.1) same, passed_over p.0 p.3, p.4, answers_over p.0 r p.5)
+  pub prepares_over : (told begun : Option World) (kept keeps : List (List ℕ)) (old now new : List Entry) (r : Result A Error) → begun ≡ told → now ≡ old → Prepares global asks begun after kept keeps now new r → Prepares wider more told after kept keeps old new r
+  prepares_over told begun kept keeps old now new r world same (listings, passed, p) = (
+    listings,
+    passed_over listings passed,
+    record {
+      acts = p.acts;
+      entries = p.entries;
+      grew = p.grew ∙ ap (λ xs. (xs ++ listings) ++ p.entries) same;
+      leaves = p.leaves;
+      folders = p.folders;
+      answers = answers_over listings p.acts r p.answers;
+      still = λ none quiet. p.still none quiet ∙ world;
+      alters = λ nodes alone quiet. subst (λ t. IsAltered (folders_in p.acts) nodes t after) world (p.alters nodes alone quiet);
+    },
+  )
 
--- ---- want of memory behind a preparation
+-- ---- want of memory behind a preparation, which leaves the record and the world as they are
 
-pub memory_behind : {A B : Type 0} (global : Type 0) (asks : List Entry → Result A Error → Type 0) (more : List Entry → Result B Error → Type 0) (old new : List Entry) (x : A)
-    → Prepares global asks old new (Ok x) → Prepares global more old new (Err error.NoMemory)
-memory_behind global asks more old new x p = (p.0, p.1, p.2, p.3, (p.4.0, p.4.1, p.4.2 ∙ ap (λ xs. p.0 ++ xs) (sym (append-nil p.4.0))), inl refl)
-
--- what leaves the record as it is may come behind a preparation
-pub prepares_on : {A : Type 0} (global : Type 0) (asks : List Entry → Result A Error → Type 0) (old now new : List Entry) (r : Result A Error) → new ≡ now → Prepares global asks old now r → Prepares global asks old new r
-prepares_on global asks old now new r same p = (p.0, p.1, same ∙ p.2, p.3, p.4, p.5)
+pub memory_behind : {A B : Type 0} (global : Type 0) (asks : List Entry → List Act → Option World → Result A Error → Type 0) (more : List Entry → List Act → Option World → Result B Error → Type 0) (told after later : Option World) (kept keeps : List (List ℕ)) (old new last : List Entry) (x : A)
+    → later ≡ after → last ≡ new → Prepares global asks told after kept keeps old new (Ok x) → Prepares global more told later kept keeps old last (Err error.NoMemory)
+memory_behind {A} {B} global asks more told after later kept keeps old new last x world same (listings, passed, p) =
+    let short : Performs (more listings) told after kept keeps (old ++ listings) new (Err error.NoMemory) = performs_short (asks listings) (more listings) told after kept keeps (old ++ listings) new x error.NoMemory refl p in
+    (listings, passed, subst (λ w. Performs (more listings) told w kept keeps (old ++ listings) last (Err error.NoMemory)) (sym world) (subst (λ es. Performs (more listings) told after kept keeps (old ++ listings) es (Err error.NoMemory)) (sym same) short))

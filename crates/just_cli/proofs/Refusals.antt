@@ -1,6 +1,6 @@
 -- What words and arguments ask for, from what the readers of words and of a configuration ensure.
-use Rattle.std.proofs.Common.{◌≡◌, ℕ, List, codes, Some, None, inl, inr, Result, Ok, Err, IfOk, IfErr, refl, sym, ◌∙◌, ap}
-use Rattle.just_path.specs.declared.environ.Environ.{Environ}
+use Rattle.std.proofs.Common.{◌≡◌, ℕ, List, Some, None, inl, inr, Result, Ok, Err, IfOk, IfErr, refl, sym, ◌∙◌, ap}
+use Rattle.just_text.specs.declared.environ.Environ.{Environ}
 use Rattle.just_words.specs.declared.arguments.Arguments.{Arguments}
 use Rattle.just_words.specs.declared.usage.Usage.{Usage}
 use Rattle.just_words.specs.declared.usage.UsageKind.{UsageKind}
@@ -15,10 +15,8 @@ use Rattle.just_errors.specs.declared.error.Error.{Error}
 use Rattle.just_errors.specs.declared.error.Error.TheVariants as error
 use Rattle.just_planning.specs.Own.{OrMemory}
 use Rattle.just_planning.specs.Steps.{stops, goes_on}
-use Rattle.just_locate.specs.declared.location.Location.{Location}
-use Rattle.just_locate.specs.declared.location.Origin.TheVariants as origin
-use Rattle.just_cli.specs.Options.{not_built, file_of}
-use Rattle.just_cli.specs.Words.{WordsRequest, FolderRequest, ConfigRequest, ReadsWords, IsBuilt, Configures, TakesFile}
+use Rattle.just_cli.specs.Options.{not_built}
+use Rattle.just_cli.specs.Words.{WordsRequest, FolderRequest, ConfigRequest, ReadsWords, IsBuilt, Configures}
 
 -- ---- words
 
@@ -95,19 +93,3 @@ pub each_unbuilt : (a : Arguments) (folder : List ℕ) (c : Config) (r : Result 
     → IfErr r (OrMemory (λ e. (environ : Environ) → Configures (record { arguments = a; environ = environ; folder = folder }) (Err e)))
 each_unbuilt a folder c (Ok d) gives why = tt
 each_unbuilt a folder c (Err e) gives why = unbuilt_behind a folder c gives e why
-
--- ---- the justfile
-
--- a text that comes from elsewhere is told
-untaken_told : (c : Config) (l : Location) (word told : List ℕ) (e : Error) → file_of l.origin ≡ Err word → told ≡ word → OrMemory (λ x. x ≡ error.NotBuilt told) e
-    → OrMemory (λ x. (environ : Environ) → TakesFile (record { config = c; environ = environ; location = l }) (Err x)) e
-untaken_told c l word told e elsewhere same (inl wants) = inl wants
-untaken_told c l word told e elsewhere same (inr is) = inr (λ environ. (word, elsewhere, is ∙ ap (λ w. error.NotBuilt w) same))
-
-pub untaken_markdown : (c : Config) (l : Location) (path told : List ℕ) (e : Error) → l.origin ≡ origin.Markdown path → told ≡ codes ".md" → OrMemory (λ x. x ≡ error.NotBuilt told) e
-    → OrMemory (λ x. (environ : Environ) → TakesFile (record { config = c; environ = environ; location = l }) (Err x)) e
-untaken_markdown c l path told e is same why = untaken_told c l (codes ".md") told e (ap (λ o. file_of o) is) same why
-
-pub untaken_input : (c : Config) (l : Location) (told : List ℕ) (e : Error) → l.origin ≡ origin.StandardInput → told ≡ codes "-" → OrMemory (λ x. x ≡ error.NotBuilt told) e
-    → OrMemory (λ x. (environ : Environ) → TakesFile (record { config = c; environ = environ; location = l }) (Err x)) e
-untaken_input c l told e is same why = untaken_told c l (codes "-") told e (ap (λ o. file_of o) is) same why

@@ -1,6 +1,6 @@
 -- Each step of a request gives one answer of its own at most, and so does the request.
-use Rattle.std.proofs.Common.{◌≡◌, ℕ, Bool, true, false, true≢false, List, [], ◌∷◌, Option, Some, None, Result, Ok, Err, ◌++◌, refl, sym, ◌∙◌, ap, subst}
-use Rattle.just_path.specs.declared.environ.Environ.{Environ}
+use Rattle.std.proofs.Common.{◌≡◌, ℕ, Bool, true, false, true≢false, List, [], ◌∷◌, map, Option, Some, None, Result, Ok, Err, ◌++◌, refl, sym, ◌∙◌, ap, subst, append_assoc, append-nil}
+use Rattle.just_text.specs.declared.environ.Environ.{Environ}
 use Rattle.just_path.specs.declared.host.Miss.{Miss}
 use Rattle.just_outside.specs.World.{World}
 use Rattle.just_outside.specs.declared.entry.Call.{Call}
@@ -12,26 +12,34 @@ use Rattle.just_words.proofs.Laws.{one_meaning}
 use Rattle.just_errors.specs.declared.error.Error.{Error}
 use Rattle.just_errors.specs.declared.error.Error.TheVariants as error
 use Rattle.just_planning.specs.Own.{is_fault, IsOwn}
+use Rattle.just_env.specs.declared.search_error.SearchError.{SearchError}
+use Rattle.just_init.specs.declared.search.Search.{Search}
+use Rattle.just_tangled.specs.Files.{parent_of}
+use Rattle.just_cli.specs.Acts.{Act, AreToldBehind, Step, Looks, Behind}
+use Rattle.just_cli.proofs.Acting.{Agrees, GivesOwnStep, looks_own, agrees_as, agrees_refusal, in_two, told_later, told_front, told_world, common, behind_own}
+use Rattle.just_cli.proofs.OneFile.{materializes_one}
 use Rattle.just_cli.specs.Faults.{CallGives, FaultFits, io_error, folder_error}
 use Rattle.just_outside.specs.declared.entry.Entry.{Entry}
 use Rattle.just_config.specs.declared.config.Config.{Config}
 use Rattle.just_env.specs.Answers.{entries_of}
 use Rattle.just_locate.specs.declared.location.Location.{Location}
 use Rattle.just_cli.specs.NewPath.{is_init, FindsNew}
-use Rattle.just_cli.specs.Options.{file_of, cache_beside, wanted_of, allowed}
+use Rattle.just_cli.specs.Options.{cache_beside, wanted_of, allowed}
 use Rattle.just_cli.specs.Words.{WordsRequest, ArgumentsRequest, FolderRequest, ConfigRequest, LocatedRequest, JustfileRequest, FindsEnviron, ReadsWords, FindsFolder, GivesConfig, IsBuilt, Configures, FindsLocation, FindsJustfile, TakesFile}
 use Rattle.just_errors.specs.Refusals.{error_of_search}
 use Rattle.just_value.specs.Modules.{settings_of}
 use Rattle.just_agree.proofs.Laws.{loads_agree}
-use Rattle.just_planning.specs.Request.{SourcesRequest, ProjectRequest, Outline, FindsProject, PlansSources}
+use Rattle.just_env_files.specs.Captures.{Capture, told_behind}
+use Rattle.just_planning.specs.Request.{SourcesRequest, ProjectRequest, LoadedRequest, Outline, FindsProject, PlansSources}
+use Rattle.just_planning.proofs.Loading.{own_world}
+use Rattle.std.proofs.lemmas.List.{append_cancel_left}
 use Rattle.just_planning.proofs.Laws.{plans_agree}
 use Rattle.just_planning.proofs.Requests.{finds_project}
 use Rattle.just_planning.specs.Steps.{Then, stops, goes_on}
-use Rattle.just_cli.specs.Request.{LoadsSources, EnvironGiven, FolderGiven, FindsProjectOf, FindsProjectAt, PlansLoaded, AnswersAt, at_place, Tries, Decides, Serves, Asks, NoneFailed}
-use Rattle.just_cli.specs.Whole.{SetsFallback}
+use Rattle.just_cli.specs.Request.{LoadsSources, EnvironGiven, FolderGiven, FindsProjectOf, FindsProjectAt, PlansLoaded, AnswersAt, Tries, Decides, Serves, Asks, NoneFailed}
 use Rattle.just_cli.proofs.Arguments.{arguments_one}
-use Rattle.just_cli.proofs.OneLocation.{by_one, falls_one, own_unfailed}
-use Rattle.just_cli.proofs.OneTried.{own_answer, from_one}
+use Rattle.just_cli.proofs.OneLocation.{by_one, own_unfailed}
+use Rattle.just_cli.proofs.OneTried.{own_answer, AnswersOne, from_one}
 use Rattle.just_cli.proofs.OneNew.{new_own}
 use Rattle.just_cli.proofs.OneSearch.{own_search, search_refused}
 use Rattle.just_planning.proofs.Steps.{GivesOwn, same_refusal, refused_or_found, same_found, then_own}
@@ -116,8 +124,8 @@ configures = then_own GivesConfig IsBuilt gives_config is_built
 -- ---- the place of the justfile
 
 -- the step finds the justfile over listings none of which failed
-abbrev pub FindsUnfailed : World → ConfigRequest → Result LocatedRequest Error → Type 0
-FindsUnfailed w k r = (listings : List Entry) × NoneFailed listings × FindsJustfile (FindsLocation (Some w) listings) k r
+abbrev pub FindsUnfailed : Option World → ConfigRequest → Result LocatedRequest Error → Type 0
+FindsUnfailed told k r = (listings : List Entry) × NoneFailed listings × FindsJustfile (FindsLocation told listings) k r
 
 -- over a told world a justfile is found in one place
 module _ (w : World) where
@@ -138,7 +146,7 @@ module _ (w : World) where
       let refusals : f ≡ g = cc in
       ap (λ x. Err x) (is ∙ ap (λ x. error_of_search x) refusals ∙ sym at)
 
-  finds_justfile : GivesOwn (FindsUnfailed w)
+  finds_justfile : GivesOwn (FindsUnfailed (Some w))
   finds_justfile k (Ok a) (Ok b) (ls, none, p) m (ms, never, q) n =
       ap (λ x. Ok x)
       (ap (λ x. let z : LocatedRequest = record { config = x; environ = a.environ; location = a.location } in z) (p.0 ∙ sym q.0)
@@ -148,26 +156,48 @@ module _ (w : World) where
   finds_justfile k (Err e) (Ok b) (ls, none, p) m (ms, never, q) n = absurd (refused_or_found e b.location (location_own k.config ls ms (Err e) (Ok b.location) none never p m q.2 tt))
   finds_justfile k (Err e) (Err f) (ls, none, p) m (ms, never, q) n = same_refusal e f (location_own k.config ls ms (Err e) (Err f) none never p m q n)
 
--- a file is one path, or it is none
-file_one : (q : LocatedRequest) (f g : List ℕ) → file_of q.location.origin ≡ Ok f → file_of q.location.origin ≡ Ok g → f ≡ g
-file_one q f g p r = let both : ◌≡◌ {A = Result (List ℕ) (List ℕ)} (Ok f) (Ok g) = sym p ∙ r in cc
+-- ---- the justfile's file
 
-file_or_none : (q : LocatedRequest) (f word : List ℕ) → file_of q.location.origin ≡ Ok f → file_of q.location.origin ≡ Err word → ⊥
-file_or_none q f word p r = let both : ◌≡◌ {A = Result (List ℕ) (List ℕ)} (Ok f) (Err word) = sym p ∙ r in let no : ⊥ = cc in no
+one_search : (s t : Search) → ◌≡◌ {A = Result Search SearchError} (Ok s) (Ok t) → s ≡ t
+one_search s t is = cc
 
-word_one : (q : LocatedRequest) (v u : List ℕ) → file_of q.location.origin ≡ Err v → file_of q.location.origin ≡ Err u → v ≡ u
-word_one q v u p r = let both : ◌≡◌ {A = Result (List ℕ) (List ℕ)} (Err v) (Err u) = sym p ∙ r in cc
+search_or_refusal : (s : Search) (f : SearchError) → ◌≡◌ {A = Result Search SearchError} (Ok s) (Err f) → ⊥
+search_or_refusal s f is = let no : ⊥ = cc in no
 
-takes_file : GivesOwn TakesFile
-takes_file k (Ok a) (Ok b) p m q n =
-    ap (λ x. Ok x)
-    (ap (λ x. let z : JustfileRequest = record { wanted = x; environ = a.environ; justfile = a.justfile } in z)
-    (p.1 ∙ ap (λ j. wanted_of k.config k.location.working_directory (cache_beside j)) (file_one k a.justfile b.justfile p.0 q.0) ∙ sym q.1)
-    ∙ ap (λ x. let z : JustfileRequest = record { wanted = b.wanted; environ = x; justfile = a.justfile } in z) (p.2 ∙ sym q.2)
-    ∙ ap (λ x. let z : JustfileRequest = record { wanted = b.wanted; environ = b.environ; justfile = x } in z) (file_one k a.justfile b.justfile p.0 q.0))
-takes_file k (Ok a) (Err f) p m q n = absurd (file_or_none k a.justfile q.0 p.0 q.1)
-takes_file k (Err e) (Ok b) p m q n = absurd (file_or_none k b.justfile p.0 q.0 p.1)
-takes_file k (Err e) (Err f) p m q n = ap (λ x. Err x) (p.2 ∙ ap (λ x. error.NotBuilt x) (word_one k p.0 q.0 p.1 q.1) ∙ sym q.2)
+one_refusal : (e f : SearchError) → ◌≡◌ {A = Result Search SearchError} (Err e) (Err f) → e ≡ f
+one_refusal e f is = cc
+
+-- acts that go on the same are those of folders that do
+folders_go_on : (acts more rest left : List Act) (fs gs : List (List ℕ)) → acts ≡ map Act.made fs → more ≡ map Act.made gs → acts ++ rest ≡ more ++ left → map Act.made fs ++ rest ≡ map Act.made gs ++ left
+folders_go_on acts more rest left fs gs is at all = ap (λ l. l ++ rest) (sym is) ∙ (all ∙ ap (λ l. l ++ left) at)
+
+-- of a refusal that the world determines, so is the one of the search
+own_file : (e : Error) (f : SearchError) → e ≡ error_of_search f → is_fault e ≡ false → is_fault (error_of_search f) ≡ false
+own_file e f is own = ap (λ x. is_fault x) (sym is) ∙ own
+
+takes_file : GivesOwnStep TakesFile
+takes_file w acts more rest left after later k (Ok a) (Ok b) (fs, s, is, m, path, wanted, environ) own (gs, t, at, n, road, also, around) other all told =
+    let one = materializes_one w (parent_of k.config) k.location fs gs rest left after later (Ok s) (Ok t) m tt n tt (folders_go_on acts more rest left fs gs is at all) in
+    let file : s ≡ t = one_search s t one.same in
+    record {
+      same =
+          ap (λ x. Ok x)
+          (ap (λ x. let z : JustfileRequest = record { wanted = x; environ = a.environ; justfile = a.justfile } in z)
+          (wanted ∙ ap (λ (j : Search). wanted_of k.config j.working_directory (cache_beside j.justfile)) file ∙ sym also)
+          ∙ ap (λ x. let z : JustfileRequest = record { wanted = b.wanted; environ = x; justfile = a.justfile } in z) (environ ∙ sym around)
+          ∙ ap (λ x. let z : JustfileRequest = record { wanted = b.wanted; environ = b.environ; justfile = x } in z) (path ∙ ap (λ (j : Search). j.justfile) file ∙ sym road));
+      rests = one.rests;
+      world = one.world;
+      told = one.told;
+      also = one.also;
+    }
+takes_file w acts more rest left after later k (Ok a) (Err e) (fs, s, is, m, path, wanted, environ) own (gs, g, at, n, not, from) other all told =
+    absurd (search_or_refusal s g (materializes_one w (parent_of k.config) k.location fs gs rest left after later (Ok s) (Err g) m tt n (own_file e g from other.0, not) (folders_go_on acts more rest left fs gs is at all)).same)
+takes_file w acts more rest left after later k (Err e) (Ok b) (fs, f, is, m, never, from) own (gs, t, at, n, road, also, around) other all told =
+    absurd (search_or_refusal t f (sym (materializes_one w (parent_of k.config) k.location fs gs rest left after later (Err f) (Ok t) m (own_file e f from own.0, never) n tt (folders_go_on acts more rest left fs gs is at all)).same))
+takes_file w acts more rest left after later k (Err d) (Err e) (fs, f, is, m, never, from) own (gs, g, at, n, not, so) other all told =
+    let one = materializes_one w (parent_of k.config) k.location fs gs rest left after later (Err f) (Err g) m (own_file d f from own.0, never) n (own_file e g so other.0, not) (folders_go_on acts more rest left fs gs is at all) in
+    record { same = ap (λ x. Err x) (from ∙ (ap (λ x. error_of_search x) (one_refusal f g one.same) ∙ sym so)); rests = one.rests; world = one.world; told = one.told; also = one.also }
 
 -- ---- the project
 
@@ -192,100 +222,159 @@ module _ (w : World) where
 
 -- ---- the chain
 
+pub own_refused : (A : Type 0) (r : Result Outline Error) (e : Error) → r ≡ Err e → IsOwn r → IsOwn {A = A} (Err e)
+own_refused A r e is own = subst (λ (z : Result Outline Error). IsOwn z) is own
+
+finds_project_of : (w : World) → GivesOwn (FindsProjectOf (Some w))
+finds_project_of w = then_own (LoadsSources (Some w)) FindsProject (loads_sources w) finds_project
+
+-- the project of the justfile in a place
+pub project_own : GivesOwnStep FindsProjectAt
+project_own = behind_own TakesFile (Looks FindsProjectOf) takes_file (looks_own FindsProjectOf finds_project_of)
+
+-- the plan of sources, with the children that are run for it, and the world that is told behind these
+abbrev PlansIn : Step SourcesRequest Outline
+PlansIn told acts after s r = (cs : List Capture) × (acts ≡ map Act.captured cs) × PlansSources told cs s r × (after ≡ told_behind told cs)
+
+children_go_on : (acts more rest left : List Act) (cs ds : List Capture) → acts ≡ map Act.captured cs → more ≡ map Act.captured ds → acts ++ rest ≡ more ++ left → map Act.captured cs ++ rest ≡ map Act.captured ds ++ left
+children_go_on acts more rest left cs ds is at all = ap (λ l. l ++ rest) (sym is) ∙ (all ∙ ap (λ l. l ++ left) at)
+
+plans_in : GivesOwnStep PlansIn
+plans_in w acts more rest left after later s r q (cs, is, p, world) own (ds, at, o, still) other all told =
+    let same = children_go_on acts more rest left cs ds is at all in
+    let told_ds : AreToldBehind (map Act.captured ds ++ left) = subst (λ l. AreToldBehind (l ++ left)) at told in
+    let told_cs : AreToldBehind (map Act.captured cs ++ rest) = subst (λ l. AreToldBehind l) (sym same) told_ds in
+    let are = told_front ds left told_ds in
+    let c = common cs ds rest left same (told_front cs rest told_cs) are in
+    let one = plans_agree w s cs ds c.0 c.1 c.2 c.3 r q p own o other in
+    let there = told_world w ds are in
+    record {
+      same = one.0;
+      rests = append_cancel_left (map Act.captured ds) rest left (ap (λ (l : List Capture). map Act.captured l ++ rest) (sym one.1) ∙ same);
+      world = there.0;
+      told = world ∙ (ap (λ (l : List Capture). told_behind (Some w) l) one.1 ∙ there.1);
+      also = still ∙ there.1;
+    }
+
+-- from the place of a justfile to its plan, in a row
+abbrev PlansOf : Step JustfileRequest Outline
+PlansOf = Behind (Looks LoadsSources) PlansIn
+
+abbrev PlansAt : Step LocatedRequest Outline
+PlansAt = Behind TakesFile PlansOf
+
+plan_own : GivesOwnStep PlansAt
+plan_own = behind_own TakesFile PlansOf takes_file (behind_own (Looks LoadsSources) PlansIn (looks_own LoadsSources loads_sources) plans_in)
+
+-- what is asked of a project is asked of its sources
+sources_of : (told : Option World) (j : JustfileRequest) (p : ProjectRequest) → FindsProjectOf told j (Ok p) → (s : SourcesRequest) × LoadsSources told j (Ok s) × FindsProject s (Ok p)
+sources_of told j p (stops e lost is) = absurd (refused_or_found e p (sym is))
+sources_of told j p (goes_on s loads finds) = (s, loads, finds)
+
+planned_in : (told after : Option World) (acts : List Act) (s : SourcesRequest) (p : ProjectRequest) (x : Result Outline Error) → FindsProject s (Ok p) → PlansLoaded told acts after p x → IsOwn x → PlansIn told acts after s x
+planned_in told after acts s p x finds (Behind.refused e (cs, is, loads, leaves) refuses) own =
+    (cs, is, PlansSources.of_project p finds (stops e loads refuses), own_world {A = LoadedRequest} told after cs (Err e) (own_refused LoadedRequest x e refuses own) leaves)
+planned_in told after acts s p x finds (Behind.both q front back between (cs, is, loads, leaves) (nothing, world, plans) split) own =
+    (cs, split ∙ (ap (λ l. front ++ l) nothing ∙ (append-nil front ∙ is)), PlansSources.of_project p finds (goes_on q loads plans), world ∙ own_world {A = LoadedRequest} told between cs (Ok q) tt leaves)
+
+planned_at : (told between after : Option World) (acts front back : List Act) (q : LocatedRequest) (p : ProjectRequest) (x : Result Outline Error) → FindsProjectAt told front between q (Ok p) → PlansLoaded between back after p x → IsOwn x → acts ≡ front ++ back
+    → PlansAt told acts after q x
+planned_at told between after acts front back q p x (Behind.refused e lost is) plans own all = absurd (refused_or_found e p (sym is))
+planned_at told between after acts front back q p x (Behind.both j some none among takes (nothing, still, finds) split) plans own all =
+    let k = sources_of among j p finds in
+    Behind.both j some back among takes (Behind.both k.0 [] back among (refl, refl, k.1) (planned_in among after back k.0 p x k.2 (subst (λ t. PlansLoaded t back after p x) still plans) own) refl)
+    (all ∙ ap (λ l. l ++ back) (split ∙ (ap (λ l. some ++ l) nothing ∙ append-nil some)))
+
+-- a justfile gives one answer, and sets fallback or doesn't
+pub answers_one : AnswersOne
+answers_one w acts more rest left after later q r s f g (AnswersAt.no_project e a is none) own (AnswersAt.no_project d b at never) other all told = record {
+  answer =
+      agrees_as (Err e) (Err d) r s rest left after later is at
+      (agrees_refusal e d rest left after later (project_own w acts more rest left after later q (Err e) (Err d) a (own_refused ProjectRequest r e is own) b (own_refused ProjectRequest s d at other) all told));
+  fallback = none ∙ sym never;
+}
+answers_one w acts more rest left after later q r s f g (AnswersAt.no_project e a is none) own (AnswersAt.of_project p front back between b plans split at) other all told =
+    let two = in_two more front back left split in
+    absurd (refused_or_found e p (project_own w acts front rest (back ++ left) after between q (Err e) (Ok p) a (own_refused ProjectRequest r e is own) b tt (all ∙ two) (subst (λ l. AreToldBehind l) two told)).same)
+answers_one w acts more rest left after later q r s f g (AnswersAt.of_project p front back between a plans split is) own (AnswersAt.no_project d b at never) other all told =
+    let two = in_two acts front back rest split in
+    absurd (refused_or_found d p (project_own w more front left (back ++ rest) later between q (Err d) (Ok p) b (own_refused ProjectRequest s d at other) a tt (sym all ∙ two) (subst (λ l. AreToldBehind l) (sym all ∙ two) told)).same)
+answers_one w acts more rest left after later q r s f g (AnswersAt.of_project p front back between a plans split is) own (AnswersAt.of_project k fore hind among b others cut at) other all told =
+    let two = in_two more fore hind left cut in
+    let project = project_own w front fore (back ++ rest) (hind ++ left) between among q (Ok p) (Ok k) a tt b tt (sym (in_two acts front back rest split) ∙ (all ∙ two)) (subst (λ l. AreToldBehind l) two told) in
+    record {
+      answer = plan_own w acts more rest left after later q r s (planned_at (Some w) between after acts front back q p r a plans own split) own (planned_at (Some w) among later more fore hind q k s b others other cut) other all told;
+      fallback = is ∙ ap (λ (z : ProjectRequest). (settings_of z.justfile).fallback) (same_found p k project.same) ∙ sym at;
+    }
+
+pub tries_own : GivesOwnStep Tries
+tries_own w acts more rest left after later q r s (x, p, is) own (y, o, at) other all told =
+    let one = from_one (record { config = q.config; environ = q.environ }) answers_one w acts more rest left after later q.location x y p (own_answer q.config x r is own) o (own_answer q.config y s at other) all told in
+    record { same = is ∙ (ap (λ z. allowed q.config z) one.same ∙ sym at); rests = one.rests; world = one.world; told = one.told; also = one.also }
+
 -- the steps behind the configuration, over listings none of which failed
-data DecidesUnfailed (w : World) (c : ConfigRequest) (r : Result Outline Error) : Type 0 where
-  runs : is_init c.config.subcommand ≡ false → Then (FindsUnfailed w) (Tries (Some w)) c r → DecidesUnfailed w c r
-  not_new : (e : Error) → FindsNew (Some w) c (Err e) → r ≡ Err e → DecidesUnfailed w c r
+abbrev pub SearchesUnfailed : Step ConfigRequest Outline
+SearchesUnfailed = Behind (Looks FindsUnfailed) Tries
+
+data DecidesUnfailed (told : Option World) (acts : List Act) (after : Option World) (c : ConfigRequest) (r : Result Outline Error) : Type 0 where
+  runs : is_init c.config.subcommand ≡ false → SearchesUnfailed told acts after c r → DecidesUnfailed told acts after c r
+  not_new : (e : Error) → Looks FindsNew told acts after c (Err e) → r ≡ Err e → DecidesUnfailed told acts after c r
 
 -- and behind the words
-abbrev ServesUnfailed : World → ArgumentsRequest → Result Outline Error → Type 0
-ServesUnfailed w = Then (FindsFolder (FolderGiven (Some w))) (Then Configures (DecidesUnfailed w))
+abbrev ServesUnfailed : Step ArgumentsRequest Outline
+ServesUnfailed = Behind (Looks (λ told. FindsFolder (FolderGiven told))) (Behind (Looks (λ told. Configures)) DecidesUnfailed)
 
-abbrev AsksUnfailed : World → List (List ℕ) → Result Outline Error → Type 0
-AsksUnfailed w = Then (FindsEnviron (EnvironGiven (Some w))) (Then ReadsWords (ServesUnfailed w))
+abbrev AsksUnfailed : Step (List (List ℕ)) Outline
+AsksUnfailed = Behind (Looks (λ told. FindsEnviron (EnvironGiven told))) (Behind (Looks (λ told. ReadsWords)) ServesUnfailed)
 
 -- steps that answer more
-then_more : {A B C : Type 0} (one other : A → Result B Error → Type 0) (two more : B → Result C Error → Type 0) → ((k : A) (r : Result B Error) → one k r → other k r) → ((k : B) (r : Result C Error) → two k r → more k r)
-    → (k : A) (r : Result C Error) → Then one two k r → Then other more k r
-then_more one other two more f g k r (stops e p is) = stops e (f k (Err e) p) is
-then_more one other two more f g k r (goes_on x p rest) = goes_on x (f k (Ok x) p) (g x r rest)
+behind_more : {A B C : Type 0} (one other : Step A B) (two more : Step B C) → ((t : Option World) (acts : List Act) (u : Option World) (k : A) (r : Result B Error) → one t acts u k r → other t acts u k r)
+    → ((t : Option World) (acts : List Act) (u : Option World) (k : B) (r : Result C Error) → two t acts u k r → more t acts u k r) → (t : Option World) (acts : List Act) (u : Option World) (k : A) (r : Result C Error) → Behind one two t acts u k r → Behind other more t acts u k r
+behind_more one other two more f g t acts u k r (Behind.refused e p is) = Behind.refused e (f t acts u k (Err e) p) is
+behind_more one other two more f g t acts u k r (Behind.both y front back between p rest is) = Behind.both y front back between (f t front between k (Ok y) p) (g between back u y r rest) is
 
-own_refused : (r : Result Outline Error) (e : Error) → r ≡ Err e → IsOwn r → IsOwn {A = ProjectRequest} (Err e)
-own_refused r e is own = subst (λ (z : Result Outline Error). IsOwn z) is own
+searches_own : GivesOwnStep SearchesUnfailed
+searches_own = behind_own (Looks FindsUnfailed) Tries (looks_own FindsUnfailed finds_justfile) tries_own
 
--- the steps from the place of a justfile to its plan, in a row
-abbrev PlansAt : World → LocatedRequest → Result Outline Error → Type 0
-PlansAt w = Then TakesFile (Then (LoadsSources (Some w)) (PlansSources (Some w)))
+decides_own : GivesOwnStep DecidesUnfailed
+decides_own w acts more rest left after later c r s (DecidesUnfailed.runs is p) own (DecidesUnfailed.runs at q) other all told = searches_own w acts more rest left after later c r s p own q other all told
+decides_own w acts more rest left after later c r s (DecidesUnfailed.runs is p) own (DecidesUnfailed.not_new e (none, world, q) at) other all told = absurd (true≢false (sym q.0 ∙ is))
+decides_own w acts more rest left after later c r s (DecidesUnfailed.not_new e (none, world, p) is) own (DecidesUnfailed.runs at q) other all told = absurd (true≢false (sym p.0 ∙ at))
+decides_own w acts more rest left after later c r s (DecidesUnfailed.not_new d (none, world, p) is) own (DecidesUnfailed.not_new e (never, still, q) at) other all told = record {
+  same = is ∙ same_refusal d e (new_own w c.config (Err d) (Err e) p.1 (own_refused (List ℕ) r d is own) q.1 (own_refused (List ℕ) s e at other)) ∙ sym at;
+  rests = ap (λ l. l ++ rest) (sym none) ∙ (all ∙ ap (λ l. l ++ left) never);
+  world = w;
+  told = world;
+  also = still;
+}
 
-planned_of : (w : World) (j : JustfileRequest) (p : ProjectRequest) (x : Result Outline Error) → FindsProjectOf (Some w) j (Ok p) → PlansLoaded (Some w) p x → Then (LoadsSources (Some w)) (PlansSources (Some w)) j x
-planned_of w j p x (stops e lost is) plans = absurd (refused_or_found e p (sym is))
-planned_of w j p x (goes_on s loads finds) plans = goes_on s loads (goes_on p finds plans)
+serves_own : GivesOwnStep ServesUnfailed
+serves_own =
+    behind_own (Looks (λ told. FindsFolder (FolderGiven told))) (Behind (Looks (λ told. Configures)) DecidesUnfailed) (looks_own (λ told. FindsFolder (FolderGiven told)) finds_folder)
+    (behind_own (Looks (λ told. Configures)) DecidesUnfailed (looks_own (λ told. Configures) (λ w. configures)) decides_own)
 
-planned_at : (w : World) (q : LocatedRequest) (p : ProjectRequest) (x : Result Outline Error) → FindsProjectAt (Some w) q (Ok p) → PlansLoaded (Some w) p x → PlansAt w q x
-planned_at w q p x (stops e lost is) plans = absurd (refused_or_found e p (sym is))
-planned_at w q p x (goes_on j takes finds) plans = goes_on j takes (planned_of w j p x finds plans)
+asks_own : GivesOwnStep AsksUnfailed
+asks_own =
+    behind_own (Looks (λ told. FindsEnviron (EnvironGiven told))) (Behind (Looks (λ told. ReadsWords)) ServesUnfailed) (looks_own (λ told. FindsEnviron (EnvironGiven told)) finds_environ)
+    (behind_own (Looks (λ told. ReadsWords)) ServesUnfailed (looks_own (λ told. ReadsWords) (λ w. reads_words)) serves_own)
 
-module _ (w : World) where
-  project_own : GivesOwn (FindsProjectAt (Some w))
-  project_own = then_own TakesFile _ takes_file (then_own (LoadsSources (Some w)) FindsProject (loads_sources w) finds_project)
+module _ (listings : List Entry) (none : NoneFailed listings) where
+  decides_more : (t : Option World) (acts : List Act) (u : Option World) (c : ConfigRequest) (r : Result Outline Error) → Decides listings t acts u c r → DecidesUnfailed t acts u c r
+  decides_more t acts u c r (Decides.runs is p) =
+      DecidesUnfailed.runs is
+      (behind_more (Looks (λ told. FindsJustfile (FindsLocation told listings))) (Looks FindsUnfailed) Tries Tries (λ t acts u k s p. (p.0, p.1, (listings, none, p.2))) (λ t acts u k s p. p) t acts u c r p)
+  decides_more t acts u c r (Decides.not_new e p is) = DecidesUnfailed.not_new e p is
 
-  plan_own : GivesOwn (PlansAt w)
-  plan_own = then_own TakesFile _ takes_file (then_own (LoadsSources (Some w)) (PlansSources (Some w)) (loads_sources w) (plans_agree w))
+  asks_unfailed : (words : List (List ℕ)) (told : Option World) (acts : List Act) (after : Option World) (r : Result Outline Error) → Asks words told listings acts after r → AsksUnfailed told acts after words r
+  asks_unfailed words told acts after r asks =
+      behind_more (Looks (λ told. FindsEnviron (EnvironGiven told))) (Looks (λ told. FindsEnviron (EnvironGiven told))) (Behind (Looks (λ told. ReadsWords)) (Serves listings)) (Behind (Looks (λ told. ReadsWords)) ServesUnfailed) (λ t acts u k s p. p)
+      (behind_more (Looks (λ told. ReadsWords)) (Looks (λ told. ReadsWords)) (Serves listings) ServesUnfailed (λ t acts u k s p. p)
+      (behind_more (Looks (λ told. FindsFolder (FolderGiven told))) (Looks (λ told. FindsFolder (FolderGiven told))) (Behind (Looks (λ told. Configures)) (Decides listings)) (Behind (Looks (λ told. Configures)) DecidesUnfailed) (λ t acts u k s p. p)
+      (behind_more (Looks (λ told. Configures)) (Looks (λ told. Configures)) (Decides listings) DecidesUnfailed (λ t acts u k s p. p) decides_more))) told acts after words r asks
 
-  -- a justfile gives one answer, and sets fallback or doesn't
-  answers_one : (q : LocatedRequest) (r s : Result Outline Error) (f g : Bool) → AnswersAt (Some w) q r f → IsOwn r → AnswersAt (Some w) q s g → IsOwn s → (r ≡ s) × (f ≡ g)
-  answers_one q r s f g (AnswersAt.no_project e a is none) own (AnswersAt.no_project d b at never) other =
-      (is ∙ same_refusal e d (project_own q (Err e) (Err d) a (own_refused r e is own) b (own_refused s d at other)) ∙ sym at, none ∙ sym never)
-  answers_one q r s f g (AnswersAt.no_project e a is none) own (AnswersAt.of_project p b plans at) other =
-      absurd (refused_or_found e p (project_own q (Err e) (Ok p) a (own_refused r e is own) b tt))
-  answers_one q r s f g (AnswersAt.of_project p a plans is) own (AnswersAt.no_project d b at never) other =
-      absurd (refused_or_found d p (project_own q (Err d) (Ok p) b (own_refused s d at other) a tt))
-  answers_one q r s f g (AnswersAt.of_project p a plans is) own (AnswersAt.of_project k b others at) other =
-      let project : p ≡ k = same_found p k (project_own q (Ok p) (Ok k) a tt b tt) in
-      (plan_own q r s (planned_at w q p r a plans) own (planned_at w q k s b others) other, is ∙ ap (λ (z : ProjectRequest). (settings_of z.justfile).fallback) project ∙ sym at)
-
-  pub setting_one : (c : ConfigRequest) (location : Location) (r : Result Outline Error) (f g : Bool) → AnswersAt (Some w) (at_place c location) r f → IsOwn r → SetsFallback (Some w) c location g → f ≡ g
-  setting_one c location r f g (AnswersAt.no_project e a is none) own (SetsFallback.of_project p b at) =
-      absurd (refused_or_found e p (project_own (at_place c location) (Err e) (Ok p) a (own_refused r e is own) b tt))
-  setting_one c location r f g (AnswersAt.no_project e a is none) own (SetsFallback.no_project d b other never) = none ∙ sym never
-  setting_one c location r f g (AnswersAt.of_project p a plans is) own (SetsFallback.of_project k b at) =
-      is ∙ ap (λ (z : ProjectRequest). (settings_of z.justfile).fallback) (same_found p k (project_own (at_place c location) (Ok p) (Ok k) a tt b tt)) ∙ sym at
-  setting_one c location r f g (AnswersAt.of_project p a plans is) own (SetsFallback.no_project d b other never) =
-      absurd (refused_or_found d p (project_own (at_place c location) (Err d) (Ok p) b other a tt))
-
-  tries_own : GivesOwn (Tries (Some w))
-  tries_own q r s (x, p, is) own (y, o, at) other =
-      is ∙ (ap (λ z. allowed q.config z) (from_one w (record { config = q.config; environ = q.environ }) own_search answers_one (falls_one w q.config) q.location x y p (own_answer q.config x r is own) o (own_answer q.config y s at other)) ∙ sym at)
-
-  searches_own : GivesOwn (Then (FindsUnfailed w) (Tries (Some w)))
-  searches_own = then_own (FindsUnfailed w) (Tries (Some w)) (finds_justfile w) tries_own
-
-  own_new : (r : Result Outline Error) (e : Error) → r ≡ Err e → IsOwn r → IsOwn {A = List ℕ} (Err e)
-  own_new r e is own = subst (λ (z : Result Outline Error). IsOwn z) is own
-
-  decides_own : GivesOwn (DecidesUnfailed w)
-  decides_own c r s (DecidesUnfailed.runs is p) own (DecidesUnfailed.runs at q) other = searches_own c r s p own q other
-  decides_own c r s (DecidesUnfailed.runs is p) own (DecidesUnfailed.not_new e q at) other = absurd (true≢false (sym q.0 ∙ is))
-  decides_own c r s (DecidesUnfailed.not_new e p is) own (DecidesUnfailed.runs at q) other = absurd (true≢false (sym p.0 ∙ at))
-  decides_own c r s (DecidesUnfailed.not_new d p is) own (DecidesUnfailed.not_new e q at) other =
-      is ∙ same_refusal d e (new_own w c.config (Err d) (Err e) p.1 (own_new r d is own) q.1 (own_new s e at other)) ∙ sym at
-
-  serves_own : GivesOwn (ServesUnfailed w)
-  serves_own = then_own (FindsFolder (FolderGiven (Some w))) _ (finds_folder w) (then_own Configures _ configures decides_own)
-
-  decides_more : (listings : List Entry) → NoneFailed listings → (c : ConfigRequest) (r : Result Outline Error) → Decides (Some w) listings c r → DecidesUnfailed w c r
-  decides_more listings none c r (Decides.runs is p) =
-      DecidesUnfailed.runs is (then_more (FindsJustfile (FindsLocation (Some w) listings)) (FindsUnfailed w) (Tries (Some w)) (Tries (Some w)) (λ k s p. (listings, none, p)) (λ k s p. p) c r p)
-  decides_more listings none c r (Decides.not_new e p is) = DecidesUnfailed.not_new e p is
-
-  asks_unfailed : (words : List (List ℕ)) (listings : List Entry) (r : Result Outline Error) → NoneFailed listings → Asks words (Some w) listings r → AsksUnfailed w words r
-  asks_unfailed words listings r none asks =
-      then_more (FindsEnviron (EnvironGiven (Some w))) (FindsEnviron (EnvironGiven (Some w))) (Then ReadsWords (Serves (Some w) listings)) (Then ReadsWords (ServesUnfailed w)) (λ k s p. p)
-      (then_more ReadsWords ReadsWords (Serves (Some w) listings) (ServesUnfailed w) (λ k s p. p)
-      (then_more (FindsFolder (FolderGiven (Some w))) (FindsFolder (FolderGiven (Some w))) (Then Configures (Decides (Some w) listings)) (Then Configures (DecidesUnfailed w)) (λ k s p. p)
-      (then_more Configures Configures (Decides (Some w) listings) (DecidesUnfailed w) (λ k s p. p) (decides_more listings none)))) words r asks
-
--- in a world words ask for one thing: a run of one plan, or a refusal with one error, where no listing failed
-pub one_answer : (words : List (List ℕ)) (w : World) (ls ms : List Entry) (r s : Result Outline Error) → NoneFailed ls → NoneFailed ms → Asks words (Some w) ls r → IsOwn r → Asks words (Some w) ms s → IsOwn s → r ≡ s
-one_answer words w ls ms r s none never p m q n =
-    then_own (FindsEnviron (EnvironGiven (Some w))) _ (finds_environ w) (then_own ReadsWords (ServesUnfailed w) reads_words (serves_own w)) words r s (asks_unfailed w words ls r none p) m (asks_unfailed w words ms s never q) n
+-- in a world and with these acts, behind whose children worlds are told, words ask for one thing: a run of one plan, or a refusal with one error, where no
+-- listing failed
+pub one_answer : (words : List (List ℕ)) (w : World) (acts : List Act) → AreToldBehind acts → (ls ms : List Entry) (after later : Option World) (r s : Result Outline Error) → NoneFailed ls → NoneFailed ms → Asks words (Some w) ls acts after r → IsOwn r
+    → Asks words (Some w) ms acts later s → IsOwn s → r ≡ s
+one_answer words w acts told ls ms after later r s none never p m q n =
+    (asks_own w acts acts [] [] after later words r s (asks_unfailed ls none words (Some w) acts after r p) m (asks_unfailed ms never words (Some w) acts later s q) n refl (subst (λ l. AreToldBehind l) (sym (append-nil acts)) told)).same

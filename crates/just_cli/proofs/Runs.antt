@@ -1,8 +1,10 @@
--- A run keeps its promise: from what its steps, its drive and the telling of its error ensure.
-use Rattle.std.proofs.Common.{◌≡◌, ◌⊎◌, ◌++◌, inl, inr, Bool, true, List, [], Option, Some, None, Result, Ok, Err, refl, sym, ◌∙◌, ap, subst, append_assoc, append-nil}
-use Rattle.std.specs.Prelude.{ℕ}
+-- A run keeps its promise: from what its steps, its drive, the telling of its error and the removal of its folders ensure.
+use Rattle.std.proofs.Common.{◌≡◌, ◌⊎◌, ◌++◌, inl, inr, ℕ, Bool, true, false, true≢false, List, [], ◌∷◌, Option, Some, None, Result, Ok, Err, refl, sym, ◌∙◌, ap, subst, append_assoc, append-nil}
+use Rattle.std.specs.List.{list_any}
 use Rattle.std.proofs.Math.Logic.{∥∥₁_map}
+use Rattle.std.proofs.lemmas.List.{append_cancel_left}
 use Rattle.just_outside.specs.World.{World}
+use Rattle.just_outside.specs.Record.{is_failed, is_started}
 use Rattle.just_outside.specs.declared.entry.Entry.{Entry}
 use Rattle.just_history.specs.declared.event.Event.{Event}
 use Rattle.just_history.specs.declared.event.Verdict.{Verdict}
@@ -12,31 +14,41 @@ use Rattle.just_history.specs.declared.plan_node.PlanNode.{PlanNode}
 use Rattle.just_sched.specs.Driven.{IsDriven}
 use Rattle.just_history.specs.Idle.{HasWork}
 use Rattle.just_history.specs.Legal.{Run, IsComplete}
-use Rattle.just_history.specs.Start.{IsKept, run_over, start_with}
+use Rattle.just_history.specs.Start.{IsKept, run_over, run_of, start_with}
 use Rattle.just_history.specs.State.{has_caught}
+use Rattle.just_history.specs.Touched.{IsTouched}
 use Rattle.just_history.specs.Verdict.{IsVerdict, NoneDecides}
+use Rattle.just_history.proofs.Laws.{nothing_started}
 use Rattle.just_cli.specs.declared.ended.Failure.{Failure}
 use Rattle.just_cli.specs.declared.ended.Report.{Report}
 use Rattle.just_errors.specs.declared.error.Error.{Error}
 use Rattle.just_planning.specs.Own.{OrMemory}
 use Rattle.just_outcome.specs.Outcome.{IsErrorFor}
+use Rattle.just_cli.specs.Acts.{Act, AreActs, folders_in, captures_in}
+use Rattle.just_cli.specs.Altered.{IsAltered, EndsAsItWas, StaysAsItWas}
+use Rattle.just_planning.specs.Pairs.{entries_of as entries_in}
 use Rattle.just_cli.specs.Quiet.{AskQuiet}
-use Rattle.just_cli.specs.Preparing.{LeavesMisses, EndsWith, Prepares}
-use Rattle.just_cli.specs.Record.{GoByCacheRule, IsBook, IsTold, EndsWell, EndsIll, EndsBefore}
+use Rattle.just_cli.specs.Preparing.{EndsWith, LeavesActs, EndsActs, Performs, Prepares}
+use Rattle.just_cli.specs.Record.{GoByCacheRule, IsBook, IsTold, is_captured, IsQuiet, Removes, EndsBehind, EndsWell, EndsIll, EndsUnopened, EndsBefore}
 use Rattle.just_planning.specs.Request.{Outline, outline_of}
 use Rattle.just_cli.specs.Request.{Asks, AsksGlobal, IsAsked, RefusedFor}
 use Rattle.just_cli.specs.Run.{IsRun}
 use Rattle.just_errors.specs.Codes.{exit_code}
+use Rattle.just_cli.proofs.Altering.{quiet_first, quiet_rest, clearing, removes_none, behind_book, ends_as_it_was, stays_as_it_was}
 use Rattle.just_cli.proofs.Answered.{answered}
 use Rattle.just_outcome.proofs.Laws.{error_caused, only_memory_left}
-use Rattle.just_cli.proofs.Falls.{faults_rise, misses_rise, memory_wanted, touched_between, world_left}
+use Rattle.just_cli.proofs.Falls.{faults_rise, misses_rise, memory_wanted}
 use Rattle.just_cli.proofs.Served.{served}
 
 -- what was told behind some stretch
 abbrev IsToldBehind : Bool → Error → List Entry → List Entry → Type 0
 IsToldBehind quiet e now new = (es : List Entry) × (new ≡ now ++ es) × IsTold quiet e es
 
--- ---- without a plan
+-- what is asked for is prepared
+abbrev Ready : List (List ℕ) → Option World → List Entry → Option World → List (List ℕ) → List (List ℕ) → List Entry → List Entry → Result Outline Error → Type 0
+Ready words told listings between kept made old entered r = Performs (Asks words told listings) told between kept made (old ++ listings) entered r
+
+-- ---- where no run is asked for
 
 -- a refusal before the book
 pub ends_before : (listings : List Entry) (quiet : Bool) (e : Error) (old now new pre : List Entry) → now ≡ old ++ pre → EndsWith listings e pre → IsToldBehind quiet e now new → EndsBefore listings quiet e old new
@@ -47,27 +59,88 @@ ends_before listings quiet e old now new pre grew ends told = record {
   told = told.2;
 }
 
--- a refusal of a request, or want of memory, as why there is no plan
-refused_for : (words : List (List ℕ)) (told : Option World) (listings : List Entry) (e : Error) → OrMemory (λ f. Asks words told listings (Err f)) e → RefusedFor words told listings e
-refused_for words told listings e (inl wants) = inr wants
-refused_for words told listings e (inr asks) = inl asks
+-- ---- behind a preparation
 
-pub run_before : (words : List (List ℕ)) (told after : Option World) (old now new : List Entry) (quiet : Bool) (r : Result Report Failure) (e : Error) (h : List Event)
-    → r ≡ Err (record { error = e; plan = None; history = h; code = exit_code e }) → h ≡ [] → Prepares {A = Outline} (AsksGlobal words told) (Asks words told) old now (Err e) → AskQuiet words told quiet e
-    → IsToldBehind quiet e now new → after ≡ told → IsRun words told after old new r
-run_before words told after old now new quiet r e h is no_history p asks_quiet tells world =
+-- its folders are those that are removed
+made_are : (kept made folders : List (List ℕ)) → kept ≡ [] → made ≡ kept ++ folders → made ≡ folders
+made_are kept made folders none is = is ∙ ap (λ (fs : List (List ℕ)). fs ++ folders) none
+
+leaves_behind : (listings : List Entry) (acts : List Act) (es : List Entry) → LeavesActs [] acts es → LeavesActs listings acts (listings ++ es)
+leaves_behind listings acts es (among, are, is) = (among, are, ap (λ l. listings ++ l) is)
+
+ends_behind_listings : (listings : List Entry) (acts : List Act) (e : Error) (es : List Entry) → EndsActs [] acts e es → EndsActs listings acts e (listings ++ es)
+ends_behind_listings listings acts e es (among, parent, are, is) = (among, parent, are, ap (λ l. listings ++ l) is)
+
+-- where the record shows no child that was run to its end, none was
+no_children : (acts : List Act) (es : List Entry) → AreActs acts es → list_any is_captured es ≡ false → captures_in acts ≡ []
+no_children acts es AreActs.none quiet = refl
+no_children acts es (AreActs.a_miss path m some rest are) quiet = no_children some rest are quiet
+no_children acts es (AreActs.an_act (Act.made folder) some rest are) quiet = no_children some rest are quiet
+no_children acts es (AreActs.an_act (Act.captured c) some rest are) quiet = absurd (true≢false quiet)
+
+no_acts : (acts : List Act) → folders_in acts ≡ [] → captures_in acts ≡ [] → acts ≡ []
+no_acts [] none alone = refl
+no_acts (Act.made folder ∷ acts) none alone = absurd (let no : ⊥ = cc in no)
+no_acts (Act.captured c ∷ acts) none alone = absurd (let no : ⊥ = cc in no)
+
+-- ---- without a plan
+
+-- a refusal of a request, or want of memory, as why there is no plan
+refused_for : (words : List (List ℕ)) (told : Option World) (listings : List Entry) (acts : List Act) (between : Option World) (e : Error) → OrMemory (λ f. Asks words told listings acts between (Err f)) e → RefusedFor words told listings acts between e
+refused_for words told listings acts between e (inl wants) = inr wants
+refused_for words told listings acts between e (inr asks) = inl asks
+
+module _ (words : List (List ℕ)) (told after : Option World) (old now middle new : List Entry) (quiet : Bool) (between settled : Option World) (kept made : List (List ℕ)) (none : kept ≡ []) (e : Error) (listings : List Entry) (p : Ready words told listings between kept made old now (Err e))
+    (tells : IsToldBehind quiet e now middle) (world : settled ≡ between) (removes : Removes made settled middle after new) where
+  removes_here : Removes (folders_in p.acts) settled middle after new
+  removes_here = subst (λ fs. Removes fs settled middle after new) (made_are kept made (folders_in p.acts) none p.folders) removes
+
+  begun : now ≡ old ++ (listings ++ p.entries)
+  begun = p.grew ∙ append_assoc old listings p.entries
+
+  unopened : EndsUnopened listings p.acts quiet e settled after old new
+  unopened =
+      let pre = listings ++ p.entries in
+      let b = behind_book (folders_in p.acts) (IsTold quiet e) settled after (old ++ (pre ++ [])) middle new (tells.0, tells.1 ∙ ap (λ es. es ++ tells.0) (begun ∙ ap (λ es. old ++ es) (sym (append-nil pre))), tells.2) removes_here in
+      record {
+        stretches = record { pre = pre; mid = []; post = b.0; grew = b.1 ∙ (append_assoc old (pre ++ []) b.0 ∙ ap (λ es. old ++ (es ++ b.0)) (append-nil pre)) };
+        prepared = ends_behind_listings listings p.acts e p.entries p.leaves;
+        unopened = refl;
+        behind = b.2;
+      }
+
+  stays : (es : List Entry) → new ≡ old ++ es → IsQuiet es → StaysAsItWas (folders_in p.acts) told after
+  stays es grown calm =
+      let c = clearing (folders_in p.acts) settled after middle new removes_here in
+      let same : es ≡ listings ++ (p.entries ++ (tells.0 ++ c.0)) =
+      append_cancel_left old es (listings ++ (p.entries ++ (tells.0 ++ c.0)))
+      (sym grown ∙ (c.1 ∙ (ap (λ l. l ++ c.0) (tells.1 ∙ ap (λ l. l ++ tells.0) p.grew) ∙ (append_assoc ((old ++ listings) ++ p.entries) tells.0 c.0 ∙ (append_assoc (old ++ listings) p.entries (tells.0 ++ c.0) ∙ append_assoc old listings (p.entries ++ (tells.0 ++ c.0))))))) in
+      let alone : captures_in p.acts ≡ [] =
+      no_children p.acts p.leaves.0 p.leaves.2
+      (quiet_first is_captured p.leaves.0 (entries_in p.leaves.1 e)
+      (ap (λ l. list_any is_captured l) (sym p.leaves.3) ∙ quiet_first is_captured p.entries (tells.0 ++ c.0) (quiet_rest is_captured listings (p.entries ++ (tells.0 ++ c.0)) (ap (λ l. list_any is_captured l) (sym same) ∙ calm.no_capture)))) in
+      let still : list_any is_failed (p.entries ++ (tells.0 ++ c.0)) ≡ false = quiet_rest is_failed listings (p.entries ++ (tells.0 ++ c.0)) (ap (λ l. list_any is_failed l) (sym same) ∙ calm.no_failure) in
+      stays_as_it_was (folders_in p.acts) told between after (λ empty. p.still (no_acts p.acts empty alone) (quiet_first is_failed p.entries (tells.0 ++ c.0) still)) (p.alters [] alone (quiet_first is_failed p.entries (tells.0 ++ c.0) still)) (λ empty. (removes_none (folders_in p.acts) settled after middle new empty removes_here).0 ∙ world)
+      (subst (λ w. IsAltered (folders_in p.acts) [] w after) world (c.3 [] (quiet_rest is_failed tells.0 c.0 (quiet_rest is_failed p.entries (tells.0 ++ c.0) still))))
+
+pub run_before : (words : List (List ℕ)) (told after : Option World) (old now middle new : List Entry) (quiet : Bool) (between settled : Option World) (kept made : List (List ℕ)) (r : Result Report Failure) (e : Error) (h : List Event)
+    → r ≡ Err (record { error = e; plan = None; history = h; code = exit_code e }) → h ≡ [] → kept ≡ [] → Prepares {A = Outline} (AsksGlobal words told) (Asks words told) told between kept made old now (Err e) → AskQuiet words told quiet e
+    → IsToldBehind quiet e now middle → settled ≡ between → Removes made settled middle after new → IsRun words told after old new r
+run_before words told after old now middle new quiet between settled kept made r e h is no_history none (listings, passed, p) asks_quiet tells world removes =
     let f : Failure = record { error = e; plan = None; history = h; code = exit_code e } in
     let jobs : Option ℕ = None in
     let messages : List Bool = [] in
-    let listings : List Entry = p.0 in
-    let refused : f.plan ≡ None → ∥ RefusedFor words told listings e ∥₁ = λ _. ∣ refused_for words told listings e p.5 ∣₁ in
-    let left : ∥ EndsBefore listings quiet e old new ∥₁ = ∣ ends_before listings quiet e old now new p.1 p.2 p.4 tells ∣₁ in
-    let fits = answered jobs messages words told listings (Err f) tt refused in
+    let refused : f.plan ≡ None → ∥ RefusedFor words told listings p.acts between e ∥₁ = λ _. ∣ refused_for words told listings p.acts between e p.answers ∣₁ in
+    let left : ∥ EndsUnopened listings p.acts quiet e settled after old new ∥₁ = ∣ unopened words told after old now middle new quiet between settled kept made none e listings p tells world removes ∣₁ in
+    let fits = answered jobs messages words told listings p.acts between (Err f) tt refused in
     subst (λ q. IsRun words told after old new q) (sym is) (record {
       jobs = jobs;
       messages = messages;
       listings = listings;
-      passed = p.3;
+      passed = passed;
+      acts = p.acts;
+      between = between;
+      settled = settled;
       quiet = quiet;
       quiet_is = ∣ asks_quiet ∣₁;
       ran = tt;
@@ -75,57 +148,86 @@ run_before words told after old now new quiet r e h is no_history p asks_quiet t
       refused = refused;
       answered = fits;
       failed = left;
-      complete = served words told listings jobs messages quiet (Err f) old new fits left;
+      complete = served words told listings p.acts between settled after jobs messages quiet (Err f) old new fits left;
       unplanned = λ _. no_history;
       code = refl;
-      favoured = memory_wanted listings jobs messages quiet (Err f) old new left;
-      faults = faults_rise listings jobs messages quiet (Err f) old new left;
-      misses = misses_rise listings jobs messages quiet (Err f) old new left;
-      untouched = λ es grown calm. world;
+      favoured = memory_wanted listings p.acts settled after jobs messages quiet (Err f) old new left;
+      faults = faults_rise listings p.acts settled after jobs messages quiet (Err f) old new left;
+      misses = misses_rise listings p.acts settled after jobs messages quiet (Err f) old new left;
+      untouched = λ es grown calm. stays words told after old now middle new quiet between settled kept made none e listings p tells world removes es grown calm;
     })
 
 -- ---- with a plan; behind what its preparation leaves the record is `entered`
 
-module _ (listings : List Entry) (plan : Plan) (jobs : Option ℕ) (old pre entered : List Entry) (grew : entered ≡ old ++ pre) (misses : LeavesMisses listings pre) (w : Option World) (h : List Event) (v : Verdict) (now : List Entry) (seen : Option World)
-    (d : IsDriven (start_with plan jobs entered w) plan h v now seen) where
-  here : (holds : Run → Type 0) → holds (run_over plan jobs entered) → holds (run_over plan jobs (old ++ pre))
+module _ (words : List (List ℕ)) (told : Option World) (listings : List Entry) (plan : Plan) (jobs : Option ℕ) (asked_messages : List Bool) (old entered : List Entry) (w : Option World) (kept made : List (List ℕ)) (none : kept ≡ [])
+    (p : Ready words told listings w kept made old entered (Ok (outline_of plan jobs asked_messages))) (h : List Event) (v : Verdict) (now : List Entry) (seen : Option World) (d : IsDriven (start_with plan jobs entered w) plan h v now seen) where
+  grew : entered ≡ old ++ (listings ++ p.entries)
+  grew = p.grew ∙ append_assoc old listings p.entries
+
+  here : (holds : Run → Type 0) → holds (run_over plan jobs entered) → holds (run_over plan jobs (old ++ (listings ++ p.entries)))
   here holds a = subst (λ es. holds (run_over plan jobs es)) grew a
 
-  the_book : (k : IsKept (start_with plan jobs entered w) h now seen) → IsBook (run_over plan jobs (old ++ pre)) h k.gained
+  the_book : (k : IsKept (start_with plan jobs entered w) h now seen) → IsBook (run_over plan jobs (old ++ (listings ++ p.entries))) h k.gained
   the_book k = here (λ s. IsBook s h k.gained) (record { legal = k.legal; closed = d.closed; matches = k.matches })
 
-  grown : (gained post : List Entry) → (entered ++ gained) ++ post ≡ old ++ (pre ++ (gained ++ post))
-  grown gained post =
-      ap (λ es. (es ++ gained) ++ post) grew ∙ append_assoc (old ++ pre) gained post ∙ append_assoc old pre (gained ++ post)
+  closed_at : (k : IsKept (start_with plan jobs entered w) h now seen) → now ≡ old ++ ((listings ++ p.entries) ++ k.gained)
+  closed_at k = k.grew ∙ (ap (λ es. es ++ k.gained) grew ∙ append_assoc old (listings ++ p.entries) k.gained)
 
-  ends_well : v ≡ verdict.Well → ∥ EndsWell listings plan jobs h old now ∥₁
-  ends_well well = ∥∥₁_map d.kept (λ k. record {
-    stretches = record { pre = pre; mid = k.gained; post = []; grew = k.grew ∙ sym (append-nil (entered ++ k.gained)) ∙ grown k.gained [] };
-    prepared = misses;
-    book = the_book k;
-    well = here (λ s. NoneDecides s h) (subst (λ x. IsVerdict (run_over plan jobs entered) h x) well d.verdict).0;
-    complete = here (λ s. IsComplete s h) (d.complete well);
-    cached = here (λ s. GoByCacheRule s h) d.cached;
-    skipped = d.skipped well;
-    silent = refl;
-  })
+  module _ (settled after : Option World) (middle new : List Entry) (removes : Removes made settled middle after new) where
+    removes_so : Removes (folders_in p.acts) settled middle after new
+    removes_so = subst (λ fs. Removes fs settled middle after new) (made_are kept made (folders_in p.acts) none p.folders) removes
 
-  ends_ill : (messages : List Bool) (quiet : Bool) (e : Error) (new : List Entry) → IsErrorFor plan.nodes messages h v (Some e) → IsToldBehind quiet e now new → ∥ EndsIll listings plan jobs messages quiet h e old new ∥₁
-  ends_ill messages quiet e new decided told = ∥∥₁_map d.kept (λ k.
-      let cause = error_caused (run_over plan jobs entered) h k.gained k.legal k.matches messages v e d.verdict decided in
-      record {
-        stretches = record { pre = pre; mid = k.gained; post = told.0; grew = told.1 ∙ (ap (λ es. es ++ told.0) k.grew ∙ grown k.gained told.0) };
-        prepared = misses;
-        book = the_book k;
-        verdict = v;
-        judged = here (λ s. IsVerdict s h v) d.verdict;
-        decided = decided;
-        cached = here (λ s. GoByCacheRule s h) d.cached;
-        nothing_left = here (λ s. (has_caught h ≡ true) ⊎ (HasWork s h → ⊥)) d.nothing_left;
-        caused = cause;
-        favoured = only_memory_left plan.nodes h e k.gained cause;
-        told = told.2;
-      })
+    ends_well : v ≡ verdict.Well → middle ≡ now → ∥ EndsWell listings p.acts plan jobs h settled after old new ∥₁
+    ends_well well silent = ∥∥₁_map d.kept (λ k.
+        let b = behind_book (folders_in p.acts) (λ es. es ≡ []) settled after (old ++ ((listings ++ p.entries) ++ k.gained)) middle new ([], silent ∙ (closed_at k ∙ sym (append-nil (old ++ ((listings ++ p.entries) ++ k.gained)))), refl) removes_so in
+        record {
+          stretches = record { pre = listings ++ p.entries; mid = k.gained; post = b.0; grew = b.1 ∙ (append_assoc old ((listings ++ p.entries) ++ k.gained) b.0 ∙ ap (λ es. old ++ es) (append_assoc (listings ++ p.entries) k.gained b.0)) };
+          prepared = leaves_behind listings p.acts p.entries p.leaves;
+          book = the_book k;
+          well = here (λ s. NoneDecides s h) (subst (λ x. IsVerdict (run_over plan jobs entered) h x) well d.verdict).0;
+          complete = here (λ s. IsComplete s h) (d.complete well);
+          cached = here (λ s. GoByCacheRule s h) d.cached;
+          skipped = d.skipped well;
+          behind = b.2;
+        })
+
+    ends_ill : (messages : List Bool) (quiet : Bool) (e : Error) → IsErrorFor plan.nodes messages h v (Some e) → IsToldBehind quiet e now middle → ∥ EndsIll listings p.acts plan jobs messages quiet h e settled after old new ∥₁
+    ends_ill messages quiet e decided tells = ∥∥₁_map d.kept (λ k.
+        let cause = error_caused (run_over plan jobs entered) h k.gained k.legal k.matches messages v e d.verdict decided in
+        let b = behind_book (folders_in p.acts) (IsTold quiet e) settled after (old ++ ((listings ++ p.entries) ++ k.gained)) middle new (tells.0, tells.1 ∙ ap (λ es. es ++ tells.0) (closed_at k), tells.2) removes_so in
+        record {
+          stretches = record { pre = listings ++ p.entries; mid = k.gained; post = b.0; grew = b.1 ∙ (append_assoc old ((listings ++ p.entries) ++ k.gained) b.0 ∙ ap (λ es. old ++ es) (append_assoc (listings ++ p.entries) k.gained b.0)) };
+          prepared = leaves_behind listings p.acts p.entries p.leaves;
+          book = the_book k;
+          verdict = v;
+          judged = here (λ s. IsVerdict s h v) d.verdict;
+          decided = decided;
+          cached = here (λ s. GoByCacheRule s h) d.cached;
+          nothing_left = here (λ s. (has_caught h ≡ true) ⊎ (HasWork s h → ⊥)) d.nothing_left;
+          caused = cause;
+          favoured = only_memory_left plan.nodes h e k.gained cause;
+          behind = b.2;
+        })
+
+    -- what the end makes of a told world
+    as_it_was : (first : List Entry) → middle ≡ now ++ first → settled ≡ seen → (es : List Entry) → new ≡ old ++ es → IsQuiet es → ∥ EndsAsItWas (folders_in p.acts) plan.nodes told after ∥₁
+    as_it_was first told_so world es grown calm = ∥∥₁_map d.kept (λ k.
+        let c = clearing (folders_in p.acts) settled after middle new removes_so in
+        let rest = k.gained ++ (first ++ c.0) in
+        let same : es ≡ listings ++ (p.entries ++ rest) =
+        append_cancel_left old es (listings ++ (p.entries ++ rest))
+        (sym grown ∙ (c.1 ∙ (ap (λ l. l ++ c.0) (told_so ∙ ap (λ l. l ++ first) (k.grew ∙ ap (λ l. l ++ k.gained) p.grew))
+        ∙ (append_assoc (((old ++ listings) ++ p.entries) ++ k.gained) first c.0 ∙ (append_assoc ((old ++ listings) ++ p.entries) k.gained (first ++ c.0) ∙ (append_assoc (old ++ listings) p.entries rest ∙ append_assoc old listings (p.entries ++ rest))))))) in
+        let child : list_any is_started k.gained ≡ false = quiet_first is_started k.gained (first ++ c.0) (quiet_rest is_started p.entries rest (quiet_rest is_started listings (p.entries ++ rest) (ap (λ l. list_any is_started l) (sym same) ∙ calm.no_child))) in
+        let alone : captures_in p.acts ≡ [] =
+        no_children p.acts p.leaves.0 p.leaves.1
+        (ap (λ l. list_any is_captured l) (sym p.leaves.2) ∙ quiet_first is_captured p.entries rest (quiet_rest is_captured listings (p.entries ++ rest) (ap (λ l. list_any is_captured l) (sym same) ∙ calm.no_capture))) in
+        let still : list_any is_failed (p.entries ++ rest) ≡ false = quiet_rest is_failed listings (p.entries ++ rest) (ap (λ l. list_any is_failed l) (sym same) ∙ calm.no_failure) in
+        let hush : list_any is_failed rest ≡ false = quiet_rest is_failed p.entries rest still in
+        let touched : IsTouched plan.nodes w seen = k.untouched (nothing_started (run_of (start_with plan jobs entered w)) h k.gained k.matches child) (quiet_first is_failed k.gained (first ++ c.0) hush) in
+        ends_as_it_was (folders_in p.acts) plan.nodes told w seen after (λ empty. p.still (no_acts p.acts empty alone) (quiet_first is_failed p.entries rest still)) (p.alters plan.nodes alone (quiet_first is_failed p.entries rest still)) touched
+        (λ empty. (removes_none (folders_in p.acts) settled after middle new empty removes_so).0 ∙ world)
+        (subst (λ x. IsAltered (folders_in p.acts) plan.nodes x after) world (c.3 plan.nodes (quiet_rest is_failed first c.0 (quiet_rest is_failed k.gained (first ++ c.0) hush)))))
 
 -- a run without an error went well
 went_well : (nodes : List PlanNode) (messages : List Bool) (shown : List Event) (v : Verdict) → IsErrorFor nodes messages shown v None → v ≡ verdict.Well
@@ -137,56 +239,60 @@ went_well nodes messages shown verdict.NoMemory is = absurd (let no : ⊥ = cc i
 some_none : {A : Type 0} (x : A) → Some x ≡ None → ⊥
 some_none x is = let no : ⊥ = cc in no
 
-pub run_well : (words : List (List ℕ)) (told after : Option World) (old entered now : List Entry) (w seen : Option World) (jobs : Option ℕ) (messages : List Bool) (quiet : Bool) (plan driven : Plan) (h : List Event) (v : Verdict) (r : Result Report Failure) (nodes : List PlanNode) (heard : List Bool) (shown : List Event)
-    → r ≡ Ok (record { plan = driven; history = h }) → IsDriven (start_with plan jobs entered w) driven h v now seen → Prepares (AsksGlobal words told) (Asks words told) old entered (Ok (outline_of plan jobs messages))
-    → w ≡ told → after ≡ seen → IsErrorFor nodes heard shown v None → IsRun words told after old now r
-run_well words told after old entered now w seen jobs messages quiet plan driven h v r nodes heard shown is driven_so p w_is after_is no_error =
+pub run_well : (words : List (List ℕ)) (told after : Option World) (old entered now new : List Entry) (w seen : Option World) (kept made : List (List ℕ)) (jobs : Option ℕ) (messages : List Bool) (quiet : Bool) (plan driven : Plan) (h : List Event) (v : Verdict) (r : Result Report Failure) (nodes : List PlanNode) (heard : List Bool) (shown : List Event)
+    → r ≡ Ok (record { plan = driven; history = h }) → IsDriven (start_with plan jobs entered w) driven h v now seen → kept ≡ [] → Prepares (AsksGlobal words told) (Asks words told) told w kept made old entered (Ok (outline_of plan jobs messages))
+    → IsErrorFor nodes heard shown v None → Removes made seen now after new → IsRun words told after old new r
+run_well words told after old entered now new w seen kept made jobs messages quiet plan driven h v r nodes heard shown is driven_so none (listings, passed, p) no_error removes =
     let d : IsDriven (start_with plan jobs entered w) plan h v now seen = subst (λ p. IsDriven (start_with plan jobs entered w) p h v now seen) driven_so.plan driven_so in
     let report : Report = record { plan = plan; history = h } in
     let same : r ≡ Ok report = is ∙ ap (λ p. let x : Report = record { plan = p; history = h } in Ok x) driven_so.plan in
-    let listings : List Entry = p.0 in
-    let asked : IsAsked words told listings plan jobs messages = ∣ p.5 ∣₁ in
-    let fits = answered jobs messages words told listings (Ok report) asked tt in
-    subst (λ q. IsRun words told after old now q) (sym same) (record {
+    let asked : IsAsked words told listings p.acts w plan jobs messages = ∣ p.answers ∣₁ in
+    let fits = answered jobs messages words told listings p.acts w (Ok report) asked tt in
+    subst (λ q. IsRun words told after old new q) (sym same) (record {
       jobs = jobs;
       messages = messages;
       listings = listings;
-      passed = p.3;
+      passed = passed;
+      acts = p.acts;
+      between = w;
+      settled = seen;
       quiet = quiet;
       quiet_is = tt;
-      ran = ends_well listings plan jobs old p.1 entered p.2 p.4 w h v now seen d (went_well nodes heard shown v no_error);
+      ran = ends_well words told listings plan jobs messages old entered w kept made none p h v now seen d seen after now new removes (went_well nodes heard shown v no_error) refl;
       asked = asked;
       refused = tt;
       answered = fits;
       failed = tt;
-      complete = served words told listings jobs messages quiet (Ok report) old now fits tt;
+      complete = served words told listings p.acts w seen after jobs messages quiet (Ok report) old new fits tt;
       unplanned = tt;
       code = tt;
       favoured = tt;
       faults = tt;
       misses = tt;
-      untouched = λ es grown calm. touched_between plan.nodes w told seen after w_is after_is (world_left (start_with plan jobs entered w) h old p.1 now now seen [] es p.2 d.kept (sym (append-nil now)) grown calm);
+      untouched = λ es grown calm. as_it_was words told listings plan jobs messages old entered w kept made none p h v now seen d seen after now new removes [] (sym (append-nil now)) refl es grown calm;
     })
 
-pub run_ill : (words : List (List ℕ)) (told after : Option World) (old entered now new : List Entry) (w seen : Option World) (jobs : Option ℕ) (messages : List Bool) (quiet : Bool) (plan driven : Plan) (h : List Event) (heard : List Bool) (shown : List Event) (v : Verdict) (e : Error) (r : Result Report Failure)
-    → r ≡ Err (record { error = e; plan = Some driven; history = h; code = exit_code e }) → IsDriven (start_with plan jobs entered w) driven h v now seen
-    → Prepares (AsksGlobal words told) (Asks words told) old entered (Ok (outline_of plan jobs messages)) → AskQuiet words told quiet e
-    → w ≡ told → after ≡ seen → IsErrorFor driven.nodes heard shown v (Some e) → heard ≡ messages → shown ≡ h → IsToldBehind quiet e now new → IsRun words told after old new r
-run_ill words told after old entered now new w seen jobs messages quiet plan driven h heard shown v e r is driven_so p asks_quiet w_is after_is error_is heard_is shown_is tells =
+pub run_ill : (words : List (List ℕ)) (told after : Option World) (old entered now middle new : List Entry) (w seen settled : Option World) (kept made : List (List ℕ)) (jobs : Option ℕ) (messages : List Bool) (quiet : Bool) (plan driven : Plan) (h : List Event) (heard : List Bool) (shown : List Event) (v : Verdict) (e : Error) (r : Result Report Failure)
+    → r ≡ Err (record { error = e; plan = Some driven; history = h; code = exit_code e }) → IsDriven (start_with plan jobs entered w) driven h v now seen → kept ≡ []
+    → Prepares (AsksGlobal words told) (Asks words told) told w kept made old entered (Ok (outline_of plan jobs messages)) → AskQuiet words told quiet e → settled ≡ seen
+    → IsErrorFor driven.nodes heard shown v (Some e) → heard ≡ messages → shown ≡ h → IsToldBehind quiet e now middle → Removes made settled middle after new → IsRun words told after old new r
+run_ill words told after old entered now middle new w seen settled kept made jobs messages quiet plan driven h heard shown v e r is driven_so none (listings, passed, p) asks_quiet world error_is heard_is shown_is tells removes =
     let d : IsDriven (start_with plan jobs entered w) plan h v now seen = subst (λ p. IsDriven (start_with plan jobs entered w) p h v now seen) driven_so.plan driven_so in
     let f : Failure = record { error = e; plan = Some plan; history = h; code = exit_code e } in
     let same : r ≡ Err f = is ∙ ap (λ p. let x : Failure = record { error = e; plan = Some p; history = h; code = exit_code e } in Err x) driven_so.plan in
     let decided : IsErrorFor plan.nodes messages h v (Some e) = subst (λ k. IsErrorFor plan.nodes messages k v (Some e)) shown_is (subst (λ ms. IsErrorFor plan.nodes ms shown v (Some e)) heard_is (subst (λ p. IsErrorFor p.nodes heard shown v (Some e)) driven_so.plan error_is)) in
-    let listings : List Entry = p.0 in
-    let asked : IsAsked words told listings plan jobs messages = ∣ p.5 ∣₁ in
-    let refused : f.plan ≡ None → ∥ RefusedFor words told listings e ∥₁ = λ none. absurd (some_none plan none) in
-    let left = ends_ill listings plan jobs old p.1 entered p.2 p.4 w h v now seen d messages quiet e new decided tells in
-    let fits = answered jobs messages words told listings (Err f) asked refused in
+    let asked : IsAsked words told listings p.acts w plan jobs messages = ∣ p.answers ∣₁ in
+    let refused : f.plan ≡ None → ∥ RefusedFor words told listings p.acts w e ∥₁ = λ no_plan. absurd (some_none plan no_plan) in
+    let left = ends_ill words told listings plan jobs messages old entered w kept made none p h v now seen d settled after middle new removes messages quiet e decided tells in
+    let fits = answered jobs messages words told listings p.acts w (Err f) asked refused in
     subst (λ q. IsRun words told after old new q) (sym same) (record {
       jobs = jobs;
       messages = messages;
       listings = listings;
-      passed = p.3;
+      passed = passed;
+      acts = p.acts;
+      between = w;
+      settled = settled;
       quiet = quiet;
       quiet_is = ∣ asks_quiet ∣₁;
       ran = tt;
@@ -194,11 +300,11 @@ run_ill words told after old entered now new w seen jobs messages quiet plan dri
       refused = refused;
       answered = fits;
       failed = left;
-      complete = served words told listings jobs messages quiet (Err f) old new fits left;
-      unplanned = λ none. absurd (some_none plan none);
+      complete = served words told listings p.acts w settled after jobs messages quiet (Err f) old new fits left;
+      unplanned = λ no_plan. absurd (some_none plan no_plan);
       code = refl;
-      favoured = memory_wanted listings jobs messages quiet (Err f) old new left;
-      faults = faults_rise listings jobs messages quiet (Err f) old new left;
-      misses = misses_rise listings jobs messages quiet (Err f) old new left;
-      untouched = λ es grown calm. touched_between plan.nodes w told seen after w_is after_is (world_left (start_with plan jobs entered w) h old p.1 now new seen tells.0 es p.2 d.kept tells.1 grown calm);
+      favoured = memory_wanted listings p.acts settled after jobs messages quiet (Err f) old new left;
+      faults = faults_rise listings p.acts settled after jobs messages quiet (Err f) old new left;
+      misses = misses_rise listings p.acts settled after jobs messages quiet (Err f) old new left;
+      untouched = λ es grown calm. as_it_was words told listings plan jobs messages old entered w kept made none p h v now seen d settled after middle new removes tells.0 tells.1 world es grown calm;
     })

@@ -1,11 +1,11 @@
 -- Refusals of no call leave no entry in the record.
 use Rattle.std.proofs.Common.{◌≡◌, inl, inr, [], Result, Err, ◌∙◌, ap}
-use Rattle.just_path.specs.declared.environ.Environ.{Environ}
+use Rattle.just_text.specs.declared.environ.Environ.{Environ}
 use Rattle.just_errors.specs.declared.error.Error.{Error}
 use Rattle.just_planning.specs.Own.{OrMemory}
 use Rattle.just_planning.specs.Steps.{Then, stops, goes_on}
 use Rattle.just_cli.specs.Faults.{entries_of}
-use Rattle.just_cli.specs.Words.{WordsRequest, FolderRequest, LocatedRequest, ReadsWords, GivesConfig, IsBuilt, Configures, TakesFile}
+use Rattle.just_cli.specs.Words.{WordsRequest, FolderRequest, ReadsWords, GivesConfig, IsBuilt, Configures}
 
 -- a step refuses by no call
 abbrev pub IsSilent : {A B : Type 0} → (A → Result B Error → Type 0) → Type 0
@@ -34,9 +34,3 @@ configures_silent = then_silent GivesConfig IsBuilt gives_silent built_silent
 
 pub configuration_silent : (q : Environ → FolderRequest) (environ : Environ) (e : Error) → OrMemory (λ x. (k : Environ) → Configures (q k) (Err x)) e → entries_of e ≡ []
 configuration_silent q environ e why = or_silent (λ x. (k : Environ) → Configures (q k) (Err x)) e (λ x configures. configures_silent (q environ) x (configures environ)) why
-
-takes_silent : IsSilent TakesFile
-takes_silent q e why = ap (λ x. entries_of x) why.2
-
-pub file_silent : (q : Environ → LocatedRequest) (environ : Environ) (e : Error) → OrMemory (λ x. (k : Environ) → TakesFile (q k) (Err x)) e → entries_of e ≡ []
-file_silent q environ e why = or_silent (λ x. (k : Environ) → TakesFile (q k) (Err x)) e (λ x takes. takes_silent (q environ) x (takes environ)) why

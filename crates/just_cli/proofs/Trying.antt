@@ -1,37 +1,37 @@
--- The answer of the last of the justfiles that are tried, from what is asked of each.
-use Rattle.std.proofs.Common.{◌≡◌, ◌++◌, ◌⊎◌, inl, inr, ℕ, Bool, true, false, true≢false, List, [], ◌∷◌, Option, Some, None, Result, Ok, Err, MatchOption, refl, sym, ◌∙◌, ap, subst, append_assoc, append-nil}
-use Rattle.std.specs.Prelude.{◌&&◌, if◌then◌else◌, MatchResult}
+-- The justfiles that are tried one behind the other, as parts of a preparation, from what is asked of each.
+use Rattle.std.proofs.Common.{◌≡◌, ◌++◌, ◌⊎◌, inl, inr, ℕ, Bool, true, false, true≢false, List, [], Option, Some, None, Result, Ok, Err, MatchOption, refl, sym, ◌∙◌, ap, subst, append_assoc, append-nil}
+use Rattle.std.specs.Prelude.{◌&&◌, if◌then◌else◌}
 use Rattle.just_outside.specs.World.{World}
 use Rattle.just_outside.specs.declared.entry.Entry.{Entry}
 use Rattle.just_env.specs.declared.search_error.SearchError.{SearchError}
 use Rattle.just_env.specs.declared.search_error.SearchError.TheVariants as search
-use Rattle.just_env.specs.Answers.{Answers, entries_of as search_entries, told_entries}
+use Rattle.just_env.specs.Answers.{Answers as AnswersSearch, entries_of as search_entries}
 use Rattle.just_locate.specs.declared.location.Location.{Location}
-use Rattle.just_fallback.specs.Fallback.{FallsBack, AreTried}
+use Rattle.just_fallback.specs.Fallback.{FallsBack}
 use Rattle.just_errors.specs.Refusals.{error_of_search}
 use Rattle.just_errors.specs.declared.error.Error.{Error}
 use Rattle.just_errors.specs.declared.error.Error.TheVariants as error
 use Rattle.just_planning.specs.Own.{OrMemory}
 use Rattle.just_planning.specs.Request.{Outline}
+use Rattle.just_cli.specs.Acts.{Act}
+use Rattle.just_planning.specs.Pairs.{entries_of as entries_in}
 use Rattle.just_cli.specs.Faults.{entries_of}
 use Rattle.just_cli.specs.Options.{is_lacking, is_missing, empty_outline}
-use Rattle.just_cli.specs.Preparing.{AreMisses, EndsWith}
+use Rattle.just_cli.specs.Preparing.{Answers, Performs}
 use Rattle.just_cli.specs.Words.{ConfigRequest, LocatedRequest}
-use Rattle.just_cli.specs.Request.{AnswersAt, at_place, LooksBehind, AnswersLast, TriesFrom, FallsTo, Tries}
+use Rattle.just_cli.specs.Request.{AnswersAt, at_place, TriesFrom, Tries}
+use Rattle.just_cli.specs.Taken.{PerformsFrom, FallsTo, FallsOn, PerformsFall, PerformsTries}
 use Rattle.just_cli.proofs.Loading.{same_entries}
-use Rattle.just_cli.proofs.Planless.{lacking_silent, missing_silent}
-use Rattle.just_cli.proofs.Prepared.{all_misses}
+use Rattle.just_cli.proofs.PlainSearch.{next_error}
+use Rattle.just_cli.proofs.Planless.{lacking_silent}
+use Rattle.just_cli.proofs.Prepared.{performs_as, performs_lost, performs_instead, performs_looking, performs_then, performs_answer}
 
--- what a refusal leaves behind some entries, and what misses do
-abbrev EndsBehind : List Entry → Error → List Entry → Type 0
-EndsBehind old e new = (es : List Entry) × (new ≡ old ++ es) × EndsWith [] e es
-
-abbrev MissesBehind : List Entry → List Entry → Type 0
-MissesBehind old new = (es : List Entry) × (new ≡ old ++ es) × AreMisses es
-
--- want of memory lacks nothing
+-- want of memory lacks nothing, and names nothing that may be missing
 memory_lacks : (e : Error) → e ≡ error.NoMemory → is_lacking e ≡ true → ⊥
 memory_lacks e wants lack = true≢false (sym lack ∙ ap (λ x. is_lacking x) wants)
+
+memory_there : (e : Error) → e ≡ error.NoMemory → is_missing e ≡ true → ⊥
+memory_there e wants missing = true≢false (sym missing ∙ ap (λ x. is_missing x) wants)
 
 and_false : (fallback lack : Bool) → (fallback && lack) ≡ false → (lack && fallback) ≡ false
 and_false true true stays = stays
@@ -44,98 +44,140 @@ and_true true true is = (refl, refl)
 and_true true false is = absurd (cc)
 and_true false lack is = absurd (cc)
 
--- the last of more
-last_behind : (told : Option World) (c : ConfigRequest) (items : List (Result Location SearchError)) (r : Result Outline Error) (item : Result Location SearchError) → AnswersLast told c items r → AnswersLast told c (item ∷ items) r
-last_behind told c [] r item last = absurd last
-last_behind told c (next ∷ items) r item last = last
+-- names that are missing are told of no call
+lacking_in : (parent : List ℕ) (e : Error) → is_lacking e ≡ true → entries_in parent e ≡ []
+lacking_in parent (error.UnknownRecipe recipe) is = refl
+lacking_in parent (error.UnknownSubmodule path) is = refl
+lacking_in parent _ is = absurd (cc)
 
--- a justfile is tried behind another one
-pub falls_on : (told : Option World) (c : ConfigRequest) (location next : Location) → FallsTo told c location next → (r : Result Outline Error) → TriesFrom told c next r → TriesFrom told c location r
-falls_on told c location next (e, at, lack, falls) r (items, tried, last) =
-    (Ok location ∷ items, AreTried.behind location next items (LooksBehind.lacking e at lack refl) falls tried, last_behind told c items r (Ok location) last)
+missing_in : (parent : List ℕ) (e : Error) → is_missing e ≡ true → entries_in parent e ≡ []
+missing_in parent (error.UnknownRecipe recipe) is = refl
+missing_in parent (error.UnknownSubmodule path) is = refl
+missing_in parent (error.ModuleAbsent m) is = refl
+missing_in parent _ is = absurd (cc)
 
-module _ (told : Option World) (c : ConfigRequest) (location : Location) where
-  -- its answer stands
-  pub stands_planned : (fallback : Bool) (o : Outline) → AnswersAt told (at_place c location) (Ok o) fallback → TriesFrom told c location (Ok o)
-  stands_planned fallback o at = (Ok location ∷ [], AreTried.alone location (LooksBehind.standing fallback at refl refl), (fallback, at))
+module _ (c : ConfigRequest) (location : Location) (told : Option World) (kept : List (List ℕ)) (old : List Entry) where
+  abbrev AsksIt : Bool → List Act → Option World → Result Outline Error → Type 0
+  AsksIt fallback acts after r = AnswersAt told acts after (at_place c location) r fallback
 
-  pub stands_refused : (fallback may : Bool) (e : Error) → may ≡ (fallback && is_lacking e) → may ≡ false → OrMemory (λ x. AnswersAt told (at_place c location) (Err x) fallback) e → OrMemory (λ x. TriesFrom told c location (Err x)) e
-  stands_refused fallback may e is stays (inl wants) = inl wants
-  stands_refused fallback may e is stays (inr at) =
-      inr (Ok location ∷ [], AreTried.alone location (LooksBehind.standing fallback at (and_false fallback (is_lacking e) (sym is ∙ stays)) refl), (fallback, at))
+  abbrev From : List Act → Option World → Result Outline Error → Type 0
+  From acts after r = TriesFrom c told acts after location r
 
--- another one is looked for behind it
-module _ (fallback may : Bool) (e : Error) (is : may ≡ (fallback && is_lacking e)) (more : may ≡ true) where
-  sets : fallback ≡ true
-  sets = (and_true fallback (is_lacking e) (sym is ∙ more)).0
+  -- ---- its answer stands
 
-  lacked : is_lacking e ≡ true
-  lacked = (and_true fallback (is_lacking e) (sym is ∙ more)).1
+  pub stands_planned : (after : Option World) (keeps : List (List ℕ)) (new : List Entry) (fallback : Bool) (o : Outline) → Performs (AsksIt fallback) told after kept keeps old new (Ok o) → PerformsFrom c location told after kept keeps old new (Ok o)
+  stands_planned after keeps new fallback o p = performs_as (AsksIt fallback) From told after kept keeps old new o o p (λ acts at. TriesFrom.stands told after acts location (Ok o) fallback at refl)
 
-  -- what is left
-  lacking_misses : (es : List Entry) → EndsWith [] e es → AreMisses es
-  lacking_misses es ends = subst (λ xs. AreMisses xs) (sym (ends.2 ∙ ap (λ xs. ends.0 ++ xs) (lacking_silent e lacked) ∙ append-nil ends.0)) ends.1
+  module _ (after : Option World) (keeps : List (List ℕ)) (new : List Entry) (fallback may : Bool) (e : Error) (is : may ≡ (fallback && is_lacking e)) (p : Performs (AsksIt fallback) told after kept keeps old new (Err e)) where
+    stays_so : (acts : List Act) → may ≡ false → OrMemory (λ x. AsksIt fallback acts after (Err x)) e → OrMemory (λ x. From acts after (Err x)) e
+    stays_so acts stays (inl wants) = inl wants
+    stays_so acts stays (inr at) = inr (TriesFrom.stands told after acts location (Err e) fallback at (and_false fallback (is_lacking e) (sym is ∙ stays)))
 
-  pub looked_left : (old middle new : List Entry) → EndsBehind old e middle → (next : Option Location) → new ≡ middle ++ [] → (es : List Entry) × (new ≡ old ++ es) × MatchOption next (EndsWith [] e es) (λ _. AreMisses es)
-  looked_left old middle new left None same = (left.0, same ∙ append-nil middle ∙ left.1, left.2)
-  looked_left old middle new left (Some next) same = (left.0, same ∙ append-nil middle ∙ left.1, lacking_misses left.0 left.2)
+    pub stands_refused : may ≡ false → PerformsFrom c location told after kept keeps old new (Err e)
+    stands_refused stays = performs_lost (AsksIt fallback) From told after kept keeps old new e p (λ acts why. stays_so acts stays why)
 
-  pub unlooked_left : (old middle new : List Entry) → EndsBehind old e middle → (f : SearchError) (d : Error) → new ≡ middle ++ search_entries f → d ≡ error_of_search f → EndsBehind old d new
-  unlooked_left old middle new left f d grew at = (
-    left.0 ++ entries_of d,
-    grew ∙ (ap (λ xs. xs ++ search_entries f) left.1 ∙ (append_assoc old left.0 (search_entries f) ∙ ap (λ xs. old ++ (left.0 ++ xs)) (sym (ap (λ x. entries_of x) at ∙ same_entries f)))),
-    (left.0, lacking_misses left.0 left.2, refl),
-  )
+    -- ---- another one is looked for behind it
 
-  module _ (told : Option World) (c : ConfigRequest) (location : Location) (why : OrMemory (λ x. AnswersAt told (at_place c location) (Err x) fallback) e) where
-    answer_of : OrMemory (λ x. AnswersAt told (at_place c location) (Err x) fallback) e → AnswersAt told (at_place c location) (Err e) true
-    answer_of (inl wants) = absurd (memory_lacks e wants lacked)
-    answer_of (inr at) = subst (λ b. AnswersAt told (at_place c location) (Err e) b) sets at
+    module _ (more : may ≡ true) where
+      sets : fallback ≡ true
+      sets = (and_true fallback (is_lacking e) (sym is ∙ more)).0
 
-    -- no other is found, or one is
-    pub looked : (next : Option Location) → FallsBack told c.config location.working_directory (Ok next) → MatchOption next (OrMemory (λ x. TriesFrom told c location (Err x)) e) (λ l. FallsTo told c location l)
-    looked None falls = inr (Ok location ∷ [], AreTried.highest location (LooksBehind.lacking e (answer_of why) lacked refl) falls, (true, answer_of why))
-    looked (Some next) falls = (e, answer_of why, lacked, falls)
+      lacked : is_lacking e ≡ true
+      lacked = (and_true fallback (is_lacking e) (sym is ∙ more)).1
 
-    -- the search for another is refused
-    pub unlooked : (f : SearchError) (d : Error) → Answers (λ r. FallsBack told c.config location.working_directory r) (Err f) → d ≡ error_of_search f → OrMemory (λ x. TriesFrom told c location (Err x)) d
-    unlooked f d (inl wants) at = inl (at ∙ ap (λ g. error_of_search g) wants)
-    unlooked f d (inr falls) at = inr (Ok location ∷ Err f ∷ [], AreTried.refused location f (LooksBehind.lacking e (answer_of why) lacked refl) falls, ap (λ x. Err x) at)
+      -- it sets fallback, and lacks what is asked for
+      abbrev LacksIt : List Act → Option World → Result Error Error → Type 0
+      LacksIt acts world (Ok x) = AsksIt true acts world (Err x) × (is_lacking x ≡ true)
+      LacksIt acts world (Err x) = ⊥
 
--- ---- entries behind those of the justfiles before
+      lacks_so : (acts : List Act) → OrMemory (λ x. AsksIt fallback acts after (Err x)) e → LacksIt acts after (Ok e)
+      lacks_so acts (inl wants) = absurd (memory_lacks e wants lacked)
+      lacks_so acts (inr at) = (subst (λ b. AnswersAt told acts after (at_place c location) (Err e) b) sets at, lacked)
 
-pub left_behind : (e : Error) (next : Option Location) (old middle new : List Entry) → MissesBehind old middle → (es : List Entry) × (new ≡ middle ++ es) × MatchOption next (EndsWith [] e es) (λ _. AreMisses es)
-    → (es : List Entry) × (new ≡ old ++ es) × MatchOption next (EndsWith [] e es) (λ _. AreMisses es)
-left_behind e None old middle new first second = (
-  first.0 ++ second.0,
-  second.1 ∙ (ap (λ xs. xs ++ second.0) first.1 ∙ append_assoc old first.0 second.0),
-  (first.0 ++ second.2.0, all_misses first.0 second.2.0 first.2 second.2.1, ap (λ xs. first.0 ++ xs) second.2.2 ∙ sym (append_assoc first.0 second.2.0 (entries_of e))),
-)
-left_behind e (Some next) old middle new first second =
-    (first.0 ++ second.0, second.1 ∙ (ap (λ xs. xs ++ second.0) first.1 ∙ append_assoc old first.0 second.0), all_misses first.0 second.0 first.2 second.2)
+      lacks_part : Performs LacksIt told after kept keeps old new (Ok e)
+      lacks_part = performs_instead (AsksIt fallback) LacksIt told after kept keeps old new e e (λ parent. lacking_in parent e lacked) p lacks_so
+
+      module _ (seen : Option World) (world : seen ≡ after) (last : List Entry) where
+        -- no other is found, or one is
+        pub looked : (next : Option Location) → FallsBack after c.config location.working_directory (Ok next) → last ≡ new ++ []
+            → MatchOption next (PerformsFrom c location told seen kept keeps old last (Err e)) (λ l. PerformsFall c location told seen kept keeps old last l)
+        looked None falls same =
+            performs_looking LacksIt From told after seen kept keeps old new last e (Err e) lacks_part world ([], same, ([], tt, sym (lacking_silent e lacked)))
+            (λ acts at. inr (subst (λ w. TriesFrom c told acts w location (Err e)) (sym world) (TriesFrom.highest told after acts location e at.0 at.1 falls)))
+        looked (Some next) falls same =
+            performs_looking LacksIt (FallsOn c location told) told after seen kept keeps old new last e (Ok next) lacks_part world ([], same, tt)
+            (λ acts at. subst (λ w. FallsTo c location told acts w next) (sym world) (e, at.0, at.1, falls))
+
+        unlooked_why : (acts : List Act) (f : SearchError) (d : Error) → LacksIt acts after (Ok e) → AnswersSearch (λ r. FallsBack after c.config location.working_directory r) (Err f) → d ≡ error_of_search f → OrMemory (λ x. From acts seen (Err x)) d
+        unlooked_why acts f d at (inl wants) from = inl (from ∙ ap (λ g. error_of_search g) wants)
+        unlooked_why acts f d at (inr falls) from =
+            inr (subst (λ w. TriesFrom c told acts w location (Err d)) (sym world) (subst (λ x. TriesFrom c told acts after location (Err x)) (sym from) (TriesFrom.refused told after acts location e f at.0 at.1 falls)))
+
+        -- the search for another is refused
+        pub unlooked : (f : SearchError) (d : Error) → AnswersSearch (λ r. FallsBack after c.config location.working_directory r) (Err f) → d ≡ error_of_search f → last ≡ new ++ search_entries f
+            → PerformsFrom c location told seen kept keeps old last (Err d)
+        unlooked f d falls from grew =
+            performs_looking LacksIt From told after seen kept keeps old new last e (Err d) lacks_part world
+            (entries_of d, grew ∙ ap (λ es. new ++ es) (sym (ap (λ x. entries_of x) from ∙ same_entries f (next_error after c.config location.working_directory f falls))), ([], tt, refl)) (λ acts at. unlooked_why acts f d at falls from)
+
+-- ---- from place to place
+
+-- what is asked from this place on, behind these acts, is what is asked from the first place on
+abbrev pub Reaches : ConfigRequest → Location → Location → Option World → List Act → Option World → Result (Unit {0}) Error → Type 0
+Reaches c location place told acts now (Ok x) = (rest : List Act) (after : Option World) (r : Result Outline Error) → TriesFrom c now rest after place r → TriesFrom c told (acts ++ rest) after location r
+Reaches c location place told acts now (Err e) = ⊥
+
+pub reaches_itself : (c : ConfigRequest) (location : Location) (told : Option World) (kept : List (List ℕ)) (old : List Entry) → Performs (Reaches c location location told) told told kept kept old old (Ok tt)
+reaches_itself c location told kept old = performs_answer (Reaches c location location told) told told kept old old refl tt ([], sym (append-nil old), tt) (λ rest after r tries. tries)
+
+-- the fall to that place
+abbrev Fell : ConfigRequest → Location → Option World → Location → List Act → Option World → Result (Unit {0}) Error → Type 0
+Fell c place between next acts later (Ok x) = FallsTo c place between acts later next
+Fell c place between next acts later (Err e) = ⊥
+
+module _ (c : ConfigRequest) (location place : Location) (told between after : Option World) (kept keep keeps : List (List ℕ)) (old middle new : List Entry) (p : Performs (Reaches c location place told) told between kept keep old middle (Ok tt)) where
+  -- the answer
+  answer_reached : (r : Result Outline Error) (acts more : List Act) → Reaches c location place told acts between (Ok tt) → Answers (λ x. TriesFrom c between more after place x) r → Answers (λ x. TriesFrom c told (acts ++ more) after location x) r
+  answer_reached (Ok o) acts more reach tries = reach more after (Ok o) tries
+  answer_reached (Err e) acts more reach (inl wants) = inl wants
+  answer_reached (Err e) acts more reach (inr tries) = inr (reach more after (Err e) tries)
+
+  pub reached : (r : Result Outline Error) → PerformsFrom c place between after keep keeps middle new r → PerformsFrom c location told after kept keeps old new r
+  reached r q =
+      performs_then (Reaches c location place told) (λ acts later x. TriesFrom c between acts later place x) (λ acts later x. TriesFrom c told acts later location x) told between after kept keep keeps old middle new tt r p q
+      (λ acts more reach tries. answer_reached r acts more reach tries)
+
+  -- the next place
+  pub reaches_next : (next : Location) → PerformsFall c place between after keep keeps middle new next → Performs (Reaches c location next told) told after kept keeps old new (Ok tt)
+  reaches_next next q =
+      performs_then (Reaches c location place told) (Fell c place between next) (Reaches c location next told) told between after kept keep keeps old middle new tt (Ok tt) p (performs_as (FallsOn c place between) (Fell c place between next) between after keep keeps middle new next tt q (λ acts falls. falls))
+      (λ acts more reach falls. λ rest later r tries.
+      subst (λ l. TriesFrom c told l later location r) (sym (append_assoc acts more rest)) (reach (more ++ rest) later r (TriesFrom.falls between after later (more ++ rest) more rest place next falls.0 r falls.1 falls.2 falls.3 tries refl)))
 
 -- ---- names that may be missing
 
-memory_there : (e : Error) → e ≡ error.NoMemory → is_missing e ≡ true → ⊥
-memory_there e wants missing = true≢false (sym missing ∙ ap (λ x. is_missing x) wants)
+module _ (q : LocatedRequest) (told after : Option World) (kept keeps : List (List ℕ)) (old new : List Entry) where
+  abbrev FromPlace : List Act → Option World → Result Outline Error → Type 0
+  FromPlace acts later r = TriesFrom (record { config = q.config; environ = q.environ }) told acts later q.location r
 
-module _ (told : Option World) (q : LocatedRequest) where
-  abbrev From : Result Outline Error → Type 0
-  From r = TriesFrom told (record { config = q.config; environ = q.environ }) q.location r
+  abbrev TriesIt : List Act → Option World → Result Outline Error → Type 0
+  TriesIt acts later r = Tries told acts later q r
 
-  pub tries_planned : (o : Outline) → From (Ok o) → Tries told q (Ok o)
-  tries_planned o from = (Ok o, from, refl)
+  pub tries_planned : (o : Outline) → Performs FromPlace told after kept keeps old new (Ok o) → PerformsTries q told after kept keeps old new (Ok o)
+  tries_planned o p = performs_as FromPlace TriesIt told after kept keeps old new o o p (λ acts from. (Ok o, from, refl))
 
-  module _ (e : Error) (may : Bool) (is : may ≡ (q.config.allow_missing && is_missing e)) where
-    pub tries_allowed : may ≡ true → OrMemory (λ x. From (Err x)) e → (o : Outline) → o ≡ empty_outline q.config → Tries told q (Ok o)
-    tries_allowed so (inl wants) o nothing = absurd (memory_there e wants (and_true q.config.allow_missing (is_missing e) (sym is ∙ so)).1)
-    tries_allowed so (inr from) o nothing =
-        (Err e, from, ap (λ x. Ok x) nothing ∙ ap (λ b. if b then Ok (empty_outline q.config) else Err e) (sym so ∙ is))
+  module _ (e : Error) (may : Bool) (is : may ≡ (q.config.allow_missing && is_missing e)) (p : Performs FromPlace told after kept keeps old new (Err e)) where
+    allowed_so : (acts : List Act) → may ≡ true → (o : Outline) → o ≡ empty_outline q.config → OrMemory (λ x. FromPlace acts after (Err x)) e → TriesIt acts after (Ok o)
+    allowed_so acts so o nothing (inl wants) = absurd (memory_there e wants (and_true q.config.allow_missing (is_missing e) (sym is ∙ so)).1)
+    allowed_so acts so o nothing (inr from) = (Err e, from, ap (λ x. Ok x) nothing ∙ ap (λ b. if b then Ok (empty_outline q.config) else Err e) (sym so ∙ is))
 
-    pub tries_refused : may ≡ false → OrMemory (λ x. From (Err x)) e → OrMemory (λ x. Tries told q (Err x)) e
-    tries_refused stays (inl wants) = inl wants
-    tries_refused stays (inr from) = inr (Err e, from, ap (λ b. if b then Ok (empty_outline q.config) else Err e) (sym stays ∙ is))
+    pub tries_allowed : may ≡ true → (o : Outline) → o ≡ empty_outline q.config → PerformsTries q told after kept keeps old new (Ok o)
+    tries_allowed so o nothing =
+        performs_instead FromPlace TriesIt told after kept keeps old new e o (λ parent. missing_in parent e (and_true q.config.allow_missing (is_missing e) (sym is ∙ so)).1) p (λ acts from. allowed_so acts so o nothing from)
 
-    pub missing_misses : may ≡ true → (old new : List Entry) → EndsBehind old e new → MissesBehind old new
-    missing_misses so old new left =
-        (left.0, left.1, subst (λ xs. AreMisses xs) (sym (left.2.2 ∙ ap (λ xs. left.2.0 ++ xs) (missing_silent e (and_true q.config.allow_missing (is_missing e) (sym is ∙ so)).1) ∙ append-nil left.2.0)) left.2.1)
+    refused_so : (acts : List Act) → may ≡ false → OrMemory (λ x. FromPlace acts after (Err x)) e → OrMemory (λ x. TriesIt acts after (Err x)) e
+    refused_so acts stays (inl wants) = inl wants
+    refused_so acts stays (inr from) = inr (Err e, from, ap (λ b. if b then Ok (empty_outline q.config) else Err e) (sym stays ∙ is))
+
+    pub tries_refused : may ≡ false → PerformsTries q told after kept keeps old new (Err e)
+    tries_refused stays = performs_lost FromPlace TriesIt told after kept keeps old new e p (λ acts from. refused_so acts stays from)

@@ -1,5 +1,5 @@
 -- What a call of the host answers to a request, and what a refused one is told as.
-use Rattle.std.specs.Prelude.{ℕ, ◌≡◌, List, [], Option, Some, None, Result, Ok, Err, MatchOption}
+use Rattle.std.specs.Prelude.{ℕ, ◌≡◌, List, [], Option, Result, Ok, Err, MatchOption}
 use Rattle.just_path.specs.declared.host.Miss.{Miss}
 use Rattle.just_path.specs.declared.host.PathFault.{PathFault}
 use Rattle.just_path.specs.declared.host.PathFault.TheVariants as path_fault
@@ -8,10 +8,9 @@ use Rattle.just_outside.specs.declared.entry.Call.TheVariants as call
 use Rattle.just_outside.specs.declared.entry.Entry.{Entry}
 use Rattle.just_outside.specs.declared.entry.HostFault.{HostFault}
 use Rattle.just_outside.specs.declared.entry.HostFault.TheVariants as fault
-use Rattle.just_outside.specs.Record.{refused}
 use Rattle.just_errors.specs.declared.error.Error.{Error}
 use Rattle.just_errors.specs.declared.error.Error.TheVariants as error
-use Rattle.just_planning.specs.Own.{call_in}
+use Rattle.just_planning.specs.Pairs.{entries_of as entries_in}
 
 -- the fault of asking for the current folder, as a fault of a host
 abbrev pub fault_of_path : PathFault → HostFault
@@ -39,13 +38,9 @@ print_error f = error_by (λ g. error.StdoutIo g) f
 abbrev pub write_error : List ℕ → HostFault → Error
 write_error path f = error_by (λ g. error.WriteJustfile path g) f
 
-abbrev pub refused_in : Option (List ℕ × HostFault) → List Entry
-refused_in (Some x) = refused x.0 x.1
-refused_in None = []
-
--- the entry of the refused call that an error tells, if it tells one
+-- the entry of the refused call that an error tells, if it tells one, where the error has the path of its own or the call has none
 abbrev pub entries_of : Error → List Entry
-entries_of e = refused_in (call_in e)
+entries_of e = entries_in [] e
 
 -- a fault is the call's own, and a miss is the one that is shown, where something is
 abbrev pub FaultFits : {A : Type 0} → Call → Option (Result A Miss) → HostFault → Type 0

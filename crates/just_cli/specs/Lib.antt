@@ -1,4 +1,6 @@
 -- The definitions that the contracts of the top calls cite.
+pub mod Acts
+pub mod Altered
 pub mod Answered
 pub mod Exit
 pub mod Faults
@@ -10,6 +12,7 @@ pub mod Quiet
 pub mod Record
 pub mod Request
 pub mod Run
+pub mod Taken
 pub mod Whole
 pub mod Words
 pub mod Written

@@ -1,7 +1,7 @@
 -- What of a configuration isn't built yet, what is asked of a justfile, and which names may be missing.
 use Rattle.std.specs.Prelude.{ℕ, Bool, true, false, not, ◌||◌, ◌&&◌, if◌then◌else◌, nat_le, List, [], ◌∷◌, Option, Some, None, option_map, Result, Ok, Err, codes}
 use Rattle.std.specs.Int.NonZero.{non_zero_u64_get}
-use Rattle.just_path.specs.Environ.{or_else}
+use Rattle.just_text.specs.Environ.{or_else}
 use Rattle.just_words.specs.declared.subcommand.Subcommand.{Subcommand}
 use Rattle.just_words.specs.declared.subcommand.Subcommand.TheVariants as command
 use Rattle.just_config.specs.declared.config.Config.{Config}
@@ -13,8 +13,6 @@ use Rattle.just_commands.specs.declared.run_flags.RunFlags.{RunFlags}
 use Rattle.just_env_files.specs.declared.ask.DotenvAsk.{DotenvAsk}
 use Rattle.just_cache.specs.Places.{cache_folder}
 use Rattle.just_locate.specs.Finding.{folder_of}
-use Rattle.just_locate.specs.declared.location.Origin.{Origin}
-use Rattle.just_locate.specs.declared.location.Origin.TheVariants as origin
 use Rattle.just_planning.specs.Forms.{word_if}
 use Rattle.just_planning.specs.declared.wanted.Wanted.{Wanted}
 
@@ -56,12 +54,6 @@ command_not_built (Some s) = Some (command_word s)
 -- the word of what isn't built, of the first in the order of the options
 abbrev pub not_built : Config → Option (List ℕ)
 not_built c = or_else (flag_not_built c) (command_not_built c.subcommand)
-
--- the file of a justfile; a text that comes from elsewhere isn't built, and has its word
-abbrev pub file_of : Origin → Result (List ℕ) (List ℕ)
-file_of (origin.File path) = Ok path
-file_of (origin.Markdown path) = Err (codes ".md")
-file_of origin.StandardInput = Err (codes "-")
 
 -- ---- what is asked for
 

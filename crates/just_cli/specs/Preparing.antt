@@ -1,10 +1,19 @@
--- What the preparation of a run leaves in its host's record, and answers.
-use Rattle.std.specs.Prelude.{◌≡◌, ◌++◌, true, List, Result, Ok, Err}
-use Rattle.std.specs.List.{AllByRecursion}
+-- What the preparation of a run leaves in its host's record, makes of a told world, and answers.
+use Rattle.std.specs.Prelude.{ℕ, ◌≡◌, ◌++◌, Bool, true, false, List, [], Option, option_map, Result, Ok, Err}
+use Rattle.std.specs.List.{list_any, AllByRecursion}
+use Rattle.std.specs.Int.NonZero.{non_zero_u64_get}
+use Rattle.std.specs.declared.num.NonZeroU64.{NonZeroU64}
 use Rattle.just_outside.specs.declared.entry.Entry.{Entry}
-use Rattle.just_outside.specs.Record.{is_missed}
+use Rattle.just_outside.specs.Record.{is_missed, is_failed}
+use Rattle.just_outside.specs.World.{World}
+use Rattle.just_history.specs.declared.plan.Plan.{Plan}
+use Rattle.just_history.specs.declared.plan_node.PlanNode.{PlanNode}
 use Rattle.just_errors.specs.declared.error.Error.{Error}
 use Rattle.just_planning.specs.Own.{OrMemory}
+use Rattle.just_planning.specs.Request.{Outline, outline_of}
+use Rattle.just_cli.specs.Acts.{Act, AreActs, folders_in, captures_in}
+use Rattle.just_cli.specs.Altered.{IsAltered}
+use Rattle.just_planning.specs.Pairs.{entries_of as entries_in}
 use Rattle.just_cli.specs.Faults.{entries_of}
 use Rattle.just_cli.specs.Request.{ArePassed}
 
@@ -12,25 +21,46 @@ use Rattle.just_cli.specs.Request.{ArePassed}
 abbrev pub AreMisses : List Entry → Type 0
 AreMisses es = AllByRecursion (λ e. is_missed e ≡ true) es
 
--- behind the entries of listings misses alone
-abbrev pub LeavesMisses : List Entry → List Entry → Type 0
-LeavesMisses listings es = (misses : List Entry) × AreMisses misses × (es ≡ listings ++ misses)
-
 -- behind the entries of listings misses, and behind them the entry of the refused call that an error tells, if it tells one
 abbrev pub EndsWith : List Entry → Error → List Entry → Type 0
 EndsWith listings e es = (misses : List Entry) × AreMisses misses × (es ≡ listings ++ (misses ++ entries_of e))
 
+-- behind the entries of listings those of the acts in their order, and misses among them
+abbrev pub LeavesActs : List Entry → List Act → List Entry → Type 0
+LeavesActs listings acts es = (among : List Entry) × AreActs acts among × (es ≡ listings ++ among)
+
+-- the same, and behind them the entry of the refused call that an error tells, if it tells one; some calls have a path in their entry that their error doesn't tell
+abbrev pub EndsActs : List Entry → List Act → Error → List Entry → Type 0
+EndsActs listings acts e es = (among : List Entry) × (path : List ℕ) × AreActs acts among × (es ≡ listings ++ (among ++ entries_in path e))
+
 -- what a preparation leaves behind the entries of listings
-abbrev pub Leaves : {A : Type 0} → List Entry → Result A Error → List Entry → Type 0
-Leaves listings (Ok x) es = LeavesMisses listings es
-Leaves listings (Err e) es = EndsWith listings e es
+abbrev pub Leaves : {A : Type 0} → List Entry → List Act → Result A Error → List Entry → Type 0
+Leaves listings acts (Ok x) es = LeavesActs listings acts es
+Leaves listings acts (Err e) es = EndsActs listings acts e es
 
 -- an answer, or want of memory in its place
 abbrev pub Answers : {A : Type 0} → (Result A Error → Type 0) → Result A Error → Type 0
 Answers P (Ok x) = P (Ok x)
 Answers P (Err e) = OrMemory (λ f. P (Err f)) e
 
--- A preparation answers what is asked for over the listings that it passed over, or want of memory; and its record gains what it leaves.
-abbrev pub Prepares : {A : Type 0} → Type 0 → (List Entry → Result A Error → Type 0) → List Entry → List Entry → Result A Error → Type 0
-Prepares global asks old new r =
-    (listings : List Entry) × (es : List Entry) × (new ≡ old ++ es) × ArePassed global listings × Leaves listings r es × Answers (asks listings) r
+-- A part of a preparation takes these acts, over a host that tells the first world before and the second behind: it answers what is given with them, or
+-- want of memory; its temporary folders are kept behind those that were kept; its record gains what it leaves; and where no child was run to its end and no call
+-- failed, a told world is as it was, but for paths at or below these folders.
+pub record Performs {A : Type 0} (gives : List Act → Option World → Result A Error → Type 0) (told after : Option World) (kept keeps : List (List ℕ)) (old new : List Entry) (r : Result A Error) : Type 0 where
+  pub acts : List Act
+  pub entries : List Entry
+  pub grew : new ≡ old ++ entries
+  pub leaves : Leaves [] acts r entries
+  pub folders : keeps ≡ kept ++ folders_in acts
+  pub answers : Answers (gives acts after) r
+  pub still : acts ≡ [] → list_any is_failed entries ≡ false → after ≡ told
+  pub alters : (nodes : List PlanNode) → captures_in acts ≡ [] → list_any is_failed entries ≡ false → IsAltered (folders_in acts) nodes told after
+
+-- the same behind listings that were passed over
+abbrev pub Prepares : {A : Type 0} → Type 0 → (List Entry → List Act → Option World → Result A Error → Type 0) → Option World → Option World → List (List ℕ) → List (List ℕ) → List Entry → List Entry → Result A Error → Type 0
+Prepares global asks told after kept keeps old new r = (listings : List Entry) × ArePassed global listings × Performs (asks listings) told after kept keeps (old ++ listings) new r
+
+-- a plan, its job limit, if it has one, and of each node whether the message of its exit code is told, as they are asked for
+abbrev pub outlined : Result (Plan × Option NonZeroU64 × List Bool) Error → Result Outline Error
+outlined (Ok p) = Ok (outline_of p.0 (option_map non_zero_u64_get p.1) p.2)
+outlined (Err e) = Err e

@@ -1,7 +1,7 @@
 -- Words that ask for the help, the version or a new justfile, and what those of a text get.
 use Rattle.std.specs.Prelude.{ℕ, ◌≡◌, ◌++◌, Bool, true, false, List, [], ◌∷◌, codes, Option, Some, None, option_map, Result, Ok, IfOk, IfErr}
 use Rattle.std.specs.Int.NonZero.{non_zero_u64_get}
-use Rattle.just_path.specs.declared.environ.Environ.{Environ}
+use Rattle.just_text.specs.declared.environ.Environ.{Environ}
 use Rattle.just_outside.specs.declared.entry.Entry.{Entry}
 use Rattle.just_outside.specs.declared.entry.Entry.TheVariants as entry
 use Rattle.just_outside.specs.declared.entry.HostFault.{HostFault}
@@ -52,19 +52,20 @@ pub record AsksQuiet (words : List (List ℕ)) (told : Option World) (quiet : Bo
   pub means : Means words environ.pairs (Ok (read.Go arguments))
   pub quiet_is : quiet ≡ arguments.quiet
 
--- Over such a host the words ask for that task. Of a run the record gained what its preparation leaves, of a new justfile misses, and nothing of a text.
-abbrev pub IsTask : List (List ℕ) → Option World → List Entry → List Entry → Task → Type 0
-IsTask words told old new (task.Run p jobs messages quiet) =
-    Prepares (AsksGlobal words told) (Asks words told) old new (Ok (outline_of p (option_map non_zero_u64_get jobs) messages)) × AsksQuiet words told quiet
-IsTask words told old new (task.Init path quiet) = GainsMisses old new × AsksNew words told path × AsksQuiet words told quiet
-IsTask words told old new (task.Show text) = (new ≡ old) × IsQuestion words told text
+-- Over such a host, which tells the second world then, the words ask for that task. Of a run the record gained what its preparation leaves, of a new
+-- justfile misses, and nothing of a text; the temporary folders of a run are kept.
+abbrev pub IsTask : List (List ℕ) → Option World → Option World → List (List ℕ) → List (List ℕ) → List Entry → List Entry → Task → Type 0
+IsTask words told after kept keeps old new (task.Run p jobs messages quiet) =
+    Prepares (AsksGlobal words told) (Asks words told) told after kept keeps old new (Ok (outline_of p (option_map non_zero_u64_get jobs) messages)) × AsksQuiet words told quiet
+IsTask words told after kept keeps old new (task.Init path quiet) = (after ≡ told) × (keeps ≡ kept) × GainsMisses old new × AsksNew words told path × AsksQuiet words told quiet
+IsTask words told after kept keeps old new (task.Show text) = (after ≡ told) × (keeps ≡ kept) × (new ≡ old) × IsQuestion words told text
 
 -- the arguments ask for that task; they ask for no text
-abbrev pub IsServed : Option World → ArgumentsRequest → List Entry → List Entry → Task → Type 0
-IsServed told a old new (task.Run p jobs messages quiet) =
-    Prepares (a.arguments.global_justfile ≡ true) (λ listings. Serves told listings a) old new (Ok (outline_of p (option_map non_zero_u64_get jobs) messages)) × (quiet ≡ a.arguments.quiet)
-IsServed told a old new (task.Init path quiet) = GainsMisses old new × ServesNew told a (Ok path) × (quiet ≡ a.arguments.quiet)
-IsServed told a old new (task.Show text) = ⊥
+abbrev pub IsServed : Option World → Option World → ArgumentsRequest → List (List ℕ) → List (List ℕ) → List Entry → List Entry → Task → Type 0
+IsServed told after a kept keeps old new (task.Run p jobs messages quiet) =
+    Prepares (a.arguments.global_justfile ≡ true) (λ listings acts later r. Serves listings told acts later a r) told after kept keeps old new (Ok (outline_of p (option_map non_zero_u64_get jobs) messages)) × (quiet ≡ a.arguments.quiet)
+IsServed told after a kept keeps old new (task.Init path quiet) = (after ≡ told) × (keeps ≡ kept) × GainsMisses old new × ServesNew told a (Ok path) × (quiet ≡ a.arguments.quiet)
+IsServed told after a kept keeps old new (task.Show text) = ⊥
 
 -- nothing is run: no plan, and nothing in the history
 abbrev pub IsNothing : Report → Type 0

@@ -1,11 +1,12 @@
 -- What a run leaves in its host's record.
-use Rattle.std.specs.Prelude.{ℕ, ◌≡◌, ◌<◌, ◌++◌, ◌⊎◌, Bool, true, false, List, [], ◌∷◌, length, Option, Some, None}
-use Rattle.std.specs.List.{list_any}
+use Rattle.std.specs.Prelude.{ℕ, ◌≡◌, ◌<◌, ◌++◌, ◌⊎◌, ◌||◌, Bool, true, false, List, [], ◌∷◌, length, Option, Some, None}
+use Rattle.std.specs.List.{list_any, AllByRecursion}
 use Rattle.just_outside.specs.declared.entry.Call.TheVariants as call
 use Rattle.just_outside.specs.declared.entry.Entry.{Entry}
 use Rattle.just_outside.specs.declared.entry.Entry.TheVariants as entry
 use Rattle.just_outside.specs.declared.entry.Stream.TheVariants as stream
-use Rattle.just_outside.specs.Record.{is_failed, is_started}
+use Rattle.just_outside.specs.Record.{is_failed, is_missed, is_started}
+use Rattle.just_outside.specs.World.{World}
 use Rattle.just_history.specs.declared.event.Event.{Event}
 use Rattle.just_history.specs.declared.event.Verdict.{Verdict}
 use Rattle.just_history.specs.declared.plan.Plan.{Plan}
@@ -19,10 +20,12 @@ use Rattle.just_history.specs.Start.{run_over}
 use Rattle.just_history.specs.State.{has_caught}
 use Rattle.just_history.specs.Verdict.{IsVerdict, NoneDecides}
 use Rattle.just_outcome.specs.Caused.{IsCaused}
-use Rattle.just_planning.specs.Own.{is_fault}
+use Rattle.just_tangled.specs.Removals.{RemovesAll, RemovesSome}
+use Rattle.just_cli.specs.Acts.{Act, folders_in}
+use Rattle.just_planning.specs.Own.{is_fault, is_uncaptured}
 use Rattle.just_outcome.specs.Outcome.{IsErrorFor}
 use Rattle.just_cli.specs.declared.ended.Failure.{Failure}
-use Rattle.just_cli.specs.Preparing.{LeavesMisses, EndsWith}
+use Rattle.just_cli.specs.Preparing.{EndsWith, LeavesActs, EndsActs}
 use Rattle.just_cli.specs.Quiet.{tells}
 use Rattle.just_errors.specs.Texts.{error_text}
 use Rattle.just_errors.specs.declared.error.Error.{Error}
@@ -43,9 +46,32 @@ IsPrinted e es = (es ≡ entry.Printed stream.Err (error_text e ++ 10 ∷ []) �
 abbrev pub IsTold : Bool → Error → List Entry → Type 0
 IsTold quiet e es = ((tells quiet e ≡ true) × IsPrinted e es) ⊎ ((tells quiet e ≡ false) × (es ≡ []))
 
--- no child was started, and nothing failed
+-- to remove each of these folders is tried, or the first of them where memory is wanting: what that makes of a told world and leaves in the record
+abbrev pub Removes : List (List ℕ) → Option World → List Entry → Option World → List Entry → Type 0
+Removes folders told old after new = RemovesAll told old folders after new ⊎ RemovesSome told old folders after new
+
+-- misses and failures alone
+abbrev pub AreRefusals : List Entry → Type 0
+AreRefusals es = AllByRecursion (λ e. (is_missed e || is_failed e) ≡ true) es
+
+-- What stands behind the book's stretch: the entry of the error that is told, if one is, and behind it misses and failures alone, as the temporary
+-- folders are removed. The first world was told when the book was closed, the second is told then.
+pub record EndsBehind (folders : List (List ℕ)) (tells : List Entry → Type 0) (settled after : Option World) (old post : List Entry) : Type 0 where
+  pub first : List Entry
+  pub refusals : List Entry
+  pub grew : post ≡ first ++ refusals
+  pub told_error : tells first
+  pub are : AreRefusals refusals
+  pub removed : Removes folders settled (old ++ first) after (old ++ post)
+
+abbrev pub is_captured : Entry → Bool
+is_captured (entry.Captured spec input status output) = true
+is_captured _ = false
+
+-- no child was started or run to its end, and nothing failed
 pub record IsQuiet (es : List Entry) : Type 0 where
   pub no_child : list_any is_started es ≡ false
+  pub no_capture : list_any is_captured es ≡ false
   pub no_failure : list_any is_failed es ≡ false
 
 -- The stretch of the record while the book was open is matched by a legal and closed history of the run.
@@ -58,24 +84,25 @@ pub record IsBook (s : Run) (h : List Event) (mid : List Entry) : Type 0 where
 abbrev pub GoByCacheRule : Run → List Event → Type 0
 GoByCacheRule s h = (n : ℕ) → is_cached s.nodes n ≡ true → GoesByCacheRule s h n
 
--- A run that ended well: behind the listings and the misses of its preparation the record gained just the entries of its history, which is
--- legal and complete: no node failed, and each was run to its end, or skipped: a cached body exactly where the look at its entry was full.
-pub record EndsWell (listings : List Entry) (plan : Plan) (jobs : Option ℕ) (h : List Event) (old new : List Entry) : Type 0 where
+-- A run that ended well: behind the listings, the acts and the misses of its preparation the record gained just the entries of its history, which is
+-- legal and complete: no node failed, and each was run to its end, or skipped: a cached body exactly where the look at its entry was full. Behind these
+-- the temporary folders were removed.
+pub record EndsWell (listings : List Entry) (acts : List Act) (plan : Plan) (jobs : Option ℕ) (h : List Event) (settled after : Option World) (old new : List Entry) : Type 0 where
   pub stretches : Stretches old new
-  pub prepared : LeavesMisses listings stretches.pre
+  pub prepared : LeavesActs listings acts stretches.pre
   pub book : IsBook (run_over plan jobs (old ++ stretches.pre)) h stretches.mid
   pub well : NoneDecides (run_over plan jobs (old ++ stretches.pre)) h
   pub complete : IsComplete (run_over plan jobs (old ++ stretches.pre)) h
   pub cached : GoByCacheRule (run_over plan jobs (old ++ stretches.pre)) h
   pub skipped : (n : ℕ) → n < length plan.nodes → is_cached plan.nodes n ≡ true → IsSkippedByLook h n
-  pub silent : stretches.post ≡ []
+  pub behind : EndsBehind (folders_in acts) (λ es. es ≡ []) settled after (old ++ (stretches.pre ++ stretches.mid)) stretches.post
 
 -- A run that failed: its error is that of the history's verdict, and the record shows its cause; a favourable record shows
 -- none. A signal was caught, or nothing was left to do, so it didn't stop at its first failure. Behind the entries of its
--- history the error was told.
-pub record EndsIll (listings : List Entry) (plan : Plan) (jobs : Option ℕ) (messages : List Bool) (quiet : Bool) (h : List Event) (e : Error) (old new : List Entry) : Type 0 where
+-- history the error was told, and the temporary folders were removed.
+pub record EndsIll (listings : List Entry) (acts : List Act) (plan : Plan) (jobs : Option ℕ) (messages : List Bool) (quiet : Bool) (h : List Event) (e : Error) (settled after : Option World) (old new : List Entry) : Type 0 where
   pub stretches : Stretches old new
-  pub prepared : LeavesMisses listings stretches.pre
+  pub prepared : LeavesActs listings acts stretches.pre
   pub book : IsBook (run_over plan jobs (old ++ stretches.pre)) h stretches.mid
   pub verdict : Verdict
   pub judged : IsVerdict (run_over plan jobs (old ++ stretches.pre)) h verdict
@@ -84,17 +111,25 @@ pub record EndsIll (listings : List Entry) (plan : Plan) (jobs : Option ℕ) (me
   pub nothing_left : (has_caught h ≡ true) ⊎ (HasWork (run_over plan jobs (old ++ stretches.pre)) h → ⊥)
   pub caused : IsCaused plan.nodes h e stretches.mid
   pub favoured : IsFavourable stretches.mid → e ≡ error.NoMemory
-  pub told : IsTold quiet e stretches.post
+  pub behind : EndsBehind (folders_in acts) (IsTold quiet e) settled after (old ++ (stretches.pre ++ stretches.mid)) stretches.post
 
--- A refusal before the book: behind listings and misses the entry of the refused call, and the error was told.
+-- A run that was refused before its book: behind listings, acts and misses the entry of the refused call; the error was told, and the temporary folders
+-- were removed.
+pub record EndsUnopened (listings : List Entry) (acts : List Act) (quiet : Bool) (e : Error) (settled after : Option World) (old new : List Entry) : Type 0 where
+  pub stretches : Stretches old new
+  pub prepared : EndsActs listings acts e stretches.pre
+  pub unopened : stretches.mid ≡ []
+  pub behind : EndsBehind (folders_in acts) (IsTold quiet e) settled after (old ++ (stretches.pre ++ stretches.mid)) stretches.post
+
+-- A refusal before the book, where no run is asked for: behind listings and misses the entry of the refused call, and the error was told.
 pub record EndsBefore (listings : List Entry) (quiet : Bool) (e : Error) (old new : List Entry) : Type 0 where
   pub stretches : Stretches old new
   pub prepared : EndsWith listings e stretches.pre
   pub unopened : stretches.mid ≡ []
   pub told : IsTold quiet e stretches.post
 
--- What a record shows that stood against a run: before its book a failed call of the host; or in the stretch of its book an
--- entry that isn't favourable.
-pub data Hindered (listings : List Entry) (f : Failure) (jobs : Option ℕ) (old new : List Entry) : Type 0 where
-  before : (s : Stretches old new) → f.plan ≡ None → is_fault f.error ≡ true → EndsWith listings f.error s.pre → s.mid ≡ [] → Hindered listings f jobs old new
-  within : (p : Plan) (s : Stretches old new) → f.plan ≡ Some p → LeavesMisses listings s.pre → IsBook (run_over p jobs (old ++ s.pre)) f.history s.mid → (IsFavourable s.mid → ⊥) → Hindered listings f jobs old new
+-- What a record shows that stood against a run: before its book a failed call of the host, or a child that couldn't be run to its end; or in the stretch
+-- of its book an entry that isn't favourable.
+pub data Hindered (listings : List Entry) (acts : List Act) (f : Failure) (jobs : Option ℕ) (old new : List Entry) : Type 0 where
+  before : (s : Stretches old new) → f.plan ≡ None → (is_fault f.error || is_uncaptured f.error) ≡ true → EndsActs listings acts f.error s.pre → s.mid ≡ [] → Hindered listings acts f jobs old new
+  within : (p : Plan) (s : Stretches old new) → f.plan ≡ Some p → LeavesActs listings acts s.pre → IsBook (run_over p jobs (old ++ s.pre)) f.history s.mid → (IsFavourable s.mid → ⊥) → Hindered listings acts f jobs old new

@@ -4,17 +4,18 @@ use Rattle.just_outside.specs.Record.{faults_of, misses_of}
 use Rattle.just_outside.specs.World.{World}
 use Rattle.just_outside.specs.declared.entry.Entry.{Entry}
 use Rattle.just_history.specs.Favourable.{IsFavourable}
-use Rattle.just_history.specs.Touched.{IsTouched}
 use Rattle.just_history.specs.declared.plan.Plan.{Plan}
 use Rattle.just_cli.specs.declared.ended.Failure.{Failure}
 use Rattle.just_cli.specs.declared.ended.Report.{Report}
 use Rattle.just_errors.specs.Codes.{exit_code}
 use Rattle.just_errors.specs.declared.error.Error.TheVariants as error
 use Rattle.just_cli.specs.Answered.{IsAnswered, IsServed}
+use Rattle.just_cli.specs.Acts.{Act, folders_in}
+use Rattle.just_cli.specs.Altered.{EndsAsItWas, StaysAsItWas}
 use Rattle.just_planning.specs.Own.{is_fault, is_miss}
 use Rattle.just_cli.specs.Questions.{IsQuestion, AsksQuiet, IsShown}
 use Rattle.just_cli.specs.Quiet.{AskQuiet}
-use Rattle.just_cli.specs.Record.{EndsWell, EndsIll, EndsBefore, IsQuiet}
+use Rattle.just_cli.specs.Record.{EndsWell, EndsIll, EndsUnopened, IsQuiet}
 use Rattle.just_cli.specs.Request.{AsksNew, AsksGlobal, ArePassed, IsAsked, RefusedFor}
 use Rattle.just_cli.specs.Written.{IsWritten}
 
@@ -28,21 +29,25 @@ pub record IsRun (words : List (List ℕ)) (told after : Option World) (old new 
   -- the entries of the listings that were refused as the user's own justfile was looked for: none, unless the words ask for it
   pub listings : List Entry
   pub passed : ArePassed (AsksGlobal words told) listings
+  -- what the host did for the request, and the worlds that were told behind that, and when the book was closed
+  pub acts : List Act
+  pub between : Option World
+  pub settled : Option World
   -- whether the words ask for quiet
   pub quiet : Bool
   pub quiet_is : IfErr result (λ f. ∥ AskQuiet words told quiet f.error ∥₁)
   -- a report's history is that of a run which ended well
-  pub ran : IfOk result (λ r. ∥ EndsWell listings r.plan jobs r.history old new ∥₁)
+  pub ran : IfOk result (λ r. ∥ EndsWell listings acts r.plan jobs r.history settled after old new ∥₁)
   -- a plan, its job limit and its messages are what the words ask for
-  pub asked : MatchResult result (λ r. IsAsked words told listings r.plan jobs messages) (λ f. MatchOption f.plan (Unit {0}) (λ p. IsAsked words told listings p jobs messages))
+  pub asked : MatchResult result (λ r. IsAsked words told listings acts between r.plan jobs messages) (λ f. MatchOption f.plan (Unit {0}) (λ p. IsAsked words told listings acts between p jobs messages))
   -- a failure without a plan is a refusal, by the request, the host, or want of memory
-  pub refused : IfErr result (λ f. f.plan ≡ None → ∥ RefusedFor words told listings f.error ∥₁)
+  pub refused : IfErr result (λ f. f.plan ≡ None → ∥ RefusedFor words told listings acts between f.error ∥₁)
   -- over a told world the result fits the request
-  pub answered : IsAnswered words told listings jobs messages result
+  pub answered : IsAnswered words told listings acts between jobs messages result
   -- a failure's history is that of a run which ended ill; without a plan the book wasn't opened
-  pub failed : IfErr result (λ f. MatchOption f.plan (∥ EndsBefore listings quiet f.error old new ∥₁) (λ p. ∥ EndsIll listings p jobs messages quiet f.history f.error old new ∥₁))
+  pub failed : IfErr result (λ f. MatchOption f.plan (∥ EndsUnopened listings acts quiet f.error settled after old new ∥₁) (λ p. ∥ EndsIll listings acts p jobs messages quiet f.history f.error settled after old new ∥₁))
   -- over a told world a run that is asked for ends well, unless something stood against it
-  pub complete : IsServed words told listings jobs result old new
+  pub complete : IsServed words told listings acts between jobs result old new
   -- without a plan there is no history
   pub unplanned : IfErr result (λ f. f.plan ≡ None → f.history ≡ [])
   -- the exit code is the error's
@@ -52,8 +57,10 @@ pub record IsRun (words : List (List ℕ)) (told after : Option World) (old new 
   -- the error of a failed call has its failure in the record, and that of a miss its miss
   pub faults : IfErr result (λ f. is_fault f.error ≡ true → faults_of old < faults_of new)
   pub misses : IfErr result (λ f. is_miss f.error ≡ true → misses_of old < misses_of new)
-  -- where no child was started and nothing failed, the told world is as it was, but for entries of the caches of a plan
-  pub untouched : (es : List Entry) → new ≡ old ++ es → IsQuiet es → MatchResult result (λ r. ∥ IsTouched r.plan.nodes told after ∥₁) (λ f. MatchOption f.plan (after ≡ told) (λ p. ∥ IsTouched p.nodes told after ∥₁))
+  -- where no child was started or run to its end and nothing failed, the told world is as it was, but for entries of the caches of a plan, and for paths at or below the
+  -- temporary folders
+  pub untouched : (es : List Entry) → new ≡ old ++ es → IsQuiet es
+      → MatchResult result (λ r. ∥ EndsAsItWas (folders_in acts) r.plan.nodes told after ∥₁) (λ f. MatchOption f.plan (StaysAsItWas (folders_in acts) told after) (λ p. ∥ EndsAsItWas (folders_in acts) p.nodes told after ∥₁))
 
 -- Words that ask for the help or the version get its text, those that ask for a new justfile have it written, and other words are a run. Words that are
 -- refused are what they were refused as: a run without a plan.

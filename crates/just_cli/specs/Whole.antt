@@ -12,12 +12,17 @@ use Rattle.just_planning.specs.Own.{is_fault, IsOwn}
 use Rattle.just_planning.specs.Request.{ProjectRequest, Outline}
 use Rattle.just_cli.specs.Options.{is_lacking, lacks, allowed}
 use Rattle.just_cli.specs.Words.{ConfigRequest, LocatedRequest}
-use Rattle.just_cli.specs.Request.{FindsProjectAt, at_place, AnswersItem, Tries}
+use Rattle.just_cli.specs.Request.{FindsProjectAt, AnswersAt, at_place, Tries}
 
--- whether the justfile in a place sets fallback; one whose project is refused sets none
+-- whether the justfile in a place sets fallback, which takes no act; one whose project is refused sets none
 pub data SetsFallback (told : Option World) (c : ConfigRequest) (location : Location) (fallback : Bool) : Type 0 where
-  of_project : (p : ProjectRequest) → FindsProjectAt told (at_place c location) (Ok p) → fallback ≡ (settings_of p.justfile).fallback → SetsFallback told c location fallback
-  no_project : (e : Error) → FindsProjectAt told (at_place c location) (Err e) → IsOwn {A = ProjectRequest} (Err e) → fallback ≡ false → SetsFallback told c location fallback
+  of_project : (p : ProjectRequest) → FindsProjectAt told [] told (at_place c location) (Ok p) → fallback ≡ (settings_of p.justfile).fallback → SetsFallback told c location fallback
+  no_project : (e : Error) → FindsProjectAt told [] told (at_place c location) (Err e) → IsOwn {A = ProjectRequest} (Err e) → fallback ≡ false → SetsFallback told c location fallback
+
+-- the answer of one that is tried, which takes no act: that of the justfile there, or the refusal of the search
+abbrev pub AnswersItem : Option World → ConfigRequest → Result Location SearchError → Result Outline Error → Type 0
+AnswersItem told c (Ok location) r = (fallback : Bool) × AnswersAt told [] told (at_place c location) r fallback
+AnswersItem told c (Err e) r = r ≡ Err (error_of_search e)
 
 -- one that is tried lacks what is asked for
 abbrev pub Lacks : Option World → ConfigRequest → Result Location SearchError → Type 0
@@ -33,7 +38,7 @@ abbrev pub IsFound : Result Location SearchError → Type 0
 IsFound (Ok location) = Unit {0}
 IsFound (Err e) = is_fault (error_of_search e) ≡ false
 
--- over a told world the answer to the words is that of the first in the whole list, which the words may allow
+-- over a told world, where no temporary folder is made, the answer to the words is that of the first in the whole list, which the words may allow
 abbrev pub FirstAnswers : Type 0
 FirstAnswers = (w : World) (q : LocatedRequest) (items : List (Result Location SearchError)) (r : Result Outline Error) → AreTried (Some w) q.config (SetsFallback (Some w) (record { config = q.config; environ = q.environ })) q.location items
-    → AllByRecursion IsFound items → Tries (Some w) q r → IsOwn r → (x : Result Outline Error) × AnswersFirst (Some w) (record { config = q.config; environ = q.environ }) items x × (r ≡ allowed q.config x)
+    → AllByRecursion IsFound items → Tries (Some w) [] (Some w) q r → IsOwn r → (x : Result Outline Error) × AnswersFirst (Some w) (record { config = q.config; environ = q.environ }) items x × (r ≡ allowed q.config x)

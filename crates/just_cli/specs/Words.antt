@@ -1,6 +1,6 @@
 -- What words ask for: the arguments that they mean with the variables, the configuration that these give, and the justfile that it means.
-use Rattle.std.specs.Prelude.{ℕ, ◌≡◌, ◌++◌, List, [], Option, Some, None, Result, Ok, Err}
-use Rattle.just_path.specs.declared.environ.Environ.{Environ}
+use Rattle.std.specs.Prelude.{ℕ, ◌≡◌, ◌≢◌, ◌++◌, List, [], map, Option, Some, None, Result, Ok, Err}
+use Rattle.just_text.specs.declared.environ.Environ.{Environ}
 use Rattle.just_outside.specs.declared.entry.Entry.{Entry}
 use Rattle.just_outside.specs.World.{World}
 use Rattle.just_words.specs.declared.arguments.Arguments.{Arguments}
@@ -11,6 +11,7 @@ use Rattle.just_config.specs.declared.config.Config.{Config}
 use Rattle.just_config.specs.declared.config_error.ConfigError.{ConfigError}
 use Rattle.just_config.specs.Config.{refusal, config_of}
 use Rattle.just_env.specs.declared.search_error.SearchError.{SearchError}
+use Rattle.just_env.specs.declared.search_error.SearchError.TheVariants as search
 use Rattle.just_env.specs.Answers.{entries_of}
 use Rattle.just_locate.specs.declared.location.Location.{Location}
 use Rattle.just_locate.specs.Finding.{Finds}
@@ -18,7 +19,10 @@ use Rattle.just_errors.specs.Refusals.{error_of_search}
 use Rattle.just_errors.specs.declared.error.Error.{Error}
 use Rattle.just_errors.specs.declared.error.Error.TheVariants as error
 use Rattle.just_planning.specs.declared.wanted.Wanted.{Wanted}
-use Rattle.just_cli.specs.Options.{not_built, file_of, cache_beside, wanted_of}
+use Rattle.just_init.specs.declared.search.Search.{Search}
+use Rattle.just_tangled.specs.Files.{parent_of, Materializes}
+use Rattle.just_cli.specs.Acts.{Act, Step}
+use Rattle.just_cli.specs.Options.{not_built, cache_beside, wanted_of}
 use Rattle.just_planning.specs.Steps.{Then}
 
 -- ---- what is known behind each step; the environment goes along, since values ask it too
@@ -98,7 +102,12 @@ abbrev pub FindsJustfile : (Config → Result Location Error → Type 0) → Con
 FindsJustfile finds c (Ok q) = (q.config ≡ c.config) × (q.environ ≡ c.environ) × finds c.config (Ok q.location)
 FindsJustfile finds c (Err e) = finds c.config (Err e)
 
--- the justfile is a file, of which something is asked; or its text comes from elsewhere, which isn't built
-abbrev pub TakesFile : LocatedRequest → Result JustfileRequest Error → Type 0
-TakesFile q (Ok j) = (file_of q.location.origin ≡ Ok j.justfile) × (j.wanted ≡ wanted_of q.config q.location.working_directory (cache_beside j.justfile)) × (j.environ ≡ q.environ)
-TakesFile q (Err e) = (word : List ℕ) × (file_of q.location.origin ≡ Err word) × (e ≡ error.NotBuilt word)
+-- The justfile in a place, as the file that is loaded: the file itself, or one in a temporary folder that is made for its text; and what is asked of it.
+-- Or why there is none.
+abbrev pub TakesFile : Step LocatedRequest JustfileRequest
+TakesFile told acts after q (Ok j) =
+    (folders : List (List ℕ)) × (s : Search) × (acts ≡ map Act.made folders) × Materializes told after (parent_of q.config) q.location folders (Ok s)
+    × (j.justfile ≡ s.justfile) × (j.wanted ≡ wanted_of q.config s.working_directory (cache_beside s.justfile)) × (j.environ ≡ q.environ)
+TakesFile told acts after q (Err e) =
+    (folders : List (List ℕ)) × (f : SearchError) × (acts ≡ map Act.made folders) × Materializes told after (parent_of q.config) q.location folders (Err f)
+    × (f ≢ search.NoMemory) × (e ≡ error_of_search f)

@@ -1,14 +1,14 @@
 //! From the words to their configuration, and to what is asked of a justfile.
 
 ghost use Rattle.std.specs.Prelude.{◌≡◌, ◌||◌, if◌then◌else◌, Some, None, map, IfOk, IfErr, Ok, Err};
-ghost use Rattle.just_path.specs.declared.environ.Environ.{Environ};
+ghost use Rattle.just_text.specs.declared.environ.Environ.{Environ};
 ghost use Rattle.just_words.specs.Words.{Means};
 ghost use Rattle.just_config.specs.Config.{refusal, config_of};
 ghost use Rattle.just_errors.specs.declared.error.Error.TheVariants as error;
 ghost use Rattle.just_planning.specs.Own.{OrMemory};
 ghost use Rattle.just_path.specs.Path.{text_of};
 ghost use Rattle.just_cli.specs.Options.{is_any, dotenv_of, flags_of, cache_beside, wanted_of};
-ghost use Rattle.just_cli.specs.Words.{ReadsWords, IsBuilt, Configures, TakesFile};
+ghost use Rattle.just_cli.specs.Words.{ReadsWords, IsBuilt, Configures};
 
 use super::Error;
 use super::options::{is_any, not_built};
@@ -17,9 +17,9 @@ use just_commands::RunFlags;
 use just_config::{Arguments, Config, Read, read_words};
 use just_env_files::DotenvAsk;
 use just_lang::Override;
-use just_locate::{Location, Origin};
-use just_path::{Environ, NoMemory, Seq, Text, TryClone, Utf8Path, Utf8PathBuf};
+use just_path::{Utf8Path, Utf8PathBuf};
 use just_planning::{Wanted, not_built_error};
+use just_text::{Environ, NoMemory, Seq, Text, TryClone};
 use std::alloc::Global;
 
 /// What the words ask for, with the variables of the environment.
@@ -130,7 +130,7 @@ fn cache_beside(alloc: Global, file: Utf8Path<'_>) -> Result<Utf8PathBuf, NoMemo
 }
 
 /// What a configuration asks of the justfile in a file that is run in that folder.
-fn wanted(
+pub(crate) fn wanted(
     alloc: Global,
     config: &Config,
     folder: &Utf8PathBuf,
@@ -181,39 +181,5 @@ pub(crate) fn configure(
     match Config::from_arguments(alloc, arguments, folder) {
         Ok(config) => built(alloc, config),
         Err(error) => Err(Error::from(error)),
-    }
-}
-
-/// What a configuration asks of the justfile in a file, and the path of the file.
-fn of_file(
-    alloc: Global,
-    config: &Config,
-    folder: &Utf8PathBuf,
-    path: &Utf8PathBuf,
-) -> Result<(Wanted, Utf8PathBuf), NoMemory>
-    ensures wanted { IfOk result (λ j. j.0 ≡ wanted_of config.now folder.now (cache_beside path.now)) }
-    ensures path { IfOk result (λ j. j.1 ≡ path.now) }
-{
-    let path = path.try_clone()?;
-    let wanted = wanted(alloc, config, folder, path.as_path())?;
-    Ok((wanted, path))
-}
-
-/// The file of a justfile that was found, and what a configuration asks of it.
-pub(crate) fn take(
-    alloc: Global,
-    config: &Config,
-    location: &Location,
-) -> Result<(Wanted, Utf8PathBuf), Error>
-    ensures taken { IfOk result (λ j. (environ : Environ) → TakesFile (record { config = config.now; environ = environ; location = location.now }) (Ok (record { wanted = j.0; environ = environ; justfile = j.1 }))) }
-    ensures refused { IfErr result (OrMemory (λ e. (environ : Environ) → TakesFile (record { config = config.now; environ = environ; location = location.now }) (Err e))) }
-{
-    match &location.origin {
-        Origin::File(path) => match of_file(alloc, config, &location.working_directory, path) {
-            Ok(taken) => Ok(taken),
-            Err(NoMemory) => Err(Error::NoMemory),
-        },
-        Origin::Markdown(_) => Err(not_built_error(alloc, ".md")),
-        Origin::StandardInput => Err(not_built_error(alloc, "-")),
     }
 }

@@ -9,8 +9,8 @@ ghost use Rattle.just_cli.specs.Record.{IsTold};
 
 use super::{Ended, Error, Failure};
 use just_host::{Host, Stream};
-use just_path::{NoMemory, Seq};
 use just_sched::{Event, Plan};
+use just_text::{NoMemory, Seq};
 use std::alloc::Global;
 
 /// The error's text and a newline.

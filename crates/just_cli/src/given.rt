@@ -19,8 +19,9 @@ use super::Error;
 use just_config::Config;
 use just_host::{Call, Host, HostFault};
 use just_locate::{Location, find};
-use just_path::{Environ, PathFault, Utf8Path, Utf8PathBuf};
+use just_path::{PathFault, Utf8Path, Utf8PathBuf};
 use just_search::Loader;
+use just_text::Environ;
 use std::alloc::Global;
 
 /// The fault of asking for the current folder, as a fault of a host.

@@ -19,7 +19,8 @@ use super::{Ended, Error, Report};
 use just_config::{Config, Subcommand};
 use just_host::{Call, Host, HostFault, Stream};
 use just_init::Search;
-use just_path::{Kind, NoMemory, PathFault, Seq, Utf8Path, Utf8PathBuf};
+use just_path::{Kind, PathFault, Utf8Path, Utf8PathBuf};
+use just_text::{NoMemory, Seq};
 use std::alloc::Global;
 
 /// Whether a command asks for a new justfile.
@@ -40,7 +41,7 @@ fn is_written_to(kind: Kind) -> bool
 }
 
 /// The path where a new justfile is to be written.
-#[tactic(auto, using(crate::proofs::NewPath::path_found, crate::proofs::NewPath::path_refused, crate::proofs::NewPath::path_entries))]
+#[tactic(auto, using(crate::proofs::NewPath::path_found, crate::proofs::NewPath::path_refused))]
 fn find_path<H: Host>(alloc: Global, host: &mut H, config: &Config) -> Result<Utf8PathBuf, Error>
     ensures grew { MatchResult result (λ _. H.entries host.new ≡ H.entries host.old) (λ e. H.entries host.new ≡ H.entries host.old ++ entries_of e) }
     ensures world { H.world host.new ≡ H.world host.old }

@@ -13,6 +13,7 @@ mod prepare;
 mod program;
 mod runner;
 mod show;
+mod taken;
 mod task;
 mod tried;
 

@@ -16,7 +16,8 @@ use super::tried::plan_tried;
 use super::{Error, Task};
 use just_config::{Arguments, HELP, Read, Version};
 use just_host::Host;
-use just_path::{Environ, NoMemory, Text};
+use just_path::Utf8PathBuf;
+use just_text::{Environ, NoMemory, Text};
 use std::alloc::Global;
 
 /// The run or the new justfile that arguments ask for.
@@ -24,10 +25,10 @@ fn serve<H: Host>(
     alloc: Global,
     arguments: Arguments,
     environ: &Environ,
+    made: &mut Vec<Utf8PathBuf>,
     host: &mut H,
 ) -> Result<Task, Error>
-    ensures served { MatchResult result (IsServed (H.world host.old) (record { arguments = arguments; environ = environ.now }) (H.entries host.old) (H.entries host.new)) (λ e. Prepares {A = Outline} (arguments.global_justfile ≡ true) (λ ls. Serves (H.world host.old) ls (record { arguments = arguments; environ = environ.now })) (H.entries host.old) (H.entries host.new) (Err e)) }
-    ensures world { H.world host.new ≡ H.world host.old }
+    ensures { MatchResult result (IsServed (H.world host.old) (H.world host.new) (record { arguments = arguments; environ = environ.now }) made.old.items made.new.items (H.entries host.old) (H.entries host.new)) (λ e. Prepares {A = Outline} (arguments.global_justfile ≡ true) (λ ls acts later r. Serves ls (H.world host.old) acts later (record { arguments = arguments; environ = environ.now }) r) (H.world host.old) (H.world host.new) made.old.items made.new.items (H.entries host.old) (H.entries host.new) (Err e)) }
 {
     let quiet = arguments.quiet;
     let folder = match current_folder(host) {
@@ -48,7 +49,7 @@ fn serve<H: Host>(
         Ok(location) => location,
         Err(error) => return Err(error),
     };
-    match plan_tried(alloc, host, environ, config, location) {
+    match plan_tried(alloc, environ, config, location, made, host) {
         Ok((plan, jobs, messages)) => Ok(Task::Run(plan, jobs, messages, quiet)),
         Err(error) => Err(error),
     }
@@ -68,17 +69,18 @@ fn version(alloc: Global) -> Result<Text, NoMemory>
     Ok(Text::from(format!(in alloc; "just {}\n", Version::current())?))
 }
 
-/// What the words ask for; or why they are refused, with whether they ask for quiet. The record gains the entries of listings that were refused as the
-/// user's own justfile was looked for, the misses of files that aren't there, and the entry of the refused call, where one was refused.
+/// What the words ask for; or why they are refused, with whether they ask for quiet. The paths of temporary folders are put behind those in `made`: they are the
+/// caller's to remove. The record gains the entries of listings that were refused as the user's own justfile was looked for, those of the temporary
+/// folders, the misses of files that aren't there, and the entry of the refused call, where one was refused.
 pub(crate) fn prepare<H: Host>(
     alloc: Global,
     words: &[&str],
+    made: &mut Vec<Utf8PathBuf>,
     host: &mut H,
 ) -> Result<Task, (Error, bool)>
-    ensures asked { IfOk result (IsTask (map (λ x. x.now) words.now) (H.world host.old) (H.entries host.old) (H.entries host.new)) }
-    ensures refused { IfErr result (λ e. Prepares {A = Outline} (AsksGlobal (map (λ w. w.now) words.now) (H.world host.old)) (Asks (map (λ w. w.now) words.now) (H.world host.old)) (H.entries host.old) (H.entries host.new) (Err e.0)) }
+    ensures asked { IfOk result (IsTask (map (λ x. x.now) words.now) (H.world host.old) (H.world host.new) made.old.items made.new.items (H.entries host.old) (H.entries host.new)) }
+    ensures refused { IfErr result (λ e. Prepares {A = Outline} (AsksGlobal (map (λ w. w.now) words.now) (H.world host.old)) (Asks (map (λ w. w.now) words.now) (H.world host.old)) (H.world host.old) (H.world host.new) made.old.items made.new.items (H.entries host.old) (H.entries host.new) (Err e.0)) }
     ensures quiet { IfErr result (λ e. AskQuiet (map (λ x. x.now) words.now) (H.world host.old) e.1 e.0) }
-    ensures world { H.world host.new ≡ H.world host.old }
 {
     let environ = match environment(alloc, host) {
         Ok(environ) => environ,
@@ -87,7 +89,7 @@ pub(crate) fn prepare<H: Host>(
     match read(alloc, words, &environ) {
         Ok(Read::Go(arguments)) => {
             let quiet = arguments.quiet;
-            match serve(alloc, arguments, &environ, host) {
+            match serve(alloc, arguments, &environ, made, host) {
                 Ok(task) => Ok(task),
                 Err(error) => Err((error, quiet)),
             }

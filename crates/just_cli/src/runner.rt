@@ -1,7 +1,10 @@
 //! The top calls: words and a host become a run and its end.
 
-ghost use Rattle.std.specs.Prelude.{[], None, map, IfOk};
+ghost use Rattle.std.specs.Prelude.{[], List, Option, None, map, IfOk};
+ghost use Rattle.just_outside.specs.World.{World};
+ghost use Rattle.just_outside.specs.declared.entry.Entry.{Entry};
 ghost use Rattle.just_host.specs.Real.{record_of};
+ghost use Rattle.just_cli.specs.Record.{Removes};
 ghost use Rattle.just_cli.specs.Run.{IsEnded};
 
 use super::failure::fail;
@@ -11,8 +14,10 @@ use super::show::show;
 use super::{Ended, Error, Report, Task};
 use just_host::{Host, RealHost};
 use just_outcome::error_for;
-use just_path::{NoMemory, Seq};
+use just_path::Utf8PathBuf;
 use just_sched::{Driven, drive};
+use just_tangled::remove_folders;
+use just_text::{NoMemory, Seq};
 use std::alloc::Global;
 use std::fs::File;
 use std::process::{Processes, SystemProcess};
@@ -20,24 +25,25 @@ use std::rt::{Files, Runtime};
 use std::sync::Wait;
 use std::thread::Threads;
 
-/// Runs what the words ask for over a host: reads the words, with the variables of its environment, finds the justfile, reads its project, loads
-/// the project's dotenv files, evaluates its variables, makes the plan, and drives it to its end. Where they ask for the help or the version, that is
-/// printed to standard output, and where they ask for a new justfile, that is written; the report then has a plan of no node. An error is told on standard error. The words are those behind the
-/// program's name. It waits for the children.
-pub fn run_with<R: Threads + Wait + Sync, H: Host + Send + Drop>(
+/// A run before its temporary folders are removed, and their paths.
+fn run_made<R: Threads + Wait + Sync, H: Host + Send + Drop>(
     rt: &R,
     alloc: Global,
     words: &[&str],
     host: H,
-) -> Ended<H>
-    ensures { IsEnded (map (λ x. x.now) words.now) (H.world host) (H.world result.host) (H.entries host) (H.entries result.host) result.result }
+) -> (Ended<H>, Vec<Utf8PathBuf>)
+    // Whatever their removal makes of the host, the run is ended then.
+    ensures { (after : Option World) (new : List Entry) → Removes result.1.items (H.world result.0.host) (H.entries result.0.host) after new → IsEnded (map (λ x. x.now) words.now) (H.world host) after (H.entries host) new result.0.result }
 {
     let mut host = host;
-    let (plan, jobs, messages, quiet) = match prepare(alloc, words, &mut host) {
+    let mut made = Vec::new(alloc);
+    let (plan, jobs, messages, quiet) = match prepare(alloc, words, &mut made, &mut host) {
         Ok(Task::Run(plan, jobs, messages, quiet)) => (plan, jobs, messages, quiet),
-        Ok(Task::Init(path, quiet)) => return init(alloc, host, path, quiet),
-        Ok(Task::Show(text)) => return show(alloc, host, text.as_str()),
-        Err((error, quiet)) => return fail(alloc, host, error, quiet, None, Seq::new(alloc)),
+        Ok(Task::Init(path, quiet)) => return (init(alloc, host, path, quiet), made),
+        Ok(Task::Show(text)) => return (show(alloc, host, text.as_str()), made),
+        Err((error, quiet)) => {
+            return (fail(alloc, host, error, quiet, None, Seq::new(alloc)), made);
+        }
     };
     match drive(rt, alloc, plan, host, jobs) {
         Ok(
@@ -54,14 +60,41 @@ pub fn run_with<R: Threads + Wait + Sync, H: Host + Send + Drop>(
             history.as_slice(),
             verdict,
         ) {
-            None => Ended {
-                host,
-                result: Ok(Report { plan, history }),
-            },
-            Some(error) => fail(alloc, host, error, quiet, Some(plan), history),
+            None => (
+                Ended {
+                    host,
+                    result: Ok(Report { plan, history }),
+                },
+                made,
+            ),
+            Some(error) => (fail(alloc, host, error, quiet, Some(plan), history), made),
         },
-        Err((host, _plan)) => { fail(alloc, host, Error::NoMemory, quiet, None, Seq::new(alloc)) },
+        Err((host, _plan)) => (
+            fail(alloc, host, Error::NoMemory, quiet, None, Seq::new(alloc)),
+            made,
+        ),
     }
+}
+
+/// Runs what the words ask for over a host: reads the words, with the variables of its environment, finds the justfile, reads its project, loads
+/// the project's dotenv files, evaluates its variables, makes the plan, and drives it to its end. A justfile in markdown or on standard input is read from a
+/// temporary folder, which is removed at the end, so far as it can be. Where the words ask for the help or the version, that is
+/// printed to standard output, and where they ask for a new justfile, that is written; the report then has a plan of no node. An error is told on standard error. The words are those behind the
+/// program's name. It waits for the children.
+pub fn run_with<R: Threads + Wait + Sync, H: Host + Send + Drop>(
+    rt: &R,
+    alloc: Global,
+    words: &[&str],
+    host: H,
+) -> Ended<H>
+    ensures { IsEnded (map (λ x. x.now) words.now) (H.world host) (H.world result.host) (H.entries host) (H.entries result.host) result.result }
+{
+    let (ended, made) = run_made(rt, alloc, words, host);
+    let Ended { host, result } = ended;
+    let mut host = host;
+    // What isn't removed for want of memory stays, as what can't be removed does.
+    let _ = remove_folders(alloc, &mut host, made.as_slice());
+    Ended { host, result }
 }
 
 /// Runs what the words ask for over the files, the environment and the processes of the system, as `run_with` does over a

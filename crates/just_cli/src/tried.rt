@@ -6,31 +6,28 @@ ghost use Rattle.just_path.specs.Path.{text_of};
 ghost use Rattle.just_outside.specs.declared.entry.Entry.{Entry};
 ghost use Rattle.just_lang.specs.declared.project.Justfile.{Justfile};
 ghost use Rattle.just_value.specs.Modules.{AreModules};
-ghost use Rattle.just_env_files.specs.declared.env_error.EnvError.{EnvError};
-ghost use Rattle.just_env_files.specs.Loads.{LoadsProject};
-ghost use Rattle.just_errors.specs.Refusals.{error_of_env};
 ghost use Rattle.just_planning.specs.Own.{OrMemory};
 ghost use Rattle.just_planning.specs.Projects.{IsSound};
 ghost use Rattle.just_planning.specs.Request.{outline_of};
 ghost use Rattle.just_cli.specs.Options.{is_lacking, is_missing, empty_outline};
-ghost use Rattle.just_cli.specs.Preparing.{AreMisses, EndsWith};
-ghost use Rattle.just_cli.specs.Request.{FindsProjectOf, PlansLoaded, AnswersAt, FallsTo, TriesFrom, Tries};
+ghost use Rattle.just_cli.specs.Preparing.{AreMisses, EndsWith, Performs, outlined};
+ghost use Rattle.just_cli.specs.Request.{FindsProjectOf, AnswersAt};
+ghost use Rattle.just_cli.specs.Taken.{PerformsPlan, PerformsFrom, PerformsFall, PerformsTries};
 
 use super::Error;
-use super::configured::take;
 use super::given::load;
 use super::options::{is_lacking, is_missing};
 use super::show::empty_plan;
+use super::taken::take;
 use just_config::Config;
-use just_env_files::load_modules;
 use just_fallback::find_fallback;
 use just_host::Host;
-use just_lang::DotenvOf;
 use just_lang::project::Justfile;
 use just_locate::Location;
-use just_path::{Environ, NoMemory, Seq, Utf8Path};
-use just_planning::{Wanted, plan_of_project, project_of_sources};
+use just_path::{Utf8Path, Utf8PathBuf};
+use just_planning::{Wanted, load_pairs, plan_of_project, project_of_sources};
 use just_sched::Plan;
+use just_text::{Environ, NoMemory, Seq};
 use just_value::all_modules;
 use std::alloc::Global;
 use std::num::NonZeroU64;
@@ -62,27 +59,8 @@ fn project_of<H: Host>(
     }
 }
 
-/// The dotenv pairs of the modules of a project. The record gains the misses of files that aren't there, and the entry of the refused call.
-fn pairs_of<H: Host>(
-    alloc: Global,
-    host: &mut H,
-    environ: &Environ,
-    wanted: &Wanted,
-    project: &Justfile,
-) -> Result<Seq<DotenvOf>, Error>
-    ensures grew { (es : List Entry) × (H.entries host.new ≡ H.entries host.old ++ es) × MatchResult result (λ _. AreMisses es) (λ e. EndsWith [] e es) }
-    ensures world { H.world host.new ≡ H.world host.old }
-    ensures pairs { IfOk result (λ ps. LoadsProject (H.world host.old) wanted.now.dotenv environ.now.pairs wanted.now.flags.folder project.now (Ok ps)) }
-    ensures refused { IfErr result (OrMemory (λ e. (f : EnvError) × LoadsProject (H.world host.old) wanted.now.dotenv environ.now.pairs wanted.now.flags.folder project.now (Err f) × (e ≡ error_of_env f))) }
-{
-    let folder = wanted.flags.folder.as_path();
-    match load_modules(alloc, host, &wanted.dotenv, environ, folder, project) {
-        Ok(pairs) => Ok(pairs),
-        Err(error) => Err(Error::from(error)),
-    }
-}
-
-/// The plan that is asked of a project. The record gains the misses of files that aren't there, and the entry of the refused call.
+/// The plan that is asked of a project. The record gains the entries of children that are run for its dotenv pairs, the misses of files that aren't there, and
+/// the entry of the refused call.
 fn plan_of<H: Host>(
     alloc: Global,
     host: &mut H,
@@ -91,17 +69,14 @@ fn plan_of<H: Host>(
     project: &Justfile,
 ) -> Result<Planned, Error>
     requires { IsSound project.now }
-    ensures grew { (es : List Entry) × (H.entries host.new ≡ H.entries host.old ++ es) × MatchResult result (λ _. AreMisses es) (λ e. EndsWith [] e es) }
-    ensures world { H.world host.new ≡ H.world host.old }
-    ensures plan { IfOk result (λ r. (modules : List Justfile) × AreModules (project.now ∷ []) modules × PlansLoaded (H.world host.old) (record { wanted = wanted.now; environ = environ.now; justfile = project.now; modules = modules }) (Ok (outline_of r.0 (option_map non_zero_u64_get r.1) r.2))) }
-    ensures refused { IfErr result (OrMemory (λ e. (modules : List Justfile) × AreModules (project.now ∷ []) modules × PlansLoaded (H.world host.old) (record { wanted = wanted.now; environ = environ.now; justfile = project.now; modules = modules }) (Err e))) }
+    ensures { PerformsPlan wanted.now environ.now project.now (H.world host.old) (H.world host.new) (H.entries host.old) (H.entries host.new) (outlined result) }
 {
     // The clauses speak of the list of the project's modules: it is there.
     let _modules = match all_modules(alloc, project) {
         Ok(modules) => modules,
         Err(NoMemory) => return Err(Error::NoMemory),
     };
-    let pairs = match pairs_of(alloc, host, environ, wanted, project) {
+    let pairs = match load_pairs(alloc, host, project, environ, wanted) {
         Ok(pairs) => pairs,
         Err(error) => return Err(error),
     };
@@ -111,21 +86,19 @@ fn plan_of<H: Host>(
     }
 }
 
-/// The plan that is asked of the justfile in a place, or why there is none; and whether that justfile sets fallback. The record gains the misses of files that
-/// aren't there, and the entry of the refused call.
+/// The plan that is asked of the justfile in a place, or why there is none; and whether that justfile sets fallback. The record gains the entries of
+/// temporary folders that are made, the misses of files that aren't there, and the entry of the refused call.
 fn plan_at<H: Host>(
     alloc: Global,
-    host: &mut H,
     environ: &Environ,
     config: &Config,
     location: &Location,
+    made: &mut Vec<Utf8PathBuf>,
+    host: &mut H,
 ) -> (Result<Planned, Error>, bool)
-    ensures grew { (es : List Entry) × (H.entries host.new ≡ H.entries host.old ++ es) × MatchResult result.0 (λ _. AreMisses es) (λ e. EndsWith [] e es) }
-    ensures world { H.world host.new ≡ H.world host.old }
-    ensures plan { IfOk result.0 (λ r. AnswersAt (H.world host.old) (record { config = config.now; environ = environ.now; location = location.now }) (Ok (outline_of r.0 (option_map non_zero_u64_get r.1) r.2)) result.1) }
-    ensures refused { IfErr result.0 (OrMemory (λ e. AnswersAt (H.world host.old) (record { config = config.now; environ = environ.now; location = location.now }) (Err e) result.1)) }
+    ensures { Performs (λ acts after r. AnswersAt (H.world host.old) acts after (record { config = config.now; environ = environ.now; location = location.now }) r result.1) (H.world host.old) (H.world host.new) made.old.items made.new.items (H.entries host.old) (H.entries host.new) (outlined result.0) }
 {
-    let (wanted, path) = match take(alloc, config, location) {
+    let (wanted, path) = match take(alloc, config, location, made, host) {
         Ok(taken) => taken,
         Err(error) => return (Err(error), false),
     };
@@ -145,21 +118,19 @@ fn falls_back(fallback: bool, error: &Error) -> bool
 }
 
 /// The plan that is asked of the justfile in a place; or why there is none, and the place of the justfile that is tried in its stead, if one is. The record
-/// gains the misses of files that aren't there, and the entry of the refused call.
+/// gains what asking one leaves.
 fn plan_or_next<H: Host>(
     alloc: Global,
-    host: &mut H,
     environ: &Environ,
     config: &Config,
     location: &Location,
+    made: &mut Vec<Utf8PathBuf>,
+    host: &mut H,
 ) -> Result<Planned, (Error, Option<Location>)>
-    ensures grew { (es : List Entry) × (H.entries host.new ≡ H.entries host.old ++ es) × MatchResult result (λ _. AreMisses es) (λ e. MatchOption e.1 (EndsWith [] e.0 es) (λ _. AreMisses es)) }
-    ensures world { H.world host.new ≡ H.world host.old }
-    ensures plan { IfOk result (λ r. TriesFrom (H.world host.old) (record { config = config.now; environ = environ.now }) location.now (Ok (outline_of r.0 (option_map non_zero_u64_get r.1) r.2))) }
-    ensures refused { IfErr result (λ e. MatchOption e.1 (OrMemory (λ x. TriesFrom (H.world host.old) (record { config = config.now; environ = environ.now }) location.now (Err x)) e.0) (λ l. FallsTo (H.world host.old) (record { config = config.now; environ = environ.now }) location.now l)) }
+    ensures tries { MatchResult result (λ p. PerformsFrom (record { config = config.now; environ = environ.now }) location.now (H.world host.old) (H.world host.new) made.old.items made.new.items (H.entries host.old) (H.entries host.new) (outlined (Ok p))) (λ e. MatchOption e.1 (PerformsFrom (record { config = config.now; environ = environ.now }) location.now (H.world host.old) (H.world host.new) made.old.items made.new.items (H.entries host.old) (H.entries host.new) (Err e.0)) (λ l. PerformsFall (record { config = config.now; environ = environ.now }) location.now (H.world host.old) (H.world host.new) made.old.items made.new.items (H.entries host.old) (H.entries host.new) l)) }
     ensures higher { IfErr result (λ e. MatchOption e.1 (Unit {0}) (λ l. length l.working_directory < length location.now.working_directory)) }
 {
-    let (planned, fallback) = plan_at(alloc, host, environ, config, location);
+    let (planned, fallback) = plan_at(alloc, environ, config, location, made, host);
     let error = match planned {
         Ok(planned) => return Ok(planned),
         Err(error) => error,
@@ -176,23 +147,20 @@ fn plan_or_next<H: Host>(
     }
 }
 
-/// The plan that is asked of the justfiles that are tried from a place on. The record gains the misses of files that aren't there, and the entry of the refused
-/// call.
+/// The plan that is asked of the justfiles that are tried from a place on. The record gains what asking them leaves.
 fn plan_from<H: Host>(
     alloc: Global,
-    host: &mut H,
     environ: &Environ,
     config: &Config,
     location: Location,
+    made: &mut Vec<Utf8PathBuf>,
+    host: &mut H,
 ) -> Result<Planned, Error>
-    ensures grew { (es : List Entry) × (H.entries host.new ≡ H.entries host.old ++ es) × MatchResult result (λ _. AreMisses es) (λ e. EndsWith [] e es) }
-    ensures world { H.world host.new ≡ H.world host.old }
-    ensures plan { IfOk result (λ r. TriesFrom (H.world host.old) (record { config = config.now; environ = environ.now }) location (Ok (outline_of r.0 (option_map non_zero_u64_get r.1) r.2))) }
-    ensures refused { IfErr result (OrMemory (λ e. TriesFrom (H.world host.old) (record { config = config.now; environ = environ.now }) location (Err e))) }
+    ensures { PerformsFrom (record { config = config.now; environ = environ.now }) location (H.world host.old) (H.world host.new) made.old.items made.new.items (H.entries host.old) (H.entries host.new) (outlined result) }
 {
     let mut place = location;
     'places: loop {
-        let (error, next) = match plan_or_next(alloc, host, environ, config, &place) {
+        let (error, next) = match plan_or_next(alloc, environ, config, &place, made, host) {
             Ok(planned) => return Ok(planned),
             Err(refused) => refused,
         };
@@ -221,20 +189,18 @@ fn plan_nothing(alloc: Global, config: &Config) -> Planned
 }
 
 /// The plan that is asked of the justfile in a place, and of those that are tried behind it; that of no node, where a name is missing and the words allow it. The
-/// record gains the misses of files that aren't there, and the entry of the refused call.
+/// record gains what asking them leaves.
 fn plan_allowed<H: Host>(
     alloc: Global,
-    host: &mut H,
     environ: &Environ,
     config: &Config,
     location: Location,
+    made: &mut Vec<Utf8PathBuf>,
+    host: &mut H,
 ) -> Result<Planned, Error>
-    ensures grew { (es : List Entry) × (H.entries host.new ≡ H.entries host.old ++ es) × MatchResult result (λ _. AreMisses es) (λ e. EndsWith [] e es) }
-    ensures world { H.world host.new ≡ H.world host.old }
-    ensures plan { IfOk result (λ r. Tries (H.world host.old) (record { config = config.now; environ = environ.now; location = location }) (Ok (outline_of r.0 (option_map non_zero_u64_get r.1) r.2))) }
-    ensures refused { IfErr result (OrMemory (λ e. Tries (H.world host.old) (record { config = config.now; environ = environ.now; location = location }) (Err e))) }
+    ensures { PerformsTries (record { config = config.now; environ = environ.now; location = location }) (H.world host.old) (H.world host.new) made.old.items made.new.items (H.entries host.old) (H.entries host.new) (outlined result) }
 {
-    match plan_from(alloc, host, environ, config, location) {
+    match plan_from(alloc, environ, config, location, made, host) {
         Ok(planned) => Ok(planned),
         Err(error) => {
             if is_allowed(config, &error) {
@@ -249,15 +215,13 @@ fn plan_allowed<H: Host>(
 /// The same for a configuration that isn't used any more.
 pub(crate) fn plan_tried<H: Host>(
     alloc: Global,
-    host: &mut H,
     environ: &Environ,
     config: Config,
     location: Location,
+    made: &mut Vec<Utf8PathBuf>,
+    host: &mut H,
 ) -> Result<Planned, Error>
-    ensures grew { (es : List Entry) × (H.entries host.new ≡ H.entries host.old ++ es) × MatchResult result (λ _. AreMisses es) (λ e. EndsWith [] e es) }
-    ensures world { H.world host.new ≡ H.world host.old }
-    ensures plan { IfOk result (λ r. Tries (H.world host.old) (record { config = config; environ = environ.now; location = location }) (Ok (outline_of r.0 (option_map non_zero_u64_get r.1) r.2))) }
-    ensures refused { IfErr result (OrMemory (λ e. Tries (H.world host.old) (record { config = config; environ = environ.now; location = location }) (Err e))) }
+    ensures { PerformsTries (record { config = config; environ = environ.now; location = location }) (H.world host.old) (H.world host.new) made.old.items made.new.items (H.entries host.old) (H.entries host.new) (outlined result) }
 {
-    plan_allowed(alloc, host, environ, &config, location)
+    plan_allowed(alloc, environ, &config, location, made, host)
 }

@@ -14,7 +14,7 @@ use super::walk::{Beside, Surroundings, Walked, walk};
 use super::{CLOSURE_LIMIT, Ran};
 use just_lang::project::LangError;
 use just_lang::{Closure, Key, Node, Place};
-use just_path::{NoMemory, Seq};
+use just_text::{NoMemory, Seq};
 use std::alloc::Global;
 
 /// The closure of some keys: a node for each key that they need, once in each round, in the order of a run on one thread.

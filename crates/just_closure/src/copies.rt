@@ -3,7 +3,7 @@
 ghost use Rattle.std.specs.Prelude.{◌≡◌, IfOk};
 
 use just_lang::{Key, Modulepath};
-use just_path::{NoMemory, Seq, Text, TryClone};
+use just_text::{NoMemory, Seq, Text, TryClone};
 use std::alloc::Global;
 
 /// Copies of texts.

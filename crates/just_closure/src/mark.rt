@@ -4,7 +4,7 @@ ghost use Rattle.std.specs.Prelude.{◌≡◌};
 ghost use Rattle.just_closure.specs.Marks.{with_digit, with_text, with_texts, with_values, path_mark, round_digit, place_mark};
 
 use just_lang::{Modulepath, Place, Value};
-use just_path::Text;
+use just_text::Text;
 
 /// A mark with a digit more.
 #[tactic(auto, unfolding(crate::specs::Marks::with_digit))]

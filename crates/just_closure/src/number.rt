@@ -6,7 +6,7 @@ ghost use Rattle.just_closure.specs.Ran.{places_of};
 
 use super::{CLOSURE_LIMIT, Ran};
 use just_lang::{Key, Place};
-use just_path::{NoMemory, Seq};
+use just_text::{NoMemory, Seq};
 use std::alloc::Global;
 
 /// The numbers of keys in a round. The keys are used up from the end on.

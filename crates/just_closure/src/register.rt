@@ -10,7 +10,7 @@ use super::copies::copy_of_key;
 use super::mark::place_mark;
 use super::ran::Numbers;
 use just_lang::{Key, Place};
-use just_path::{NoMemory, TryClone};
+use just_text::{NoMemory, TryClone};
 use std::alloc::Global;
 use std::collections::BTreeMap;
 

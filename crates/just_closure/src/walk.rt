@@ -13,7 +13,7 @@ use super::number::numbers;
 use super::{CLOSURE_LIMIT, Ran};
 use just_lang::project::LangError;
 use just_lang::{Key, Place};
-use just_path::{NoMemory, Seq};
+use just_text::{NoMemory, Seq};
 use std::alloc::Global;
 
 /// What knows the keys around a key.

@@ -5,10 +5,10 @@ ghost use Rattle.just_commands.specs.Attributes.{attribute_named, has_attribute,
 
 use super::RunAttributes;
 use just_lang::{Recipe, Settings};
-use just_path::{NoMemory, Seq, Text};
 use just_read::ReadError;
 use just_rules::{Texts, const_text};
 use just_syntax::{Argument, Attribute, StringLiteral};
+use just_text::{NoMemory, Seq, Text};
 use std::alloc::Global;
 
 /// What strings mean behind the assembly of a justfile, which has expanded those with an `x` in front.

@@ -6,7 +6,7 @@ ghost use Rattle.just_commands.specs.Echoes.{is_quiet, shows_line, line_echo, sh
 
 use super::{RunAttributes, RunFlags};
 use just_lang::{BodyLine, Settings};
-use just_path::{NoMemory, Text};
+use just_text::{NoMemory, Text};
 use std::alloc::Global;
 
 /// Whether a line isn't printed, where the words don't ask for it.

@@ -3,7 +3,7 @@
 ghost use Rattle.std.specs.Prelude.{◌≡◌};
 ghost use Rattle.just_commands.specs.declared.error.CommandError.TheVariants.{NoMemory as OutOfMemory};
 
-use just_path::{NoMemory, Text};
+use just_text::{NoMemory, Text};
 use std::alloc::{AllocError, AllocFailed};
 
 /// Why a body can't be run.

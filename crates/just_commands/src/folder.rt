@@ -6,7 +6,8 @@ ghost use Rattle.just_commands.specs.Folders.{module_folder, under, recipe_folde
 
 use super::{RunAttributes, RunFlags};
 use just_lang::{Modulepath, Settings};
-use just_path::{NoMemory, Text, Utf8Path, Utf8PathBuf};
+use just_path::{Utf8Path, Utf8PathBuf};
+use just_text::{NoMemory, Text};
 use std::alloc::Global;
 
 /// The folder of a module: of the root it is the working folder, of any other that of its file.

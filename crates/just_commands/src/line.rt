@@ -11,8 +11,8 @@ use super::positional::positional_words;
 use super::{Command, RunAttributes, Running};
 use just_lang::{BodyLine, Interpreter};
 use just_outside::Spec;
-use just_path::{NoMemory, Seq, Text};
 use just_scripts::ShellKind;
+use just_text::{NoMemory, Seq, Text};
 use std::alloc::Global;
 
 /// Adds the words behind a line.

@@ -7,7 +7,7 @@ ghost use Rattle.just_commands.specs.Shells.{shell};
 use super::RunFlags;
 use super::copies::{copied_interpreter, one_text, sh_with};
 use just_lang::{Interpreter, Settings};
-use just_path::{NoMemory, Seq, Text};
+use just_text::{NoMemory, Seq, Text};
 use std::alloc::Global;
 
 /// A copy of the command of the words, else `sh`.

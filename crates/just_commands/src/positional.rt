@@ -7,7 +7,7 @@ ghost use Rattle.just_commands.specs.Works.{run_of, positional_words};
 use super::copies::push_texts;
 use super::{RunAttributes, Running};
 use just_lang::{Parameter, Value};
-use just_path::{NoMemory, Seq, Text};
+use just_text::{NoMemory, Seq, Text};
 use std::alloc::Global;
 
 /// Whether a parameter is no option.

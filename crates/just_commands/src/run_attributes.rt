@@ -1,6 +1,6 @@
 //! How the attributes of a recipe ask it to be run.
 
-use just_path::{Seq, Text};
+use just_text::{Seq, Text};
 
 /// How the attributes of a recipe ask it to be run.
 #[derive(Debug, Drop)]

@@ -1,6 +1,7 @@
 //! What the words of a run say of its commands.
 
-use just_path::{Seq, Text, Utf8PathBuf};
+use just_path::Utf8PathBuf;
+use just_text::{Seq, Text};
 
 /// What the words of a run say of its commands.
 #[derive(Debug, Drop)]

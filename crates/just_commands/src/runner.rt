@@ -7,8 +7,8 @@ ghost use Rattle.just_commands.specs.Shells.{script_command, runner};
 use super::RunAttributes;
 use super::copies::{copied_interpreter, push_texts, sh_with};
 use just_lang::{Interpreter, Settings};
-use just_path::{NoMemory, Seq, Text};
 use just_scripts::{Executor, Shebang};
+use just_text::{NoMemory, Seq, Text};
 use std::alloc::Global;
 
 /// The command that an attribute with these texts names; where it names none, that of the setting, else `sh -eu`.

@@ -2,7 +2,8 @@
 
 use super::RunFlags;
 use just_lang::{Recipe, Settings, Value};
-use just_path::{Text, Utf8Path};
+use just_path::Utf8Path;
+use just_text::Text;
 
 /// A recipe that is run, with what its children depend on beside the lines of its body.
 #[derive(Clone, Copy)]

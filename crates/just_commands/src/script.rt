@@ -12,8 +12,8 @@ use super::positional::positional_words;
 use super::{Command, RunAttributes, Running};
 use just_lang::BodyLine;
 use just_outside::{Script, Spec};
-use just_path::{NoMemory, Seq, Text};
 use just_scripts::Executor;
+use just_text::{NoMemory, Seq, Text};
 use std::alloc::Global;
 
 /// The program that runs a script.
@@ -85,11 +85,11 @@ fn script_of(
 {
     let extension = borrowed(&attributes.extension);
     let name = executor.script_filename(alloc, run.recipe.name.as_str(), extension)?;
-    let text = executor.script(alloc, lines)?;
+    let text = executor.script_text(alloc, lines)?;
     Ok(Script {
         folder: script_folder(alloc, run.flags, run.settings)?,
         name: Text::from(name),
-        text: Text::from(text),
+        text,
         run: runs_itself(executor),
         after: script_words(alloc, run, attributes)?,
     })

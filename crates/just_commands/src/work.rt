@@ -1,7 +1,7 @@
 //! What a body has to run, and its next step.
 
 use just_outside::Spec;
-use just_path::{Seq, Text};
+use just_text::{Seq, Text};
 
 /// What a body has to run.
 #[derive(Debug, Drop)]

@@ -11,7 +11,7 @@ use super::runner::runner;
 use super::script::script_command;
 use super::{Command, CommandError, RunAttributes, Running, Work};
 use just_lang::BodyLine;
-use just_path::Seq;
+use just_text::Seq;
 use std::alloc::Global;
 
 /// What commands are, one for each line.

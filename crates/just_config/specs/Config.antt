@@ -1,7 +1,7 @@
 -- The configuration that arguments give, or the first refusal.
 use Rattle.std.specs.Prelude.{ℕ, Bool, true, false, not, ◌≡◌, ◌||◌, ◌&&◌, if◌then◌else◌, List, [], ◌∷◌, ◌++◌, flat_map, Option, Some, None, codes, bytes_eq, is_some, ◌⊎◌}
 use Rattle.std.specs.Option.{option_map}
-use Rattle.just_path.specs.Environ.{or_else}
+use Rattle.just_text.specs.Environ.{or_else}
 use Rattle.just_lang.specs.declared.scope.Override.{Override}
 use Rattle.just_words.specs.declared.arguments.Arguments.{Arguments}
 use Rattle.just_config.specs.declared.positional.Positional.{Positional}

@@ -5,7 +5,7 @@ ghost use Rattle.just_config.specs.Commands.{name_of, path_words, is_empty_comma
 
 use super::Subcommand;
 use just_lang::Override;
-use just_path::{Seq, Text};
+use just_text::{Seq, Text};
 
 /// Its name in texts: the first long one, but `format` for `--fmt`.
 pub(crate) fn name_of(subcommand: &Subcommand) -> &'static str

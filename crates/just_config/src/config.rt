@@ -7,7 +7,8 @@ use super::overrides::{add_named, add_pairs, overrides_of};
 use super::refusal::later_refusal;
 use super::{Arguments, ConfigError, Positional, SearchConfig, Subcommand, Verbosity};
 use just_lang::Override;
-use just_path::{NoMemory, Seq, Text, Utf8PathBuf};
+use just_path::Utf8PathBuf;
+use just_text::{NoMemory, Seq, Text};
 use std::alloc::Global;
 use std::num::NonZeroU64;
 

@@ -3,7 +3,7 @@ ghost use Rattle.std.specs.Prelude.{◌≡◌, ◌++◌, [], map, codes, string_
 ghost use Rattle.just_config.specs.Listed.{set_all, prefix_of, entry_text, listed};
 
 use just_lang::Override;
-use just_path::{NoMemory, Seq, Text};
+use just_text::{NoMemory, Seq, Text};
 use std::alloc::Global;
 use std::collections::BTreeMap;
 

@@ -4,7 +4,7 @@ ghost use Rattle.just_words.specs.Cuts.{parts};
 ghost use Rattle.just_config.specs.ModulePaths.{colon, outer_parts, is_name, has_blank, pieces, unless_empty, in_one_word, in_pieces, components_of, module_path, all_names};
 
 use just_lang::is_recipe_name;
-use just_path::{NoMemory, Seq, Text};
+use just_text::{NoMemory, Seq, Text};
 use just_words::add_copies;
 use just_words::cut::{add_parts, cut};
 use std::alloc::Global;

@@ -4,7 +4,7 @@ ghost use Rattle.just_config.specs.Config.{pairs_of, as_override, override_of, o
 
 use super::module_path::module_path;
 use just_lang::{Modulepath, Override};
-use just_path::{NoMemory, Seq, Text};
+use just_text::{NoMemory, Seq, Text};
 use std::alloc::Global;
 
 /// A name with its value.

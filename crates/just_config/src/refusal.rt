@@ -11,7 +11,7 @@ use super::module_path::module_path;
 use super::request::is_one_request;
 use super::{Arguments, ConfigError, Positional, Subcommand};
 use just_lang::Override;
-use just_path::{NoMemory, Seq, Text};
+use just_text::{NoMemory, Seq, Text};
 use just_words::add_copies;
 use std::alloc::Global;
 

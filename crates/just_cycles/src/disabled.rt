@@ -14,8 +14,8 @@ use super::recipe::{Recipes, StandingRecipe, place_of_target};
 use super::steps::push_some;
 use just_graph::{order, origins};
 use just_names::{Names, PathKind, child, is_absent, recipe_named, target_of};
-use just_path::{NoMemory, Seq};
 use just_syntax::{AstDependency, Name};
+use just_text::{NoMemory, Seq};
 use std::alloc::{AllocError, Global};
 use std::collections::BTreeSet;
 

@@ -7,8 +7,8 @@ ghost use Rattle.just_cycles.specs.Cycles.{IsFirstSpot, IsSpotOnCycle};
 ghost use Rattle.just_cycles.specs.SpotOrder.{numbered_from, spot_at};
 
 use just_graph::first_on_cycle;
-use just_path::{NoMemory, Seq};
 use just_spots::Spot;
+use just_text::{NoMemory, Seq};
 use std::alloc::Global;
 
 /// The file, the line and the column of a place, and its number.

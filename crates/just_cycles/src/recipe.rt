@@ -10,9 +10,9 @@ ghost use Rattle.just_cycles.specs.CycleTables.{standing, standings, standing_in
 use super::first::first_on_cycle_at;
 use super::steps::push_some;
 use just_names::{ModuleNames, Names, PathKind, Target, target_of};
-use just_path::{NoMemory, Seq};
 use just_spots::{Entry, Spot, name_spot};
 use just_syntax::{AstDependency, AstItem, AstRecipe};
+use just_text::{NoMemory, Seq};
 use std::alloc::Global;
 
 /// A recipe that stands, with the numbers of its module and of its file.

@@ -11,9 +11,9 @@ ghost use Rattle.just_cycles.specs.CycleTables.{names_in_value, places_in, uses_
 use super::first::first_on_cycle_at;
 use super::steps::push_some;
 use just_names::{ModuleNames, Names};
-use just_path::{NoMemory, Seq};
 use just_spots::{Entry, Index, Spot, earlier, name_spot};
 use just_syntax::{AstItem, Expr, Name};
+use just_text::{NoMemory, Seq};
 use std::alloc::Global;
 
 /// Adds the place of the variable of a name, where there is one.

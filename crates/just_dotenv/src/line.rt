@@ -9,8 +9,8 @@ ghost use Rattle.just_dotenv.specs.Readers.{as_pair, as_line, assignment, pair, 
 use super::characters::{Blank, InLine, InName, NameStart};
 use super::scope::Scope;
 use super::value::value;
-use just_path::Text;
 use just_read::{Cursor, ReadError};
+use just_text::Text;
 use std::alloc::Global;
 
 /// The longest run of characters of a name.

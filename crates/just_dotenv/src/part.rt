@@ -7,8 +7,8 @@ ghost use Rattle.just_read.specs.Place.{next};
 
 use super::characters::{InWord, is_plain};
 use super::scope::Scope;
-use just_path::Text;
 use just_read::{Cursor, ReadError};
+use just_text::Text;
 use std::alloc::{AllocError, Global};
 
 /// One part of a double quoted or bare value, as it is written.

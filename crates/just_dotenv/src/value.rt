@@ -8,8 +8,8 @@ ghost use Rattle.just_dotenv.specs.Readers.{as_text, closed_parts, single_quoted
 use super::characters::{Bare, Blank, InSingleQuotes, is_in_value};
 use super::part::read_part;
 use super::scope::Scope;
-use just_path::Text;
 use just_read::{Cursor, ReadError};
+use just_text::Text;
 use std::alloc::Global;
 
 /// Whether a double quoted or bare value goes on here.

@@ -5,7 +5,8 @@ ghost use Rattle.just_env.specs.Answers.{Answers, GivesEnviron, told_entries};
 
 use super::SearchError;
 use just_outside::{Host, HostFault};
-use just_path::{Environ, Utf8PathBuf};
+use just_path::Utf8PathBuf;
+use just_text::Environ;
 use std::alloc::Global;
 
 /// The environment of a host. A failure has the empty path.

@@ -5,7 +5,8 @@ ghost use Rattle.just_env.specs.declared.search_error.SearchError.TheVariants.{N
 
 use just_lang::project::LangError;
 use just_outside::HostFault;
-use just_path::{NoMemory, Seq, Text, Utf8PathBuf};
+use just_path::Utf8PathBuf;
+use just_text::{NoMemory, Seq, Text};
 use std::alloc::{AllocError, AllocFailed};
 
 /// Why a justfile can't be found or loaded. No fault of a host that a variant holds is want of memory.

@@ -1,6 +1,6 @@
 -- Over a told world dotenv files are loaded in one way.
-use Rattle.std.proofs.Common.{◌≡◌, ◌⊎◌, inl, inr, ℕ, Bool, true, false, true≢false, List, [], ◌∷◌, ◌++◌, Option, Some, None, refl, sym, ap, ◌∙◌, subst}
-use Rattle.std.specs.Prelude.{chars, Result, Ok, Err}
+use Rattle.std.proofs.Common.{◌≡◌, ◌⊎◌, inl, inr, ℕ, true, false, true≢false, List, [], ◌∷◌, ◌++◌, Option, Some, None, refl, sym, ap, ◌∙◌, subst, append_assoc}
+use Rattle.std.specs.Prelude.{chars, Result, Ok, Err, MatchOption}
 use Rattle.just_path.specs.Ancestors.{ancestors_of}
 use Rattle.just_path.specs.declared.host.Miss.{Miss}
 use Rattle.just_outside.specs.declared.entry.HostFault.{HostFault}
@@ -14,22 +14,31 @@ use Rattle.just_lang.specs.declared.project.Justfile.{Justfile}
 use Rattle.just_lang.specs.declared.scope.DotenvOf.{DotenvOf}
 use Rattle.just_lang.specs.declared.settings.Settings.{Settings}
 use Rattle.just_value.specs.Modules.{settings_of, modules_of}
+use Rattle.just_lang.specs.declared.settings.Interpreter.{Interpreter}
+use Rattle.just_outside.specs.declared.entry.Status.{Status}
+use Rattle.just_commands.specs.declared.run_flags.RunFlags.{RunFlags}
+use Rattle.just_commands.specs.Shells.{shell}
 use Rattle.just_env_files.specs.declared.ask.DotenvAsk.{DotenvAsk}
+use Rattle.just_env_files.specs.declared.ask.Sources.{Sources}
+use Rattle.just_env_files.specs.declared.ask.Sources.TheVariants as sources
+use Rattle.just_env_files.specs.declared.env_error.OutputError.{OutputError}
 use Rattle.just_env_files.specs.declared.env_error.EnvError.{EnvError}
 use Rattle.just_env_files.specs.declared.env_error.EnvError.TheVariants as error
 use Rattle.just_env_files.specs.Agree.{tells_failure, IsOwn, GivesOwn, DotenvAgrees}
-use Rattle.just_env_files.specs.Asked.{looks_for_files, paths_given, names_wanted}
+use Rattle.just_env_files.specs.Asked.{sources_of, commands_of, paths_given, names_wanted}
+use Rattle.just_env_files.specs.Captures.{Capture, told_behind, AreTold}
+use Rattle.just_env_files.specs.Commands.{ending_error, GivesPairs, RunsCommand, RunsCommands, before_pairs}
 use Rattle.just_env_files.specs.Files.{is_absence, RefusesRead, FindsText, LoadsFile, LoadsFiles, LoadsUnder, joined, all_under}
-use Rattle.just_env_files.specs.Loads.{FindsFiles, FoundPairs, LoadsWhere, LoadsOwn, pairs_of_found, folder_of, dotenv_of, before_others, Following, following, LoadsModules}
+use Rattle.just_env_files.specs.Loads.{FindsFiles, FoundPairs, LoadsFrom, LoadsOwn, pairs_of_found, pairs_of_commands, folder_of, dotenv_of, before_others, Following, following, LoadsModules}
 use Rattle.just_env_files.specs.Sequences.{Each, First, HaveNothing}
 
 -- ---- answers
 
 -- an answer is no refusal
-answered_or_refused : {A : Type 0} (x : A) (e : EnvError) → ◌≡◌ {A = Result A EnvError} (Ok x) (Err e) → ⊥
+pub answered_or_refused : {A : Type 0} (x : A) (e : EnvError) → ◌≡◌ {A = Result A EnvError} (Ok x) (Err e) → ⊥
 answered_or_refused x e is = let no : ⊥ = cc in no
 
-same_answer : {A : Type 0} (x y : A) → ◌≡◌ {A = Result A EnvError} (Ok x) (Ok y) → x ≡ y
+pub same_answer : {A : Type 0} (x y : A) → ◌≡◌ {A = Result A EnvError} (Ok x) (Ok y) → x ≡ y
 same_answer x y is = cc
 
 same_error : {A : Type 0} (e f : EnvError) → ◌≡◌ {A = Result A EnvError} (Err e) (Err f) → e ≡ f
@@ -242,56 +251,183 @@ module _ (w : World) where
       pairs_own folder t r s p own q other =
           p.2 ∙ ap (λ z. pairs_of_found t environ z) (all_files_own (paths_given ask t) (names_wanted ask t) folder p.0 q.0 p.1 (own_found t p.0 r p.2 own) q.1 (own_found t q.0 s q.2 other)) ∙ sym q.2
 
-      where_own : (folder : List ℕ) (j : Justfile) (looks : Result Bool EnvError) → GivesOwn (LoadsWhere (Some w) ask environ folder j looks)
-      where_own folder j (Ok true) r s p own q other = pairs_own folder (settings_of j) r s p own q other
-      where_own folder j (Ok false) r s p own q other = p ∙ sym q
-      where_own folder j (Err e) r s p own q other = p ∙ sym q
+-- ---- commands
 
-      module_own : (folder : List ℕ) (j : Justfile) → GivesOwn (LoadsOwn (Some w) ask environ folder j)
-      module_own folder j = where_own folder j (looks_for_files ask j)
+-- two answers that both take children from the front of one list: they take the same ones
+abbrev pub SameFront : {A : Type 0} → (List Capture → Result A EnvError → Type 0) → Type 0
+SameFront {A} gives =
+    (cs ds xs ys : List Capture) (r s : Result A EnvError) → gives cs r → IsOwn r → gives ds s → IsOwn s → cs ++ xs ≡ ds ++ ys → (r ≡ s) × (cs ≡ ds) × (xs ≡ ys)
 
-      module _ (working : List ℕ) where
-        -- the pairs of one module, which two relations name
-        own_by : (j k : Justfile) → j ≡ k → (r s : Result Pairs EnvError) → LoadsOwn (Some w) ask environ (folder_of working j) j r → IsOwn r → LoadsOwn (Some w) ask environ (folder_of working k) k s → IsOwn s → r ≡ s
-        own_by j k is r s p own q other = module_own (folder_of working k) k r s (subst (λ m. LoadsOwn (Some w) ask environ (folder_of working m) m r) is p) own q other
+pub no_capture : (c : Capture) (cs : List Capture) → ◌≡◌ {A = List Capture} [] (c ∷ cs) → ⊥
+no_capture c cs is = let no : ⊥ = cc in no
 
-        own_others : (one : DotenvOf) (r : Result (List DotenvOf) EnvError) → IsOwn (before_others one r) → IsOwn r
-        own_others one (Ok ds) own = tt
-        own_others one (Err e) own = own
+module _ (environ : Pairs) (folder command : List ℕ) where
+  well_or_ended : (ending : Status) (e : OutputError) → ending_error ending ≡ None → ending_error ending ≡ Some e → ⊥
+  well_or_ended ending e p q = let no : ⊥ = cc in no
 
-        modules_by : (ps : Following) (r : Result (List DotenvOf) EnvError) → LoadsModules (Some w) ask environ working ps r → IsOwn r
-            → (qs : Following) (s : Result (List DotenvOf) EnvError) → LoadsModules (Some w) ask environ working qs s → IsOwn s → ps ≡ qs → r ≡ s
-        modules_by ps r LoadsModules.none own qs s LoadsModules.none other is = refl
-        modules_by ps r LoadsModules.none own qs s (LoadsModules.refused k after more f q) other is = absurd (let no : ⊥ = cc in no)
-        modules_by ps r LoadsModules.none own qs s (LoadsModules.more k after its more y q later) other is = absurd (let no : ⊥ = cc in no)
-        modules_by ps r (LoadsModules.refused j before others e p) own qs s LoadsModules.none other is = absurd (let no : ⊥ = cc in no)
-        modules_by ps r (LoadsModules.refused j before others e p) own qs s (LoadsModules.refused k after more f q) other is =
-            let pair : ◌≡◌ {A = Justfile × Pairs} (j, before) (k, after) = cc in
-            let here : j ≡ k = ap (λ (p : Justfile × Pairs). p.0) pair in
-            let same : ◌≡◌ {A = Result Pairs EnvError} (Err e) (Err f) = own_by j k here (Err e) (Err f) p own q other in
-            ap (λ z. Err z) (same_error e f same)
-        modules_by ps r (LoadsModules.refused j before others e p) own qs s (LoadsModules.more k after its more y q later) other is =
-            let pair : ◌≡◌ {A = Justfile × Pairs} (j, before) (k, after) = cc in
-            let here : j ≡ k = ap (λ (p : Justfile × Pairs). p.0) pair in
-            absurd (answered_or_refused its e (sym (own_by j k here (Err e) (Ok its) p own q tt)))
-        modules_by ps r (LoadsModules.more j before mine others x p rest) own qs s LoadsModules.none other is = absurd (let no : ⊥ = cc in no)
-        modules_by ps r (LoadsModules.more j before mine others x p rest) own qs s (LoadsModules.refused k after more f q) other is =
-            let pair : ◌≡◌ {A = Justfile × Pairs} (j, before) (k, after) = cc in
-            let here : j ≡ k = ap (λ (p : Justfile × Pairs). p.0) pair in
-            absurd (answered_or_refused mine f (own_by j k here (Ok mine) (Err f) p tt q other))
-        modules_by ps r (LoadsModules.more j before mine others x p rest) own qs s (LoadsModules.more k after its more y q later) other is =
-            let pair : ◌≡◌ {A = Justfile × Pairs} (j, before) (k, after) = cc in
-            let here : j ≡ k = ap (λ (p : Justfile × Pairs). p.0) pair in
-            let follows : before ≡ after = ap (λ (p : Justfile × Pairs). p.1) pair in
-            let behind : others ≡ more = cc in
-            let same : mine ≡ its = same_answer mine its (own_by j k here (Ok mine) (Ok its) p tt q tt) in
-            let pairs : before ++ mine ≡ after ++ its = ap (λ l. l ++ mine) follows ∙ ap (λ l. after ++ l) same in
-            let stacks : following (before ++ mine) (modules_of j) ++ others ≡ following (after ++ its) (modules_of k) ++ more =
-            ap (λ l. following l (modules_of j) ++ others) pairs ∙ ap (λ m. following (after ++ its) (modules_of m) ++ others) here ∙ ap (λ l. following (after ++ its) (modules_of k) ++ l) behind in
-            let answers : x ≡ y =
-            modules_by (following (before ++ mine) (modules_of j) ++ others) x rest (own_others (dotenv_of j (before ++ mine)) x own)
-            (following (after ++ its) (modules_of k) ++ more) y later (own_others (dotenv_of k (after ++ its)) y other) stacks in
-            ap (λ m. before_others (dotenv_of m (before ++ mine)) x) here ∙ ap (λ l. before_others (dotenv_of k l) x) pairs ∙ ap (λ z. before_others (dotenv_of k (after ++ its)) z) answers
+  one_ending : (ending : Status) (e f : OutputError) → ending_error ending ≡ Some e → ending_error ending ≡ Some f → e ≡ f
+  one_ending ending e f p q = cc
+
+  printed_once : (ending : Status) (printed : List ℕ) (r s : Result Pairs EnvError) → GivesPairs environ folder command ending printed r → GivesPairs environ folder command ending printed s → r ≡ s
+  printed_once ending printed r s (GivesPairs.readable us w u p) (GivesPairs.readable vs x v q) = ap (λ z. Ok z) (one_gift (chars printed) environ us vs p q)
+  printed_once ending printed r s (GivesPairs.readable us w u p) (GivesPairs.faulty m x v q) = absurd (no_gift (chars printed) m environ us q p)
+  printed_once ending printed r s (GivesPairs.readable us w u p) (GivesPairs.no_text x v) = absurd (true≢false (sym u ∙ v))
+  printed_once ending printed r s (GivesPairs.readable us w u p) (GivesPairs.ended f x) = absurd (well_or_ended ending f w x)
+  printed_once ending printed r s (GivesPairs.faulty n w u p) (GivesPairs.readable vs x v q) = absurd (no_gift (chars printed) n environ vs p q)
+  printed_once ending printed r s (GivesPairs.faulty n w u p) (GivesPairs.faulty m x v q) = ap (λ z. Err (error.Dotenv folder z)) (one_stop (chars printed) n m p q)
+  printed_once ending printed r s (GivesPairs.faulty n w u p) (GivesPairs.no_text x v) = absurd (true≢false (sym u ∙ v))
+  printed_once ending printed r s (GivesPairs.faulty n w u p) (GivesPairs.ended f x) = absurd (well_or_ended ending f w x)
+  printed_once ending printed r s (GivesPairs.no_text w u) (GivesPairs.readable vs x v q) = absurd (true≢false (sym v ∙ u))
+  printed_once ending printed r s (GivesPairs.no_text w u) (GivesPairs.faulty m x v q) = absurd (true≢false (sym v ∙ u))
+  printed_once ending printed r s (GivesPairs.no_text w u) (GivesPairs.no_text x v) = refl
+  printed_once ending printed r s (GivesPairs.no_text w u) (GivesPairs.ended f x) = absurd (well_or_ended ending f w x)
+  printed_once ending printed r s (GivesPairs.ended e w) (GivesPairs.readable vs x v q) = absurd (well_or_ended ending e x w)
+  printed_once ending printed r s (GivesPairs.ended e w) (GivesPairs.faulty m x v q) = absurd (well_or_ended ending e x w)
+  printed_once ending printed r s (GivesPairs.ended e w) (GivesPairs.no_text x v) = absurd (well_or_ended ending e x w)
+  printed_once ending printed r s (GivesPairs.ended e w) (GivesPairs.ended f x) = ap (λ z. Err (error.DotenvCommand command z)) (one_ending ending e f w x)
+
+  printed_by : (c d : Capture) → c ≡ d → (r s : Result Pairs EnvError) → GivesPairs environ folder command c.status c.output r → GivesPairs environ folder command d.status d.output s → r ≡ s
+  printed_by c d is r s p q = printed_once d.status d.output r s (subst (λ z. GivesPairs environ folder command z.status z.output r) is p) q
+
+module _ (environ : Pairs) (shell : Interpreter) (folder : List ℕ) where
+  pub command_once : (told : Option World) (command : List ℕ) → SameFront (RunsCommand environ shell folder told command)
+  command_once told command cs ds xs ys r s (RunsCommand.captured c x p t g) own (RunsCommand.captured d y q u h) other is =
+      let same : c ≡ d = cc in
+      let left : xs ≡ ys = cc in
+      (printed_by environ folder command c d same r s g h, ap (λ z. z ∷ []) same, left)
+  command_once told command cs ds xs ys r s (RunsCommand.captured c x p t g) own (RunsCommand.uncaptured io so) other is = absurd (true≢false other)
+  command_once told command cs ds xs ys r s (RunsCommand.uncaptured io so) own q other is = absurd (true≢false own)
+
+  pub own_before : (pairs : Pairs) (r : Result Pairs EnvError) → IsOwn (before_pairs pairs r) → IsOwn r
+  own_before pairs (Ok x) own = tt
+  own_before pairs (Err e) own = own
+
+  assoc_fronts : (us vs cs ds xs ys : List Capture) → (us ++ vs) ++ xs ≡ (cs ++ ds) ++ ys → us ++ (vs ++ xs) ≡ cs ++ (ds ++ ys)
+  assoc_fronts us vs cs ds xs ys is = sym (append_assoc us vs xs) ∙ is ∙ append_assoc cs ds ys
+
+  commands_by : (told now : Option World) (ks ls : List (List ℕ)) (cs ds xs ys : List Capture) (r s : Result Pairs EnvError) → RunsCommands environ shell folder told ks cs r → IsOwn r
+      → RunsCommands environ shell folder now ls ds s → IsOwn s → told ≡ now → ks ≡ ls → cs ++ xs ≡ ds ++ ys → (r ≡ s) × (cs ≡ ds) × (xs ≡ ys)
+  commands_by told now ks ls cs ds xs ys r s (RunsCommands.none t) own (RunsCommands.none u) other at are is = (refl, refl, is)
+  commands_by told now ks ls cs ds xs ys r s (RunsCommands.none t) own (RunsCommands.more u l ms fs hs vs z q later) other at are is = absurd (let no : ⊥ = cc in no)
+  commands_by told now ks ls cs ds xs ys r s (RunsCommands.none t) own (RunsCommands.refused u l ms fs f q) other at are is = absurd (let no : ⊥ = cc in no)
+  commands_by told now ks ls cs ds xs ys r s (RunsCommands.more t k js es gs us y p rest) own (RunsCommands.none u) other at are is = absurd (let no : ⊥ = cc in no)
+  commands_by told now ks ls cs ds xs ys r s (RunsCommands.more t k js es gs us y p rest) own (RunsCommands.more u l ms fs hs vs z q later) other at are is =
+      let first : k ≡ l = cc in
+      let others : js ≡ ms = cc in
+      let here : RunsCommand environ shell folder u l es (Ok us) = subst (λ w. RunsCommand environ shell folder w l es (Ok us)) at (subst (λ c. RunsCommand environ shell folder t c es (Ok us)) first p) in
+      let one = command_once u l es fs (gs ++ xs) (hs ++ ys) (Ok us) (Ok vs) here tt q tt (assoc_fronts es gs fs hs xs ys is) in
+      let worlds : told_behind t es ≡ told_behind u fs = ap (λ w. told_behind w es) at ∙ ap (λ l. told_behind u l) one.1 in
+      let rests = commands_by (told_behind t es) (told_behind u fs) js ms gs hs xs ys y z rest (own_before us y own) later (own_before vs z other) worlds others one.2 in
+      (ap (λ l. before_pairs l y) (same_answer us vs one.0) ∙ ap (λ w. before_pairs vs w) rests.0, ap (λ l. l ++ gs) one.1 ∙ ap (λ l. fs ++ l) rests.1, rests.2)
+  commands_by told now ks ls cs ds xs ys r s (RunsCommands.more t k js es gs us y p rest) own (RunsCommands.refused u l ms fs f q) other at are is =
+      let first : k ≡ l = cc in
+      let here : RunsCommand environ shell folder u l es (Ok us) = subst (λ w. RunsCommand environ shell folder w l es (Ok us)) at (subst (λ c. RunsCommand environ shell folder t c es (Ok us)) first p) in
+      let one = command_once u l es fs (gs ++ xs) ys (Ok us) (Err f) here tt q other (sym (append_assoc es gs xs) ∙ is) in
+      absurd (answered_or_refused us f one.0)
+  commands_by told now ks ls cs ds xs ys r s (RunsCommands.refused t k js es e p) own (RunsCommands.none u) other at are is = absurd (let no : ⊥ = cc in no)
+  commands_by told now ks ls cs ds xs ys r s (RunsCommands.refused t k js es e p) own (RunsCommands.more u l ms fs hs vs z q later) other at are is =
+      let first : k ≡ l = cc in
+      let here : RunsCommand environ shell folder u l es (Err e) = subst (λ w. RunsCommand environ shell folder w l es (Err e)) at (subst (λ c. RunsCommand environ shell folder t c es (Err e)) first p) in
+      let one = command_once u l es fs xs (hs ++ ys) (Err e) (Ok vs) here own q tt (is ∙ append_assoc fs hs ys) in
+      absurd (answered_or_refused vs e (sym one.0))
+  commands_by told now ks ls cs ds xs ys r s (RunsCommands.refused t k js es e p) own (RunsCommands.refused u l ms fs f q) other at are is =
+      let first : k ≡ l = cc in
+      let here : RunsCommand environ shell folder u l es (Err e) = subst (λ w. RunsCommand environ shell folder w l es (Err e)) at (subst (λ c. RunsCommand environ shell folder t c es (Err e)) first p) in
+      let one = command_once u l es fs xs ys (Err e) (Err f) here own q other is in
+      (ap (λ z. Err z) (same_error e f one.0), one.1, one.2)
+
+-- ---- modules
+
+-- a world is told
+abbrev pub IsTold : Option World → Type 0
+IsTold None = ⊥
+IsTold (Some w) = Unit {0}
+
+module _ (ask : DotenvAsk) (flags : RunFlags) (environ : Pairs) where
+  pub own_printed : (t : Settings) (found : Result Pairs EnvError) (r : Result Pairs EnvError) → r ≡ pairs_of_commands t environ found → IsOwn r → IsOwn found
+  own_printed t (Ok x) r is own = tt
+  own_printed t (Err e) r is own = subst (λ (z : Result Pairs EnvError). IsOwn z) is own
+
+  from_own : (told : Option World) → IsTold told → (folder : List ℕ) (j : Justfile) (from : Result Sources EnvError) → SameFront (LoadsFrom told ask flags environ folder j from)
+  from_own None never folder j from cs ds xs ys r s p own q other is = absurd never
+  from_own (Some w) so folder j (Ok sources.Nothing) cs ds xs ys r s p own q other is = (p.1 ∙ sym q.1, p.0 ∙ sym q.0, sym (ap (λ l. l ++ xs) p.0) ∙ is ∙ ap (λ l. l ++ ys) q.0)
+  from_own (Some w) so folder j (Ok sources.Files) cs ds xs ys r s p own q other is =
+      (pairs_own w environ ask folder (settings_of j) r s p.1 own q.1 other, p.0 ∙ sym q.0, sym (ap (λ l. l ++ xs) p.0) ∙ is ∙ ap (λ l. l ++ ys) q.0)
+  from_own (Some w) so folder j (Ok sources.Commands) cs ds xs ys r s p own q other is =
+      let t = settings_of j in
+      let one = commands_by environ (shell flags t) folder (Some w) (Some w) (commands_of ask j) (commands_of ask j) cs ds xs ys p.0 q.0 p.1 (own_printed t p.0 r p.2 own) q.1 (own_printed t q.0 s q.2 other) refl refl is in
+      (p.2 ∙ ap (λ z. pairs_of_commands t environ z) one.0 ∙ sym q.2, one.1, one.2)
+  from_own (Some w) so folder j (Err e) cs ds xs ys r s p own q other is = (p.1 ∙ sym q.1, p.0 ∙ sym q.0, sym (ap (λ l. l ++ xs) p.0) ∙ is ∙ ap (λ l. l ++ ys) q.0)
+
+  module_own : (told : Option World) → IsTold told → (folder : List ℕ) (j : Justfile) → SameFront (LoadsOwn told ask flags environ folder j)
+  module_own told so folder j = from_own told so folder j (sources_of ask j)
+
+  pub own_by : (told now : Option World) → told ≡ now → IsTold now → (j k : Justfile) → j ≡ k → (cs ds xs ys : List Capture) (r s : Result Pairs EnvError)
+      → LoadsOwn told ask flags environ (folder_of flags.folder j) j cs r → IsOwn r → LoadsOwn now ask flags environ (folder_of flags.folder k) k ds s → IsOwn s → cs ++ xs ≡ ds ++ ys → (r ≡ s) × (cs ≡ ds) × (xs ≡ ys)
+  own_by told now at so j k here cs ds xs ys r s p own q other is =
+      module_own now so (folder_of flags.folder k) k cs ds xs ys r s
+      (subst (λ m. LoadsOwn now ask flags environ (folder_of flags.folder m) m cs r) here (subst (λ w. LoadsOwn w ask flags environ (folder_of flags.folder j) j cs r) at p)) own q other is
+
+  pub own_others : (one : DotenvOf) (r : Result (List DotenvOf) EnvError) → IsOwn (before_others one r) → IsOwn r
+  own_others one (Ok ds) own = tt
+  own_others one (Err e) own = own
+
+  -- what is told behind children, and behind those that are left
+  told_so : (o : Option World) → MatchOption o ⊥ (λ w. Unit {0}) → IsTold o
+  told_so None is = is
+  told_so (Some w) is = tt
+
+  pub told_on : (told : Option World) (cs ds : List Capture) → IsTold told → AreTold (cs ++ ds) → IsTold (told_behind told cs) × AreTold ds
+  told_on told [] ds so are = (so, are)
+  told_on told (c ∷ cs) ds so are = told_on c.after cs ds (told_so c.after are.0) are.1
+
+  -- a front of children behind which a world is told is told itself
+  pub told_front : (cs ds : List Capture) → AreTold (cs ++ ds) → AreTold cs
+  told_front [] ds are = tt
+  told_front (c ∷ cs) ds are = (are.0, told_front cs ds are.1)
+
+  modules_by : (told now : Option World) (ps qs : Following) (cs ds xs ys : List Capture) (r s : Result (List DotenvOf) EnvError) → LoadsModules ask flags environ told ps cs r → IsOwn r
+      → LoadsModules ask flags environ now qs ds s → IsOwn s → told ≡ now → IsTold now → AreTold ds → ps ≡ qs → cs ++ xs ≡ ds ++ ys → (r ≡ s) × (cs ≡ ds) × (xs ≡ ys)
+  modules_by told now ps qs cs ds xs ys r s (LoadsModules.none t) own (LoadsModules.none u) other at so told_all is are = (refl, refl, are)
+  modules_by told now ps qs cs ds xs ys r s (LoadsModules.none t) own (LoadsModules.refused u k after more fs f q) other at so told_all is are = absurd (let no : ⊥ = cc in no)
+  modules_by told now ps qs cs ds xs ys r s (LoadsModules.none t) own (LoadsModules.more u k after its more fs hs z q later) other at so told_all is are = absurd (let no : ⊥ = cc in no)
+  modules_by told now ps qs cs ds xs ys r s (LoadsModules.refused t j before others es e p) own (LoadsModules.none u) other at so told_all is are = absurd (let no : ⊥ = cc in no)
+  modules_by told now ps qs cs ds xs ys r s (LoadsModules.refused t j before others es e p) own (LoadsModules.refused u k after more fs f q) other at so told_all is are =
+      let pair : ◌≡◌ {A = Justfile × Pairs} (j, before) (k, after) = cc in
+      let here : j ≡ k = ap (λ (p : Justfile × Pairs). p.0) pair in
+      let one = own_by t u at so j k here es fs xs ys (Err e) (Err f) p own q other are in
+      (ap (λ z. Err z) (same_error e f one.0), one.1, one.2)
+  modules_by told now ps qs cs ds xs ys r s (LoadsModules.refused t j before others es e p) own (LoadsModules.more u k after its more fs hs z q later) other at so told_all is are =
+      let pair : ◌≡◌ {A = Justfile × Pairs} (j, before) (k, after) = cc in
+      let here : j ≡ k = ap (λ (p : Justfile × Pairs). p.0) pair in
+      let one = own_by t u at so j k here es fs xs (hs ++ ys) (Err e) (Ok its) p own q tt (are ∙ append_assoc fs hs ys) in
+      absurd (answered_or_refused its e (sym one.0))
+  modules_by told now ps qs cs ds xs ys r s (LoadsModules.more t j before mine others es gs y p rest) own (LoadsModules.none u) other at so told_all is are = absurd (let no : ⊥ = cc in no)
+  modules_by told now ps qs cs ds xs ys r s (LoadsModules.more t j before mine others es gs y p rest) own (LoadsModules.refused u k after more fs f q) other at so told_all is are =
+      let pair : ◌≡◌ {A = Justfile × Pairs} (j, before) (k, after) = cc in
+      let here : j ≡ k = ap (λ (p : Justfile × Pairs). p.0) pair in
+      let one = own_by t u at so j k here es fs (gs ++ xs) ys (Ok mine) (Err f) p tt q other (sym (append_assoc es gs xs) ∙ are) in
+      absurd (answered_or_refused mine f one.0)
+  modules_by told now ps qs cs ds xs ys r s (LoadsModules.more t j before mine others es gs y p rest) own (LoadsModules.more u k after its more fs hs z q later) other at so told_all is are =
+      let pair : ◌≡◌ {A = Justfile × Pairs} (j, before) (k, after) = cc in
+      let here : j ≡ k = ap (λ (p : Justfile × Pairs). p.0) pair in
+      let follows : before ≡ after = ap (λ (p : Justfile × Pairs). p.1) pair in
+      let behind : others ≡ more = cc in
+      let one = own_by t u at so j k here es fs (gs ++ xs) (hs ++ ys) (Ok mine) (Ok its) p tt q tt (sym (append_assoc es gs xs) ∙ are ∙ append_assoc fs hs ys) in
+      let same : mine ≡ its = same_answer mine its one.0 in
+      let pairs : before ++ mine ≡ after ++ its = ap (λ l. l ++ mine) follows ∙ ap (λ l. after ++ l) same in
+      let stacks : following (before ++ mine) (modules_of j) ++ others ≡ following (after ++ its) (modules_of k) ++ more =
+      ap (λ l. following l (modules_of j) ++ others) pairs ∙ ap (λ m. following (after ++ its) (modules_of m) ++ others) here ∙ ap (λ l. following (after ++ its) (modules_of k) ++ l) behind in
+      let worlds : told_behind t es ≡ told_behind u fs = ap (λ w. told_behind w es) at ∙ ap (λ l. told_behind u l) one.1 in
+      let told_left = told_on u fs hs so told_all in
+      let rests =
+      modules_by (told_behind t es) (told_behind u fs) (following (before ++ mine) (modules_of j) ++ others) (following (after ++ its) (modules_of k) ++ more) gs hs xs ys y z
+      rest (own_others (dotenv_of j (before ++ mine)) y own) later (own_others (dotenv_of k (after ++ its)) z other) worlds told_left.0 told_left.1 stacks one.2 in (
+        ap (λ m. before_others (dotenv_of m (before ++ mine)) y) here ∙ ap (λ l. before_others (dotenv_of k l) y) pairs ∙ ap (λ w. before_others (dotenv_of k (after ++ its)) w) rests.0,
+        ap (λ l. l ++ gs) one.1 ∙ ap (λ l. fs ++ l) rests.1,
+        rests.2,
+      )
 
 pub dotenv_agrees : DotenvAgrees
-dotenv_agrees w ask environ working j r s p own q other = modules_by w environ ask working (following [] (j ∷ [])) r p own (following [] (j ∷ [])) s q other refl
+dotenv_agrees w ask flags environ j cs ds xs ys is are r s p own q other =
+    modules_by ask flags environ (Some w) (Some w) (following [] (j ∷ [])) (following [] (j ∷ [])) cs ds xs ys r s p own q other refl tt (told_front ask flags environ ds ys are) refl is

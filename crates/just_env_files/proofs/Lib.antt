@@ -1,9 +1,12 @@
--- The lemmas of how dotenv files are loaded.
+-- The lemmas of how dotenv files are loaded, and commands run for their pairs.
 pub mod Record
+pub mod Running
 pub mod OneFile
 pub mod Gathered
 pub mod Climbs
+pub mod Commanding
 pub mod Owned
 pub mod Turning
 pub mod Stopped
 pub mod Agreed
+pub mod Alone

@@ -1,18 +1,23 @@
 -- The modules of a project, one after the other, as the loop comes to them.
-use Rattle.std.proofs.Common.{◌≡◌, ◌⊎◌, inl, inr, ℕ, ◌<◌, List, [], ◌∷◌, ◌++◌, map, reverse, Option, Bor, refl, ap, sym, ◌∙◌, subst, append_assoc}
-use Rattle.std.specs.Prelude.{Result, Ok, Err}
+use Rattle.std.proofs.Common.{◌≡◌, ◌<◌, List, [], ◌∷◌, ◌++◌, map, reverse, Option, Bor, refl, ap, sym, ◌∙◌, subst, append_assoc}
+use Rattle.std.specs.Prelude.{Result, Ok, Err, IsErrAnd}
 use Rattle.std.proofs.lemmas.List.{append-nil, map-append, reverse-append, reverse-reverse}
+use Rattle.just_outside.specs.declared.entry.Entry.{Entry}
 use Rattle.just_outside.specs.World.{World}
 use Rattle.just_dotenv.specs.Meaning.{Pairs}
 use Rattle.just_lang.specs.declared.project.Justfile.{Justfile}
 use Rattle.just_lang.specs.declared.scope.DotenvOf.{DotenvOf}
 use Rattle.just_value.specs.Modules.{modules_of}
 use Rattle.just_value.proofs.Nesting.{weights, fewer}
+use Rattle.just_commands.specs.declared.run_flags.RunFlags.{RunFlags}
 use Rattle.just_env_files.specs.declared.ask.DotenvAsk.{DotenvAsk}
 use Rattle.just_env_files.specs.declared.env_error.EnvError.{EnvError}
 use Rattle.just_env_files.specs.declared.env_error.EnvError.TheVariants as error
-use Rattle.just_env_files.specs.Loads.{LoadsOwn, LoadsModules, Following, following, folder_of, dotenv_of, before_others}
+use Rattle.just_env_files.specs.Answers.{GainsAmong, Runs}
+use Rattle.just_env_files.specs.Captures.{Capture, told_behind}
+use Rattle.just_env_files.specs.Loads.{LoadsOwn, LoadsModules, LoadsProject, Following, following, folder_of, dotenv_of, before_others}
 use Rattle.just_env_files.specs.Turns.{LoadsNext, seen}
+use Rattle.just_env_files.proofs.Running.{among_none, among_then, behind_append, run_refused_behind, run_short_behind}
 
 -- ---- the stack
 
@@ -47,27 +52,22 @@ nothing_before (Ok others) = refl
 nothing_before (Err e) = refl
 
 -- whatever the modules on the stack come to, the first ones come to that behind what is loaded
-pub record Leads (told : Option World) (ask : DotenvAsk) (environ : Pairs) (working : List ℕ) (first pending : Following) (done : List DotenvOf) : Type 0 where
-  pub so : (r : Result (List DotenvOf) EnvError) → LoadsModules told ask environ working (reverse pending) r → LoadsModules told ask environ working first (behind done r)
+pub record Leads (ask : DotenvAsk) (flags : RunFlags) (environ : Pairs) (told : Option World) (first : Following) (now : Option World) (pending : Following) (cs : List Capture) (done : List DotenvOf) : Type 0 where
+  pub so : (ds : List Capture) (r : Result (List DotenvOf) EnvError) → LoadsModules ask flags environ now (reverse pending) ds r → LoadsModules ask flags environ told first (cs ++ ds) (behind done r)
 
 -- ---- one module
 
-module _ (told : Option World) (ask : DotenvAsk) (environ : Pairs) (working : List ℕ) where
-  pub next_loaded : (j : Justfile) (before own pairs : Pairs) (old new : Following) (one : DotenvOf) → LoadsOwn told ask environ (folder_of working j) j (Ok own) → pairs ≡ before ++ own
-      → one ≡ dotenv_of j pairs → new ≡ old ++ reverse (following pairs (modules_of j)) → LoadsNext told ask environ working j before old new (Ok one)
-  next_loaded j before own pairs old new one loads are is pushed =
+module _ (ask : DotenvAsk) (flags : RunFlags) (environ : Pairs) where
+  pub next_loaded : (told : Option World) (j : Justfile) (before own pairs : Pairs) (old new : Following) (one : DotenvOf) (cs : List Capture) → pairs ≡ before ++ own
+      → one ≡ dotenv_of j pairs → new ≡ old ++ reverse (following pairs (modules_of j)) → LoadsOwn told ask flags environ (folder_of flags.folder j) j cs (Ok own) → LoadsNext told ask flags environ j before old new cs (Ok one)
+  next_loaded told j before own pairs old new one cs are is pushed loads =
       (own, loads, is ∙ ap (λ ps. dotenv_of j ps) are, pushed ∙ ap (λ ps. old ++ reverse (following ps (modules_of j))) are)
-
-  pub next_refused : (j : Justfile) (before : Pairs) (old new : Following) (e : EnvError) → (e ≡ error.NoMemory) ⊎ LoadsOwn told ask environ (folder_of working j) j (Err e)
-      → (e ≡ error.NoMemory) ⊎ LoadsNext told ask environ working j before old new (Err e)
-  next_refused j before old new e (inl memory) = inl memory
-  next_refused j before old new e (inr loads) = inr loads
 
   -- ---- all modules
 
-  pub leads_first : (j : Justfile) (pending : Following) → pending ≡ (j, []) ∷ [] → Leads told ask environ working (following [] (j ∷ [])) pending []
-  leads_first j pending is = record {
-    so = λ r loads. subst (λ x. LoadsModules told ask environ working (following [] (j ∷ [])) x) (nothing_before r) (subst (λ ps. LoadsModules told ask environ working (reverse ps) r) is loads);
+  pub leads_first : (told : Option World) (j : Justfile) (pending : Following) → pending ≡ (j, []) ∷ [] → Leads ask flags environ told (following [] (j ∷ [])) told pending [] []
+  leads_first told j pending is = record {
+    so = λ ds r loads. subst (λ x. LoadsModules ask flags environ told (following [] (j ∷ [])) ds x) (nothing_before r) (subst (λ ps. LoadsModules ask flags environ told (reverse ps) ds r) is loads);
   }
 
   turned : (ps us : Following) (p : Justfile × Pairs) → ps ≡ us ++ p ∷ [] → reverse ps ≡ p ∷ reverse us
@@ -76,55 +76,82 @@ module _ (told : Option World) (ask : DotenvAsk) (environ : Pairs) (working : Li
   within : (us qs rs : Following) → qs ≡ us ++ reverse rs → reverse qs ≡ rs ++ reverse us
   within us qs rs is = ap (λ l. reverse l) is ∙ reverse-append us (reverse rs) ∙ ap (λ l. l ++ reverse us) (reverse-reverse rs)
 
-  -- one module is loaded
-  pub leads_next : (first ps us qs : Following) (done : List DotenvOf) (j : Justfile) (before : Pairs) (one : DotenvOf) → ps ≡ us ++ (j, before) ∷ [] → Leads told ask environ working first ps done
-      → LoadsNext told ask environ working j before us qs (Ok one) → Leads told ask environ working first qs (done ++ one ∷ [])
-  leads_next first ps us qs done j before one is leads next = record {
-    so = λ r loads.
-        let here : LoadsModules told ask environ working (following (before ++ next.0) (modules_of j) ++ reverse us) r = subst (λ l. LoadsModules told ask environ working l r) (within us qs (following (before ++ next.0) (modules_of j)) next.3) loads in
-        let more : LoadsModules told ask environ working ((j, before) ∷ reverse us) (before_others (dotenv_of j (before ++ next.0)) r) = LoadsModules.more j before next.0 (reverse us) r next.1 here in
-        let all : LoadsModules told ask environ working first (behind done (before_others (dotenv_of j (before ++ next.0)) r)) =
-        leads.so (before_others (dotenv_of j (before ++ next.0)) r) (subst (λ l. LoadsModules told ask environ working l (before_others (dotenv_of j (before ++ next.0)) r)) (sym (turned ps us (j, before) is)) more) in
-        subst (λ x. LoadsModules told ask environ working first x) (ap (λ o. behind done (before_others o r)) (sym next.2) ∙ behind_one done one r) all;
-  }
+  module _ (told now : Option World) (first ps us qs : Following) (cs ds : List Capture) (done : List DotenvOf) (j : Justfile) (before : Pairs) (is : ps ≡ us ++ (j, before) ∷ []) (leads : Leads ask flags environ told first now ps cs done) where
+    -- one module is loaded
+    pub leads_next : (one : DotenvOf) → LoadsNext now ask flags environ j before us qs ds (Ok one) → Leads ask flags environ told first (told_behind now ds) qs (cs ++ ds) (done ++ one ∷ [])
+    leads_next one next = record {
+      so = λ es r loads.
+          let here : LoadsModules ask flags environ (told_behind now ds) (following (before ++ next.0) (modules_of j) ++ reverse us) es r =
+          subst (λ l. LoadsModules ask flags environ (told_behind now ds) l es r) (within us qs (following (before ++ next.0) (modules_of j)) next.3) loads in
+          let more : LoadsModules ask flags environ now ((j, before) ∷ reverse us) (ds ++ es) (before_others (dotenv_of j (before ++ next.0)) r) = LoadsModules.more now j before next.0 (reverse us) ds es r next.1 here in
+          let all : LoadsModules ask flags environ told first (cs ++ (ds ++ es)) (behind done (before_others (dotenv_of j (before ++ next.0)) r)) =
+          leads.so (ds ++ es) (before_others (dotenv_of j (before ++ next.0)) r) (subst (λ l. LoadsModules ask flags environ now l (ds ++ es) (before_others (dotenv_of j (before ++ next.0)) r)) (sym (turned ps us (j, before) is)) more) in
+          subst (λ l. LoadsModules ask flags environ told first l (behind (done ++ one ∷ []) r)) (sym (append_assoc cs ds es))
+          (subst (λ x. LoadsModules ask flags environ told first (cs ++ (ds ++ es)) x) (ap (λ o. behind done (before_others o r)) (sym next.2) ∙ behind_one done one r) all);
+    }
 
-  -- one is refused, or memory is wanting
-  pub leads_refused : (first ps us qs : Following) (done : List DotenvOf) (j : Justfile) (before : Pairs) (e : EnvError) → ps ≡ us ++ (j, before) ∷ [] → Leads told ask environ working first ps done
-      → (e ≡ error.NoMemory) ⊎ LoadsNext told ask environ working j before us qs (Err e) → (e ≡ error.NoMemory) ⊎ LoadsModules told ask environ working first (Err e)
-  leads_refused first ps us qs done j before e is leads (inl memory) = inl memory
-  leads_refused first ps us qs done j before e is leads (inr next) =
-      inr (leads.so (Err e) (subst (λ l. LoadsModules told ask environ working l (Err e)) (sym (turned ps us (j, before) is)) (LoadsModules.refused j before (reverse us) e next)))
+    -- one is refused
+    pub leads_refused : (e : EnvError) → LoadsNext now ask flags environ j before us qs ds (Err e) → LoadsModules ask flags environ told first (cs ++ ds) (Err e)
+    leads_refused e next =
+        leads.so ds (Err e) (subst (λ l. LoadsModules ask flags environ now l ds (Err e)) (sym (turned ps us (j, before) is)) (LoadsModules.refused now j before (reverse us) ds e next))
+
+    -- there are fewer modules left, with those within it
+    pub fewer_left : (one : DotenvOf) → LoadsNext now ask flags environ j before us qs ds (Ok one) → weights (modules_in qs) < weights (modules_in ps)
+    fewer_left one next =
+        fewer (modules_in ps) (modules_in us) (modules_in qs) j
+        (ap modules_in is ∙ map-append (λ (p : Justfile × Pairs). p.0) us ((j, before) ∷ []))
+        (ap modules_in next.3 ∙ map-append (λ (p : Justfile × Pairs). p.0) us (reverse (following (before ++ next.0) (modules_of j)))
+        ∙ ap (λ ks. modules_in us ++ ks) (modules_following (before ++ next.0) (modules_of j)))
 
   -- none is left
-  pub leads_all : (first ps : Following) (done : List DotenvOf) → ps ≡ [] → Leads told ask environ working first ps done → LoadsModules told ask environ working first (Ok done)
-  leads_all first ps done none leads =
-      subst (λ l. LoadsModules told ask environ working first (Ok l)) (append-nil done) (leads.so (Ok []) (subst (λ l. LoadsModules told ask environ working l (Ok [])) (sym (ap (λ l. reverse l) none)) LoadsModules.none))
+  pub leads_all : (told now : Option World) (first ps : Following) (cs : List Capture) (done : List DotenvOf) → ps ≡ [] → Leads ask flags environ told first now ps cs done → LoadsModules ask flags environ told first cs (Ok done)
+  leads_all told now first ps cs done none leads =
+      subst (λ l. LoadsModules ask flags environ told first l (Ok done)) (append-nil cs)
+      (subst (λ l. LoadsModules ask flags environ told first (cs ++ []) (Ok l)) (append-nil done)
+      (leads.so [] (Ok []) (subst (λ l. LoadsModules ask flags environ now l [] (Ok [])) (sym (ap (λ l. reverse l) none)) (LoadsModules.none now))))
 
-  -- there are fewer modules left, with those within them
-  pub fewer_left : (ps us qs : Following) (j : Justfile) (before : Pairs) (one : DotenvOf) → ps ≡ us ++ (j, before) ∷ [] → LoadsNext told ask environ working j before us qs (Ok one) → weights (modules_in qs) < weights (modules_in ps)
-  fewer_left ps us qs j before one is next =
-      fewer (modules_in ps) (modules_in us) (modules_in qs) j
-      (ap modules_in is ∙ map-append (λ (p : Justfile × Pairs). p.0) us ((j, before) ∷ []))
-      (ap modules_in next.3 ∙ map-append (λ (p : Justfile × Pairs). p.0) us (reverse (following (before ++ next.0) (modules_of j)))
-      ∙ ap (λ ks. modules_in us ++ ks) (modules_following (before ++ next.0) (modules_of j)))
+-- ---- with modules behind borrows
 
--- ---- over a host whose world stays, with modules behind borrows
+pub top : (ps us : List (Bor Justfile × Pairs)) (p : Bor Justfile × Pairs) → ps ≡ us ++ p ∷ [] → seen ps ≡ seen us ++ (p.0.now, p.1) ∷ []
+top ps us p popped = ap seen popped ∙ seen_more us p
 
-module _ (told now : Option World) (ask : DotenvAsk) (environ : Pairs) (working : List ℕ) (first : Following) (ps us : List (Bor Justfile × Pairs)) (qs : List (Bor Justfile × Pairs)) (done : List DotenvOf) (p : Bor Justfile × Pairs)
-    (same : now ≡ told) (popped : ps ≡ us ++ p ∷ []) (leads : Leads told ask environ working first (seen ps) done) where
-  top : seen ps ≡ seen us ++ (p.0.now, p.1) ∷ []
-  top = ap seen popped ∙ seen_more us p
+-- ---- the loop over modules
 
-  here : (r : Result DotenvOf EnvError) → LoadsNext now ask environ working p.0.now p.1 (seen us) (seen qs) r → LoadsNext told ask environ working p.0.now p.1 (seen us) (seen qs) r
-  here r next = subst (λ t. LoadsNext t ask environ working p.0.now p.1 (seen us) (seen qs) r) same next
+module _ (ask : DotenvAsk) (flags : RunFlags) (environ : Pairs) (told : Option World) (j : Justfile) (old : List Entry) where
+  -- children were run for what is loaded, whatever the modules on the stack come to
+  abbrev pub LoadedOn : Option World → Following → List DotenvOf → List Entry → Type 0
+  LoadedOn now pending done entries = (cs : List Capture) × Leads ask flags environ told (following [] (j ∷ [])) now pending cs done × GainsAmong cs old entries × (now ≡ told_behind told cs)
 
-  pub turn_next : (one : DotenvOf) (new : List DotenvOf) → LoadsNext now ask environ working p.0.now p.1 (seen us) (seen qs) (Ok one) → new ≡ done ++ one ∷ [] → Leads told ask environ working first (seen qs) new
-  turn_next one new next grown =
-      subst (λ l. Leads told ask environ working first (seen qs) l) (sym grown) (leads_next told ask environ working first (seen ps) (seen us) (seen qs) done p.0.now p.1 one top leads (here (Ok one) next))
+  pub on_start : (pending : Following) (done : List DotenvOf) → pending ≡ (j, []) ∷ [] → done ≡ [] → LoadedOn told pending done old
+  on_start pending done is none = subst (λ l. LoadedOn told pending l old) (sym none) ([], leads_first ask flags environ told j pending is, among_none old, refl)
 
-  pub turn_refused : (e : EnvError) → (e ≡ error.NoMemory) ⊎ LoadsNext now ask environ working p.0.now p.1 (seen us) (seen qs) (Err e) → (e ≡ error.NoMemory) ⊎ LoadsModules told ask environ working first (Err e)
-  turn_refused e (inl memory) = inl memory
-  turn_refused e (inr next) = leads_refused told ask environ working first (seen ps) (seen us) (seen qs) done p.0.now p.1 e top leads (inr (here (Err e) next))
+  pub on_end : (now : Option World) (pending : Following) (done all : List DotenvOf) (entries : List Entry) → pending ≡ [] → all ≡ done → LoadedOn now pending done entries
+      → Runs (LoadsProject told ask flags environ j) told now old entries (Ok all)
+  on_end now pending done all entries none same (cs, leads, gained, is) =
+      subst (λ l. Runs (LoadsProject told ask flags environ j) told now old entries (Ok l)) (sym same)
+      (cs, leads_all ask flags environ told now (following [] (j ∷ [])) pending cs done none leads, gained, is)
 
-  pub turn_fewer : (one : DotenvOf) → LoadsNext now ask environ working p.0.now p.1 (seen us) (seen qs) (Ok one) → weights (modules_in (seen qs)) < weights (modules_in (seen ps))
-  turn_fewer one next = fewer_left told ask environ working (seen ps) (seen us) (seen qs) p.0.now p.1 one top (here (Ok one) next)
+  -- a module is taken from the stack
+  module _ (now after : Option World) (ps us qs : Following) (k : Justfile) (before : Pairs) (done : List DotenvOf) (middle new : List Entry) (is : ps ≡ us ++ (k, before) ∷ []) (loaded : LoadedOn now ps done middle) where
+    pub on_more : (one : DotenvOf) (all : List DotenvOf) → Runs (LoadsNext now ask flags environ k before us qs) now after middle new (Ok one) → all ≡ done ++ one ∷ [] → LoadedOn after qs all new
+    on_more one all (ds, next, gained, world) so =
+        let leads : Leads ask flags environ told (following [] (j ∷ [])) (told_behind now ds) qs (loaded.0 ++ ds) (done ++ one ∷ []) =
+        leads_next ask flags environ told now (following [] (j ∷ [])) ps us qs loaded.0 ds done k before is loaded.1 one next in (
+          loaded.0 ++ ds,
+          subst (λ w. Leads ask flags environ told (following [] (j ∷ [])) w qs (loaded.0 ++ ds) all) (sym world) (subst (λ l. Leads ask flags environ told (following [] (j ∷ [])) (told_behind now ds) qs (loaded.0 ++ ds) l) (sym so) leads),
+          among_then loaded.0 ds old middle new loaded.2 gained,
+          world ∙ ap (λ w. told_behind w ds) loaded.3 ∙ sym (behind_append told loaded.0 ds),
+        )
+
+    pub on_fewer : (one : DotenvOf) → Runs (LoadsNext now ask flags environ k before us qs) now after middle new (Ok one) → weights (modules_in qs) < weights (modules_in ps)
+    on_fewer one (ds, next, gained, world) = fewer_left ask flags environ told now (following [] (j ∷ [])) ps us qs loaded.0 ds done k before is loaded.1 one next
+
+    pub on_error : (e : EnvError) → Runs (LoadsNext now ask flags environ k before us qs) now after middle new (Err e) → Runs (LoadsProject told ask flags environ j) told after old new (Err e)
+    on_error e runs =
+        run_refused_behind (LoadsProject told ask flags environ j) told after old new loaded.0 middle now loaded.2 loaded.3 (LoadsNext now ask flags environ k before us qs) e runs
+        (λ ds refuses. leads_refused ask flags environ told now (following [] (j ∷ [])) ps us qs loaded.0 ds done k before is loaded.1 e refuses)
+
+    pub on_short : (one : DotenvOf) (r : Result (List DotenvOf) EnvError) → Runs (LoadsNext now ask flags environ k before us qs) now after middle new (Ok one) → IsErrAnd r (λ e. e ≡ error.NoMemory)
+        → Runs (LoadsProject told ask flags environ j) told after old new r
+    on_short one (Ok x) runs memory = absurd memory
+    on_short one (Err e) runs memory = run_short_behind (LoadsProject told ask flags environ j) told after old new loaded.0 middle now loaded.2 loaded.3 runs.0 e runs.2 runs.3 memory

@@ -1,9 +1,11 @@
--- What is asked of a module: whether files are looked for, at which paths and under which names.
-use Rattle.std.specs.Prelude.{ℕ, not, ◌&&◌, ◌||◌, ◌==◌, Bool, true, false, if◌then◌else◌, List, [], ◌∷◌, length, Option, Some, None, is_some, codes, Result, Ok, Err}
+-- What is asked of a module: from where it has its pairs, by which commands, and at which paths and under which names its files are looked for.
+use Rattle.std.specs.Prelude.{ℕ, not, ◌&&◌, ◌||◌, ◌==◌, Bool, true, false, if◌then◌else◌, List, [], ◌∷◌, length, Option, Some, None, codes, Result, Ok, Err}
 use Rattle.just_lang.specs.declared.project.Justfile.{Justfile}
 use Rattle.just_lang.specs.declared.settings.Settings.{Settings}
 use Rattle.just_value.specs.Modules.{path_of, settings_of}
 use Rattle.just_env_files.specs.declared.ask.DotenvAsk.{DotenvAsk}
+use Rattle.just_env_files.specs.declared.ask.Sources.{Sources}
+use Rattle.just_env_files.specs.declared.ask.Sources.TheVariants as sources
 use Rattle.just_env_files.specs.declared.env_error.EnvError.{EnvError}
 use Rattle.just_env_files.specs.declared.env_error.EnvError.TheVariants as error
 
@@ -41,17 +43,13 @@ names_wanted ask s = or_default (names_given ask s)
 abbrev pub is_root : Justfile → Bool
 is_root j = length (path_of j).components == 0
 
--- whether the option gives a command to a module: it does so to the root alone
-abbrev pub has_option : DotenvAsk → Justfile → Bool
-has_option ask j = is_root j && is_any ask.commands
+-- the commands of the words, which are the root's alone
+abbrev pub commands_asked : DotenvAsk → Justfile → List (List ℕ)
+commands_asked ask j = if is_root j then ask.commands else []
 
--- whether commands give a module its pairs
-abbrev pub has_command : DotenvAsk → Justfile → Bool
-has_command ask j = has_option ask j || is_some (settings_of j).dotenv_command
-
--- the option or the setting that gives them
-abbrev pub command_word : DotenvAsk → Justfile → List ℕ
-command_word ask j = if has_option ask j then codes "--dotenv-command" else codes "dotenv-command"
+-- the commands whose output gives a module its pairs: those of the words, where they give it some; else that of the setting, where it is set
+abbrev pub commands_of : DotenvAsk → Justfile → List (List ℕ)
+commands_of ask j = given (commands_asked ask j) (settings_of j).dotenv_command
 
 -- whether the options give several names or several paths
 abbrev pub has_several : DotenvAsk → Bool
@@ -64,11 +62,11 @@ has_flag s = s.dotenv_load || (s.dotenv_override || s.dotenv_required)
 abbrev pub has_given : DotenvAsk → Settings → Bool
 has_given ask s = is_any (names_given ask s) || is_any (paths_given ask s)
 
--- Whether files are looked for, for a module; or why it is refused before any file is read. Nothing is loaded where the words say so; where
--- commands give the pairs, no file is read, and a run that only shows its commands runs none of them.
-abbrev pub looks_for_files : DotenvAsk → Justfile → Result Bool EnvError
-looks_for_files ask j =
-    if not ask.load then Ok false
-    else (if has_command ask j then (if ask.dry_run then Ok false else Err (error.NotBuilt (command_word ask j)))
+-- From where a module has its pairs, or why it is refused before anything is read or run. It has none where the words say so. Where commands give
+-- the pairs, no file is read, and a run that only shows its commands runs none of them.
+abbrev pub sources_of : DotenvAsk → Justfile → Result Sources EnvError
+sources_of ask j =
+    if not ask.load then Ok sources.Nothing
+    else (if is_any (commands_of ask j) then (if ask.dry_run then Ok sources.Nothing else Ok sources.Commands)
     else (if has_several ask && not (settings_of j).lists then Err error.DotenvArgumentsRequireLists
-    else Ok (has_flag (settings_of j) || has_given ask (settings_of j))))
+    else (if has_flag (settings_of j) || has_given ask (settings_of j) then Ok sources.Files else Ok sources.Nothing)))

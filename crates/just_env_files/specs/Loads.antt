@@ -1,18 +1,24 @@
 -- The dotenv pairs of the modules of a project.
-use Rattle.std.specs.Prelude.{ℕ, ◌≡◌, ◌||◌, Bool, true, false, if◌then◌else◌, List, [], ◌∷◌, ◌++◌, map, filter, Option, Some, None, is_none, Result, Ok, Err}
+use Rattle.std.specs.Prelude.{ℕ, ◌≡◌, ◌||◌, Bool, if◌then◌else◌, List, [], ◌∷◌, ◌++◌, map, filter, Option, Some, None, is_none, Result, Ok, Err}
 use Rattle.just_path.specs.Ancestors.{ancestors_of}
-use Rattle.just_path.specs.Environ.{value_of}
+use Rattle.just_text.specs.Environ.{value_of}
 use Rattle.just_outside.specs.World.{World}
 use Rattle.just_dotenv.specs.Meaning.{Pairs}
 use Rattle.just_lang.specs.declared.project.Justfile.{Justfile, out-Justfile}
 use Rattle.just_lang.specs.declared.scope.DotenvOf.{DotenvOf}
 use Rattle.just_lang.specs.declared.settings.Settings.{Settings}
 use Rattle.just_value.specs.Modules.{path_of, settings_of, modules_of}
+use Rattle.just_commands.specs.declared.run_flags.RunFlags.{RunFlags}
 use Rattle.just_commands.specs.Folders.{module_folder}
+use Rattle.just_commands.specs.Shells.{shell}
 use Rattle.just_env_files.specs.declared.ask.DotenvAsk.{DotenvAsk}
+use Rattle.just_env_files.specs.declared.ask.Sources.{Sources}
+use Rattle.just_env_files.specs.declared.ask.Sources.TheVariants as sources
 use Rattle.just_env_files.specs.declared.env_error.EnvError.{EnvError}
 use Rattle.just_env_files.specs.declared.env_error.EnvError.TheVariants as error
-use Rattle.just_env_files.specs.Asked.{looks_for_files, paths_given, names_wanted}
+use Rattle.just_env_files.specs.Asked.{sources_of, commands_of, paths_given, names_wanted}
+use Rattle.just_env_files.specs.Captures.{Capture, told_behind}
+use Rattle.just_env_files.specs.Commands.{RunsCommands}
 use Rattle.just_env_files.specs.Files.{LoadsUnder}
 use Rattle.just_env_files.specs.Sequences.{First}
 
@@ -41,15 +47,26 @@ abbrev pub FoundPairs : Option World → DotenvAsk → Pairs → List ℕ → Se
 FoundPairs told ask environ folder s r =
     (found : Result (Option Pairs) EnvError) × FindsFiles told environ (paths_given ask s) (names_wanted ask s) folder found × (r ≡ pairs_of_found s environ found)
 
--- the same where files are looked for; nothing where they aren't
-abbrev pub LoadsWhere : Option World → DotenvAsk → Pairs → List ℕ → Justfile → Result Bool EnvError → Result Pairs EnvError → Type 0
-LoadsWhere told ask environ folder j (Ok true) r = FoundPairs told ask environ folder (settings_of j) r
-LoadsWhere told ask environ folder j (Ok false) r = r ≡ Ok []
-LoadsWhere told ask environ folder j (Err e) r = r ≡ Err e
+-- what a module has of the pairs that its commands gave
+abbrev pub pairs_of_commands : Settings → Pairs → Result Pairs EnvError → Result Pairs EnvError
+pairs_of_commands s environ (Ok pairs) = Ok (kept s.dotenv_override environ pairs)
+pairs_of_commands s environ (Err e) = Err e
+
+-- the pairs of a module's commands, which the shell of its lines runs in that folder; with the children that were run to their end for them
+abbrev pub PrintedPairs : Option World → RunFlags → Pairs → List ℕ → Settings → List (List ℕ) → List Capture → Result Pairs EnvError → Type 0
+PrintedPairs told flags environ folder s commands cs r =
+    (found : Result Pairs EnvError) × RunsCommands environ (shell flags s) folder told commands cs found × (r ≡ pairs_of_commands s environ found)
+
+-- the pairs of a module that has them from there; only commands run children
+abbrev pub LoadsFrom : Option World → DotenvAsk → RunFlags → Pairs → List ℕ → Justfile → Result Sources EnvError → List Capture → Result Pairs EnvError → Type 0
+LoadsFrom told ask flags environ folder j (Ok sources.Nothing) cs r = (cs ≡ []) × (r ≡ Ok [])
+LoadsFrom told ask flags environ folder j (Ok sources.Files) cs r = (cs ≡ []) × FoundPairs told ask environ folder (settings_of j) r
+LoadsFrom told ask flags environ folder j (Ok sources.Commands) cs r = PrintedPairs told flags environ folder (settings_of j) (commands_of ask j) cs r
+LoadsFrom told ask flags environ folder j (Err e) cs r = (cs ≡ []) × (r ≡ Err e)
 
 -- the pairs of a module itself, whose folder that is, or why they aren't loaded
-abbrev pub LoadsOwn : Option World → DotenvAsk → Pairs → List ℕ → Justfile → Result Pairs EnvError → Type 0
-LoadsOwn told ask environ folder j r = LoadsWhere told ask environ folder j (looks_for_files ask j) r
+abbrev pub LoadsOwn : Option World → DotenvAsk → RunFlags → Pairs → List ℕ → Justfile → List Capture → Result Pairs EnvError → Type 0
+LoadsOwn told ask flags environ folder j cs r = LoadsFrom told ask flags environ folder j (sources_of ask j) cs r
 
 -- ---- all modules
 
@@ -74,15 +91,17 @@ abbrev pub following : Pairs → List Justfile → Following
 following pairs js = map (λ j. (j, pairs)) js
 
 -- The pairs of modules and of all within them, in the order of the sources, each before those within it: behind those that a module follows
--- come its own, and those within it follow these. Or the first refusal.
-pub data LoadsModules (told : Option World) (ask : DotenvAsk) (environ : Pairs) (working : List ℕ) : Following → Result (List DotenvOf) EnvError → Type 0 where
-  none : LoadsModules told ask environ working [] (Ok [])
-  refused : (j : Justfile) (before : Pairs) (others : Following) (e : EnvError) → LoadsOwn told ask environ (folder_of working j) j (Err e)
-      → LoadsModules told ask environ working ((j, before) ∷ others) (Err e)
-  more : (j : Justfile) (before own : Pairs) (others : Following) (r : Result (List DotenvOf) EnvError) → LoadsOwn told ask environ (folder_of working j) j (Ok own)
-      → LoadsModules told ask environ working (following (before ++ own) (modules_of j) ++ others) r
-      → LoadsModules told ask environ working ((j, before) ∷ others) (before_others (dotenv_of j (before ++ own)) r)
+-- come its own, and those within it follow these. Or the first refusal. With them come the children that were run to their end, each module's behind
+-- those of the modules before it; what files show is told behind these.
+pub data LoadsModules (ask : DotenvAsk) (flags : RunFlags) (environ : Pairs) : Option World → Following → List Capture → Result (List DotenvOf) EnvError → Type 0 where
+  none : (told : Option World) → LoadsModules ask flags environ told [] [] (Ok [])
+  refused : (told : Option World) (j : Justfile) (before : Pairs) (others : Following) (cs : List Capture) (e : EnvError)
+      → LoadsOwn told ask flags environ (folder_of flags.folder j) j cs (Err e) → LoadsModules ask flags environ told ((j, before) ∷ others) cs (Err e)
+  more : (told : Option World) (j : Justfile) (before own : Pairs) (others : Following) (cs ds : List Capture) (r : Result (List DotenvOf) EnvError)
+      → LoadsOwn told ask flags environ (folder_of flags.folder j) j cs (Ok own)
+      → LoadsModules ask flags environ (told_behind told cs) (following (before ++ own) (modules_of j) ++ others) ds r
+      → LoadsModules ask flags environ told ((j, before) ∷ others) (cs ++ ds) (before_others (dotenv_of j (before ++ own)) r)
 
--- the pairs of the modules of a project that is run in a working folder
-abbrev pub LoadsProject : Option World → DotenvAsk → Pairs → List ℕ → Justfile → Result (List DotenvOf) EnvError → Type 0
-LoadsProject told ask environ working j r = LoadsModules told ask environ working (following [] (j ∷ [])) r
+-- the pairs of the modules of a project, and the children that were run to their end for them
+abbrev pub LoadsProject : Option World → DotenvAsk → RunFlags → Pairs → Justfile → List Capture → Result (List DotenvOf) EnvError → Type 0
+LoadsProject told ask flags environ j cs r = LoadsModules ask flags environ told (following [] (j ∷ [])) cs r

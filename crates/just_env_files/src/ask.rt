@@ -2,18 +2,26 @@
 
 ghost use Rattle.std.specs.Prelude.{◌≡◌, [], IfOk, IfErr};
 ghost use Rattle.just_env_files.specs.Answers.{Answers, entries_of};
-ghost use Rattle.just_env_files.specs.Asked.{is_any, is_several, given, paths_given, names_wanted, has_option, has_command, command_word, has_several, has_flag, has_given, looks_for_files};
+ghost use Rattle.just_env_files.specs.Asked.{is_any, is_several, given, paths_given, names_wanted, is_root, commands_asked, commands_of, has_several, has_flag, has_given, sources_of};
 
 use super::EnvError;
 use just_lang::Settings;
 use just_lang::project::Justfile;
-use just_path::{NoMemory, Seq, Text};
+use just_text::{NoMemory, Seq, Text};
 use std::alloc::Global;
+
+/// From where a module has its pairs.
+#[derive(Clone, Copy)]
+pub enum Sources {
+    Nothing,
+    Commands,
+    Files,
+}
 
 /// What the words ask of dotenv files.
 #[derive(Drop)]
 pub struct DotenvAsk {
-    /// Commands whose output gives the pairs of the root module.
+    /// Commands whose output gives the root module its pairs.
     pub commands: Seq<Text>,
     /// Names under which files are looked for.
     pub filenames: Seq<Text>,
@@ -21,7 +29,7 @@ pub struct DotenvAsk {
     pub paths: Seq<Text>,
     /// Whether anything is loaded.
     pub load: bool,
-    /// Whether no command is run.
+    /// Whether no command is run: those of a module give nothing then.
     pub dry_run: bool,
 }
 
@@ -86,22 +94,38 @@ pub(crate) fn names_wanted(
     Ok(Seq::from(names))
 }
 
-/// Whether the option gives a command to a module: it does so to the root alone.
-fn has_option(ask: &DotenvAsk, justfile: &Justfile) -> bool
-    ensures { result ≡ has_option ask.now justfile.now }
+/// Whether a module is the root.
+fn is_root(justfile: &Justfile) -> bool
+    ensures { result ≡ is_root justfile.now }
 {
-    justfile.module_path.components.len() == 0 && is_any(&ask.commands)
+    justfile.module_path.components.len() == 0
 }
 
-/// The option or the setting by which commands give a module its pairs.
-fn command_word(ask: &DotenvAsk, justfile: &Justfile) -> &'static str
-    ensures { result.now ≡ command_word ask.now justfile.now }
+/// The commands of the words for a module: the root has them, and no other.
+fn commands_asked(
+    alloc: Global,
+    ask: &DotenvAsk,
+    justfile: &Justfile,
+) -> Result<Seq<Text>, NoMemory>
+    ensures { IfOk result (λ commands. commands ≡ commands_asked ask.now justfile.now) }
 {
-    if has_option(ask, justfile) {
-        "--dotenv-command"
+    if is_root(justfile) {
+        ask.commands.try_clone()
     } else {
-        "dotenv-command"
+        Ok(Seq::new(alloc))
     }
+}
+
+/// The commands whose output gives a module its pairs.
+pub(crate) fn commands_of(
+    alloc: Global,
+    ask: &DotenvAsk,
+    justfile: &Justfile,
+) -> Result<Seq<Text>, NoMemory>
+    ensures { IfOk result (λ commands. commands ≡ commands_of ask.now justfile.now) }
+{
+    let asked = commands_asked(alloc, ask, justfile)?;
+    given(alloc, &asked, &justfile.settings.dotenv_command)
 }
 
 /// Whether an option or a setting gives the names or the paths of a module's files.
@@ -121,13 +145,6 @@ fn has_flag(settings: &Settings) -> bool
     settings.dotenv_load || settings.dotenv_override || settings.dotenv_required
 }
 
-/// Whether commands give a module its pairs.
-fn has_command(ask: &DotenvAsk, justfile: &Justfile) -> bool
-    ensures { result ≡ has_command ask.now justfile.now }
-{
-    has_option(ask, justfile) || justfile.settings.dotenv_command.is_some()
-}
-
 /// Whether the options give several names or several paths.
 fn has_several(ask: &DotenvAsk) -> bool
     ensures { result ≡ has_several ask.now }
@@ -135,34 +152,30 @@ fn has_several(ask: &DotenvAsk) -> bool
     is_several(&ask.filenames) || is_several(&ask.paths)
 }
 
-/// Why a module's commands give no pairs: they aren't built.
-fn not_built(alloc: Global, ask: &DotenvAsk, justfile: &Justfile) -> Result<EnvError, NoMemory>
-    ensures { IfOk result (λ e. e ≡ EnvError.NotBuilt (command_word ask.now justfile.now)) }
-{
-    let word = Text::from_str(alloc, command_word(ask, justfile))?;
-    Ok(EnvError::NotBuilt { word })
-}
-
-/// Whether files are looked for, for a module; or why it is refused before any file is read.
-pub(crate) fn looks_for_files(
-    alloc: Global,
+/// From where a module has its pairs, whose commands are those; or why it is refused before anything is read or run.
+pub(crate) fn sources_of(
     ask: &DotenvAsk,
     justfile: &Justfile,
-) -> Result<bool, EnvError>
-    ensures looks { Answers (λ r. r ≡ looks_for_files ask.now justfile.now) result }
-    ensures unheard { IfErr result (λ e. entries_of e ≡ []) }
+    commands: &Seq<Text>,
+) -> Result<Sources, EnvError>
+    requires { commands.now ≡ commands_of ask.now justfile.now }
+    ensures sources { result ≡ sources_of ask.now justfile.now }
+    ensures unheard { IfErr result (λ e. entries_of [] e ≡ []) }
 {
     if !ask.load {
-        return Ok(false);
+        return Ok(Sources::Nothing);
     }
-    if has_command(ask, justfile) {
+    if is_any(commands) {
         if ask.dry_run {
-            return Ok(false);
+            return Ok(Sources::Nothing);
         }
-        return Err(not_built(alloc, ask, justfile)?);
+        return Ok(Sources::Commands);
     }
     if has_several(ask) && !justfile.settings.lists {
         return Err(EnvError::DotenvArgumentsRequireLists);
     }
-    Ok(has_flag(&justfile.settings) || has_given(ask, &justfile.settings))
+    if has_flag(&justfile.settings) || has_given(ask, &justfile.settings) {
+        return Ok(Sources::Files);
+    }
+    Ok(Sources::Nothing)
 }

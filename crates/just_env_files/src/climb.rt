@@ -12,7 +12,8 @@ use super::EnvError;
 use super::files::load_files;
 use super::pairs::Pairs;
 use just_outside::Host;
-use just_path::{Environ, Text, Utf8Path};
+use just_path::Utf8Path;
+use just_text::{Environ, Text};
 use std::alloc::Global;
 
 /// The pairs of the first folder, from one upwards, in which any file of some names is.

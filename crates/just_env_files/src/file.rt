@@ -10,7 +10,8 @@ ghost use Rattle.just_env_files.specs.declared.env_error.EnvError.TheVariants as
 use super::EnvError;
 use just_dotenv::{DotenvError, read};
 use just_outside::{Host, HostFault};
-use just_path::{Environ, Miss, Seq, Text, Utf8Path, Utf8PathBuf};
+use just_path::{Miss, Utf8Path, Utf8PathBuf};
+use just_text::{Environ, Seq, Text};
 use std::alloc::Global;
 
 /// Whether no file is there, by a miss of its path. A folder in its place is none.
@@ -58,7 +59,7 @@ fn pairs_of_text(
     path: Utf8PathBuf,
 ) -> Result<Seq<(Text, Text)>, EnvError>
     ensures pairs { IfOk result (Gives (chars text.now) environ.now.pairs) }
-    ensures unheard { IfErr result (λ e. entries_of e ≡ []) }
+    ensures unheard { IfErr result (λ e. entries_of [] e ≡ []) }
     ensures refused { IfErr result (λ e. (e ≡ error.NoMemory) ⊎ ((line : ℕ) × Stops (chars text.now) line × (e ≡ error.Dotenv path line))) }
 {
     match read(alloc, text, environ) {

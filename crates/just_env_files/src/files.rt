@@ -10,7 +10,8 @@ use super::EnvError;
 use super::file::load_file;
 use super::pairs::{Pairs, join};
 use just_outside::Host;
-use just_path::{Environ, Text, Utf8Path};
+use just_path::Utf8Path;
+use just_text::{Environ, Text};
 use std::alloc::Global;
 
 /// The pairs of the file of a name under a folder, if one is there.

@@ -2,17 +2,20 @@
 
 ghost use Rattle.std.specs.Prelude.{◌≡◌, [], Ok, IfErr};
 ghost use Rattle.just_path.specs.Path.{text_of};
-ghost use Rattle.just_env_files.specs.Answers.{Answers, Gains, entries_of};
-ghost use Rattle.just_env_files.specs.Loads.{FoundPairs, LoadsOwn, pairs_of_found};
+ghost use Rattle.just_env_files.specs.Answers.{Answers, Gains, Runs, entries_of};
+ghost use Rattle.just_env_files.specs.Loads.{FoundPairs, PrintedPairs, LoadsOwn, pairs_of_found};
 
-use super::ask::{looks_for_files, names_wanted, paths_given};
+use super::ask::{Sources, commands_of, names_wanted, paths_given, sources_of};
 use super::climb::find_files;
+use super::command::run_commands;
 use super::pairs::{Pairs, kept};
 use super::{DotenvAsk, EnvError};
+use just_commands::{RunFlags, shell};
 use just_lang::Settings;
 use just_lang::project::Justfile;
 use just_outside::Host;
-use just_path::{Environ, Seq, Utf8Path};
+use just_path::Utf8Path;
+use just_text::{Environ, Seq, Text};
 use std::alloc::Global;
 
 /// What a module has of the pairs of its files. A file may be required.
@@ -23,7 +26,7 @@ fn pairs_of_found(
     found: Option<Pairs>,
 ) -> Result<Pairs, EnvError>
     ensures pairs { Answers (λ r. r ≡ pairs_of_found settings.now environ.now.pairs (Ok found)) result }
-    ensures unheard { IfErr result (λ e. entries_of e ≡ []) }
+    ensures unheard { IfErr result (λ e. entries_of [] e ≡ []) }
 {
     match found {
         Some(pairs) => Ok(kept(alloc, settings.dotenv_override, environ, pairs)?),
@@ -67,27 +70,59 @@ fn load_found<H: Host>(
     }
 }
 
-/// The dotenv pairs of a module in a folder, without those of the modules around it. A name that the environment has is left out, unless the
-/// module sets `dotenv-override`; of several pairs of one name the last counts.
-#[tactic(auto, using(crate::proofs::Record::gains_nothing, crate::proofs::Record::gains_before, crate::proofs::Record::gains_unheard, just_env::proofs::Laws::gains_none, crate::proofs::Owned::own_nothing, crate::proofs::Owned::own_refused, crate::proofs::Owned::own_found))]
+/// The pairs of the commands of a module, which are run in that folder.
+fn load_printed<H: Host>(
+    alloc: Global,
+    host: &mut H,
+    flags: &RunFlags,
+    environ: &Environ,
+    folder: Utf8Path<'_>,
+    settings: &Settings,
+    commands: &Seq<Text>,
+) -> Result<Pairs, EnvError>
+    ensures loaded { Runs (PrintedPairs (H.world host.old) flags.now environ.now.pairs (text_of folder.entry) settings.now commands.now) (H.world host.old) (H.world host.new) (H.entries host.old) (H.entries host.new) result }
+    ensures spare { H.spare host.new ≡ H.spare host.old }
+{
+    let shell = shell(alloc, flags, settings)?;
+    match run_commands(alloc, host, environ, &shell, folder, commands.as_slice()) {
+        Ok(pairs) => {
+            let kept = kept(alloc, settings.dotenv_override, environ, pairs)?;
+            Ok(kept)
+        }
+        Err(error) => Err(error),
+    }
+}
+
+/// The dotenv pairs of a module in a folder, without those of the modules around it: of the files that its settings and the words ask for, or of what
+/// commands print there. A name that the environment has is left out, unless the module sets `dotenv-override`; of several pairs of one name the last
+/// counts.
 pub fn load_dotenv<H: Host>(
     alloc: Global,
     host: &mut H,
     ask: &DotenvAsk,
+    flags: &RunFlags,
     environ: &Environ,
     folder: Utf8Path<'_>,
     justfile: &Justfile,
 ) -> Result<Pairs, EnvError>
-    // The pairs are those that the module's settings and the words ask for, or the first refusal.
-    ensures loaded { Answers (LoadsOwn (H.world host.old) ask.now environ.now.pairs (text_of folder.entry) justfile.now) result }
-    // The record gains misses, and the entry of the refused call.
-    ensures gains { Gains (H.entries host.old) (H.entries host.new) result }
-    ensures world { H.world host.new ≡ H.world host.old }
+    // The pairs are those that the module's settings and the words ask for, or the first refusal. The record gains the entries of the children that
+    // were run to their end for them, misses among these, and the entry of the refused call; only these children may touch the files.
+    ensures loaded { Runs (LoadsOwn (H.world host.old) ask.now flags.now environ.now.pairs (text_of folder.entry) justfile.now) (H.world host.old) (H.world host.new) (H.entries host.old) (H.entries host.new) result }
     ensures spare { H.spare host.new ≡ H.spare host.old }
 {
-    match looks_for_files(alloc, ask, justfile) {
-        Ok(true) => load_found(alloc, host, ask, environ, folder, &justfile.settings),
-        Ok(false) => Ok(Seq::new(alloc)),
+    let commands = commands_of(alloc, ask, justfile)?;
+    match sources_of(ask, justfile, &commands) {
+        Ok(Sources::Nothing) => Ok(Seq::new(alloc)),
+        Ok(Sources::Commands) => load_printed(
+            alloc,
+            host,
+            flags,
+            environ,
+            folder,
+            &justfile.settings,
+            &commands,
+        ),
+        Ok(Sources::Files) => load_found(alloc, host, ask, environ, folder, &justfile.settings),
         Err(error) => Err(error),
     }
 }

@@ -1,19 +1,18 @@
 //! The dotenv pairs of all modules of a project.
 
 ghost use Rattle.std.specs.Prelude.{◌≡◌, ◌++◌, ◌∷◌, [], List, map, reverse, length, IfOk, OnOk, OnErr};
-ghost use Rattle.just_path.specs.Path.{text_of};
-ghost use Rattle.just_env_files.specs.Answers.{Answers, Gains};
+ghost use Rattle.just_env_files.specs.Answers.{Runs};
 ghost use Rattle.just_env_files.specs.Loads.{LoadsOwn, LoadsProject, following, folder_of};
 ghost use Rattle.just_env_files.specs.Turns.{LoadsNext, seen};
 
 use super::module::load_dotenv;
 use super::pairs::{Pairs, behind};
 use super::{DotenvAsk, EnvError};
-use just_commands::module_folder;
+use just_commands::{RunFlags, module_folder};
 use just_lang::DotenvOf;
 use just_lang::project::Justfile;
 use just_outside::Host;
-use just_path::{Environ, NoMemory, Seq, TryClone, Utf8Path};
+use just_text::{Environ, NoMemory, Seq, TryClone};
 use std::alloc::Global;
 
 /// The dotenv pairs of a module of a project that is run in a working folder, without those of the modules around it.
@@ -21,17 +20,19 @@ fn load_own<H: Host>(
     alloc: Global,
     host: &mut H,
     ask: &DotenvAsk,
+    flags: &RunFlags,
     environ: &Environ,
-    working: Utf8Path<'_>,
     justfile: &Justfile,
 ) -> Result<Pairs, EnvError>
-    ensures loaded { Answers (LoadsOwn (H.world host.old) ask.now environ.now.pairs (folder_of (text_of working.entry) justfile.now) justfile.now) result }
-    ensures gains { Gains (H.entries host.old) (H.entries host.new) result }
-    ensures world { H.world host.new ≡ H.world host.old }
+    ensures loaded { Runs (LoadsOwn (H.world host.old) ask.now flags.now environ.now.pairs (folder_of flags.now.folder justfile.now) justfile.now) (H.world host.old) (H.world host.new) (H.entries host.old) (H.entries host.new) result }
     ensures spare { H.spare host.new ≡ H.spare host.old }
 {
-    let folder = module_folder(working, &justfile.module_path, justfile.source.as_path());
-    load_dotenv(alloc, host, ask, environ, folder, justfile)
+    let folder = module_folder(
+        flags.folder.as_path(),
+        &justfile.module_path,
+        justfile.source.as_path(),
+    );
+    load_dotenv(alloc, host, ask, flags, environ, folder, justfile)
 }
 
 /// A module, and the pairs that it follows.
@@ -55,57 +56,52 @@ fn push_modules<'j>(
 }
 
 /// The pairs of a module, behind those that it follows; the modules within it are put on the stack.
-#[tactic(auto, using(crate::proofs::Record::gains_nothing, crate::proofs::Record::gains_before, just_env::proofs::Laws::gains_none, crate::proofs::Turning::next_loaded, crate::proofs::Turning::next_refused))]
 fn load_next<'j, H: Host>(
     alloc: Global,
     host: &mut H,
     ask: &DotenvAsk,
+    flags: &RunFlags,
     environ: &Environ,
-    working: Utf8Path<'_>,
     next: Pending<'j>,
     pending: &mut Vec<Pending<'j>>,
 ) -> Result<DotenvOf, EnvError>
-    ensures loaded { Answers (LoadsNext (H.world host.old) ask.now environ.now.pairs (text_of working.entry) next.entry.0.now next.entry.1 (seen pending.old.items) (seen pending.new.items)) result }
-    ensures gains { Gains (H.entries host.old) (H.entries host.new) result }
-    ensures world { H.world host.new ≡ H.world host.old }
+    ensures loaded { Runs (LoadsNext (H.world host.old) ask.now flags.now environ.now.pairs next.entry.0.now next.entry.1 (seen pending.old.items) (seen pending.new.items)) (H.world host.old) (H.world host.new) (H.entries host.old) (H.entries host.new) result }
     ensures spare { H.spare host.new ≡ H.spare host.old }
 {
     let (justfile, before) = next;
-    let own = match load_own(alloc, host, ask, environ, working, justfile) {
+    let own = match load_own(alloc, host, ask, flags, environ, justfile) {
         Ok(own) => own,
         Err(error) => return Err(error),
     };
+    let path = justfile.module_path.try_clone()?;
     let pairs = behind(before, own)?;
     push_modules(pending, justfile.modules.as_slice(), &pairs)?;
     Ok(DotenvOf {
-        module: justfile.module_path.try_clone()?,
+        module: path,
         pairs,
     })
 }
 
-/// The dotenv pairs of each module of a project that is run in a working folder: its own behind those of the module around it, so that they count
+/// The dotenv pairs of each module of a project: its own behind those of the module around it, so that they count
 /// before these. A module comes before those within it, in the order of the sources; the first that is refused refuses all.
-#[tactic(auto, using(crate::proofs::Record::gains_nothing, crate::proofs::Record::gains_then, just_env::proofs::Laws::gains_none, crate::proofs::Turning::leads_first, crate::proofs::Turning::leads_all))]
 pub fn load_modules<H: Host>(
     alloc: Global,
     host: &mut H,
     ask: &DotenvAsk,
+    flags: &RunFlags,
     environ: &Environ,
-    working: Utf8Path<'_>,
     justfile: &Justfile,
 ) -> Result<Seq<DotenvOf>, EnvError>
-    // The pairs are those that the settings of the modules and the words ask for, or the first refusal.
-    ensures loaded { Answers (LoadsProject (H.world host.old) ask.now environ.now.pairs (text_of working.entry) justfile.now) result }
-    // The record gains misses, and the entry of the refused call.
-    ensures gains { Gains (H.entries host.old) (H.entries host.new) result }
-    ensures world { H.world host.new ≡ H.world host.old }
+    // The pairs are those that the settings of the modules and the words ask for, or the first refusal. The record gains the entries of the children
+    // that were run to their end for them, misses among these, and the entry of the refused call; only these children may touch the files.
+    ensures loaded { Runs (LoadsProject (H.world host.old) ask.now flags.now environ.now.pairs justfile.now) (H.world host.old) (H.world host.new) (H.entries host.old) (H.entries host.new) result }
     ensures spare { H.spare host.new ≡ H.spare host.old }
 {
     let mut loaded = Vec::new(alloc);
     let mut pending: Vec<Pending<'_>> = Vec::new(alloc);
     pending.push((justfile, Seq::new(alloc)))?;
     'modules: while let Some(next) = pending.pop() {
-        match load_next(alloc, host, ask, environ, working, next, &mut pending) {
+        match load_next(alloc, host, ask, flags, environ, next, &mut pending) {
             Ok(one) => loaded.push(one)?,
             Err(error) => return Err(error),
         }

@@ -1,11 +1,11 @@
 //! Pairs behind pairs, and the pairs that are kept.
 
 ghost use Rattle.std.specs.Prelude.{◌≡◌, ◌||◌, ◌++◌, is_none, IfOk, OnOk};
-ghost use Rattle.just_path.specs.Environ.{value_of};
+ghost use Rattle.just_text.specs.Environ.{value_of};
 ghost use Rattle.just_env_files.specs.Files.{join};
 ghost use Rattle.just_env_files.specs.Loads.{kept};
 
-use just_path::{Environ, NoMemory, Seq, Text};
+use just_text::{Environ, NoMemory, Seq, Text};
 use std::alloc::Global;
 
 /// Pairs of names and values.

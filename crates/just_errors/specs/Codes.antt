@@ -4,14 +4,27 @@ use Rattle.just_outside.specs.Signals.{number_of}
 use Rattle.just_outside.specs.declared.entry.Call.TheVariants as call
 use Rattle.just_outside.specs.declared.entry.HostFault.{HostFault}
 use Rattle.just_outside.specs.declared.entry.HostFault.TheVariants as fault
+use Rattle.just_env_files.specs.declared.env_error.OutputError.{OutputError}
+use Rattle.just_env_files.specs.declared.env_error.OutputError.TheVariants as output
 use Rattle.just_errors.specs.declared.error.Error.{Error}
 use Rattle.just_errors.specs.declared.error.Error.TheVariants as error
+
+-- 128 and the number of a signal, where that is a code
+abbrev pub signal_code : ℤ → Option ℤ
+signal_code number = if int_le (number +ℤ pos 128) (pos 2147483647) then Some (number +ℤ pos 128) else None
+
+-- the code of a command's own; 1 where it ended otherwise than by a code or a signal
+abbrev pub output_code : OutputError → Option ℤ
+output_code (output.Code code) = Some code
+output_code (output.Signal number) = signal_code number
+output_code _ = Some (pos 1)
 
 -- the exit code that an error stands for: a recipe's own, and 128 and the number of a signal, where that is a code
 abbrev pub code_of : Error → Option ℤ
 code_of (error.Code recipe line code message) = Some code
 code_of (error.Interrupted signal) = Some (pos (128 + number_of signal))
-code_of (error.Signal recipe line signal) = if int_le (signal +ℤ pos 128) (pos 2147483647) then Some (signal +ℤ pos 128) else None
+code_of (error.Signal recipe line signal) = signal_code signal
+code_of (error.DotenvCommand command e) = output_code e
 code_of _ = None
 
 -- whether an error is printed

@@ -75,6 +75,6 @@ abbrev pub error_of_env : EnvError → Error
 error_of_env env.DotenvRequired = error.DotenvRequired
 error_of_env (env.Dotenv path line) = error.Dotenv path line
 error_of_env env.DotenvArgumentsRequireLists = error.DotenvArgumentsRequireLists
-error_of_env (env.NotBuilt word) = error.NotBuilt word
+error_of_env (env.DotenvCommand command e) = error.DotenvCommand command e
 error_of_env (env.Io io path) = error.FilesystemIo path io
 error_of_env env.NoMemory = error.NoMemory

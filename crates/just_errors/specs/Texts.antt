@@ -9,6 +9,8 @@ use Rattle.just_usage.specs.Usages as usages
 use Rattle.just_config.specs.Texts.{error_text as config_text, feature_text}
 use Rattle.just_env.specs.declared.search_error.SearchError.{SearchError}
 use Rattle.just_env.specs.declared.search_error.SearchError.TheVariants as search
+use Rattle.just_env_files.specs.declared.env_error.OutputError.{OutputError}
+use Rattle.just_env_files.specs.declared.env_error.OutputError.TheVariants as output
 use Rattle.just_errors.specs.declared.error.Error.{Error}
 use Rattle.just_errors.specs.declared.error.Error.TheVariants as error
 use Rattle.just_errors.specs.Parts.{fault_text, kind_text, usage_text, counted, place_text, naming, of_recipe, of_switch, circular_text, absent_text, values_text, pattern_text, default_text, overrides_text, shell_text, folder_text, script_text, shebang_text, failed_text, terminated_text, takes_text}
@@ -41,6 +43,18 @@ search_text search.NoMemory = codes "error: out of memory"
 abbrev pub dotenv_text : List ℕ → ℕ → List ℕ
 dotenv_text path line = naming (codes "failed to load environment file from ") path (codes ": line " ++ decimal line)
 
+-- why the output of a command isn't read
+abbrev pub output_text : OutputError → List ℕ
+output_text (output.Code code) = codes "process exited with status code " ++ signed_decimal code
+output_text (output.Io io) = codes "error executing process: " ++ fault_text io
+output_text (output.Signal number) = codes "process terminated by signal " ++ signed_decimal number
+output_text output.Unknown = codes "process experienced an unknown failure"
+output_text output.Utf8 = codes "could not convert process stdout to UTF-8"
+
+-- a command that gives no dotenv pairs
+abbrev pub command_text : List ℕ → OutputError → List ℕ
+command_text command e = naming (codes "dotenv command ") command (codes " failed: ") ++ output_text e
+
 -- what an error is printed as
 abbrev pub error_text : Error → List ℕ
 error_text (error.Usage u) = naming (codes "usage: " ++ (usage_text u.kind ++ codes " ")) u.word []
@@ -61,6 +75,7 @@ error_text (error.UnstableFeature feature) = unstable_text (feature_text feature
 error_text error.DotenvRequired = codes "error: dotenv file not found"
 error_text (error.Dotenv path line) = dotenv_text path line
 error_text error.DotenvArgumentsRequireLists = codes "error: multiple `--dotenv-filename` or `--dotenv-path` arguments require `set lists`"
+error_text (error.DotenvCommand command e) = command_text command e
 error_text (error.UnknownOverrides vs) = overrides_text vs
 error_text (error.FunctionCall name) = naming (codes "call to function `env` failed: environment variable ") name (codes " not present")
 error_text error.NoRecipes = codes "error: justfile contains no recipes"

@@ -2,11 +2,12 @@
 
 ghost use Rattle.std.specs.Prelude.{◌≡◌, IfOk, string_bytes};
 ghost use Rattle.just_errors.specs.Texts.{error_text};
-ghost use Rattle.just_errors.specs.Codes.{code_of, prints, prints_always, is_environ_fault, exit_code};
+ghost use Rattle.just_errors.specs.Codes.{code_of, output_code, prints, prints_always, is_environ_fault, exit_code};
 
 use super::Error;
+use just_env_files::OutputError;
 use just_outside::{Call, HostFault};
-use just_path::NoMemory;
+use just_text::NoMemory;
 use std::alloc::Global;
 
 /// Whether a fault is that of asking for the environment.
@@ -16,6 +17,17 @@ fn is_environ_fault(io: HostFault) -> bool
     match io {
         HostFault::Failed(Call::Environ) => true,
         _ => false,
+    }
+}
+
+/// The exit code of a command that gives no dotenv pairs.
+fn output_code(error: OutputError) -> Option<i32>
+    ensures { result ≡ output_code error }
+{
+    match error {
+        OutputError::Code(code) => Some(code),
+        OutputError::Signal(number) => number.checked_add(128),
+        OutputError::Io(_) | OutputError::Unknown | OutputError::Utf8 => Some(1),
     }
 }
 
@@ -35,6 +47,7 @@ impl Error {
             Error::Code { code, .. } => Some(*code),
             Error::Signal { signal, .. } => signal.checked_add(128),
             Error::Interrupted(signal) => Some(signal.code()),
+            Error::DotenvCommand { output_error, .. } => output_code(*output_error),
             _ => None,
         }
     }

@@ -2,9 +2,11 @@
 
 use just_config::{ConfigError, UnstableFeature};
 use just_env::SearchError;
+use just_env_files::OutputError;
 use just_lang::{CompileError, Modulepath, Parameter};
 use just_outside::{HostFault, Signal};
-use just_path::{Seq, Text, Utf8PathBuf};
+use just_path::Utf8PathBuf;
+use just_text::{Seq, Text};
 use just_words::Usage;
 
 /// Why a request is refused, or a run failed. Recipes are told by their names without those of their modules, switches with their dashes.
@@ -66,6 +68,11 @@ pub enum Error {
     },
     /// The words give several names or several paths of dotenv files, and a module doesn't set `lists`.
     DotenvArgumentsRequireLists,
+    /// A command that gives dotenv pairs gave none.
+    DotenvCommand {
+        command: Text,
+        output_error: OutputError,
+    },
     /// The words override variables that the justfile doesn't have: each once, as `module::name`, ordered by module path and then by name.
     UnknownOverrides {
         overrides: Seq<Text>,

@@ -8,7 +8,7 @@ ghost use Rattle.just_errors.specs.Parts.{fault_text, line_text, shell_text, fol
 use super::parts::fault_text;
 use super::sentences::{tell_recipe, tell_switch};
 use just_outside::HostFault;
-use just_path::Text;
+use just_text::Text;
 use std::fmt;
 
 /// Where a command stands, if that is known.

@@ -9,7 +9,7 @@ use just_config::{ConfigError, Usage, UsageKind};
 use just_env::SearchError;
 use just_env_files::EnvError;
 use just_lang::project::LangError;
-use just_path::NoMemory;
+use just_text::NoMemory;
 
 impl From<NoMemory> for Error {
     ghost from_gives = { λ _ e. e ≡ OutOfMemory };
@@ -173,7 +173,13 @@ impl From<EnvError> for Error {
             EnvError::DotenvRequired => Error::DotenvRequired,
             EnvError::Dotenv { path, line } => Error::Dotenv { path, line },
             EnvError::DotenvArgumentsRequireLists => Error::DotenvArgumentsRequireLists,
-            EnvError::NotBuilt { word } => Error::NotBuilt { word },
+            EnvError::DotenvCommand {
+                command,
+                output_error,
+            } => Error::DotenvCommand {
+                command,
+                output_error,
+            },
             EnvError::Io(io, path) => Error::FilesystemIo { path, io },
             EnvError::NoMemory => Error::NoMemory,
         }

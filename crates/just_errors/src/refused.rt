@@ -14,8 +14,8 @@ use super::sentences::{
 };
 use just_config::UnstableFeature;
 use just_lang::{Modulepath, Parameter};
-use just_path::Text;
 use just_print::List;
+use just_text::Text;
 use just_usage::Usage;
 use std::fmt;
 

@@ -7,8 +7,8 @@ ghost use Rattle.just_errors.specs.Parts.{fault_text, place_text, several, count
 
 use super::parts::{fault_text, plural_end};
 use just_outside::HostFault;
-use just_path::Text;
 use just_print::List;
+use just_text::Text;
 use std::fmt;
 
 /// A text in backquotes between two others.

@@ -1,17 +1,18 @@
 //! The texts of errors.
 
-ghost use Rattle.std.specs.Prelude.{Some};
+ghost use Rattle.std.specs.Prelude.{◌++◌, codes, Some};
 ghost use Rattle.std.specs.Fmt.{WritesOnOk};
 ghost use Rattle.just_env.specs.declared.search_error.SearchError.{SearchError};
 ghost use Rattle.just_errors.specs.declared.error.Error.{Error};
-ghost use Rattle.just_errors.specs.Texts.{search_text, dotenv_text, error_text};
+ghost use Rattle.just_errors.specs.Parts.{fault_text};
+ghost use Rattle.just_errors.specs.Texts.{search_text, dotenv_text, output_text, command_text, error_text};
 
 use super::Error;
 use super::failed::{
     tell_code, tell_failed, tell_folder, tell_guard, tell_script, tell_shebang, tell_shell,
     tell_signal, tell_terminated,
 };
-use super::parts::{kind_text, usage_text};
+use super::parts::{fault_text, kind_text, usage_text};
 use super::refused::{
     tell_absent, tell_circular, tell_count, tell_default, tell_overrides, tell_pattern,
     tell_unstable, tell_values,
@@ -19,6 +20,8 @@ use super::refused::{
 use super::sentences::{tell_at, tell_fault, tell_list, tell_naming, tell_place, tell_switch};
 use just_config::Usage;
 use just_env::SearchError;
+use just_env_files::OutputError;
+use just_outside::HostFault;
 use std::fmt;
 
 /// Faulty words.
@@ -75,6 +78,39 @@ fn tell_dotenv<W: fmt::Write>(path: &str, line: usize, f: &mut fmt::Formatter<W>
     )
 }
 
+/// Why the child of a command can't be run to its end.
+fn tell_execution<W: fmt::Write>(io: HostFault, f: &mut fmt::Formatter<W>) -> fmt::Result
+    ensures { WritesOnOk W.write_str_gives f.old result (codes "error executing process: " ++ fault_text io) f.new }
+{
+    f.write_str("error executing process: ")?;
+    f.write_str(fault_text(io))
+}
+
+/// Why the output of a command isn't read.
+fn tell_output<W: fmt::Write>(error: OutputError, f: &mut fmt::Formatter<W>) -> fmt::Result
+    ensures { WritesOnOk W.write_str_gives f.old result (output_text error) f.new }
+{
+    match error {
+        OutputError::Code(code) => write!(f, "process exited with status code {code}"),
+        OutputError::Io(io) => tell_execution(io, f),
+        OutputError::Signal(number) => write!(f, "process terminated by signal {number}"),
+        OutputError::Unknown => f.write_str("process experienced an unknown failure"),
+        OutputError::Utf8 => f.write_str("could not convert process stdout to UTF-8"),
+    }
+}
+
+/// A command that gives no dotenv pairs.
+fn tell_command<W: fmt::Write>(
+    command: &str,
+    error: OutputError,
+    f: &mut fmt::Formatter<W>,
+) -> fmt::Result
+    ensures { WritesOnOk W.write_str_gives f.old result (command_text command.now error) f.new }
+{
+    tell_naming("dotenv command ", command, " failed: ", f)?;
+    tell_output(error, f)
+}
+
 impl fmt::Display for Error {
     ghost output = { λ e. Some (error_text e) };
 
@@ -122,6 +158,10 @@ impl fmt::Display for Error {
             Error::DotenvArgumentsRequireLists => f.write_str(
                 "error: multiple `--dotenv-filename` or `--dotenv-path` arguments require `set lists`",
             ),
+            Error::DotenvCommand {
+                command,
+                output_error,
+            } => tell_command(command.as_str(), *output_error, f),
             Error::UnknownOverrides { overrides } => tell_overrides(overrides.as_slice(), f),
             Error::FunctionCall { name } => tell_naming(
                 "call to function `env` failed: environment variable ",

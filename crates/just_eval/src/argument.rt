@@ -13,8 +13,8 @@ ghost use Rattle.just_eval.specs.Entries.{located_of, Sees};
 use super::entry::Entry;
 use just_lang::project::LangError;
 use just_lang::{Parameter, ParameterKind, Scopes, Value};
-use just_path::{NoMemory, Seq, Text, TryClone};
 use just_syntax::Expr;
+use just_text::{NoMemory, Seq, Text, TryClone};
 use just_value::{Env, Names, View, text_of, value};
 use std::alloc::Global;
 

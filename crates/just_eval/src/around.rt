@@ -9,7 +9,7 @@ ghost use Rattle.just_value.specs.Modules.{AreModules};
 use super::request::Request;
 use just_lang::project::{Justfile, LangError};
 use just_lang::{Key, Scopes};
-use just_path::Seq;
+use just_text::Seq;
 use std::alloc::Global;
 
 /// The keys that a key depends on: those that come before it, and those that come behind it.

@@ -15,7 +15,7 @@ use super::request::Request;
 use just_closure::{CLOSURE_LIMIT, Surroundings, closure_of};
 use just_lang::project::{Justfile, LangError};
 use just_lang::{Closure, Key, Scopes};
-use just_path::Seq;
+use just_text::Seq;
 use std::alloc::Global;
 
 /// What a request needs of a project, with the dependencies of its keys or without.

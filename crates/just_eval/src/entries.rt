@@ -9,7 +9,7 @@ ghost use Rattle.just_value.specs.Modules.{recipes_of, located};
 use super::entry::Entry;
 use just_lang::project::Justfile;
 use just_lang::{Level, Modulepath, Scopes};
-use just_path::NoMemory;
+use just_text::NoMemory;
 use just_value::pairs_for;
 use std::alloc::Global;
 

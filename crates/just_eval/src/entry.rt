@@ -2,7 +2,7 @@
 
 use just_lang::project::Justfile;
 use just_lang::{Level, Modulepath, Recipe};
-use just_path::Text;
+use just_text::Text;
 use std::collections::BTreeMap;
 
 /// A recipe, the module that it stands in, and what the expressions in it see of that module.

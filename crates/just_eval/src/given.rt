@@ -10,8 +10,8 @@ use super::argument::{text_in_recipe, value_of_text};
 use super::entry::Entry;
 use just_lang::project::LangError;
 use just_lang::{Parameter, ParameterKind, Scopes, Value};
-use just_path::{Seq, Text, TryClone};
 use just_syntax::Expr;
+use just_text::{Seq, Text, TryClone};
 use std::alloc::Global;
 
 /// The value of a default, which sees the parameters whose values are there; no element without one.

@@ -6,7 +6,7 @@ ghost use Rattle.just_eval.specs.Entries.{indexed, Enters, AreFirst};
 use super::entry::{Entry, Index};
 use just_closure::{copy_of_path, path_mark};
 use just_lang::Modulepath;
-use just_path::NoMemory;
+use just_text::NoMemory;
 use std::alloc::Global;
 use std::collections::BTreeMap;
 

@@ -15,7 +15,7 @@ use super::index::index_of;
 use just_closure::copy_of_path;
 use just_lang::project::{Justfile, LangError};
 use just_lang::{Dependency, Key, Modulepath, Scopes, Value};
-use just_path::{NoMemory, Seq};
+use just_text::{NoMemory, Seq};
 use just_value::all_modules;
 use std::alloc::Global;
 

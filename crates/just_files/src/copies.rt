@@ -3,7 +3,8 @@ ghost use Rattle.std.specs.Prelude.{◌≡◌, IfOk, option_map};
 ghost use Rattle.just_path.specs.Path.{text_of};
 ghost use Rattle.just_outside.specs.Record.{text_or_empty};
 
-use just_path::{NoMemory, Seq, TryClone, Utf8Path, Utf8PathBuf};
+use just_path::{Utf8Path, Utf8PathBuf};
+use just_text::{NoMemory, Seq, TryClone};
 use std::alloc::Global;
 
 /// A path, empty where there is none.

@@ -11,19 +11,26 @@ use std::fs::{self, File, Files, OpenFile, OpenOptions};
 use std::io::{self, ErrorKind, Read, Write};
 use std::rt::Env;
 
-/// How many bytes are read at once where a file is summed.
+/// How many bytes are read at once where a file is summed, at most and at least.
 const PIECE: usize = 65_536;
 
-/// Refuses a path at which something stands that is no file, so that nothing is waited for when it is opened.
+const LEAST_PIECE: usize = 1_024;
+
+/// The length of the file at a path. What is no file is refused, so that nothing is waited for when it is opened.
+fn file_length<F: Files>(files: &F, path: &str) -> io::Result<u64> {
+    let meta = super::system::look(files, path, true)?;
+    match meta.kind {
+        Kind::File => Ok(meta.len),
+        Kind::Folder => Err(io::Error::from(ErrorKind::IsADirectory)),
+        Kind::Link | Kind::Other => Err(io::Error::from(ErrorKind::Other)),
+    }
+}
+
+/// Refuses a path at which something stands that is no file.
 fn refuse_others<F: Files>(files: &F, path: &str) -> io::Result<()> {
-    match super::system::look(files, path, true) {
-        Ok(meta) => match meta.kind {
-            Kind::File => Ok(()),
-            Kind::Folder => Err(io::Error::from(ErrorKind::IsADirectory)),
-            Kind::Link | Kind::Other => Err(io::Error::from(ErrorKind::Other)),
-        },
-        Err(error) if error.kind() == ErrorKind::NotFound => Ok(()),
-        Err(error) => Err(error),
+    match file_length(files, path) {
+        Err(error) if error.kind() != ErrorKind::NotFound => Err(error),
+        _ => Ok(()),
     }
 }
 
@@ -57,12 +64,20 @@ pub fn temp_folder<R: Files + Env>(
     }
 }
 
+/// How many bytes are read at once of a file of that length: a short one is read in one piece, without making a long one.
+fn piece_for(length: u64) -> usize {
+    match usize::try_from(length) {
+        Ok(length) => length.clamp(LEAST_PIECE, PIECE),
+        Err(_) => PIECE,
+    }
+}
+
 /// The SHA-256 of a file, which is read piece by piece. Where it has more than `MAX_SUMMED` bytes, the error is `FileTooLarge`; what is no file isn't opened.
 pub fn sum<F: Files>(files: &F, alloc: Global, path: &str) -> io::Result<[u8; 32]> {
-    refuse_others(files, path)?;
+    let length = file_length(files, path)?;
     let mut file = fs::open(files, path)?;
     let mut piece = Vec::new(alloc);
-    piece.resize(PIECE, 0u8)?;
+    piece.resize(piece_for(length), 0u8)?;
     sum_of(&mut file, piece.as_mut_slice())
 }
 
@@ -110,14 +125,22 @@ fn make_folder_of<F: Files>(files: &F, entry: Utf8Path<'_>) -> io::Result<()> {
     }
 }
 
-/// The length of a cache entry, while no other program writes it.
+/// Opens a cache entry; where it can't be made since its folder lacks, that is made first.
+fn open_in_folder<F: Files<File = File>>(files: &F, entry: Utf8Path<'_>) -> io::Result<File> {
+    match open_entry(files, entry.as_str()) {
+        Err(error) if error.kind() == ErrorKind::NotFound => {
+            make_folder_of(files, entry)?;
+            open_entry(files, entry.as_str())
+        }
+        opened => opened,
+    }
+}
+
+/// The length of a cache entry, while no other program writes it: it is let go as the file is closed.
 fn entry_length<F: Files<File = File>>(files: &F, entry: Utf8Path<'_>) -> io::Result<u64> {
-    make_folder_of(files, entry)?;
-    let file = open_entry(files, entry.as_str())?;
+    let file = open_in_folder(files, entry)?;
     file.lock()?;
-    let length = file.metadata()?.len();
-    file.unlock()?;
-    Ok(length)
+    Ok(file.metadata()?.len())
 }
 
 /// Looks at a cache entry, which is made with its folder where it lacks, and at the outputs beside it. An output lacks where an error that is a miss tells so;

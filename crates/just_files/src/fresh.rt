@@ -1,7 +1,8 @@
 //! Fresh folders of the system, and want of memory as an error of the system.
 ghost use Rattle.std.specs.Prelude.{◌≡◌, Ok, IfOk};
 
-use just_path::{NoMemory, Utf8Path, Utf8PathBuf};
+use just_path::{Utf8Path, Utf8PathBuf};
+use just_text::NoMemory;
 use std::alloc::Global;
 use std::fs::{self, DirBuilder, Files};
 use std::io::{self, ErrorKind, Read};

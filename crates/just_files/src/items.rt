@@ -7,7 +7,8 @@ ghost use Rattle.std.specs.FinMap.Entries.{put};
 ghost use Rattle.just_path.specs.View.{named, is_name, AreInOrder};
 ghost use Rattle.just_files.specs.Items.{IsPlaceOf, put_in};
 
-use just_path::{Item, NoMemory};
+use just_path::Item;
+use just_text::NoMemory;
 use std::alloc::Global;
 
 /// Whether a text has a slash.

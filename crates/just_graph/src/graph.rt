@@ -9,7 +9,7 @@ ghost use Rattle.just_graph.specs.Met.{is_marked, met_after, list_after};
 
 use super::level::{is_below_targets, levels_of};
 use super::peel::{Peeled, peel};
-use just_path::{NoMemory, Seq};
+use just_text::{NoMemory, Seq};
 use std::alloc::Global;
 
 /// Marks each of some nodes, and lists those that weren't marked before.

@@ -6,7 +6,7 @@ ghost use Rattle.just_graph.specs.Levels.{AreLevels, is_at_most_targets, is_belo
 ghost use Rattle.just_graph.specs.Walk.{IsWalk};
 
 use super::peel::next_target;
-use just_path::{NoMemory, Seq};
+use just_text::{NoMemory, Seq};
 use std::alloc::Global;
 
 /// How far a walk through a graph has come, depth first.

@@ -4,7 +4,7 @@ ghost use Rattle.std.specs.Prelude.{ℕ, ◌≡◌, ◌<◌, length, map, get_or
 ghost use Rattle.just_graph.specs.Graph.{targets, IsGraph, IsOrder};
 ghost use Rattle.just_graph.specs.Origins.{origin_at, AreOrigins};
 
-use just_path::{NoMemory, Seq};
+use just_text::{NoMemory, Seq};
 use std::alloc::Global;
 
 /// For each node the one that its quality comes from: itself, where it has it of its own; else that of the first target

@@ -4,7 +4,7 @@ ghost use Rattle.std.specs.Prelude.{ℕ, ◌≡◌, ◌+◌, ◌<◌, ◌++◌, 
 ghost use Rattle.just_graph.specs.Graph.{targets, IsGraph};
 ghost use Rattle.just_graph.specs.Met.{is_marked, NoneFree, IsFree, ArePeeled, steps_left};
 
-use just_path::{NoMemory, Seq};
+use just_text::{NoMemory, Seq};
 use std::alloc::Global;
 
 /// The nodes that were taken out, as marks and in their order.

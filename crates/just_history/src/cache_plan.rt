@@ -4,7 +4,8 @@ ghost use Rattle.std.specs.Prelude.{◌≡◌, ◌<◌, ◌^◌, length};
 ghost use Rattle.just_key.specs.Keys.{class_text};
 
 use just_key::CacheKey;
-use just_path::{Seq, Text, Utf8PathBuf};
+use just_path::Utf8PathBuf;
+use just_text::{Seq, Text};
 
 /// The cache of a node: what its body depends on, and the files that it reads and makes.
 #[derive(Drop)]

@@ -13,7 +13,7 @@ ghost use Rattle.just_history.specs.State.{is_open};
 ghost use Rattle.just_history.specs.Tables.{flag};
 
 use super::{Event, Plan};
-use just_path::{NoMemory, Text, TryClone};
+use just_text::{NoMemory, Text, TryClone};
 use std::alloc::Global;
 use std::collections::BTreeMap;
 

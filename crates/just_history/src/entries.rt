@@ -7,7 +7,8 @@ ghost use Rattle.just_history.specs.Cached.{entry_of, saved_text};
 use super::CachePlan;
 use just_cache::entry_path;
 use just_key::{CacheEntry, key_text_with};
-use just_path::{NoMemory, Seq, Text, TryClone, Utf8PathBuf};
+use just_path::Utf8PathBuf;
+use just_text::{NoMemory, Seq, Text, TryClone};
 use std::alloc::Global;
 
 /// A name with the digits of a sum.

@@ -1,7 +1,8 @@
 //! The events of a run, and what is said of its end.
 
 use just_outside::{Call, Look, Signal, Status};
-use just_path::{Miss, Seq};
+use just_path::Miss;
+use just_text::Seq;
 
 /// One event of a run. The first number of each is that of its node.
 #[derive(Debug, Drop)]

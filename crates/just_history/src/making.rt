@@ -12,7 +12,7 @@ use super::Plan;
 use super::descent::{descend, lead_priors};
 use super::progress::Progress;
 use super::spread::{lead, want_all};
-use just_path::NoMemory;
+use just_text::NoMemory;
 use std::alloc::Global;
 
 /// So many empty lists.

@@ -22,7 +22,7 @@ use super::turn::Turn;
 use super::verdict::verdict_by;
 use super::{Event, NodeState, Outcome, Plan, Reason, Verdict};
 use just_outside::Signal;
-use just_path::NoMemory;
+use just_text::NoMemory;
 use std::alloc::Global;
 
 /// Whether the body of the node with this row is open.

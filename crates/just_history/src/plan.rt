@@ -5,7 +5,7 @@ ghost use Rattle.just_closure.specs.WellFormed.{IsWellFormed};
 ghost use Rattle.just_commands.specs.Steps.{commands_of};
 
 use super::PlanNode;
-use just_path::Seq;
+use just_text::Seq;
 
 /// The nodes that a request runs, a node's number being its place, and those that were asked for. Each plan is well
 /// formed.

@@ -2,7 +2,7 @@
 
 use super::{CachePlan, Work};
 use just_lang::Node;
-use just_path::Text;
+use just_text::Text;
 
 /// A node of a plan: its place in the closure, and what its body does.
 #[derive(Drop)]

@@ -8,7 +8,8 @@ ghost use Rattle.just_host.specs.Mem.{record_of, world_of, Went};
 
 use super::memory::{MemChild, MemDone, MemHost};
 use just_outside::{Entry, Host, HostFault, Look, Spec, Status, Stream};
-use just_path::{Environ, Item, Meta, NoMemory, PathFault, PathHost, Utf8Path, Utf8PathBuf};
+use just_path::{Item, Meta, PathFault, PathHost, Utf8Path, Utf8PathBuf};
+use just_text::{Environ, NoMemory};
 use std::sync::Arc;
 use std::sync::atomic::{AtomicBool, Ordering};
 

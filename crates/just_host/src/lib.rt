@@ -6,8 +6,8 @@ mod memory;
 
 pub use gate::{GateChild, GateHost};
 pub use just_outside::{
-    Call, Entry, Host, HostFault, Look, MAX_BYTES, MAX_SUMMED, Script, Signal, Spec, Status,
-    Stream, Thing,
+    Call, Entry, Host, HostFault, Look, MAX_BYTES, MAX_SUMMED, Script, ScriptText, Signal, Spec,
+    Status, Stream, Thing,
 };
 pub use just_system::{RealChild, RealDone, RealHost};
 pub use just_tree::{Ending, Plot, Tree};

@@ -23,10 +23,8 @@ use just_files::{copied_bytes, copies_of, path_or_empty};
 use just_outside::{
     Call, Entry, Host, HostFault, Log, Look, MAX_BYTES, Signal, Spec, Status, Stream,
 };
-use just_path::{
-    Environ, Item, Meta, Miss, NoMemory, PathCall, PathFault, PathHost, Seq, Text, TryClone,
-    Utf8Path, Utf8PathBuf,
-};
+use just_path::{Item, Meta, Miss, PathCall, PathFault, PathHost, Utf8Path, Utf8PathBuf};
+use just_text::{Environ, NoMemory, Seq, Text, TryClone};
 use just_tree::{Ending, Faults, Place, Plot, Tree, TreeFault, copied_text, output_of, word_of};
 use std::alloc::Global;
 

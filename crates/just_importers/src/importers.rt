@@ -6,7 +6,7 @@ ghost use Rattle.just_graph.specs.Met.{is_marked as is_marked_in};
 ghost use Rattle.just_importers.specs.Importers.{own_imports, is_reached, AreReached, AreImportersOf, AreImportersOfEach, AreImporters};
 
 use super::reach::reached;
-use just_path::{NoMemory, Seq};
+use just_text::{NoMemory, Seq};
 use std::alloc::{AllocError, Global};
 
 /// Those of a file's imports that are among so many files.

@@ -4,7 +4,7 @@ ghost use Rattle.std.specs.Prelude.{ℕ, ◌≡◌, ◌<◌, ◌↔◌, true, fa
 ghost use Rattle.just_graph.specs.Graph.{IsGraph, Reaches};
 ghost use Rattle.just_graph.specs.Met.{is_marked, met_after, list_after};
 
-use just_path::{NoMemory, Seq};
+use just_text::{NoMemory, Seq};
 use std::alloc::Global;
 
 /// Marks each of some nodes, and lists those that weren't marked before.

@@ -10,7 +10,8 @@ use super::{Search, SearchError};
 use just_config::{Config, SearchConfig};
 use just_locate::{folder_of, given_path, root_of};
 use just_outside::Host;
-use just_path::{Text, Utf8Path, Utf8PathBuf};
+use just_path::{Utf8Path, Utf8PathBuf};
+use just_text::Text;
 use std::alloc::Global;
 
 /// The name under which it is written: the first that is given, else `justfile`.

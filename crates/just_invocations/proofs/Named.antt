@@ -1,7 +1,7 @@
 -- What has a name, case by case.
 use Rattle.std.proofs.Common.{◌≡◌, ℕ, true, false, find, List, [], ◌∷◌, ◌++◌, length, Option, Some, None, sym, ap, ◌∙◌}
 use Rattle.std.specs.Prelude.{if◌then◌else◌, ◌-◌, slice_get, bytes_eq}
-use Rattle.just_path.specs.Environ.{or_else}
+use Rattle.just_text.specs.Environ.{or_else}
 use Rattle.just_lang.specs.declared.recipe.Recipe.{Recipe}
 use Rattle.just_lang.specs.declared.scope.Alias.{Alias}
 use Rattle.just_lang.specs.declared.project.Justfile.{Justfile, out-Justfile}

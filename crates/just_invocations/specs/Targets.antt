@@ -1,7 +1,7 @@
 -- The recipe that words lead to.
 use Rattle.std.specs.Prelude.{◌==◌, Bool, if◌then◌else◌, List, [], ◌∷◌, Option, Some, None, Ok, Err, codes, bytes_eq, find}
 use Rattle.std.specs.List.{list_any}
-use Rattle.just_path.specs.Environ.{or_else}
+use Rattle.just_text.specs.Environ.{or_else}
 use Rattle.just_lang.specs.declared.recipe.Recipe.{Recipe}
 use Rattle.just_lang.specs.declared.scope.Disabled.{Disabled}
 use Rattle.just_lang.specs.declared.project.Justfile.{Justfile, out-Justfile}

@@ -13,8 +13,8 @@ use super::target::chosen;
 use super::value::values_given;
 use just_lang::project::{Justfile, LangError};
 use just_lang::{Key, Scopes};
-use just_path::{Seq, Text, TryClone};
 use just_switches::words_given;
+use just_text::{Seq, Text, TryClone};
 use just_value::all_modules;
 use std::alloc::Global;
 

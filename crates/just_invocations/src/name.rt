@@ -10,7 +10,7 @@ ghost use Rattle.just_invocations.specs.Sights.{located_of};
 use super::found::Found;
 use just_lang::project::Justfile;
 use just_lang::{Alias, Disabled, Modulepath, Recipe};
-use just_path::Text;
+use just_text::Text;
 
 /// The last name of a path.
 fn last_name(path: &Modulepath) -> Option<&Text>

@@ -3,7 +3,7 @@
 ghost use Rattle.std.specs.Prelude.{◌≡◌, ◌++◌, ◌∷◌, ◌<◌, [], IfOk, OnOk, MatchOption, length, string_bytes};
 ghost use Rattle.just_invocations.specs.Paths.{further, joined_path, parts};
 
-use just_path::{NoMemory, Text};
+use just_text::{NoMemory, Text};
 use std::alloc::Global;
 
 /// Adds names, each behind `::`.

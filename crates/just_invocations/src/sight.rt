@@ -7,7 +7,7 @@ ghost use Rattle.just_invocations.specs.Sights.{Sees};
 
 use super::found::Found;
 use just_lang::{Level, Modulepath, Scopes};
-use just_path::{Environ, Text};
+use just_text::{Environ, Text};
 use just_value::pairs_for;
 
 /// A recipe with what its expressions see.

@@ -14,8 +14,8 @@ use super::name::{aliased_recipe, disabled_at, is_absent, module_named, names_re
 use super::path::{first_part, joined_path};
 use just_lang::Recipe;
 use just_lang::project::{Justfile, LangError};
-use just_path::{NoMemory, Text, TryClone};
 use just_switches::least_words;
+use just_text::{NoMemory, Text, TryClone};
 use std::alloc::Global;
 
 /// What the last name of a word leads to in a module.

@@ -12,7 +12,7 @@ ghost use Rattle.just_invocations.specs.Sights.{located_of, Sees};
 use super::sight::Sight;
 use just_lang::project::LangError;
 use just_lang::{Expr, Parameter, Scopes, Value};
-use just_path::{NoMemory, Seq, Text, TryClone};
+use just_text::{NoMemory, Seq, Text, TryClone};
 use just_value::{Env, View, value};
 use std::alloc::Global;
 

@@ -3,7 +3,7 @@ ghost use Rattle.std.specs.Prelude.{◌≡◌, IfOk, length, string_bytes};
 ghost use Rattle.std.specs.List.{AllPass};
 ghost use Rattle.just_key.specs.Digests.{digest, is_lower_hex};
 
-use just_path::NoMemory;
+use just_text::NoMemory;
 use sha2::{Digest, Sha256};
 use std::alloc::Global;
 

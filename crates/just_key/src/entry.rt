@@ -6,7 +6,7 @@ ghost use Rattle.serde_json.specs.View.{view};
 
 use super::member::path_value;
 use just_lang::Modulepath;
-use just_path::NoMemory;
+use just_text::NoMemory;
 use serde_json::{Map, Value};
 use std::alloc::Global;
 

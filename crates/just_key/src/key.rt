@@ -1,7 +1,8 @@
 //! What a key holds.
 
 use just_lang::{Interpreter, Modulepath};
-use just_path::{Seq, Text, Utf8PathBuf};
+use just_path::Utf8PathBuf;
+use just_text::{Seq, Text};
 
 /// What runs the script of a body.
 #[derive(Drop)]

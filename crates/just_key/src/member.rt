@@ -6,7 +6,8 @@ ghost use Rattle.just_key.specs.Members.{text_or_null, texts, texts_or_null, env
 
 use super::KeyExecutor;
 use just_lang::Interpreter;
-use just_path::{NoMemory, Seq, Text, Utf8PathBuf};
+use just_path::Utf8PathBuf;
+use just_text::{NoMemory, Seq, Text};
 use serde_json::{Map, Value};
 use std::alloc::Global;
 

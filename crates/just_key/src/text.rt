@@ -10,7 +10,7 @@ use super::member::{
     environment_value, executor_value, folder_or_null, inputs_value, path_value, text_or_null,
     texts_or_null, texts_value,
 };
-use just_path::{NoMemory, Seq, Text};
+use just_text::{NoMemory, Seq, Text};
 use serde_json::{Map, Value};
 use std::alloc::Global;
 

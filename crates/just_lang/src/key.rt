@@ -1,7 +1,7 @@
 //! Keys: recipes with the values of their parameters.
 
 use super::Modulepath;
-use just_path::{Seq, Text};
+use just_text::{Seq, Text};
 
 /// The value of a parameter.
 #[derive(Debug, Drop, PartialEq, Eq, PartialOrd, Ord)]

@@ -1,7 +1,7 @@
 //! The nodes of a closure, and the lines of a body.
 
 use super::Key;
-use just_path::{Seq, Text};
+use just_text::{Seq, Text};
 
 /// A key in a round of the one-thread closure, with the numbers of the nodes that it depends on. The command line is
 /// the round None; the subsequents of a node make the round that the node's number names.

@@ -4,7 +4,8 @@ ghost use Rattle.std.specs.Prelude.{◌≡◌};
 ghost use Rattle.just_lang.specs.declared.project.LangError.TheVariants.{NoMemory as OutOfMemory};
 
 use super::{Alias, Assignment, CompileError, Disabled, Modulepath, Parameter, Recipe, Settings};
-use just_path::{NoMemory, Seq, Text, Utf8PathBuf};
+use just_path::Utf8PathBuf;
+use just_text::{NoMemory, Seq, Text};
 use std::alloc::{AllocError, AllocFailed};
 
 /// A module of a project: what its file and the files that it imports say. The root module is the whole project.

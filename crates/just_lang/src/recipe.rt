@@ -1,7 +1,7 @@
 //! The shape of a recipe.
 
-use just_path::{Seq, Text};
 use just_syntax::{Attribute, Expr, Line, ParameterKind};
+use just_text::{Seq, Text};
 
 /// A recipe: what its attributes and its line say of it, and the lines of its body.
 #[derive(Drop)]

@@ -4,9 +4,9 @@ ghost use Rattle.std.specs.Prelude.{◌≡◌, IfOk};
 ghost use Rattle.just_syntax.specs.Meanings.{text_of};
 ghost use Rattle.just_lang.specs.References.{maybe_text, reference_in, references_of};
 
-use just_path::{NoMemory, Seq, Text};
 use just_read::ReadError;
 use just_syntax::{Ast, AstItem, StringLiteral};
+use just_text::{NoMemory, Seq, Text};
 use std::alloc::Global;
 
 /// What a file is to the one that names it.

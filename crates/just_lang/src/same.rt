@@ -4,7 +4,7 @@ ghost use Rattle.std.specs.Cmp.Lexicographic.{pointwise};
 ghost use Rattle.just_lang.specs.Keys.{same_path, same_value, same_key};
 
 use super::{Key, Modulepath, Value};
-use just_path::{NoMemory, TryClone};
+use just_text::{NoMemory, TryClone};
 
 impl Modulepath {
     /// Whether both lead to one recipe.

@@ -1,8 +1,8 @@
 //! Variables and their values, and what else a justfile names.
 
 use super::{Modulepath, Value};
-use just_path::{Environ, Seq, Text};
 use just_syntax::Expr;
+use just_text::{Environ, Seq, Text};
 
 /// A variable and the expression that it is assigned.
 #[derive(Drop)]

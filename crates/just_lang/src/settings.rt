@@ -1,6 +1,6 @@
 //! The settings of a justfile.
 
-use just_path::{Seq, Text};
+use just_text::{Seq, Text};
 
 /// A program and the arguments that stand before those of a call.
 #[derive(Debug, Drop)]

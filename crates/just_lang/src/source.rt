@@ -6,8 +6,9 @@ ghost use Rattle.just_lang.specs.Trees.{IsTree, RefusesSource, kind_of, compile_
 
 use super::project::LangError;
 use super::{CompileError, CompileKind, Position};
-use just_path::{NoMemory, Text, Utf8PathBuf};
+use just_path::Utf8PathBuf;
 use just_syntax::{Ast, FaultKind, ParseError, parse as tree_of};
+use just_text::{NoMemory, Text};
 use std::alloc::Global;
 
 /// The text of a justfile, with the path that it was read from and that path's parent (the path itself where it has

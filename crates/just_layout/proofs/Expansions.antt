@@ -2,7 +2,7 @@
 use Rattle.std.proofs.Common.{◌≡◌, ℕ, List, [], ◌∷◌, ◌++◌, refl, sym, ◌∙◌, subst, ap}
 use Rattle.std.specs.Prelude.{Option, Some, None, Ok, Err, string_bytes}
 use Rattle.std.specs.List.{FoldsTo}
-use Rattle.just_path.specs.Environ.{value_of}
+use Rattle.just_text.specs.Environ.{value_of}
 use Rattle.just_expand.specs.Pieces.{Piece, plain, dollar, bare, braced, defaulted, unclosed, lone, piece_text, StandsBefore, Begins, Cuts}
 use Rattle.just_expand.specs.Expansion.{question, outcome, Puts, PutsBy}
 use Rattle.just_expand.specs.Contexts.{EnvironAnswers, environ_reply, IsCause}

@@ -2,7 +2,7 @@
 use Rattle.std.proofs.Common.{◌≡◌, ℕ, List, [], ◌∷◌, refl, sym, ◌∙◌, subst, ap, inl, inr, Bool, true, false}
 use Rattle.std.specs.Prelude.{Option, Some, None}
 use Rattle.std.specs.List.{FoldsTo}
-use Rattle.just_path.specs.Environ.{home_of}
+use Rattle.just_text.specs.Environ.{home_of}
 use Rattle.just_syntax.specs.declared.ast.StringLiteral.{StringLiteral}
 use Rattle.just_syntax.specs.Meanings.{text_of}
 use Rattle.just_expand.specs.Bytes.{tilde_sign}

@@ -1,7 +1,7 @@
 -- Items have one target each.
 use Rattle.std.proofs.Common.{◌≡◌, ℕ, List, [], ◌∷◌, Bool, refl, sym, ◌∙◌, subst, ap}
 use Rattle.std.specs.Prelude.{Option, Some, None}
-use Rattle.just_path.specs.Environ.{home_of}
+use Rattle.just_text.specs.Environ.{home_of}
 use Rattle.just_syntax.specs.declared.ast.AstItem.{AstItem}
 use Rattle.just_syntax.specs.declared.ast.AstItem.TheVariants as item
 use Rattle.just_syntax.specs.declared.ast.StringLiteral.{StringLiteral}

@@ -4,7 +4,7 @@ use Rattle.std.specs.Prelude.{Option, Some, None, Result, Ok, Err}
 use Rattle.std.specs.List.{FoldsTo}
 use Rattle.std.specs.Str.{encode_utf8_all}
 use Rattle.std.proofs.lemmas.Bool.Decides.{nat_tests}
-use Rattle.just_path.specs.Environ.{home_of, value_of}
+use Rattle.just_text.specs.Environ.{home_of, value_of}
 use Rattle.just_expand.specs.Bytes.{dollar_sign, tilde_sign, slash}
 use Rattle.just_expand.specs.Pieces.{Piece, Cuts, HasOneCut, Lacks, BeginsWithout, EndsOrBegins}
 use Rattle.just_expand.specs.Expansion.{Reply, question, outcome, own_text, Puts, PutsBy, ExpandsTo}

@@ -2,7 +2,7 @@
 use Rattle.std.specs.Prelude.{◌≡◌, ℕ, ◌==◌, ◌&&◌, Bool, true, false, if◌then◌else◌, List, [], ◌∷◌, ◌++◌, Option, Some, None, option_map}
 use Rattle.just_path.specs.Path.{pushed}
 use Rattle.just_path.specs.Clean.{cleaned}
-use Rattle.just_path.specs.Environ.{home_of}
+use Rattle.just_text.specs.Environ.{home_of}
 use Rattle.just_syntax.specs.declared.ast.StringLiteral.{StringLiteral}
 use Rattle.just_syntax.specs.Meanings.{text_of}
 use Rattle.just_expand.specs.Tilde.{FullyExpandsTo}

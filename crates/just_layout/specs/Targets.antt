@@ -4,7 +4,7 @@ use Rattle.std.specs.List.{starts_with}
 use Rattle.std.specs.Str.{str_eq_ignore_ascii_case}
 use Rattle.just_path.specs.Path.{pushed}
 use Rattle.just_path.specs.Clean.{cleaned}
-use Rattle.just_path.specs.Environ.{home_of}
+use Rattle.just_text.specs.Environ.{home_of}
 use Rattle.just_syntax.specs.declared.ast.AstItem.{AstItem}
 use Rattle.just_syntax.specs.declared.ast.AstItem.TheVariants as item
 use Rattle.just_syntax.specs.declared.ast.StringLiteral.{StringLiteral}

@@ -3,7 +3,8 @@
 ghost use Rattle.std.specs.Prelude.{◌≡◌};
 ghost use Rattle.just_layout.specs.declared.error.LayoutError.TheVariants.{NoMemory as OutOfMemory};
 
-use just_path::{NoMemory, Seq, Text, Utf8PathBuf};
+use just_path::Utf8PathBuf;
+use just_text::{NoMemory, Seq, Text};
 use std::alloc::{AllocError, AllocFailed};
 
 /// Why sources have no layout: a rule on files that one of their imports and modules breaks.

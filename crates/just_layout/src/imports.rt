@@ -5,7 +5,7 @@ ghost use Rattle.just_layout.specs.Imports.{imports_in, imports_of};
 
 use super::Target;
 use super::visit::leads;
-use just_path::{NoMemory, Seq};
+use just_text::{NoMemory, Seq};
 use std::alloc::Global;
 
 /// The numbers of the files that a file's imports name, by the targets of its items.

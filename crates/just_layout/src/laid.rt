@@ -15,8 +15,9 @@ use super::target::{is_module_file, module_base, paths_of, targets};
 use super::visit::{Visit, first_broken};
 use super::{File, Layout, LayoutError, Placed, Target};
 use just_lang::Source;
-use just_path::{Environ, NoMemory, Seq, Text, Utf8PathBuf};
+use just_path::Utf8PathBuf;
 use just_syntax::{ParseError, parse};
+use just_text::{Environ, NoMemory, Seq, Text};
 use std::alloc::Global;
 
 /// A source with its tree, or with its fault.

@@ -1,8 +1,9 @@
 //! The shape of a project: its files with their items, and its modules.
 
 use just_lang::Modulepath;
-use just_path::{Seq, Utf8PathBuf};
+use just_path::Utf8PathBuf;
 use just_syntax::{AstItem, Fault};
+use just_text::Seq;
 
 /// A source with its tree. Where the text is refused it has no items.
 #[derive(Drop)]

@@ -3,13 +3,14 @@
 ghost use Rattle.std.specs.Prelude.{◌≡◌, ℕ, List, Option, IfOk, Some};
 ghost use Rattle.std.specs.Option.{option_copied};
 ghost use Rattle.std.specs.Cow.{cow_str_bytes};
-ghost use Rattle.just_path.specs.Environ.{home_of};
+ghost use Rattle.just_text.specs.Environ.{home_of};
 ghost use Rattle.just_layout.specs.Paths.{Means, ExpandsIf, begins_folder, behind_home, with_home, path_under};
 
 use just_expand::{Expand, full};
-use just_path::{Environ, NoMemory, Text, Utf8Path, Utf8PathBuf};
+use just_path::{Utf8Path, Utf8PathBuf};
 use just_read::ReadError;
 use just_syntax::StringLiteral;
+use just_text::{Environ, NoMemory, Text};
 use std::alloc::Global;
 use std::borrow::CowStr;
 

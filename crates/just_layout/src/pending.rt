@@ -9,8 +9,8 @@ ghost use Rattle.just_layout.specs.Pending.{HasNames, modules_left, all_of, with
 use super::visit::{Visit, own_visits};
 use super::{File, Module, Placed, Target};
 use just_lang::Modulepath;
-use just_path::{NoMemory, Seq, Text};
 use just_syntax::AstItem;
+use just_text::{NoMemory, Seq, Text};
 use std::alloc::Global;
 use std::collections::BTreeSet;
 

@@ -2,14 +2,15 @@
 
 ghost use Rattle.std.specs.Prelude.{◌≡◌, ◌&&◌, IfOk, Some, position, count_by};
 ghost use Rattle.std.specs.Option.{option_copied};
-ghost use Rattle.just_path.specs.Environ.{home_of};
+ghost use Rattle.just_text.specs.Environ.{home_of};
 ghost use Rattle.just_layout.specs.Paths.{Means, path_under};
 ghost use Rattle.just_layout.specs.Targets.{number_of, import_at, import_target, module_at, module_target, is_module_end, is_module_file, module_base, one_of, module_beside, IsImportTarget, IsModuleTarget, IsTarget, AreItemTargets, AreFileTargets, paths_of, AreTargets};
 
 use super::File;
 use super::path::{meaning, path_under};
-use just_path::{Environ, NoMemory, Seq, Utf8Path, Utf8PathBuf};
+use just_path::{Utf8Path, Utf8PathBuf};
 use just_syntax::{AstItem, StringLiteral};
+use just_text::{Environ, NoMemory, Seq};
 use std::alloc::Global;
 
 /// What an item names. A file is told by its number.

@@ -7,7 +7,7 @@ ghost use Rattle.just_layout.specs.Stack.{visits_left, Tops, Gives, is_among, en
 ghost use Rattle.just_layout.specs.Modules.{is_own, own_visits};
 
 use super::{Placed, Target};
-use just_path::{NoMemory, Seq};
+use just_text::{NoMemory, Seq};
 use std::alloc::{AllocError, Global};
 
 /// An item that the walk comes to.

@@ -13,7 +13,7 @@ use super::continuation::joined;
 use just_eval::{Entry, Request};
 use just_lang::project::{Justfile, LangError};
 use just_lang::{BodyLine, Key, Scopes, Value};
-use just_path::Seq;
+use just_text::Seq;
 use std::alloc::Global;
 
 /// The lines of a recipe whose parameters have these values.

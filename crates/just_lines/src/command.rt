@@ -13,8 +13,8 @@ use super::text::{push_front, text_behind, text_of_fragments};
 use just_eval::Entry;
 use just_lang::project::LangError;
 use just_lang::{BodyLine, Scopes, Value};
-use just_path::Seq;
 use just_syntax::Line;
+use just_text::Seq;
 use std::alloc::Global;
 
 /// Whether a part begins with `#`.

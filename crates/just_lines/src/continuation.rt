@@ -7,8 +7,8 @@ ghost use Rattle.just_lines.specs.Bodies.{before_mark, is_blank, behind_blanks, 
 ghost use Rattle.just_lines.specs.Parts.{fragment_of, fragments_of, line_of, front_piece, end_piece, pieces, behind_unfinished, with_rest};
 
 use super::part::{Joined, Part, part_of};
-use just_path::NoMemory;
 use just_syntax::{Fragment, Line};
+use just_text::NoMemory;
 use std::alloc::Global;
 
 /// A text without one `\` at its end.

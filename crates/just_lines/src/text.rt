@@ -10,8 +10,8 @@ use super::part::{Part, part_of};
 use just_eval::{Entry, text_in_recipe};
 use just_lang::project::LangError;
 use just_lang::{Scopes, Value};
-use just_path::{NoMemory, Text};
 use just_syntax::Fragment;
+use just_text::{NoMemory, Text};
 use std::alloc::Global;
 
 /// Adds the text in front of the first value, and answers the place of that value.

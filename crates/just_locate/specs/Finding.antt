@@ -6,7 +6,7 @@ use Rattle.just_path.specs.Comps.{is_empty, slash}
 use Rattle.just_path.specs.Names.{file_name_of, extension_of}
 use Rattle.just_path.specs.Parts.{parent_of}
 use Rattle.just_path.specs.Path.{pushed}
-use Rattle.just_path.specs.declared.environ.Environ.{Environ}
+use Rattle.just_text.specs.declared.environ.Environ.{Environ}
 use Rattle.just_outside.specs.declared.entry.Entry.{Entry}
 use Rattle.just_outside.specs.World.{World}
 use Rattle.just_config.specs.declared.config.Config.{Config}

@@ -2,7 +2,7 @@
 use Rattle.std.specs.Prelude.{ℕ, ◌≡◌, if◌then◌else◌, List, [], ◌∷◌, ◌++◌, Option, Some, None, option_map, Result, Ok, Err, codes}
 use Rattle.std.specs.List.{find}
 use Rattle.std.specs.Str.{str_eq_ignore_ascii_case}
-use Rattle.just_path.specs.Environ.{or_else, value_of, home_of}
+use Rattle.just_text.specs.Environ.{or_else, value_of, home_of}
 use Rattle.just_path.specs.Path.{pushed, is_absolute}
 use Rattle.just_outside.specs.declared.entry.Entry.{Entry}
 use Rattle.just_outside.specs.World.{World}

@@ -10,7 +10,8 @@ ghost use Rattle.just_locate.specs.First.{answer_of};
 use super::SearchError;
 use super::listing::names_in;
 use just_outside::Host;
-use just_path::{NoMemory, Seq, Text, Utf8Ancestors, Utf8Path, Utf8PathBuf};
+use just_path::{Utf8Ancestors, Utf8Path, Utf8PathBuf};
+use just_text::{NoMemory, Seq, Text};
 use std::alloc::Global;
 
 /// Whether a folder is the ceiling.

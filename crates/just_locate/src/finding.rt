@@ -16,7 +16,8 @@ use super::root::root_of;
 use just_config::{Config, SearchConfig};
 use just_env::environment;
 use just_outside::Host;
-use just_path::{Environ, NoMemory, Seq, Text, Utf8Path, Utf8PathBuf};
+use just_path::{Utf8Path, Utf8PathBuf};
+use just_text::{Environ, NoMemory, Seq, Text};
 use std::alloc::Global;
 
 /// A path that is given: under the folder in which the program was called, and clean.

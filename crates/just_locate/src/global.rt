@@ -2,7 +2,7 @@
 
 ghost use Rattle.std.specs.Prelude.{◌≡◌, ◌≢◌, ◌++◌, ◌∷◌, [], None, option_map, IfOk, IfErr, OnOk, Err};
 ghost use Rattle.std.specs.Option.{option_copied};
-ghost use Rattle.just_path.specs.Environ.{home_of};
+ghost use Rattle.just_text.specs.Environ.{home_of};
 ghost use Rattle.just_env.specs.Answers.{Answers, entries_of};
 ghost use Rattle.just_locate.specs.Global.{config_folder, global_places, place_of, place_in_config, places_at_home, same_name, LooksAtPlace, FindsAmong, FindsGlobal};
 ghost use Rattle.just_locate.specs.Listing.{GainsListings};
@@ -13,7 +13,8 @@ use super::SearchError;
 use super::listing::names_in;
 use super::place::Place;
 use just_outside::Host;
-use just_path::{Environ, NoMemory, Text, Utf8Path, Utf8PathBuf};
+use just_path::{Utf8Path, Utf8PathBuf};
+use just_text::{Environ, NoMemory, Text};
 use std::alloc::Global;
 
 /// The folder of the user's configuration.

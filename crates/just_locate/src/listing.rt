@@ -7,7 +7,8 @@ ghost use Rattle.just_locate.specs.Listing.{ListsFolder};
 
 use super::SearchError;
 use just_outside::{Call, Host, HostFault};
-use just_path::{Item, NoMemory, PathFault, Seq, Text, Utf8Path};
+use just_path::{Item, PathFault, Utf8Path};
+use just_text::{NoMemory, Seq, Text};
 use std::alloc::Global;
 
 /// The names of some things.

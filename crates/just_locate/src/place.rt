@@ -1,6 +1,7 @@
 //! Where the user's own justfile may be.
 
-use just_path::{Text, Utf8PathBuf};
+use just_path::Utf8PathBuf;
+use just_text::Text;
 
 /// A folder, and the name under which the justfile is looked for in it.
 #[derive(Drop)]

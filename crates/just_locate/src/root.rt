@@ -11,7 +11,8 @@ use super::SearchError;
 use super::climb::is_ceiling;
 use super::listing::names_in;
 use just_outside::Host;
-use just_path::{Text, Utf8Path, Utf8PathBuf};
+use just_path::{Utf8Path, Utf8PathBuf};
+use just_text::Text;
 use std::alloc::Global;
 
 /// Whether a name is one that stands in the root of a project.

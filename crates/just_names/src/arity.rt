@@ -8,10 +8,10 @@ ghost use Rattle.just_names.specs.TargetSpots.{is_variadic};
 
 use super::names::{ModuleNames, Names};
 use super::options::{Options, options_of};
-use just_path::{NoMemory, Seq};
 use just_rules::Texts;
 use just_spots::Entry;
 use just_syntax::{AstItem, AstParameter, AstRecipe, ParameterKind};
+use just_text::{NoMemory, Seq};
 use std::alloc::{AllocError, Global};
 
 /// How many arguments a recipe takes.

@@ -5,7 +5,7 @@ ghost use Rattle.just_names.specs.Names.{number_in, ArePaths, child_in, AreChild
 
 use super::paths::Paths;
 use just_layout::Module;
-use just_path::{NoMemory, Text};
+use just_text::{NoMemory, Text};
 use std::alloc::{AllocError, Global};
 use std::collections::BTreeMap;
 

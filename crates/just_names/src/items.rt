@@ -5,8 +5,8 @@ ghost use Rattle.just_layout.specs.Items.{item_at, items_of_module};
 ghost use Rattle.just_spots.specs.Entries.{entry, entries};
 
 use just_layout::{File, Module, Placed};
-use just_path::NoMemory;
 use just_spots::Entry;
+use just_text::NoMemory;
 use std::alloc::Global;
 
 /// The item at a place.

@@ -7,9 +7,9 @@ ghost use Rattle.just_names.specs.TargetSpots.{aliases_in, dependency_in, depend
 ghost use Rattle.just_names.specs.Targets.{alias_in, dependency_of, aliases_of, dependencies_of};
 
 use super::names::{ModuleNames, Names};
-use just_path::NoMemory;
 use just_spots::Entry;
 use just_syntax::{AstDependency, AstItem, Name};
+use just_text::NoMemory;
 use std::alloc::{AllocError, Global};
 
 /// An alias's path, with the numbers of its module and of its file.

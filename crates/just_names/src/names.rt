@@ -7,8 +7,8 @@ use super::children::{Children, children_of, own_numbers};
 use super::items::{items_at, items_of_module};
 use super::paths::{Paths, paths_of};
 use just_layout::{File, Layout, Module};
-use just_path::{NoMemory, Seq};
 use just_spots::{Entry, Index, index_of, recipe_items, standing, variable_items};
+use just_text::{NoMemory, Seq};
 use std::alloc::Global;
 
 /// The items of a module, the recipes and the variables among them that stand, and the `mod`s whose modules aren't there.

@@ -3,9 +3,9 @@ ghost use Rattle.std.specs.Prelude.{◌≡◌, ◌||◌, ℕ, List, IfOk, OnOk};
 ghost use Rattle.just_rules.specs.Options.{is_text};
 ghost use Rattle.just_names.specs.Arities.{option_of_arguments, option_of, has_option_name, AreOptions};
 
-use just_path::{NoMemory, Text};
 use just_rules::{Texts, const_text, names_option};
 use just_syntax::{Argument, Attribute};
+use just_text::{NoMemory, Text};
 use std::alloc::Global;
 use std::collections::BTreeSet;
 

@@ -3,8 +3,8 @@ ghost use Rattle.std.specs.Prelude.{◌≡◌, [], ◌∷◌, ◌++◌, List, If
 ghost use Rattle.just_syntax.specs.declared.ast.AstParameter.{AstParameter};
 ghost use Rattle.just_names.specs.Scopes.{has_name_of, AreParameters};
 
-use just_path::NoMemory;
 use just_syntax::AstParameter;
+use just_text::NoMemory;
 use std::alloc::Global;
 use std::collections::BTreeSet;
 

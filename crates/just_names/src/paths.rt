@@ -3,7 +3,7 @@ ghost use Rattle.std.specs.Prelude.{◌≡◌, IfOk};
 ghost use Rattle.just_names.specs.Names.{number_in, ArePaths};
 
 use just_layout::Module;
-use just_path::{NoMemory, Text};
+use just_text::{NoMemory, Text};
 use std::alloc::Global;
 use std::collections::BTreeMap;
 

@@ -10,12 +10,12 @@ ghost use Rattle.just_names.specs.Scopes.{module_scope_of, scope_with, scope_of,
 use super::names::{ModuleNames, Names};
 use super::parameters::{Parameters, parameters_of};
 use just_lang::constant;
-use just_path::NoMemory;
 use just_spots::{Entry, Rule, Spot, earlier, first_among, name_spot, spot_where};
 use just_syntax::{
     Argument, AstDependency, AstItem, AstParameter, AstRecipe, Attribute, Expr, Fragment, Line,
     Name,
 };
+use just_text::NoMemory;
 use std::alloc::Global;
 
 /// Which names are known in an expression: some parameters, the variables that stand in a module, and the constants.

@@ -8,9 +8,9 @@ ghost use Rattle.just_names.specs.Names.{AreNames, layout_of, wins_of};
 ghost use Rattle.just_names.specs.Targets.{target, found_recipe, recipe_by, IsOf, IsFoundIn, IsFound, IsPlaced, end_for, target_for, unknown};
 
 use super::names::{ModuleNames, Names};
-use just_path::Text;
 use just_spots::Entry;
 use just_syntax::{AstItem, AstRecipe, Name};
+use just_text::Text;
 
 /// What a path of names comes to.
 #[derive(Clone, Copy)]

@@ -12,9 +12,9 @@ use super::arity::Arities;
 use super::listed::{ListedAlias, ListedDependency, all_aliases, all_dependencies};
 use super::names::Names;
 use super::target::{PathKind, Target, target_of};
-use just_path::NoMemory;
 use just_spots::{Spot, earlier, name_spot};
 use just_syntax::Name;
+use just_text::NoMemory;
 use std::alloc::Global;
 
 /// The place of the name that a path comes to and that isn't known.

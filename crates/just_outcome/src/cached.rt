@@ -8,7 +8,8 @@ ghost use Rattle.just_outcome.specs.Outcome.{entries_folder, entry_seen as seen_
 use just_errors::Error;
 use just_history::{CachePlan, Event, PlanNode, entry_path_of};
 use just_outside::HostFault;
-use just_path::{Miss, NoMemory, Text, Utf8PathBuf};
+use just_path::{Miss, Utf8PathBuf};
+use just_text::{NoMemory, Text};
 use std::alloc::Global;
 
 /// The error of a refused call on a path; without one nothing is copied.

@@ -12,7 +12,8 @@ use just_commands::{Command, Work, command};
 use just_errors::Error;
 use just_history::{Event, Plan, PlanNode, Reason, Verdict, last_status, reason_of, status_count};
 use just_outside::{Call, HostFault, Spec, Status};
-use just_path::{Miss, NoMemory, Text, Utf8PathBuf};
+use just_path::{Miss, Utf8PathBuf};
+use just_text::{NoMemory, Text};
 use std::alloc::Global;
 
 /// The name of a node's recipe.

@@ -1,3 +1,4 @@
 -- Laws of the outside.
 pub mod Laws
+mod ThreeTexts
 pub mod Writing

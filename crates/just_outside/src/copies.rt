@@ -1,6 +1,6 @@
 //! Copies of what a child is asked for by.
 use super::{Script, Spec};
-use just_path::{NoMemory, TryClone};
+use just_text::{NoMemory, TryClone};
 
 impl TryClone for Script {
     fn try_clone(&self) -> Result<Script, NoMemory> {

@@ -2,8 +2,9 @@
 ghost use Rattle.std.specs.Prelude.{◌≡◌};
 ghost use Rattle.just_outside.specs.declared.entry.HostFault.{HostFault};
 
-use super::Signal;
-use just_path::{Miss, NoMemory, Seq, Text, Utf8PathBuf};
+use super::{ScriptText, Signal};
+use just_path::{Miss, Utf8PathBuf};
+use just_text::{NoMemory, Seq, Text};
 
 /// The calls of a host that can fail.
 #[derive(Clone, Copy, Debug, PartialEq, Eq, Hash)]
@@ -78,7 +79,7 @@ pub enum Look {
 pub struct Script {
     pub folder: Option<Utf8PathBuf>,
     pub name: Text,
-    pub text: Text,
+    pub text: ScriptText,
     /// Whether the file is made executable and is the program itself.
     pub run: bool,
     /// The words behind the script's path.

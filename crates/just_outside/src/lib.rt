@@ -5,11 +5,13 @@ mod copies;
 mod entry;
 mod log;
 mod outside;
+mod script_text;
 mod signal;
 mod tree;
 
 pub use entry::{Call, Entry, HostFault, Look, Script, Spec, Status, Stream};
 pub use log::Log;
 pub use outside::{Host, MAX_BYTES, MAX_SUMMED};
+pub use script_text::ScriptText;
 pub use signal::Signal;
 pub use tree::Thing;

@@ -7,7 +7,8 @@ ghost use Rattle.just_path.specs.declared.host.PathCall.{PathCall};
 ghost use Rattle.just_outside.specs.Record.{call_of, noted, IsFailure, IsMissOf, children, is_started, settled_entry, settled_answer};
 
 use super::{Call, Entry, HostFault, Spec, Status};
-use just_path::{Miss, NoMemory, PathCall, PathFault, Utf8Path};
+use just_path::{Miss, PathCall, PathFault, Utf8Path};
+use just_text::NoMemory;
 use std::alloc::Global;
 
 /// The record of a host, with the memory that is kept for entries to come.

@@ -12,7 +12,8 @@ ghost use Rattle.just_outside.specs.Folders.{TempTells, Removes};
 ghost use Rattle.just_outside.specs.Looks.{dash, TellsAnswer, told_input, told_sum, told_check, LookTells, ChecksTo};
 
 use super::{Call, Entry, HostFault, Look, Spec, Status, Stream};
-use just_path::{Environ, NoMemory, PathHost, Utf8Path, Utf8PathBuf};
+use just_path::{PathHost, Utf8Path, Utf8PathBuf};
+use just_text::{Environ, NoMemory};
 
 /// The most bytes that a read file, a read input or a captured output may have.
 pub const MAX_BYTES: usize = 67_108_864;

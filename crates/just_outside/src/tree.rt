@@ -1,5 +1,5 @@
 //! What stands in a tree of files.
-use just_path::{Seq, Text};
+use just_text::{Seq, Text};
 
 /// What stands at a path of a tree of files.
 #[derive(Debug, Drop)]

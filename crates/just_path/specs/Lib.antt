@@ -1,7 +1,5 @@
 -- The definitions that the contracts here cite.
-pub mod formers
 pub mod Path
-pub mod Environ
 pub mod Host
 pub mod View
 pub mod Asked

@@ -7,7 +7,8 @@ ghost use Rattle.just_path.specs.View.{Tells, meta_told};
 ghost use Rattle.just_path.specs.Directory.{entry_of, entries_left, Lists, TellsNoFolder};
 ghost use Rattle.just_path.specs.declared.host.PathCall.{PathCall};
 
-use super::{Item, Kind, Meta, NoMemory, PathFault, PathHost, Text, Utf8Path, Utf8PathBuf};
+use super::{Item, Kind, Meta, PathFault, PathHost, Utf8Path, Utf8PathBuf};
+use just_text::{NoMemory, Text};
 use std::alloc::Global;
 use std::iter::FusedIterator;
 

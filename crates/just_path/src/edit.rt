@@ -8,7 +8,8 @@ ghost use Rattle.just_path.specs.Names.{file_name_of, with_file_name, with_exten
 use super::name::stem_of;
 use super::path::needs_slash;
 use super::walk::{last_name, trim_back};
-use super::{NoMemory, Utf8Path, Utf8PathBuf};
+use super::{Utf8Path, Utf8PathBuf};
+use just_text::NoMemory;
 
 /// The place in a path's text where the stem of its file name ends.
 #[tactic(auto, using(crate::proofs::FileNames::file_name_last, crate::proofs::FileNames::file_name_none))]

@@ -1,4 +1,4 @@
-//! Paths that are text, and the small types that all crates here share.
+//! Paths that are text.
 //!
 //! A path is a text that is read as Unix paths are: it is split at each `/`, and what stands between gives its
 //! components. A leading `/` gives the root, once; an empty piece gives nothing; `.` gives nothing but in front of a
@@ -23,9 +23,7 @@
 //! - What asks the files asks a [`PathHost`]; a listing is refused whole, comes in byte order of names, and keeps the
 //!   kinds.
 //!
-//! [`Text`] and [`Seq`] are a `String` and a `Vec` that contracts see as the list of bytes and the list of items, compared,
-//! ordered, hashed and copied as these lists; [`TryClone`] is the one way to copy what holds them. [`Environ`] is an
-//! environment.
+//! [`Text`], [`Seq`], [`TryClone`], [`NoMemory`] and [`Environ`] are those of the crate `just_text`.
 #![tactic(auto)]
 
 mod absolute;
@@ -36,15 +34,12 @@ mod clean;
 mod compare;
 mod component;
 mod components;
-mod copies;
 mod directory;
 mod edit;
-mod environ;
 mod from_bytes_error;
 mod from_owned_error;
 mod host;
 mod iter;
-mod memory;
 mod meta;
 mod metadata;
 mod name;
@@ -56,29 +51,23 @@ mod path_parts;
 mod prefix;
 mod room;
 mod scan;
-mod seq;
 mod serialized;
 mod show;
 mod strip;
-mod text;
 mod walk;
 
 pub use absolute::absolute_utf8;
 pub use ancestors::Utf8Ancestors;
 pub use component::Utf8Component;
 pub use components::Utf8Components;
-pub use copies::TryClone;
 pub use directory::{ReadDirUtf8, Utf8DirEntry};
-pub use environ::Environ;
 pub use from_bytes_error::{FromOsStrError, FromPathError};
 pub use from_owned_error::{FromBoxedPathError, FromOsStringError, FromPathBufError};
 pub use host::{Miss, PathCall, PathFault, PathHost, PathNote};
 pub use iter::Iter;
-pub use memory::NoMemory;
+pub use just_text::{Environ, NoMemory, Seq, Text, TryClone};
 pub use meta::{Item, Kind, Meta};
 pub use path::Utf8Path;
 pub use path_buf::Utf8PathBuf;
 pub use prefix::{Utf8Prefix, Utf8PrefixComponent};
-pub use seq::Seq;
 pub use strip::StripPrefix;
-pub use text::Text;

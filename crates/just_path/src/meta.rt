@@ -1,5 +1,5 @@
 //! What is known of a thing at a path.
-use super::Text;
+use just_text::{NoMemory, Text, TryClone};
 
 /// What stands at a path.
 #[derive(Clone, Copy, Debug, PartialEq, Eq, Hash)]
@@ -26,4 +26,16 @@ pub struct Meta {
 pub struct Item {
     pub name: Text,
     pub kind: Kind,
+}
+
+impl TryClone for Kind {
+    fn try_clone(&self) -> Result<Kind, NoMemory> {
+        Ok(*self)
+    }
+}
+
+impl TryClone for Meta {
+    fn try_clone(&self) -> Result<Meta, NoMemory> {
+        Ok(*self)
+    }
 }

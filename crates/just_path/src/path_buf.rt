@@ -2,7 +2,8 @@
 ghost use Rattle.std.specs.Prelude.{◌≡◌, IfOk, string_bytes};
 ghost use Rattle.just_path.specs.Path.{text_of};
 
-use super::{NoMemory, TryClone, Utf8Path};
+use super::Utf8Path;
+use just_text::{NoMemory, TryClone};
 use std::marker::Model;
 
 /// An owned path, which contracts see as the list of its text's bytes.

@@ -2,7 +2,8 @@
 ghost use Rattle.std.specs.Prelude.{◌≡◌, ◌≤◌, [], length, IfOk, IsOk, fold, OnOk, OnErr};
 ghost use Rattle.just_path.specs.Path.{text_of, pushed};
 
-use super::{NoMemory, Utf8Path, Utf8PathBuf};
+use super::{Utf8Path, Utf8PathBuf};
+use just_text::NoMemory;
 use std::alloc::Global;
 
 impl Utf8PathBuf {

@@ -1,8 +1,10 @@
 -- The lemmas of plans.
+pub mod Alone
 pub mod AsMany
 pub mod Chain
 pub mod Found
 pub mod Laws
+pub mod Loading
 pub mod PlanNodes
 pub mod Refusals
 pub mod Requests

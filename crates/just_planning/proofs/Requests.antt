@@ -1,5 +1,5 @@
 -- Each step of a request gives one answer of its own at most, and so does the request.
-use Rattle.std.proofs.Common.{◌≡◌, ℕ, false, true≢false, List, [], ◌∷◌, zip, Option, Some, None, option_map, Result, Ok, Err, refl, sym, ◌∙◌, ap, subst}
+use Rattle.std.proofs.Common.{◌≡◌, false, true≢false, List, [], ◌∷◌, ◌++◌, zip, Option, Some, None, option_map, Result, Ok, Err, refl, sym, ◌∙◌, ap, subst}
 use Rattle.std.specs.Int.NonZero.{non_zero_u64_get}
 use Rattle.just_lang.specs.declared.error.CompileKind.{CompileKind}
 use Rattle.just_lang.specs.declared.key.Key.{Key}
@@ -19,20 +19,22 @@ use Rattle.just_eval.specs.Closures.{around_of}
 use Rattle.just_plans.specs.declared.error.PlanError.{PlanError}
 use Rattle.just_plans.specs.declared.node_plan.NodePlan.{NodePlan}
 use Rattle.just_outside.specs.World.{World}
-use Rattle.just_outside.specs.declared.entry.HostFault.{HostFault}
 use Rattle.just_outside.specs.declared.entry.HostFault.TheVariants as fault
 use Rattle.just_env_files.specs.declared.env_error.EnvError.{EnvError}
 use Rattle.just_env_files.specs.declared.env_error.EnvError.TheVariants as env
-use Rattle.just_env_files.specs.Agree.{is_failure, tells_failure}
+use Rattle.just_env_files.specs.declared.env_error.OutputError.TheVariants as output
+use Rattle.just_env_files.specs.Agree.{tells_failure}
+use Rattle.just_env_files.specs.Captures.{Capture}
 use Rattle.just_env_files.proofs.Agreed.{dotenv_agrees}
 use Rattle.just_errors.specs.Refusals.{error_of_lang, error_of_env}
 use Rattle.just_errors.specs.declared.error.Error.{Error}
 use Rattle.just_errors.specs.declared.error.Error.TheVariants as error
-use Rattle.just_planning.specs.Own.{is_size, is_too_big, is_fault}
+use Rattle.just_planning.specs.Agree.{TakesOwn}
+use Rattle.just_planning.specs.Own.{is_size, is_too_big, is_fault, is_uncaptured, IsOwn}
 use Rattle.just_planning.specs.Planned.{messages_of, error_of_plan}
-use Rattle.just_planning.specs.Request.{SourcesRequest, ProjectRequest, LoadedRequest, ScopesRequest, KeysRequest, ClosureRequest, Outline, AssemblesJustfile, ChecksFeatures, FindsProject, LoadsDotenv, EvaluatesVariables, AsksKeys, InvokesKeys, ClosesKeys, MakesPlan, PlansKeys, PlansProject, PlansSources}
-use Rattle.just_planning.specs.Steps.{Then}
-use Rattle.just_planning.proofs.Steps.{GivesOwn, GivesOwnOf, Finds, own_of, then_own, then_own_of, finds_then}
+use Rattle.just_planning.specs.Request.{SourcesRequest, ProjectRequest, LoadedRequest, ScopesRequest, KeysRequest, ClosureRequest, Outline, AssemblesJustfile, ChecksFeatures, FindsProject, LoadsDotenv, EvaluatesVariables, AsksKeys, InvokesKeys, ClosesKeys, MakesPlan, PlansKeys, PlansProject, PlansLoaded, PlansSources, no_project, of_project}
+use Rattle.just_planning.specs.Steps.{stops, goes_on}
+use Rattle.just_planning.proofs.Steps.{GivesOwn, GivesOwnOf, Finds, own_of, own_refusal, same_refusal, same_found, refused_or_found, then_own, then_own_of, finds_then}
 
 -- ---- options and answers
 
@@ -102,49 +104,54 @@ finds_project = then_own AssemblesJustfile ChecksFeatures assembles_justfile che
 finds_ending : Finds (λ (s : SourcesRequest). Unit {0}) FindsProject EndsProject
 finds_ending = finds_then (λ (s : SourcesRequest). Unit {0}) EndsProject EndsProject AssemblesJustfile ChecksFeatures makes_ending keeps_features
 
--- a refusal of dotenv files is a failure of the host where the error that tells it is one
-fault_of_io : (path : List ℕ) (io : HostFault) → is_fault (error.FilesystemIo path io) ≡ is_failure io
-fault_of_io path (fault.Missed m) = refl
-fault_of_io path (fault.Failed c) = refl
-fault_of_io path fault.NoMemory = refl
+-- a refusal of dotenv pairs that is determined as the error that tells it
+own_of_env : (f : EnvError) → is_fault (error_of_env f) ≡ false → is_uncaptured (error_of_env f) ≡ false → tells_failure f ≡ false
+own_of_env env.DotenvRequired calm child = refl
+own_of_env (env.Dotenv path line) calm child = refl
+own_of_env env.DotenvArgumentsRequireLists calm child = refl
+own_of_env (env.DotenvCommand command (output.Code code)) calm child = refl
+own_of_env (env.DotenvCommand command (output.Io io)) calm child = child
+own_of_env (env.DotenvCommand command (output.Signal number)) calm child = refl
+own_of_env (env.DotenvCommand command output.Unknown) calm child = refl
+own_of_env (env.DotenvCommand command output.Utf8) calm child = refl
+own_of_env (env.Io (fault.Missed m) path) calm child = refl
+own_of_env (env.Io (fault.Failed c) path) calm child = calm
+own_of_env (env.Io fault.NoMemory path) calm child = refl
+own_of_env env.NoMemory calm child = refl
 
-fault_of_env : (f : EnvError) → is_fault (error_of_env f) ≡ tells_failure f
-fault_of_env env.DotenvRequired = refl
-fault_of_env (env.Dotenv path line) = refl
-fault_of_env env.DotenvArgumentsRequireLists = refl
-fault_of_env (env.NotBuilt word) = refl
-fault_of_env (env.Io io path) = fault_of_io path io
-fault_of_env env.NoMemory = refl
-
-own_env : (f : EnvError) (e : Error) → e ≡ error_of_env f → is_fault e ≡ false → tells_failure f ≡ false
-own_env f e is own = sym (fault_of_env f) ∙ ap is_fault (sym is) ∙ own
+pub own_env : (f : EnvError) (e : Error) → e ≡ error_of_env f → IsOwn {A = LoadedRequest} (Err e) → tells_failure f ≡ false
+own_env f e is own = own_of_env f (sym (ap is_fault is) ∙ own.0) (sym (ap is_uncaptured is) ∙ own.2)
 
 module _ (w : World) where
-  -- the modules have one list of dotenv pairs, or one refusal
-  loads_dotenv : GivesOwn (LoadsDotenv (Some w))
-  loads_dotenv k (Ok a) (Ok b) p m q n =
-      let pairs = one_found a.dotenv b.dotenv (dotenv_agrees w k.wanted.dotenv k.environ.pairs k.wanted.flags.folder k.justfile (Ok a.dotenv) (Ok b.dotenv) p.4 tt q.4 tt) in
-      ap (λ x. Ok x)
-      (ap (λ x. let z : LoadedRequest = record { wanted = x; environ = a.environ; justfile = a.justfile; modules = a.modules; dotenv = a.dotenv } in z) (p.0 ∙ sym q.0)
-      ∙ ap (λ x. let z : LoadedRequest = record { wanted = b.wanted; environ = x; justfile = a.justfile; modules = a.modules; dotenv = a.dotenv } in z) (p.1 ∙ sym q.1)
-      ∙ ap (λ x. let z : LoadedRequest = record { wanted = b.wanted; environ = b.environ; justfile = x; modules = a.modules; dotenv = a.dotenv } in z) (p.2 ∙ sym q.2)
-      ∙ ap (λ x. let z : LoadedRequest = record { wanted = b.wanted; environ = b.environ; justfile = b.justfile; modules = x; dotenv = a.dotenv } in z) (p.3 ∙ sym q.3)
-      ∙ ap (λ x. let z : LoadedRequest = record { wanted = b.wanted; environ = b.environ; justfile = b.justfile; modules = b.modules; dotenv = x } in z) pairs)
-  loads_dotenv k (Ok a) (Err f) p m q n =
-      absurd (found_or_refused a.dotenv q.0 (dotenv_agrees w k.wanted.dotenv k.environ.pairs k.wanted.flags.folder k.justfile (Ok a.dotenv) (Err q.0) p.4 tt q.1 (own_env q.0 f q.2 n.0)))
-  loads_dotenv k (Err e) (Ok b) p m q n =
-      absurd (found_or_refused b.dotenv p.0 (dotenv_agrees w k.wanted.dotenv k.environ.pairs k.wanted.flags.folder k.justfile (Ok b.dotenv) (Err p.0) q.4 tt p.1 (own_env p.0 e p.2 m.0)))
-  loads_dotenv k (Err e) (Err f) p m q n =
-      ap (λ x. Err x)
-      (p.2 ∙ ap (λ (l : EnvError). error_of_env l)
-      (one_refusal p.0 q.0 (dotenv_agrees w k.wanted.dotenv k.environ.pairs k.wanted.flags.folder k.justfile (Err p.0) (Err q.0) p.1 (own_env p.0 e p.2 m.0) q.1 (own_env q.0 f q.2 n.0))) ∙ sym q.2)
+  -- the modules have one list of dotenv pairs, or one refusal, where the same children are run for them
+  loads_dotenv : (k : ProjectRequest) → TakesOwn (λ cs r. LoadsDotenv (Some w) cs k r)
+  loads_dotenv k cs ds xs ys is are (Ok a) (Ok b) p m q n =
+      let one = dotenv_agrees w k.wanted.dotenv k.wanted.flags k.environ.pairs k.justfile cs ds xs ys is are (Ok a.dotenv) (Ok b.dotenv) p.4 tt q.4 tt in (
+        ap (λ x. Ok x)
+            (ap (λ x. let z : LoadedRequest = record { wanted = x; environ = a.environ; justfile = a.justfile; modules = a.modules; dotenv = a.dotenv } in z) (p.0 ∙ sym q.0)
+            ∙ ap (λ x. let z : LoadedRequest = record { wanted = b.wanted; environ = x; justfile = a.justfile; modules = a.modules; dotenv = a.dotenv } in z) (p.1 ∙ sym q.1)
+            ∙ ap (λ x. let z : LoadedRequest = record { wanted = b.wanted; environ = b.environ; justfile = x; modules = a.modules; dotenv = a.dotenv } in z) (p.2 ∙ sym q.2)
+            ∙ ap (λ x. let z : LoadedRequest = record { wanted = b.wanted; environ = b.environ; justfile = b.justfile; modules = x; dotenv = a.dotenv } in z) (p.3 ∙ sym q.3)
+            ∙ ap (λ x. let z : LoadedRequest = record { wanted = b.wanted; environ = b.environ; justfile = b.justfile; modules = b.modules; dotenv = x } in z) (one_found a.dotenv b.dotenv one.0)),
+        one.1,
+        one.2,
+      )
+  loads_dotenv k cs ds xs ys is are (Ok a) (Err f) p m q n =
+      let one = dotenv_agrees w k.wanted.dotenv k.wanted.flags k.environ.pairs k.justfile cs ds xs ys is are (Ok a.dotenv) (Err q.0) p.4 tt q.1 (own_env q.0 f q.2 n) in
+      absurd (found_or_refused a.dotenv q.0 one.0)
+  loads_dotenv k cs ds xs ys is are (Err e) (Ok b) p m q n =
+      let one = dotenv_agrees w k.wanted.dotenv k.wanted.flags k.environ.pairs k.justfile cs ds xs ys is are (Err p.0) (Ok b.dotenv) p.1 (own_env p.0 e p.2 m) q.4 tt in
+      absurd (found_or_refused b.dotenv p.0 (sym one.0))
+  loads_dotenv k cs ds xs ys is are (Err e) (Err f) p m q n =
+      let one = dotenv_agrees w k.wanted.dotenv k.wanted.flags k.environ.pairs k.justfile cs ds xs ys is are (Err p.0) (Err q.0) p.1 (own_env p.0 e p.2 m) q.1 (own_env q.0 f q.2 n) in
+      (ap (λ x. Err x) (p.2 ∙ ap (λ (l : EnvError). error_of_env l) (one_refusal p.0 q.0 one.0) ∙ sym q.2), one.1, one.2)
 
 -- the modules stay
 abbrev EndsLoaded : LoadedRequest → Type 0
 EndsLoaded p = End p.modules
 
-keeps_dotenv : (w : World) → Finds EndsProject (LoadsDotenv (Some w)) EndsLoaded
-keeps_dotenv w k ends found p = subst (λ (ms : List Justfile). End ms) (sym p.3) ends
+keeps_dotenv : (told : Option World) (cs : List Capture) → Finds EndsProject (LoadsDotenv told cs) EndsLoaded
+keeps_dotenv told cs k ends found p = subst (λ (ms : List Justfile). End ms) (sym p.3) ends
 
 -- a project has one evaluation, since no variable leads to itself
 evaluates_variables : GivesOwnOf EndsLoaded EvaluatesVariables
@@ -224,9 +231,27 @@ plans_project : GivesOwnOf EndsLoaded PlansProject
 plans_project =
     then_own_of EndsLoaded (λ (s : ScopesRequest). Unit {0}) EvaluatesVariables PlansKeys evaluates_variables (λ k ends found p. tt) (own_of (λ (s : ScopesRequest). Unit {0}) PlansKeys plans_keys)
 
-loaded_plan : (w : World) → GivesOwnOf EndsProject (Then (LoadsDotenv (Some w)) PlansProject)
-loaded_plan w = then_own_of EndsProject EndsLoaded (LoadsDotenv (Some w)) PlansProject (own_of EndsProject (LoadsDotenv (Some w)) (loads_dotenv w)) (keeps_dotenv w) plans_project
+-- a project has one plan, or one refusal, where the same children are run for its pairs
+loaded_plan : (w : World) (k : ProjectRequest) → EndsProject k → TakesOwn (λ cs r. PlansLoaded (Some w) cs k r)
+loaded_plan w k ends cs ds xs ys is are r s (stops e p at) own (stops f q so) other =
+    let one = loads_dotenv w k cs ds xs ys is are (Err e) (Err f) p (own_refusal r e at own) q (own_refusal s f so other) in
+    (at ∙ same_refusal e f one.0 ∙ sym so, one.1, one.2)
+loaded_plan w k ends cs ds xs ys is are r s (stops e p at) own (goes_on y q more) other =
+    let one = loads_dotenv w k cs ds xs ys is are (Err e) (Ok y) p (own_refusal r e at own) q tt in
+    absurd (refused_or_found e y one.0)
+loaded_plan w k ends cs ds xs ys is are r s (goes_on x p more) own (stops f q so) other =
+    let one = loads_dotenv w k cs ds xs ys is are (Ok x) (Err f) p tt q (own_refusal s f so other) in
+    absurd (refused_or_found f x (sym one.0))
+loaded_plan w k ends cs ds xs ys is are r s (goes_on x p more) own (goes_on y q further) other =
+    let one = loads_dotenv w k cs ds xs ys is are (Ok x) (Ok y) p tt q tt in
+    let there : PlansProject y r = subst (λ z. PlansProject z r) (same_found x y one.0) more in
+    (plans_project y (keeps_dotenv (Some w) ds k ends y q) r s there own further other, one.1, one.2)
 
-pub plans_sources : (w : World) → GivesOwn (PlansSources (Some w))
-plans_sources w s r q =
-    then_own_of (λ (x : SourcesRequest). Unit {0}) EndsProject FindsProject _ (own_of (λ (x : SourcesRequest). Unit {0}) FindsProject finds_project) finds_ending (loaded_plan w) s tt r q
+pub plans_sources : (w : World) (s : SourcesRequest) → TakesOwn (λ cs r. PlansSources (Some w) cs s r)
+plans_sources w s cs ds xs ys is are r t (no_project e p none at) own (no_project f q nothing so) other =
+    (at ∙ same_refusal e f (finds_project s (Err e) (Err f) p (own_refusal r e at own) q (own_refusal t f so other)) ∙ sym so, none ∙ sym nothing, sym (ap (λ l. l ++ xs) none) ∙ is ∙ ap (λ l. l ++ ys) nothing)
+plans_sources w s cs ds xs ys is are r t (no_project e p none at) own (of_project k q plans) other = absurd (refused_or_found e k (finds_project s (Err e) (Ok k) p (own_refusal r e at own) q tt))
+plans_sources w s cs ds xs ys is are r t (of_project k p plans) own (no_project f q nothing so) other = absurd (refused_or_found f k (finds_project s (Err f) (Ok k) q (own_refusal t f so other) p tt))
+plans_sources w s cs ds xs ys is are r t (of_project k p plans) own (of_project l q others) other =
+    let same : k ≡ l = same_found k l (finds_project s (Ok k) (Ok l) p tt q tt) in
+    loaded_plan w l (finds_ending s tt l q) cs ds xs ys is are r t (subst (λ z. PlansLoaded (Some w) cs z r) same plans) own others other

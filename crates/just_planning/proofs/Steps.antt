@@ -21,7 +21,7 @@ pub same_found : {A : Type 0} (x y : A) → ◌≡◌ {A = Result A Error} (Ok x
 same_found x y is = cc
 
 -- an answer that is a refusal has what the refusal has
-own_refusal : {A : Type 0} (r : Result A Error) (e : Error) → r ≡ Err e → IsOwn r → IsOwn {A = A} (Err e)
+pub own_refusal : {A : Type 0} (r : Result A Error) (e : Error) → r ≡ Err e → IsOwn r → IsOwn {A = A} (Err e)
 own_refusal {A = A} r e is own = subst (λ (z : Result A Error). IsOwn z) is own
 
 -- of two steps that give one such answer at most, so does the second behind the first

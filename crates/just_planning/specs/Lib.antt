@@ -2,6 +2,7 @@
 pub mod Agree
 pub mod Forms
 pub mod Own
+pub mod Pairs
 pub mod Planned
 pub mod Projects
 pub mod Request

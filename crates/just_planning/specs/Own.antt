@@ -1,8 +1,11 @@
 -- Errors that a request determines, and those that it doesn't.
 use Rattle.std.specs.Prelude.{ℕ, ◌≡◌, ◌⊎◌, Bool, true, false, List, [], Option, Some, None, Result, Ok, Err}
 use Rattle.just_path.specs.declared.host.Miss.TheVariants as miss
+use Rattle.just_outside.specs.Looks.{dash}
 use Rattle.just_outside.specs.declared.entry.HostFault.{HostFault}
 use Rattle.just_outside.specs.declared.entry.HostFault.TheVariants as fault
+use Rattle.just_env.specs.declared.search_error.SearchError.TheVariants as search
+use Rattle.just_env_files.specs.declared.env_error.OutputError.TheVariants as output
 use Rattle.just_lang.specs.declared.error.CompileKind.{CompileKind}
 use Rattle.just_lang.specs.declared.error.CompileKind.TheVariants as kind
 use Rattle.just_errors.specs.declared.error.Error.{Error}
@@ -12,11 +15,14 @@ use Rattle.just_errors.specs.declared.error.Error.TheVariants as error
 abbrev pub OrMemory : (Error → Type 0) → Error → Type 0
 OrMemory holds e = (e ≡ error.NoMemory) ⊎ holds e
 
--- the path of the refused call that an error tells, empty where the call has none, and the refusal
+-- the path of the refused call that an error tells, empty where it tells none, and the refusal
 abbrev pub call_in : Error → Option (List ℕ × HostFault)
 call_in (error.FilesystemIo path io) = Some (path, io)
 call_in (error.Load path io) = Some (path, io)
 call_in (error.CurrentDir io) = Some ([], io)
+call_in (error.Search (search.StdinIo io)) = Some (dash, io)
+call_in (error.Search (search.TempdirIo io)) = Some ([], io)
+call_in (error.DotenvCommand command (output.Io io)) = Some ([], io)
 call_in (error.ShellIo recipe shell io) = Some ([], io)
 call_in (error.Script recipe command io) = Some ([], io)
 call_in (error.Shebang recipe command argument io) = Some ([], io)
@@ -57,7 +63,13 @@ is_size _ = false
 abbrev pub is_too_big : Error → Bool
 is_too_big e = is_size (kind_in e)
 
--- An answer that world and words determine: no failure of the host, and no pattern that is too big.
+-- a child that gives dotenv pairs wasn't run to its end: a world doesn't show why
+abbrev pub is_uncaptured : Error → Bool
+is_uncaptured (error.DotenvCommand command (output.Io io)) = true
+is_uncaptured _ = false
+
+-- An answer that world and words determine, and the children that were run to their end for it: no failure of the host, no child that wasn't run to its
+-- end, and no pattern that is too big.
 abbrev pub IsOwn : {A : Type 0} → Result A Error → Type 0
 IsOwn (Ok x) = Unit {0}
-IsOwn (Err e) = (is_fault e ≡ false) × (is_too_big e ≡ false)
+IsOwn (Err e) = (is_fault e ≡ false) × (is_too_big e ≡ false) × (is_uncaptured e ≡ false)

@@ -1,7 +1,7 @@
 -- What is asked of the sources of a project: a chain of steps from the sources to the plan of a run, or to a refusal.
 use Rattle.std.specs.Prelude.{ℕ, ◌≡◌, Bool, List, [], ◌∷◌, zip, map, Option, Some, None, option_map, Result, Ok, Err}
 use Rattle.std.specs.Int.NonZero.{non_zero_u64_get}
-use Rattle.just_path.specs.declared.environ.Environ.{Environ}
+use Rattle.just_text.specs.declared.environ.Environ.{Environ}
 use Rattle.just_lang.specs.declared.key.Key.{Key}
 use Rattle.just_lang.specs.declared.node.Closure.{Closure}
 use Rattle.just_lang.specs.declared.node.Node.{Node}
@@ -24,12 +24,12 @@ use Rattle.just_plans.specs.declared.error.PlanError.{PlanError}
 use Rattle.just_plans.specs.declared.node_plan.NodePlan.{NodePlan}
 use Rattle.just_history.specs.declared.plan.Plan.{Plan}
 use Rattle.just_outside.specs.World.{World}
-use Rattle.just_env_files.specs.declared.env_error.EnvError.{EnvError}
-use Rattle.just_env_files.specs.Loads.{LoadsProject}
-use Rattle.just_errors.specs.Refusals.{error_of_lang, error_of_env}
+use Rattle.just_env_files.specs.Captures.{Capture}
+use Rattle.just_errors.specs.Refusals.{error_of_lang}
 use Rattle.just_errors.specs.declared.error.Error.{Error}
 use Rattle.just_errors.specs.declared.error.Error.TheVariants as error
 use Rattle.just_planning.specs.Forms.{unstable_feature}
+use Rattle.just_planning.specs.Pairs.{LoadsPairs}
 use Rattle.just_planning.specs.Planned.{planned, messages_of, plans_in, error_of_plan}
 use Rattle.just_planning.specs.Steps.{Then}
 use Rattle.just_planning.specs.declared.wanted.Wanted.{Wanted}
@@ -101,12 +101,12 @@ abbrev pub ChecksFeatures : ProjectRequest → Result ProjectRequest Error → T
 ChecksFeatures p (Ok q) = (unstable_feature p.wanted.unstable p.modules ≡ None) × (q ≡ p)
 ChecksFeatures p (Err e) = (u : UnstableFeature) × (unstable_feature p.wanted.unstable p.modules ≡ Some u) × (e ≡ error.UnstableFeature u)
 
--- The modules have these dotenv pairs; or the first of them that is refused is told. Over a host that tells no world files may hold anything.
-abbrev pub LoadsDotenv : Option World → ProjectRequest → Result LoadedRequest Error → Type 0
-LoadsDotenv told p (Ok q) =
-    (q.wanted ≡ p.wanted) × (q.environ ≡ p.environ) × (q.justfile ≡ p.justfile) × (q.modules ≡ p.modules)
-    × LoadsProject told p.wanted.dotenv p.environ.pairs p.wanted.flags.folder p.justfile (Ok q.dotenv)
-LoadsDotenv told p (Err e) = (f : EnvError) × LoadsProject told p.wanted.dotenv p.environ.pairs p.wanted.flags.folder p.justfile (Err f) × (e ≡ error_of_env f)
+-- The modules have these dotenv pairs, for which these children were run to their end; or the first of them that is refused is told. Over a host that tells no
+-- world files may hold anything.
+abbrev pub LoadsDotenv : Option World → List Capture → ProjectRequest → Result LoadedRequest Error → Type 0
+LoadsDotenv told cs p (Ok q) =
+    (q.wanted ≡ p.wanted) × (q.environ ≡ p.environ) × (q.justfile ≡ p.justfile) × (q.modules ≡ p.modules) × LoadsPairs told p.wanted p.environ p.justfile cs (Ok q.dotenv)
+LoadsDotenv told cs p (Err e) = LoadsPairs told p.wanted p.environ p.justfile cs (Err e)
 
 -- the variables have these values; or one is overridden that isn't there, or has none
 abbrev pub EvaluatesVariables : LoadedRequest → Result ScopesRequest Error → Type 0
@@ -148,6 +148,11 @@ PlansKeys = Then InvokesKeys (Then ClosesKeys MakesPlan)
 abbrev pub PlansProject : LoadedRequest → Result Outline Error → Type 0
 PlansProject = Then EvaluatesVariables PlansKeys
 
--- all steps; the dotenv pairs are loaded over a host that tells this world, if it tells one
-abbrev pub PlansSources : Option World → SourcesRequest → Result Outline Error → Type 0
-PlansSources told = Then FindsProject (Then (LoadsDotenv told) PlansProject)
+-- the steps behind the project; its dotenv pairs are loaded over a host that tells this world, if it tells one, with these children
+abbrev pub PlansLoaded : Option World → List Capture → ProjectRequest → Result Outline Error → Type 0
+PlansLoaded told cs = Then (LoadsDotenv told cs) PlansProject
+
+-- all steps; where there is no project, no child is run
+pub data PlansSources (told : Option World) (cs : List Capture) (s : SourcesRequest) (r : Result Outline Error) : Type 0 where
+  no_project : (e : Error) → FindsProject s (Err e) → cs ≡ [] → r ≡ Err e → PlansSources told cs s r
+  of_project : (p : ProjectRequest) → FindsProject s (Ok p) → PlansLoaded told cs p r → PlansSources told cs s r

@@ -12,7 +12,7 @@ use just_config::UnstableFeature;
 use just_errors::Error;
 use just_lang::Recipe;
 use just_lang::project::Justfile;
-use just_path::Text;
+use just_text::Text;
 use std::alloc::Global;
 
 /// The error of what isn't built yet.

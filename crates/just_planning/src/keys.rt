@@ -18,7 +18,7 @@ use just_history::Plan;
 use just_invocations::{invocations, within_one};
 use just_lang::project::{Justfile, LangError};
 use just_lang::{Closure, Key, Scopes};
-use just_path::Seq;
+use just_text::Seq;
 use std::alloc::Global;
 
 /// The keys that the words ask for.

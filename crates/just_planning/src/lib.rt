@@ -4,6 +4,7 @@
 mod forms;
 mod keys;
 mod law;
+mod pairs;
 mod planning;
 mod project;
 mod wanted;
@@ -11,5 +12,6 @@ mod wanted;
 pub use forms::not_built_error;
 pub use just_env_files::DotenvAsk;
 pub use law::plans_agree;
+pub use pairs::load_pairs;
 pub use project::{plan_of_project, project_of_sources};
 pub use wanted::Wanted;

@@ -22,8 +22,9 @@ use just_key::class_text;
 use just_lang::project::LangError;
 use just_lang::{BodyLine, Closure, Key, Node};
 use just_lines::lines_of;
-use just_path::{NoMemory, Seq, Text, Utf8Path};
+use just_path::Utf8Path;
 use just_plans::{Bodies, NodeCache, NodePlan, PlanError, node_plans};
+use just_text::{NoMemory, Seq, Text};
 use just_value::View;
 use std::alloc::Global;
 

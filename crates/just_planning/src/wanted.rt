@@ -3,7 +3,8 @@
 use just_commands::RunFlags;
 use just_env_files::DotenvAsk;
 use just_lang::Override;
-use just_path::{Seq, Text, Utf8PathBuf};
+use just_path::Utf8PathBuf;
+use just_text::{Seq, Text};
 use std::num::NonZeroU64;
 
 /// What is asked of a justfile.

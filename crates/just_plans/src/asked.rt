@@ -5,7 +5,7 @@ ghost use Rattle.just_plans.specs.Prompts.{question, prompt, is_parallel};
 
 use just_commands::{RunFlags, attribute_text, has_attribute};
 use just_lang::Recipe;
-use just_path::{NoMemory, Text};
+use just_text::{NoMemory, Text};
 use std::alloc::Global;
 
 /// A text between two others.

@@ -2,7 +2,7 @@
 
 use just_lang::project::LangError;
 use just_lang::{BodyLine, Key};
-use just_path::{NoMemory, Seq, Text};
+use just_text::{NoMemory, Seq, Text};
 use std::alloc::Global;
 
 /// What knows the lines of bodies with their values, and the environment of the children that run them.

@@ -14,8 +14,9 @@ use just_eval::{Entry, text_in_recipe};
 use just_lang::project::LangError;
 use just_lang::{BodyLine, Recipe, Scopes, Value};
 use just_outside::{Script, Spec};
-use just_path::{NoMemory, Seq, Text, Utf8Path, Utf8PathBuf};
+use just_path::{Utf8Path, Utf8PathBuf};
 use just_syntax::{Argument, Attribute, Name};
+use just_text::{NoMemory, Seq, Text};
 use std::alloc::Global;
 
 /// The `cache` of a recipe, if it has one.

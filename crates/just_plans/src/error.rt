@@ -6,7 +6,7 @@ ghost use Rattle.just_plans.specs.declared.error.PlanError.TheVariants as error;
 
 use just_commands::CommandError;
 use just_lang::project::LangError;
-use just_path::NoMemory;
+use just_text::NoMemory;
 use std::alloc::{AllocError, AllocFailed};
 
 /// Why there is no plan of a closure. Memory may be wanting in either way.

@@ -5,7 +5,7 @@ ghost use Rattle.just_plans.specs.Banners.{name_line, doc_line, banner};
 
 use just_commands::RunFlags;
 use just_lang::Recipe;
-use just_path::{NoMemory, Text};
+use just_text::{NoMemory, Text};
 use std::alloc::Global;
 
 /// Adds the line with a recipe's name, where it is to be told.

@@ -8,7 +8,7 @@ use just_commands::{Running, attribute_text, has_attribute};
 use just_key::{CacheKey, KeyExecutor};
 use just_lang::{BodyLine, Interpreter};
 use just_outside::{Script, Spec};
-use just_path::{NoMemory, Seq, Text, TryClone};
+use just_text::{NoMemory, Seq, Text, TryClone};
 use std::alloc::Global;
 
 /// The first of some texts.

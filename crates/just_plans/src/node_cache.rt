@@ -1,7 +1,8 @@
 //! What a recipe says of its cache.
 
 use just_key::CacheKey;
-use just_path::{Seq, Text, Utf8PathBuf};
+use just_path::Utf8PathBuf;
+use just_text::{Seq, Text};
 
 /// The cache of a recipe's body: what the body depends on, and the files that it reads and makes.
 #[derive(Drop)]

@@ -2,7 +2,7 @@
 
 use super::NodeCache;
 use just_commands::Work;
-use just_path::Text;
+use just_text::Text;
 
 /// What a plan says of a node, beside the node itself.
 #[derive(Drop)]

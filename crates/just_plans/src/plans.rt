@@ -16,7 +16,8 @@ use just_commands::{RunFlags, Running, Work, module_folder, recipe_work};
 use just_eval::{Entry, Request};
 use just_lang::project::Justfile;
 use just_lang::{BodyLine, Key, Node, Scopes, Value};
-use just_path::{NoMemory, Seq, Text, Utf8Path};
+use just_path::Utf8Path;
+use just_text::{NoMemory, Seq, Text};
 use std::alloc::Global;
 
 /// The plan of a path at which no recipe is.

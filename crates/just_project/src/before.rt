@@ -4,7 +4,7 @@ ghost use Rattle.just_names.specs.Names.{AreNames, layout_of, wins_of};
 ghost use Rattle.just_project.specs.Befores.{AreBeforeEach};
 
 use just_names::Names;
-use just_path::NoMemory;
+use just_text::NoMemory;
 use std::alloc::Global;
 
 /// The sum, where it can be counted.

@@ -7,8 +7,8 @@ use just_assembly::AliasTarget;
 use just_lang::Modulepath;
 use just_layout::Layout;
 use just_names::Target;
-use just_path::{NoMemory, TryClone};
 use just_shapes::path_within;
+use just_text::{NoMemory, TryClone};
 use std::alloc::Global;
 
 /// The path from the root of a name in the module of that number.

@@ -22,7 +22,7 @@ use just_lang::Source;
 use just_lang::project::{Justfile, LangError};
 use just_layout::{Layout, lay};
 use just_names::{Names, names_of};
-use just_path::{Environ, NoMemory, Seq};
+use just_text::{Environ, NoMemory, Seq};
 use std::alloc::Global;
 
 /// The justfile of a project that has these tables.

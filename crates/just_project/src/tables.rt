@@ -12,8 +12,8 @@ use just_assembly::{AliasTarget, Linker};
 use just_cycles::{Disabling, modules_of_alias, modules_of_recipe};
 use just_lang::Modulepath;
 use just_names::{Names, PathKind, target_of};
-use just_path::{NoMemory, Seq, Text};
 use just_syntax::Name;
+use just_text::{NoMemory, Seq, Text};
 use std::alloc::Global;
 
 /// The tables of a project. They are of one layout.

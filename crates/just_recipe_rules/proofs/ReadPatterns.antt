@@ -14,7 +14,7 @@ use Rattle.regex_syntax.specs.Brackets.{Nested}
 use Rattle.regex_syntax.specs.Grammar.{Names, read}
 use Rattle.regex_syntax.specs.declared.error.ErrorKind.{ErrorKind}
 use Rattle.regex_syntax.specs.declared.error.ErrorKind.TheVariants.{OutOfMemory, NestLimitExceeded}
-use Rattle.just_path.specs.declared.memory.NoMemory.{NoMemory}
+use Rattle.just_text.specs.declared.memory.NoMemory.{NoMemory}
 use Rattle.just_recipe_rules.specs.declared.refusals.Refusal.{Refusal}
 use Rattle.just_recipe_rules.specs.Patterns.{is_shallow, is_pattern, refusal_by, IsOwnRefusal}
 

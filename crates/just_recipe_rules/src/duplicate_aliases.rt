@@ -1,7 +1,7 @@
 //! The rule that a module has one alias of a name.
-use just_path::NoMemory;
 use just_spots::{Entry, ModuleRule, Named, Naming, Spot, first_repeated_in, name_spot};
 use just_syntax::AstItem;
+use just_text::NoMemory;
 use std::alloc::Global;
 
 /// The rule that the aliases of a module have different names. Its place is the name that comes again.

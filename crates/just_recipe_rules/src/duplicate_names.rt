@@ -1,9 +1,9 @@
 //! The rules that a module has one recipe and one variable of a name.
 use super::given_name::GivenName;
-use just_path::{NoMemory, Seq};
 use just_spots::{
     Entry, ModuleRule, Spot, first_repeated_in, is_set, recipe_items, unbeaten, variable_items,
 };
+use just_text::{NoMemory, Seq};
 use std::alloc::Global;
 
 /// The rule that of the recipes of a module that this platform has no two that nobody beats have one name, unless the module

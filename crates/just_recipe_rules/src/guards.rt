@@ -7,10 +7,10 @@ ghost use Rattle.just_recipe_rules.specs.GuardSpots.{guard_spot, guard_spots_of}
 use super::items::first_in_items;
 use super::line_front::{front, goes_on};
 use super::sigils::is_guard_and_infallible;
-use just_path::NoMemory;
 use just_rules::is_script;
 use just_spots::{Entry, ModuleRule, Rule, Spot, earlier, is_set, spot_where};
 use just_syntax::{AstItem, Line};
+use just_text::NoMemory;
 use std::alloc::Global;
 
 /// The beginning of the first of these lines, where it continues none and its front has both sigils.

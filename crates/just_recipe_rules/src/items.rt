@@ -4,9 +4,9 @@ ghost use Rattle.std.specs.List.{flat_map};
 ghost use Rattle.just_spots.specs.Spots.{first_spot};
 ghost use Rattle.just_spots.specs.Entries.{entries};
 
-use just_path::NoMemory;
 use just_spots::{Entry, Rule, Spot, earlier};
 use just_syntax::AstItem;
+use just_text::NoMemory;
 use std::alloc::Global;
 
 /// The first place where one of the items breaks the rule.

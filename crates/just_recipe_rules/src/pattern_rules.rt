@@ -7,10 +7,10 @@ ghost use Rattle.just_recipe_rules.specs.Patterns.{is_pattern, pattern_pair, pat
 
 use super::patterns::{PatternText, patterns_of, push_of_item};
 use super::refusals::{Refusal, own_refusal, pattern_refusal};
-use just_path::NoMemory;
 use just_rules::Texts;
 use just_spots::{Entry, Rule, Spot, earlier, spot_where};
 use just_syntax::AstItem;
+use just_text::NoMemory;
 use std::alloc::Global;
 
 /// Whether the grammar of regular expressions doesn't read the pattern.

@@ -3,10 +3,10 @@ ghost use Rattle.std.specs.Prelude.{◌≡◌, ◌++◌, IfOk, OnOk, option_map,
 ghost use Rattle.std.specs.List.{flat_map};
 ghost use Rattle.just_recipe_rules.specs.Patterns.{pattern_pair, pattern_text, patterns_of_attribute, patterns_of};
 
-use just_path::{NoMemory, Text};
 use just_rules::{Texts, const_text};
 use just_spots::{Spot, argument_spot};
 use just_syntax::{Argument, AstItem, Attribute};
+use just_text::{NoMemory, Text};
 use std::alloc::Global;
 
 /// A pattern, with the place of its value.

@@ -2,7 +2,7 @@
 ghost use Rattle.std.specs.Prelude.{◌≡◌, IfOk, string_bytes};
 ghost use Rattle.just_recipe_rules.specs.Patterns.{whole_pattern, is_pattern, refusal_by, IsOwnRefusal, IsRefusal};
 
-use just_path::NoMemory;
+use just_text::NoMemory;
 use regex::{Error, Regex};
 use std::alloc::{AllocError, Global};
 

@@ -5,9 +5,9 @@ ghost use Rattle.just_rules.specs.AttributeSpots.{is_stranger};
 
 use super::expr_text::const_text;
 use super::texts::Texts;
-use just_path::{NoMemory, Text};
 use just_spots::{Rule, Spot, argument_spot, first_among, spot_where};
 use just_syntax::{AstItem, AstParameter, Attribute};
+use just_text::{NoMemory, Text};
 use std::alloc::Global;
 
 /// Whether a parameter has the name.

@@ -4,9 +4,9 @@ ghost use Rattle.just_syntax.specs.Forms.{is_one_of};
 ghost use Rattle.just_rules.specs.Tables.{recipe_attributes, module_attributes};
 ghost use Rattle.just_rules.specs.AttributeSpots.{is_called, begins_shebang, is_shebang, has_script, is_script};
 
-use just_path::NoMemory;
 use just_spots::{Rule, Spot, first_among, name_spot, spot_where};
 use just_syntax::{AstItem, AstRecipe, Attribute, Fragment, Line};
+use just_text::NoMemory;
 use std::alloc::Global;
 
 /// Whether recipes have an attribute of that name.

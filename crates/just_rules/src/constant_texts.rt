@@ -5,9 +5,9 @@ ghost use Rattle.just_spots.specs.Spots.{first_spot};
 ghost use Rattle.just_rules.specs.ConstantTexts.{variable_spot, variables_of_expr, variables_behind_key, variables_of_arg, variables_of_setting};
 
 use just_lang::constant;
-use just_path::NoMemory;
 use just_spots::{Rule, Spot, earlier, first_among, name_spot};
 use just_syntax::{Argument, AstItem, Attribute, Expr, Name, SettingValue};
+use just_text::NoMemory;
 use std::alloc::Global;
 
 /// The place of a name that isn't a constant's.

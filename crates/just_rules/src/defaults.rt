@@ -5,9 +5,9 @@ ghost use Rattle.just_spots.specs.Spots.{first_spot};
 ghost use Rattle.just_spots.specs.Entries.{entries};
 ghost use Rattle.just_rules.specs.DefaultSpots.{default_attributes, default_spots};
 
-use just_path::NoMemory;
 use just_spots::{Entry, ModuleRule, Spot, first_of, name_spot};
 use just_syntax::{AstItem, Attribute};
+use just_text::NoMemory;
 use std::alloc::{AllocError, Global};
 
 /// Adds the places of the attribute `default` among some attributes.

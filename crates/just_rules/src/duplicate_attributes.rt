@@ -6,11 +6,11 @@ ghost use Rattle.just_rules.specs.AttributeSpots.{arg_name, arg_pair, duplicate_
 
 use super::expr_text::const_text;
 use super::texts::Texts;
-use just_path::{NoMemory, Text};
 use just_spots::{
     Named, Naming, Rule, Spot, earlier, first_repeated, first_repeated_among, name_spot,
 };
 use just_syntax::{AstItem, Attribute};
+use just_text::{NoMemory, Text};
 use std::alloc::{AllocError, Global};
 
 /// The parameter that an `arg` is for, with the attribute's place.

@@ -5,12 +5,12 @@ ghost use Rattle.just_rules.specs.Literals.{literals_of_expr, literals_behind_co
 ghost use Rattle.just_spots.specs.Spots.{first_spot};
 
 use super::texts::Texts;
-use just_path::NoMemory;
 use just_spots::{Rule, Spot, earlier, first_among, literal_spot, spot_where};
 use just_syntax::{
     Argument, AstDependency, AstItem, AstParameter, AstRecipe, Attribute, Expr, Fragment, Line,
     SettingValue, StringLiteral,
 };
+use just_text::NoMemory;
 use std::alloc::Global;
 
 /// Whether the string has an `x` in front and can't be expanded.

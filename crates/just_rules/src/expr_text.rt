@@ -5,8 +5,8 @@ ghost use Rattle.just_lang.specs.Constants.{constant_of};
 
 use super::texts::Texts;
 use just_lang::constant;
-use just_path::{NoMemory, Text};
 use just_syntax::{Comparison, Expr};
+use just_text::{NoMemory, Text};
 use std::alloc::Global;
 
 /// Whether a condition holds of two texts.

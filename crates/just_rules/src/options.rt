@@ -6,8 +6,8 @@ ghost use Rattle.just_rules.specs.Options.{is_text, is_named_key, has_character,
 
 use super::expr_text::const_text;
 use super::texts::Texts;
-use just_path::{NoMemory, Text};
 use just_syntax::{Argument, AstParameter, Attribute, Expr, Name};
+use just_text::{NoMemory, Text};
 use std::alloc::Global;
 
 /// Whether the text is that name.

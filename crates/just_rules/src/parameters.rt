@@ -3,9 +3,9 @@ ghost use Rattle.std.specs.Prelude.{◌≡◌, IfOk, map};
 ghost use Rattle.just_spots.specs.Repeated.{named};
 ghost use Rattle.just_rules.specs.ParameterSpots.{parameter_name};
 
-use just_path::NoMemory;
 use just_spots::{Named, Rule, Spot, first_repeated, name_spot};
 use just_syntax::{AstItem, AstParameter};
+use just_text::NoMemory;
 use std::alloc::{AllocError, Global};
 
 /// The names of parameters.

@@ -5,9 +5,9 @@ ghost use Rattle.just_rules.specs.ParameterSpots.{wants_value, is_misplaced, mis
 
 use super::options::is_option;
 use super::texts::Texts;
-use just_path::NoMemory;
 use just_spots::{Rule, Spot, earlier, name_spot, spot_where};
 use just_syntax::{AstItem, AstParameter, Attribute, ParameterKind};
+use just_text::NoMemory;
 use std::alloc::Global;
 
 /// Whether the parameter has no default, and isn't one of any number.

@@ -3,11 +3,11 @@ ghost use Rattle.std.specs.Prelude.{◌≡◌};
 ghost use Rattle.just_syntax.specs.Forms.{is_one_of};
 ghost use Rattle.just_rules.specs.Tables.{settings};
 
-use just_path::NoMemory;
 use just_spots::{
     Entry, ModuleRule, Named, Naming, Rule, Spot, first_repeated_in, name_spot, spot_where,
 };
 use just_syntax::AstItem;
+use just_text::NoMemory;
 use std::alloc::Global;
 
 /// Whether there is a setting of that name.

@@ -1,6 +1,6 @@
 //! The texts that the strings of a justfile mean.
-use just_path::{NoMemory, Text};
 use just_syntax::StringLiteral;
+use just_text::{NoMemory, Text};
 use std::alloc::Global;
 
 /// What strings mean, as by the environment that those with an `x` in front are expanded over.

@@ -1,6 +1,6 @@
 -- Lines of a script, one behind the other.
 use Rattle.std.proofs.Common.{◌≡◌, ℕ, suc, ◌+◌, ◌<◌, ◌≤◌, Bool, true, false, cond, List, [], ◌∷◌, ◌++◌, length, drop, get_or, drop-cons, replicate, append-nil, append_assoc, sym, ap, ◌∙◌, arith}
-use Rattle.std.proofs.lemmas.List.{drop_all, length-append, length-replicate}
+use Rattle.std.proofs.lemmas.List.{drop_all}
 use Rattle.just_lang.specs.declared.node.BodyLine.{BodyLine}
 use Rattle.just_scripts.specs.Scripts.{ended, shebang_count, shebang_lines, is_shebang_line, gap, placed}
 
@@ -48,30 +48,10 @@ shebang_all ls n kept t le = ap (λ u. t ++ shebang_lines kept u) (drop_all n ls
 pub placed_all : (ls : List BodyLine) (n above : ℕ) (t : List ℕ) → length ls ≤ n → t ++ placed above (drop n ls) ≡ t
 placed_all ls n above t le = ap (λ u. t ++ placed above u) (drop_all n ls le) ∙ append-nil t
 
--- a text with a line more is longer by more than its blank lines
-pub longer : (old new : List ℕ) (k : ℕ) (t : List ℕ) → new ≡ old ++ (replicate k 10 ++ ended t) → length old + k + 1 ≤ length new
-longer old new k t h =
-    let whole : length new ≡ length old + length {A = ℕ} (replicate k 10 ++ ended t) = ap length h ∙ length-append old (replicate k 10 ++ ended t) in
-    let parts : length {A = ℕ} (replicate k 10 ++ ended t) ≡ length {A = ℕ} (replicate k 10) + length (ended t) = length-append (replicate k 10) (ended t) in
-    let blanks : length {A = ℕ} (replicate k 10) ≡ k = length-replicate k 10 in
-    let end : length (ended t) ≡ length t + 1 = length-append t (10 ∷ []) in
-    omega (arith, whole, parts, blanks, end)
-
--- each line of a shebang ends
-pub enough : (kept : Bool) (ls : List BodyLine) (old new : List ℕ) → new ≡ old ++ shebang_lines kept ls → length ls ≤ length new
-enough kept ls old new h =
-    let whole : length new ≡ length old + length {A = ℕ} (shebang_lines kept ls) = ap length h ∙ length-append old (shebang_lines kept ls) in
-    let lines = ends ls in
-    omega (arith, whole, lines)
-  where
-    ends : (ls : List BodyLine) → length ls ≤ length {A = ℕ} (shebang_lines kept ls)
-    ends [] = omega arith
-    ends (l ∷ ls) =
-        let more = ends ls in
-        let whole : length {A = ℕ} (shebang_lines kept (l ∷ ls)) ≡ length {A = ℕ} (ended (cond kept l.text [])) + length {A = ℕ} (shebang_lines kept ls) = length-append (ended (cond kept l.text [])) (shebang_lines kept ls) in
-        let end : length {A = ℕ} (ended (cond kept l.text [])) ≡ length {A = ℕ} (cond kept l.text []) + 1 = length-append (cond kept l.text []) (10 ∷ []) in
-        omega (arith, more, whole, end)
-
 -- a text behind which two others were put
 pub two_texts : (old mid new a b : List ℕ) → mid ≡ old ++ a → new ≡ mid ++ b → new ≡ old ++ (a ++ b)
 two_texts old mid new a b g h = h ∙ ap (λ u. u ++ b) g ∙ append_assoc old a b
+
+-- a front behind which no line stands
+pub no_line : (t : List ℕ) (above : ℕ) → t ≡ t ++ placed above []
+no_line t above = sym (append-nil t)

@@ -1,6 +1,6 @@
 //! What runs a script.
 
-ghost use Rattle.std.specs.Prelude.{◌≡◌, ◌++◌, IfOk, OnOk, string_bytes};
+ghost use Rattle.std.specs.Prelude.{◌≡◌, IfOk, string_bytes};
 ghost use Rattle.std.specs.Option.{option_map};
 ghost use Rattle.just_scripts.specs.Cuts.{last_piece};
 ghost use Rattle.just_scripts.specs.Kinds.{kind_of};
@@ -8,10 +8,11 @@ ghost use Rattle.just_scripts.specs.Scripts.{runner_of, program, script_name, ne
 ghost use Rattle.just_scripts.specs.Lines.{KeepsNumbers};
 
 use super::cut::last_piece;
-use super::placed::{push_placed, push_shebang_lines, shebang_count};
+use super::placed::{placed_behind, shebang_count, shebang_text};
 use super::{Shebang, ShellKind};
 use just_lang::{BodyLine, Interpreter};
-use just_path::NoMemory;
+use just_outside::ScriptText;
+use just_text::{NoMemory, Text};
 use std::alloc::Global;
 
 /// What runs a script: a command, which takes the script's path behind its arguments, or the script itself, whose first line
@@ -80,36 +81,37 @@ impl<'l> Executor<'l> {
         Ok(name)
     }
 
-    /// Adds the byte order mark, where the script begins with it.
-    fn push_mark(&self, text: &mut String) -> Result<(), NoMemory>
-        ensures { OnOk result (string_bytes text.new ≡ string_bytes text.old ++ mark (runner_of self.now)) }
+    /// The byte order mark, where the script begins with it.
+    fn mark(&self, alloc: Global) -> Result<Text, NoMemory>
+        ensures { IfOk result (λ t. t ≡ mark (runner_of self.now)) }
     {
-        if self.needs_bom() {
-            text.push_str("\u{FEFF}")?;
-        }
-        Ok(())
-    }
-
-    /// Adds the text of the script of some lines.
-    #[tactic(auto, using(crate::proofs::Placing::enough, crate::proofs::Placing::two_texts))]
-    fn push_script(&self, text: &mut String, lines: &[BodyLine]) -> Result<(), NoMemory>
-        ensures { OnOk result (string_bytes text.new ≡ string_bytes text.old ++ script_text (runner_of self.now) lines.now) }
-    {
-        match self {
-            Executor::Command(_) => {
-                self.push_mark(text)?;
-                push_placed(text, 0, lines)
-            }
-            Executor::Shebang(shebang) => {
-                let (front, rest) = lines.split_at(shebang_count(lines));
-                push_shebang_lines(text, shebang.include_shebang_line(), front)?;
-                push_placed(text, front.len(), rest)
-            }
-        }
+        let mark = if self.needs_bom() { "\u{FEFF}" } else { "" };
+        Text::from_str(alloc, mark)
     }
 
     /// The text of the script of some lines. Those in front that begin with `#!` are the shebang of a script that is run by itself; they are
-    /// left blank for `cmd.exe`. Each other line stands at its own number, blank lines filling in what is missing.
+    /// left blank for `cmd.exe`. Each other line stands at its own number, blank lines filling in what is missing; those in front of the first
+    /// such line take no memory.
+    ///
+    /// ```
+    /// let text = executor.script_text(alloc, lines.as_slice())?;
+    /// ```
+    #[tactic(auto, using(crate::proofs::Numbering::script_keeps_numbers))]
+    pub fn script_text(&self, alloc: Global, lines: &[BodyLine]) -> Result<ScriptText, NoMemory>
+        ensures text { IfOk result (λ t. t ≡ script_text (runner_of self.now) lines.now) }
+        ensures numbers { IfOk result (λ t. KeepsNumbers (runner_of self.now) lines.now t) }
+    {
+        match self {
+            Executor::Command(_) => placed_behind(alloc, self.mark(alloc)?, 0, lines),
+            Executor::Shebang(shebang) => {
+                let (front, rest) = lines.split_at(shebang_count(lines));
+                let front_text = shebang_text(alloc, shebang.include_shebang_line(), front)?;
+                placed_behind(alloc, front_text, front.len(), rest)
+            }
+        }
+    }
+
+    /// The same as one string.
     ///
     /// ```
     /// let text = executor.script(alloc, lines.as_slice())?;
@@ -119,8 +121,6 @@ impl<'l> Executor<'l> {
         ensures text { IfOk result (λ s. string_bytes s ≡ script_text (runner_of self.now) lines.now) }
         ensures numbers { IfOk result (λ s. KeepsNumbers (runner_of self.now) lines.now (string_bytes s)) }
     {
-        let mut text = String::new(alloc);
-        self.push_script(&mut text, lines)?;
-        Ok(text)
+        self.script_text(alloc, lines)?.to_string(alloc)
     }
 }

@@ -4,7 +4,9 @@ ghost use Rattle.std.specs.Prelude.{◌≡◌, ◌≤◌, ◌+◌, ◌++◌, ◌
 ghost use Rattle.just_scripts.specs.Scripts.{ended, shebang_count, shebang_lines, is_shebang_line, gap, placed};
 
 use just_lang::BodyLine;
-use just_path::NoMemory;
+use just_outside::ScriptText;
+use just_text::{NoMemory, Text};
+use std::alloc::Global;
 
 /// Whether a line begins with `#!`.
 fn is_shebang_line(line: &BodyLine) -> bool
@@ -38,19 +40,16 @@ fn push_ended(text: &mut String, line: &str) -> Result<(), NoMemory>
     Ok(())
 }
 
-/// Adds lines, or as many blank ones.
+/// Lines, or as many blank ones.
 #[tactic(auto, using(crate::proofs::Placing::shebang_more, crate::proofs::Placing::shebang_all))]
-pub(crate) fn push_shebang_lines(
-    text: &mut String,
-    kept: bool,
-    lines: &[BodyLine],
-) -> Result<(), NoMemory>
-    ensures { OnOk result (string_bytes text.new ≡ string_bytes text.old ++ shebang_lines kept lines.now) }
+pub(crate) fn shebang_text(alloc: Global, kept: bool, lines: &[BodyLine]) -> Result<Text, NoMemory>
+    ensures { IfOk result (λ t. t ≡ shebang_lines kept lines.now) }
 {
+    let mut text = String::new(alloc);
     'lines: for line in lines {
-        push_ended(text, if kept { line.text.as_str() } else { "" })?;
+        push_ended(&mut text, if kept { line.text.as_str() } else { "" })?;
     }
-    Ok(())
+    Ok(Text::from(text))
 }
 
 /// Adds blank lines.
@@ -63,32 +62,78 @@ fn push_blank_lines(text: &mut String, count: usize) -> Result<(), NoMemory>
     Ok(())
 }
 
-/// Adds a line that comes to its number behind so many lines, and answers how many lines there are then.
-#[tactic(auto, using(crate::proofs::Placing::two_texts))]
-fn push_placed_line(text: &mut String, above: usize, line: &BodyLine) -> Result<usize, NoMemory>
-    requires { above ≤ length (string_bytes text.old) }
-    ensures count { IfOk result (λ n. n ≡ above + gap above line.now + 1) }
-    ensures text { OnOk result (string_bytes text.new ≡ string_bytes text.old ++ (replicate (gap above line.now) 10 ++ ended line.now.text)) }
+/// How many blank lines stand in front of a line behind so many others.
+fn gap(above: usize, line: &BodyLine) -> usize
+    ensures { result ≡ gap above line.now }
 {
-    let gap = line.number.saturating_sub(1).saturating_sub(above);
-    push_blank_lines(text, gap)?;
-    push_ended(text, line.text.as_str())?;
-    Ok(above + gap + 1)
+    line.number.saturating_sub(1).saturating_sub(above)
+}
+
+/// How many lines there are with a line that comes to its number behind so many others.
+fn behind(above: usize, line: &BodyLine) -> Result<usize, NoMemory>
+    ensures { IfOk result (λ n. n ≡ above + gap above line.now + 1) }
+{
+    let Some(last) = above.checked_add(gap(above, line)) else {
+        return Err(NoMemory);
+    };
+    match last.checked_add(1) {
+        Some(count) => Ok(count),
+        None => Err(NoMemory),
+    }
+}
+
+/// Adds a line that comes to its number behind so many others.
+#[tactic(auto, using(crate::proofs::Placing::two_texts))]
+fn push_placed_line(text: &mut String, above: usize, line: &BodyLine) -> Result<(), NoMemory>
+    ensures { OnOk result (string_bytes text.new ≡ string_bytes text.old ++ (replicate (gap above line.now) 10 ++ ended line.now.text)) }
+{
+    push_blank_lines(text, gap(above, line))?;
+    push_ended(text, line.text.as_str())
 }
 
 /// Adds lines behind so many others, each at its number.
-#[tactic(auto, using(crate::proofs::Placing::placed_more, crate::proofs::Placing::placed_all, crate::proofs::Placing::longer))]
-pub(crate) fn push_placed(
-    text: &mut String,
-    above: usize,
-    lines: &[BodyLine],
-) -> Result<(), NoMemory>
-    requires { above ≤ length (string_bytes text.old) }
+#[tactic(auto, using(crate::proofs::Placing::placed_more, crate::proofs::Placing::placed_all))]
+fn push_placed(text: &mut String, above: usize, lines: &[BodyLine]) -> Result<(), NoMemory>
     ensures { OnOk result (string_bytes text.new ≡ string_bytes text.old ++ placed above lines.now) }
 {
     let mut count = above;
     'lines: for line in lines {
-        count = push_placed_line(text, count, line)?;
+        push_placed_line(text, count, line)?;
+        count = behind(count, line)?;
     }
     Ok(())
+}
+
+/// The first of some lines behind so many others, without the blank lines in front of it, and those that follow, each at its number.
+fn placed_rest(
+    alloc: Global,
+    above: usize,
+    first: &BodyLine,
+    others: &[BodyLine],
+) -> Result<Text, NoMemory>
+    ensures { IfOk result (λ t. t ≡ ended first.now.text ++ placed (above + gap above first.now + 1) others.now) }
+{
+    let mut text = String::new(alloc);
+    push_ended(&mut text, first.text.as_str())?;
+    push_placed(&mut text, behind(above, first)?, others)?;
+    Ok(Text::from(text))
+}
+
+/// A front, and behind it lines behind so many others, each at its number.
+#[tactic(auto, using(crate::proofs::Placing::no_line))]
+pub(crate) fn placed_behind(
+    alloc: Global,
+    front: Text,
+    above: usize,
+    lines: &[BodyLine],
+) -> Result<ScriptText, NoMemory>
+    ensures { IfOk result (λ t. t ≡ front ++ placed above lines.now) }
+{
+    match lines {
+        [first, others @ ..] => {
+            let rest = placed_rest(alloc, above, first, others)?;
+            Ok(ScriptText::new(front, gap(above, first), rest))
+        }
+        [] => Ok(ScriptText::from_text(alloc, front)),
+    }
 }

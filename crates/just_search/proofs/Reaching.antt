@@ -5,7 +5,7 @@ use Rattle.std.specs.List.{AllByRecursion}
 use Rattle.std.proofs.lemmas.List.{append-nil}
 use Rattle.std.proofs.lemmas.List.Elements.{Contains-append_left, Contains-append_right, All-contains_itself, recursion_from_All}
 use Rattle.just_path.specs.Clean.{cleaned}
-use Rattle.just_path.specs.declared.environ.Environ.{Environ}
+use Rattle.just_text.specs.declared.environ.Environ.{Environ}
 use Rattle.just_lang.specs.declared.source.Source.{Source}
 use Rattle.just_layout.specs.Paths.{Pairs}
 use Rattle.just_outside.specs.World.{World}

@@ -1,6 +1,6 @@
 -- The sources that are loaded, one after the other.
 use Rattle.std.specs.Prelude.{ℕ, ◌≡◌, ◌⊎◌, Bool, List, [], ◌∷◌, ◌++◌, reverse, Option, Some, None, is_some, unwrap_or, Result, Ok, Err}
-use Rattle.just_path.specs.declared.environ.Environ.{Environ}
+use Rattle.just_text.specs.declared.environ.Environ.{Environ}
 use Rattle.just_path.specs.Parts.{parent_of}
 use Rattle.just_lang.specs.declared.source.Source.{Source}
 use Rattle.just_layout.specs.Paths.{Pairs}

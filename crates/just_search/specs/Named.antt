@@ -1,7 +1,7 @@
 -- The files that a source names and that are there.
 use Rattle.std.specs.Prelude.{◌≡◌, ℕ, ◌||◌, Bool, if◌then◌else◌, List, [], ◌∷◌, ◌++◌, map, filter, chars, Option, Some, None, Result, Ok, Err, codes}
 use Rattle.std.specs.Str.{str_eq_ignore_ascii_case}
-use Rattle.just_path.specs.Environ.{home_of}
+use Rattle.just_text.specs.Environ.{home_of}
 use Rattle.just_syntax.specs.declared.ast.AstItem.{AstItem}
 use Rattle.just_syntax.specs.declared.ast.AstItem.TheVariants as item
 use Rattle.just_syntax.specs.declared.ast.StringLiteral.{StringLiteral}

@@ -1,7 +1,7 @@
 -- The sources that a root leads to, all at once: each is the root's or named by an earlier one, none comes twice, and what they name is there.
 use Rattle.std.specs.Prelude.{ℕ, ◌≡◌, true, List, [], ◌∷◌, ◌++◌, Contains, Option, None, Ok}
 use Rattle.std.specs.List.{AllByRecursion}
-use Rattle.just_path.specs.declared.environ.Environ.{Environ}
+use Rattle.just_text.specs.declared.environ.Environ.{Environ}
 use Rattle.just_lang.specs.declared.source.Source.{Source}
 use Rattle.just_layout.specs.Paths.{Pairs}
 use Rattle.just_outside.specs.World.{World}

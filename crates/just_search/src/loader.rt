@@ -3,7 +3,7 @@
 ghost use Rattle.just_search.specs.Numbers.{AreNumbered};
 
 use just_lang::Source;
-use just_path::Text;
+use just_text::Text;
 use std::alloc::Global;
 use std::collections::BTreeMap;
 

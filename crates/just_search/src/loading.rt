@@ -20,7 +20,8 @@ use super::{Loader, SearchError};
 use just_env::environment;
 use just_lang::Source;
 use just_outside::Host;
-use just_path::{Environ, NoMemory, Text, Utf8Path, Utf8PathBuf};
+use just_path::{Utf8Path, Utf8PathBuf};
+use just_text::{Environ, NoMemory, Text};
 use std::alloc::Global;
 use std::collections::BTreeMap;
 

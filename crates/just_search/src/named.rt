@@ -10,8 +10,9 @@ use super::present::{add_module_files, add_present};
 use just_lang::Source;
 use just_layout::{meaning, module_base, path_under};
 use just_outside::Host;
-use just_path::{Environ, NoMemory, Seq, Text, Utf8PathBuf};
+use just_path::Utf8PathBuf;
 use just_syntax::{AstItem, Fault, ParseError, StringLiteral, parse};
+use just_text::{Environ, NoMemory, Seq, Text};
 use std::alloc::Global;
 
 /// Adds the file that a string in a file of that root names.

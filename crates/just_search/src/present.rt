@@ -8,7 +8,8 @@ ghost use Rattle.just_env.specs.Answers.{Gains};
 use super::SearchError;
 use super::shown::{names_in, sees_file};
 use just_outside::Host;
-use just_path::{NoMemory, Text, Utf8PathBuf};
+use just_path::Utf8PathBuf;
+use just_text::{NoMemory, Text};
 use std::alloc::Global;
 
 /// Adds a path, where a file stands there.

@@ -7,7 +7,8 @@ ghost use Rattle.just_search.specs.Shown.{SeesFile, ListsNames, ReadsText};
 
 use super::SearchError;
 use just_outside::{Call, Host, HostFault};
-use just_path::{Item, Kind, NoMemory, PathFault, Seq, Text, Utf8Path, Utf8PathBuf};
+use just_path::{Item, Kind, PathFault, Utf8Path, Utf8PathBuf};
+use just_text::{NoMemory, Seq, Text};
 use std::alloc::Global;
 
 /// Whether a file stands where a path leads.

@@ -3,9 +3,9 @@ ghost use Rattle.std.specs.Prelude.{◌≡◌, IfOk};
 ghost use Rattle.std.specs.Option.{option_copied};
 ghost use Rattle.just_shapes.specs.Attributes.{first_of, has_attribute, begins_underscore, is_private, first_text, text_behind, texts_behind, doc_of, groups_of};
 
-use just_path::{NoMemory, Seq, Text};
 use just_rules::{Texts, const_text};
 use just_syntax::{Argument, Attribute};
+use just_text::{NoMemory, Seq, Text};
 use std::alloc::Global;
 
 /// Whether one of the attributes has that name.

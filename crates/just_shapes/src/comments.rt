@@ -3,8 +3,8 @@ ghost use Rattle.std.specs.Prelude.{◌≡◌, ◌<◌, ℕ, Some, None, length,
 ghost use Rattle.std.specs.Option.{MatchOption, option_copied};
 ghost use Rattle.just_shapes.specs.Comments.{behind_sign, without_blanks, said_by, said_in, is_place_of, is_at, found_at, comment_in, AreComments};
 
-use just_path::NoMemory;
 use just_syntax::{AstItem, Name};
+use just_text::NoMemory;
 use std::alloc::Global;
 use std::collections::BTreeMap;
 

@@ -3,9 +3,9 @@ ghost use Rattle.std.specs.Prelude.{◌≡◌, IfOk};
 ghost use Rattle.just_shapes.specs.Expansions.{expanded_argument, expanded_arguments, expanded_attribute, expanded_attributes, expanded_fragment, expanded_fragments, expanded_line, expanded_lines};
 
 use super::expansions::{copy_of_name, expanded_expr};
-use just_path::{NoMemory, Seq, TryClone};
 use just_rules::Texts;
 use just_syntax::{Argument, Attribute, Fragment, Line, Name};
+use just_text::{NoMemory, Seq, TryClone};
 use std::alloc::Global;
 
 /// A copy of a key, where there is one.
@@ -42,7 +42,7 @@ fn expanded_arguments<T: Texts>(
 ) -> Result<Seq<Argument>, NoMemory>
     ensures { IfOk result (λ all. all ≡ expanded_arguments (T.text_of texts.now) arguments.now) }
 {
-    let mut all = Vec::new(alloc);
+    let mut all = Vec::with_capacity(alloc, arguments.len())?;
     'arguments: for argument in arguments {
         let expanded = expanded_argument(alloc, texts, argument)?;
         all.push(expanded)?;
@@ -76,7 +76,7 @@ pub(crate) fn expanded_attributes<T: Texts>(
 ) -> Result<Seq<Attribute>, NoMemory>
     ensures { IfOk result (λ all. all ≡ expanded_attributes (T.text_of texts.now) attributes.now) }
 {
-    let mut all = Vec::new(alloc);
+    let mut all = Vec::with_capacity(alloc, attributes.len())?;
     'attributes: for attribute in attributes {
         let expanded = expanded_attribute(alloc, texts, attribute)?;
         all.push(expanded)?;
@@ -104,7 +104,7 @@ fn expanded_fragments<T: Texts>(
 ) -> Result<Seq<Fragment>, NoMemory>
     ensures { IfOk result (λ all. all ≡ expanded_fragments (T.text_of texts.now) fragments.now) }
 {
-    let mut all = Vec::new(alloc);
+    let mut all = Vec::with_capacity(alloc, fragments.len())?;
     'fragments: for fragment in fragments {
         let expanded = expanded_fragment(alloc, texts, fragment)?;
         all.push(expanded)?;
@@ -130,7 +130,7 @@ pub(crate) fn expanded_lines<T: Texts>(
 ) -> Result<Seq<Line>, NoMemory>
     ensures { IfOk result (λ all. all ≡ expanded_lines (T.text_of texts.now) lines.now) }
 {
-    let mut all = Vec::new(alloc);
+    let mut all = Vec::with_capacity(alloc, lines.len())?;
     'lines: for line in lines {
         let expanded = expanded_line(alloc, texts, line)?;
         all.push(expanded)?;

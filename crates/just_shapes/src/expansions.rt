@@ -2,10 +2,10 @@
 ghost use Rattle.std.specs.Prelude.{◌≡◌, IfOk};
 ghost use Rattle.just_shapes.specs.Expansions.{literal_with, expanded_literal, expanded_expr, expanded_exprs, expanded_default};
 
-use just_path::{NoMemory, Seq, Text, TryClone};
 use just_read::Boxed;
 use just_rules::Texts;
 use just_syntax::{Expr, Name, Quote, StringLiteral};
+use just_text::{NoMemory, Seq, Text, TryClone};
 use std::alloc::Global;
 
 /// A copy of a name.
@@ -156,7 +156,7 @@ pub fn expanded_exprs<T: Texts>(
 ) -> Result<Seq<Expr>, NoMemory>
     ensures { IfOk result (λ all. all ≡ expanded_exprs (T.text_of texts.now) exprs.now) }
 {
-    let mut all = Vec::new(alloc);
+    let mut all = Vec::with_capacity(alloc, exprs.len())?;
     'exprs: for expr in exprs {
         let expanded = expanded_expr(alloc, texts, expr)?;
         all.push(expanded)?;

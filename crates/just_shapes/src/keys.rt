@@ -5,9 +5,9 @@ ghost use Rattle.just_syntax.specs.Attributes.{is_key_or, has_key};
 ghost use Rattle.just_shapes.specs.Attributes.{first_of};
 ghost use Rattle.just_shapes.specs.Parameters.{is_alone, stands_alone, is_key, keys_behind, keys_for, or_earlier, found_at, keys_in, AreKeys, value_at, values_of, value_of};
 
-use just_path::{NoMemory, Seq, Text};
 use just_rules::{Texts, const_text};
 use just_syntax::{Argument, Attribute, Expr, Name};
+use just_text::{NoMemory, Seq, Text};
 use std::alloc::Global;
 use std::collections::BTreeMap;
 

@@ -6,9 +6,9 @@ use super::expansions::expanded_default;
 use super::keys::{has_key, keys_of, stands_alone, value_of, values_of};
 use super::number::number_of;
 use just_lang::{Parameter, Pattern};
-use just_path::{NoMemory, Seq, Text, TryClone};
 use just_rules::Texts;
 use just_syntax::{Argument, AstParameter, Attribute};
+use just_text::{NoMemory, Seq, Text, TryClone};
 use std::alloc::Global;
 
 /// The long name: the text of `long`, or the parameter's name where it has none.

@@ -10,9 +10,9 @@ use super::attributes::{doc_of, is_private};
 use super::expanded::{expanded_attributes, expanded_lines};
 use super::parameter::parameters_of;
 use just_lang::{Dependency, Modulepath, Parameter, Recipe};
-use just_path::{NoMemory, Seq, Text, TryClone};
 use just_rules::{Texts, is_script};
 use just_syntax::{AstRecipe, Attribute, Line};
+use just_text::{NoMemory, Seq, Text, TryClone};
 use std::alloc::Global;
 
 /// The path of a name in the module of that path.
@@ -21,6 +21,7 @@ pub fn path_within(alloc: Global, parent: &Modulepath, name: &str) -> Result<Mod
 {
     let copy = parent.components.try_clone()?;
     let mut components = copy.into_vec();
+    components.reserve_exact(1)?;
     components.push(Text::from_str(alloc, name)?)?;
     Ok(Modulepath {
         components: Seq::from(components),

@@ -5,10 +5,10 @@ ghost use Rattle.just_shapes.specs.Scopes.{assignment_in, assignments_of, unexpo
 
 use super::expansions::expanded_expr;
 use just_lang::Assignment;
-use just_path::{NoMemory, Seq, Text, TryClone};
 use just_rules::Texts;
 use just_spots::Entry;
 use just_syntax::AstItem;
+use just_text::{NoMemory, Seq, Text, TryClone};
 use std::alloc::Global;
 
 fn assignment_in<T: Texts>(

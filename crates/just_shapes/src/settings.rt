@@ -6,10 +6,10 @@ ghost use Rattle.just_spots.specs.Items.{is_set};
 ghost use Rattle.just_shapes.specs.Settings.{is_setting, value_in, setting_value, text_in, interpreter_of, interpreter_in, text_setting, list_setting, settings_with, settings_of};
 
 use just_lang::{Interpreter, Settings};
-use just_path::{NoMemory, Seq, Text};
 use just_rules::{Texts, const_text};
 use just_spots::{Entry, is_set};
 use just_syntax::{AstItem, SettingValue, StringLiteral};
+use just_text::{NoMemory, Seq, Text};
 use std::alloc::Global;
 
 fn is_setting(one: &Entry<'_>) -> bool

@@ -5,8 +5,8 @@ ghost use Rattle.just_syntax.specs.Forms.{is_one_of};
 ghost use Rattle.just_spots.specs.Entries.{entry, entries};
 ghost use Rattle.just_spots.specs.Items.{item_name, these_platforms, other_platforms, has_attribute, is_here, is_recipe_here, is_assignment, is_set_by, sets, is_set};
 
-use just_path::NoMemory;
 use just_syntax::{AstItem, Attribute, SettingValue};
+use just_text::NoMemory;
 use std::alloc::Global;
 
 /// An item, with the number of its file.

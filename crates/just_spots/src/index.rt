@@ -4,7 +4,7 @@ ghost use Rattle.std.specs.Option.{option_copied};
 ghost use Rattle.just_spots.specs.Entries.{entries, is_place, place_in, IsIndex};
 
 use super::entries::{Entry, item_name};
-use just_path::NoMemory;
+use just_text::NoMemory;
 use std::alloc::Global;
 use std::collections::BTreeMap;
 

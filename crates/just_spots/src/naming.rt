@@ -7,8 +7,8 @@ ghost use Rattle.just_spots.specs.Entries.{entries};
 use super::entries::Entry;
 use super::repeated::{Named, first_repeated};
 use super::spot::Spot;
-use just_path::NoMemory;
 use just_syntax::AstItem;
+use just_text::NoMemory;
 use std::alloc::{AllocError, Global};
 
 /// The name that a thing has or gives, with its place.

@@ -4,7 +4,7 @@ ghost use Rattle.just_spots.specs.Spots.{first_spot};
 ghost use Rattle.just_spots.specs.Repeated.{repeated, named};
 
 use super::spot::{Spot, earlier, spot_where};
-use just_path::NoMemory;
+use just_text::NoMemory;
 use std::alloc::Global;
 use std::collections::BTreeSet;
 

@@ -5,7 +5,7 @@ ghost use Rattle.just_spots.specs.Spots.{first_spot};
 
 use super::entries::Entry;
 use super::spot::{Spot, earlier};
-use just_path::NoMemory;
+use just_text::NoMemory;
 use std::alloc::Global;
 
 /// A rule on one thing, as an item or an attribute: the places where the thing, which stands in the file of that number,

@@ -8,7 +8,7 @@ ghost use Rattle.just_spots.specs.Winners.{is_imported, wins_in, has_pair, ArePa
 
 use super::entries::{Entry, item_name};
 use super::index::index_of;
-use just_path::{NoMemory, Seq};
+use just_text::{NoMemory, Seq};
 use std::alloc::{AllocError, Global};
 use std::collections::BTreeSet;
 

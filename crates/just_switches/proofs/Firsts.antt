@@ -4,7 +4,7 @@ use Rattle.std.proofs.lemmas.List.{drop_all}
 use Rattle.std.specs.Prelude.{find, not}
 use Rattle.std.specs.List.{list_any}
 use Rattle.std.specs.Option.{option_map}
-use Rattle.just_path.specs.Environ.{or_else}
+use Rattle.just_text.specs.Environ.{or_else}
 use Rattle.just_lang.specs.declared.recipe.Pattern.{Pattern}
 use Rattle.just_lang.specs.declared.project.LangError.TheVariants as error
 use Rattle.just_switches.specs.Patterns.{matches}

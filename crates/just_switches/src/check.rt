@@ -9,7 +9,7 @@ use super::pattern::first_mismatch;
 use super::switch::{letter_switch, long_switch};
 use just_lang::project::LangError;
 use just_lang::{Parameter, Recipe};
-use just_path::{NoMemory, Seq, Text, TryClone};
+use just_text::{NoMemory, Seq, Text, TryClone};
 use std::alloc::Global;
 
 /// The switch of an option, the long one where it has both.

@@ -3,8 +3,8 @@
 ghost use Rattle.std.specs.Prelude.{◌≡◌, IfOk};
 
 use just_lang::{Expr, Name, Parameter, Pattern, StringLiteral};
-use just_path::{NoMemory, Seq, TryClone};
 use just_read::Boxed;
+use just_text::{NoMemory, Seq, TryClone};
 use std::alloc::Global;
 
 /// A copy of a name.

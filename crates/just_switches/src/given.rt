@@ -7,7 +7,7 @@ ghost use Rattle.just_switches.specs.Tests.{values_for, given_words};
 use super::parameter::{is_option, is_variadic};
 use super::taken::Taken;
 use just_lang::Parameter;
-use just_path::{NoMemory, Seq, Text};
+use just_text::{NoMemory, Seq, Text};
 use just_words::add_copies;
 use std::alloc::Global;
 

@@ -6,7 +6,7 @@ ghost use Rattle.just_switches.specs.Patterns.{whole, matches, matches_built};
 ghost use Rattle.just_switches.specs.Built.{IsBuilt, AreBuilt};
 
 use just_lang::Pattern;
-use just_path::{NoMemory, Text};
+use just_text::{NoMemory, Text};
 use regex::{Error, Regex};
 use std::alloc::Global;
 

@@ -13,8 +13,8 @@ use super::parameter::{fixed_value, has_room, option_lettered, option_named};
 use super::taken::{Next, Taken};
 use just_lang::project::LangError;
 use just_lang::{Parameter, Recipe};
-use just_path::{NoMemory, Text, TryClone};
 use just_read::characters_of;
+use just_text::{NoMemory, Text, TryClone};
 use std::alloc::Global;
 
 /// A text behind another one.

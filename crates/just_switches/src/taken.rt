@@ -7,7 +7,7 @@ ghost use Rattle.just_switches.specs.Switches.{words_of, has_value, is_full, no_
 use super::parameter::is_variadic;
 use just_lang::project::LangError;
 use just_lang::{Parameter, Recipe};
-use just_path::{NoMemory, Text, TryClone};
+use just_text::{NoMemory, Text, TryClone};
 use std::alloc::Global;
 
 /// The words that a recipe took so far.

@@ -12,7 +12,7 @@ use super::switch::word_taken;
 use super::taken::{Next, Taken};
 use just_lang::Recipe;
 use just_lang::project::LangError;
-use just_path::{Seq, Text, TryClone};
+use just_text::{Seq, Text, TryClone};
 use std::alloc::Global;
 
 /// Takes words for a recipe, as many as it has room for.

@@ -1,7 +1,7 @@
 //! The tree of a justfile: one variant for each form of an item and of an expression, one field for each of its parts in
 //! their order. Lines and columns count from 1, columns in characters.
-use just_path::{Seq, Text};
 use just_read::{Boxed, Quote};
+use just_text::{Seq, Text};
 
 /// The items of a justfile in their order.
 #[derive(Drop)]

@@ -12,8 +12,8 @@ use super::list::{add, list_of};
 use super::string::string;
 use super::token::{name, rest};
 use super::{Argument, Attribute, Expr, Name};
-use just_path::{Seq, Text};
 use just_read::{Cursor, NameStart, ReadError, behind_word, skip, token};
+use just_text::{Seq, Text};
 use std::alloc::{AllocError, Global};
 
 /// The attributes before an item, line by line.

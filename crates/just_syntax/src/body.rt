@@ -10,8 +10,8 @@ ghost use Rattle.just_syntax.specs.ItemReaders as read;
 use super::expr::{LEVELS, expr};
 use super::list::{add, list_of};
 use super::{Fragment, Line};
-use just_path::{Seq, Text};
 use just_read::{Blank, Cursor, ReadError, ends_line, newline, skip, token};
+use just_text::{Seq, Text};
 use std::alloc::{AllocError, Global};
 
 /// The blanks that stand here.

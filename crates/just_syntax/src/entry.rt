@@ -9,8 +9,8 @@ use super::body::{blanks, body_line, is_body_line};
 use super::item::item;
 use super::list::list_of;
 use super::{AstItem, AstRecipe, Line};
-use just_path::{NoMemory, Seq};
 use just_read::{Blank, Boxed, Cursor, ReadError, blank_line, is_blank_line};
+use just_text::{NoMemory, Seq};
 use std::alloc::{AllocError, Global};
 
 /// An entry of a text.

@@ -1,8 +1,8 @@
 //! Why a text is no justfile.
 ghost use Rattle.std.specs.Prelude.{◌≡◌};
 
-use just_path::NoMemory as OutOfMemory;
 use just_read::ReadError;
+use just_text::NoMemory as OutOfMemory;
 use std::alloc::{AllocError, AllocFailed};
 
 /// The kinds of faults of a text.

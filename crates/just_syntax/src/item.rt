@@ -13,11 +13,11 @@ use super::recipe::recipe_line;
 use super::string::string;
 use super::token::{comment, name, path, rest};
 use super::{AstItem, Attribute, SettingValue, StringLiteral};
-use just_path::Seq;
 use just_read::{
     Boxed, Cursor, NameStart, ReadError, begins_string, behind_word, is_rest, is_word, maybe, skip,
     token, word,
 };
+use just_text::Seq;
 use std::alloc::{AllocFailed, Global};
 
 /// The items by what they begin with.

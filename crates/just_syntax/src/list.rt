@@ -1,7 +1,7 @@
 //! Lists of a tree, which take no more room than their items.
 ghost use Rattle.std.specs.Prelude.{◌≡◌, ◌++◌, ◌∷◌, [], IfOk};
 
-use just_path::Seq;
+use just_text::Seq;
 use std::alloc::AllocError;
 
 /// Adds an item behind others. The first one takes room for itself alone, since most lists of a justfile have one item.

@@ -9,8 +9,8 @@ use super::expr::{LEVELS, expr, value};
 use super::list::{add, list_of};
 use super::token::{name, path, rest};
 use super::{AstDependency, AstParameter, AstRecipe, Attribute, Expr, ParameterKind};
-use just_path::Seq;
 use just_read::{Cursor, NameStart, ReadError, maybe, token};
+use just_text::Seq;
 use std::alloc::Global;
 
 /// A recipe's line, behind its attributes; the body is empty.

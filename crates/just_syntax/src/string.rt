@@ -7,10 +7,10 @@ ghost use Rattle.just_syntax.specs.Readers as read;
 
 use super::StringLiteral;
 use super::text::text_of;
-use just_path::Text;
 use just_read::{
     Cursor, Quote, QuoteMark, ReadError, characters_of, piece, pieces, quote_at, skip, unindented,
 };
+use just_text::Text;
 use std::alloc::Global;
 
 /// A string, and the blanks behind it.

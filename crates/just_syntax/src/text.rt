@@ -2,8 +2,8 @@
 ghost use Rattle.std.specs.Prelude.{◌≡◌, IfOk, chars, encode_utf8_all, string_bytes};
 ghost use Rattle.just_read.specs.Indentation.{unindented};
 
-use just_path::{NoMemory, Text};
 use just_read::{string_of, unindented};
+use just_text::{NoMemory, Text};
 use std::alloc::{AllocError, Global};
 
 /// A text whose lines lose the longest front of blanks that all lines share which aren't blank. A blank line gives

@@ -8,11 +8,11 @@ ghost use Rattle.just_syntax.specs.Readers as read;
 use super::Name;
 use super::list::{add, list_of};
 use super::text::text_of;
-use just_path::{Seq, Text};
 use just_read::{
     Blank, Cursor, InLine, InName, NameStart, ReadError, drop_returns, line_characters, newline,
     skip, token,
 };
+use just_text::{Seq, Text};
 use std::alloc::{AllocError, Global};
 
 /// A name.

@@ -5,7 +5,7 @@ ghost use Rattle.std.specs.Process.{command_program, command_args, command_dir, 
 ghost use Rattle.just_system.specs.Commands.{program_with, arguments_with, IsCommandWith, IsCommandOf, IsCommandAt, changes_path, names_shell, said_after, status_told};
 
 use just_outside::{Spec, Status};
-use just_path::{NoMemory, Text};
+use just_text::{NoMemory, Text};
 use std::alloc::Global;
 use std::os::unix::process::{CommandExt, ExitStatusExt};
 use std::process::{Command, ExitStatus};

@@ -22,10 +22,8 @@ use just_files::system::{
 };
 use just_files::{copied_bytes, copies_of, path_or_empty};
 use just_outside::{Call, Entry, Host, HostFault, Log, Look, Script, Spec, Status, Stream};
-use just_path::{
-    Environ, Item, Meta, Miss, NoMemory, PathCall, PathFault, PathHost, Seq, Text, TryClone,
-    Utf8Path, Utf8PathBuf,
-};
+use just_path::{Item, Meta, Miss, PathCall, PathFault, PathHost, Utf8Path, Utf8PathBuf};
+use just_text::{Environ, NoMemory, Seq, Text, TryClone};
 use std::alloc::Global;
 use std::fs::File;
 use std::io::{self, ErrorKind, Input};

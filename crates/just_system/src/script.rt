@@ -5,7 +5,8 @@ ghost use Rattle.just_system.specs.ScriptFiles.{path_in};
 
 use just_files::{fresh_folder, in_memory};
 use just_outside::Script;
-use just_path::{NoMemory, Text, Utf8Path};
+use just_path::Utf8Path;
+use just_text::{NoMemory, Text};
 use std::alloc::Global;
 use std::fs::{self, Files, Permissions};
 use std::os::unix::fs::PermissionsExt;
@@ -72,8 +73,9 @@ fn parent_of<R: Env>(rt: &R, alloc: Global, script: &Script) -> io::Result<Text>
 
 /// Writes the text of a script to its file; one that runs itself may be run by this user.
 /// No clause: nothing is claimed of files.
-fn write<F: Files>(files: &F, path: &str, script: &Script) -> io::Result<()> {
-    fs::write(files, path, script.text.as_str())?;
+fn write<F: Files>(files: &F, alloc: Global, path: &str, script: &Script) -> io::Result<()> {
+    let text = in_memory(script.text.to_string(alloc))?;
+    fs::write(files, path, text.as_str())?;
     if script.run {
         fs::set_permissions(files, path, Permissions::from_mode(0o700))?;
     }
@@ -90,7 +92,7 @@ pub(crate) fn place<R: Files + Env>(
 {
     let parent = parent_of(rt, alloc, script)?;
     let file = make_folder(rt, alloc, parent.as_str(), script.name.as_str())?;
-    match write(rt, file.path.as_str(), script) {
+    match write(rt, alloc, file.path.as_str(), script) {
         Ok(()) => Ok(file),
         Err(error) => {
             remove(rt, &file);

@@ -3,7 +3,7 @@
 
 use super::script::path_in;
 use just_files::system::look;
-use just_path::Text;
+use just_text::Text;
 use std::alloc::Global;
 use std::env;
 use std::io::ErrorKind;

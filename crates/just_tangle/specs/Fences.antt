@@ -1,7 +1,7 @@
 -- The lines that open and close code blocks.
 use Rattle.std.specs.Prelude.{ℕ, ◌==◌, ◌&&◌, ◌||◌, not, nat_le, Bool, if◌then◌else◌, List, [], take, drop, Option, Some, None, codes, bytes_eq}
 use Rattle.std.specs.List.{list_any, list_all, prefix_len}
-use Rattle.just_path.specs.Environ.{or_else}
+use Rattle.just_text.specs.Environ.{or_else}
 use Rattle.just_tangle.specs.declared.fence.Fence.{Fence}
 
 abbrev pub is_sign : ℕ → ℕ → Bool

@@ -6,7 +6,7 @@ ghost use Rattle.just_tangle.specs.Running.{line_out, fence_behind, out_of};
 ghost use Rattle.just_tangle.specs.Tangles.{text_of_lines, IsTangled};
 
 use super::fence::{Fence, closes, fence_of};
-use just_path::NoMemory;
+use just_text::NoMemory;
 use std::alloc::{AllocError, Global};
 
 /// The fence of the block that is open behind a line.

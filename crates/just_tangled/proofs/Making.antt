@@ -1,5 +1,5 @@
 -- A temporary folder, and the file in it: where they stand, and what else of a told world they change.
-use Rattle.std.proofs.Common.{◌≡◌, ℕ, Bool, true, false, true≢false, cond, not, ◌&&◌, ◌||◌, ◌==◌, List, [], ◌∷◌, ◌++◌, map, fold, is_some, Option, Some, None, option_map, refl, ap, sym, ◌∙◌, subst, append_assoc, arith}
+use Rattle.std.proofs.Common.{◌≡◌, ℕ, Bool, true, false, true≢false, cond, not, ◌||◌, ◌==◌, List, [], ◌∷◌, ◌++◌, map, fold, is_some, Option, Some, None, option_map, refl, ap, sym, ◌∙◌, subst, append_assoc, arith}
 use Rattle.std.specs.Prelude.{Result, Ok, Err, codes}
 use Rattle.std.specs.FinMap.{get, insert, get-insert}
 use Rattle.std.specs.List.{list_any, Contains, AllByRecursion}
@@ -10,30 +10,30 @@ use Rattle.std.proofs.lemmas.List.Sums.{fold-append}
 use Rattle.std.proofs.lemmas.Map.Text.{is_eq-slice_cmp}
 use Rattle.std.proofs.lemmas.Slice.Eq.{bytes_eq-Decides}
 use Rattle.just_path.specs.Path.{is_absolute, pushed}
-use Rattle.just_path.specs.Clean.{cleaned, is_clean_absolute, normal_form, normal_form_with, without_parents, after_name, or_current, path_from}
-use Rattle.just_path.specs.Comps.{Comp, prefix as prefixed, root, current, parent, normal, comp_text, dot, dots, slash, is_empty, pieces, with_first_byte, comps_of_piece, names, comps}
-use Rattle.just_path.specs.View.{Sight, Sights, View, IsCleanView, asks_folder, named_place, asked_place, followed_place, place_behind, folder_place, folder_told, place_told, canonical_told, target_of, target_seen, sight, meta_of, meta_seen, sees_folder, is_name, absence}
+use Rattle.just_path.specs.Clean.{cleaned, normal_form, normal_form_with, without_parents, after_name, or_current, path_from}
+use Rattle.just_path.specs.Comps.{Comp, prefix as prefixed, root, current, parent, normal, comp_text, dot, dots, slash, is_empty, pieces, comps_of_piece, names, comps}
+use Rattle.just_path.specs.View.{Sight, Sights, View, IsCleanView, asks_folder, named_place, followed_place, place_behind, folder_place, place_told, canonical_told, target_of, target_seen, sight, meta_of, meta_seen, sees_folder, is_name, absence}
 use Rattle.just_path.specs.declared.host.Miss.{Miss}
 use Rattle.just_path.specs.declared.host.Miss.TheVariants as miss
 use Rattle.just_path.proofs.Laws.{absolute-pushed, absolute-cleaned, cleaned-cleaned, clean_absolute_is_absolute}
 use Rattle.just_path.proofs.NormalForms.{drops_pair}
 use Rattle.just_path.proofs.Pushes.{comps_pushed_relative, comps_absolute}
-use Rattle.just_path.proofs.Truths.{and_left, and_right}
+use Rattle.just_path.proofs.Truths.{and_right}
 use Rattle.just_outside.specs.declared.entry.HostFault.{HostFault}
 use Rattle.just_outside.specs.declared.entry.HostFault.TheVariants as fault
 use Rattle.just_outside.specs.declared.tree.Thing.{Thing}
 use Rattle.just_outside.specs.declared.tree.Thing.TheVariants as thing
 use Rattle.just_outside.specs.Sights.{Tree, sight_of, seen}
 use Rattle.just_outside.specs.World.{World, view_of}
-use Rattle.just_outside.specs.Changes.{DiffersAt, with_tree, folder_of, holds_folder, file_at, is_not_found, is_open_place, new_place, place_found, place_written, written}
-use Rattle.just_outside.specs.Folders.{IsParent, IsFresh, TempFault}
+use Rattle.just_outside.specs.Changes.{with_tree, folder_of, holds_folder, file_at, is_not_found, is_open_place, new_place, place_found, place_written}
+use Rattle.just_outside.specs.Folders.{IsParent, IsFresh}
 use Rattle.just_outside.proofs.Laws.{sight_seen}
 use Rattle.just_outside.proofs.Writing.{written_elsewhere}
 use Rattle.just_env.specs.declared.search_error.SearchError.{SearchError}
 use Rattle.just_init.specs.declared.search.Search.{Search}
 use Rattle.just_locate.specs.declared.location.Location.{Location}
 use Rattle.just_tangled.specs.Files.{prefix, file_in, Makes, WritesAt, WritesText, Materializes}
-use Rattle.just_tangled.specs.Places.{NamesItem, StandsInFolders, IsInFolders, ChangesIn, MakesInFolders}
+use Rattle.just_tangled.specs.Places.{NamesItem, StandsInFolders, IsInFolders, MakesInFolders}
 use Rattle.just_tangled.specs.Removals.{is_plain, IsWithin}
 use Rattle.just_tangled.proofs.Items.{plain_lacks, plain_filled, plain_no_dot, plain_no_dots, plain_relative, pushed_item, or_left, or_right, not_true}
 use Rattle.just_tangled.proofs.Placing.{asked_is, named_is, under_absolute, Moves, moves_none, moves_then, moves_wider, moves_failed, moves_to, moves_changes, apart_texts}

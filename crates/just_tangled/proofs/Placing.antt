@@ -1,5 +1,5 @@
 -- What stands at a place that a path names; and two worlds that differ in some places alone.
-use Rattle.std.proofs.Common.{◌≡◌, ◌⊎◌, inl, inr, ℕ, zero, suc, ◌<◌, Bool, true, false, true≢false, cond, ◌||◌, List, [], ◌∷◌, ◌++◌, length, is_some, Option, Some, None, refl, ap, sym, ◌∙◌, subst, arith}
+use Rattle.std.proofs.Common.{◌≡◌, inl, inr, ℕ, zero, suc, Bool, true, false, true≢false, cond, List, [], ◌∷◌, ◌++◌, is_some, Option, Some, None, refl, ap, sym, ◌∙◌, subst, arith}
 use Rattle.std.specs.Prelude.{Result, Ok, Err, MatchOption}
 use Rattle.std.specs.FinMap.{get, remove, get-remove}
 use Rattle.std.specs.List.{Contains, AllByRecursion}
@@ -8,21 +8,20 @@ use Rattle.std.proofs.lemmas.Cmp.{nat_list_cmp_total}
 use Rattle.std.proofs.lemmas.Map.Text.{is_eq-slice_cmp}
 use Rattle.std.proofs.lemmas.List.Elements.{Contains-append_left, Contains-append_right}
 use Rattle.std.proofs.lemmas.Slice.Eq.{bytes_eq-Decides}
-use Rattle.just_path.specs.Path.{is_absolute, pushed}
+use Rattle.just_path.specs.Path.{is_absolute}
 use Rattle.just_path.specs.Clean.{cleaned}
-use Rattle.just_path.specs.View.{Sights, asks_folder, named_place, filled_place, folder_place, asked_place, followed_place, place_behind, target_seen, place_told, place_under, meta_seen, absence}
+use Rattle.just_path.specs.View.{Sights, asks_folder, named_place, folder_place, asked_place, followed_place, place_behind, target_seen, place_under, meta_seen, absence}
 use Rattle.just_path.specs.declared.host.Miss.{Miss}
-use Rattle.just_path.specs.declared.host.Miss.TheVariants as miss
 use Rattle.just_path.proofs.Pushes.{push_absolute}
 use Rattle.just_outside.specs.declared.entry.Entry.{Entry}
 use Rattle.just_outside.specs.declared.entry.HostFault.{HostFault}
 use Rattle.just_outside.specs.declared.entry.HostFault.TheVariants as fault
 use Rattle.just_outside.specs.Sights.{Tree, seen}
-use Rattle.just_outside.specs.World.{World, view_of}
+use Rattle.just_outside.specs.World.{World}
 use Rattle.just_outside.specs.Changes.{DiffersAt, with_tree}
 use Rattle.just_outside.specs.Folders.{removed_place, Removes}
 use Rattle.just_tangled.specs.Places.{NamesItem, IsInFolders, ChangesIn, RemovesInFolders}
-use Rattle.just_tangled.specs.Removals.{IsWithin, IsTried, Clears, RemovesFolder, RemovesAll, RemovesSome}
+use Rattle.just_tangled.specs.Removals.{IsWithin, IsTried, Clears, RemovesFolder, RemovesAll}
 use Rattle.just_tangled.proofs.Items.{within_item}
 
 -- ---- the place of a path

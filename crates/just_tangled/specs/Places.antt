@@ -1,5 +1,5 @@
 -- Where temporary folders, and their removal, change a told world.
-use Rattle.std.specs.Prelude.{ℕ, ◌≡◌, ◌⊎◌, true, false, is_some, List, Option, Some, None, Result, MatchOption}
+use Rattle.std.specs.Prelude.{ℕ, ◌≡◌, ◌⊎◌, true, false, is_some, List, Option, Some, Result, MatchOption}
 use Rattle.std.specs.FinMap as map
 use Rattle.std.specs.List.{Contains, AllByRecursion}
 use Rattle.just_path.specs.Path.{is_absolute}

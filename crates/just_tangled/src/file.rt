@@ -13,7 +13,8 @@ use super::{Search, SearchError};
 use just_config::Config;
 use just_locate::{Location, Origin, given_path};
 use just_outside::{Host, HostFault};
-use just_path::{NoMemory, Text, Utf8Path, Utf8PathBuf};
+use just_path::{Utf8Path, Utf8PathBuf};
+use just_text::{NoMemory, Text};
 use std::alloc::Global;
 
 /// The folder in which a temporary one is to be made, if one is asked for: under the folder in which the program was called, and clean.

@@ -5,7 +5,8 @@ ghost use Rattle.just_path.specs.Path.{text_of};
 ghost use Rattle.just_tangled.specs.Removals.{is_plain, IsTried, Clears, RemovesFolder, RemovesAll, RemovesSome};
 
 use just_outside::{Host, HostFault};
-use just_path::{Item, Kind, NoMemory, PathFault, Utf8Path, Utf8PathBuf};
+use just_path::{Item, Kind, PathFault, Utf8Path, Utf8PathBuf};
+use just_text::NoMemory;
 use std::alloc::Global;
 
 /// Whether an item of a folder may be removed by that name, which leads nowhere else.

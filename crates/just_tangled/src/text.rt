@@ -8,8 +8,9 @@ ghost use Rattle.just_tangled.specs.Texts.{GivesText};
 
 use just_env::SearchError;
 use just_outside::{Host, HostFault};
-use just_path::{Text, Utf8PathBuf};
+use just_path::Utf8PathBuf;
 use just_tangle::tangle;
+use just_text::Text;
 use std::alloc::Global;
 
 /// The text of the justfile in a markdown file.

@@ -11,7 +11,8 @@ ghost use Rattle.just_tree.specs.Playing.{ArePlacesOf, ending_of, status_of, tre
 
 use super::{Ending, Place};
 use just_outside::{Status, Thing};
-use just_path::{NoMemory, Text, Utf8Path};
+use just_path::Utf8Path;
+use just_text::{NoMemory, Text};
 use std::alloc::Global;
 
 /// Files, folders and links by their places, which are clean and absolute.

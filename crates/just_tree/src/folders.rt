@@ -13,7 +13,8 @@ use super::sights::{TreeFault, is_folder};
 use super::{Place, Tree};
 use just_files::is_name;
 use just_outside::Thing;
-use just_path::{Miss, NoMemory, TryClone, Utf8Path, Utf8PathBuf};
+use just_path::{Miss, Utf8Path, Utf8PathBuf};
+use just_text::{NoMemory, TryClone};
 use std::alloc::Global;
 
 /// The folder of temporary folders, where no other is asked for.

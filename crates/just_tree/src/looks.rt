@@ -11,7 +11,8 @@ use super::sights::TreeFault;
 use super::writes::is_not_found;
 use super::{Place, Tree};
 use just_outside::{Look, MAX_SUMMED, Thing};
-use just_path::{Miss, NoMemory, Seq, TryClone, Utf8Path, Utf8PathBuf};
+use just_path::{Miss, Utf8Path, Utf8PathBuf};
+use just_text::{NoMemory, Seq, TryClone};
 use sha2::{Digest, Sha256};
 use std::alloc::Global;
 

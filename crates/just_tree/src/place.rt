@@ -5,7 +5,8 @@ ghost use Rattle.just_path.specs.Clean.{is_clean_absolute};
 ghost use Rattle.just_path.specs.Comps.{slash};
 ghost use Rattle.just_path.specs.View.{place_under};
 
-use just_path::{NoMemory, Utf8Path, Utf8PathBuf};
+use just_path::{Utf8Path, Utf8PathBuf};
+use just_text::NoMemory;
 use std::alloc::Global;
 
 /// A clean absolute path.

@@ -5,7 +5,7 @@ ghost use Rattle.just_tree.specs.Playing.{joined, next_call, word_of, ending_of,
 
 use super::files::ending_at;
 use just_outside::{Signal, Spec, Status, Thing};
-use just_path::{NoMemory, Seq, Text};
+use just_text::{NoMemory, Seq, Text};
 use std::alloc::Global;
 
 /// How a child over a `MemHost` ends. It is used once, by the first child whose word equals `word`: the text of the
@@ -89,10 +89,7 @@ pub fn word_of(alloc: Global, spec: &Spec) -> Result<String, NoMemory>
     ensures { IfOk result (λ s. string_bytes s ≡ word_of spec.now) }
 {
     match &spec.script {
-        Some(script) => {
-            let text = String::from_str(alloc, script.text.as_str())?;
-            Ok(text)
-        }
+        Some(script) => script.text.to_string(alloc),
         None => joined(alloc, spec.arguments.as_slice()),
     }
 }

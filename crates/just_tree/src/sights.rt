@@ -12,7 +12,8 @@ ghost use Rattle.just_files.specs.Items.{AreItemsBehind};
 use super::{Place, Tree};
 use just_files::{name_behind, put_item, text_of};
 use just_outside::{MAX_BYTES, Thing};
-use just_path::{Item, Kind, Meta, Miss, NoMemory, Text, Utf8Path};
+use just_path::{Item, Kind, Meta, Miss, Utf8Path};
+use just_text::{NoMemory, Text};
 use std::alloc::Global;
 
 /// Why a tree has no answer.

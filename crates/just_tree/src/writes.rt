@@ -11,7 +11,8 @@ use super::sights::{TreeFault, asks_folder, is_folder};
 use super::{Place, Tree};
 use just_files::copied_bytes;
 use just_outside::Thing;
-use just_path::{Miss, NoMemory, Seq, Utf8Path};
+use just_path::{Miss, Utf8Path};
+use just_text::{NoMemory, Seq};
 use std::alloc::Global;
 
 /// Whether a miss says that nothing is there.

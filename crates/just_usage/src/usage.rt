@@ -6,7 +6,7 @@ ghost use Rattle.std.specs.Fmt.{WritesOnOk};
 ghost use Rattle.just_usage.specs.Usages.{is_option, is_optional, is_variadic, has_options, behind, led, path_text, parameter_text, argument_text, usage_text};
 
 use just_lang::{Modulepath, Parameter, ParameterKind};
-use just_path::Text;
+use just_text::Text;
 use std::fmt;
 
 /// How a recipe is used: `usage:`, and on a line of its own its path and its parameters, of which those that are options are

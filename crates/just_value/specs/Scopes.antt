@@ -2,7 +2,7 @@
 use Rattle.std.specs.Prelude.{ℕ, false, List, [], ◌∷◌, ◌++◌, Option, Some, None, Ok, find, bytes_eq}
 use Rattle.std.specs.List.{join_with_byte}
 use Rattle.std.specs.Option.{option_map}
-use Rattle.just_path.specs.Environ.{or_else, value_of}
+use Rattle.just_text.specs.Environ.{or_else, value_of}
 use Rattle.just_lang.specs.declared.key.Value.{Value}
 use Rattle.just_lang.specs.declared.recipe.Modulepath.{Modulepath}
 use Rattle.just_lang.specs.declared.recipe.Parameter.{Parameter}

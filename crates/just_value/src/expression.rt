@@ -2,14 +2,14 @@
 
 ghost use Rattle.std.specs.Prelude.{◌≡◌, ◌++◌, ℕ, List, IfOk};
 ghost use Rattle.std.specs.Option.{option_copied};
-ghost use Rattle.just_path.specs.Environ.{value_of};
+ghost use Rattle.just_text.specs.Environ.{value_of};
 ghost use Rattle.just_value.specs.Scopes.{found_in};
 ghost use Rattle.just_value.specs.Values.{Valued, value, literal_text, compares, compared_by, rooted_value, joined_value};
 ghost use Rattle.just_value.specs.Asked.{AsksFor};
 
-use just_path::{Environ, NoMemory, Text};
 use just_read::ReadError;
 use just_syntax::{Comparison, Expr, StringLiteral};
+use just_text::{Environ, NoMemory, Text};
 use std::alloc::Global;
 
 /// What names mean.

@@ -4,7 +4,7 @@ ghost use Rattle.std.specs.Prelude.{◌≡◌, ◌++◌, [], ◌∷◌, map, rev
 ghost use Rattle.just_value.specs.Modules.{AreModules};
 
 use just_lang::project::Justfile;
-use just_path::NoMemory;
+use just_text::NoMemory;
 use std::alloc::Global;
 
 /// Puts modules on top of those that are pending, the first one on top.

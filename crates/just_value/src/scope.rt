@@ -7,7 +7,7 @@ ghost use Rattle.just_value.specs.Values.{Valued};
 
 use super::expression::Names;
 use just_lang::{Binding, DotenvOf, Level, Modulepath, Parameter, Value};
-use just_path::{NoMemory, Text};
+use just_text::{NoMemory, Text};
 use std::alloc::Global;
 
 /// The levels of a module, and behind them parameters with their values.

@@ -1,7 +1,7 @@
 -- The scopes of a project are determined.
 use Rattle.std.proofs.Common.{◌≡◌, ◌≢◌, ◌⊎◌, ℕ, suc, ◌+◌, ◌<◌, ◌≤◌, inl, inr, Bor, List, [], ◌∷◌, ◌++◌, append-nil, length, get_or, drop, drop-cons, map, Ok, Err, refl, sym, ap, ◌∙◌, subst, arith}
 use Rattle.std.proofs.lemmas.List.{drop_all}
-use Rattle.just_path.specs.declared.environ.Environ.{Environ}
+use Rattle.just_text.specs.declared.environ.Environ.{Environ}
 use Rattle.just_lang.specs.declared.recipe.Modulepath.{Modulepath}
 use Rattle.just_lang.specs.declared.scope.DotenvOf.{DotenvOf}
 use Rattle.just_lang.specs.declared.scope.Override.{Override}

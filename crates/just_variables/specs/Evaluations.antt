@@ -1,6 +1,6 @@
 -- The scopes that the assignments of a project make, or why it is refused.
 use Rattle.std.specs.Prelude.{ℕ, ◌≡◌, true, false, List, [], ◌∷◌, map, Ok, Err}
-use Rattle.just_path.specs.declared.environ.Environ.{Environ}
+use Rattle.just_text.specs.declared.environ.Environ.{Environ}
 use Rattle.just_lang.specs.declared.recipe.Modulepath.{Modulepath}
 use Rattle.just_lang.specs.declared.scope.Assignment.{Assignment}
 use Rattle.just_lang.specs.declared.scope.Binding.{Binding}

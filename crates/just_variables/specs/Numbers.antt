@@ -1,7 +1,7 @@
 -- The numbers of assignments by their names.
 use Rattle.std.specs.Prelude.{ℕ, ◌≡◌, List, Some, None, bytes_eq, if◌then◌else◌}
 use Rattle.std.specs.BTreeMap.{BTreeMap, get}
-use Rattle.just_path.specs.Environ.{or_else}
+use Rattle.just_text.specs.Environ.{or_else}
 use Rattle.just_lang.specs.declared.scope.Assignment.{Assignment}
 use Rattle.just_closure.specs.Numbers.{text_cmp}
 use Rattle.just_variables.specs.Uses.{named}

@@ -7,7 +7,7 @@ ghost use Rattle.just_value.specs.Scopes.{value_of_text};
 ghost use Rattle.just_variables.specs.Evaluations.{constant_level};
 
 use just_lang::{Binding, Level, Value, constant};
-use just_path::{NoMemory, Seq, Text};
+use just_text::{NoMemory, Seq, Text};
 use std::alloc::Global;
 
 /// The names of the constants.
@@ -57,7 +57,7 @@ pub(crate) fn constant_text(alloc: Global, name: &str) -> Result<Text, NoMemory>
 pub(crate) fn value_of_text(alloc: Global, text: Text) -> Result<Value, NoMemory>
     ensures { IfOk result (λ value. value ≡ value_of_text text) }
 {
-    let mut elements = Vec::new(alloc);
+    let mut elements = Vec::with_capacity(alloc, 1)?;
     elements.push(text)?;
     Ok(Value {
         elements: Seq::from(elements),
@@ -81,7 +81,7 @@ fn constant_binding(alloc: Global, name: &str) -> Result<Binding, NoMemory>
 fn constant_bindings(alloc: Global, names: &[&str]) -> Result<Seq<Binding>, NoMemory>
     ensures { IfOk result (λ bs. bs ≡ map (λ n. record { name = n.now; value = value_of_text (unwrap_or (constant_of n.now) []); export = false }) names.now) }
 {
-    let mut bindings = Vec::new(alloc);
+    let mut bindings = Vec::with_capacity(alloc, names.len())?;
     'names: for name in names {
         bindings.push(constant_binding(alloc, *name)?)?;
     }

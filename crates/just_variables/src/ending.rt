@@ -9,7 +9,7 @@ use super::names::{edges, numbers};
 use just_graph::first_on_cycle;
 use just_lang::Assignment;
 use just_lang::project::Justfile;
-use just_path::NoMemory;
+use just_text::NoMemory;
 use just_value::all_modules;
 use std::alloc::Global;
 

@@ -13,7 +13,7 @@ use super::overrides::unknown_texts;
 use super::scopes::scopes;
 use just_lang::project::{Justfile, LangError};
 use just_lang::{DotenvOf, Override, Scopes};
-use just_path::{Environ, NoMemory, Seq, TryClone};
+use just_text::{Environ, NoMemory, Seq, TryClone};
 use just_value::all_modules;
 use std::alloc::Global;
 

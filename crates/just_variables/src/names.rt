@@ -8,8 +8,8 @@ ghost use Rattle.just_variables.specs.Numbers.{AreNumbers, Enters};
 ghost use Rattle.just_variables.specs.Uses.{names_in, uses};
 
 use just_lang::Assignment;
-use just_path::{NoMemory, Seq, Text, TryClone};
 use just_syntax::Expr;
+use just_text::{NoMemory, Seq, Text, TryClone};
 use std::alloc::Global;
 use std::collections::BTreeMap;
 

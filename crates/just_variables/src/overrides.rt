@@ -7,7 +7,7 @@ ghost use Rattle.just_variables.specs.Overrides.{Variable, Keeps, AreGiven, is_o
 
 use just_lang::project::Justfile;
 use just_lang::{Assignment, Modulepath, Override};
-use just_path::{NoMemory, Seq, Text, TryClone};
+use just_text::{NoMemory, Seq, Text, TryClone};
 use std::alloc::Global;
 use std::collections::{BTreeMap, BTreeSet};
 

@@ -15,7 +15,7 @@ use super::constants::{constant_level, value_of_text};
 use super::settled::{Outcome, outcomes};
 use just_lang::project::{Justfile, LangError};
 use just_lang::{Assignment, Binding, DotenvOf, Level, Modulepath, Override, Scope};
-use just_path::{Environ, NoMemory, Seq, Text, TryClone};
+use just_text::{Environ, NoMemory, Seq, Text, TryClone};
 use std::alloc::Global;
 
 /// The refusal of a value that asks the environment for that variable, which isn't there.

@@ -19,7 +19,7 @@ use super::overrides::given_in;
 use just_graph::order;
 use just_lang::project::Justfile;
 use just_lang::{Assignment, DotenvOf, Override};
-use just_path::{Environ, NoMemory, Text, TryClone};
+use just_text::{Environ, NoMemory, Text, TryClone};
 use just_value::{Env, Names, pairs_for, value};
 use std::alloc::Global;
 use std::collections::BTreeMap;

@@ -2,7 +2,7 @@
 
 ghost use Rattle.std.specs.Prelude.{◌≡◌, ◌⊎◌, Some, None, Ok, Err, IfOk, IfErr, map, option_map, string_bytes, codes, [], ◌∷◌};
 ghost use Rattle.std.specs.Option.{option_copied};
-ghost use Rattle.just_path.specs.Environ.{value_of};
+ghost use Rattle.just_text.specs.Environ.{value_of};
 ghost use Rattle.just_path.specs.Path.{text_of, pushed};
 ghost use Rattle.just_path.specs.View.{place_under};
 ghost use Rattle.just_env.specs.Answers.{GainsMisses};
@@ -13,7 +13,8 @@ ghost use Rattle.just_which.specs.Programs.{shows_program, failed_entries, paths
 
 use super::WhichError;
 use just_outside::Host;
-use just_path::{Environ, Kind, Meta, NoMemory, PathFault, Text, Utf8Path, Utf8PathBuf};
+use just_path::{Kind, Meta, PathFault, Utf8Path, Utf8PathBuf};
+use just_text::{Environ, NoMemory, Text};
 use just_words::cut::add_parts;
 use std::alloc::Global;
 

@@ -3,7 +3,8 @@
 ghost use Rattle.std.specs.Prelude.{◌≡◌};
 ghost use Rattle.just_which.specs.declared.which_error.WhichError.TheVariants.{NoMemory as OutOfMemory};
 
-use just_path::{NoMemory, PathFault};
+use just_path::PathFault;
+use just_text::NoMemory;
 use std::alloc::{AllocError, AllocFailed};
 
 /// Why a program can't be looked for.

@@ -1,7 +1,7 @@
 -- Which options don't go together, and which need others.
 use Rattle.std.specs.Prelude.{ℕ, Bool, false, ◌||◌, ◌&&◌, if◌then◌else◌, List, [], ◌∷◌, ◌++◌, Option, Some, None, codes, bytes_eq}
 use Rattle.std.specs.List.{list_any}
-use Rattle.just_path.specs.Environ.{or_else}
+use Rattle.just_text.specs.Environ.{or_else}
 use Rattle.just_words.specs.declared.occurrence.Occurrence.{Occurrence}
 use Rattle.just_words.specs.Kinds.{is_command}
 

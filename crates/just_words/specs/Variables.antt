@@ -1,7 +1,7 @@
 -- The variables that fill what the words left out.
 use Rattle.std.specs.Prelude.{ℕ, if◌then◌else◌, List, [], ◌∷◌, ◌++◌, ◌≡◌, ◌≤◌, Option, Some, None, length, take}
 use denote.Ref.{Bor}
-use Rattle.just_path.specs.Environ.{value_of, or_else}
+use Rattle.just_text.specs.Environ.{value_of, or_else}
 use Rattle.just_words.specs.declared.entry.Kind.{Kind}
 use Rattle.just_words.specs.declared.entry.Kind.TheVariants as kind
 use Rattle.just_words.specs.declared.occurrence.Occurrence.{Occurrence}

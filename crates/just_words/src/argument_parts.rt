@@ -8,7 +8,7 @@ ghost use Rattle.just_words.specs.ArgumentParts.{AreRunFlags, AreCommandFlags, A
 use super::Occurrence;
 use super::cut::add_parts;
 use super::occurrence::{behind, is_given, value_in, values_in};
-use just_path::{NoMemory, Seq, Text};
+use just_text::{NoMemory, Seq, Text};
 use std::alloc::Global;
 
 /// How recipes are found and run.

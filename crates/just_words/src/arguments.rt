@@ -10,7 +10,7 @@ use super::decimal::decimal;
 use super::occurrence::{behind, is_given, times, value_in};
 use super::subcommand::subcommand_in;
 use super::{Occurrence, Subcommand};
-use just_path::{NoMemory, Seq, Text};
+use just_text::{NoMemory, Seq, Text};
 use std::alloc::Global;
 use std::num::NonZeroU64;
 

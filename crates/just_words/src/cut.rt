@@ -2,7 +2,7 @@
 ghost use Rattle.std.specs.Prelude.{◌≡◌, ◌<◌, IfOk, ◌++◌, ◌∷◌, [], true, false, length, None, Some, MatchOption};
 ghost use Rattle.just_words.specs.Cuts.{holds, before_first, behind_first, behind_sign, parts};
 
-use just_path::{NoMemory, Text};
+use just_text::{NoMemory, Text};
 use std::alloc::Global;
 
 /// What stands behind the character, where a text begins with it.

@@ -1,6 +1,6 @@
 //! What the table of options says of an option.
 
-use just_path::Text;
+use just_text::Text;
 
 /// The kinds of options.
 #[derive(Clone, Copy)]

@@ -6,7 +6,7 @@ ghost use Rattle.just_words.specs.Faults.{is_unknown, is_left_out, are_json, is_
 use super::mark::is_value;
 use super::occurrence::is_given;
 use super::{Attached, Mark, Occurrence, UsageKind, Values};
-use just_path::Text;
+use just_text::Text;
 
 /// Whether the values are the one value `json`.
 fn are_json(values: &[Text]) -> bool

@@ -6,7 +6,7 @@ ghost use Rattle.just_words.specs.Forms.{is_no, are_in_form};
 
 use super::Form;
 use super::decimal::is_within;
-use just_path::Text;
+use just_text::Text;
 
 impl Form {
     ghost use Rattle.just_words.specs.Forms.{is_in_form, gives};

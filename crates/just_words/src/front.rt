@@ -9,7 +9,7 @@ ghost use Rattle.just_words.specs.Steps.{IsStep, IsNextWord, IsFront};
 use super::fault::{Test, fault_of, has};
 use super::mark::{is_value, marks, words_taken};
 use super::{Mark, Occurrence, UsageKind};
-use just_path::{NoMemory, Text};
+use just_text::{NoMemory, Text};
 use std::alloc::Global;
 
 /// What a word with options comes to.

@@ -7,7 +7,7 @@ ghost use Rattle.just_words.specs.Letters.{begins_with_letter};
 use super::cut::{cut, strip};
 use super::table::{entry_lettered, entry_named};
 use super::{Entry, Values};
-use just_path::{NoMemory, Seq, Text};
+use just_text::{NoMemory, Seq, Text};
 use std::alloc::Global;
 
 /// What stands in the word of an option behind it.

@@ -5,7 +5,7 @@ ghost use Rattle.just_words.specs.Occurrences.{is_of, is_given, times, value_in,
 
 use super::Entry;
 use super::mark::add_copies;
-use just_path::{NoMemory, Seq, Text};
+use just_text::{NoMemory, Seq, Text};
 use std::alloc::Global;
 
 /// An option that is given: by a word, with its values; or by a variable.

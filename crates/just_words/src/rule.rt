@@ -5,7 +5,7 @@ ghost use Rattle.std.specs.Option.{option_copied};
 ghost use Rattle.just_words.specs.Rules.{gives_command, is_one_of, later_word, together, first_word, without_positional, conflict, word_of, alone, missing};
 
 use super::Occurrence;
-use just_path::Text;
+use just_text::Text;
 
 impl Occurrence {
     /// Whether the option's name is one of these.

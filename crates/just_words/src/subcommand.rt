@@ -3,7 +3,7 @@ ghost use Rattle.std.specs.Prelude.{◌≡◌, IfOk};
 ghost use Rattle.just_words.specs.Arguments.{subcommand_named, subcommand_in};
 
 use super::Occurrence;
-use just_path::{NoMemory, Seq, Text};
+use just_text::{NoMemory, Seq, Text};
 
 /// What is done in place of a run, with the words of the command.
 #[derive(Drop)]

@@ -3,7 +3,7 @@ ghost use Rattle.std.specs.Prelude.{◌≡◌, ◌<◌, map, IfOk};
 ghost use Rattle.just_words.specs.Table.{table, row_of, entry_named, entry_lettered};
 
 use super::{Entry, Form, Kind, Values};
-use just_path::{NoMemory, Text};
+use just_text::{NoMemory, Text};
 use std::alloc::Global;
 
 /// A row of the table: an option's names, without dashes; what it is, and what it takes; and the variable that fills it.

@@ -1,6 +1,6 @@
 //! Why the words of the command line are refused.
 
-use just_path::Text;
+use just_text::Text;
 
 /// Why the words of the command line are refused.
 #[derive(Clone, Copy)]

@@ -6,7 +6,7 @@ ghost use Rattle.just_words.specs.Variables.{text_for, variable_name, ill_variab
 use super::occurrence::is_given;
 use super::table::{Row, rows};
 use super::{Kind, Occurrence};
-use just_path::{Environ, NoMemory, Seq, Text};
+use just_text::{Environ, NoMemory, Seq, Text};
 use std::alloc::Global;
 
 /// The name of a row's variable and its text, where the option of the row isn't given.

@@ -9,7 +9,7 @@ use super::mark::add_copies;
 use super::rule::{conflict, missing};
 use super::variable::fill;
 use super::{Arguments, Occurrence, Usage, UsageKind};
-use just_path::{Environ, NoMemory, Seq, Text};
+use just_text::{Environ, NoMemory, Seq, Text};
 use std::alloc::Global;
 
 /// What the words of the command line ask for.

@@ -5,7 +5,7 @@ use Rattle.just_cli.proofs.Serving.{environ_lost, unanswered, words_refused, wor
 use Rattle.just_cli.proofs.prepare.prepare.Goals as goal
 
 pub returns-in-Err-clause-refused : goal.returns-in-Err-clause-refused
-returns-in-Err-clause-refused g c = environ_lost _ _ _ _ _ c.in-Err.ensures.grew c.in-Err.ensures.refused
+returns-in-Err-clause-refused g c = environ_lost _ _ _ _ _ _ _ c.environment.ensures.world c.in-Err.ensures.grew c.in-Err.ensures.refused
 
 pub returns-in-Err-clause-quiet : goal.returns-in-Err-clause-quiet
 returns-in-Err-clause-quiet g c = quiet_without_environ _ _ _ c.in-Err.ensures.refused
@@ -13,23 +13,23 @@ returns-in-Err-clause-quiet g c = quiet_without_environ _ _ _ c.in-Err.ensures.r
 pub returns-in-Ok-serve-clause-asked : goal.returns-in-Ok-serve-clause-asked
 returns-in-Ok-serve-clause-asked g c =
     let means = rw c.in-Ok-Go.field-0-is at c.in-Ok-Go.ensures.read in
-    words_served _ _ _ _ c.in-Ok.ensures.gives _ means _ c.environment.ensures.world _ _ c.in-Ok.ensures.grew _ c.in-Ok-serve.ensures.served
+    words_served _ _ _ _ _ c.in-Ok.ensures.gives _ means _ c.environment.ensures.world _ _ c.in-Ok.ensures.grew _ _ _ c.in-Ok-serve.ensures
 
 pub returns-in-Ok-Go-clause-refused : goal.returns-in-Ok-Go-clause-refused
 returns-in-Ok-Go-clause-refused g c =
-    words_unserved _ _ _ _ c.in-Ok.ensures.gives _ (rw c.in-Ok-Go.field-0-is at c.in-Ok-Go.ensures.read) _ c.environment.ensures.world _ _ c.in-Ok.ensures.grew _ c.in-Err-serve.ensures.served
+    words_unserved _ _ _ _ _ c.in-Ok.ensures.gives _ (rw c.in-Ok-Go.field-0-is at c.in-Ok-Go.ensures.read) _ c.environment.ensures.world _ _ c.in-Ok.ensures.grew _ _ _ c.in-Err-serve.ensures
 
 pub returns-in-Ok-Go-clause-quiet : goal.returns-in-Ok-Go-clause-quiet
 returns-in-Ok-Go-clause-quiet g c = quiet_of_words _ _ _ c.in-Ok.ensures.gives _ _ _ (rw c.in-Ok-Go.field-0-is at c.in-Ok-Go.ensures.read) refl
 
 pub returns-clause-refused : goal.returns-clause-refused
-returns-clause-refused g c = words_refused _ _ _ _ c.in-Ok.ensures.gives _ _ c.in-Ok.ensures.grew c.in-Err-read.ensures.refused
+returns-clause-refused g c = words_refused _ _ _ _ _ c.in-Ok.ensures.gives _ _ _ c.environment.ensures.world c.in-Ok.ensures.grew c.in-Err-read.ensures.refused
 
 pub returns-clause-quiet : goal.returns-clause-quiet
 returns-clause-quiet g c = quiet_without_words _ _ _ c.in-Ok.ensures.gives _ c.in-Err-read.ensures.refused
 
 pub returns-in-Ok-Help-clause-refused : goal.returns-in-Ok-Help-clause-refused
-returns-in-Ok-Help-clause-refused g c = unanswered _ _ _ _ c.in-Ok.ensures.grew
+returns-in-Ok-Help-clause-refused g c = unanswered _ _ _ _ _ _ c.environment.ensures.world c.in-Ok.ensures.grew
 
 pub returns-in-Ok-Version-clause-refused : goal.returns-in-Ok-Version-clause-refused
-returns-in-Ok-Version-clause-refused g c = unanswered _ _ _ _ c.in-Ok.ensures.grew
+returns-in-Ok-Version-clause-refused g c = unanswered _ _ _ _ _ _ c.environment.ensures.world c.in-Ok.ensures.grew

@@ -1,6 +1,10 @@
--- The law.
-use Rattle.just_env_files.proofs.Agreed.{dotenv_agrees as law}
+-- The laws.
+use Rattle.just_env_files.proofs.Agreed.{dotenv_agrees}
+use Rattle.just_env_files.proofs.Alone.{dotenv_alone}
 use Rattle.just_env_files.proofs.law.dotenv_agrees.Goals as goal
 
-pub returns : goal.returns
-returns c = law
+pub returns-clause-agrees : goal.returns-clause-agrees
+returns-clause-agrees c = dotenv_agrees
+
+pub returns-clause-alone : goal.returns-clause-alone
+returns-clause-alone c = dotenv_alone

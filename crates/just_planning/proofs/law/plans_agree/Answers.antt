@@ -1,6 +1,9 @@
--- The law.
-use Rattle.just_planning.proofs.Laws.{plans_agree as law}
+-- The laws.
+use Rattle.just_planning.proofs.Laws.{plans_agree, plans_alone}
 use Rattle.just_planning.proofs.law.plans_agree.Goals as goal
 
-pub returns : goal.returns
-returns c = law
+pub returns-clause-agrees : goal.returns-clause-agrees
+returns-clause-agrees c = plans_agree
+
+pub returns-clause-alone : goal.returns-clause-alone
+returns-clause-alone c = plans_alone

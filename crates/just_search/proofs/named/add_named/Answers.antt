@@ -1,6 +1,6 @@
 -- A string that means no path names no file.
 use Rattle.std.proofs.Common.{rules, ◌≡◌, None}
-use Rattle.just_path.specs.Environ.{home_of}
+use Rattle.just_text.specs.Environ.{home_of}
 use Rattle.just_layout.specs.Paths.{path_under}
 use Rattle.just_search.proofs.Naming.{adds_no_path}
 use Rattle.just_search.proofs.named.add_named.Goals as goal

@@ -1,7 +1,7 @@
 -- The last pair of that name among those behind, else what was found, is the value.
 use Rattle.std.proofs.Common.{◌≡◌, drop}
 use Rattle.std.specs.Option.{option_copied}
-use Rattle.just_path.specs.Environ.{value_of, or_else}
+use Rattle.just_text.specs.Environ.{value_of, or_else}
 use Rattle.just_value.proofs.expression.last_value.Given as goal
 
 abbrev pub invariant-pairs : goal.invariant-pairs

@@ -8,7 +8,7 @@ use Rattle.just_lang.specs.declared.recipe.Modulepath.{Modulepath}
 use Rattle.just_lang.specs.declared.scope.DotenvOf.{DotenvOf}
 use Rattle.just_lang.specs.declared.scope.Scope.{Scope}
 use Rattle.just_lang.specs.declared.scope.Scopes.{Scopes}
-use Rattle.just_path.specs.declared.environ.Environ.{Environ}
+use Rattle.just_text.specs.declared.environ.Environ.{Environ}
 use Rattle.just_value.specs.Answers.{Answer}
 use Rattle.just_value.specs.Modules.{AreModules, assignments_of}
 use Rattle.just_value.proofs.Nesting.{same_modules}

@@ -1,6 +1,6 @@
 -- A search that is refused, and one without paths.
 use Rattle.std.proofs.Common.{Ok, codes, sym, ap, ◌∙◌}
-use Rattle.just_path.specs.Environ.{value_of}
+use Rattle.just_text.specs.Environ.{value_of}
 use Rattle.just_path.specs.Path.{text_of}
 use Rattle.just_which.specs.Programs.{program_paths}
 use Rattle.just_which.proofs.Looks.{looks_nothing, which_refused}

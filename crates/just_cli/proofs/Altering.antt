@@ -1,0 +1,248 @@
+-- What temporary folders make of a told world, as they are made and as they are removed.
+use Rattle.std.proofs.Common.{◌≡◌, ◌++◌, ◌||◌, ◌⊎◌, inl, inr, ℕ, Bool, true, false, true≢false, cond, List, [], ◌∷◌, Contains, Option, Some, None, Result, Ok, Err, MatchOption, refl, sym, ◌∙◌, ap, subst, append_assoc, append-nil, arith}
+use Rattle.std.specs.List.{list_any}
+use Rattle.std.specs.Prelude.{codes}
+use Rattle.std.specs.Str.{bytes_eq}
+use Rattle.std.specs.FinMap.{get, insert, remove, get-remove}
+use Rattle.std.proofs.lemmas.Cmp.{nat_list_cmp_total}
+use Rattle.std.proofs.lemmas.Map.Text.{is_eq-slice_cmp}
+use Rattle.std.proofs.lemmas.Slice.Eq.{bytes_eq-Decides}
+use Rattle.std.proofs.lemmas.List.Elements.{Contains-append_left, Contains-append_right}
+use Rattle.std.proofs.lemmas.List.Folds.{list_any-append}
+use Rattle.just_path.specs.declared.host.Miss.{Miss}
+use Rattle.just_outside.specs.declared.entry.Call.TheVariants as call
+use Rattle.just_outside.specs.declared.entry.Entry.{Entry}
+use Rattle.just_outside.specs.declared.entry.Entry.TheVariants as entry
+use Rattle.just_outside.specs.declared.entry.HostFault.{HostFault}
+use Rattle.just_outside.specs.declared.entry.HostFault.TheVariants as fault
+use Rattle.just_outside.specs.declared.tree.Thing.TheVariants as thing
+use Rattle.just_outside.specs.Changes.{with_tree, DiffersAt}
+use Rattle.just_outside.specs.Folders.{Removes as RemovesPath}
+use Rattle.just_outside.specs.Record.{refused, gained, IsOwnFault, is_failed}
+use Rattle.just_outside.specs.Sights.{Tree}
+use Rattle.just_outside.specs.World.{World}
+use Rattle.just_outside.proofs.Writing.{put_elsewhere, written_elsewhere}
+use Rattle.just_history.specs.declared.plan_node.PlanNode.{PlanNode}
+use Rattle.just_history.specs.Touched.{IsTouched}
+use Rattle.just_tangled.specs.Files.{Makes, Writes, file_in}
+use Rattle.just_tangled.specs.Removals.{IsWithin, IsAnswered, IsTried, Clears, RemovesFolder, RemovesAll, RemovesSome}
+use Rattle.just_cli.specs.Altered.{LeadsTo, IsLedTo, Alters, IsAltered, EndsAsItWas, StaysAsItWas}
+use Rattle.just_cli.specs.Record.{Removes, AreRefusals, EndsBehind}
+
+-- ---- worlds that are led to
+
+-- a world that is as it was
+pub altered_same : (folders : List (List ℕ)) (nodes : List PlanNode) (told after : Option World) → after ≡ told → IsAltered folders nodes told after
+altered_same folders nodes None after is = is
+altered_same folders nodes (Some w) after is = subst (λ o. MatchOption o ⊥ (λ v. Alters folders nodes w v)) (sym is) Alters.same
+
+alters_then : (folders : List (List ℕ)) (nodes : List PlanNode) (w u v : World) → Alters folders nodes w u → Alters folders nodes u v → Alters folders nodes w v
+alters_then folders nodes w u v a Alters.same = a
+alters_then folders nodes w u v a (Alters.within x y b d) = Alters.within x v (alters_then folders nodes w u x a b) d
+alters_then folders nodes w u v a (Alters.cached x y b t) = Alters.cached x v (alters_then folders nodes w u x a b) t
+
+pub altered_then : (folders : List (List ℕ)) (nodes : List PlanNode) (a b c : Option World) → IsAltered folders nodes a b → IsAltered folders nodes b c → IsAltered folders nodes a c
+altered_then folders nodes None b c p q = subst (λ o. IsAltered folders nodes o c) p q
+altered_then folders nodes (Some w) None c p q = absurd p
+altered_then folders nodes (Some w) (Some u) None p q = absurd q
+altered_then folders nodes (Some w) (Some u) (Some v) p q = alters_then folders nodes w u v p q
+
+-- what a run without children makes of it is led to by its caches
+pub altered_touched : (folders : List (List ℕ)) (nodes : List PlanNode) (told after : Option World) → IsTouched nodes told after → IsAltered folders nodes told after
+altered_touched folders nodes None after t = t
+altered_touched folders nodes (Some w) None t = absurd t
+altered_touched folders nodes (Some w) (Some v) t = Alters.cached w v Alters.same t
+
+-- more folders lead to more
+module _ (some all : List (List ℕ)) (among : (folder : List ℕ) → Contains some folder → Contains all folder) (nodes : List PlanNode) where
+  led_more : (w : World) (place : List ℕ) → IsLedTo some w place → IsLedTo all w place
+  led_more w place (folder, path, has, within, leads) = (folder, path, among folder has, within, leads)
+
+  differs_more : (u v : World) → DiffersAt (IsLedTo some u) u v → DiffersAt (IsLedTo all u) u v
+  differs_more u v d = record { tree = λ place apart. d.tree place (λ led. apart (led_more u place led)); current = d.current; environ = d.environ; input = d.input }
+
+  alters_more : (w v : World) → Alters some nodes w v → Alters all nodes w v
+  alters_more w v Alters.same = Alters.same
+  alters_more w v (Alters.within u y a d) = Alters.within u v (alters_more w u a) (differs_more u v d)
+  alters_more w v (Alters.cached u y a t) = Alters.cached u v (alters_more w u a) t
+
+  pub altered_more : (told after : Option World) → IsAltered some nodes told after → IsAltered all nodes told after
+  altered_more None after a = a
+  altered_more (Some w) None a = absurd a
+  altered_more (Some w) (Some v) a = alters_more w v a
+
+-- ---- a folder and its file
+
+pub has_first : (folder : List ℕ) (folders : List (List ℕ)) → Contains (folder ∷ folders) folder
+has_first folder folders = (0, omega arith, refl)
+
+-- a folder that was made
+pub altered_made : (nodes : List PlanNode) (told after : Option World) (parent : Option (List ℕ)) (folder : List ℕ) → Makes told after parent (Ok folder) → IsAltered (folder ∷ []) nodes told after
+altered_made nodes None after parent folder is = is
+altered_made nodes (Some w) after parent folder makes =
+    subst (λ o. MatchOption o ⊥ (λ v. Alters (folder ∷ []) nodes w v)) (sym makes.1)
+    (Alters.within w (with_tree w (insert w.tree folder thing.Folder)) Alters.same
+    (record { tree = λ q apart. put_elsewhere w.tree folder q thing.Folder (λ same. apart (folder, folder, has_first folder [], IsWithin.itself, LeadsTo.made same)); current = refl; environ = refl; input = refl }))
+
+-- none was made
+pub unmade : (told after : Option World) (parent : Option (List ℕ)) (io : HostFault) → Makes told after parent (Err io) → after ≡ told
+unmade None after parent io is = is
+unmade (Some w) after parent (fault.Missed m) is = is.1
+unmade (Some w) after parent (fault.Failed c) is = is
+unmade (Some w) after parent fault.NoMemory is = is
+
+-- a file that was written to one
+pub altered_written : (nodes : List PlanNode) (told after : Option World) (folder text : List ℕ) → Writes told after folder text (Ok tt) → IsAltered (folder ∷ []) nodes told after
+altered_written nodes None after folder text is = is
+altered_written nodes (Some w) after folder text (tree, is, new) =
+    subst (λ o. MatchOption o ⊥ (λ v. Alters (folder ∷ []) nodes w v)) (sym new)
+    (Alters.within w (with_tree w tree) Alters.same
+    (record { tree = λ q apart. written_elsewhere w (file_in folder) text tree is q (λ to. apart (folder, file_in folder, has_first folder [], IsWithin.item folder (codes "justfile") IsWithin.itself refl, LeadsTo.written to)); current = refl; environ = refl; input = refl }))
+
+-- none was, since it missed
+pub unwritten_same : (told after : Option World) (folder text : List ℕ) (m : Miss) → Writes told after folder text (Err (fault.Missed m)) → after ≡ told
+unwritten_same None after folder text m is = is
+unwritten_same (Some w) after folder text m is = is.1
+
+-- ---- what no entry of a list passes
+
+first_of : (a b : Bool) → (a || b) ≡ false → a ≡ false
+first_of true b e = absurd (cc)
+first_of false b e = refl
+
+second_of : (a b : Bool) → (a || b) ≡ false → b ≡ false
+second_of true b e = absurd (cc)
+second_of false b e = e
+
+pub quiet_first : (p : Entry → Bool) (xs ys : List Entry) → list_any p (xs ++ ys) ≡ false → list_any p xs ≡ false
+quiet_first p xs ys none = first_of (list_any p xs) (list_any p ys) (sym (list_any-append p xs ys) ∙ none)
+
+pub quiet_rest : (p : Entry → Bool) (xs ys : List Entry) → list_any p (xs ++ ys) ≡ false → list_any p ys ≡ false
+quiet_rest p xs ys none = second_of (list_any p xs) (list_any p ys) (sym (list_any-append p xs ys) ∙ none)
+
+-- ---- removals
+
+all_refusals : (xs ys : List Entry) → AreRefusals xs → AreRefusals ys → AreRefusals (xs ++ ys)
+all_refusals [] ys h g = g
+all_refusals (x ∷ xs) ys h g = (h.0, all_refusals xs ys h.1 g)
+
+-- the record gained refusals alone; where no call failed, paths at or below these folders lead from the one world to the other
+abbrev pub Clearing : List (List ℕ) → Option World → List Entry → Option World → List Entry → Type 0
+Clearing folders told old after new = (rest : List Entry) × (new ≡ old ++ rest) × AreRefusals rest × ((nodes : List PlanNode) → list_any is_failed rest ≡ false → IsAltered folders nodes told after)
+
+cleared_none : (folders : List (List ℕ)) (told : Option World) (old : List Entry) → Clearing folders told old told old
+cleared_none folders told old = ([], sym (append-nil old), tt, λ nodes quiet. altered_same folders nodes told told refl)
+
+cleared_then : (folders : List (List ℕ)) (a b c : Option World) (x y z : List Entry) → Clearing folders a x b y → Clearing folders b y c z → Clearing folders a x c z
+cleared_then folders a b c x y z (r, g, k, m) (s, h, l, n) = (
+  r ++ s,
+  h ∙ (ap (λ es. es ++ s) g ∙ append_assoc x r s),
+  all_refusals r s k l,
+  λ nodes quiet. altered_then folders nodes a b c (m nodes (quiet_first is_failed r s quiet)) (n nodes (quiet_rest is_failed r s quiet)),
+)
+
+-- a listing that is refused
+cleared_listing : (folders : List (List ℕ)) (told : Option World) (old : List Entry) (path : List ℕ) (io : HostFault) → Clearing folders told old told (old ++ refused path io)
+cleared_listing folders told old path (fault.Missed m) = (entry.Missed path m ∷ [], refl, (refl, tt), λ nodes quiet. altered_same folders nodes told told refl)
+cleared_listing folders told old path (fault.Failed c) = (entry.Failed c ∷ [], refl, (refl, tt), λ nodes quiet. altered_same folders nodes told told refl)
+cleared_listing folders told old path fault.NoMemory = ([], refl, tt, λ nodes quiet. altered_same folders nodes told told refl)
+
+-- texts that aren't equal don't compare equal
+apart_texts : (q place : List ℕ) (b : Bool) → bytes_eq q place ≡ b → (q ≡ place → ⊥) → b ≡ false
+apart_texts q place true e apart = absurd (apart ((bytes_eq-Decides q place).0 e))
+apart_texts q place false e apart = refl
+
+-- where nothing was removed, there stands what stood there
+removed_elsewhere : (tree : Tree) (place q : List ℕ) → (q ≡ place → ⊥) → get (remove tree place) q ≡ get tree q
+removed_elsewhere tree place q apart =
+    get-remove nat_list_cmp_total tree place q ∙ ap (λ b. cond b None (get tree q)) (is_eq-slice_cmp q place ∙ apart_texts q place (bytes_eq q place) refl apart)
+
+missed_same : (told after : Option World) (path : List ℕ) (m : Miss) → RemovesPath {A = Unit {0}} told after path (Err (fault.Missed m)) → after ≡ told
+missed_same None after path m is = is
+missed_same (Some w) after path m is = is.1
+
+module _ (folders : List (List ℕ)) (folder path : List ℕ) (has : Contains folders folder) (within : IsWithin folder path) where
+  altered_removed : (nodes : List PlanNode) (told after : Option World) (x : Unit {0}) → RemovesPath told after path (Ok x) → IsAltered folders nodes told after
+  altered_removed nodes None after x is = is
+  altered_removed nodes (Some w) after x (place, at, holds, is) =
+      subst (λ o. MatchOption o ⊥ (λ v. Alters folders nodes w v)) (sym is)
+      (Alters.within w (with_tree w (remove w.tree place)) Alters.same
+      (record { tree = λ q apart. removed_elsewhere w.tree place q (λ same. apart (folder, path, has, within, LeadsTo.removed (at ∙ ap (λ p. Ok p) (sym same)))); current = refl; environ = refl; input = refl }))
+
+  cleared_by : (told after : Option World) (old new : List Entry) (r : Result (Unit {0}) HostFault) → IsAnswered r → RemovesPath told after path r → new ≡ old ++ gained path (λ _. []) r → Clearing folders told old after new
+  cleared_by told after old new (Ok x) answered removes leaves = ([], leaves, tt, λ nodes quiet. altered_removed nodes told after x removes)
+  cleared_by told after old new (Err (fault.Missed m)) answered removes leaves = (entry.Missed path m ∷ [], leaves, (refl, tt), λ nodes quiet. altered_same folders nodes told after (missed_same told after path m removes))
+  cleared_by told after old new (Err (fault.Failed c)) answered removes leaves = (entry.Failed c ∷ [], leaves, (refl, tt), λ nodes quiet. absurd (true≢false quiet))
+  cleared_by told after old new (Err fault.NoMemory) answered removes leaves = absurd answered
+
+  cleared_path : (told after : Option World) (old new : List Entry) → IsTried path told old after new → Clearing folders told old after new
+  cleared_path told after old new t = cleared_by told after old new t.result t.answered t.removes t.leaves
+
+module _ (folders : List (List ℕ)) (folder : List ℕ) (has : Contains folders folder) where
+  cleared_within : (told : Option World) (old : List Entry) (after : Option World) (new : List Entry) → Clears folder told old after new → Clearing folders told old after new
+  cleared_within told old after new Clears.nothing = cleared_none folders told old
+  cleared_within told old after new (Clears.a_listing now more path io before own) =
+      cleared_then folders told now now old more (more ++ refused path io) (cleared_within told old now more before) (cleared_listing folders now more path io)
+  cleared_within told old after new (Clears.a_removal between now middle more path before within tried) =
+      cleared_then folders told between now old middle more (cleared_within told old between middle before) (cleared_path folders folder path has within between now middle more tried)
+
+  cleared_folder : (told after : Option World) (old new : List Entry) → RemovesFolder folder told old after new → Clearing folders told old after new
+  cleared_folder told after old new (between, middle, clears, tried) =
+      cleared_then folders told between after old middle new (cleared_within told old between middle clears) (cleared_path folders folder folder has IsWithin.itself between after middle new tried)
+
+cleared_all : (all : List (List ℕ)) (told : Option World) (old : List Entry) (folders : List (List ℕ)) (after : Option World) (new : List Entry) → RemovesAll told old folders after new
+    → ((folder : List ℕ) → Contains folders folder → Contains all folder) → Clearing all told old after new
+cleared_all all told old folders after new RemovesAll.none among = cleared_none all told old
+cleared_all all told old folders after new (RemovesAll.another first folder between now middle more before removes) among =
+    cleared_then all told between now old middle more (cleared_all all told old first between middle before (λ f has. among f (Contains-append_left first (folder ∷ []) f has)))
+    (cleared_folder all folder (among folder (Contains-append_right first (folder ∷ []) folder (has_first folder []))) between now middle more removes)
+
+cleared_some : (told after : Option World) (old new : List Entry) (folders : List (List ℕ)) → RemovesSome told old folders after new → Clearing folders told old after new
+cleared_some told after old new folders s =
+    subst (λ (fs : List (List ℕ)). Clearing fs told old after new) (sym s.all)
+    (cleared_then (s.first ++ s.next ∷ s.others) told s.between after old s.middle new
+    (cleared_all (s.first ++ s.next ∷ s.others) told old s.first s.between s.middle s.removed (λ f has. Contains-append_left s.first (s.next ∷ s.others) f has))
+    (cleared_within (s.first ++ s.next ∷ s.others) s.next (Contains-append_right s.first (s.next ∷ s.others) s.next (has_first s.next s.others)) s.between s.middle after new s.cleared))
+
+pub clearing : (folders : List (List ℕ)) (told after : Option World) (old new : List Entry) → Removes folders told old after new → Clearing folders told old after new
+clearing folders told after old new (inl all) = cleared_all folders told old folders after new all (λ f has. has)
+clearing folders told after old new (inr some) = cleared_some told after old new folders some
+
+-- ---- where no folder was made, none is removed
+
+some_left : (xs ys : List (List ℕ)) (x : List ℕ) → xs ++ x ∷ ys ≡ [] → ⊥
+some_left [] ys x is = let no : ⊥ = cc in no
+some_left (y ∷ xs) ys x is = let no : ⊥ = cc in no
+
+kept_all : (told : Option World) (old : List Entry) (folders : List (List ℕ)) (after : Option World) (new : List Entry) → RemovesAll told old folders after new → folders ≡ [] → (after ≡ told) × (new ≡ old)
+kept_all told old folders after new RemovesAll.none is = (refl, refl)
+kept_all told old folders after new (RemovesAll.another first folder between now middle more before removes) is = absurd (some_left first [] folder is)
+
+pub removes_none : (folders : List (List ℕ)) (told after : Option World) (old new : List Entry) → folders ≡ [] → Removes folders told old after new → (after ≡ told) × (new ≡ old)
+removes_none folders told after old new is (inl all) = kept_all told old folders after new all is
+removes_none folders told after old new is (inr s) = absurd (some_left s.first s.others s.next (sym s.all ∙ is))
+
+-- ---- behind the book
+
+-- an error that is told, or nothing, and the removal of the folders
+pub behind_book : (folders : List (List ℕ)) (tells : List Entry → Type 0) (settled after : Option World) (old middle new : List Entry) → (first : List Entry) × (middle ≡ old ++ first) × tells first → Removes folders settled middle after new
+    → (post : List Entry) × (new ≡ old ++ post) × EndsBehind folders tells settled after old post
+behind_book folders tells settled after old middle new (first, is, told) removes =
+    let c = clearing folders settled after middle new removes in
+    let grew : new ≡ old ++ (first ++ c.0) = c.1 ∙ (ap (λ es. es ++ c.0) is ∙ append_assoc old first c.0) in (
+      first ++ c.0,
+      grew,
+      record { first = first; refusals = c.0; grew = refl; told_error = told; are = c.2; removed = subst (λ es. Removes folders settled (old ++ first) after es) grew (subst (λ es. Removes folders settled es after new) is removes) },
+    )
+
+-- what the end of a run makes of a told world
+pub ends_as_it_was : (folders : List (List ℕ)) (nodes : List PlanNode) (told between settled after : Option World) → (folders ≡ [] → between ≡ told) → IsAltered folders nodes told between → IsTouched nodes between settled
+    → (folders ≡ [] → after ≡ settled) → IsAltered folders nodes settled after → EndsAsItWas folders nodes told after
+ends_as_it_was [] nodes told between settled after still made touched none removed = subst (λ w. IsTouched nodes told w) (sym (none refl)) (subst (λ w. IsTouched nodes w settled) (still refl) touched)
+ends_as_it_was (folder ∷ folders) nodes told between settled after still made touched none removed =
+    altered_then (folder ∷ folders) nodes told between after made (altered_then (folder ∷ folders) nodes between settled after (altered_touched (folder ∷ folders) nodes between settled touched) removed)
+
+pub stays_as_it_was : (folders : List (List ℕ)) (told between after : Option World) → (folders ≡ [] → between ≡ told) → IsAltered folders [] told between → (folders ≡ [] → after ≡ between) → IsAltered folders [] between after
+    → StaysAsItWas folders told after
+stays_as_it_was [] told between after still made none removed = none refl ∙ still refl
+stays_as_it_was (folder ∷ folders) told between after still made none removed = altered_then (folder ∷ folders) [] told between after made removed

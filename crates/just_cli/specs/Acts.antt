@@ -1,0 +1,52 @@
+-- What a host does for a request beside what it looks at, before the book is opened; and steps that take such acts.
+use Rattle.std.specs.Prelude.{ℕ, ◌≡◌, List, [], ◌∷◌, ◌++◌, Option, Result, Ok, Err}
+use Rattle.just_path.specs.declared.host.Miss.{Miss}
+use Rattle.just_outside.specs.declared.entry.Entry.{Entry}
+use Rattle.just_outside.specs.declared.entry.Entry.TheVariants as entry
+use Rattle.just_outside.specs.World.{World}
+use Rattle.just_env_files.specs.Captures.{Capture, AreTold, entry_of as entry_of_capture}
+use Rattle.just_errors.specs.declared.error.Error.{Error}
+
+-- a temporary folder was made, or a child was run to its end for what it printed
+pub data Act : Type 0 where
+  made : List ℕ → Act
+  captured : Capture → Act
+
+abbrev pub entry_of : Act → Entry
+entry_of (Act.made folder) = entry.Made folder
+entry_of (Act.captured c) = entry_of_capture c
+
+-- the temporary folders among them, and the children
+abbrev pub folders_in : List Act → List (List ℕ)
+folders_in [] = []
+folders_in (Act.made folder ∷ acts) = folder ∷ folders_in acts
+folders_in (Act.captured c ∷ acts) = folders_in acts
+
+abbrev pub captures_in : List Act → List Capture
+captures_in [] = []
+captures_in (Act.made folder ∷ acts) = captures_in acts
+captures_in (Act.captured c ∷ acts) = c ∷ captures_in acts
+
+-- behind each of these children a world is told
+abbrev pub AreToldBehind : List Act → Type 0
+AreToldBehind acts = AreTold (captures_in acts)
+
+-- entries are those of some acts in their order, and misses among them
+pub data AreActs : List Act → List Entry → Type 0 where
+  none : AreActs [] []
+  a_miss : (path : List ℕ) (m : Miss) (acts : List Act) (es : List Entry) → AreActs acts es → AreActs acts (entry.Missed path m ∷ es)
+  an_act : (a : Act) (acts : List Act) (es : List Entry) → AreActs acts es → AreActs (a ∷ acts) (entry_of a ∷ es)
+
+-- a step over the world that is told before it: it takes these acts, that world is told behind it, and it answers so
+abbrev pub Step : Type 0 → Type 0 → Type 1
+Step A B = Option World → List Act → Option World → A → Result B Error → Type 0
+
+-- a step that only looks
+abbrev pub Looks : {A B : Type 0} → (Option World → A → Result B Error → Type 0) → Step A B
+Looks gives told acts after x r = (acts ≡ []) × (after ≡ told) × gives told x r
+
+-- One step behind another: each takes its acts from the front, and the second goes on from what the first finds, in the world that is told then. A
+-- refusal of the first is the refusal of both.
+pub data Behind {A B C : Type 0} (first : Step A B) (second : Step B C) (told : Option World) (acts : List Act) (after : Option World) (x : A) (r : Result C Error) : Type 0 where
+  refused : (e : Error) → first told acts after x (Err e) → r ≡ Err e → Behind first second told acts after x r
+  both : (y : B) (front rest : List Act) (between : Option World) → first told front between x (Ok y) → second between rest after y r → acts ≡ front ++ rest → Behind first second told acts after x r

@@ -1,0 +1,57 @@
+-- The file of a justfile in a place, as a part of a preparation.
+use Rattle.std.specs.Prelude.{ℕ, ◌≡◌, true, List, [], ◌∷◌, Option, Some, Result, Ok, Err}
+use Rattle.just_text.specs.declared.environ.Environ.{Environ}
+use Rattle.just_outside.specs.World.{World}
+use Rattle.just_config.specs.declared.config.Config.{Config}
+use Rattle.just_locate.specs.declared.location.Location.{Location}
+use Rattle.just_errors.specs.declared.error.Error.{Error}
+use Rattle.just_planning.specs.declared.wanted.Wanted.{Wanted}
+use Rattle.just_cli.specs.Acts.{Act}
+use Rattle.just_outside.specs.declared.entry.Entry.{Entry}
+use Rattle.just_fallback.specs.Fallback.{FallsBack}
+use Rattle.just_planning.specs.Request.{Outline}
+use Rattle.just_cli.specs.Options.{is_lacking}
+use Rattle.just_cli.specs.Preparing.{Performs}
+use Rattle.just_lang.specs.declared.project.Justfile.{Justfile}
+use Rattle.just_value.specs.Modules.{AreModules}
+use Rattle.just_cli.specs.Request.{PlansLoaded, AnswersAt, at_place, TriesFrom, Tries}
+use Rattle.just_cli.specs.Words.{ConfigRequest, LocatedRequest, TakesFile}
+
+-- whatever the environment is, the justfile in a place is taken as a file, of which that is asked
+abbrev pub TakesWanted : Config → Location → Option World → List Act → Option World → Result (Wanted × List ℕ) Error → Type 0
+TakesWanted config location told acts after (Ok j) =
+    (environ : Environ) → TakesFile told acts after (record { config = config; environ = environ; location = location }) (Ok (record { wanted = j.0; environ = environ; justfile = j.1 }))
+TakesWanted config location told acts after (Err e) = (environ : Environ) → TakesFile told acts after (record { config = config; environ = environ; location = location }) (Err e)
+
+-- ---- the plan of a project, as a part of a preparation
+
+-- what is asked of a project, with the list of its modules
+abbrev pub PlansIt : Wanted → Environ → Justfile → Option World → List Act → Option World → Result Outline Error → Type 0
+PlansIt wanted environ j told acts after r =
+    (modules : List Justfile) × AreModules (j ∷ []) modules × PlansLoaded told acts after (record { wanted = wanted; environ = environ; justfile = j; modules = modules }) r
+
+-- it makes no temporary folder
+abbrev pub PerformsPlan : Wanted → Environ → Justfile → Option World → Option World → List Entry → List Entry → Result Outline Error → Type 0
+PerformsPlan wanted environ j told after old new r = Performs (PlansIt wanted environ j told) told after [] [] old new r
+
+-- ---- the justfiles that are tried, as parts of a preparation
+
+-- what is asked of them from a place on
+abbrev pub PerformsFrom : ConfigRequest → Location → Option World → Option World → List (List ℕ) → List (List ℕ) → List Entry → List Entry → Result Outline Error → Type 0
+PerformsFrom c location told after kept keeps old new r = Performs (λ acts later x. TriesFrom c told acts later location x) told after kept keeps old new r
+
+-- the justfile in a place sets fallback and lacks what is asked for, and the next one is tried
+abbrev pub FallsTo : ConfigRequest → Location → Option World → List Act → Option World → Location → Type 0
+FallsTo c location told acts after next =
+    (e : Error) × AnswersAt told acts after (at_place c location) (Err e) true × (is_lacking e ≡ true) × FallsBack after c.config location.working_directory (Ok (Some next))
+
+abbrev pub FallsOn : ConfigRequest → Location → Option World → List Act → Option World → Result Location Error → Type 0
+FallsOn c location told acts after (Ok next) = FallsTo c location told acts after next
+FallsOn c location told acts after (Err e) = ⊥
+
+abbrev pub PerformsFall : ConfigRequest → Location → Option World → Option World → List (List ℕ) → List (List ℕ) → List Entry → List Entry → Location → Type 0
+PerformsFall c location told after kept keeps old new next = Performs (FallsOn c location told) told after kept keeps old new (Ok next)
+
+-- what is asked of them, which the words may allow
+abbrev pub PerformsTries : LocatedRequest → Option World → Option World → List (List ℕ) → List (List ℕ) → List Entry → List Entry → Result Outline Error → Type 0
+PerformsTries q told after kept keeps old new r = Performs (λ acts later x. Tries told acts later q x) told after kept keeps old new r

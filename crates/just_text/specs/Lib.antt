@@ -1,0 +1,3 @@
+-- The definitions that the contracts here cite.
+pub mod formers
+pub mod Environ
