@@ -1,7 +1,8 @@
 //! Files, sums, cache entries and folders: the same calls, one after the other, have the same answers from every host.
 
 use just_host::{Host, HostFault, MemHost, Plot, RealHost, Thing, Tree};
-use just_path::{Environ, Miss, NoMemory, Seq, Utf8Path, Utf8PathBuf};
+use just_path::{Miss, Utf8Path, Utf8PathBuf};
+use just_text::{Environ, NoMemory, Seq};
 use std::alloc::Global;
 use std::test::Fail;
 

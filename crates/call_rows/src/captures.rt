@@ -2,7 +2,8 @@
 
 use super::calls::in_memory;
 use just_host::{Ending, Host, HostFault, MAX_BYTES, Plot, RealHost, Spec, Status};
-use just_path::{Miss, NoMemory, Seq, Text};
+use just_path::Miss;
+use just_text::{NoMemory, Seq, Text};
 use std::alloc::Global;
 use std::test::Fail;
 

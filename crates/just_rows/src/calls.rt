@@ -1,12 +1,14 @@
 //! Each public call that can answer want of memory and that no row of another crate makes, called once with ample
-//! memory. The calls of paths and texts are made by `path_vectors` and `path_rows`, those of readers by `dotenv_vectors`
-//! and `path_rows`, those of expansions by `expand_vectors`; a run makes those of a host, of the record, of the loader, of a project,
-//! its values, keys and closure, of a plan and of its drive, so `run_rows` shows that they answer.
+//! memory. The calls of paths, texts, readers and expansions are made by `text_vectors` and `call_rows`; a run makes those of a host, of the record, of the loader, of a project,
+//! its dotenv pairs, its values, keys and closure, of a plan and of its drive, so `run_rows` shows that they answer. Those of a search,
+//! of what is tried behind it, of a justfile that is to be written and of the program of a name are made by `request_rows`.
 
+use crate::changes::changes_agree;
 use crate::hosts::memory;
 use just_host::{Host, HostFault};
 use just_lang::{Ast, AstItem, FileRef, Source, parse, references};
-use just_path::{NoMemory, Seq, Text, Utf8Path};
+use just_path::Utf8Path;
+use just_text::{NoMemory, Seq, Text};
 use std::alloc::Global;
 use std::test::Fail;
 
@@ -79,5 +81,6 @@ fn every_call_answers(rt: HostRuntime) -> Result<(), Fail> {
     assert_eq!(rt; path_of(files.as_slice(), 0), "a");
     assert_eq!(rt; path_of(files.as_slice(), 2), "d");
     assert_eq!(rt; home(alloc)?.as_str(), "/h");
+    assert!(rt; changes_agree(alloc)?);
     Ok(())
 }

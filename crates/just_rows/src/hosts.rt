@@ -1,7 +1,8 @@
 //! Hosts for tests. The functions here promise nothing beyond safety: they are public to these tests alone.
 
 use just_host::{MemHost, Plot, Thing, Tree};
-use just_path::{Environ, NoMemory, Seq, Text, Utf8Path};
+use just_path::Utf8Path;
+use just_text::{Environ, NoMemory, Seq, Text};
 use std::alloc::Global;
 
 fn file(alloc: Global, text: &str) -> Result<Thing, NoMemory> {

@@ -4,6 +4,10 @@
 #[cfg(test)]
 mod calls;
 #[cfg(test)]
+mod changes;
+#[cfg(test)]
 mod hosts;
+#[cfg(test)]
+mod real_files;
 #[cfg(test)]
 mod sights;

@@ -2,7 +2,8 @@
 //! leads nowhere, by each call of a path over a host.
 
 use just_host::RealHost;
-use just_path::{Kind, Miss, NoMemory, PathFault, PathHost, Utf8Path, absolute_utf8};
+use just_path::{Kind, Miss, PathFault, PathHost, Utf8Path, absolute_utf8};
+use just_text::NoMemory;
 use std::alloc::Global;
 use std::fs;
 use std::os::unix::fs::symlink;

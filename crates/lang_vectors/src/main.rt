@@ -1,52 +1,59 @@
 //! Compares the answers of the language's crates with rows that an independent reading of it gave. Each argument names a
-//! file of such rows, one JSON object a line. A row is told by its fields: with `text` and `ok` it is one of `parse`,
+//! file of such rows, and the end of its name tells what they are: those of `rules.jsonl` and `shapes.tsv` are told of where they are read.
+//!
+//! A row of another file is one JSON object, told by its fields: with `text` and `ok` it is one of `parse`,
 //! where `print` is the printed tree and `kind`, `line` and `column` tell a refusal. Beside these stand `unindent` and `gives`; `least`,
 //! `greatest` and `gives` of a printed range; and `prefixes`, a text of which each prefix is read or refused at one of its lines.
 #![tactic(auto)]
 
-mod row;
+mod lines;
+mod message;
+mod module;
+mod parameter;
+mod recipe;
+mod rule_rows;
+mod settings;
+mod shape_rows;
+mod sources;
+mod text_rows;
 mod texts;
-mod wrong;
 
-use row::agrees;
+use serde_json::{Error, Value};
+use std::alloc::Global;
+use std::io;
 use std::process::ExitCode;
-use std::{env, fs, io};
-pub(crate) use wrong::Wrong;
+use vectors::{Compare, Wrong, at, compare_files};
+
+/// The rows.
+#[derive(Drop)]
+struct LanguageRows;
+
+impl Compare for LanguageRows {
+    fn agrees(&self, alloc: Global, file: &str, fields: &[&str]) -> Result<bool, Wrong> {
+        if file.ends_with("shapes.tsv") {
+            return shape_rows::agrees(alloc, fields);
+        }
+        let row = value_of(alloc, at(fields, 0)?)?;
+        if file.ends_with("rules.jsonl") {
+            rule_rows::agrees(alloc, &row)
+        } else {
+            text_rows::agrees(alloc, &row)
+        }
+    }
+}
+
+/// The value of a row's text.
+fn value_of(alloc: Global, row: &str) -> Result<Value, Wrong> {
+    match Value::from_str(alloc, row) {
+        Ok(value) => Ok(value),
+        Err(refused) => Err(if Error::is_memory(&refused) {
+            Wrong::NoMemory
+        } else {
+            Wrong::Form
+        }),
+    }
+}
 
 fn main(rt: HostRuntime) -> io::Result<ExitCode> {
-    let alloc = rt.alloc();
-    let mut differ: u64 = 0;
-    let mut names = env::args(&rt)?;
-    let _program = names.next();
-    for name in names {
-        let text = fs::read_to_string(&rt, name.as_str())?;
-        let mut agree: u64 = 0;
-        let mut here: u64 = 0;
-        for line in text.lines() {
-            match agrees(alloc, line) {
-                Ok(true) => agree = agree.saturating_add(1),
-                Ok(false) => {
-                    here = here.saturating_add(1);
-                    println!(rt; "{name}: differs: {line}")?;
-                }
-                Err(Wrong::Form) => {
-                    here = here.saturating_add(1);
-                    println!(rt; "{name}: no such row: {line}")?;
-                }
-                Err(Wrong::NoMemory) => {
-                    here = here.saturating_add(1);
-                    println!(rt; "{name}: out of memory: {line}")?;
-                }
-            }
-        }
-        if here == 0 {
-            println!(rt; "{name}: {agree} agree")?;
-        }
-        differ = differ.saturating_add(here);
-    }
-    Ok(if differ == 0 {
-        ExitCode::SUCCESS
-    } else {
-        ExitCode::FAILURE
-    })
+    compare_files(&rt, &LanguageRows)
 }

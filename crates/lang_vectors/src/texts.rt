@@ -1,11 +1,12 @@
 //! Rows on small texts, and on the prefixes of one text.
-use super::Wrong;
-use super::row::{number_of, text_of};
+
+use super::text_rows::{number_of, text_of};
 use just_print::display;
 use just_syntax::{ParseError, parse, unindent};
 use serde_json::Value;
 use std::alloc::Global;
 use std::ops::RangeInclusive;
+use vectors::Wrong;
 
 /// Whether a text without its indentation is the row's. No clause, as of the other functions here: no theorem stands on what
 /// they answer.

@@ -1,7 +1,8 @@
 //! Children of the real host, for tests.
 
 use just_host::{Host, HostFault, Spec, Status};
-use just_path::{NoMemory, Seq, Text, Utf8Path, Utf8PathBuf};
+use just_path::{Utf8Path, Utf8PathBuf};
+use just_text::{NoMemory, Seq, Text};
 use std::alloc::Global;
 
 /// The two words in front of a line that `sh` runs, and that line.

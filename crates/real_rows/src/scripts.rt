@@ -1,8 +1,9 @@
 //! Children with a script, over the system: how it is run, and that nothing of its file is left.
 
 use super::children::end_of;
-use just_host::{Entry, Host, HostFault, RealHost, Script, Spec, Status};
-use just_path::{Miss, NoMemory, PathHost, Seq, Text, Utf8Path};
+use just_host::{Entry, Host, HostFault, RealHost, Script, ScriptText, Spec, Status};
+use just_path::{Miss, PathHost, Utf8Path};
+use just_text::{NoMemory, Seq, Text};
 use std::alloc::Global;
 use std::fs;
 use std::test::Fail;
@@ -19,7 +20,7 @@ fn script(alloc: Global, folder: &str, text: &str, run: bool) -> Result<Script, 
     Ok(Script {
         folder: Some(Utf8Path::new(folder).to_path_buf(alloc)?),
         name: Text::from_str(alloc, "m")?,
-        text: Text::from_str(alloc, text)?,
+        text: ScriptText::from_text(alloc, Text::from_str(alloc, text)?),
         run,
         after: alone(alloc, "x y")?,
     })

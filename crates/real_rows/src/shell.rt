@@ -2,7 +2,8 @@
 
 use super::children::{end_of, shell};
 use just_host::{Call, HostFault, RealHost, Spec, Status};
-use just_path::{NoMemory, Seq, Text, Utf8Path};
+use just_path::Utf8Path;
+use just_text::{NoMemory, Seq, Text};
 use std::alloc::Global;
 use std::test::Fail;
 

@@ -1,7 +1,8 @@
 //! What a row gives: its words, and the host that they run over.
 
 use just_host::{Ending, MemHost, Plot, Status, Thing, Tree};
-use just_path::{Environ, NoMemory, Seq, Text, Utf8Path};
+use just_path::Utf8Path;
+use just_text::{Environ, NoMemory, Seq, Text};
 use serde_json::Value;
 use std::alloc::Global;
 use vectors::Wrong;
@@ -137,11 +138,16 @@ fn ending(
     word: &Value,
     ended: &Value,
     files: Option<&Value>,
+    output: Option<&Value>,
 ) -> Result<Ending, Wrong> {
+    let printed = match output {
+        Some(text) => Vec::from_slice(alloc, as_text(text)?.as_bytes())?,
+        None => Vec::new(alloc),
+    };
     Ok(Ending {
         word: Text::from_str(alloc, as_text(word)?)?,
         status: status(ended)?,
-        output: Seq::new(alloc),
+        output: Seq::from(printed),
         effects: effects(alloc, files)?,
     })
 }
@@ -151,8 +157,11 @@ fn endings(alloc: Global, row: &Value) -> Result<Vec<Ending>, Wrong> {
     let mut endings = Vec::new(alloc);
     for parts in items(row, "endings") {
         let ending = match parts.as_array().map(|parts| parts.as_slice()) {
-            Some([word, ended]) => ending(alloc, word, ended, None)?,
-            Some([word, ended, files]) => ending(alloc, word, ended, Some(files))?,
+            Some([word, ended]) => ending(alloc, word, ended, None, None)?,
+            Some([word, ended, files]) => ending(alloc, word, ended, Some(files), None)?,
+            Some([word, ended, files, output]) => {
+                ending(alloc, word, ended, Some(files), Some(output))?
+            }
             _ => return Err(Wrong::Form),
         };
         endings.push(ending)?;
@@ -169,6 +178,9 @@ fn plot(alloc: Global, row: &Value) -> Result<Plot, Wrong> {
         answers.push(Text::from_str(alloc, as_text(answer)?)?)?;
     }
     plot.answers = Seq::from(answers);
+    if let Some(Value::String(input)) = row.get("input") {
+        plot.input = Seq::from(Vec::from_slice(alloc, input.as_bytes())?);
+    }
     let mut fails = Vec::new(alloc);
     for number in items(row, "fails") {
         fails.push(as_number(number)?)?;

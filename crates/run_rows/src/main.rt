@@ -4,8 +4,8 @@
 //!
 //! What a row gives: `files` (a text by its path; nothing else is there but the folders above), `current` (the current
 //! folder), `environ` (a value by its name), `words`, `endings` (for a child's word its status: a code, `"signal:N"` or
-//! `"unknown"`; and, where it changes files, the texts by their paths, or null where one goes), `answers` (the lines that a
-//! prompt reads), and `fails` (the numbers of the calls of the host that fail). What it wants: `children` (`program`,
+//! `"unknown"`; and, where it changes files, the texts by their paths, or null where one goes; and what it prints, where that is captured), `answers` (the lines that a
+//! prompt reads), `input` (the text of standard input, empty where it is left out), and `fails` (the numbers of the calls of the host that fail). What it wants: `children` (`program`,
 //! `arguments`, `folder`, `script` of each), `prompts`, `stderr`, `code`, `history` (the events, as they are shown for
 //! developers), `after` (the files behind the run), `failed` (how many calls fail), `stdout`, and `changes` (of each child what
 //! changes in its environment, in order: `NAME=TEXT`, or `NAME` where it is taken out). `fails` and what stands

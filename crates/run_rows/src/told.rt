@@ -1,7 +1,7 @@
 //! What a host's record tells of a run, each as one text.
 
-use just_host::{Entry, Spec, Stream, Tree};
-use just_path::Text;
+use just_host::{Entry, ScriptText, Spec, Stream, Tree};
+use just_text::{NoMemory, Text};
 use std::alloc::{AllocError, Global};
 
 /// What was printed to standard output. It promises nothing beyond safety.
@@ -64,8 +64,16 @@ fn push_items(all: &mut String, texts: &[Text]) -> Result<(), AllocError> {
     Ok(())
 }
 
+/// The text of a script.
+fn push_script(alloc: Global, all: &mut String, text: &ScriptText) -> Result<(), AllocError> {
+    match text.to_string(alloc) {
+        Ok(text) => push_item(all, text.as_str()),
+        Err(NoMemory) => Err(AllocError),
+    }
+}
+
 /// A child: a program with its arguments, or a script that is the program; its folder; its script.
-fn push_child(all: &mut String, spec: &Spec) -> Result<(), AllocError> {
+fn push_child(alloc: Global, all: &mut String, spec: &Spec) -> Result<(), AllocError> {
     if !matches!(&spec.script, Some(script) if script.run) {
         all.push_str(spec.program.as_str())?;
         push_items(all, spec.arguments.as_slice())?;
@@ -77,7 +85,7 @@ fn push_child(all: &mut String, spec: &Spec) -> Result<(), AllocError> {
     if let Some(script) = &spec.script {
         all.push_str(if script.run { " runs" } else { " reads" })?;
         push_item(all, script.name.as_str())?;
-        push_item(all, script.text.as_str())?;
+        push_script(alloc, all, &script.text)?;
         push_items(all, script.after.as_slice())?;
     }
     all.push_str("\n")
@@ -88,7 +96,7 @@ pub(crate) fn children(alloc: Global, entries: &[Entry]) -> Result<String, Alloc
     let mut all = String::new(alloc);
     for entry in entries {
         if let Entry::Started(_, spec) = entry {
-            push_child(&mut all, spec)?;
+            push_child(alloc, &mut all, spec)?;
         }
     }
     Ok(all)

@@ -2,4 +2,12 @@
 #![tactic(auto)]
 
 #[cfg(test)]
+mod alike;
+#[cfg(test)]
+mod both;
+#[cfg(test)]
+mod search;
+#[cfg(test)]
+mod stands;
+#[cfg(test)]
 mod trees;

@@ -1,256 +1,54 @@
-//! The host in memory and the real one over the same files answer the same: three hundred trees at random, each asked
-//! for all its places by paths of several forms.
-ghost use Rattle.std.specs.Prelude.{◌<◌};
+//! The host in memory and the real one over the same files answer the same: five hundred trees at random, each asked
+//! for all its places by paths of several forms, and searched from each of them upwards.
 
-use just_host::{Host, HostFault, MemHost, Plot, RealHost, Thing, Tree};
-use just_path::{Environ, Item, NoMemory, PathFault, PathHost, Seq, Text, Utf8Path, Utf8PathBuf};
+use super::alike::{answer_alike, refuse_alike};
+use super::both::grow;
+use super::search::{Asked, search_alike};
+use super::stands::{PLACES, Random, Stand, grown, is_before_links};
+use just_host::{Host, MemHost, Plot, RealHost, Tree};
+use just_path::{PathHost, Utf8Path};
+use just_text::{Environ, NoMemory, Seq};
 use std::alloc::Global;
-use std::os::unix::fs::symlink;
+use std::fs;
 use std::test::Fail;
-use std::{fs, io};
 
-/// The places of a tree under its root. That of number n stands in that of number n / 2 - 1, the first two in the root.
-const PLACES: [&str; 14] = [
-    "a", "b", "a/a", "a/b", "b/a", "b/b", "a/a/a", "a/a/b", "a/b/a", "a/b/b", "b/a/a", "b/a/b",
-    "b/b/a", "b/b/b",
-];
-
-/// The way from beside each place up to the root.
-const UPS: [&str; 14] = [
-    "", "", "../", "../", "../", "../", "../../", "../../", "../../", "../../", "../../", "../../",
-    "../../", "../../",
-];
-
-#[derive(Clone, Copy, PartialEq, Eq)]
-enum Stand {
-    Nothing,
-    Folder,
-    File,
-    Link,
+/// Where a tree stands: the current folder, and under it the root.
+#[derive(Clone, Copy)]
+struct Root<'a> {
+    current: &'a str,
+    trees: &'a str,
+    number: u32,
 }
 
-/// Numbers at random, the same each time.
-#[derive(Drop)]
-struct Random {
-    state: u64,
-}
-
-impl Random {
-    fn next(&mut self) -> u8 {
-        self.state = self
-            .state
-            .wrapping_mul(6_364_136_223_846_793_005)
-            .wrapping_add(1_442_695_040_888_963_407);
-        (self.state >> 56) as u8
-    }
-}
-
-/// What stands at a place, where the place that it stands in is a folder.
-fn any_stand(random: &mut Random) -> Stand {
-    match random.next() % 8 {
-        0 => Stand::Nothing,
-        1..=4 => Stand::Folder,
-        5 => Stand::File,
-        _ => Stand::Link,
-    }
-}
-
-/// What stands at each place.
-fn grown(random: &mut Random) -> [Stand; 14] {
-    let mut all = [Stand::Nothing; 14];
-    for n in 0..14usize {
-        if n < 2 || all[n / 2 - 1] == Stand::Folder {
-            all[n] = any_stand(random);
-        }
-    }
-    all
-}
-
-/// Whether a place isn't behind a link.
-fn is_before_links(all: &[Stand; 14], place: usize) -> bool {
-    let mut n = place;
-    for _ in 0..2u8 {
-        if n < 2 || n >= 14 {
-            return true;
-        }
-        n = n / 2 - 1;
-        if all[n] == Stand::Link {
-            return false;
-        }
-    }
-    true
-}
-
-/// The target of a link at a place: another place, which is neither a link nor behind one, or nothing.
-fn target(
-    alloc: Global,
-    random: &mut Random,
-    root: &str,
-    all: &[Stand; 14],
-    place: usize,
-) -> Result<String, NoMemory> {
-    let other = random.next() as usize % 14;
-    let up = UPS.get(place).copied().unwrap_or("");
-    let path = PLACES.get(other).copied().unwrap_or("");
-    if all[other] == Stand::Link || !is_before_links(all, other) {
-        return Ok(format!(in alloc; "{up}none")?);
-    }
-    target_form(alloc, root, up, path, random.next() % 4)
-}
-
-/// The text of a link to a path in a form of that number.
-fn target_form(
-    alloc: Global,
-    root: &str,
-    up: &str,
-    path: &str,
-    form: u8,
-) -> Result<String, NoMemory> {
-    let text = match form {
-        0 => format!(in alloc; "{up}{path}"),
-        1 => format!(in alloc; ".//{up}/{path}"),
-        2 => format!(in alloc; "{root}/{path}"),
-        _ => format!(in alloc; "{up}{path}/"),
-    }?;
-    Ok(text)
-}
-
-/// Makes a thing at a path of the system.
-fn make(rt: &HostRuntime, path: &str, thing: &Thing) -> io::Result<()> {
-    match thing {
-        Thing::Folder => fs::create_dir_all(rt, path),
-        Thing::File { bytes, .. } => fs::write(rt, path, bytes.as_slice()),
-        Thing::Link(target) => symlink(rt, target.as_str(), path),
-    }
-}
-
-/// Puts a thing at a path of both.
-fn put(
-    rt: &HostRuntime,
-    alloc: Global,
-    tree: &mut Tree,
-    path: &str,
-    thing: Thing,
-) -> Result<(), Fail> {
-    make(rt, path, &thing)?;
-    tree.insert(alloc, path, thing)?;
-    Ok(())
-}
-
-fn file(alloc: Global, random: &mut Random) -> Result<Thing, NoMemory> {
-    let byte = random.next();
-    let bytes = Vec::from_slice(alloc, &[b'a', byte])?;
-    Ok(Thing::File {
-        bytes: Seq::from(bytes),
-        executable: false,
-    })
-}
-
-/// What stands at a place, as a thing, if anything does.
-fn thing_at(
-    alloc: Global,
-    random: &mut Random,
-    root: &str,
-    all: &[Stand; 14],
-    place: usize,
-) -> Result<Option<Thing>, NoMemory>
-    requires { place < 14 }
-{
-    let thing = match all[place] {
-        Stand::Nothing => return Ok(None),
-        Stand::Folder => Thing::Folder,
-        Stand::File => file(alloc, random)?,
-        Stand::Link => Thing::Link(Text::from(target(alloc, random, root, all, place)?)),
-    };
-    Ok(Some(thing))
-}
-
-/// Lets a tree grow, the same in both.
-fn grow(
-    rt: &HostRuntime,
-    alloc: Global,
-    random: &mut Random,
-    root: &str,
-    all: &[Stand; 14],
-) -> Result<Tree, Fail> {
-    let mut tree = Tree::new(alloc);
-    put(rt, alloc, &mut tree, root, Thing::Folder)?;
-    for n in 0..14usize {
-        let place = PLACES.get(n).copied().unwrap_or("");
-        let path = format!(in alloc; "{root}/{place}")?;
-        if let Some(thing) = thing_at(alloc, random, root, all, n)? {
-            put(rt, alloc, &mut tree, path.as_str(), thing)?;
-        }
-    }
-    Ok(tree)
-}
-
-fn same_items(a: Result<Vec<Item>, PathFault>, b: Result<Vec<Item>, PathFault>) -> bool {
-    match (a, b) {
-        (Ok(a), Ok(b)) => {
-            let mut same = a.len() == b.len();
-            for (x, y) in a.iter().zip(b.iter()) {
-                same = same && x.name == y.name && x.kind == y.kind;
-            }
-            same
-        }
-        (Err(a), Err(b)) => a == b,
-        _ => false,
-    }
-}
-
-fn same_paths(a: Result<Utf8PathBuf, PathFault>, b: Result<Utf8PathBuf, PathFault>) -> bool {
-    match (a, b) {
-        (Ok(a), Ok(b)) => a.as_str() == b.as_str(),
-        (Err(a), Err(b)) => a == b,
-        _ => false,
-    }
-}
-
-fn same_texts(a: Result<String, HostFault>, b: Result<String, HostFault>) -> bool {
-    match (a, b) {
-        (Ok(a), Ok(b)) => a.as_str() == b.as_str(),
-        (Err(a), Err(b)) => a == b,
-        _ => false,
-    }
-}
-
-/// Whether two hosts tell the same of what stands at a path.
-fn stand_alike<A: Host, B: Host>(one: &mut A, other: &mut B, path: Utf8Path<'_>) -> bool {
-    one.meta(path, true) == other.meta(path, true)
-        && one.meta(path, false) == other.meta(path, false)
-}
-
-/// Whether a path leads to the same over two hosts.
-fn lead_alike<A: Host, B: Host>(one: &mut A, other: &mut B, path: Utf8Path<'_>) -> bool {
-    same_paths(one.canonical(path), other.canonical(path))
-        && same_paths(one.link(path), other.link(path))
-}
-
-/// Whether two hosts tell the same of what is in a folder or a file.
-fn read_alike<A: Host, B: Host>(one: &mut A, other: &mut B, path: Utf8Path<'_>) -> bool {
-    same_items(one.list(path), other.list(path)) && same_texts(one.read(path), other.read(path))
-}
-
-/// Whether two hosts answer the same of a path.
-fn answer_alike<A: Host, B: Host>(one: &mut A, other: &mut B, path: &str) -> bool {
-    let path = Utf8Path::new(path);
-    stand_alike(one, other, path) && lead_alike(one, other, path) && read_alike(one, other, path)
+/// The path of a root.
+fn folder_of(alloc: Global, root: Root<'_>) -> Result<String, NoMemory> {
+    let (current, trees, number) = (root.current, root.trees, root.number);
+    Ok(format!(in alloc; "{current}/{trees}/{number}")?)
 }
 
 /// A path to a place in a form of that number.
-fn form(alloc: Global, here: &str, number: u32, place: &str, form: u8) -> Result<String, NoMemory> {
+fn form(alloc: Global, root: Root<'_>, place: &str, form: u8) -> Result<String, NoMemory> {
+    let (current, trees, number) = (root.current, root.trees, root.number);
     let text = match form {
-        0 => format!(in alloc; "trees/{number}/{place}"),
-        1 => format!(in alloc; "{here}/trees/{number}/{place}"),
-        2 => format!(in alloc; ".//trees/./{number}//{place}"),
-        3 => format!(in alloc; "trees/{number}/../{number}/{place}"),
-        4 => format!(in alloc; "trees/{number}/{place}/"),
-        5 => format!(in alloc; "trees/{number}/{place}/."),
-        6 => format!(in alloc; "trees/{number}/{place}/x"),
+        0 => format!(in alloc; "{trees}/{number}/{place}"),
+        1 => format!(in alloc; "{current}/{trees}/{number}/{place}"),
+        2 => format!(in alloc; ".//{trees}/./{number}//{place}"),
+        3 => format!(in alloc; "{trees}/{number}/../{number}/{place}"),
+        4 => format!(in alloc; "{trees}/{number}/{place}/"),
+        5 => format!(in alloc; "{trees}/{number}/{place}/."),
+        6 => format!(in alloc; "{trees}/{number}/{place}/y"),
         _ => Ok(String::new(alloc)),
     }?;
     Ok(text)
+}
+
+/// Whether two hosts answer alike of the place of a thing.
+fn alike<A: Host, B: Host>(one: &mut A, other: &mut B, path: &str, stand: Stand) -> bool {
+    if stand == Stand::Loop {
+        refuse_alike(one, other, path)
+    } else {
+        answer_alike(one, other, path)
+    }
 }
 
 /// The path of which the two hosts answer otherwise, if there is one. Each place is asked for by one path.
@@ -258,8 +56,7 @@ fn difference<A: Host, B: Host>(
     alloc: Global,
     random: &mut Random,
     hosts: (&mut A, &mut B),
-    here: &str,
-    number: u32,
+    root: Root<'_>,
     all: &[Stand; 14],
 ) -> Result<Option<String>, NoMemory> {
     let (one, other) = hosts;
@@ -267,44 +64,144 @@ fn difference<A: Host, B: Host>(
         let place = PLACES.get(n).copied().unwrap_or("");
         let which = random.next() % 8;
         let behind = which == 6 && all[n] == Stand::Link;
-        let path = form(alloc, here, number, place, which)?;
-        if is_before_links(all, n) && !behind && !answer_alike(one, other, path.as_str()) {
+        let path = form(alloc, root, place, which)?;
+        if is_before_links(all, n) && !behind && !alike(one, other, path.as_str(), all[n]) {
             return Ok(Some(path));
         }
     }
     Ok(None)
 }
 
-/// The same of a tree of that number.
-fn difference_of(
-    rt: &HostRuntime,
+/// Names under which a justfile is looked for.
+fn any_names(random: &mut Random) -> &'static str {
+    match random.next() % 4 {
+        0 => "c,X",
+        1 => "A B, d",
+        _ => "",
+    }
+}
+
+/// The last folder that is searched: that of the search, the one around it, or the root.
+fn any_ceiling(
+    alloc: Global,
     random: &mut Random,
-    here: &str,
-    number: u32,
-) -> Result<Option<String>, Fail> {
-    let alloc = rt.alloc();
-    let all = grown(random);
-    let root = format!(in alloc; "{here}/trees/{number}")?;
-    let tree = grow(rt, alloc, random, root.as_str(), &all)?;
+    root: &str,
+    place: usize,
+) -> Result<String, NoMemory> {
+    let last = match random.next() % 4 {
+        0 => place,
+        1 if place >= 2 => place / 2 - 1,
+        _ => PLACES.len(),
+    };
+    let text = match PLACES.get(last) {
+        Some(last) => format!(in alloc; "{root}/{last}"),
+        None => String::from_str(alloc, root),
+    }?;
+    Ok(text)
+}
+
+/// Whether a search from a place upwards ends alike over two hosts.
+fn search_agrees<A: Host, B: Host>(
+    alloc: Global,
+    random: &mut Random,
+    hosts: (&mut A, &mut B),
+    root: &str,
+    place: usize,
+) -> Result<bool, NoMemory> {
+    let name = PLACES.get(place).copied().unwrap_or("");
+    let folder = format!(in alloc; "{root}/{name}")?;
+    let ceiling = any_ceiling(alloc, random, root, place)?;
+    let (called, prefix) = match random.next() % 3 {
+        0 => (folder.as_str(), String::new(alloc)),
+        1 => (root, format!(in alloc; "{name}/")?),
+        _ => (root, format!(in alloc; "{root}//{name}/")?),
+    };
+    let asked = Asked {
+        called,
+        prefix: prefix.as_str(),
+        ceiling: ceiling.as_str(),
+        names: any_names(random),
+    };
+    search_alike(alloc, hosts.0, hosts.1, &asked)
+}
+
+/// The place from which a search ends otherwise over the two hosts, if there is one.
+fn search_difference<A: Host, B: Host>(
+    alloc: Global,
+    random: &mut Random,
+    hosts: (&mut A, &mut B),
+    root: &str,
+    all: &[Stand; 14],
+) -> Result<Option<String>, NoMemory> {
+    let (one, other) = hosts;
+    for n in 0..14usize {
+        let from = is_before_links(all, n) && all[n] != Stand::Nothing && all[n] != Stand::Loop;
+        if from && !search_agrees(alloc, random, (one, other), root, n)? {
+            let place = PLACES.get(n).copied().unwrap_or("");
+            return Ok(Some(format!(in alloc; "search from {root}/{place}")?));
+        }
+    }
+    Ok(None)
+}
+
+/// The host in memory of a tree, in that folder.
+fn memory(alloc: Global, tree: Tree, folder: &str) -> Result<MemHost, NoMemory> {
     let environ = Environ {
         pairs: Seq::new(alloc),
     };
-    let current = Utf8Path::new(here).to_path_buf(alloc)?;
-    let mut memory = MemHost::new(alloc, tree, current, environ, Plot::new(alloc))?;
+    let current = Utf8Path::new(folder).to_path_buf(alloc)?;
+    MemHost::new(alloc, tree, current, environ, Plot::new(alloc))
+}
+
+/// In what the two hosts differ over a tree, if they do.
+fn difference_of(
+    rt: &HostRuntime,
+    random: &mut Random,
+    root: Root<'_>,
+) -> Result<Option<String>, Fail> {
+    let alloc = rt.alloc();
+    let all = grown(random);
+    let folder = folder_of(alloc, root)?;
+    let tree = grow(rt, alloc, random, folder.as_str(), &all)?;
+    let mut memory = memory(alloc, tree, root.current)?;
     let mut real = RealHost::new(rt, alloc)?;
-    let path = difference(alloc, random, (&mut real, &mut memory), here, number, &all)?;
-    Ok(path)
+    let path = difference(alloc, random, (&mut real, &mut memory), root, &all)?;
+    if path.is_some() {
+        return Ok(path);
+    }
+    let hosts = (&mut real, &mut memory);
+    let place = search_difference(alloc, random, hosts, folder.as_str(), &all)?;
+    Ok(place)
+}
+
+/// In what the two hosts differ over the first tree over which they do.
+fn first_difference(rt: &HostRuntime, current: &str, trees: &str) -> Result<Option<String>, Fail> {
+    let mut random = Random { state: 21 };
+    for number in 0..500u32 {
+        let root = Root {
+            current,
+            trees,
+            number,
+        };
+        let found = difference_of(rt, &mut random, root)?;
+        if found.is_some() {
+            return Ok(found);
+        }
+    }
+    Ok(None)
 }
 
 #[test]
-fn three_hundred_trees(rt: HostRuntime) -> Result<(), Fail> {
-    let _ = fs::remove_dir_all(&rt, "trees");
-    let mut random = Random { state: 21 };
-    let here = RealHost::new(&rt, rt.alloc())?.current()?;
-    for number in 0..300u32 {
-        let path = difference_of(&rt, &mut random, here.as_str(), number)?;
-        assert!(rt; path.is_none(), "{path:?}");
-    }
-    fs::remove_dir_all(&rt, "trees")?;
+fn five_hundred_trees(rt: HostRuntime) -> Result<(), Fail> {
+    let alloc = rt.alloc();
+    let mut host = RealHost::new(&rt, alloc)?;
+    let current = host.current()?;
+    let folder = host.temp_folder(Some(current.as_path()), "trees-")?;
+    let trees = folder.as_path().file_name().unwrap_or("");
+    let found = first_difference(&rt, current.as_str(), trees);
+    let removed = fs::remove_dir_all(&rt, folder.as_str());
+    let difference = found?;
+    removed?;
+    assert!(rt; difference.is_none(), "{difference:?}");
     Ok(())
 }

@@ -12,9 +12,11 @@
 mod compare;
 mod escape;
 mod field;
+mod listed;
 mod wrong;
 
 pub use compare::{Compare, compare_files};
 pub use escape::{unescaped, unescaped_text};
 pub use field::{at, bytes, is_flag, says, text};
+pub use listed::{environment, words};
 pub use wrong::Wrong;

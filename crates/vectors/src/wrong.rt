@@ -1,6 +1,6 @@
 //! Why a row isn't compared.
 
-use just_path::NoMemory;
+use just_text::NoMemory;
 use std::alloc::{AllocError, AllocFailed};
 
 /// Why a row wasn't compared.

@@ -1,5 +1,0 @@
-//! Tests of a book by itself.
-#![tactic(auto)]
-
-#[cfg(test)]
-mod books;

@@ -1,2 +1,0 @@
--- The definitions that the tests cite.
-pub mod Beside

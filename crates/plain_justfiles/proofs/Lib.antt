@@ -1,3 +1,0 @@
--- The lemmas of plain justfiles.
-pub mod Falling
-pub mod Descents

@@ -1,2 +1,0 @@
--- The definitions that the contracts of plain justfiles cite.
-pub mod Descent

@@ -1,0 +1,79 @@
+//! Rows of where a justfile is, and of the program of a name.
+//!
+//! A row is what is asked (`find`, `above`, `next`, `init` or `which`), what stands in the files of a host in memory, its environment, the words of the command
+//! line, a folder or a name, and the answer. The program is called in the folder `/p/q`. Lists have `|` between; `-` stands where there is none.
+//! A path that ends with `/` is a folder, one that ends with `*` an executable file, and `PATH->TARGET` is a link.
+
+use super::location_shown::{found_shown, next_shown, program_shown, written_shown};
+use super::world::memory;
+use just_config::{Config, Read, read_words};
+use just_fallback::find_fallback;
+use just_host::MemHost;
+use just_init::Search;
+use just_locate::{find, find_above};
+use just_path::{Utf8Path, Utf8PathBuf};
+use just_text::Environ;
+use just_which::which;
+use std::alloc::Global;
+use vectors::{Wrong, at, environment, unescaped_text, words};
+
+/// Whether a row says what is answered. It promises nothing beyond safety.
+pub(crate) fn agrees(alloc: Global, fields: &[&str]) -> Result<bool, Wrong> {
+    let environ = environment(alloc, at(fields, 2)?)?;
+    let mut host = memory(alloc, at(fields, 1)?, environment(alloc, at(fields, 2)?)?)?;
+    let answer = answer(alloc, fields, &environ, &mut host)?;
+    let wanted = unescaped_text(alloc, at(fields, 5)?)?;
+    Ok(answer.as_str() == wanted.as_str())
+}
+
+/// What is answered over a host.
+fn answer(
+    alloc: Global,
+    fields: &[&str],
+    environ: &Environ,
+    host: &mut MemHost,
+) -> Result<String, Wrong> {
+    let told = at(fields, 4)?;
+    let asked = at(fields, 0)?;
+    if asked == "which" {
+        let folder = Utf8Path::new("/p/q");
+        return program_shown(alloc, which(alloc, told, folder, environ, host));
+    }
+    let config = config(alloc, at(fields, 3)?, environ)?;
+    searched(alloc, asked, told, &config, host)
+}
+
+/// What a search of that name answers over a host.
+fn searched(
+    alloc: Global,
+    asked: &str,
+    told: &str,
+    config: &Config,
+    host: &mut MemHost,
+) -> Result<String, Wrong> {
+    let folder = Utf8Path::new(told);
+    match asked {
+        "find" => found_shown(alloc, find(alloc, config, host)),
+        "above" => found_shown(alloc, find_above(alloc, folder, config, host)),
+        "next" => next_shown(alloc, find_fallback(alloc, folder, config, host)),
+        "init" => written_shown(alloc, Search::init(alloc, config, host)),
+        _ => Err(Wrong::Form),
+    }
+}
+
+/// The configuration of words.
+fn config(alloc: Global, field: &str, environ: &Environ) -> Result<Config, Wrong> {
+    let texts = words(alloc, field)?;
+    let mut words = Vec::new(alloc);
+    for text in texts.as_slice() {
+        words.push(text.as_str())?;
+    }
+    let Ok(Read::Go(arguments)) = read_words(alloc, words.as_slice(), environ) else {
+        return Err(Wrong::Form);
+    };
+    let folder = Utf8PathBuf::from_str(alloc, "/p/q")?;
+    match Config::from_arguments(alloc, arguments, folder) {
+        Ok(config) => Ok(config),
+        Err(_) => Err(Wrong::Form),
+    }
+}

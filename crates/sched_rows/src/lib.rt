@@ -1,0 +1,17 @@
+//! Tests of runs: a book by itself, workers side by side, guards, bodies that have a cache, and recipes that are asked for.
+#![tactic(auto)]
+
+#[cfg(test)]
+mod books;
+#[cfg(test)]
+mod histories;
+#[cfg(test)]
+mod lattice;
+#[cfg(test)]
+mod plans;
+#[cfg(test)]
+mod runs;
+#[cfg(test)]
+mod semaphores;
+#[cfg(test)]
+mod workers;

@@ -1,0 +1,2 @@
+-- The lemmas of what is timed.
+pub mod Ends

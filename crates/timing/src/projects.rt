@@ -1,0 +1,124 @@
+//! The justfile of many recipes, and the closures of the first of them: what bench/assemble and bench/closure time. In the shapes `tree` and `ladder`
+//! each recipe has up to two dependencies, in another one.
+
+ghost use Rattle.std.specs.Prelude.{List, [], ◌∷◌, IfOk};
+ghost use Rattle.just_lang.specs.declared.project.Justfile.{Justfile};
+ghost use Rattle.just_value.specs.Modules.{AreModules};
+ghost use Rattle.just_eval.specs.Ends.{AreEnding};
+
+use super::recipes::recipes;
+use super::{bad_words, out_of_memory};
+use just_ends::projects_end;
+use just_eval::closure;
+use just_lang::project::Justfile;
+use just_lang::{Key, Modulepath, Scopes, Source};
+use just_path::Utf8Path;
+use just_project::assemble;
+use just_text::{Environ, NoMemory, Seq, Text};
+use std::alloc::Global;
+use std::io;
+
+/// The source of a text.
+fn source(alloc: Global, text: &str) -> Result<Source, NoMemory> {
+    let path = Utf8Path::new("/p/justfile").to_path_buf(alloc)?;
+    let root = Utf8Path::new("/p").to_path_buf(alloc)?;
+    let text = Text::from_str(alloc, text)?;
+    Ok(Source { path, root, text })
+}
+
+/// The source of the recipes of a shape with the numbers from 1 on, below that count.
+fn source_of(alloc: Global, shape: &str, count: u64) -> io::Result<Source> {
+    let text = recipes(alloc, shape, count)?;
+    match source(alloc, text.as_str()) {
+        Ok(source) => Ok(source),
+        Err(NoMemory) => Err(out_of_memory()),
+    }
+}
+
+/// No environment.
+fn no_environ(alloc: Global) -> Environ {
+    Environ {
+        pairs: Seq::new(alloc),
+    }
+}
+
+/// The justfile of sources that break no rule: no chain of its dependencies is without an end.
+#[tactic(auto, using(crate::proofs::Ends::dependencies_end))]
+fn justfile(alloc: Global, sources: &[Source]) -> io::Result<Justfile>
+    ensures { IfOk result (λ j. (modules : List Justfile) → AreModules (j ∷ []) modules → AreEnding modules) }
+{
+    let environ = no_environ(alloc);
+    match assemble(alloc, sources, &environ) {
+        Ok(justfile) => {
+            projects_end();
+            Ok(justfile)
+        }
+        Err(_) => Err(bad_words()),
+    }
+}
+
+/// Makes the justfile of those recipes so often, and prints how many recipes all of them have together.
+pub(crate) fn make(rt: &HostRuntime, shape: &str, count: u64, times: u64) -> io::Result<()> {
+    let alloc = rt.alloc();
+    let sources = [source_of(alloc, shape, count)?];
+    let mut made: u64 = 0;
+    for _ in 0..times {
+        let justfile = justfile(alloc, &sources)?;
+        made = made.saturating_add(justfile.recipes.len() as u64);
+    }
+    println!(rt; "{made} recipes")
+}
+
+/// The key of the recipe `r1`.
+fn first_key(alloc: Global) -> Result<Key, NoMemory> {
+    let mut components = Vec::new(alloc);
+    components.push(Text::from_str(alloc, "r1")?)?;
+    Ok(Key {
+        recipe: Modulepath {
+            components: Seq::from(components),
+        },
+        arguments: Seq::new(alloc),
+    })
+}
+
+/// Scopes in which nothing has a value.
+fn no_scopes(alloc: Global) -> Scopes {
+    Scopes {
+        scopes: Seq::new(alloc),
+        dotenv: Seq::new(alloc),
+        environ: no_environ(alloc),
+    }
+}
+
+/// The nodes of so many closures of a justfile's first recipe.
+fn node_count(alloc: Global, justfile: &Justfile, times: u64) -> io::Result<u64>
+    requires ends { (modules : List Justfile) → AreModules (justfile.now ∷ []) modules → AreEnding modules }
+{
+    let Ok(key) = first_key(alloc) else {
+        return Err(out_of_memory());
+    };
+    let keys = [key];
+    let scopes = no_scopes(alloc);
+    let mut nodes: u64 = 0;
+    for _ in 0..times {
+        let Ok(closure) = closure(alloc, justfile, &scopes, &keys, false) else {
+            return Err(out_of_memory());
+        };
+        nodes = nodes.saturating_add(closure.nodes.len() as u64);
+    }
+    Ok(nodes)
+}
+
+/// Makes the same justfile once, and so often the closure of its first recipe.
+pub(crate) fn make_closures(
+    rt: &HostRuntime,
+    shape: &str,
+    count: u64,
+    times: u64,
+) -> io::Result<()> {
+    let alloc = rt.alloc();
+    let sources = [source_of(alloc, shape, count)?];
+    let justfile = justfile(alloc, &sources)?;
+    let nodes = node_count(alloc, &justfile, times)?;
+    println!(rt; "{nodes} nodes")
+}
