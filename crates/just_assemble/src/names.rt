@@ -3,7 +3,7 @@ ghost use Rattle.std.specs.Prelude.{◌≡◌, IfOk, Some};
 ghost use Rattle.just_spots.specs.Spots.{first_spot};
 ghost use Rattle.just_names.specs.Arities.{arities_of};
 ghost use Rattle.just_names.specs.Names.{AreNames, layout_of, wins_of};
-ghost use Rattle.just_names.specs.TargetSpots.{dependency_argument_count_spots, dependency_is_option_spots};
+ghost use Rattle.just_names.specs.TargetSpots.{unknown_dependency_spots, dependency_argument_count_spots, dependency_is_option_spots};
 ghost use Rattle.just_broken.specs.First.{broken_at, first_broken};
 ghost use Rattle.just_broken.specs.Meant.{meant};
 ghost use Rattle.just_assemble.specs.Rules.{rules_on_variables, rules_on_arities, rules_on_names};
@@ -11,8 +11,8 @@ ghost use Rattle.just_assemble.specs.Rules.{rules_on_variables, rules_on_arities
 use just_broken::{Broken, Meanings};
 use just_lang::CompileKind;
 use just_names::{
-    Arities, Names, arities_of, first_dependency_argument_count, first_dependency_is_option,
-    first_undefined_variable, first_unknown_alias_target, first_unknown_dependency,
+    Arities, DependencySpots, Names, arities_of, first_dependency_spots, first_undefined_variable,
+    first_unknown_alias_target,
 };
 use just_spots::Spot;
 use just_text::{Environ, NoMemory};
@@ -25,9 +25,48 @@ pub(crate) fn broken_at(kind: CompileKind, spot: Spot) -> Option<Broken>
     Some(Broken { kind, spot })
 }
 
-/// The first broken rule on what names in expressions, aliases and dependencies stand for.
-fn first_on_variables(alloc: Global, names: &Names<'_>) -> Result<Option<Broken>, NoMemory>
+/// The first places where the dependencies of the recipes that stand break rules.
+#[tactic(auto, using(crate::proofs::Counts::miscounted, crate::proofs::Counts::on_option))]
+fn spots_by(
+    alloc: Global,
+    environ: &Environ,
+    names: &Names<'_>,
+    arities: &Arities,
+) -> Result<DependencySpots, NoMemory>
+    requires names { AreNames names.now }
+    requires arities { arities.now.modules.items ≡ arities_of (meant environ.now.pairs) names.now.modules.items }
+    ensures unknown { IfOk result (λ r. r.unknown ≡ first_spot (unknown_dependency_spots (wins_of names.now) (layout_of names.now))) }
+    ensures miscounted { IfOk result (λ r. r.miscounted ≡ first_spot (dependency_argument_count_spots (meant environ.now.pairs) (wins_of names.now) (layout_of names.now))) }
+    ensures on_option { IfOk result (λ r. r.on_option ≡ first_spot (dependency_is_option_spots (meant environ.now.pairs) (wins_of names.now) (layout_of names.now))) }
+{
+    let spots = first_dependency_spots(alloc, names, arities)?;
+    Ok(spots)
+}
+
+/// The first places where the dependencies of the recipes that stand break rules.
+fn dependency_spots(
+    alloc: Global,
+    environ: &Environ,
+    names: &Names<'_>,
+) -> Result<DependencySpots, NoMemory>
     requires { AreNames names.now }
+    ensures unknown { IfOk result (λ r. r.unknown ≡ first_spot (unknown_dependency_spots (wins_of names.now) (layout_of names.now))) }
+    ensures miscounted { IfOk result (λ r. r.miscounted ≡ first_spot (dependency_argument_count_spots (meant environ.now.pairs) (wins_of names.now) (layout_of names.now))) }
+    ensures on_option { IfOk result (λ r. r.on_option ≡ first_spot (dependency_is_option_spots (meant environ.now.pairs) (wins_of names.now) (layout_of names.now))) }
+{
+    let texts = Meanings { environ };
+    let arities = arities_of(alloc, &texts, names)?;
+    spots_by(alloc, environ, names, &arities)
+}
+
+/// The first broken rule on what names in expressions, aliases and dependencies stand for; the first unknown dependency is given.
+fn first_on_variables(
+    alloc: Global,
+    names: &Names<'_>,
+    unknown: Option<Spot>,
+) -> Result<Option<Broken>, NoMemory>
+    requires names { AreNames names.now }
+    requires unknown { unknown ≡ first_spot (unknown_dependency_spots (wins_of names.now) (layout_of names.now)) }
     ensures { IfOk result (λ b. b ≡ first_broken (rules_on_variables (wins_of names.now) (layout_of names.now))) }
 {
     if let Some(spot) = first_undefined_variable(alloc, names)? {
@@ -36,62 +75,25 @@ fn first_on_variables(alloc: Global, names: &Names<'_>) -> Result<Option<Broken>
     if let Some(spot) = first_unknown_alias_target(alloc, names)? {
         return Ok(broken_at(CompileKind::UnknownAliasTarget, spot));
     }
-    if let Some(spot) = first_unknown_dependency(alloc, names)? {
+    if let Some(spot) = unknown {
         return Ok(broken_at(CompileKind::UnknownDependency, spot));
     }
     Ok(None)
 }
 
-/// The first dependency that gives too few or too many arguments.
-#[tactic(auto, using(crate::proofs::Counts::miscounted))]
-fn first_miscounted(
-    alloc: Global,
-    environ: &Environ,
-    names: &Names<'_>,
-    arities: &Arities,
-) -> Result<Option<Spot>, NoMemory>
-    requires names { AreNames names.now }
-    requires arities { arities.now.modules.items ≡ arities_of (meant environ.now.pairs) names.now.modules.items }
-    ensures { IfOk result (λ s. s ≡ first_spot (dependency_argument_count_spots (meant environ.now.pairs) (wins_of names.now) (layout_of names.now))) }
-{
-    let spot = first_dependency_argument_count(alloc, names, arities)?;
-    Ok(spot)
-}
-
-/// The first dependency on a recipe with options.
-#[tactic(auto, using(crate::proofs::Counts::on_option))]
-fn first_on_option(
-    alloc: Global,
-    environ: &Environ,
-    names: &Names<'_>,
-    arities: &Arities,
-) -> Result<Option<Spot>, NoMemory>
-    requires names { AreNames names.now }
-    requires arities { arities.now.modules.items ≡ arities_of (meant environ.now.pairs) names.now.modules.items }
-    ensures { IfOk result (λ s. s ≡ first_spot (dependency_is_option_spots (meant environ.now.pairs) (wins_of names.now) (layout_of names.now))) }
-{
-    let spot = first_dependency_is_option(alloc, names, arities)?;
-    Ok(spot)
-}
-
 /// The first broken rule on what dependencies give their recipes.
-fn first_on_arities(
-    alloc: Global,
-    environ: &Environ,
-    names: &Names<'_>,
-) -> Result<Option<Broken>, NoMemory>
-    requires { AreNames names.now }
-    ensures { IfOk result (λ b. b ≡ first_broken (rules_on_arities environ.now.pairs (wins_of names.now) (layout_of names.now))) }
+fn first_on_arities(environ: &Environ, names: &Names<'_>, spots: DependencySpots) -> Option<Broken>
+    requires miscounted { spots.miscounted ≡ first_spot (dependency_argument_count_spots (meant environ.now.pairs) (wins_of names.now) (layout_of names.now)) }
+    requires on_option { spots.on_option ≡ first_spot (dependency_is_option_spots (meant environ.now.pairs) (wins_of names.now) (layout_of names.now)) }
+    ensures { result ≡ first_broken (rules_on_arities environ.now.pairs (wins_of names.now) (layout_of names.now)) }
 {
-    let texts = Meanings { environ };
-    let arities = arities_of(alloc, &texts, names)?;
-    if let Some(spot) = first_miscounted(alloc, environ, names, &arities)? {
-        return Ok(broken_at(CompileKind::DependencyArgumentCount, spot));
+    if let Some(spot) = spots.miscounted {
+        return broken_at(CompileKind::DependencyArgumentCount, spot);
     }
-    if let Some(spot) = first_on_option(alloc, environ, names, &arities)? {
-        return Ok(broken_at(CompileKind::DependencyIsOption, spot));
+    if let Some(spot) = spots.on_option {
+        return broken_at(CompileKind::DependencyIsOption, spot);
     }
-    Ok(None)
+    None
 }
 
 /// The first broken rule on the names that are used.
@@ -104,8 +106,9 @@ pub(crate) fn first_on_names(
     requires { AreNames names.now }
     ensures { IfOk result (λ b. b ≡ first_broken (rules_on_names environ.now.pairs (wins_of names.now) (layout_of names.now))) }
 {
-    if let Some(broken) = first_on_variables(alloc, names)? {
+    let spots = dependency_spots(alloc, environ, names)?;
+    if let Some(broken) = first_on_variables(alloc, names, spots.unknown)? {
         return Ok(Some(broken));
     }
-    first_on_arities(alloc, environ, names)
+    Ok(first_on_arities(environ, names, spots))
 }

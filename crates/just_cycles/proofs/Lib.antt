@@ -11,4 +11,5 @@ pub mod Absent
 pub mod Modules
 pub mod Standings
 pub mod CauseLaws
+pub mod KeptNames
 pub mod NameTables

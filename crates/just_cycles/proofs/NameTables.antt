@@ -1,26 +1,30 @@
 -- What the tables of names say of the modules, each at its place.
-use Rattle.std.proofs.Common.{◌≡◌, ℕ, zero, suc, ◌+◌, ◌<◌, ◌≤◌, List, [], ◌∷◌, ◌++◌, length, get_or, Option, Some, None, true, refl, sym, ap, ◌∙◌, subst, arith}
+use Rattle.std.proofs.Common.{◌≡◌, ℕ, ◌+◌, ◌<◌, ◌≤◌, List, [], ◌∷◌, ◌++◌, length, get_or, Option, Some, None, true, refl, sym, ap, ◌∙◌, subst, arith}
 use Rattle.std.specs.Prelude.{slice_get, filter_map}
 use Rattle.std.specs.List.{AllByRecursion as ByRecursion}
-use Rattle.std.specs.Option.{option_copied}
-use denote.Ref.{Bor}
+use Rattle.std.specs.Option.{option_and_then}
 use Rattle.std.proofs.lemmas.Option.{slice_get_within, get_or_from_slice_get}
 use Rattle.just_syntax.specs.declared.ast.AstItem.{AstItem}
+use Rattle.just_syntax.specs.declared.ast.AstItem.TheVariants as item
+use Rattle.just_syntax.specs.declared.ast.AstRecipe.{AstRecipe}
 use Rattle.just_layout.specs.declared.layout.File.{File}
 use Rattle.just_layout.specs.declared.layout.Module.{Module}
 use Rattle.just_spots.specs.declared.spot.Spot.{Spot}
-use Rattle.just_spots.specs.Entries.{entries, place_in, IsIndex}
-use Rattle.just_spots.specs.Items.{is_assignment, variable_in, Variable}
+use Rattle.just_spots.specs.Entries.{entries, IsIndex}
+use Rattle.just_spots.specs.Items.{item_name, is_assignment, variable_in}
 use Rattle.just_spots.specs.Spots.{earlier}
-use Rattle.just_spots.specs.Standing.{Wins}
+use Rattle.just_spots.specs.Standing.{Wins, unbeaten}
 use Rattle.just_names.specs.declared.names.ModuleNames.{ModuleNames}
 use Rattle.just_names.specs.declared.names.Names.{Names}
 use Rattle.just_names.specs.Names.{AreNames, AreModuleNames, layout_of, wins_of}
+use Rattle.just_names.specs.Standing.{recipe_items, standing_recipe_items}
+use Rattle.just_names.specs.Targets.{recipe_at}
 use Rattle.just_cycles.specs.declared.recipe.StandingRecipe as code
 use Rattle.just_cycles.specs.Cycles.{IsFirstSpot, IsCircularAmong, IsCircularVariable, place_of_recipe}
 use Rattle.just_cycles.specs.CycleTables.{standings, standing_in, AreBefore, AreStanding}
+use Rattle.just_cycles.proofs.KeptNames.{last_of_kept}
 use Rattle.just_cycles.proofs.Modules.{IsCircularBelow, standing_assignments, below_more, below_all}
-use Rattle.just_cycles.proofs.RecipeGraphs.{IsTableAt, table_at, tables_length, no_module_no_place, place_found, place_missing}
+use Rattle.just_cycles.proofs.RecipeGraphs.{IsTableAt, table_at, tables_length, place_found}
 use Rattle.just_cycles.proofs.Standings.{AreStandingBelow, standing_more, standing_all_modules}
 
 table_for : (wins : Wins) (files : List File) (ms : List Module) (ns : List ModuleNames) → AreModuleNames wins files ms ns → (k : ℕ) (n : ModuleNames) → slice_get ns k ≡ Some n → IsTableAt wins files ms k n
@@ -29,16 +33,6 @@ table_for wins files [] (y ∷ ns) are k n e = absurd are
 table_for wins files (m ∷ ms) [] are k n e = absurd are
 table_for wins files (m ∷ ms) (y ∷ ns) are k n e =
     table_at wins files (m ∷ ms) (y ∷ ns) are k n (slice_get_within (y ∷ ns) k n e) (sym (get_or_from_slice_get (y ∷ ns) k n n e))
-
-none_for : (wins : Wins) (files : List File) (ms : List Module) (ns : List ModuleNames) → AreModuleNames wins files ms ns → (k : ℕ) → slice_get ns k ≡ None → slice_get ms k ≡ None
-none_for wins files [] [] are k e = refl
-none_for wins files [] (y ∷ ns) are k e = absurd are
-none_for wins files (m ∷ ms) [] are k e = absurd are
-none_for wins files (m ∷ ms) (y ∷ ns) are zero e = absurd (cc)
-none_for wins files (m ∷ ms) (y ∷ ns) are (suc k) e = none_for wins files ms ns are.1 k e
-
-pub table_is : (names : Names) (number : ℕ) (o : Option (Bor ModuleNames)) (n : Bor ModuleNames) → option_copied o ≡ slice_get names.modules.items number → o ≡ Some n → slice_get names.modules.items number ≡ Some n.now
-table_is names number o n h e = sym h ∙ ap option_copied e
 
 module _ (names : Names) (are : AreNames names) where
   at : (k : ℕ) (n : ModuleNames) → k < length names.modules.items → n ≡ get_or names.modules.items k n → IsTableAt (wins_of names) (layout_of names).files (layout_of names).modules k n
@@ -85,30 +79,35 @@ module _ (names : Names) (are : AreNames names) where
       let size = tables_length (wins_of names) (layout_of names).files (layout_of names).modules names.modules.items are.modules_are in
       standing_all_modules (wins_of names) (layout_of names) k list before (omega (arith, size, h)) old
 
-  pub no_table : (number : ℕ) (name : List ℕ) (o : Option (Bor ModuleNames)) → option_copied o ≡ slice_get names.modules.items number → o ≡ None → None ≡ place_of_recipe (wins_of names) (layout_of names) number name
-  no_table number name o h e =
-      let none : slice_get names.modules.items number ≡ None = sym h ∙ ap option_copied e in
-      sym (no_module_no_place (wins_of names) (layout_of names) number name (none_for (wins_of names) (layout_of names).files (layout_of names).modules names.modules.items are.modules_are number none))
-
   for_number : (number : ℕ) (n : ModuleNames) → slice_get names.modules.items number ≡ Some n → IsTableAt (wins_of names) (layout_of names).files (layout_of names).modules number n
   for_number number n e = table_for (wins_of names) (layout_of names).files (layout_of names).modules names.modules.items are.modules_are number n e
 
-  pub within_before : (number : ℕ) (n : ModuleNames) (before : List ℕ) → slice_get names.modules.items number ≡ Some n → AreBefore (wins_of names) (layout_of names) before → number < length before
-  within_before number n before e b =
-      let t = for_number number n e in
-      let less = slice_get_within (layout_of names).modules number t.of_module t.at in
-      let size = b.size in
-      omega (arith, less, size)
+  -- a recipe at a place of a table has the number of a module
+  pub placed_within : (number place : ℕ) (x : ℕ × AstItem) (before : List ℕ) → recipe_at names number place ≡ Some x → AreBefore (wins_of names) (layout_of names) before → number < length before
+  placed_within number place x before h b =
+      elim (slice_get names.modules.items number) as (λ (o : Option ModuleNames). slice_get names.modules.items number ≡ o
+      → option_and_then (λ (n : ModuleNames). slice_get (entries n.recipes.items) place) o ≡ Some x → number < length before) [
+        | None ↦ λ e k. absurd (cc)
+        | Some n ↦ λ e k.
+            let t = for_number number n e in
+            let less = slice_get_within (layout_of names).modules number t.of_module t.at in
+            let size = b.size in
+            omega (arith, less, size)
+      ] refl h
 
-  pub not_there : (number : ℕ) (n : ModuleNames) (name : List ℕ) (o : Option ℕ) → slice_get names.modules.items number ≡ Some n → o ≡ place_in n.recipe_places name → o ≡ None
-      → None ≡ place_of_recipe (wins_of names) (layout_of names) number name
-  not_there number n name o e p k =
-      let t = for_number number n e in
-      place_missing (wins_of names) (layout_of names) number name t.of_module n.recipe_places t.at t.names_are.recipe_places_are (sym p ∙ k)
-
-  pub there : (number : ℕ) (n : ModuleNames) (name : List ℕ) (before : List ℕ) (o : Option ℕ) (place sum : ℕ) → slice_get names.modules.items number ≡ Some n → o ≡ place_in n.recipe_places name → o ≡ Some place
-      → AreBefore (wins_of names) (layout_of names) before → sum ≡ get_or before number 0 + place → Some sum ≡ place_of_recipe (wins_of names) (layout_of names) number name
-  there number n name before o place sum e p k b is =
-      let t = for_number number n e in
-      let less = slice_get_within (layout_of names).modules number t.of_module t.at in
-      place_found (wins_of names) (layout_of names) number name t.of_module n.recipe_places place (get_or before number 0) sum t.at t.names_are.recipe_places_are (sym p ∙ k) (b.each number less) is
+  -- and its place among all is so far behind those of the modules before
+  pub placed_is : (number place file : ℕ) (recipe : AstRecipe) (before : List ℕ) (sum : ℕ) → recipe_at names number place ≡ Some (file, item.Recipe recipe) → AreBefore (wins_of names) (layout_of names) before
+      → sum ≡ get_or before number 0 + place → Some sum ≡ place_of_recipe (wins_of names) (layout_of names) number recipe.name.text
+  placed_is number place file recipe before sum h b is =
+      elim (slice_get names.modules.items number) as (λ (o : Option ModuleNames). slice_get names.modules.items number ≡ o
+      → option_and_then (λ (n : ModuleNames). slice_get (entries n.recipes.items) place) o ≡ Some (file, item.Recipe recipe)
+      → Some sum ≡ place_of_recipe (wins_of names) (layout_of names) number recipe.name.text) [
+        | None ↦ λ e k. absurd (cc)
+        | Some n ↦ λ e k.
+            let t = for_number number n e in
+            let less = slice_get_within (layout_of names).modules number t.of_module t.at in
+            let items = standing_recipe_items (wins_of names) (layout_of names).files t.of_module in
+            let there : slice_get items place ≡ Some (file, item.Recipe recipe) = ap (λ (xs : List (ℕ × AstItem)). slice_get xs place) (sym t.names_are.recipes_are) ∙ k in
+            place_found (wins_of names) (layout_of names) number recipe.name.text t.of_module place (get_or before number 0) sum t.at
+            (last_of_kept item_name (unbeaten item_name (wins_of names) (recipe_items (layout_of names).files t.of_module)) place (file, item.Recipe recipe) there) (b.each number less) is
+      ] refl h

@@ -9,10 +9,9 @@ use Rattle.just_layout.specs.declared.layout.File.{File}
 use Rattle.just_layout.specs.declared.layout.Layout.{Layout}
 use Rattle.just_layout.specs.declared.layout.Module.{Module}
 use Rattle.just_graph.specs.Graph.{IsGraph}
-use Rattle.just_spots.specs.declared.index.Index.{Index}
-use Rattle.just_spots.specs.Entries.{last_place, place_in, IsIndex}
+use Rattle.just_spots.specs.Entries.{last_place}
 use Rattle.just_spots.specs.declared.spot.Spot.{Spot}
-use Rattle.just_spots.specs.Items.{recipe_in}
+use Rattle.just_spots.specs.Items.{item_name, recipe_in}
 use Rattle.just_spots.specs.Standing.{Wins}
 use Rattle.just_names.specs.declared.names.ModuleNames.{ModuleNames}
 use Rattle.just_names.specs.Lookup.{Target, Found_recipe, Found_module, Found_absent, Found_nothing, dependency_target}
@@ -83,27 +82,18 @@ module _ (wins : Wins) (files : List File) where
 -- ---- the place of a recipe
 
 module _ (wins : Wins) (layout : Layout) where
-  -- by the table of its module
-  pub place_by_table : (m : ℕ) (name : List ℕ) (x : Module) (index : Index) → slice_get layout.modules m ≡ Some x → IsIndex (standing_recipe_items wins layout.files x) index
-      → place_of_recipe wins layout m name ≡ option_map (λ k. recipes_before wins layout m + k) (place_in index name)
-  place_by_table m name x index e indexed =
+  -- by the items of its module
+  pub place_by_items : (m : ℕ) (name : List ℕ) (x : Module) → slice_get layout.modules m ≡ Some x
+      → place_of_recipe wins layout m name ≡ option_map (λ k. recipes_before wins layout m + k) (last_place item_name name (standing_recipe_items wins layout.files x))
+  place_by_items m name x e =
       ap (λ (o : Option Module). option_map (λ k. recipes_before wins layout m + k) (last_place recipe_name name (option_map_or (standing_recipes wins layout.files) o []))) e
       ∙ ap (λ (o : Option ℕ). option_map (λ k. recipes_before wins layout m + k) o)
-      (place_through recipe_in recipe_name name (standing_recipe_items wins layout.files x) (recipe_things wins layout.files x) ∙ sym (indexed name))
+      (place_through recipe_in recipe_name name (standing_recipe_items wins layout.files x) (recipe_things wins layout.files x))
 
-  pub no_module_no_place : (m : ℕ) (name : List ℕ) → slice_get layout.modules m ≡ None → place_of_recipe wins layout m name ≡ None
-  no_module_no_place m name e =
-      ap (λ (o : Option Module). option_map (λ k. recipes_before wins layout m + k) (last_place recipe_name name (option_map_or (standing_recipes wins layout.files) o []))) e
-
-  pub place_found : (m : ℕ) (name : List ℕ) (x : Module) (index : Index) (place before sum : ℕ) → slice_get layout.modules m ≡ Some x → IsIndex (standing_recipe_items wins layout.files x) index
-      → place_in index name ≡ Some place → before ≡ recipes_before wins layout m → sum ≡ before + place → Some sum ≡ place_of_recipe wins layout m name
-  place_found m name x index place before sum at indexed e b is =
-      ap (λ k. Some k) (is ∙ ap (λ k. k + place) b) ∙ sym (ap (λ (o : Option ℕ). option_map (λ k. recipes_before wins layout m + k) o) e) ∙ sym (place_by_table m name x index at indexed)
-
-  pub place_missing : (m : ℕ) (name : List ℕ) (x : Module) (index : Index) → slice_get layout.modules m ≡ Some x → IsIndex (standing_recipe_items wins layout.files x) index
-      → place_in index name ≡ None → None ≡ place_of_recipe wins layout m name
-  place_missing m name x index at indexed e =
-      sym (ap (λ (o : Option ℕ). option_map (λ k. recipes_before wins layout m + k) o) e) ∙ sym (place_by_table m name x index at indexed)
+  pub place_found : (m : ℕ) (name : List ℕ) (x : Module) (place before sum : ℕ) → slice_get layout.modules m ≡ Some x → last_place item_name name (standing_recipe_items wins layout.files x) ≡ Some place
+      → before ≡ recipes_before wins layout m → sum ≡ before + place → Some sum ≡ place_of_recipe wins layout m name
+  place_found m name x place before sum at e b is =
+      ap (λ k. Some k) (is ∙ ap (λ k. k + place) b) ∙ sym (ap (λ (o : Option ℕ). option_map (λ k. recipes_before wins layout m + k) o) e) ∙ sym (place_by_items m name x at)
 
   short_in : (m k : ℕ) (x : Module) (o : Option ℕ) → slice_get layout.modules m ≡ Some x → ((j : ℕ) → o ≡ Some j → j < length (standing_recipes wins layout.files x))
       → option_map (λ j. recipes_before wins layout m + j) o ≡ Some k → k < length (all_recipes wins layout)

@@ -1,15 +1,15 @@
 //! Recipes with those that they depend on, and the first that depends on itself.
-ghost use Rattle.std.specs.Prelude.{◌≡◌, ◌++◌, ◌+◌, Some, map, filter_map, slice_get, IfOk, OnOk};
-ghost use Rattle.std.specs.Option.{option_copied, option_map};
+ghost use Rattle.std.specs.Prelude.{◌≡◌, ◌++◌, ◌+◌, map, filter_map, IfOk, OnOk};
+ghost use Rattle.std.specs.Option.{option_map};
 ghost use Rattle.just_spots.specs.Entries.{entry, entries};
 ghost use Rattle.just_names.specs.Names.{AreNames, layout_of, wins_of};
-ghost use Rattle.just_names.specs.Targets.{target};
-ghost use Rattle.just_cycles.specs.Cycles.{IsFirstSpot, IsCircularRecipe, place_of_recipe, place_of_target, recipe_spot, recipes_needed};
+ghost use Rattle.just_names.specs.Targets.{target, IsPlaced};
+ghost use Rattle.just_cycles.specs.Cycles.{IsFirstSpot, IsCircularRecipe, place_of_target, recipe_spot, recipes_needed};
 ghost use Rattle.just_cycles.specs.CycleTables.{standing, standings, standing_in, AreBefore, AreStanding, AreRecipes, needed_by};
 
 use super::first::first_on_cycle_at;
 use super::steps::push_some;
-use just_names::{ModuleNames, Names, PathKind, Target, target_of};
+use just_names::{Names, PathKind, Target, target_of};
 use just_spots::{Entry, Spot, name_spot};
 use just_syntax::{AstDependency, AstItem, AstRecipe};
 use just_text::{NoMemory, Seq};
@@ -81,13 +81,6 @@ fn recipes_of_modules<'a>(
     Ok((list, before))
 }
 
-/// The names of the module of that number.
-fn names_at<'a, 'b>(names: &'b Names<'a>, number: usize) -> Option<&'b ModuleNames<'a>>
-    ensures { option_copied result ≡ slice_get names.now.modules.items number }
-{
-    names.modules.as_slice().get(number)
-}
-
 /// The sum, where it can be counted.
 fn sum_of(before: usize, place: usize) -> Result<usize, NoMemory>
     ensures { IfOk result (λ n. n ≡ before + place) }
@@ -98,48 +91,8 @@ fn sum_of(before: usize, place: usize) -> Result<usize, NoMemory>
     }
 }
 
-/// The place, among all, of the recipe of that name in the module of that number, whose names these are.
-#[tactic(auto, using(crate::proofs::NameTables::within_before, crate::proofs::NameTables::not_there, crate::proofs::NameTables::there))]
-fn place_in_module(
-    names: &Names<'_>,
-    before: &[usize],
-    number: usize,
-    of_module: &ModuleNames<'_>,
-    name: &str,
-) -> Result<Option<usize>, NoMemory>
-    requires names { AreNames names.now }
-    requires before { AreBefore (wins_of names.now) (layout_of names.now) before.now }
-    requires table { slice_get names.now.modules.items number ≡ Some of_module.now }
-    ensures { IfOk result (λ p. p ≡ place_of_recipe (wins_of names.now) (layout_of names.now) number name.now) }
-{
-    match of_module.recipe_places.place(name) {
-        None => Ok(None),
-        Some(place) => {
-            let sum = sum_of(before[number], place)?;
-            Ok(Some(sum))
-        }
-    }
-}
-
-/// The place, among all, of the recipe of that module and name.
-#[tactic(auto, using(crate::proofs::NameTables::no_table, crate::proofs::NameTables::table_is))]
-fn place_of_recipe(
-    names: &Names<'_>,
-    before: &[usize],
-    number: usize,
-    name: &str,
-) -> Result<Option<usize>, NoMemory>
-    requires names { AreNames names.now }
-    requires before { AreBefore (wins_of names.now) (layout_of names.now) before.now }
-    ensures { IfOk result (λ p. p ≡ place_of_recipe (wins_of names.now) (layout_of names.now) number name.now) }
-{
-    match names_at(names, number) {
-        None => Ok(None),
-        Some(of_module) => place_in_module(names, before, number, of_module, name),
-    }
-}
-
 /// The place, among all, of the recipe that a path comes to.
+#[tactic(auto, using(crate::proofs::NameTables::placed_within, crate::proofs::NameTables::placed_is))]
 pub(crate) fn place_of_target(
     names: &Names<'_>,
     before: &[usize],
@@ -147,11 +100,13 @@ pub(crate) fn place_of_target(
 ) -> Result<Option<usize>, NoMemory>
     requires names { AreNames names.now }
     requires before { AreBefore (wins_of names.now) (layout_of names.now) before.now }
+    requires placed { IsPlaced names.now found.now }
     ensures { IfOk result (λ p. p ≡ place_of_target (wins_of names.now) (layout_of names.now) (target found.now)) }
 {
     match found {
-        Target::Recipe { number, recipe, .. } => {
-            place_of_recipe(names, before, *number, recipe.name.text.as_str())
+        Target::Recipe { number, place, .. } => {
+            let sum = sum_of(before[*number], *place)?;
+            Ok(Some(sum))
         }
         _ => Ok(None),
     }

@@ -9,3 +9,4 @@ pub mod LookupLaws
 pub mod TargetLaws
 pub mod ArityLaws
 pub mod Sets
+pub mod Entered

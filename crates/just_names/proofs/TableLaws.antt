@@ -1,16 +1,17 @@
 -- The tables of the modules' names, beside the modules.
-use Rattle.std.proofs.Common.{◌≡◌, ℕ, zero, suc, ◌+◌, Bool, false, List, [], ◌∷◌, ◌++◌, Option, Some, None, refl, sym, ap, ◌∙◌}
+use Rattle.std.proofs.Common.{◌≡◌, ℕ, zero, suc, ◌+◌, false, List, [], ◌∷◌, ◌++◌, Option, refl, sym, ap, ◌∙◌}
 use Rattle.std.specs.Prelude.{is_some, slice_get}
 use Rattle.std.specs.List.{enumerate_from, flat_map, list_any}
 use Rattle.std.specs.Option.{option_and_then, option_map_or}
 use Rattle.just_syntax.specs.declared.ast.AstItem.{AstItem}
 use Rattle.just_layout.specs.declared.layout.File.{File}
 use Rattle.just_layout.specs.declared.layout.Module.{Module}
-use Rattle.just_spots.specs.Entries.{entries, last_place, place_in}
+use Rattle.just_spots.specs.Entries.{last_place, place_in}
 use Rattle.just_spots.specs.Items.{item_name}
 use Rattle.just_spots.specs.Standing.{Wins, has_name, named}
 use Rattle.just_spots.proofs.LastPlaces.{some_last, named_is, in_range}
 use Rattle.just_names.specs.declared.names.ModuleNames.{ModuleNames}
+use Rattle.just_names.specs.MarkedPlaces.{marked_place}
 use Rattle.just_names.specs.Names.{IsModuleNames, AreModuleNames}
 use Rattle.just_names.specs.Standing.{standing_recipe_items, absent_items}
 use Rattle.just_names.specs.Targets.{recipe_by}
@@ -54,7 +55,7 @@ recipe_item_at wins files [] [] h k q = refl
 recipe_item_at wins files [] (n ∷ ns) h k q = absurd h
 recipe_item_at wins files (m ∷ ms) [] h k q = absurd h
 recipe_item_at wins files (m ∷ ms) (n ∷ ns) h zero q =
-    ap (λ xs. option_and_then (slice_get xs) (place_in n.recipe_places q)) h.0.recipes_are
+    ap (λ xs. option_and_then (slice_get xs) (marked_place n.recipe_places q)) h.0.recipes_are
     ∙ ap (option_and_then (slice_get (standing_recipe_items wins files m))) (h.0.recipe_places_are q)
     ∙ sym (named_is item_name q (standing_recipe_items wins files m))
 recipe_item_at wins files (m ∷ ms) (n ∷ ns) h (suc k) q = recipe_item_at wins files ms ns h.1 k q

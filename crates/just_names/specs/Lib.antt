@@ -9,3 +9,5 @@ pub mod Children
 pub mod Scopes
 pub mod Targets
 pub mod Arities
+pub mod Marks
+pub mod MarkedPlaces

@@ -5,6 +5,8 @@ mod arity;
 mod children;
 mod items;
 mod listed;
+mod marked;
+mod marks;
 mod names;
 mod options;
 mod parameters;
@@ -17,11 +19,9 @@ pub use arity::{Arities, Arity, arities_of};
 pub use children::Children;
 pub use items::{items_at, items_of_module};
 pub use listed::{ListedAlias, ListedDependency, all_aliases, all_dependencies};
+pub use marked::MarkedIndex;
 pub use names::{ModuleNames, Names, names_of};
 pub use paths::Paths;
 pub use scopes::first_undefined_variable;
 pub use target::{PathKind, Target, child, is_absent, module_at, recipe_named, target_of};
-pub use targets::{
-    first_dependency_argument_count, first_dependency_is_option, first_unknown_alias_target,
-    first_unknown_dependency,
-};
+pub use targets::{DependencySpots, first_dependency_spots, first_unknown_alias_target};

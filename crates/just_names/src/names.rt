@@ -5,6 +5,7 @@ ghost use Rattle.just_names.specs.Names.{IsModuleNames, AreModuleNames, AreNames
 
 use super::children::{Children, children_of, own_numbers};
 use super::items::{items_at, items_of_module};
+use super::marked::{MarkedIndex, marked_index_of};
 use super::paths::{Paths, paths_of};
 use just_layout::{File, Layout, Module};
 use just_spots::{Entry, Index, index_of, recipe_items, standing, variable_items};
@@ -17,7 +18,7 @@ pub struct ModuleNames<'a> {
     pub items: Vec<Entry<'a>>,
     pub recipes: Vec<Entry<'a>>,
     /// The places among `recipes`.
-    pub recipe_places: Index<'a>,
+    pub recipe_places: MarkedIndex<'a>,
     pub variables: Vec<Entry<'a>>,
     /// The places among `variables`.
     pub variable_places: Index<'a>,
@@ -52,7 +53,7 @@ fn module_names<'a>(
     let items = items_of_module(alloc, files, some_module)?;
     let recipes = recipe_items(alloc, items.as_slice())?;
     let recipes = standing(alloc, winners, recipes.as_slice())?;
-    let recipe_places = index_of(alloc, recipes.as_slice())?;
+    let recipe_places = marked_index_of(alloc, recipes.as_slice())?;
     let variables = variable_items(alloc, items.as_slice())?;
     let variables = standing(alloc, winners, variables.as_slice())?;
     let variable_places = index_of(alloc, variables.as_slice())?;
