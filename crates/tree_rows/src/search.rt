@@ -9,31 +9,34 @@ use just_text::{Environ, NoMemory, Seq};
 use std::alloc::Global;
 
 /// A search from a folder upwards.
-#[derive(Clone, Copy)]
-pub(crate) struct Asked<'a> {
+#[derive(Drop)]
+pub(crate) struct Asked {
     /// The folder in which the program is called.
-    pub(crate) called: &'a str,
+    pub(crate) called: String,
     /// The path in front of the words, which ends with a slash; empty where the search is from the folder of the call.
-    pub(crate) prefix: &'a str,
+    pub(crate) prefix: String,
     /// The last folder that is searched.
-    pub(crate) ceiling: &'a str,
+    pub(crate) ceiling: String,
     /// Names that are looked for, with commas between; empty where the usual ones are.
-    pub(crate) names: &'a str,
+    pub(crate) names: String,
 }
 
 /// The configuration of a search.
-fn searching(alloc: Global, asked: &Asked<'_>) -> Result<Config, NoMemory> {
-    let mut words = Vec::new(alloc);
-    words.push("--ceiling")?;
-    words.push(asked.ceiling)?;
-    if !asked.names.is_empty() {
-        words.push("--justfile-name")?;
-        words.push(asked.names)?;
+fn searching(alloc: Global, asked: &Asked) -> Result<Config, NoMemory> {
+    let (ceiling, names) = (asked.ceiling.as_str(), asked.names.as_str());
+    let (prefix, called) = (asked.prefix.as_str(), asked.called.as_str());
+    match (names.is_empty(), prefix.is_empty()) {
+        (true, true) => configured(alloc, &["--ceiling", ceiling], called),
+        (true, false) => configured(alloc, &["--ceiling", ceiling, prefix], called),
+        (false, true) => {
+            let words = ["--ceiling", ceiling, "--justfile-name", names];
+            configured(alloc, &words, called)
+        }
+        (false, false) => {
+            let words = ["--ceiling", ceiling, "--justfile-name", names, prefix];
+            configured(alloc, &words, called)
+        }
     }
-    if !asked.prefix.is_empty() {
-        words.push(asked.prefix)?;
-    }
-    configured(alloc, words.as_slice(), asked.called)
 }
 
 /// The configuration of words in a folder; where they have none, memory is told to be wanting, so that the test fails.
@@ -84,12 +87,22 @@ fn same_refusals(a: &SearchError, b: &SearchError) -> bool {
 }
 
 /// Whether two searches ended alike.
-fn same_ends(a: Result<Location, SearchError>, b: Result<Location, SearchError>) -> bool {
+fn same_ends(a: &Result<Location, SearchError>, b: &Result<Location, SearchError>) -> bool {
     match (a, b) {
-        (Ok(a), Ok(b)) => same_places(&a, &b),
-        (Err(a), Err(b)) => same_refusals(&a, &b),
+        (Ok(a), Ok(b)) => same_places(a, b),
+        (Err(a), Err(b)) => same_refusals(a, b),
         _ => false,
     }
+}
+
+/// How a search ends over a host.
+fn end_of<H: Host>(alloc: Global, config: &Config, host: &mut H) -> Result<Location, SearchError> {
+    find(alloc, config, host)
+}
+
+/// Whether a search of a configuration ends alike over two hosts.
+fn same_over<A: Host, B: Host>(alloc: Global, config: &Config, one: &mut A, other: &mut B) -> bool {
+    same_ends(&end_of(alloc, config, one), &end_of(alloc, config, other))
 }
 
 /// Whether a search ends alike over two hosts.
@@ -97,8 +110,8 @@ pub(crate) fn search_alike<A: Host, B: Host>(
     alloc: Global,
     one: &mut A,
     other: &mut B,
-    asked: &Asked<'_>,
+    asked: &Asked,
 ) -> Result<bool, NoMemory> {
     let config = searching(alloc, asked)?;
-    Ok(same_ends(find(alloc, &config, one), find(alloc, &config, other)))
+    Ok(same_over(alloc, &config, one, other))
 }

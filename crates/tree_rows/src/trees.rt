@@ -55,11 +55,11 @@ fn alike<A: Host, B: Host>(one: &mut A, other: &mut B, path: &str, stand: Stand)
 fn difference<A: Host, B: Host>(
     alloc: Global,
     random: &mut Random,
-    hosts: (&mut A, &mut B),
+    one: &mut A,
+    other: &mut B,
     root: Root<'_>,
     all: &[Stand; 14],
 ) -> Result<Option<String>, NoMemory> {
-    let (one, other) = hosts;
     for n in 0..14usize {
         let place = PLACES.get(n).copied().unwrap_or("");
         let which = random.next() % 8;
@@ -100,43 +100,69 @@ fn any_ceiling(
     Ok(text)
 }
 
+/// The path in front of the words of a search from a place, in a form of that number; empty where the program is called at the place.
+fn prefix_of(alloc: Global, root: &str, name: &str, form: u8) -> Result<String, NoMemory> {
+    let text = match form {
+        0 => Ok(String::new(alloc)),
+        1 => format!(in alloc; "{name}/"),
+        _ => format!(in alloc; "{root}//{name}/"),
+    }?;
+    Ok(text)
+}
+
+/// The folder in which the program is called, for a form of words of that number.
+fn called_in(alloc: Global, root: &str, name: &str, form: u8) -> Result<String, NoMemory> {
+    let text = match form {
+        0 => format!(in alloc; "{root}/{name}"),
+        _ => String::from_str(alloc, root),
+    }?;
+    Ok(text)
+}
+
+/// A search from a place upwards.
+fn any_search(
+    alloc: Global,
+    random: &mut Random,
+    root: &str,
+    place: usize,
+) -> Result<Asked, NoMemory> {
+    let name = PLACES.get(place).copied().unwrap_or("");
+    let ceiling = any_ceiling(alloc, random, root, place)?;
+    let form = random.next() % 3;
+    let names = any_names(random);
+    Ok(Asked {
+        called: called_in(alloc, root, name, form)?,
+        prefix: prefix_of(alloc, root, name, form)?,
+        ceiling,
+        names: String::from_str(alloc, names)?,
+    })
+}
+
 /// Whether a search from a place upwards ends alike over two hosts.
 fn search_agrees<A: Host, B: Host>(
     alloc: Global,
     random: &mut Random,
-    hosts: (&mut A, &mut B),
+    one: &mut A,
+    other: &mut B,
     root: &str,
     place: usize,
 ) -> Result<bool, NoMemory> {
-    let name = PLACES.get(place).copied().unwrap_or("");
-    let folder = format!(in alloc; "{root}/{name}")?;
-    let ceiling = any_ceiling(alloc, random, root, place)?;
-    let (called, prefix) = match random.next() % 3 {
-        0 => (folder.as_str(), String::new(alloc)),
-        1 => (root, format!(in alloc; "{name}/")?),
-        _ => (root, format!(in alloc; "{root}//{name}/")?),
-    };
-    let asked = Asked {
-        called,
-        prefix: prefix.as_str(),
-        ceiling: ceiling.as_str(),
-        names: any_names(random),
-    };
-    search_alike(alloc, hosts.0, hosts.1, &asked)
+    let asked = any_search(alloc, random, root, place)?;
+    search_alike(alloc, one, other, &asked)
 }
 
 /// The place from which a search ends otherwise over the two hosts, if there is one.
 fn search_difference<A: Host, B: Host>(
     alloc: Global,
     random: &mut Random,
-    hosts: (&mut A, &mut B),
+    one: &mut A,
+    other: &mut B,
     root: &str,
     all: &[Stand; 14],
 ) -> Result<Option<String>, NoMemory> {
-    let (one, other) = hosts;
     for n in 0..14usize {
         let from = is_before_links(all, n) && all[n] != Stand::Nothing && all[n] != Stand::Loop;
-        if from && !search_agrees(alloc, random, (one, other), root, n)? {
+        if from && !search_agrees(alloc, random, one, other, root, n)? {
             let place = PLACES.get(n).copied().unwrap_or("");
             return Ok(Some(format!(in alloc; "search from {root}/{place}")?));
         }
@@ -165,12 +191,12 @@ fn difference_of(
     let tree = grow(rt, alloc, random, folder.as_str(), &all)?;
     let mut memory = memory(alloc, tree, root.current)?;
     let mut real = RealHost::new(rt, alloc)?;
-    let path = difference(alloc, random, (&mut real, &mut memory), root, &all)?;
+    let path = difference(alloc, random, &mut real, &mut memory, root, &all)?;
     if path.is_some() {
         return Ok(path);
     }
-    let hosts = (&mut real, &mut memory);
-    let place = search_difference(alloc, random, hosts, folder.as_str(), &all)?;
+    let folder = folder.as_str();
+    let place = search_difference(alloc, random, &mut real, &mut memory, folder, &all)?;
     Ok(place)
 }
 
