@@ -14,7 +14,7 @@ use just_words::Usage;
 pub enum Error {
     /// The words of the command line, or a variable that fills them in, are at fault.
     Usage(Usage),
-    /// A form that isn't built yet: an option's first long name, the folder in front of the words, a setting or an attribute.
+    /// A form that isn't built yet: the first long name of an option or of a command.
     NotBuilt {
         word: Text,
     },

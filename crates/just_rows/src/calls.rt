@@ -1,10 +1,11 @@
 //! Each public call that can answer want of memory and that no row of another crate makes, called once with ample
-//! memory. The calls of paths, texts, readers and expansions are made by `text_vectors` and `call_rows`; a run makes those of a host, of the record, of the loader, of a project,
+//! memory. The calls of paths, texts, readers and expansions are made by `text_vectors` and `call_rows`; a run makes those of a host, of the record, of the loader (`load_over`), of a project,
 //! its dotenv pairs, its values, keys and closure, of a plan and of its drive, so `run_rows` shows that they answer. Those of a search,
 //! of what is tried behind it, of a justfile that is to be written and of the program of a name are made by `request_rows`.
 
 use crate::changes::changes_agree;
 use crate::hosts::memory;
+use crate::loading::loaded;
 use just_host::{Host, HostFault};
 use just_lang::{Ast, AstItem, FileRef, Source, parse, references};
 use just_path::Utf8Path;
@@ -81,6 +82,7 @@ fn every_call_answers(rt: HostRuntime) -> Result<(), Fail> {
     assert_eq!(rt; path_of(files.as_slice(), 0), "a");
     assert_eq!(rt; path_of(files.as_slice(), 2), "d");
     assert_eq!(rt; home(alloc)?.as_str(), "/h");
+    assert!(rt; matches!(loaded(alloc, "import 'link'\na:\n"), Ok((2, 0))));
     assert!(rt; changes_agree(alloc)?);
     Ok(())
 }

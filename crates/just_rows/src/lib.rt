@@ -8,6 +8,8 @@ mod changes;
 #[cfg(test)]
 mod hosts;
 #[cfg(test)]
+mod loading;
+#[cfg(test)]
 mod real_files;
 #[cfg(test)]
 mod sights;
