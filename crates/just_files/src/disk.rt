@@ -34,13 +34,13 @@ fn refuse_others<F: Files>(files: &F, path: &str) -> io::Result<()> {
     }
 }
 
-/// Writes a file, which is made where it lacks: it holds these bytes and no others. What is no file isn't opened.
+/// Writes a file, which is made where it lacks: it holds these bytes and no others. What is no file isn't opened. No clause: nothing is claimed of files.
 pub fn write<F: Files>(files: &F, path: &str, bytes: &[u8]) -> io::Result<()> {
     refuse_others(files, path)?;
     fs::write(files, path, bytes)
 }
 
-/// Removes a file, a link or an empty folder; of a link not what it leads to.
+/// Removes a file, a link or an empty folder; of a link not what it leads to. No clause: nothing is claimed of files.
 pub fn remove<F: Files>(files: &F, path: &str) -> io::Result<()> {
     match super::system::look(files, path, false)?.kind {
         Kind::Folder => fs::remove_dir(files, path),
@@ -48,7 +48,7 @@ pub fn remove<F: Files>(files: &F, path: &str) -> io::Result<()> {
     }
 }
 
-/// Makes a fresh folder in another one, else in the system's for temporary files. Its name begins with `prefix`, and this user alone may use it.
+/// Makes a fresh folder in another one, else in the system's for temporary files. Its name begins with `prefix`, and this user alone may use it. No clause: nothing is claimed of files.
 pub fn temp_folder<R: Files + Env>(
     rt: &R,
     alloc: Global,
@@ -72,7 +72,7 @@ fn piece_for(length: u64) -> usize {
     }
 }
 
-/// The SHA-256 of a file, which is read piece by piece. Where it has more than `MAX_SUMMED` bytes, the error is `FileTooLarge`; what is no file isn't opened.
+/// The SHA-256 of a file, which is read piece by piece. Where it has more than `MAX_SUMMED` bytes, the error is `FileTooLarge`; what is no file isn't opened. No clause: nothing is claimed of files.
 pub fn sum<F: Files>(files: &F, alloc: Global, path: &str) -> io::Result<[u8; 32]> {
     let length = file_length(files, path)?;
     let mut file = fs::open(files, path)?;
@@ -144,7 +144,7 @@ fn entry_length<F: Files<File = File>>(files: &F, entry: Utf8Path<'_>) -> io::Re
 }
 
 /// Looks at a cache entry, which is made with its folder where it lacks, and at the outputs beside it. An output lacks where an error that is a miss tells so;
-/// the number of the first one, from 0 on, is answered.
+/// the number of the first one, from 0 on, is answered. No clause: nothing is claimed of files.
 pub fn probe<F: Files<File = File>>(
     files: &F,
     entry: Utf8Path<'_>,
@@ -178,7 +178,7 @@ fn is_missing<F: Files>(files: &F, path: &str) -> io::Result<bool> {
     }
 }
 
-/// Whether nothing stands where a path leads. Another miss is an error.
+/// Whether nothing stands where a path leads. Another miss is an error. No clause: nothing is claimed of files.
 pub fn is_absent<F: Files>(files: &F, path: &str) -> io::Result<bool> {
     match super::system::look(files, path, true) {
         Ok(_) => Ok(false),
@@ -187,7 +187,7 @@ pub fn is_absent<F: Files>(files: &F, path: &str) -> io::Result<bool> {
     }
 }
 
-/// Writes a cache entry, which is made where it lacks, while no other program looks at it. Its folder isn't made.
+/// Writes a cache entry, which is made where it lacks, while no other program looks at it. Its folder isn't made. No clause: nothing is claimed of files.
 pub fn save<F: Files<File = File>>(files: &F, path: &str, bytes: &[u8]) -> io::Result<()> {
     let mut file = open_entry(files, path)?;
     file.lock()?;

@@ -18,7 +18,7 @@ pub fn text_of<'a>(row: &'a Value, field: &str) -> Result<&'a str, Wrong> {
     }
 }
 
-/// The number of a field.
+/// The number of a field. No clause: no theorem stands on what it answers.
 pub fn number_of(row: &Value, field: &str) -> Result<u64, Wrong> {
     match row.get(field) {
         Some(value) => match value.as_u64() {

@@ -15,7 +15,7 @@ pub fn agrees_unindent(alloc: Global, row: &Value) -> Result<bool, Wrong> {
     Ok(found.as_str() == text_of(row, "gives")?)
 }
 
-/// Whether a range of numbers is printed as the row says.
+/// Whether a range of numbers is printed as the row says. No clause: no theorem stands on what it answers.
 pub fn agrees_display(alloc: Global, row: &Value) -> Result<bool, Wrong> {
     let least = number_of(row, "least")? as usize;
     let greatest = number_of(row, "greatest")? as usize;
@@ -24,7 +24,7 @@ pub fn agrees_display(alloc: Global, row: &Value) -> Result<bool, Wrong> {
     Ok(found.as_str() == text_of(row, "gives")?)
 }
 
-/// Whether each prefix of a text is read, or refused at one of its lines.
+/// Whether each prefix of a text is read, or refused at one of its lines. No clause: no theorem stands on what it answers.
 pub fn agrees_prefixes(alloc: Global, text: &str) -> Result<bool, Wrong> {
     let mut front = String::new(alloc);
     let mut lines: usize = 1;
