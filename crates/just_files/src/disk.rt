@@ -48,6 +48,21 @@ pub fn remove<F: Files>(files: &F, path: &str) -> io::Result<()> {
     }
 }
 
+/// Makes a folder, with those above it, where they lack. Where something else stands there, it is found as no folder. No clause: nothing is claimed of files.
+pub fn make_folder<F: Files>(files: &F, path: &str) -> io::Result<()> {
+    if path.is_empty() {
+        return Err(io::Error::from(ErrorKind::NotFound));
+    }
+    match fs::create_dir_all(files, path) {
+        Err(error) if error.kind() == ErrorKind::AlreadyExists => {
+            // a link that leads nowhere isn't found
+            super::system::look(files, path, true)?;
+            Err(io::Error::from(ErrorKind::NotADirectory))
+        }
+        made => made,
+    }
+}
+
 /// Makes a fresh folder in another one, else in the system's for temporary files. Its name begins with `prefix`, and this user alone may use it. No clause: nothing is claimed of files.
 pub fn temp_folder<R: Files + Env>(
     rt: &R,

@@ -1,5 +1,5 @@
 //! Items of a folder, by rising names.
-ghost use Rattle.std.specs.Prelude.{◌≡◌, ◌≢◌, ◌==◌, ◌++◌, ℕ, List, [], true, IfOk, OnOk, MatchOption};
+ghost use Rattle.std.specs.Prelude.{◌≡◌, ◌≢◌, ◌==◌, ◌++◌, ℕ, List, [], true, IfOk, OnOk, MatchOption, map};
 ghost use Rattle.std.specs.List.{list_any};
 ghost use Rattle.std.specs.Ordering.{nat_cmp, is_gt};
 ghost use Rattle.std.specs.Cmp.Lexicographic.{slice_cmp};
@@ -8,7 +8,7 @@ ghost use Rattle.just_path.specs.View.{named, is_name, AreInOrder};
 ghost use Rattle.just_files.specs.Items.{IsPlaceOf, put_in};
 
 use just_path::Item;
-use just_text::NoMemory;
+use just_text::{NoMemory, Seq, Text};
 use std::alloc::Global;
 
 /// Whether a text has a slash.
@@ -82,4 +82,16 @@ pub fn in_order(alloc: Global, items: Vec<Item>) -> Result<Vec<Item>, NoMemory>
         put_item(&mut sorted, item)?;
     }
     Ok(sorted)
+}
+
+/// The names of items.
+pub fn names_of(alloc: Global, items: Vec<Item>) -> Result<Seq<Text>, NoMemory>
+    ensures { IfOk result (λ names. names ≡ map (λ i. i.name) items.items) }
+{
+    let mut names = Vec::with_capacity(alloc, items.len())?;
+    for item in items {
+        let Item { name, .. } = item;
+        names.push(name)?;
+    }
+    Ok(Seq::from(names))
 }

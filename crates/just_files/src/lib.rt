@@ -11,5 +11,5 @@ mod text;
 
 pub use copies::{copied_bytes, copies_of, path_or_empty};
 pub use fresh::{fresh_folder, in_memory};
-pub use items::{is_name, name_behind, put_item};
+pub use items::{is_name, name_behind, names_of, put_item};
 pub use text::text_of;

@@ -3,12 +3,12 @@
 
 ghost use Rattle.std.specs.Prelude.{◌≡◌, ◌≤◌, ◌++◌, IfOk, OnOk, IfSome, length, string_bytes};
 ghost use Rattle.std.specs.Path.{path_buf_bytes};
-ghost use Rattle.just_path.specs.View.{AreInOrder};
+ghost use Rattle.just_path.specs.View.{AreInOrder, AreNamesInOrder};
 ghost use Rattle.just_outside.specs.declared.outside.TheConstants.{MAX_BYTES};
 ghost use Rattle.just_outside.specs.World.{text_in};
 ghost use Rattle.just_files.specs.Texts.{Tells, pairs_in};
 
-use super::items::in_order;
+use super::items::{in_order, names_of};
 use super::text::text_of;
 use just_outside::{MAX_BYTES, Stream};
 use just_path::{Item, Kind, Meta, Miss, Utf8PathBuf};
@@ -81,6 +81,17 @@ pub fn list<F: Files>(files: &F, alloc: Global, path: &str) -> io::Result<Vec<It
     sorted(alloc, found(files, alloc, path)?)
 }
 
+/// The names of what stands in a folder, rising. The system isn't asked what they are the names of.
+pub fn names<F: Files>(files: &F, alloc: Global, path: &str) -> io::Result<Seq<Text>>
+    ensures { IfOk result AreNamesInOrder }
+{
+    let items = sorted(alloc, found_names(files, alloc, path)?)?;
+    match names_of(alloc, items) {
+        Ok(names) => Ok(names),
+        Err(NoMemory) => Err(io::Error::from(ErrorKind::OutOfMemory)),
+    }
+}
+
 /// The items by rising names.
 fn sorted(alloc: Global, found: Vec<Item>) -> io::Result<Vec<Item>>
     ensures { IfOk result (λ v. AreInOrder v.items) }
@@ -104,6 +115,26 @@ fn found<F: Files>(files: &F, alloc: Global, path: &str) -> io::Result<Vec<Item>
         }
     }
     Ok(items)
+}
+
+/// An item for each name in a folder, of which no more is known. A name that isn't UTF-8 makes the call fail.
+fn found_names<F: Files>(files: &F, alloc: Global, path: &str) -> io::Result<Vec<Item>> {
+    let pair = (files, alloc);
+    let mut items = Vec::new(alloc);
+    for entry in fs::read_dir(&pair, path)? {
+        let name = name_of(alloc, entry)?;
+        let kind = Kind::Other;
+        items.push(Item { name, kind })?;
+    }
+    Ok(items)
+}
+
+/// The name of an entry of a folder.
+fn name_of<F: Files + Drop>(alloc: Global, told: io::Result<DirEntry<F>>) -> io::Result<Text> {
+    match told {
+        Ok(entry) => Ok(Text::from(String::from_str(alloc, entry.file_name())?)),
+        Err(error) => Err(entry_error(error)),
+    }
 }
 
 /// The item of an entry of a folder, or none where the entry vanished.

@@ -9,7 +9,7 @@ ghost use Rattle.just_host.specs.Mem.{record_of, world_of, Went};
 use super::memory::{MemChild, MemDone, MemHost};
 use just_outside::{Entry, Host, HostFault, Look, Spec, Status, Stream};
 use just_path::{Item, Meta, PathFault, PathHost, Utf8Path, Utf8PathBuf};
-use just_text::{Environ, NoMemory};
+use just_text::{Environ, NoMemory, Seq, Text};
 use std::sync::Arc;
 use std::sync::atomic::{AtomicBool, Ordering};
 
@@ -76,6 +76,10 @@ impl PathHost for GateHost {
         self.mem.list(path)
     }
 
+    fn names(&mut self, path: Utf8Path<'_>) -> Result<Seq<Text>, PathFault> {
+        self.mem.names(path)
+    }
+
     fn canonical(&mut self, path: Utf8Path<'_>) -> Result<Utf8PathBuf, PathFault> {
         self.mem.canonical(path)
     }
@@ -130,6 +134,10 @@ impl Host for GateHost {
 
     fn write(&mut self, path: Utf8Path<'_>, bytes: &[u8]) -> Result<(), HostFault> {
         self.mem.write(path, bytes)
+    }
+
+    fn make_folder(&mut self, path: Utf8Path<'_>) -> Result<(), HostFault> {
+        self.mem.make_folder(path)
     }
 
     fn temp_folder(

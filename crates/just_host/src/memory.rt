@@ -3,7 +3,7 @@ ghost use Rattle.std.specs.Prelude.{◌≡◌, ◌+◌, drop, ◌<◌, ◌≤◌
 ghost use Rattle.just_path.specs.Path.{text_of};
 ghost use Rattle.just_path.specs.Comps.{slash};
 ghost use Rattle.just_path.specs.Host.{note_of, note_of_fault};
-ghost use Rattle.just_path.specs.View.{place_under, AreInOrder, Told, TellsItems, meta_told, canonical_told, link_told};
+ghost use Rattle.just_path.specs.View.{place_under, AreInOrder, AreNamesInOrder, Told, TellsItems, TellsNames, meta_told, canonical_told, link_told};
 ghost use Rattle.just_path.specs.declared.host.PathCall.{PathCall};
 ghost use Rattle.just_outside.specs.declared.entry.Entry.{Entry};
 ghost use Rattle.just_outside.specs.declared.entry.Status.{Status};
@@ -13,6 +13,7 @@ ghost use Rattle.just_outside.specs.Logs.{entries_of, spare_of};
 ghost use Rattle.just_outside.specs.World.{view_of, ReadTells, Touched, Leaves};
 ghost use Rattle.just_outside.specs.Changes.{place_written, written, with_cache_entry, IsOfEntry, Changes};
 ghost use Rattle.just_outside.specs.Folders.{TempTells, Removes};
+ghost use Rattle.just_outside.specs.NewFolders.{with_folder, IsOfFolder};
 ghost use Rattle.just_outside.specs.Looks.{dash, TellsAnswer, told_input, told_sum, told_check, LookTells, ChecksTo};
 ghost use Rattle.just_tree.specs.Trees.{files_of};
 ghost use Rattle.just_host.specs.Mem.{record_of, world_of, Went, OnlyNotes, OnlyFiles, Answers, answer_in, Plays, Runs, IsFaultOf, IsHostFaultOf, IsFailureOf, is_struck, is_wait_struck, waited_for, FailsIf, PathFailsIf};
@@ -222,6 +223,25 @@ impl PathHost for MemHost {
         }
     }
 
+    fn names(&mut self, path: Utf8Path<'_>) -> Result<Seq<Text>, PathFault>
+        ensures went { Went self.old self.new (note_of PathCall.List (text_of path.entry) result) }
+        ensures order { IfOk result AreNamesInOrder }
+        ensures told { TellsNames (Some (view_of (world_of self.old))) (text_of path.entry) result }
+        ensures fails { PathFailsIf (is_struck self.old.faults) result }
+        ensures stays { OnlyNotes self.old self.new (next_call self.old.faults.calls) }
+    {
+        if self.faults.strike() {
+            return Err(self.log.path_failure(PathCall::List));
+        }
+        match self.tree.folder(self.alloc, &self.folder, path) {
+            Ok(folder) => match self.tree.names(self.alloc, &folder) {
+                Ok(names) => Ok(names),
+                Err(NoMemory) => Err(PathFault::NoMemory),
+            },
+            Err(fault) => Err(refuse(&mut self.log, self.alloc, path, fault)),
+        }
+    }
+
     fn canonical(&mut self, path: Utf8Path<'_>) -> Result<Utf8PathBuf, PathFault>
         ensures went { Went self.old self.new (note_of PathCall.Canonical (text_of path.entry) result) }
         ensures told { Told (canonical_told (text_of path.entry) (view_of (world_of self.old))) result }
@@ -392,6 +412,23 @@ impl Host for MemHost {
             return Err(fail(&mut self.log, Call::Write));
         }
         match self.tree.write(self.alloc, &self.folder, path, bytes) {
+            Ok(()) => Ok(()),
+            Err(fault) => Err(refuse_call(&mut self.log, self.alloc, path, fault)),
+        }
+    }
+
+    fn make_folder(&mut self, path: Utf8Path<'_>) -> Result<(), HostFault>
+        ensures entries { record_of self.new ≡ record_of self.old ++ gained (text_of path.entry) (λ _. []) result }
+        ensures own { IsOwn Call.MakeFolder result }
+        ensures world { Changes (λ w. with_folder w (text_of path.entry)) (λ w place. IsOfFolder w (text_of path.entry) place) (Some (world_of self.old)) (Some (world_of self.new)) result }
+        ensures spare { spare_of self.new.log ≡ spare_of self.old.log }
+        ensures fails { FailsIf (is_struck self.old.faults) result }
+        ensures stays { OnlyFiles self.old self.new (next_call self.old.faults.calls) }
+    {
+        if self.faults.strike() {
+            return Err(fail(&mut self.log, Call::MakeFolder));
+        }
+        match self.tree.make_folder(self.alloc, &self.folder, path) {
             Ok(()) => Ok(()),
             Err(fault) => Err(refuse_call(&mut self.log, self.alloc, path, fault)),
         }

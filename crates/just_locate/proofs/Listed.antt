@@ -1,17 +1,13 @@
 -- The names of what is listed.
-use Rattle.std.proofs.Common.{◌≡◌, ℕ, List, map, Option, Some, None, option_map, ap, ◌∙◌, subst}
-use Rattle.std.specs.Prelude.{Ok, MatchOption}
-use Rattle.std.specs.declared.alloc.Global.{Global}
-use Rattle.std.specs.declared.vec.Vec.{Vec}
-use Rattle.just_path.specs.View.{View, TellsItems, AreInOrder}
-use Rattle.just_path.specs.declared.meta.Item.{Item}
+use Rattle.std.proofs.Common.{◌≡◌, ℕ, List, Option, Some, None, option_map, subst}
+use Rattle.std.specs.Prelude.{Ok}
+use Rattle.just_path.specs.View.{View, TellsNames, AreNamesOf, AreNamesInOrder}
 use Rattle.just_outside.specs.World.{World, view_of}
-use Rattle.just_locate.specs.Listing.{AreIn, ListsFolder}
+use Rattle.just_locate.specs.Listing.{ListsFolder}
 
-are_in : (told : Option World) (v : Option View) (path : List ℕ) (items : Vec Item Global) → v ≡ option_map view_of told → TellsItems v path (Ok items) → MatchOption told (Unit {0}) (λ w. AreIn (view_of w) path items.items)
-are_in None v path items is tells = tt
-are_in (Some w) v path items is tells = subst (λ o. TellsItems o path (Ok items)) is tells
-
-pub lists_names : (told : Option World) (v : Option View) (path : List ℕ) (items : Vec Item Global) (xs : List Item) (names : List (List ℕ)) → v ≡ option_map view_of told → TellsItems v path (Ok items) → AreInOrder items.items → xs ≡ items.items → names ≡ map (λ (i : Item). i.name) xs → ListsFolder told path (Ok names)
-lists_names told v path items xs names is tells order same so =
-    (items.items, order, so ∙ ap (λ ys. map (λ (i : Item). i.name) ys) same, are_in told v path items is tells)
+pub lists_names : (told : Option World) (v : Option View) (path : List ℕ) (names : List (List ℕ)) → v ≡ option_map view_of told → TellsNames v path (Ok names) → AreNamesInOrder names → ListsFolder told path (Ok names)
+lists_names None v path names is tells order = (order.0, order.1, order.2, tt)
+lists_names (Some w) v path names is tells order =
+    let so : TellsNames (Some (view_of w)) path (Ok names) = subst (λ o. TellsNames o path (Ok names)) is tells in
+    let named : AreNamesOf so.0 (view_of w).tree names = so.2 in
+    (named.0, named.1, named.2, (so.0, so.1, named.3))

@@ -1,26 +1,15 @@
 //! A host's answer where a folder is listed.
 
-ghost use Rattle.std.specs.Prelude.{◌≡◌, ◌++◌, IfOk, map};
+ghost use Rattle.std.specs.Prelude.{◌≡◌, ◌++◌};
 ghost use Rattle.just_path.specs.Path.{text_of};
 ghost use Rattle.just_env.specs.Answers.{Answers, told_entries};
 ghost use Rattle.just_locate.specs.Listing.{ListsFolder};
 
 use super::SearchError;
 use just_outside::{Call, Host, HostFault};
-use just_path::{Item, PathFault, Utf8Path};
-use just_text::{NoMemory, Seq, Text};
+use just_path::{PathFault, Utf8Path};
+use just_text::{Seq, Text};
 use std::alloc::Global;
-
-/// The names of some things.
-fn names_of(alloc: Global, items: &[Item]) -> Result<Seq<Text>, NoMemory>
-    ensures { IfOk result (λ names. names ≡ map (λ i. i.name) items.now) }
-{
-    let mut names = Vec::new(alloc);
-    'items: for item in items {
-        names.push(item.name.try_clone()?)?;
-    }
-    Ok(Seq::from(names))
-}
 
 /// The names of what stands in a folder.
 #[tactic(auto, using(crate::proofs::Listed::lists_names))]
@@ -35,8 +24,8 @@ pub(crate) fn names_in<H: Host>(
     ensures spare { H.spare host.new ≡ H.spare host.old }
 {
     let path = folder.to_path_buf(alloc)?;
-    match host.list(folder) {
-        Ok(items) => Ok(names_of(alloc, items.as_slice())?),
+    match host.names(folder) {
+        Ok(names) => Ok(names),
         Err(PathFault::Missed(miss)) => Err(SearchError::FilesystemIo {
             path,
             io: HostFault::Missed(miss),

@@ -2,3 +2,4 @@
 pub mod Laws
 mod ThreeTexts
 pub mod Writing
+pub mod MadeFolders

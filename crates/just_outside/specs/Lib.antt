@@ -7,3 +7,4 @@ pub mod Signals
 pub mod Changes
 pub mod Looks
 pub mod Folders
+pub mod NewFolders

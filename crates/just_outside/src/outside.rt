@@ -9,6 +9,7 @@ ghost use Rattle.just_outside.specs.Record.{gained, IsOwn, NeverMissed, noted, c
 ghost use Rattle.just_outside.specs.World.{World, view_of, ReadTells, Touched, Leaves};
 ghost use Rattle.just_outside.specs.Changes.{place_written, written, with_cache_entry, IsOfEntry, Changes};
 ghost use Rattle.just_outside.specs.Folders.{TempTells, Removes};
+ghost use Rattle.just_outside.specs.NewFolders.{with_folder, IsOfFolder};
 ghost use Rattle.just_outside.specs.Looks.{dash, TellsAnswer, told_input, told_sum, told_check, LookTells, ChecksTo};
 
 use super::{Call, Entry, HostFault, Look, Spec, Status, Stream};
@@ -85,6 +86,13 @@ pub trait Host: PathHost {
         ensures entries { entries self.new ≡ entries self.old ++ gained (text_of path.entry) (λ _. []) result }
         ensures own { IsOwn Call.Write result }
         ensures world { Changes (λ w. written w (text_of path.entry) bytes.now) (λ w place. place_written w (text_of path.entry) ≡ Ok place) (world self.old) (world self.new) result }
+        ensures spare { spare self.new ≡ spare self.old };
+
+    /// Makes a folder, and those above it, where they lack. Where something else stands, it isn't replaced.
+    fn make_folder(&mut self, path: Utf8Path<'_>) -> Result<(), HostFault>
+        ensures entries { entries self.new ≡ entries self.old ++ gained (text_of path.entry) (λ _. []) result }
+        ensures own { IsOwn Call.MakeFolder result }
+        ensures world { Changes (λ w. with_folder w (text_of path.entry)) (λ w place. IsOfFolder w (text_of path.entry) place) (world self.old) (world self.new) result }
         ensures spare { spare self.new ≡ spare self.old };
 
     /// Makes a fresh folder in another one, else where the host keeps temporary folders. Its name begins with `prefix`.

@@ -181,6 +181,10 @@ named items = map (λ i. (i.name, i.kind)) items
 abbrev pub AreInOrder : List Item → Type 0
 AreInOrder items = T (is_sorted (slice_cmp nat_cmp) (named items))
 
+-- these are the names of items that are in order
+abbrev pub AreNamesInOrder : List (List ℕ) → Type 0
+AreNamesInOrder names = (items : List Item) × AreInOrder items × (names ≡ map (λ (i : Item). i.name) items)
+
 -- whether a text is the name of an item
 abbrev pub is_name : List ℕ → Bool
 is_name name = not (is_empty name) && not (list_any (λ b. b == 47) name)
@@ -213,3 +217,13 @@ abbrev pub TellsItems : Option View → List ℕ → Result (Vec Item Global) Pa
 TellsItems None path r = Unit {0}
 TellsItems (Some v) path (Ok items) = (folder : List ℕ) × (folder_told path v ≡ Ok folder) × AreItemsOf folder v.tree items.items
 TellsItems (Some v) path (Err e) = ToldFault (folder_told path v) e
+
+-- the names are those of the items that stand in a folder
+abbrev pub AreNamesOf : List ℕ → Sights → List (List ℕ) → Type 0
+AreNamesOf folder tree names = (items : List Item) × AreInOrder items × (names ≡ map (λ (i : Item). i.name) items) × AreItemsOf folder tree items
+
+-- the same of the names alone
+abbrev pub TellsNames : Option View → List ℕ → Result (List (List ℕ)) PathFault → Type 0
+TellsNames None path r = Unit {0}
+TellsNames (Some v) path (Ok names) = (folder : List ℕ) × (folder_told path v ≡ Ok folder) × AreNamesOf folder v.tree names
+TellsNames (Some v) path (Err e) = ToldFault (folder_told path v) e

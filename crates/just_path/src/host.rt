@@ -3,9 +3,10 @@ ghost use Rattle.std.specs.Prelude.{◌≡◌, ℕ, [], Option, IfOk};
 ghost use Rattle.just_path.specs.Path.{text_of};
 ghost use Rattle.just_path.specs.declared.host.PathNote.{PathNote};
 ghost use Rattle.just_path.specs.Host.{note_of, Counts};
-ghost use Rattle.just_path.specs.View.{View, IsCleanlyTold, Tells, TellsItems, AreInOrder, meta_told, canonical_told, link_told, current_told};
+ghost use Rattle.just_path.specs.View.{View, IsCleanlyTold, Tells, TellsItems, TellsNames, AreInOrder, AreNamesInOrder, meta_told, canonical_told, link_told, current_told};
 
 use super::{Item, Meta, Utf8Path, Utf8PathBuf};
+use just_text::{Seq, Text};
 
 /// Why a path wasn't found as it was asked for.
 #[derive(Clone, Copy, Debug, PartialEq, Eq, Hash)]
@@ -66,6 +67,12 @@ pub trait PathHost {
         ensures went { went self.old self.new (note_of PathCall.List (text_of path.entry) result) }
         ensures order { IfOk result (λ items. AreInOrder items.items) }
         ensures told { TellsItems (view self.old) (text_of path.entry) result };
+
+    /// The names of what stands in a folder, rising, without a look at what it is. A refusal is noted as one of `list`.
+    fn names(&mut self, path: Utf8Path<'_>) -> Result<Seq<Text>, PathFault>
+        ensures went { went self.old self.new (note_of PathCall.List (text_of path.entry) result) }
+        ensures order { IfOk result AreNamesInOrder }
+        ensures told { TellsNames (view self.old) (text_of path.entry) result };
 
     /// The path at which a path is found, with no link on the way.
     fn canonical(&mut self, path: Utf8Path<'_>) -> Result<Utf8PathBuf, PathFault>

@@ -1,13 +1,10 @@
 -- What a host's answers say of files.
-use Rattle.std.proofs.Common.{◌≡◌, ℕ, Bool, true, false, List, [], ◌∷◌, ◌++◌, map, Option, Some, None, option_map, refl, ap, sym, subst}
+use Rattle.std.proofs.Common.{◌≡◌, ℕ, Bool, true, false, List, [], ◌∷◌, ◌++◌, Option, Some, None, option_map, refl, ap, sym, subst}
 use Rattle.std.specs.Prelude.{Ok, Err}
-use Rattle.std.specs.declared.alloc.Global.{Global}
-use Rattle.std.specs.declared.vec.Vec.{Vec}
 use Rattle.std.proofs.lemmas.List.{append-nil}
-use Rattle.just_path.specs.View.{View, Tells, TellsItems, AreInOrder, is_file, meta_told}
+use Rattle.just_path.specs.View.{View, Tells, TellsNames, is_file, meta_told}
 use Rattle.just_path.specs.declared.host.Miss.{Miss}
 use Rattle.just_path.specs.declared.host.PathFault.TheVariants as path_fault
-use Rattle.just_path.specs.declared.meta.Item.{Item}
 use Rattle.just_path.specs.declared.meta.Meta.{Meta}
 use Rattle.just_outside.specs.World.{World, view_of}
 use Rattle.just_outside.specs.declared.entry.Entry.{Entry}
@@ -31,16 +28,10 @@ sees_missed (Some w) v path m is tells =
     let so : meta_told path true (view_of w) ≡ Err m = subst (λ o. Tells {A = Meta} o (meta_told path true) (Err (path_fault.Missed m))) is tells in
     sym (ap shows_file so)
 
--- the names in a folder
-pub lists_told : (told : Option World) (v : Option View) (path : List ℕ) (items : Vec Item Global) → v ≡ option_map view_of told → TellsItems v path (Ok items) → AreInOrder items.items → ListsNames told path (Ok (map (λ (i : Item). i.name) items.items))
-lists_told None v path items is tells order = tt
-lists_told (Some w) v path items is tells order =
-    let so = subst (λ o. TellsItems o path (Ok items)) is tells in
-    AreNamesIn.folder so.0 items.items so.1 order so.2
-
-pub lists_missed : (told : Option World) (v : Option View) (path : List ℕ) (m : Miss) → v ≡ option_map view_of told → TellsItems v path (Err (path_fault.Missed m)) → ListsNames told path (Ok [])
+-- no folder has no names
+pub lists_missed : (told : Option World) (v : Option View) (path : List ℕ) (m : Miss) → v ≡ option_map view_of told → TellsNames v path (Err (path_fault.Missed m)) → ListsNames told path (Ok [])
 lists_missed None v path m is tells = tt
-lists_missed (Some w) v path m is tells = AreNamesIn.no_folder m (subst (λ o. TellsItems o path (Err (path_fault.Missed m))) is tells)
+lists_missed (Some w) v path m is tells = AreNamesIn.no_folder m (subst (λ o. TellsNames o path (Err (path_fault.Missed m))) is tells)
 
 -- a record that gains one miss, or nothing
 pub gains_miss : (old new : List Entry) (path : List ℕ) (m : Miss) → new ≡ old ++ entry.Missed path m ∷ [] → GainsMisses old new

@@ -1,14 +1,14 @@
 //! The calls of a host on files, with their refusals as errors of a search.
 
-ghost use Rattle.std.specs.Prelude.{◌≡◌, ◌++◌, IfOk, map};
+ghost use Rattle.std.specs.Prelude.{◌≡◌, ◌++◌};
 ghost use Rattle.just_path.specs.Path.{text_of};
 ghost use Rattle.just_env.specs.Answers.{Answers, Gains, told_entries};
 ghost use Rattle.just_search.specs.Shown.{SeesFile, ListsNames, ReadsText};
 
 use super::SearchError;
 use just_outside::{Call, Host, HostFault};
-use just_path::{Item, Kind, PathFault, Utf8Path, Utf8PathBuf};
-use just_text::{NoMemory, Seq, Text};
+use just_path::{Kind, PathFault, Utf8Path, Utf8PathBuf};
+use just_text::{Seq, Text};
 use std::alloc::Global;
 
 /// Whether a file stands where a path leads.
@@ -35,17 +35,6 @@ pub(crate) fn sees_file<H: Host>(
     }
 }
 
-/// The names of some things.
-fn names_of(alloc: Global, items: &[Item]) -> Result<Seq<Text>, NoMemory>
-    ensures { IfOk result (λ names. names ≡ map (λ i. i.name) items.now) }
-{
-    let mut names = Vec::new(alloc);
-    'items: for item in items {
-        names.push(item.name.try_clone()?)?;
-    }
-    Ok(Seq::from(names))
-}
-
 /// The names of what stands in a folder; none where there is no folder.
 #[tactic(auto, using(just_env::proofs::Laws::gains_nothing, just_env::proofs::Laws::gains_before, just_env::proofs::Laws::gains_none, just_env::proofs::Laws::gains_then, crate::proofs::Listed::lists_names, crate::proofs::Sights::lists_missed, crate::proofs::Sights::gains_miss, crate::proofs::Sights::gains_same))]
 pub(crate) fn names_in<H: Host>(
@@ -59,8 +48,8 @@ pub(crate) fn names_in<H: Host>(
     ensures spare { H.spare host.new ≡ H.spare host.old }
 {
     let named = path.to_path_buf(alloc)?;
-    match host.list(path) {
-        Ok(items) => Ok(names_of(alloc, items.as_slice())?),
+    match host.names(path) {
+        Ok(names) => Ok(names),
         Err(PathFault::Missed(_)) => Ok(Seq::new(alloc)),
         Err(PathFault::Failed) => Err(SearchError::FilesystemIo {
             path: named,

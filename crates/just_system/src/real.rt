@@ -18,7 +18,7 @@ use super::script::{ScriptFile, place, remove};
 use super::shell::Shell;
 use just_files::disk::{self, is_absent};
 use just_files::system::{
-    ask, canonical, here, list, look, miss_of, pairs, read, read_text, show, target,
+    ask, canonical, here, list, look, miss_of, names, pairs, read, read_text, show, target,
 };
 use just_files::{copied_bytes, copies_of, path_or_empty};
 use just_outside::{Call, Entry, Host, HostFault, Log, Look, Script, Spec, Status, Stream};
@@ -444,6 +444,11 @@ impl<R: Runtime + Processes<Started = SystemProcess>> PathHost for RealHost<R> {
         answer_path(&mut self.log, self.alloc, PathCall::List, path, told)
     }
 
+    fn names(&mut self, path: Utf8Path<'_>) -> Result<Seq<Text>, PathFault> {
+        let told = names(&self.rt, self.alloc, path.as_str());
+        answer_path(&mut self.log, self.alloc, PathCall::List, path, told)
+    }
+
     fn canonical(&mut self, path: Utf8Path<'_>) -> Result<Utf8PathBuf, PathFault> {
         let told = canonical(&self.rt, self.alloc, path.as_str());
         answer_path(&mut self.log, self.alloc, PathCall::Canonical, path, told)
@@ -529,6 +534,11 @@ impl<R: Runtime + Files<File = File> + Processes<Started = SystemProcess>> Host 
     fn write(&mut self, path: Utf8Path<'_>, bytes: &[u8]) -> Result<(), HostFault> {
         let told = disk::write(&self.rt, path.as_str(), bytes);
         answer(&mut self.log, self.alloc, Call::Write, path, told)
+    }
+
+    fn make_folder(&mut self, path: Utf8Path<'_>) -> Result<(), HostFault> {
+        let told = disk::make_folder(&self.rt, path.as_str());
+        answer(&mut self.log, self.alloc, Call::MakeFolder, path, told)
     }
 
     fn temp_folder(

@@ -4,3 +4,4 @@ pub mod Lookups
 pub mod Behind
 pub mod Below
 pub mod Endings
+pub mod Climbs

@@ -1,7 +1,9 @@
 -- What a tree in memory is, and what its answers show.
-use Rattle.std.specs.Prelude.{ℕ, ◌≡◌, List, [], Result, Ok, Err}
+use Rattle.std.specs.Prelude.{ℕ, ◌≡◌, List, [], ◌∷◌, Result, Ok, Err}
+use Rattle.std.specs.FinMap as map
 use Rattle.just_path.specs.View.{View}
 use Rattle.just_path.specs.declared.host.Miss.{Miss}
+use Rattle.just_outside.specs.declared.tree.Thing.TheVariants as thing
 use Rattle.just_outside.specs.Sights.{Tree, seen}
 use Rattle.just_outside.specs.World.{World}
 use Rattle.just_tree.specs.declared.files.Tree.{Tree as Things}
@@ -37,3 +39,8 @@ abbrev pub ShowsTree : {A : Type 0} → Result Tree Miss → Tree → Result A T
 ShowsTree told new (Ok x) = told ≡ Ok new
 ShowsTree told new (Err (fault.Missed m)) = told ≡ Err m
 ShowsTree told new (Err fault.NoMemory) = Unit {0}
+
+-- a tree with folders at these places
+abbrev pub with_folders_at : Tree → List Place → Tree
+with_folders_at tree [] = tree
+with_folders_at tree (p ∷ ps) = map.insert (with_folders_at tree ps) p.path thing.Folder

@@ -5,6 +5,7 @@
 mod files;
 mod folders;
 mod looks;
+mod new_folders;
 mod place;
 mod plot;
 mod sights;

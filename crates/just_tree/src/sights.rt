@@ -1,7 +1,7 @@
 //! What the paths of a tree show.
 ghost use Rattle.std.specs.Prelude.{◌≡◌, ◌≤◌, true, IfOk, Ok, map, option_copied, length, string_bytes};
 ghost use Rattle.just_path.specs.Path.{text_of, is_absolute};
-ghost use Rattle.just_path.specs.View.{meta_of, meta_at, meta_seen, target_seen, sees_file, sees_folder, asks_folder, goes_through_file, absence, filled_place, named_place, folder_place, asked_place, last_place, target_place, followed_place, place_told, meta_told, canonical_told, folder_told, link_told, AreInOrder, AreItemsOf};
+ghost use Rattle.just_path.specs.View.{meta_of, meta_at, meta_seen, target_seen, sees_file, sees_folder, asks_folder, goes_through_file, absence, filled_place, named_place, folder_place, asked_place, last_place, target_place, followed_place, place_told, meta_told, canonical_told, folder_told, link_told, AreInOrder, AreNamesInOrder, AreItemsOf, AreNamesOf};
 ghost use Rattle.just_outside.specs.declared.outside.TheConstants.{MAX_BYTES};
 ghost use Rattle.just_outside.specs.Sights.{sight_of, seen};
 ghost use Rattle.just_outside.specs.World.{text_in, text_at};
@@ -10,10 +10,10 @@ ghost use Rattle.just_tree.specs.Trees.{files_of, view_from, Shows, ShowsPlace};
 ghost use Rattle.just_files.specs.Items.{AreItemsBehind};
 
 use super::{Place, Tree};
-use just_files::{name_behind, put_item, text_of};
+use just_files::{name_behind, names_of, put_item, text_of};
 use just_outside::{MAX_BYTES, Thing};
 use just_path::{Item, Kind, Meta, Miss, Utf8Path};
-use just_text::{NoMemory, Text};
+use just_text::{NoMemory, Seq, Text};
 use std::alloc::Global;
 
 /// Why a tree has no answer.
@@ -317,6 +317,15 @@ impl Tree {
     {
         let front = folder.as_path().join(alloc, Utf8Path::new(""))?;
         items_of(alloc, self.things.as_slice(), front.as_str())
+    }
+
+    /// The names of what stands directly in a folder, rising.
+    pub fn names(&self, alloc: Global, folder: &Place) -> Result<Seq<Text>, NoMemory>
+        ensures order { IfOk result AreNamesInOrder }
+        ensures names { IfOk result (λ names. AreNamesOf folder.now.path (seen (files_of self.now)) names) }
+    {
+        let items = self.items(alloc, folder)?;
+        names_of(alloc, items)
     }
 }
 

@@ -23,7 +23,7 @@ pub(crate) fn is_not_found(miss: Miss) -> bool
 }
 
 /// The folder that a place is in; the root is in itself.
-fn folder_of(alloc: Global, place: &Place) -> Result<Place, NoMemory>
+pub(crate) fn folder_of(alloc: Global, place: &Place) -> Result<Place, NoMemory>
     ensures { IfOk result (λ p. p.path ≡ folder_of place.now.path) }
 {
     Place::under(alloc, place.as_path(), Utf8Path::new(".."))
@@ -31,14 +31,14 @@ fn folder_of(alloc: Global, place: &Place) -> Result<Place, NoMemory>
 
 impl Tree {
     /// Whether a folder stands at a place; the root is always one.
-    fn holds_folder(&self, place: &str) -> bool
+    pub(crate) fn holds_folder(&self, place: &str) -> bool
         ensures { result ≡ holds_folder (files_of self.now) place.now }
     {
         place == "/" || is_folder(self.meta_at(place.as_bytes()))
     }
 
     /// Whether nothing stands at a place.
-    fn is_free(&self, place: &str) -> bool
+    pub(crate) fn is_free(&self, place: &str) -> bool
         ensures { result ≡ is_none (map.get (files_of self.now) place.now) }
     {
         match self.get(place) {
@@ -151,7 +151,7 @@ impl Tree {
 
     /// Makes room for things to come.
     #[tactic(auto, using(crate::proofs::Lookups::clean_things))]
-    fn reserve(&mut self, n: usize) -> Result<(), NoMemory>
+    pub(crate) fn reserve(&mut self, n: usize) -> Result<(), NoMemory>
         ensures files { files_of self.new ≡ files_of self.old }
         ensures room { OnOk result (vec_len self.new.things + n ≤ vec_capacity self.new.things) }
     {

@@ -1,9 +1,10 @@
-//! The real host: how children end, and how files are read or missed; the signals.
+//! The real host: how children end, how files are read or missed, and how folders are made; the signals.
 
 use super::children::{end_of, shell};
 use just_host::{Host, HostFault, RealHost, Signal, Status};
 use just_path::{Miss, Utf8Path};
 use std::fs;
+use std::os::unix::fs::symlink;
 use std::test::Fail;
 
 #[test]
@@ -46,6 +47,28 @@ fn real_read(rt: HostRuntime) -> Result<(), Fail> {
         let found = miss_of(&mut host, path);
         assert!(rt; found == want.map(HostFault::Missed), "{path:?}");
     }
+    Ok(())
+}
+
+#[test]
+fn real_folders(rt: HostRuntime) -> Result<(), Fail> {
+    let mut host = RealHost::new(&rt, rt.alloc())?;
+    fs::write(&rt, "a_file", "")?;
+    symlink(&rt, "none", "a_link")?;
+    for (path, want) in [
+        ("made/two/three", None),
+        ("made/two", None),
+        ("made/two/four/", None),
+        ("a_file", Some(Miss::NotFolder)),
+        ("a_file/x", Some(Miss::NotFolder)),
+        ("a_link", Some(Miss::NotFound)),
+        ("", Some(Miss::NotFound)),
+    ] {
+        let found = host.make_folder(Utf8Path::new(path)).err();
+        assert!(rt; found == want.map(HostFault::Missed), "{path:?}");
+    }
+    assert!(rt; fs::metadata(&rt, "made/two/three")?.is_dir());
+    assert!(rt; fs::metadata(&rt, "made/two/four")?.is_dir());
     Ok(())
 }
 

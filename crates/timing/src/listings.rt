@@ -20,7 +20,7 @@ pub(crate) fn make(rt: &HostRuntime, folders: u64) -> io::Result<()> {
             break;
         }
         left -= 1;
-        let Ok(listed) = host.list(folder) else {
+        let Ok(listed) = host.names(folder) else {
             return Err(bad_words());
         };
         items = items.wrapping_add(listed.len());

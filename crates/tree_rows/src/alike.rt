@@ -2,6 +2,7 @@
 
 use just_host::{Host, HostFault};
 use just_path::{Item, PathFault, Utf8Path, Utf8PathBuf};
+use just_text::{Seq, Text};
 
 fn same_items(a: Result<Vec<Item>, PathFault>, b: Result<Vec<Item>, PathFault>) -> bool {
     match (a, b) {
@@ -12,6 +13,14 @@ fn same_items(a: Result<Vec<Item>, PathFault>, b: Result<Vec<Item>, PathFault>) 
             }
             same
         }
+        (Err(a), Err(b)) => a == b,
+        _ => false,
+    }
+}
+
+fn same_names(a: Result<Seq<Text>, PathFault>, b: Result<Seq<Text>, PathFault>) -> bool {
+    match (a, b) {
+        (Ok(a), Ok(b)) => a == b,
         (Err(a), Err(b)) => a == b,
         _ => false,
     }
@@ -47,7 +56,9 @@ fn lead_alike<A: Host, B: Host>(one: &mut A, other: &mut B, path: Utf8Path<'_>) 
 
 /// Whether two hosts tell the same of what is in a folder or a file.
 fn read_alike<A: Host, B: Host>(one: &mut A, other: &mut B, path: Utf8Path<'_>) -> bool {
-    same_items(one.list(path), other.list(path)) && same_texts(one.read(path), other.read(path))
+    same_items(one.list(path), other.list(path))
+        && same_names(one.names(path), other.names(path))
+        && same_texts(one.read(path), other.read(path))
 }
 
 /// Whether two hosts answer the same of a path.
