@@ -10,6 +10,7 @@ use std::env::Args;
 use std::fs::File;
 use std::io;
 use std::io::{Eprint, ErrorKind};
+use std::mem::forget;
 use std::process::{Processes, SystemProcess};
 use std::rt::{Files, Runtime};
 use std::sync::Wait;
@@ -84,8 +85,9 @@ where
     match run(rt, alloc, words.as_slice()) {
         Ok(Ended { host, result }) => {
             let status = exit_status(&result);
-            drop(host);
-            drop(result);
+            // The process ends behind it, by which the system takes all memory back at once.
+            forget(host);
+            forget(result);
             status
         }
         Err(_) => NO_MEMORY,

@@ -116,14 +116,26 @@ fn sum_of<R: Read>(reader: &mut R, piece: &mut [u8]) -> io::Result<[u8; 32]> {
     Err(io::Error::from(ErrorKind::Other))
 }
 
-/// Opens a cache entry, which is made where it lacks.
+/// Opens a cache entry, which is made where it lacks. It is opened for reading and writing, by which a pipe isn't waited for.
 fn open_entry<F: Files<File = File>>(files: &F, path: &str) -> io::Result<File> {
-    refuse_others(files, path)?;
-    OpenOptions::new()
-        .read(true)
-        .write(true)
-        .create(true)
-        .open(files, path)
+    match OpenOptions::new().read(true).write(true).open(files, path) {
+        Err(error) if error.kind() == ErrorKind::NotFound => OpenOptions::new()
+            .read(true)
+            .write(true)
+            .create(true)
+            .open(files, path),
+        opened => opened,
+    }
+}
+
+/// The length of an open cache entry. What is no file has none.
+fn open_length(file: &File) -> io::Result<u64> {
+    let meta = file.metadata()?;
+    if meta.is_file() {
+        Ok(meta.len())
+    } else {
+        Err(io::Error::from(ErrorKind::Other))
+    }
 }
 
 /// Makes the folder that a cache entry is in, where it lacks.
@@ -155,7 +167,7 @@ fn open_in_folder<F: Files<File = File>>(files: &F, entry: Utf8Path<'_>) -> io::
 fn entry_length<F: Files<File = File>>(files: &F, entry: Utf8Path<'_>) -> io::Result<u64> {
     let file = open_in_folder(files, entry)?;
     file.lock()?;
-    Ok(file.metadata()?.len())
+    open_length(&file)
 }
 
 /// Looks at a cache entry, which is made with its folder where it lacks, and at the outputs beside it. An output lacks where an error that is a miss tells so;
@@ -206,6 +218,7 @@ pub fn is_absent<F: Files>(files: &F, path: &str) -> io::Result<bool> {
 pub fn save<F: Files<File = File>>(files: &F, path: &str, bytes: &[u8]) -> io::Result<()> {
     let mut file = open_entry(files, path)?;
     file.lock()?;
+    open_length(&file)?;
     file.set_len(0)?;
     file.write_all(bytes)?;
     file.unlock()
