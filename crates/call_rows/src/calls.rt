@@ -9,7 +9,7 @@ use std::test::Fail;
 /// The name of a call, its path, what else it is given, and its answer.
 type Row = (&'static str, &'static str, &'static str, &'static str);
 
-const ROWS: [Row; 32] = [
+const ROWS: [Row; 44] = [
     ("write", "f", "abc", "Ok(())"),
     (
         "sum",
@@ -39,11 +39,28 @@ const ROWS: [Row; 32] = [
     ("read", "c/e.json", "", "Ok(\"{}\")"),
     ("save", "c/e.json", "[]", "Ok(())"),
     ("read", "c/e.json", "", "Ok(\"[]\")"),
+    (
+        "names",
+        "c",
+        "",
+        "Ok(Seq { vec: [Text { string: \"e.json\" }] })",
+    ),
+    ("names", "f", "", "Err(Missed(NotFolder))"),
     ("remove", "c", "", "Err(Missed(NotEmpty))"),
     ("remove", "g", "", "Err(Missed(NotFound))"),
     ("remove", "c/e.json", "", "Ok(())"),
     ("remove", "c", "", "Ok(())"),
     ("check", "c", "", "Ok(Some(0))"),
+    ("make_folder", "d/e", "", "Ok(())"),
+    ("make_folder", "d/e", "", "Ok(())"),
+    ("make_folder", "f", "", "Err(Missed(NotFolder))"),
+    ("make_folder", "f/x", "", "Err(Missed(NotFolder))"),
+    ("make_folder", "", "", "Err(Missed(NotFound))"),
+    ("write", "d/e/x", "abc", "Ok(())"),
+    ("remove", "d/e", "", "Err(Missed(NotEmpty))"),
+    ("remove", "d/e/x", "", "Ok(())"),
+    ("remove", "d/e", "", "Ok(())"),
+    ("remove", "d", "", "Ok(())"),
     ("write", "f", "", "Ok(())"),
     ("read", "f", "", "Ok(\"\")"),
     ("remove", "f", "", "Ok(())"),
@@ -65,6 +82,8 @@ fn answer<H: Host>(
         "sum" => format!(in alloc; "{:?}", host.sum(place)),
         "probe" => format!(in alloc; "{:?}", host.probe(place, &outputs)),
         "check" => format!(in alloc; "{:?}", host.check(&[place.to_path_buf(alloc)?])),
+        "names" => format!(in alloc; "{:?}", host.names(place)),
+        "make_folder" => format!(in alloc; "{:?}", host.make_folder(place)),
         "save" => format!(in alloc; "{:?}", host.save(place, more.as_bytes())),
         _ => format!(in alloc; "{:?}", host.remove(place)),
     };
