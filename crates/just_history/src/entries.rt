@@ -2,11 +2,11 @@
 
 ghost use Rattle.std.specs.Prelude.{◌≡◌, map, zip, IfOk, string_bytes};
 ghost use Rattle.hex.specs.Hex.{encode_lower};
-ghost use Rattle.just_history.specs.Cached.{entry_of, saved_text};
+ghost use Rattle.just_history.specs.Cached.{key_with, entry_of, saved_text};
 
 use super::CachePlan;
 use just_cache::entry_path;
-use just_key::{CacheEntry, key_text_with};
+use just_key::{CacheEntry, key_text_of_class};
 use just_path::Utf8PathBuf;
 use just_text::{NoMemory, Seq, Text, TryClone};
 use std::alloc::Global;
@@ -32,6 +32,14 @@ fn digests(alloc: Global, names: &[Text], sums: &[[u8; 32]]) -> Result<Seq<(Text
     Ok(Seq::from(pairs))
 }
 
+/// The text of a cache's key with these sums of its inputs, from the text of its class.
+fn key_text_at(alloc: Global, plan: &CachePlan, sums: &[[u8; 32]]) -> Result<String, NoMemory>
+    ensures { IfOk result (λ s. string_bytes s ≡ key_with plan.now sums.now) }
+{
+    let pairs = Some(digests(alloc, plan.inputs.as_slice(), sums)?);
+    key_text_of_class(alloc, plan.class.as_str(), plan.inputs_at, &pairs)
+}
+
 #[tactic(auto, unfolding(crate::specs::Cached::entry_of))]
 /// The path of the entry of a cache's key, for these sums of its inputs.
 pub fn entry_path_of(
@@ -41,8 +49,7 @@ pub fn entry_path_of(
 ) -> Result<Utf8PathBuf, NoMemory>
     ensures { IfOk result (λ p. p ≡ entry_of plan.now sums.now) }
 {
-    let pairs = Some(digests(alloc, plan.inputs.as_slice(), sums)?);
-    let text = key_text_with(alloc, &plan.key, &pairs)?;
+    let text = key_text_at(alloc, plan, sums)?;
     entry_path(alloc, plan.folder.as_path(), text.as_str())
 }
 

@@ -5,4 +5,5 @@ pub mod Orders
 pub mod PathTexts
 pub mod Objects
 pub mod Digits
+pub mod Cut
 pub mod Laws

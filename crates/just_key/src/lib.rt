@@ -10,13 +10,15 @@
 //! ```
 #![tactic(auto)]
 
+mod class;
 mod digests;
 mod entry;
 mod key;
 mod member;
 mod text;
 
+pub use class::ClassText;
 pub use digests::digest;
 pub use entry::CacheEntry;
 pub use key::{CacheKey, KeyExecutor};
-pub use text::{Inputs, class_text, key_text, key_text_with};
+pub use text::{Inputs, class_text, class_with_place, key_text, key_text_of_class, key_text_with};

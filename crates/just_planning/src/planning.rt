@@ -18,7 +18,7 @@ use just_commands::{CommandError, RunFlags, Work, prints_code};
 use just_errors::Error;
 use just_eval::{Entry, Request};
 use just_history::{CachePlan, Plan, PlanNode};
-use just_key::class_text;
+use just_key::{ClassText, class_with_place};
 use just_lang::project::LangError;
 use just_lang::{BodyLine, Closure, Key, Node};
 use just_lines::lines_of;
@@ -98,7 +98,7 @@ fn cache_plan(alloc: Global, cache: NodeCache) -> Result<CachePlan, NoMemory>
     requires { length cache.paths ≡ length cache.inputs }
     ensures { IfOk result (λ c. cache_planned c ≡ cache) }
 {
-    let class = class_text(alloc, &cache.key)?;
+    let ClassText { text, inputs_at } = class_with_place(alloc, &cache.key)?;
     let NodeCache {
         key,
         folder,
@@ -111,7 +111,8 @@ fn cache_plan(alloc: Global, cache: NodeCache) -> Result<CachePlan, NoMemory>
     }
     Ok(CachePlan {
         key,
-        class: Text::from(class),
+        class: text,
+        inputs_at,
         folder,
         inputs,
         paths,

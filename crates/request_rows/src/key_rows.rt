@@ -7,14 +7,20 @@
 //! What runs the script is `command:` and a list, or `shebang:` and a list of one or two.
 
 use crate::key::{key_of, path_of};
-use just_key::{CacheEntry, CacheKey, class_text, digest, key_text};
+use just_key::{
+    CacheEntry, CacheKey, class_text, class_with_place, digest, key_text, key_text_of_class,
+};
 use std::alloc::Global;
 use vectors::{Wrong, says};
 
 /// Whether a row says the texts of its key. It promises nothing beyond safety.
 pub(crate) fn agrees(alloc: Global, fields: &[&str]) -> Result<bool, Wrong> {
     let key = key_of(alloc, fields)?;
-    Ok(texts_agree(alloc, fields, &key)? && entry_agrees(alloc, fields)?)
+    Ok(
+        texts_agree(alloc, fields, &key)?
+            && class_agrees(alloc, fields, &key)?
+            && entry_agrees(alloc, fields)?,
+    )
 }
 
 /// Whether the texts of a key are those of its row.
@@ -26,6 +32,16 @@ fn texts_agree(alloc: Global, fields: &[&str], key: &CacheKey) -> Result<bool, W
         says(alloc, fields, 9, Some(text.as_bytes()))?
             && says(alloc, fields, 10, Some(digest.as_bytes()))?
             && says(alloc, fields, 11, Some(class.as_bytes()))?,
+    )
+}
+
+/// Whether the class text with the place of its inputs is that of the row, and gives the text of the key.
+fn class_agrees(alloc: Global, fields: &[&str], key: &CacheKey) -> Result<bool, Wrong> {
+    let class = class_with_place(alloc, key)?;
+    let text = key_text_of_class(alloc, class.text.as_str(), class.inputs_at, &key.inputs)?;
+    Ok(
+        says(alloc, fields, 9, Some(text.as_bytes()))?
+            && says(alloc, fields, 11, Some(class.text.as_str().as_bytes()))?,
     )
 }
 
