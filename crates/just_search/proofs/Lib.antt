@@ -10,3 +10,7 @@ pub mod Skipped
 pub mod Leading
 pub mod Reaching
 pub mod Rooted
+pub mod Behind
+pub mod BehindItems
+pub mod TreeOrFault
+pub mod WithoutWords

@@ -1,6 +1,11 @@
--- A source names what its items name; one whose text is refused names nothing.
+-- A source names what its items name; one whose text is refused names nothing, nor does one in whose text neither word is found.
 use Rattle.just_search.proofs.Naming.{adds_tree, adds_no_tree}
+use Rattle.just_search.proofs.WithoutWords.{adds_none}
 use Rattle.just_search.proofs.named.add_source.Goals as goal
+
+pub returns-then-not-contains-2-clause-added : goal.returns-then-not-contains-2-clause-added
+returns-then-not-contains-2-clause-added g c =
+    adds_none (g.H.Host.world c.args.host.now) c.args.environ.now.pairs c.args.source.now c.as_str-text.result.now c.args.found.now.items c.as_str-text.ensures c.as_str-text.utf8 c.if-not-contains.ensures.cases c.if-not-contains-2.ensures.cases
 
 pub returns-in-Err-clause-added : goal.returns-in-Err-clause-added
 returns-in-Err-clause-added g c =
