@@ -13,12 +13,12 @@ use Rattle.just_locate.specs.Finding.{Finds}
 use Rattle.just_locate.specs.Record.{FindGains}
 use Rattle.just_fallback.specs.Fallback.{FallsBack}
 use Rattle.just_tangled.specs.Files.{parent_of, WritesText, MakesFolders, Materializes}
-use Rattle.just_tangled.specs.Searches.{TakesFile, Searches, SearchesAbove}
+use Rattle.just_tangled.specs.Searches.{BecomesFile, Searches, SearchesAbove}
 
 -- a place that is taken over a world that is still as it was
 taken : (told now after : Option World) (config : Config) (place : Location) (kept keeps : List (List ℕ)) (old new : List Entry) (r : Result Search SearchError) → now ≡ told
-    → TakesFile now after config place kept keeps old new r → TakesFile told after config place kept keeps old new r
-taken told now after config place kept keeps old new r same takes = subst (λ w. TakesFile w after config place kept keeps old new r) same takes
+    → BecomesFile now after config place kept keeps old new r → BecomesFile told after config place kept keeps old new r
+taken told now after config place kept keeps old new r same takes = subst (λ w. BecomesFile w after config place kept keeps old new r) same takes
 
 -- ---- of a configuration
 

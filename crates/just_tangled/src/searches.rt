@@ -39,16 +39,16 @@ pub fn search<H: Host>(
 #[tactic(auto, using(crate::proofs::Steps::is_above, crate::proofs::Steps::is_nowhere, crate::proofs::Steps::is_refused, crate::proofs::Steps::is_higher))]
 pub fn search_parent_directory<H: Host>(
     alloc: Global,
-    search: &Search,
+    found: &Search,
     config: &Config,
     made: &mut Vec<Utf8PathBuf>,
     host: &mut H,
 ) -> Result<Search, SearchError>
-    ensures searched { SearchesAbove (H.world host.old) (H.world host.new) config.now search.now.working_directory made.old.items made.new.items (H.entries host.old) (H.entries host.new) result }
-    ensures higher { IfOk result (λ s. length s.working_directory < length search.now.working_directory) }
+    ensures searched { SearchesAbove (H.world host.old) (H.world host.new) config.now found.now.working_directory made.old.items made.new.items (H.entries host.old) (H.entries host.new) result }
+    ensures higher { IfOk result (λ s. length s.working_directory < length found.now.working_directory) }
     ensures spare { H.spare host.new ≡ H.spare host.old }
 {
-    let folder = search.working_directory.as_path();
+    let folder = found.working_directory.as_path();
     match find_fallback(alloc, folder, config, host) {
         Ok(Some(location)) => materialize(alloc, location, config, made, host),
         Ok(None) => Err(SearchError::NotFound),
