@@ -1,7 +1,8 @@
 //! Each public call that can answer want of memory and that no row of another crate makes, called once with ample
 //! memory. The calls of paths, texts, readers and expansions are made by `text_vectors` and `call_rows`; a run makes those of a host, of the record, of the loader (`load_over`), of a project,
-//! its dotenv pairs, its values, keys and closure, of a plan and of its drive, so `run_rows` shows that they answer. Those of a search,
-//! of what is tried behind it, of a justfile that is to be written and of the program of a name are made by `request_rows`.
+//! its dotenv pairs, its values, keys and closure, of a plan and of its drive, so `run_rows` shows that they answer. Those of a search
+//! (`find`, `search`), of what is tried behind it (`find_fallback`, `search_parent_directory`), of a justfile in markdown (`materialize`), of one that
+//! is to be written and of the program of a name are made by `request_rows`.
 
 use crate::changes::changes_agree;
 use crate::hosts::memory;

@@ -4,3 +4,4 @@ pub mod Removing
 pub mod Items
 pub mod Placing
 pub mod Making
+pub mod Steps

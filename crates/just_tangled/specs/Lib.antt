@@ -4,3 +4,4 @@ pub mod Texts
 pub mod Files
 pub mod Removals
 pub mod Places
+pub mod Searches

@@ -1,10 +1,11 @@
 //! Rows of where a justfile is, and of the program of a name.
 //!
-//! A row is what is asked (`find`, `above`, `next`, `init` or `which`), what stands in the files of a host in memory, its environment, the words of the command
-//! line, a folder or a name, and the answer. The program is called in the folder `/p/q`. Lists have `|` between; `-` stands where there is none.
+//! A row is what is asked (`find`, `search`, `above`, `next`, `parent`, `init` or `which`), what stands in the files of a host in memory, its environment, the
+//! words of the command line, a folder or a name, and the answer. `parent` asks for the justfile above the one that is searched.
+//! The program is called in the folder `/p/q`. Lists have `|` between; `-` stands where there is none.
 //! A path that ends with `/` is a folder, one that ends with `*` an executable file, and `PATH->TARGET` is a link.
 
-use super::location_shown::{found_shown, next_shown, program_shown, written_shown};
+use super::location_shown::{found_shown, next_shown, program_shown, taken_shown, written_shown};
 use super::world::memory;
 use just_config::{Config, Read, read_words};
 use just_fallback::find_fallback;
@@ -12,6 +13,7 @@ use just_host::MemHost;
 use just_init::Search;
 use just_locate::{find, find_above};
 use just_path::{Utf8Path, Utf8PathBuf};
+use just_tangled::{search, search_parent_directory};
 use just_text::Environ;
 use just_which::which;
 use std::alloc::Global;
@@ -43,6 +45,23 @@ fn answer(
     searched(alloc, asked, told, &config, host)
 }
 
+/// The justfile of a configuration, as a file that can be loaded.
+fn search_shown(alloc: Global, config: &Config, host: &mut MemHost) -> Result<String, Wrong> {
+    let mut made = Vec::new(alloc);
+    let found = search(alloc, config, &mut made, host);
+    taken_shown(alloc, found, made.as_slice())
+}
+
+/// The one above it.
+fn parent_shown(alloc: Global, config: &Config, host: &mut MemHost) -> Result<String, Wrong> {
+    let mut made = Vec::new(alloc);
+    let Ok(found) = search(alloc, config, &mut made, host) else {
+        return Err(Wrong::Form);
+    };
+    let above = search_parent_directory(alloc, &found, config, &mut made, host);
+    taken_shown(alloc, above, made.as_slice())
+}
+
 /// What a search of that name answers over a host.
 fn searched(
     alloc: Global,
@@ -54,8 +73,10 @@ fn searched(
     let folder = Utf8Path::new(told);
     match asked {
         "find" => found_shown(alloc, find(alloc, config, host)),
+        "search" => search_shown(alloc, config, host),
         "above" => found_shown(alloc, find_above(alloc, folder, config, host)),
         "next" => next_shown(alloc, find_fallback(alloc, folder, config, host)),
+        "parent" => parent_shown(alloc, config, host),
         "init" => written_shown(alloc, Search::init(alloc, config, host)),
         _ => Err(Wrong::Form),
     }

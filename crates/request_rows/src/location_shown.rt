@@ -39,6 +39,7 @@ fn add_error(text: &mut String, error: &SearchError) -> Result<(), AllocError> {
             add_names(text, candidates)
         }
         SearchError::NotFound => text.push_str("NotFound"),
+        SearchError::TempdirIo { .. } => text.push_str("TempdirIo"),
         _ => text.push_str("another error"),
     }
 }
@@ -75,6 +76,35 @@ pub(crate) fn found_shown(
         }
         Err(error) => error_shown(alloc, error),
     }
+}
+
+/// Adds the file of a justfile, with the temporary folder that it stands in.
+fn add_file(text: &mut String, search: &Search) -> Result<(), AllocError> {
+    add_path(text, "file ", &search.justfile)?;
+    if let Some(folder) = &search.tempdir {
+        add_path(text, " of ", folder)?;
+    }
+    add_path(text, " in ", &search.working_directory)
+}
+
+/// The file of a justfile, with the temporary folders that are made, as a text. It promises nothing beyond safety.
+pub(crate) fn taken_shown(
+    alloc: Global,
+    taken: Result<Search, SearchError>,
+    made: &[Utf8PathBuf],
+) -> Result<String, Wrong> {
+    let mut text = match taken {
+        Ok(search) => {
+            let mut text = String::new(alloc);
+            add_file(&mut text, &search)?;
+            text
+        }
+        Err(error) => error_shown(alloc, error)?,
+    };
+    for folder in made {
+        add_path(&mut text, " made ", folder)?;
+    }
+    Ok(text)
 }
 
 /// Which justfile is tried next, as a text. It promises nothing beyond safety.
