@@ -1,6 +1,7 @@
 -- The class of the plan takes the inputs at their place.
-use Rattle.std.proofs.Common.{Some, ap, ◌∙◌}
+use Rattle.std.proofs.Common.{Some, map, zip, ap, ◌∙◌}
 use Rattle.std.proofs.lemmas.Result.{IfOk-weaker}
+use Rattle.hex.specs.Hex.{encode_lower}
 use Rattle.just_key.specs.Keys.{key_text}
 use Rattle.just_key.proofs.Laws.{none_there, with_files}
 use Rattle.just_history.proofs.entries.key_text_at.Goals as goal
@@ -11,6 +12,5 @@ key_text_of_class-requires c = none_there c.args.plan.now.key c.args.plan.now.in
 pub returns : goal.returns
 returns c =
     let p = c.args.plan.now in
-    IfOk-weaker c.key_text_of_class.result _ _ (λ s same.
-    same ∙ with_files p.key p.inputs_at c.as_str.result.now (c.as_str.ensures ∙ p.classed) p.placed (Some c.in_ok-digests.field-0)
-    ∙ ap (λ v. key_text (record p.key { inputs = Some v })) c.in_ok-digests.ensures) c.key_text_of_class.ensures
+    let named = ap (λ v. key_text (record p.key { inputs = Some v })) (c.in_ok-digests.ensures ∙ ap (λ names. zip names (map encode_lower c.args.sums.now)) c.as_slice.ensures) in
+    IfOk-weaker c.key_text_of_class.result _ _ (λ s same. same ∙ with_files p.key p.inputs_at c.as_str.result.now (c.as_str.ensures ∙ p.classed) p.placed (Some c.in_ok-digests.field-0) ∙ named) c.key_text_of_class.ensures
