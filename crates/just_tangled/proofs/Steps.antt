@@ -55,7 +55,7 @@ written_in told after parent text working folders s (WritesText.a_file between f
 
 run_in : (told after : Option World) (parent : Option (List ℕ)) (place : Location) (folders : List (List ℕ)) (s : Search) → Materializes told after parent place folders (Ok s) → s.working_directory ≡ place.working_directory
 run_in told after parent place folders s (Materializes.file path from world) = refl
-run_in told after parent place folders s (Materializes.read text folders r gives writes) = written_in told after parent text place.working_directory folders s writes
+run_in told after parent place folders s (Materializes.read text made r gives writes) = written_in told after parent text place.working_directory made s writes
 
 pub is_higher : (told after : Option World) (config : Config) (folder : List ℕ) (kept keeps : List (List ℕ)) (old new : List Entry) (place : Location) (r : Result Search SearchError)
     → MakesFolders (Materializes told after (parent_of config) place) (parent_of config) kept keeps old new r → length place.working_directory < length folder
