@@ -57,8 +57,7 @@ pub record IsTurned (n place : ℕ) (e : Event) (old new : Row) : Type 0 where
   pub saved : new.saved ≡ (old.saved || saves n e)
 
 -- The tables of a book say of each node what the history says: its row, and how far the run has come; of what is to be
--- flagged nothing is left. Each wanted node that took no job and isn't done stands in the set of those that may be due, or is held up.
--- Each node before the first that is left took a job or is done.
+-- flagged nothing is left. Each node before the first that is left took a job or is done.
 pub record IsNoted (nodes : List PlanNode) (invocations : List ℕ) (h : List Event) (t : Tables) : Type 0 where
   pub rows : IsTable h t.rows.items
   pub placed : IsPlaced nodes invocations t.progress
@@ -67,7 +66,9 @@ pub record IsNoted (nodes : List PlanNode) (invocations : List ℕ) (h : List Ev
   pub told : IsTold nodes invocations h t.progress
   -- who is confirmed is flagged so
   pub heard : (k : ℕ) → k < length t.progress.confirmed.items → is_confirmed nodes h k ≡ true → flag t.progress.confirmed.items k ≡ true
+  -- each wanted node that took no job and isn't done stands in the set of those that may be ready or to be asked, or is held up
   pub covered : AreCoveredBy nodes (λ m. has_taken h m || is_done h m) t.due.flags.items t.progress
+  -- who has a prompt stands in the set of those
   pub prompted : (m : ℕ) → m < length nodes → is_some (prompt_at nodes m) ≡ true → flag t.prompted.flags.items m ≡ true
   pub left : (m : ℕ) → m < t.left → (has_taken h m || is_done h m) ≡ true
   pub classes : AreClasses nodes t.classes.items
