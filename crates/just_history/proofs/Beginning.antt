@@ -5,6 +5,7 @@ use Rattle.just_history.specs.declared.plan_node.PlanNode.{PlanNode}
 use Rattle.just_history.specs.declared.progress.Progress.{Progress}
 use Rattle.just_history.specs.State.{is_over_well, is_confirmed, IsFinished, invoked}
 use Rattle.just_history.specs.Tables.{flag, FlagsAre}
+use Rattle.just_history.specs.Covered.{AreCoveredBy}
 use Rattle.just_history.specs.Led.{IsRaised, MayFollow, IsLed}
 use Rattle.just_history.specs.Progress.{IsClosedBut, IsTold}
 use Rattle.just_history.proofs.Entering.{no_next}
@@ -41,3 +42,8 @@ module _ (nodes : List PlanNode) (invocations : List ℕ) (p q : Progress) (over
         invoked k (leads_weaker (λ i. flag p.finished.items i ≡ true) (IsFinished nodes []) false invocations k (λ j lt f. absurd (none_up p.finished.items finished (slice_index invocations j) f)) next))
         (only k up);
   }
+
+-- each wanted node is listed, once the invocations are gone along
+pub covered_begun : (nodes : List PlanNode) (gone : ℕ → Bool) (due : List Bool) (p q : Progress) → FlagsAre p.wanted.items (λ _. false) → IsRaised p.wanted.items q.wanted.items p.pending.items q.pending.items → AreCoveredBy nodes gone due q
+covered_begun nodes gone due p q wanted raised m up left =
+    ⊎_elim (λ (was : flag p.wanted.items m ≡ true). absurd (none_up p.wanted.items wanted m was)) (λ (listed : Contains q.pending.items m). inl listed) (raised.noted m up)

@@ -14,6 +14,7 @@ pub mod Clearing
 pub mod Closing
 pub mod Confirming
 pub mod Counts
+pub mod CoveredLaws
 pub mod Deciding
 pub mod Dependents
 pub mod Digests
@@ -28,6 +29,7 @@ pub mod Histories
 pub mod Laws
 pub mod Led
 pub mod LookRows
+pub mod NotDue
 pub mod OneMore
 pub mod Order
 pub mod Others

@@ -1,5 +1,6 @@
 -- The next move of a book, node by node.
 use Rattle.std.proofs.Common.{◌≡◌, ℕ, ◌+◌, ◌<◌, ◌||◌, inl, inr, Bool, true, false, true≢false, List, length, ◌≤◌, refl, sym, arith}
+use Rattle.std.proofs.Math.Decide.{dec_lt}
 use Rattle.just_history.specs.declared.event.Event.{Event}
 use Rattle.just_history.specs.declared.plan_node.PlanNode.{PlanNode}
 use Rattle.just_history.specs.State.{has_taken, is_done, is_confirmed, IsReady, IsDueNext}
@@ -34,6 +35,20 @@ module _ (nodes : List PlanNode) (invocations : List ℕ) (h : List Event) where
     each = below_next (OnlyWaits nodes invocations h) at before.each (record { not_to_ask = λ a. idle (inr a); waits = λ ready. absurd (idle (inl ready)) });
     one = λ e. let r = before.one e in (r.0, omega (arith, r.1), r.2);
     none = λ e. below_next (λ m. IsReady nodes invocations h m → ⊥) at (before.none e) (λ ready. idle (inl ready));
+  }
+
+  -- nodes more, none of which is ready or to be asked
+  pub waits_past : (at next : ℕ) (some : Bool) → at ≤ next → OnlyWaitBefore nodes invocations h at some → ((m : ℕ) → at ≤ m → m < next → IsDueNext nodes invocations h m → ⊥) → OnlyWaitBefore nodes invocations h next some
+  waits_past at next some le before idle = record {
+    each = λ m lt. elim (dec_lt m at) [
+      | yes less ↦ before.each m less
+      | no not_less ↦ record { not_to_ask = λ a. idle m (omega arith) lt (inr a); waits = λ ready. absurd (idle m (omega arith) lt (inl ready)) }
+    ];
+    one = λ e. let r = before.one e in (r.0, omega (arith, r.1, le), r.2);
+    none = λ e m lt ready. elim (dec_lt m at) [
+      | yes less ↦ before.none e m less ready
+      | no not_less ↦ idle m (omega arith) lt (inl ready)
+    ];
   }
 
   -- no node is ready or to be asked, where none waits

@@ -3,6 +3,7 @@ pub mod CacheRule
 pub mod Cached
 pub mod Causes
 pub mod Classes
+pub mod Covered
 pub mod Favourable
 pub mod Idle
 pub mod Led

@@ -9,7 +9,9 @@ use Rattle.just_history.specs.declared.row.Row.{Row}
 use Rattle.just_history.specs.declared.tables.Tables.{Tables}
 use Rattle.just_history.specs.Cached.{saves, look_of, is_saved, seen_at, is_full}
 use Rattle.just_history.specs.Classes.{AreClasses, AreOpen}
+use Rattle.just_history.specs.Nodes.{prompt_at}
 use Rattle.just_history.specs.Progress.{IsPlaced, IsClosedBut, IsTold}
+use Rattle.just_history.specs.Covered.{AreCoveredBy}
 use Rattle.just_history.specs.State.{takes, gives, begins, skips, starts, start_count, concludes, concludes_well, status_of, start_of, reason_in, has_taken, has_given, is_begun, is_skipped, is_done, is_over_well, is_confirmed, statuses, last_start, reason_of}
 use Rattle.just_history.specs.Tables.{flag, or_first}
 
@@ -64,6 +66,10 @@ pub record IsNoted (nodes : List PlanNode) (invocations : List ℕ) (h : List Ev
   pub told : IsTold nodes invocations h t.progress
   -- who is confirmed is flagged so
   pub heard : (k : ℕ) → k < length t.progress.confirmed.items → is_confirmed nodes h k ≡ true → flag t.progress.confirmed.items k ≡ true
+  -- each wanted node that took no job and isn't done stands in the set of those that may be ready or to be asked, or is held up
+  pub covered : AreCoveredBy nodes (λ m. has_taken h m || is_done h m) t.due.flags.items t.progress
+  -- who has a prompt stands in the set of those
+  pub prompted : (m : ℕ) → m < length nodes → is_some (prompt_at nodes m) ≡ true → flag t.prompted.flags.items m ≡ true
   pub left : (m : ℕ) → m < t.left → (has_taken h m || is_done h m) ≡ true
   pub classes : AreClasses nodes t.classes.items
   pub opened : AreOpen nodes h t.classes.items t.opened.items

@@ -1,18 +1,20 @@
 //! Which node a book takes next, by the flags of the nodes.
 
-ghost use Rattle.std.specs.Prelude.{◌≡◌, ◌<◌, ◌||◌, ℕ, true, false, length, IfSome, IfNone};
+ghost use Rattle.std.specs.Prelude.{◌≡◌, ◌<◌, ◌||◌, ℕ, true, false, length, IfSome, IfNone, is_some};
 ghost use Rattle.just_history.specs.Classes.{AreClasses, AreOpen};
+ghost use Rattle.just_history.specs.Nodes.{prompt_at};
 ghost use Rattle.just_history.specs.Rows.{IsTable};
 ghost use Rattle.just_history.specs.Running.{EachNoIsDone};
-ghost use Rattle.just_history.specs.Tables.{FlagsAre, FlagsMean};
+ghost use Rattle.just_history.specs.Tables.{flag, FlagsAre, FlagsMean};
 ghost use Rattle.just_history.specs.Turns.{Stands, IsTurn};
-ghost use Rattle.just_history.specs.State.{has_taken, is_done, is_confirmed, IsFinished, IsWanted, IsToAsk, IsReady};
+ghost use Rattle.just_history.specs.State.{has_taken, is_done, is_confirmed, IsFinished, IsWanted, IsToAsk, IsReady, IsDueNext};
 
 use super::classes::is_class_open;
 use super::flags::all_flagged;
 use super::row::Row;
 use super::turn::{Stand, Turn};
 use super::{Event, Plan};
+use just_numbers::NumberSet;
 
 /// Whether the node took a job or is done.
 fn is_taken(history: &[Event], rows: &[Row], at: usize) -> bool
@@ -145,11 +147,13 @@ fn stand_of(
 }
 
 /// The next move, by the table, the flags of the wanted, the confirmed and the finished nodes, and those of the classes with an open
-/// body. Its node is looked for from a node on before which each took a job or is done.
+/// body. Its node is looked for in the set of those that may be due, from a node on before which each took a job or is done; who isn't due
+/// is taken out.
 pub(crate) fn turn_by(
     plan: &Plan,
     history: &[Event],
     left: usize,
+    due: &mut NumberSet,
     wanted: &[bool],
     confirmed: &[bool],
     rows: &[Row],
@@ -158,6 +162,8 @@ pub(crate) fn turn_by(
     opened: &[bool],
 ) -> Turn
     requires left { (m : ℕ) → m < left → (has_taken history.now m || is_done history.now m) ≡ true }
+    requires due_sized { due.old.size ≡ length plan.now.nodes }
+    requires due { (m : ℕ) → flag due.old.flags.items m ≡ false → IsDueNext plan.now.nodes plan.now.invocations history.now m → ⊥ }
     requires wanted_sized { length wanted.now ≡ length plan.now.nodes }
     requires confirmed_sized { length confirmed.now ≡ length plan.now.nodes }
     requires rows_sized { length rows.now ≡ length plan.now.nodes }
@@ -172,32 +178,39 @@ pub(crate) fn turn_by(
     requires took { (n : ℕ) → has_taken history.now n ≡ true → is_confirmed plan.now.nodes history.now n ≡ true }
     requires classes { ∥ AreClasses plan.now.nodes classes.now ∥₁ }
     requires opened { ∥ AreOpen plan.now.nodes history.now classes.now opened.now ∥₁ }
-    ensures { IsTurn plan.now.nodes plan.now.invocations history.now result }
+    ensures due_sized { due.new.size ≡ due.old.size }
+    ensures due { (m : ℕ) → flag due.new.flags.items m ≡ false → IsDueNext plan.now.nodes plan.now.invocations history.now m → ⊥ }
+    ensures turn { IsTurn plan.now.nodes plan.now.invocations history.now result }
 {
     let mut waits = false;
-    for at in left..plan.nodes.len() {
+    let mut at = left;
+    while let Some(next) = due.first_from(at) {
         match stand_of(
-            plan, history, at, wanted, confirmed, rows, finished, classes, opened,
+            plan, history, next, wanted, confirmed, rows, finished, classes, opened,
         ) {
-            Stand::ToAsk => return Turn::Ask(at as u32),
-            Stand::Free => return Turn::Take(at as u32),
+            Stand::ToAsk => return Turn::Ask(next as u32),
+            Stand::Free => return Turn::Take(next as u32),
             Stand::Waits => waits = true,
-            Stand::Idle => {}
+            Stand::Idle => due.remove(next),
         }
+        at = next + 1;
     }
     if waits { Turn::Wait } else { Turn::Nothing }
 }
 
-/// The node of least number that is to be asked, from a node on before which each took a job or is done.
+/// The node of least number that is to be asked, among those that have a prompt, from a node on before which each took a job or is done.
 pub(crate) fn first_asked_by(
     plan: &Plan,
     history: &[Event],
     left: usize,
+    prompted: &NumberSet,
     wanted: &[bool],
     confirmed: &[bool],
     rows: &[Row],
 ) -> Option<u32>
     requires left { (m : ℕ) → m < left → (has_taken history.now m || is_done history.now m) ≡ true }
+    requires prompted_sized { prompted.now.size ≡ length plan.now.nodes }
+    requires prompted { (m : ℕ) → m < length plan.now.nodes → is_some (prompt_at plan.now.nodes m) ≡ true → flag prompted.now.flags.items m ≡ true }
     requires wanted_sized { length wanted.now ≡ length plan.now.nodes }
     requires confirmed_sized { length confirmed.now ≡ length plan.now.nodes }
     requires rows_sized { length rows.now ≡ length plan.now.nodes }
@@ -210,10 +223,12 @@ pub(crate) fn first_asked_by(
     ensures least { IfSome result (λ n. (m : ℕ) → m < n → IsToAsk plan.now.nodes plan.now.invocations history.now m → ⊥) }
     ensures none { IfNone result ((n : ℕ) → n < length plan.now.nodes → IsToAsk plan.now.nodes plan.now.invocations history.now n → ⊥) }
 {
-    for at in left..plan.nodes.len() {
-        if is_to_ask(plan, history, at, wanted, confirmed, rows) {
-            return Some(at as u32);
+    let mut at = left;
+    while let Some(next) = prompted.first_from(at) {
+        if is_to_ask(plan, history, next, wanted, confirmed, rows) {
+            return Some(next as u32);
         }
+        at = next + 1;
     }
     None
 }

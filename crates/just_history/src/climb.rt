@@ -1,17 +1,19 @@
 //! How progress goes on from a node that is over well to those of whose subsequents it is the last. Nothing here takes memory.
 
-ghost use Rattle.std.specs.Prelude.{◌≡◌, ◌+◌, ◌<◌, ◌≤◌, ◌⊎◌, ℕ, [], true, false, Some, None, IfSome, IfNone, List, length, slice_index, slice_set, Contains, vec_len, vec_capacity};
+ghost use Rattle.std.specs.Prelude.{◌≡◌, ◌+◌, ◌<◌, ◌≤◌, ◌⊎◌, ℕ, Bool, [], true, false, Some, None, IfSome, IfNone, List, length, slice_index, slice_set, Contains, vec_len, vec_capacity};
 ghost use Rattle.just_history.specs.declared.event.Event.{Event};
 ghost use Rattle.just_history.specs.Nodes.{parallel_at, priors_at, subsequents_at};
 ghost use Rattle.just_history.specs.Tables.{flag, FlagsAre};
 ghost use Rattle.just_history.specs.State.{is_over_well};
 ghost use Rattle.just_history.specs.Led.{IsRaised, IsLed, ArePriorsLed, AllFinished, AllWanted, KeepsWanted};
+ghost use Rattle.just_history.specs.Covered.{AreCoveredBy};
 ghost use Rattle.just_history.specs.Progress.{IsPlaced, IsClosedBut, IsTold};
 
 use super::Plan;
 use super::descent::spread;
 use super::progress::Progress;
 use super::spread::lead;
+use just_numbers::NumberSet;
 
 /// Whether a flag is up.
 fn is_up(flags: &[bool], at: usize) -> bool
@@ -72,11 +74,12 @@ impl Progress {
 
     /// Flags a node as finished, of which all subsequents are, and goes on along each list that it stands in as a prior or
     /// an invocation.
-    fn finish(&mut self, plan: &Plan, at: usize)
+    fn finish(&mut self, plan: &Plan, at: usize, due: &mut NumberSet)
         requires within { at < length plan.now.nodes }
         requires size { self.old.size ≡ length plan.now.nodes }
         requires placed { IsPlaced plan.now.nodes plan.now.invocations self.old }
         requires priors { ArePriorsLed (parallel_at plan.now.nodes) (priors_at plan.now.nodes) self.old.finished.items self.old.confirmed.items self.old.wanted.items self.old.pending.items }
+        requires due { due.old.size ≡ length plan.now.nodes }
         ensures size { self.new.size ≡ self.old.size }
         ensures over { self.new.over ≡ self.old.over }
         ensures confirmed { self.new.confirmed ≡ self.old.confirmed }
@@ -86,6 +89,8 @@ impl Progress {
         ensures priors { ArePriorsLed (parallel_at plan.now.nodes) (priors_at plan.now.nodes) self.new.finished.items self.new.confirmed.items self.new.wanted.items self.new.pending.items }
         ensures raised { IsRaised self.old.wanted.items self.new.wanted.items self.old.pending.items self.new.pending.items }
         ensures wanted { KeepsWanted plan.now.nodes plan.now.invocations self.new.finished.items self.old.confirmed.items self.old.wanted.items self.new.wanted.items }
+        ensures due { due.new.size ≡ due.old.size }
+        ensures covered { (gone : ℕ → Bool) → AreCoveredBy plan.now.nodes gone due.old.flags.items self.old → AreCoveredBy plan.now.nodes gone due.new.flags.items self.new }
     {
         let finished = self.finished.as_mut_slice();
         finished[at] = true;
@@ -108,22 +113,26 @@ impl Progress {
             wanted,
             places,
             &mut self.pending,
+            due,
         );
     }
 
     /// Whether a node that is over well is finished by what was found of its subsequents; the node to go on with, one of
     /// whose subsequents it is.
-    fn rise(&mut self, plan: &Plan, at: usize) -> Option<usize>
+    fn rise(&mut self, plan: &Plan, at: usize, due: &mut NumberSet) -> Option<usize>
         requires within { at < length plan.now.nodes }
         requires size { self.old.size ≡ length plan.now.nodes }
         requires placed { IsPlaced plan.now.nodes plan.now.invocations self.old }
         requires closed { IsClosedBut plan.now.nodes plan.now.invocations self.old (Some at) }
+        requires due { due.old.size ≡ length plan.now.nodes }
         ensures size { self.new.size ≡ self.old.size }
         ensures less { IfSome result (λ p. p < at) }
         ensures confirmed { self.new.confirmed ≡ self.old.confirmed }
         ensures placed { IsPlaced plan.now.nodes plan.now.invocations self.new }
         ensures closed { IsClosedBut plan.now.nodes plan.now.invocations self.new result }
         ensures told { (h : List Event) → IsTold plan.now.nodes plan.now.invocations h self.old → IsTold plan.now.nodes plan.now.invocations h self.new }
+        ensures due { due.new.size ≡ due.old.size }
+        ensures covered { (gone : ℕ → Bool) → AreCoveredBy plan.now.nodes gone due.old.flags.items self.old → AreCoveredBy plan.now.nodes gone due.new.flags.items self.new }
     {
         if !self.go_through(plan, at) {
             return None;
@@ -132,26 +141,29 @@ impl Progress {
         if is_up(finished, at) {
             return None;
         }
-        self.finish(plan, at);
+        self.finish(plan, at, due);
         let over = self.over.as_slice();
         parent_over(plan, at, over)
     }
 
     /// The same for that node, and so on.
-    pub(crate) fn climb(&mut self, plan: &Plan, from: usize)
+    pub(crate) fn climb(&mut self, plan: &Plan, from: usize, due: &mut NumberSet)
         requires within { from < length plan.now.nodes }
         requires size { self.old.size ≡ length plan.now.nodes }
         requires placed { IsPlaced plan.now.nodes plan.now.invocations self.old }
         requires closed { IsClosedBut plan.now.nodes plan.now.invocations self.old (Some from) }
+        requires due { due.old.size ≡ length plan.now.nodes }
         ensures size { self.new.size ≡ self.old.size }
         ensures confirmed { self.new.confirmed ≡ self.old.confirmed }
         ensures placed { IsPlaced plan.now.nodes plan.now.invocations self.new }
         ensures closed { IsClosedBut plan.now.nodes plan.now.invocations self.new None }
         ensures told { (h : List Event) → IsTold plan.now.nodes plan.now.invocations h self.old → IsTold plan.now.nodes plan.now.invocations h self.new }
+        ensures due { due.new.size ≡ due.old.size }
+        ensures covered { (gone : ℕ → Bool) → AreCoveredBy plan.now.nodes gone due.old.flags.items self.old → AreCoveredBy plan.now.nodes gone due.new.flags.items self.new }
     {
         let mut next = Some(from);
         while let Some(at) = next {
-            next = self.rise(plan, at);
+            next = self.rise(plan, at, due);
         }
     }
 }

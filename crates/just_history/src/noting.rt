@@ -15,12 +15,14 @@ ghost use Rattle.just_history.specs.Verdict.{IsVerdict};
 use super::choice::{first_asked_by, first_left, is_ready, is_to_ask, turn_by};
 use super::classes::{class_numbers, mark_class};
 use super::flags::{confirmed_by, over_by};
+use super::making::prompted_nodes;
 use super::progress::Progress;
 use super::row::{BLANK, Row, mark};
 use super::tables::Tables;
 use super::turn::Turn;
 use super::verdict::verdict_by;
 use super::{Event, NodeState, Outcome, Plan, Reason, Verdict};
+use just_numbers::NumberSet;
 use just_outside::Signal;
 use just_text::NoMemory;
 use std::alloc::Global;
@@ -50,12 +52,16 @@ impl Tables {
     {
         let count = plan.nodes.len();
         let rows = vec![in alloc; BLANK; count]?;
-        let progress = Progress::new(alloc, plan)?;
+        let mut due = NumberSet::new(alloc, count)?;
+        let progress = Progress::new(alloc, plan, &mut due)?;
+        let prompted = prompted_nodes(alloc, plan)?;
         let classes = class_numbers(alloc, plan)?;
         let opened = vec![in alloc; false; count]?;
         Ok(Tables {
             rows,
             progress,
+            due,
+            prompted,
             classes,
             opened,
             left: 0,
@@ -89,6 +95,7 @@ impl Tables {
             plan,
             history,
             left,
+            &mut self.due,
             progress.wanted.as_slice(),
             progress.confirmed.as_slice(),
             self.rows.as_slice(),
@@ -113,6 +120,7 @@ impl Tables {
             plan,
             history,
             self.left,
+            &self.prompted,
             progress.wanted.as_slice(),
             progress.confirmed.as_slice(),
             self.rows.as_slice(),
@@ -200,8 +208,8 @@ pub fn note(plan: &Plan, history: &mut Vec<Event>, tables: &mut Tables, event: E
     let over = over_by(&event);
     let said = confirmed_by(&event);
     history.push_reserved(event);
-    tables.progress.go_on(plan, over);
-    tables.progress.hear(plan, said);
+    tables.progress.go_on(plan, over, &mut tables.due);
+    tables.progress.hear(plan, said, &mut tables.due);
 }
 
 /// Adds what a node's answer comes to, to a history with room for it, and notes it in the tables: that it was asked, and

@@ -77,6 +77,7 @@ pub(crate) fn lead_all(
     requires room { length pending.old.items + down_count wanted.old ≤ vec_capacity pending.old }
     ensures before { IsBefore finished.now wanted.new nodes.now result }
     ensures led { IsLed finished.now wanted.new together nodes.now }
+    ensures stops { result < length nodes.now → flag finished.now (slice_index nodes.now result) ≡ false }
     ensures only { (k : ℕ) → flag wanted.new k ≡ true → (flag wanted.old k ≡ true) ⊎ MayFollow finished.now together nodes.now k }
     ensures raised { IsRaised wanted.old wanted.new pending.old.items pending.new.items }
     ensures capacity { vec_capacity pending.new ≡ vec_capacity pending.old }

@@ -2,5 +2,5 @@
 use Rattle.just_history.proofs.Asking.{left_not_asked}
 use Rattle.just_history.proofs.choice.first_asked_by.Goals as goal
 
-pub loop-at-init : goal.loop-at-init
-loop-at-init c = left_not_asked c.args.plan.now.nodes c.args.plan.now.invocations c.args.history.now c.args.left c.requires.left c.requires.took
+pub loop-next-init : goal.loop-next-init
+loop-next-init c = left_not_asked c.args.plan.now.nodes c.args.plan.now.invocations c.args.history.now c.args.left c.requires.left c.requires.took

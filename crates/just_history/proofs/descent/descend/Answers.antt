@@ -1,9 +1,13 @@
 -- The node that is taken from the list has its priors led, by which the places, the list and the flags stay right.
-use Rattle.std.proofs.Common.{ℕ, ◌<◌, Bool, List, length, length-append, ◌∷◌, [], arith, subst, sym, ap, ◌∙◌}
+use Rattle.std.proofs.Common.{ℕ, ◌<◌, inl, inr, ⊎_elim, Bool, List, length, length-append, ◌∷◌, [], arith, subst, sym, ap, ◌∙◌}
 use Rattle.just_history.specs.Nodes.{priors_at}
+use Rattle.std.proofs.lemmas.List.Elements.{Contains-append_cases}
+use Rattle.std.specs.Prelude.{Contains}
+use Rattle.just_history.specs.Covered.{IsCovered}
 use Rattle.just_history.specs.Led.{IsLed}
 use Rattle.just_history.proofs.Led.{popped_in}
 use Rattle.just_history.proofs.PriorsLed.{led_kept, wanted_on}
+use Rattle.just_history.proofs.CoveredLaws.{covered_popped}
 use Rattle.just_history.proofs.WantedLaws.{parallel_read}
 use Rattle.just_history.proofs.descent.descend.Goals as goal
 use Rattle.just_history.proofs.descent.descend.Goals.{After-as_slice}
@@ -49,5 +53,15 @@ loop-next-preserved c =
           (λ up sure. subst (λ (b : Bool). IsLed f new b (priors_at plan.nodes m)) together (c.lead_priors.ensures.led up sure));
       keeps = λ k up. raised.keeps k (c.loop-next.invariant.keeps k up);
       wanted = wanted_on plan.nodes plan.invocations f said c.args.wanted.now old new c.loop-next.invariant.wanted c.lead_priors.ensures.wanted;
+      due = c.lead_priors.ensures.due ∙ c.loop-next.invariant.due;
+      covered = λ gone began. covered_popped plan.nodes c.loop-next.due.flags.items c.lead_priors.new.due.flags.items f said c.lead_priors.ensures.kept gone old new rest after m raised c.loop-next.pending.items c.in-Some.ensures.items c.lead_priors.ensures.covered (c.loop-next.invariant.covered gone began);
       capacity = c.lead_priors.ensures.capacity ∙ c.in-Some.ensures.capacity ∙ c.loop-next.invariant.capacity;
     }
+
+pub returns-clause-covered : goal.returns-clause-covered
+returns-clause-covered c = λ gone began n up left.
+    ⊎_elim (λ (listed : Contains c.loop-next.pending.items n).
+    ⊎_elim (λ (rest : Contains c.pop.new.self.items n). inl rest) (λ (never : Contains [] n). absurd (omega (arith, never.1)))
+    (Contains-append_cases c.pop.new.self.items [] n (subst (λ (xs : List ℕ). Contains xs n) c.in_default.ensures.items listed)))
+    (λ (covered : IsCovered c.args.plan.now.nodes c.loop-next.due.flags.items c.args.finished.now c.args.confirmed.now n). inr covered)
+    (c.loop-next.invariant.covered gone began n up left)

@@ -3,6 +3,7 @@ use Rattle.std.proofs.Common.{◌≡◌, ℕ, ◌<◌, ◌⊎◌, true, false, l
 use Rattle.std.specs.Prelude.{Contains, slice_index, vec_capacity}
 use Rattle.just_history.specs.Nodes.{priors_at}
 use Rattle.just_history.specs.Tables.{flag}
+use Rattle.just_history.specs.Covered.{IsCovered}
 use Rattle.just_history.specs.Led.{IsRaised, IsLed, AreUp, AreBefore, KeepsWanted}
 use Rattle.just_history.proofs.descent.spread.Given as goal
 
@@ -15,5 +16,8 @@ invariant-loop-node l = record {
   led : (j : ℕ) → j < l.node-index → flag l.wanted (slice_index l.nodes j) ≡ true → flag l.confirmed (slice_index l.nodes j) ≡ true → Contains l.pending.items (slice_index l.nodes j) ⊎ IsLed l.finished l.wanted false (priors_at l.plan.nodes (slice_index l.nodes j));
   raised : IsRaised l.initial.wanted l.wanted l.initial.pending.items l.pending.items;
   wanted : KeepsWanted l.plan.nodes l.plan.invocations l.finished l.confirmed l.initial.wanted l.wanted;
+  due : l.due.size ≡ length l.plan.nodes;
+  kept : (k : ℕ) → flag l.initial.due.flags.items k ≡ true → flag l.due.flags.items k ≡ true;
+  covered : (j : ℕ) → j < l.node-index → flag l.wanted (slice_index l.nodes j) ≡ true → Contains l.pending.items (slice_index l.nodes j) ⊎ IsCovered l.plan.nodes l.due.flags.items l.finished l.confirmed (slice_index l.nodes j);
   capacity : vec_capacity l.pending ≡ vec_capacity l.initial.pending;
 }

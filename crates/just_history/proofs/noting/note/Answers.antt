@@ -9,7 +9,7 @@ use Rattle.just_history.specs.State.{names, skips, concludes_well, is_over_well,
 use Rattle.just_history.proofs.Plainly.{placed_of, closed_of}
 use Rattle.just_history.proofs.RowLaws.{few_ended, few_starts}
 use Rattle.just_history.proofs.TablesLaws.{rows_of, classes_of, left_kept}
-use Rattle.just_history.proofs.Tests.{any_more}
+use Rattle.just_history.proofs.Tests.{any_more, unless}
 use Rattle.just_history.proofs.noting.note.Goals as goal
 
 pub mark-requires : goal.mark-requires
@@ -44,6 +44,10 @@ returns-clause-noted c =
       opened = subst (λ k. AreOpen c.args.plan.now.nodes k c.args.tables.now.classes.items c.mark_class.new.opened.items) (sym grew)
           (subst (λ ns. AreOpen c.args.plan.now.nodes (h ++ c.args.event ∷ []) ns c.mark_class.new.opened.items) c.as_slice.ensures.value
           (c.mark_class.ensures.opened h (subst (λ ns. AreClasses c.args.plan.now.nodes ns) (sym c.as_slice.ensures.value) n.classes) c.requires.classes (subst (λ ns. AreOpen c.args.plan.now.nodes h ns c.args.tables.now.opened.items) (sym c.as_slice.ensures.value) n.opened)));
+      covered = c.hear.ensures.covered _ (c.go_on.ensures.covered _
+          (λ m up left. n.covered m up (unless (has_taken h m || is_done h m) (has_taken c.push_reserved.new.self.items m || is_done c.push_reserved.new.self.items m)
+          (λ was. subst (λ k. (has_taken k m || is_done k m) ≡ true) (sym grew) (left_kept h c.args.event m was)) left)));
+      prompted = n.prompted;
       left = λ m lt. subst (λ k. (has_taken k m || is_done k m) ≡ true) (sym grew) (left_kept h c.args.event m (n.left m lt));
     })
 

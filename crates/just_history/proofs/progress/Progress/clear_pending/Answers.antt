@@ -4,6 +4,7 @@ use Rattle.std.proofs.lemmas.List.{with_items_is}
 use Rattle.std.specs.Vec.{with_items}
 use Rattle.just_history.specs.Nodes.{priors_at, parallel_at}
 use Rattle.just_history.specs.Tables.{flag}
+use Rattle.just_history.specs.Covered.{AreCovered}
 use Rattle.just_history.specs.Led.{down_count, IsLed, ArePriorsLed, AreBefore, AllWanted}
 use Rattle.just_history.proofs.Clearing.{placed_cleared, closed_cleared}
 use Rattle.just_history.proofs.progress.Progress.clear_pending.Goals as goal
@@ -62,3 +63,19 @@ descend-requires-clause-led c =
     subst (λ (f : List Bool). ArePriorsLed (parallel_at plan.nodes) (priors_at plan.nodes) f c.as_slice-confirmed.result.now c.as_mut_slice-wanted.result.now self.pending.items) (sym c.as_slice-finished.ensures.value)
     (subst (λ (s : List Bool). ArePriorsLed (parallel_at plan.nodes) (priors_at plan.nodes) self.finished.items s c.as_mut_slice-wanted.result.now self.pending.items) (sym c.as_slice-confirmed.ensures.value)
     (subst (λ (w : List Bool). ArePriorsLed (parallel_at plan.nodes) (priors_at plan.nodes) self.finished.items self.confirmed.items w self.pending.items) (sym c.as_mut_slice-wanted.ensures.value) c.requires.closed.priors))
+
+pub returns-clause-covered : goal.returns-clause-covered
+returns-clause-covered c = λ gone began.
+    let plan = c.args.plan.now in
+    let self = c.args.self.now in
+    let here = (goal.at.returns-clause-covered c).After-descend in
+    let s = c.args.due.now.flags.items in
+    let t = c.descend.new.due.flags.items in
+    let after = c.descend.new.pending.items in
+    subst (λ (w : List Bool). AreCovered plan.nodes gone t self.finished.items self.confirmed.items w after) (wanted_are here)
+    (subst (λ (f : List Bool). AreCovered plan.nodes gone t f self.confirmed.items c.descend.new.wanted after) c.as_slice-finished.ensures.value
+    (subst (λ (y : List Bool). AreCovered plan.nodes gone t c.as_slice-finished.result.now y c.descend.new.wanted after) c.as_slice-confirmed.ensures.value
+    (c.descend.ensures.covered gone
+    (subst (λ (f : List Bool). AreCovered plan.nodes gone s f c.as_slice-confirmed.result.now c.as_mut_slice-wanted.result.now self.pending.items) (sym c.as_slice-finished.ensures.value)
+    (subst (λ (y : List Bool). AreCovered plan.nodes gone s self.finished.items y c.as_mut_slice-wanted.result.now self.pending.items) (sym c.as_slice-confirmed.ensures.value)
+    (subst (λ (w : List Bool). AreCovered plan.nodes gone s self.finished.items self.confirmed.items w self.pending.items) (sym c.as_mut_slice-wanted.ensures.value) began))))))

@@ -16,5 +16,7 @@ loop-next-preserved c =
       confirmed = c.rise-next.ensures.confirmed ∙ c.loop-next.invariant.confirmed;
       placed = c.rise-next.ensures.placed;
       closed = c.rise-next.ensures.closed;
+      due = c.rise-next.ensures.due ∙ c.loop-next.invariant.due;
+      covered = λ gone began. c.rise-next.ensures.covered gone (c.loop-next.invariant.covered gone began);
       told = λ h told. c.rise-next.ensures.told h (c.loop-next.invariant.told h told);
     }

@@ -5,9 +5,11 @@ use Rattle.std.proofs.Math.ListN.{length-set}
 use Rattle.std.specs.Vec.{with_items}
 use Rattle.just_history.specs.Nodes.{priors_at, subsequents_at, parallel_at}
 use Rattle.just_history.specs.Tables.{flag}
+use Rattle.just_history.specs.Covered.{IsCovered, AreCovered}
 use Rattle.just_history.specs.Led.{IsRaised, IsLed, AreBefore, KeepsWanted, place_of}
 use Rattle.just_history.proofs.Confirming.{closed_confirmed, told_confirmed}
 use Rattle.just_history.proofs.Placing.{before_both, placed_on}
+use Rattle.just_history.proofs.CoveredLaws.{covered_confirmed}
 use Rattle.just_history.proofs.WantedLaws.{parallel_read}
 use Rattle.just_history.proofs.progress.Progress.confirm.Goals as goal
 use Rattle.just_history.proofs.progress.Progress.confirm.Goals.{After-index-as_slice-at, After-lead_priors}
@@ -85,3 +87,19 @@ returns-clause-told c = λ h sure told.
     (subst (λ (f : List Bool). KeepsWanted plan.nodes plan.invocations f (set c.as_mut_slice-confirmed.result.now c.args.at true) self.wanted.items c.lead_priors.new.wanted) c.as_slice-finished.ensures.value
     (subst (λ (w : List Bool). KeepsWanted plan.nodes plan.invocations c.as_slice-finished.result.now (set c.as_mut_slice-confirmed.result.now c.args.at true) w c.lead_priors.new.wanted) c.as_mut_slice-wanted.ensures.value c.lead_priors.ensures.wanted))))
     told
+
+pub returns-clause-covered : goal.returns-clause-covered
+returns-clause-covered c = λ gone began.
+    let plan = c.args.plan.now in
+    let self = c.args.self.now in
+    let here = (goal.at.returns-clause-covered c).After-lead_priors in
+    let w = (with_items self.wanted c.lead_priors.new.wanted).items in
+    let t = c.lead_priors.new.due.flags.items in
+    let after = c.lead_priors.new.pending.items in
+    subst (λ (s : List Bool). AreCovered plan.nodes gone t self.finished.items s w after) (sym (confirmed_are here))
+    (covered_confirmed plan.nodes gone c.args.due.now.flags.items t self.finished.items self.confirmed.items c.lead_priors.ensures.kept self.wanted.items w self.pending.items after (raised_is here) c.args.at (omega (arith, c.requires.within, c.requires.size, self.confirmed_sized))
+    (λ up.
+    subst (λ (s : List Bool). IsCovered plan.nodes t self.finished.items (set s c.args.at true) c.args.at) c.as_mut_slice-confirmed.ensures.value
+    (subst (λ (f : List Bool). IsCovered plan.nodes t f (set c.as_mut_slice-confirmed.result.now c.args.at true) c.args.at) c.as_slice-finished.ensures.value
+    (c.lead_priors.ensures.covered (subst (λ (v : List Bool). flag v c.args.at ≡ true) (sym c.as_mut_slice-wanted.ensures.value) up))))
+    began)

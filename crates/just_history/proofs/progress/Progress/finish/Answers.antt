@@ -5,6 +5,7 @@ use Rattle.std.proofs.Math.ListN.{length-set}
 use Rattle.std.specs.Prelude.{Contains, slice_index}
 use Rattle.std.specs.Vec.{with_items}
 use Rattle.just_history.specs.Nodes.{priors_at, subsequents_at, parallel_at}
+use Rattle.just_history.specs.Covered.{IsCovered, AreCovered}
 use Rattle.just_history.specs.Progress.{dependents_at}
 use Rattle.just_history.specs.Tables.{flag, InRange}
 use Rattle.just_history.specs.Led.{IsBefore, IsRaised, MayFollow, IsLed, ArePriorsLed, AreBefore, KeepsWanted, place_of}
@@ -14,6 +15,7 @@ use Rattle.just_history.proofs.Led.{led_to, led_on, raised_on}
 use Rattle.just_history.proofs.Placing.{before_both, placed_on}
 use Rattle.just_history.proofs.PlanLaws.{contains_at}
 use Rattle.just_history.proofs.PriorsLed.{wanted_on}
+use Rattle.just_history.proofs.CoveredLaws.{covered_finished}
 use Rattle.just_history.proofs.WantedLaws.{invocations_within}
 use Rattle.just_history.proofs.progress.Progress.finish.Goals as goal
 use Rattle.just_history.proofs.progress.Progress.finish.Goals.{After-as_slice-2, After-lead-place, After-spread}
@@ -121,3 +123,22 @@ returns-clause-wanted c =
     subst (λ (v : List Bool). KeepsWanted plan.nodes plan.invocations v self.confirmed.items self.wanted.items (with_items self.wanted w).items) (sym (with_items_is self.finished f (set_are here)))
     (subst (λ (v : List Bool). KeepsWanted plan.nodes plan.invocations f self.confirmed.items self.wanted.items v) (sym (with_items_is self.wanted w (wanted_are here)))
     (wanted_on plan.nodes plan.invocations f self.confirmed.items self.wanted.items c.lead-place.new.wanted w (wanted_invoked plan.nodes plan.invocations f self.confirmed.items self.wanted.items c.lead-place.new.wanted only) (subst (λ (s : List Bool). KeepsWanted plan.nodes plan.invocations f s c.lead-place.new.wanted w) c.as_slice-confirmed.ensures.value c.spread.ensures.wanted)))
+
+pub returns-clause-covered : goal.returns-clause-covered
+returns-clause-covered c = λ gone began.
+    let plan = c.args.plan.now in
+    let self = c.args.self.now in
+    let here = (goal.at.returns-clause-covered c).After-spread in
+    let same = are (goal.at.returns-clause-covered c).After-as_slice-2 in
+    let f = set c.as_mut_slice-finished.result.now c.args.at true in
+    let g = set self.finished.items c.args.at true in
+    let w = c.spread.new.wanted in
+    let t = c.spread.new.due.flags.items in
+    let xs = c.as_slice-2.result.now in
+    let after = c.spread.new.pending.items in
+    let covered = subst (λ (v : List Bool). (j : ℕ) → j < length xs → flag w (slice_index xs j) ≡ true → Contains after (slice_index xs j) ⊎ IsCovered plan.nodes t v self.confirmed.items (slice_index xs j)) (finished_are here)
+    (subst (λ (s : List Bool). (j : ℕ) → j < length xs → flag w (slice_index xs j) ≡ true → Contains after (slice_index xs j) ⊎ IsCovered plan.nodes t f s (slice_index xs j)) c.as_slice-confirmed.ensures.value c.spread.ensures.covered) in
+    subst (λ (v : List Bool). AreCovered plan.nodes gone t (with_items self.finished f).items self.confirmed.items v after) (sym (with_items_is self.wanted w (wanted_are here)))
+    (subst (λ (v : List Bool). AreCovered plan.nodes gone t v self.confirmed.items w after) (sym (finished_are here) ∙ sym (with_items_is self.finished f (set_are here)))
+    (covered_finished plan.nodes c.args.due.now.flags.items t self.finished.items self.confirmed.items c.spread.ensures.kept gone self.wanted.items w self.pending.items after (raised_is here) c.args.at xs
+    (λ m at. subst (λ (ys : List ℕ). Contains ys m) (sym same) (c.requires.placed.dependents m c.args.at at)) covered began))

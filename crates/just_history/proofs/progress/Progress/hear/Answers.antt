@@ -23,3 +23,6 @@ pub returns-else-at-self-clause-heard : goal.returns-else-at-self-clause-heard
 returns-else-at-self-clause-heard c = λ k lt either.
     let p = c.args.self.now in
     heard_none (flag p.confirmed.items k) (names c.args.said k) (names_past c.args.said c.in-Some.node p.size c.in-Some.is (λ less. omega (arith, less, c.if-at-self.false)) k (omega (arith, lt, p.confirmed_sized))) either
+
+pub returns-then-at-self-clause-covered : goal.returns-then-at-self-clause-covered
+returns-then-at-self-clause-covered c = λ gone began. c.clear_pending.ensures.covered gone (c.confirm.ensures.covered gone began)

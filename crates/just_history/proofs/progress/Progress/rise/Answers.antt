@@ -4,6 +4,7 @@ use Rattle.std.specs.Prelude.{Contains, Some}
 use Rattle.just_history.specs.Nodes.{subsequents_at}
 use Rattle.just_history.specs.Tables.{flag}
 use Rattle.just_history.proofs.Rising.{priors_led, closed_here, closed_next, told_next}
+use Rattle.just_history.proofs.CoveredLaws.{covered_by_raised}
 use Rattle.just_history.proofs.progress.Progress.rise.Goals as goal
 
 pub returns-then-not-go_through-clause-closed : goal.returns-then-not-go_through-clause-closed
@@ -49,3 +50,8 @@ returns-clause-told c = λ h told.
     told_next plan.nodes plan.invocations h p1 c.finish.new.self c.args.at (omega (arith, c.requires.within, p1.over_sized, c.go_through.ensures.size, c.requires.size))
     (subst (λ (xs : List Bool). flag xs c.args.at ≡ true) (sym (ap (λ v. v.items) c.go_through.ensures.same.0)) up)
     (c.go_through.ensures.through c.if-not-go_through.false) (ap (λ v. v.items) c.finish.ensures.over) c.finish.ensures.finished (ap (λ v. v.items) c.finish.ensures.confirmed) c.finish.ensures.wanted (c.go_through.ensures.told h up told)
+
+pub returns-clause-covered : goal.returns-clause-covered
+returns-clause-covered c = λ gone began.
+    c.finish.ensures.covered gone
+    (covered_by_raised c.args.plan.now.nodes gone c.args.due.now.flags.items c.args.self.now c.go_through.new.self (ap (λ v. v.items) c.go_through.ensures.same.1) (ap (λ v. v.items) c.go_through.ensures.same.2) c.go_through.ensures.raised began)

@@ -1,5 +1,7 @@
 -- What is read says what the tables note.
 use Rattle.std.proofs.Common.{sym, subst}
+use Rattle.std.proofs.Math.Bool.{Bool-set}
+use Rattle.std.proofs.Math.Logic.{∥∥₁_elim}
 use Rattle.just_history.specs.Rows.{IsTable}
 use Rattle.just_history.specs.State.{is_confirmed, IsWanted}
 use Rattle.just_history.specs.Tables.{FlagsAre, FlagsMean}
@@ -23,3 +25,6 @@ first_asked_by-requires-clause-confirmed c =
     let plan = c.args.plan.now in
     subst (λ flags. FlagsAre flags (is_confirmed plan.nodes c.args.history.now)) (sym c.as_slice-2.ensures.value)
     (confirmed_of plan.nodes plan.invocations c.args.history.now c.args.self.now plan.well c.requires.noted c.requires.size)
+
+pub first_asked_by-requires-clause-prompted : goal.first_asked_by-requires-clause-prompted
+first_asked_by-requires-clause-prompted c = λ m lt there. ∥∥₁_elim c.requires.noted (Bool-set _ _) (λ n. n.prompted m lt there)

@@ -5,6 +5,7 @@ use Rattle.just_history.specs.Classes.{AreClasses, AreOpen}
 use Rattle.just_history.specs.Rows.{IsTable}
 use Rattle.just_history.specs.State.{is_confirmed, IsFinished, IsWanted}
 use Rattle.just_history.specs.Tables.{FlagsAre, FlagsMean}
+use Rattle.just_history.proofs.NotDue.{not_due, covered_again}
 use Rattle.just_history.proofs.TablesLaws.{rows_of, classes_of, opened_of, finished_of, wanted_of, confirmed_of, left_of}
 use Rattle.just_history.proofs.tables.Tables.turn.Goals as goal
 
@@ -29,8 +30,27 @@ turn_by-requires-clause-finished c =
     subst (λ flags. FlagsMean flags (IsFinished plan.nodes c.args.history.now)) (sym c.as_slice-5.ensures.value)
     (finished_of plan.nodes plan.invocations c.args.history.now c.args.self.now plan.well c.requires.noted c.requires.size)
 
+pub turn_by-requires-clause-due : goal.turn_by-requires-clause-due
+turn_by-requires-clause-due c =
+    let plan = c.args.plan.now in
+    not_due plan.nodes plan.invocations c.args.history.now c.args.self.now plan.well c.requires.noted c.requires.size c.requires.took
+
 pub returns-clause-noted : goal.returns-clause-noted
-returns-clause-noted c = ∥∥₁_map c.requires.noted (λ n. record { rows = n.rows; placed = n.placed; closed = n.closed; none = n.none; told = n.told; heard = n.heard; left = c.first_left-left.ensures; classes = n.classes; opened = n.opened })
+returns-clause-noted c =
+    let plan = c.args.plan.now in
+    ∥∥₁_map c.requires.noted (λ n. record {
+      rows = n.rows;
+      placed = n.placed;
+      closed = n.closed;
+      none = n.none;
+      told = n.told;
+      heard = n.heard;
+      covered = covered_again plan.nodes plan.invocations c.args.history.now c.args.self.now plan.well c.requires.each_no c.turn_by.new.due.flags.items c.turn_by.ensures.due n;
+      prompted = n.prompted;
+      left = c.first_left-left.ensures;
+      classes = n.classes;
+      opened = n.opened;
+    })
 
 pub turn_by-requires-clause-confirmed : goal.turn_by-requires-clause-confirmed
 turn_by-requires-clause-confirmed c =

@@ -1,0 +1,2 @@
+-- Lemmas on sets of small numbers.
+mod Blocks

@@ -1,0 +1,2 @@
+-- Sets of small numbers.
+pub mod Members
