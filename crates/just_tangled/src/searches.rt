@@ -36,7 +36,6 @@ pub fn search<H: Host>(
 /// `NotFound` says that none is tried: up to the ceiling there is none, or the setting doesn't search.
 ///
 /// Each answer's working folder has a shorter path than the one before, so a loop of such calls ends. Temporary folders are kept as `search` keeps them.
-#[tactic(auto, using(crate::proofs::Steps::is_above, crate::proofs::Steps::is_nowhere, crate::proofs::Steps::is_refused, crate::proofs::Steps::is_higher))]
 pub fn search_parent_directory<H: Host>(
     alloc: Global,
     found: &Search,
