@@ -32,23 +32,23 @@ pub is_unfound : (told after : Option World) (config : Config) (kept keeps : Lis
     → Answers (Finds told config old new) (Err e) → FindGains {A = Location} config.search_config old new (Err e) → Searches told after config kept keeps old new (Err e)
 is_unfound told after config kept keeps old new e world all finds gains = Searches.unfound e (finds, gains) world all
 
--- ---- above a folder, which is that of a path
+-- ---- above a folder
 
-pub is_above : (told now after : Option World) (config : Config) (named folder : List ℕ) (kept keeps : List (List ℕ)) (old middle new : List Entry) (place : Location) (r : Result Search SearchError) → named ≡ folder → now ≡ told
-    → FallsBack told config named (Ok (Some place)) → middle ≡ old ++ [] → MakesFolders (Materializes now after (parent_of config) place) (parent_of config) kept keeps middle new r
+pub is_above : (told now after : Option World) (config : Config) (here folder : List ℕ) (kept keeps : List (List ℕ)) (old middle new : List Entry) (place : Location) (r : Result Search SearchError) → now ≡ told → here ≡ folder
+    → FallsBack told config here (Ok (Some place)) → middle ≡ old ++ [] → MakesFolders (Materializes now after (parent_of config) place) (parent_of config) kept keeps middle new r
     → SearchesAbove told after config folder kept keeps old new r
-is_above told now after config named folder kept keeps old middle new place r at same falls gains takes =
-    SearchesAbove.above place middle r (subst (λ f. FallsBack told config f (Ok (Some place))) at falls, gains) (taken told now after config place kept keeps middle new r same takes)
+is_above told now after config here folder kept keeps old middle new place r same is falls gains takes =
+    SearchesAbove.above place middle r (subst (λ f. FallsBack told config f (Ok (Some place))) is falls, gains) (taken told now after config place kept keeps middle new r same takes)
 
-pub is_nowhere : (told after : Option World) (config : Config) (named folder : List ℕ) (kept keeps : List (List ℕ)) (old new : List Entry) → named ≡ folder → after ≡ told → keeps ≡ kept
-    → FallsBack told config named (Ok None) → new ≡ old ++ [] → SearchesAbove told after config folder kept keeps old new (Err error.NotFound)
-is_nowhere told after config named folder kept keeps old new at world all falls gains =
-    SearchesAbove.nowhere (subst (λ f. FallsBack told config f (Ok None)) at falls, gains) world all
+pub is_nowhere : (told after : Option World) (config : Config) (here folder : List ℕ) (kept : List (List ℕ)) (old new : List Entry) → after ≡ told → here ≡ folder
+    → FallsBack told config here (Ok None) → new ≡ old ++ [] → SearchesAbove told after config folder kept kept old new (Err error.NotFound)
+is_nowhere told after config here folder kept old new world is falls gains =
+    SearchesAbove.nowhere (subst (λ f. FallsBack told config f (Ok None)) is falls, gains) world refl
 
-pub is_refused : (told after : Option World) (config : Config) (named folder : List ℕ) (kept keeps : List (List ℕ)) (old new : List Entry) (e : SearchError) → named ≡ folder → after ≡ told → keeps ≡ kept
-    → Answers (FallsBack told config named) (Err e) → new ≡ old ++ entries_of e → SearchesAbove told after config folder kept keeps old new (Err e)
-is_refused told after config named folder kept keeps old new e at world all falls gains =
-    SearchesAbove.refused e (subst (λ f. Answers (FallsBack told config f) (Err e)) at falls, gains) world all
+pub is_refused : (told after : Option World) (config : Config) (here folder : List ℕ) (kept : List (List ℕ)) (old new : List Entry) (e : SearchError) → after ≡ told → here ≡ folder
+    → Answers (FallsBack told config here) (Err e) → new ≡ old ++ entries_of e → SearchesAbove told after config folder kept kept old new (Err e)
+is_refused told after config here folder kept old new e world is falls gains =
+    SearchesAbove.refused e (subst (λ f. Answers (FallsBack told config f) (Err e)) is falls, gains) world refl
 
 -- ---- its working folder is that of the place
 
@@ -57,11 +57,12 @@ written_in told after parent text working folders s (WritesText.a_file between f
 
 run_in : (told after : Option World) (parent : Option (List ℕ)) (place : Location) (folders : List (List ℕ)) (s : Search) → Materializes told after parent place folders (Ok s) → s.working_directory ≡ place.working_directory
 run_in told after parent place folders s (Materializes.file path from world) = refl
-run_in told after parent place folders s (Materializes.read text folders r gives writes) = written_in told after parent text place.working_directory folders s writes
+run_in told after parent place folders s (Materializes.read text made r gives writes) = written_in told after parent text place.working_directory made s writes
 
-pub is_higher : (told after : Option World) (config : Config) (named folder : List ℕ) (kept keeps : List (List ℕ)) (old new : List Entry) (place : Location) (r : Result Search SearchError) → named ≡ folder
-    → MakesFolders (Materializes told after (parent_of config) place) (parent_of config) kept keeps old new r → length place.working_directory < length named
+pub is_higher : (told after : Option World) (config : Config) (here folder : List ℕ) (kept keeps : List (List ℕ)) (old new : List Entry) (place : Location) (r : Result Search SearchError) → here ≡ folder
+    → MakesFolders (Materializes told after (parent_of config) place) (parent_of config) kept keeps old new r → length place.working_directory < length here
     → IfOk r (λ s. length s.working_directory < length folder)
-is_higher told after config named folder kept keeps old new place (Ok s) at (folders, all, entries, materializes) higher =
-    subst (λ w. length w < length folder) (sym (run_in told after (parent_of config) place folders s materializes)) (subst (λ f. length place.working_directory < length f) at higher)
-is_higher told after config named folder kept keeps old new place (Err e) at takes higher = tt
+is_higher told after config here folder kept keeps old new place (Ok s) is (folders, all, entries, materializes) higher =
+    subst (λ f. length s.working_directory < length f) is
+    (subst (λ w. length w < length here) (sym (run_in told after (parent_of config) place folders s materializes)) higher)
+is_higher told after config here folder kept keeps old new place (Err e) is takes higher = tt
