@@ -9,7 +9,7 @@ use std::test::Fail;
 /// The name of a call, its path, what else it is given, and its answer.
 type Row = (&'static str, &'static str, &'static str, &'static str);
 
-const ROWS: [Row; 44] = [
+const ROWS: [Row; 32] = [
     ("write", "f", "abc", "Ok(())"),
     (
         "sum",
@@ -39,31 +39,36 @@ const ROWS: [Row; 44] = [
     ("read", "c/e.json", "", "Ok(\"{}\")"),
     ("save", "c/e.json", "[]", "Ok(())"),
     ("read", "c/e.json", "", "Ok(\"[]\")"),
-    (
-        "names",
-        "c",
-        "",
-        "Ok(Seq { vec: [Text { string: \"e.json\" }] })",
-    ),
-    ("names", "f", "", "Err(Missed(NotFolder))"),
     ("remove", "c", "", "Err(Missed(NotEmpty))"),
     ("remove", "g", "", "Err(Missed(NotFound))"),
     ("remove", "c/e.json", "", "Ok(())"),
     ("remove", "c", "", "Ok(())"),
     ("check", "c", "", "Ok(Some(0))"),
+    ("write", "f", "", "Ok(())"),
+    ("read", "f", "", "Ok(\"\")"),
+    ("remove", "f", "", "Ok(())"),
+];
+
+/// The same of folders that are made, with those above them, and of names.
+const FOLDERS: [Row; 13] = [
+    ("write", "f", "abc", "Ok(())"),
     ("make_folder", "d/e", "", "Ok(())"),
     ("make_folder", "d/e", "", "Ok(())"),
     ("make_folder", "f", "", "Err(Missed(NotFolder))"),
     ("make_folder", "f/x", "", "Err(Missed(NotFolder))"),
     ("make_folder", "", "", "Err(Missed(NotFound))"),
     ("write", "d/e/x", "abc", "Ok(())"),
+    (
+        "names",
+        "d/e",
+        "",
+        "Ok(Seq { vec: [Text { string: \"x\" }] })",
+    ),
+    ("names", "f", "", "Err(Missed(NotFolder))"),
     ("remove", "d/e", "", "Err(Missed(NotEmpty))"),
     ("remove", "d/e/x", "", "Ok(())"),
     ("remove", "d/e", "", "Ok(())"),
     ("remove", "d", "", "Ok(())"),
-    ("write", "f", "", "Ok(())"),
-    ("read", "f", "", "Ok(\"\")"),
-    ("remove", "f", "", "Ok(())"),
 ];
 
 /// The answer to a call, as text.
@@ -101,6 +106,17 @@ fn first_other<H: Host>(alloc: Global, host: &mut H) -> Result<Option<usize>, No
     Ok(None)
 }
 
+/// The same of folders.
+fn first_other_folder<H: Host>(alloc: Global, host: &mut H) -> Result<Option<usize>, NoMemory> {
+    for i in 0..FOLDERS.len() {
+        let (call, path, more, want) = FOLDERS[i];
+        if answer(alloc, host, call, path, more)?.as_str() != want {
+            return Ok(Some(i));
+        }
+    }
+    Ok(None)
+}
+
 /// A host in memory in the folder `/p`, with this plot. No clause: it serves tests alone.
 pub fn in_memory(alloc: Global, plot: Plot) -> Result<MemHost, NoMemory> {
     let mut tree = Tree::new(alloc);
@@ -117,6 +133,14 @@ fn calls_in_memory(rt: HostRuntime) -> Result<(), Fail> {
     let alloc = rt.alloc();
     let mut host = in_memory(alloc, Plot::new(alloc))?;
     assert_eq!(rt; first_other(alloc, &mut host)?, None);
+    Ok(())
+}
+
+#[test]
+fn folders_in_memory(rt: HostRuntime) -> Result<(), Fail> {
+    let alloc = rt.alloc();
+    let mut host = in_memory(alloc, Plot::new(alloc))?;
+    assert_eq!(rt; first_other_folder(alloc, &mut host)?, None);
     Ok(())
 }
 
