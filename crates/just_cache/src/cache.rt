@@ -25,7 +25,9 @@ pub fn entry_path(alloc: Global, folder: Utf8Path<'_>, text: &str) -> Result<Utf
     ensures { IfOk result (λ p. p ≡ entry_path (text_of folder.entry) text.now) }
 {
     let digits = digest(alloc, text)?;
-    let mut path = String::from_str(alloc, folder.as_str())?;
+    let size = folder.as_str().len().saturating_add(digits.as_str().len());
+    let mut path = String::with_capacity(alloc, size.saturating_add("/.json".len()))?;
+    path.push_str(folder.as_str())?;
     path.push_str("/")?;
     path.push_str(digits.as_str())?;
     path.push_str(".json")?;

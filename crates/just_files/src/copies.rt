@@ -21,7 +21,7 @@ pub fn path_or_empty(path: Option<Utf8Path<'_>>) -> Utf8Path<'_>
 pub fn copies_of(alloc: Global, paths: &[Utf8PathBuf]) -> Result<Seq<Utf8PathBuf>, NoMemory>
     ensures { IfOk result (λ s. s ≡ paths.now) }
 {
-    let mut copies = Vec::new(alloc);
+    let mut copies = Vec::with_capacity(alloc, paths.len())?;
     for path in paths {
         copies.push(path.try_clone()?)?;
     }

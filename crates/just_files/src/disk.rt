@@ -14,7 +14,7 @@ use std::rt::Env;
 /// How many bytes are read at once where a file is summed, at most and at least.
 const PIECE: usize = 65_536;
 
-const LEAST_PIECE: usize = 1_024;
+const LEAST_PIECE: usize = 512;
 
 /// The length of the file at a path. What is no file is refused, so that nothing is waited for when it is opened.
 fn file_length<F: Files>(files: &F, path: &str) -> io::Result<u64> {
@@ -79,10 +79,11 @@ pub fn temp_folder<R: Files + Env>(
     }
 }
 
-/// How many bytes are read at once of a file of that length: a short one is read in one piece, without making a long one.
+/// How many bytes are read at once of a file of that length: a short one is read in one piece that it doesn't fill, without
+/// making a long one.
 fn piece_for(length: u64) -> usize {
     match usize::try_from(length) {
-        Ok(length) => length.clamp(LEAST_PIECE, PIECE),
+        Ok(length) => length.saturating_add(1).clamp(LEAST_PIECE, PIECE),
         Err(_) => PIECE,
     }
 }
@@ -93,24 +94,28 @@ pub fn sum<F: Files>(files: &F, alloc: Global, path: &str) -> io::Result<[u8; 32
     let mut file = fs::open(files, path)?;
     let mut piece = Vec::new(alloc);
     piece.resize(piece_for(length), 0u8)?;
-    sum_of(&mut file, piece.as_mut_slice())
+    sum_of(&mut file, length, piece.as_mut_slice())
 }
 
-/// The SHA-256 of what a reader gives up to its end, unless it is too much.
-fn sum_of<R: Read>(reader: &mut R, piece: &mut [u8]) -> io::Result<[u8; 32]> {
+/// The SHA-256 of what a reader gives up to its end, unless it is too much. A piece that isn't filled ends a file that told so many bytes; one
+/// that told another length, as the system's own files do, ends where nothing comes any more.
+fn sum_of<R: Read>(reader: &mut R, length: u64, piece: &mut [u8]) -> io::Result<[u8; 32]> {
     let mut hasher = Sha256::new();
     let mut count: u64 = 0;
     for _ in 0..u64::MAX {
         let taken = match reader.read(piece) {
             Ok(0) => return Ok(hasher.finalize()),
             Ok(taken) => taken,
-            Err(error) if error.kind() == ErrorKind::Interrupted => 0,
+            Err(error) if error.kind() == ErrorKind::Interrupted => continue,
             Err(error) => return Err(error),
         };
         hasher.update(&piece[..taken]);
         count = count.saturating_add(taken as u64);
         if count > MAX_SUMMED {
             return Err(io::Error::from(ErrorKind::FileTooLarge));
+        }
+        if taken < piece.len() && count == length {
+            return Ok(hasher.finalize());
         }
     }
     Err(io::Error::from(ErrorKind::Other))

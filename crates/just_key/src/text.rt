@@ -93,7 +93,11 @@ fn joined(
     ensures text { IfOk result (λ t. string_bytes t.0 ≡ before.now ++ codes ",\"inputs\":" ++ inputs.now ++ codes "," ++ behind.now) }
     ensures place { IfOk result (λ t. t.1 ≡ length (before.now ++ codes ",\"inputs\":")) }
 {
-    let mut text = String::from_str(alloc, before)?;
+    let around = before.len().saturating_add(behind.len());
+    let frame = ",\"inputs\":,".len();
+    let size = around.saturating_add(inputs.len()).saturating_add(frame);
+    let mut text = String::with_capacity(alloc, size)?;
+    text.push_str(before)?;
     text.push_str(",\"inputs\":")?;
     let place = text.len();
     text.push_str(inputs)?;
