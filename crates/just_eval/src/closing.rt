@@ -40,9 +40,28 @@ impl Surroundings for Needs<'_, '_> {
     }
 }
 
+/// The closure of some keys in a project that was looked through: what [`closure`] answers of it.
+#[tactic(auto, using(crate::proofs::Ends::ranked))]
+pub fn closure_within(
+    alloc: Global,
+    request: &Request<'_>,
+    keys: &[Key],
+    no_deps: bool,
+) -> Result<Closure, LangError>
+    requires indexed { IsIndexed request.now }
+    requires ends { AreEnding (map (λ m. m.now) request.now.modules.items) }
+    ensures closure { IfOk result (IsClosureOf (around_of no_deps (map (λ m. m.now) request.now.modules.items) request.now.scopes.now) keys.now) }
+    ensures ordered { IfOk result (λ c. IsWellFormed c.nodes c.invocations) }
+    ensures short { IfOk result (λ c. length c.nodes ≤ CLOSURE_LIMIT) }
+    ensures refused { IfErr result (λ e. e ≢ LangError.NoMemory → Visits (around_of no_deps (map (λ m. m.now) request.now.modules.items) request.now.scopes.now) (Ok []) None keys.now (Err e)) }
+{
+    let needs = Needs { request, no_deps };
+    closure_of(alloc, &needs, keys)
+}
+
 /// The closure of some keys: a node for each key that they need, once in each round, in the order of a run on one thread.
 /// Without dependencies each key needs itself alone.
-#[tactic(auto, using(crate::proofs::Ends::ranked, just_value::proofs::Nesting::same_modules))]
+#[tactic(auto, using(just_value::proofs::Nesting::same_modules))]
 pub fn closure(
     alloc: Global,
     justfile: &Justfile,
@@ -57,9 +76,5 @@ pub fn closure(
     ensures refused { IfErr result (λ e. e ≢ LangError.NoMemory → (modules : List Justfile) → AreModules (justfile.now ∷ []) modules → Visits (around_of no_deps modules scopes.now) (Ok []) None keys.now (Err e)) }
 {
     let request = Request::new(alloc, justfile, scopes)?;
-    let needs = Needs {
-        request: &request,
-        no_deps,
-    };
-    closure_of(alloc, &needs, keys)
+    closure_within(alloc, &request, keys, no_deps)
 }

@@ -13,7 +13,7 @@ mod request;
 
 pub use argument::text_in_recipe;
 pub use around::dependencies;
-pub use closing::closure;
+pub use closing::{closure, closure_within};
 pub use entries::levels;
 pub use entry::{Entry, Index};
 pub use just_closure::{CLOSURE_LIMIT, Ran};

@@ -1,21 +1,23 @@
 -- Laws of the classes of nodes: their numbers, and which have an open body.
 use Rattle.std.proofs.Common.{◌≡◌, ℕ, zero, suc, ◌+◌, ◌<◌, ◌≤◌, ◌==◌, ◌&&◌, ◌||◌, not, Bool, true, false, if◌then◌else◌, cond, List, [], ◌∷◌, ◌++◌, length, length-append, set, get_or, get_or-set_same, get_or-set_other, slice_get, Option, Some, None, option_map, bytes_eq, true≢false, ⊎_elim, refl, ap, ap₂, sym, ◌∙◌, subst, arith, eqb-true, eq-eqb, ne_eqb}
 use Rattle.std.specs.List.{list_any, range_with_len}
-use Rattle.std.specs.BTreeMap.{BTreeMap, get, Updates}
+use denote.Ref.{Bor}
+use Rattle.std.specs.BTreeMap.{BTreeMap, Updates}
 use Rattle.std.proofs.Math.ListN.{get_or-append, replicate}
 use Rattle.std.proofs.Math.Seq.{get_or-append_seam}
 use Rattle.std.proofs.lemmas.Option.{slice_get_within}
 use Rattle.std.proofs.Math.Bool.{Bool-set}
 use Rattle.std.proofs.Math.Logic.{∥∥₁_elim}
-use Rattle.just_closure.specs.Numbers.{text_cmp}
-use Rattle.just_closure.proofs.Numbered.{text_tie}
+use Rattle.std.proofs.lemmas.Map.Text.{is_eq-slice_cmp}
+use Rattle.just_spots.proofs.Seen.{text_cmp}
+use Rattle.just_spots.proofs.Tables.{query}
 use Rattle.std.proofs.lemmas.Slice.Eq.{bytes_eq-Decides}
 use Rattle.just_history.specs.declared.cache_plan.CachePlan.{CachePlan}
 use Rattle.just_history.specs.declared.event.Event.{Event}
 use Rattle.just_history.specs.declared.event.Event.TheVariants as event
 use Rattle.just_history.specs.declared.plan_node.PlanNode.{PlanNode}
 use Rattle.just_history.specs.Cached.{same_class, are_one_class, class_is_open}
-use Rattle.just_history.specs.Classes.{class_of, AreClasses, AreOpen, Numbers, KeepsClasses, IsShift, some_or}
+use Rattle.just_history.specs.Classes.{class_of, AreClasses, AreOpen, Numbers, KeepsClasses, IsShift, some_or, number_in}
 use Rattle.just_history.specs.Legal.{Run, IsClosed}
 use Rattle.just_history.specs.Nodes.{cache_in, cache_at}
 use Rattle.just_history.specs.State.{takes, gives, has_taken, has_given, is_open}
@@ -128,19 +130,19 @@ classless (Some d) e = absurd (some_none (Some d.class) d.class refl (sym e))
 -- ---- the numbers of classes
 
 -- each node before a place has its number: that of its class, or its own; and each class that is in the map has the number of a node of it
-pub record AreNumbered (nodes : List PlanNode) (place : ℕ) (classes : List ℕ) (numbers : BTreeMap (List ℕ) ℕ) : Type 0 where
+pub record AreNumbered (nodes : List PlanNode) (place : ℕ) (classes : List ℕ) (numbers : BTreeMap (Bor (List ℕ)) ℕ) : Type 0 where
   pub long : length classes ≡ place
-  pub cached : (n : ℕ) (c : CachePlan) → n < place → cache_at nodes n ≡ Some c → get text_cmp numbers c.class ≡ Some (class_of classes n)
+  pub cached : (n : ℕ) (c : CachePlan) → n < place → cache_at nodes n ≡ Some c → number_in numbers c.class ≡ Some (class_of classes n)
   pub alone : (n : ℕ) → n < place → cache_at nodes n ≡ None → class_of classes n ≡ n
-  pub there : (name : List ℕ) (k : ℕ) → get text_cmp numbers name ≡ Some k → (k < place) × ((c : CachePlan) × (cache_at nodes k ≡ Some c) × (c.class ≡ name))
+  pub there : (name : List ℕ) (k : ℕ) → number_in numbers name ≡ Some k → (k < place) × ((c : CachePlan) × (cache_at nodes k ≡ Some c) × (c.class ≡ name))
 
 -- nothing is numbered yet
-pub numbered_none : (nodes : List PlanNode) (classes : List ℕ) (numbers : BTreeMap (List ℕ) ℕ) → classes ≡ [] → ((name : List ℕ) → get text_cmp numbers name ≡ None) → AreNumbered nodes 0 classes numbers
+pub numbered_none : (nodes : List PlanNode) (classes : List ℕ) (numbers : BTreeMap (Bor (List ℕ)) ℕ) → classes ≡ [] → ((name : List ℕ) → number_in numbers name ≡ None) → AreNumbered nodes 0 classes numbers
 numbered_none nodes classes numbers empty none = record {
   long = ap length empty;
   cached = λ n c lt q. absurd (omega (arith, lt));
   alone = λ n lt q. absurd (omega (arith, lt));
-  there = λ name k q. absurd (some_none (get text_cmp numbers name) k q (none name));
+  there = λ name k q. absurd (some_none (number_in numbers name) k q (none name));
 }
 
 -- a class number behind others
@@ -151,7 +153,7 @@ pushed_here : (classes : List ℕ) (place x : ℕ) → length classes ≡ place 
 pushed_here classes place x long = subst (λ k. get_or (classes ++ x ∷ []) k 0 ≡ x) long (get_or-append_seam classes x [] 0)
 
 -- a node without a cache has its own number
-pub numbered_alone : (nodes : List PlanNode) (place : ℕ) (classes later : List ℕ) (numbers : BTreeMap (List ℕ) ℕ) → later ≡ classes ++ place ∷ [] → cache_at nodes place ≡ None → AreNumbered nodes place classes numbers → AreNumbered nodes (place + 1) later numbers
+pub numbered_alone : (nodes : List PlanNode) (place : ℕ) (classes later : List ℕ) (numbers : BTreeMap (Bor (List ℕ)) ℕ) → later ≡ classes ++ place ∷ [] → cache_at nodes place ≡ None → AreNumbered nodes place classes numbers → AreNumbered nodes (place + 1) later numbers
 numbered_alone nodes place classes later numbers grew none a = subst (λ l. AreNumbered nodes (place + 1) l numbers) (sym grew) (record {
   long = length-append classes (place ∷ []) ∙ omega (arith, a.long);
   cached = λ n c lt q.
@@ -166,30 +168,30 @@ numbered_alone nodes place classes later numbers grew none a = subst (λ l. AreN
 })
 
 -- the number of a class, where it has one, is that of a node before the place; else it is the place
-module _ (nodes : List PlanNode) (place number : ℕ) (d : CachePlan) (classes : List ℕ) (old new : BTreeMap (List ℕ) ℕ) (at : cache_at nodes place ≡ Some d) (a : AreNumbered nodes place classes old) (step : Numbers d.class place number old new) where
+module _ (nodes : List PlanNode) (place number : ℕ) (d : CachePlan) (classes : List ℕ) (old new : BTreeMap (Bor (List ℕ)) ℕ) (at : cache_at nodes place ≡ Some d) (a : AreNumbered nodes place classes old) (step : Numbers d.class place number old new) where
   -- in the map as it is now, the class has its number
-  now_has : get text_cmp new d.class ≡ Some number
-  now_has = step.1 d.class ∙ ap (λ b. if b then Some number else get text_cmp old d.class) ((bytes_eq-Decides d.class d.class).1 refl)
+  now_has : number_in new d.class ≡ Some number
+  now_has = step.1 d.class ∙ ap (λ b. if b then Some number else number_in old d.class) ((bytes_eq-Decides d.class d.class).1 refl)
 
   -- what the map had before, it has
-  kept : (name : List ℕ) (k : ℕ) → get text_cmp old name ≡ Some k → get text_cmp new name ≡ Some k
+  kept : (name : List ℕ) (k : ℕ) → number_in old name ≡ Some k → number_in new name ≡ Some k
   kept name k q = kept_at (bytes_eq d.class name) refl
     where
-      kept_at : (b : Bool) → bytes_eq d.class name ≡ b → get text_cmp new name ≡ Some k
+      kept_at : (b : Bool) → bytes_eq d.class name ≡ b → number_in new name ≡ Some k
       kept_at true e =
-          let was = subst (λ t. get text_cmp old t ≡ Some k) (sym ((bytes_eq-Decides d.class name).0 e)) q in
-          step.1 name ∙ ap (λ b. if b then Some number else get text_cmp old name) e ∙ ap (λ o. Some o) (step.0 ∙ ap (λ o. some_or o place) was)
-      kept_at false e = step.1 name ∙ ap (λ b. if b then Some number else get text_cmp old name) e ∙ q
+          let was = subst (λ t. number_in old t ≡ Some k) (sym ((bytes_eq-Decides d.class name).0 e)) q in
+          step.1 name ∙ ap (λ b. if b then Some number else number_in old name) e ∙ ap (λ o. Some o) (step.0 ∙ ap (λ o. some_or o place) was)
+      kept_at false e = step.1 name ∙ ap (λ b. if b then Some number else number_in old name) e ∙ q
 
   -- what it has now, it had, or it is the number of the class
-  came : (name : List ℕ) (k : ℕ) → get text_cmp new name ≡ Some k → (b : Bool) → bytes_eq d.class name ≡ b → (o : Option ℕ) → get text_cmp old d.class ≡ o → (k < place + 1) × ((c : CachePlan) × (cache_at nodes k ≡ Some c) × (c.class ≡ name))
-  came name k q false e o w = let t = a.there name k (sym (ap (λ b. if b then Some number else get text_cmp old name) e) ∙ sym (step.1 name) ∙ q) in (omega (arith, t.0), t.1)
+  came : (name : List ℕ) (k : ℕ) → number_in new name ≡ Some k → (b : Bool) → bytes_eq d.class name ≡ b → (o : Option ℕ) → number_in old d.class ≡ o → (k < place + 1) × ((c : CachePlan) × (cache_at nodes k ≡ Some c) × (c.class ≡ name))
+  came name k q false e o w = let t = a.there name k (sym (ap (λ b. if b then Some number else number_in old name) e) ∙ sym (step.1 name) ∙ q) in (omega (arith, t.0), t.1)
   came name k q true e (Some j) w =
-      let is : j ≡ k = cc (sym (ap (λ o. some_or o place) w) ∙ sym step.0, sym (ap (λ b. if b then Some number else get text_cmp old name) e) ∙ sym (step.1 name) ∙ q) in
+      let is : j ≡ k = cc (sym (ap (λ o. some_or o place) w) ∙ sym step.0, sym (ap (λ b. if b then Some number else number_in old name) e) ∙ sym (step.1 name) ∙ q) in
       let t = a.there d.class k (w ∙ ap (λ x. Some x) is) in
       (omega (arith, t.0), (t.1.0, t.1.1, t.1.2 ∙ (bytes_eq-Decides d.class name).0 e))
   came name k q true e None w =
-      let is : place ≡ k = cc (sym (ap (λ o. some_or o place) w) ∙ sym step.0, sym (ap (λ b. if b then Some number else get text_cmp old name) e) ∙ sym (step.1 name) ∙ q) in
+      let is : place ≡ k = cc (sym (ap (λ o. some_or o place) w) ∙ sym step.0, sym (ap (λ b. if b then Some number else number_in old name) e) ∙ sym (step.1 name) ∙ q) in
       (omega (arith, is), (d, subst (λ j. cache_at nodes j ≡ Some d) is at, (bytes_eq-Decides d.class name).0 e))
 
   pub numbered_cached : (later : List ℕ) → later ≡ classes ++ number ∷ [] → AreNumbered nodes (place + 1) later new
@@ -198,31 +200,41 @@ module _ (nodes : List PlanNode) (place number : ℕ) (d : CachePlan) (classes :
     cached = λ n c lt q.
         ⊎_elim (λ (same : n ≡ place).
         let is : d.class ≡ c.class = ap (λ x. x.class) (some_one (cache_at nodes place) d c at (subst (λ k. cache_at nodes k ≡ Some c) same q)) in
-        subst (λ t. get text_cmp new t ≡ Some (class_of (classes ++ number ∷ []) n)) is (now_has ∙ ap (λ k. Some k) (sym (subst (λ k. class_of (classes ++ number ∷ []) k ≡ number) (sym same) (pushed_here classes place number a.long)))))
+        subst (λ t. number_in new t ≡ Some (class_of (classes ++ number ∷ []) n)) is (now_has ∙ ap (λ k. Some k) (sym (subst (λ k. class_of (classes ++ number ∷ []) k ≡ number) (sym same) (pushed_here classes place number a.long)))))
         (λ (other : n ≡ place → ⊥). kept c.class (class_of (classes ++ number ∷ []) n) (a.cached n c (omega (arith, lt, other)) q ∙ ap (λ k. Some k) (sym (pushed_before classes place number n a.long (omega (arith, lt, other))))))
         (same_or n place);
     alone = λ n lt q.
         ⊎_elim (λ (same : n ≡ place). absurd (some_none (cache_at nodes place) d at (subst (λ k. cache_at nodes k ≡ None) same q)))
         (λ (other : n ≡ place → ⊥). pushed_before classes place number n a.long (omega (arith, lt, other)) ∙ a.alone n (omega (arith, lt, other)) q)
         (same_or n place);
-    there = λ name k q. came name k q (bytes_eq d.class name) refl (get text_cmp old d.class) refl;
+    there = λ name k q. came name k q (bytes_eq d.class name) refl (number_in old d.class) refl;
   })
 
--- a class that has a number keeps it
-pub number_again : (class : List ℕ) (next number : ℕ) (numbers : BTreeMap (List ℕ) ℕ) → get text_cmp numbers class ≡ Some number → Numbers class next number numbers numbers
-number_again class next number numbers q = (sym (ap (λ o. some_or o next) q), λ name. again name (bytes_eq class name) refl)
+-- a table after one more number
+pub number_put : (class : Bor (List ℕ)) (number : ℕ) (old new : BTreeMap (Bor (List ℕ)) ℕ) → Updates text_cmp old new class (Some number) → (name : List ℕ)
+    → number_in new name ≡ (if bytes_eq class.now name then Some number else number_in old name)
+number_put class number old new updates name = updates.0 (query name) ∙ ap (λ b. cond b (Some number) (number_in old name)) (is_eq-slice_cmp class.now name)
+
+-- a class that has a number has it again
+pub number_again : (class : Bor (List ℕ)) (next number : ℕ) (old put new : BTreeMap (Bor (List ℕ)) ℕ) → number_in old class.now ≡ Some number → Updates text_cmp old put class (Some next) → Updates text_cmp put new class (Some number)
+    → Numbers class.now next number old new
+number_again class next number old put new was once again = (
+  sym (ap (λ o. some_or o next) was),
+  λ name.
+      number_put class number put new again name ∙ ap (λ o. if bytes_eq class.now name then Some number else o) (number_put class next old put once name)
+      ∙ twice (bytes_eq class.now name) (Some number) (Some next) (number_in old name),
+)
   where
-    again : (name : List ℕ) (b : Bool) → bytes_eq class name ≡ b → get text_cmp numbers name ≡ (if bytes_eq class name then Some number else get text_cmp numbers name)
-    again name true e = subst (λ t. get text_cmp numbers t ≡ Some number) ((bytes_eq-Decides class name).0 e) q ∙ sym (ap (λ b. if b then Some number else get text_cmp numbers name) e)
-    again name false e = sym (ap (λ b. if b then Some number else get text_cmp numbers name) e)
+    twice : (b : Bool) (x y z : Option ℕ) → cond b x (cond b y z) ≡ cond b x z
+    twice true x y z = refl
+    twice false x y z = refl
 
 -- one that has none gets the next
-pub number_new : (class copy : List ℕ) (next : ℕ) (old new : BTreeMap (List ℕ) ℕ) → copy ≡ class → get text_cmp old class ≡ None → Updates text_cmp old new copy (Some next) → Numbers class next next old new
-number_new class copy next old new same none updates =
-    (sym (ap (λ o. some_or o next) none), λ name. updates.0 name ∙ ap (λ b. cond b (Some next) (get text_cmp old name)) (text_tie copy name ∙ ap (λ c. bytes_eq c name) same))
+pub number_new : (class : Bor (List ℕ)) (next : ℕ) (old new : BTreeMap (Bor (List ℕ)) ℕ) → number_in old class.now ≡ None → Updates text_cmp old new class (Some next) → Numbers class.now next next old new
+number_new class next old new none updates = (sym (ap (λ o. some_or o next) none), number_put class next old new updates)
 
 -- all nodes are numbered
-module _ (nodes : List PlanNode) (place : ℕ) (classes : List ℕ) (numbers : BTreeMap (List ℕ) ℕ) (all : length nodes ≤ place) (a : AreNumbered nodes place classes numbers) where
+module _ (nodes : List PlanNode) (place : ℕ) (classes : List ℕ) (numbers : BTreeMap (Bor (List ℕ)) ℕ) (all : length nodes ≤ place) (a : AreNumbered nodes place classes numbers) where
   -- the number of a node, by its cache
   number_within : (n : ℕ) → n < length nodes → (o : Option CachePlan) → cache_at nodes n ≡ o → class_of classes n < length nodes
   number_within n lt (Some c) q = let t = a.there c.class (class_of classes n) (a.cached n c (omega (arith, lt, all)) q) in cached_there nodes (class_of classes n) t.1.0 t.1.1
@@ -233,7 +245,7 @@ module _ (nodes : List PlanNode) (place : ℕ) (classes : List ℕ) (numbers : B
       let c = first_cached (cache_at nodes m) (cache_at nodes n) q in
       let d = second_cached (cache_at nodes m) (cache_at nodes n) q in
       let same = same_texts (cache_at nodes m) (cache_at nodes n) c.0 d.0 c.1 d.1 q in
-      some_one (get text_cmp numbers c.0.class) (class_of classes m) (class_of classes n) (a.cached m c.0 (omega (arith, lt_m, all)) c.1) (ap (λ t. get text_cmp numbers t) same ∙ a.cached n d.0 (omega (arith, lt_n, all)) d.1)
+      some_one (number_in numbers c.0.class) (class_of classes m) (class_of classes n) (a.cached m c.0 (omega (arith, lt_m, all)) c.1) (ap (λ t. number_in numbers t) same ∙ a.cached n d.0 (omega (arith, lt_n, all)) d.1)
 
   -- a node with the number of a cached one is cached
   number_cached : (m n : ℕ) (c : CachePlan) → m < length nodes → cache_at nodes m ≡ Some c → class_of classes m ≡ n → cache_at nodes n ≡ None → ⊥

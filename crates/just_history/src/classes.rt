@@ -2,8 +2,6 @@
 
 ghost use Rattle.std.specs.Prelude.{◌≡◌, ◌<◌, ◌++◌, ◌∷◌, ◌⊎◌, [], ℕ, List, true, false, length, vec_len, Some, None, IfOk, MatchOption, option_map};
 ghost use Rattle.std.specs.Option.{option_copied};
-ghost use Rattle.std.specs.BTreeMap.{get};
-ghost use Rattle.just_closure.specs.Numbers.{text_cmp};
 ghost use Rattle.just_history.specs.declared.event.Event.{Event};
 ghost use Rattle.just_history.specs.declared.plan_node.PlanNode.{PlanNode};
 ghost use Rattle.just_history.specs.Cached.{class_is_open};
@@ -13,34 +11,37 @@ ghost use Rattle.just_history.specs.State.{is_open};
 ghost use Rattle.just_history.specs.Tables.{flag};
 
 use super::{Event, Plan};
-use just_text::{NoMemory, Text, TryClone};
+use just_text::NoMemory;
 use std::alloc::Global;
 use std::collections::BTreeMap;
 
 /// The class of the node at a place, if it has one.
-fn class_at(plan: &Plan, at: usize) -> Option<&Text>
+fn class_at(plan: &Plan, at: usize) -> Option<&str>
     requires { at < length plan.now.nodes }
     ensures { option_copied result ≡ option_map (λ c. c.class) (cache_at plan.now.nodes at) }
 {
     match &plan.nodes.as_slice()[at].cache {
-        Some(cache) => Some(&cache.class),
+        Some(cache) => Some(cache.class.as_str()),
         None => None,
     }
 }
 
 /// The number of a class: the one that it has, else the next.
-fn number_of(
-    numbers: &mut BTreeMap<Text, usize>,
-    class: &Text,
+fn number_of<'p>(
+    numbers: &mut BTreeMap<&'p str, usize>,
+    class: &'p str,
     next: usize,
 ) -> Result<usize, NoMemory>
     ensures { IfOk result (λ n. Numbers class.now next n numbers.old numbers.new) }
 {
-    if let Some(number) = numbers.get(class) {
-        return Ok(*number);
+    match numbers.insert(class, next)? {
+        None => Ok(next),
+        Some(number) => {
+            // it gets back the number that it had
+            numbers.insert(class, number)?;
+            Ok(number)
+        }
     }
-    numbers.insert(class.try_clone()?, next)?;
-    Ok(next)
 }
 
 /// For each node the number of its class: that of the first node of it.

@@ -53,14 +53,14 @@ scopes_in wanted j modules scopes = record { wanted = wanted; justfile = j; modu
 abbrev keys_in : Wanted → List Justfile → Scopes → List Key → KeysRequest
 keys_in wanted modules scopes keys = record { wanted = wanted; modules = modules; scopes = scopes; keys = keys }
 
-abbrev closure_in : Wanted → List Justfile → Scopes → Closure → ClosureRequest
+abbrev pub closure_in : Wanted → List Justfile → Scopes → Closure → ClosureRequest
 closure_in wanted modules scopes c = record { wanted = wanted; modules = modules; scopes = scopes; closure = c }
 
 abbrev outline_with : List (Node × NodePlan) → List ℕ → Option ℕ → List Bool → Outline
 outline_with nodes invocations jobs messages = record { nodes = nodes; invocations = invocations; jobs = jobs; messages = messages }
 
 -- the plan of a run that is wanted so
-abbrev outline : Wanted → Plan × List Bool → Outline
+abbrev pub outline : Wanted → Plan × List Bool → Outline
 outline wanted p = outline_of p.0 (option_map non_zero_u64_get wanted.jobs) p.1
 
 -- ---- behind the closure
@@ -78,24 +78,25 @@ module _ (wanted : Wanted) (scopes : Scopes) (c : Closure) where
         ∙ ap (λ (told : List Bool). outline_with (zip c.nodes plans.0) c.invocations jobs told) messages in
         (plans.0, plans.1, same)
 
-  -- its modules are one list
-  module _ (j : Justfile) (ms : List Justfile) (are : AreModules (j ∷ []) ms) where
-    same_plan : (r : Result Outline Error) → MakesPlan (closure_in wanted ms scopes c) r → (modules : List Justfile) → AreModules (j ∷ []) modules → MakesPlan (closure_in wanted modules scopes c) r
-    same_plan r plans modules others = subst (λ xs. MakesPlan (closure_in wanted xs scopes c) r) (same_modules (j ∷ []) ms modules are others) plans
+    pub closure_planned : (folder : List ℕ) → folder ≡ wanted.cache_folder → (p : Plan × List Bool)
+        → (plans : List NodePlan) × (plans_in wanted.flags folder ms scopes c ≡ Ok plans) × (map planned p.0.nodes ≡ zip c.nodes plans)
+        → p.0.invocations ≡ c.invocations → p.1 ≡ messages_of ms c.nodes → MakesPlan (closure_in wanted ms scopes c) (Ok (outline wanted p))
+    closure_planned folder at p plans invocations messages =
+        nodes_planned p (plans.0, subst (λ f. plans_in wanted.flags f ms scopes c ≡ Ok plans.0) at plans.1, plans.2) invocations messages
 
-    pub closure_planned : (folder : List ℕ) → folder ≡ wanted.cache_folder → (seen : Scopes) → seen ≡ scopes → (p : Plan × List Bool)
-        → (plans : List NodePlan) × (plans_in wanted.flags folder ms seen c ≡ Ok plans) × (map planned p.0.nodes ≡ zip c.nodes plans)
-        → p.0.invocations ≡ c.invocations → p.1 ≡ messages_of ms c.nodes
-        → (modules : List Justfile) → AreModules (j ∷ []) modules → MakesPlan (closure_in wanted modules scopes c) (Ok (outline wanted p))
-    closure_planned folder at seen same p plans invocations messages =
-        same_plan (Ok (outline wanted p)) (nodes_planned ms p
-        (plans.0, subst (λ s. plans_in wanted.flags wanted.cache_folder ms s c ≡ Ok plans.0) same (subst (λ f. plans_in wanted.flags f ms seen c ≡ Ok plans.0) at plans.1), plans.2) invocations messages)
+    pub closure_refused : (folder : List ℕ) → folder ≡ wanted.cache_folder → (e : Error) → OrMemory (λ x. RefusesNodes wanted.flags folder ms scopes c x) e
+        → OrMemory (λ x. MakesPlan (closure_in wanted ms scopes c) (Err x)) e
+    closure_refused folder at e (inl wants) = inl wants
+    closure_refused folder at e (inr why) = inr (subst (λ f. RefusesNodes wanted.flags f ms scopes c e) at why)
 
-    pub closure_refused : (folder : List ℕ) → folder ≡ wanted.cache_folder → (seen : Scopes) → seen ≡ scopes → (e : Error) → OrMemory (λ x. RefusesNodes wanted.flags folder ms seen c x) e
-        → OrMemory (λ x. (modules : List Justfile) → AreModules (j ∷ []) modules → MakesPlan (closure_in wanted modules scopes c) (Err x)) e
-    closure_refused folder at seen same e (inl wants) = inl wants
-    closure_refused folder at seen same e (inr why) =
-        inr (same_plan (Err e) (subst (λ s. RefusesNodes wanted.flags wanted.cache_folder ms s c e) same (subst (λ f. RefusesNodes wanted.flags f ms seen c e) at why)))
+-- the modules of a justfile are one list, so what holds of those that a request found holds of all
+module _ (j : Justfile) (ms : List Justfile) (are : AreModules (j ∷ []) ms) (seen scopes : Scopes) (same : seen ≡ scopes) where
+  pub in_all : (holds : List Justfile → Scopes → Type 0) → holds ms seen → (modules : List Justfile) → AreModules (j ∷ []) modules → holds modules scopes
+  in_all holds h modules others = subst (λ xs. holds xs scopes) (same_modules (j ∷ []) ms modules are others) (subst (λ s. holds ms s) same h)
+
+  pub or_in_all : (holds : List Justfile → Scopes → Error → Type 0) (e : Error) → OrMemory (λ x. holds ms seen x) e → OrMemory (λ x. (modules : List Justfile) → AreModules (j ∷ []) modules → holds modules scopes x) e
+  or_in_all holds e (inl wants) = inl wants
+  or_in_all holds e (inr h) = inr (in_all (λ xs s. holds xs s e) h)
 
 -- ---- behind the values of the variables
 

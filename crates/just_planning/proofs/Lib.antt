@@ -1,6 +1,5 @@
 -- The lemmas of plans.
 pub mod Alone
-pub mod AsMany
 pub mod Chain
 pub mod Found
 pub mod Laws

@@ -1,110 +1,77 @@
--- The nodes of a plan, which are made from the last one on.
-use Rattle.std.proofs.Common.{◌≡◌, ℕ, suc, ◌<◌, List, [], ◌∷◌, ◌++◌, length, map, zip, append_assoc, refl, ap, subst, sym, ◌∙◌, reverse, arith}
+-- The nodes of a plan, one more at a time.
+use Rattle.std.proofs.Common.{◌≡◌, ℕ, ◌<◌, List, [], ◌∷◌, ◌++◌, length, map, zip, append_assoc, Ok, Err, refl, ap, subst, sym, ◌∙◌, reverse}
 use Rattle.std.specs.Prelude.{All}
 use Rattle.std.proofs.lemmas.List.{reverse-append, length-map, map-append}
-use Rattle.std.proofs.lemmas.List.Elements.{All-append, All-cons, All-head, All-nil, All-tail}
+use Rattle.std.proofs.lemmas.List.Elements.{All-append, All-cons, All-nil}
 use Rattle.just_closure.specs.WellFormed.{IsWellFormed}
 use Rattle.just_lang.specs.declared.node.Node.{Node}
+use Rattle.just_plans.specs.declared.error.PlanError.{PlanError}
 use Rattle.just_plans.specs.declared.node_plan.NodePlan.{NodePlan}
-use Rattle.just_plans.specs.Caches.{IsPaired}
+use Rattle.just_plans.specs.Plans.{PlanAnswer, then_plan, each_plan}
 use Rattle.just_history.specs.declared.plan_node.PlanNode.{PlanNode}
-use Rattle.just_planning.specs.Planned.{planned}
+use Rattle.just_planning.specs.Planned.{node_planned, planned}
 
-none_some : {B : Type 0} (n : ℕ) → 0 ≡ suc n → B
-none_some n e = absurd (let f : ⊥ = cc in f)
+-- ---- what was planned, and what is left
 
-some_none : {B : Type 0} (n : ℕ) → suc n ≡ 0 → B
-some_none n e = absurd (let f : ⊥ = cc in f)
+abbrev pub behind : List NodePlan → PlanAnswer (List NodePlan) → PlanAnswer (List NodePlan)
+behind done rest = then_plan (λ e. e) rest (λ ys. Ok (done ++ ys))
 
-less_one : (n m : ℕ) → suc n ≡ suc m → n ≡ m
-less_one n m e = omega (arith, e)
+moved : (done : List NodePlan) (y : NodePlan) (rest : PlanAnswer (List NodePlan)) → behind (done ++ y ∷ []) rest ≡ behind done (then_plan (λ e. e) rest (λ ys. Ok (y ∷ ys)))
+moved done y (Ok ys) = ap (λ zs. Ok zs) (append_assoc done (y ∷ []) ys)
+moved done y (Err e) = refl
 
--- ---- the last of those that are left
+pub none_before : (r : PlanAnswer (List NodePlan)) → behind [] r ≡ r
+none_before (Ok ys) = refl
+none_before (Err e) = refl
 
-zip_last : (ns : List Node) (ps : List NodePlan) (n : Node) (p : NodePlan) → length ns ≡ length ps → zip (ns ++ n ∷ []) (ps ++ p ∷ []) ≡ zip ns ps ++ (n, p) ∷ []
-zip_last [] [] n p same = refl
-zip_last [] (q ∷ qs) n p same = none_some (length qs) same
-zip_last (m ∷ ms) [] n p same = some_none (length ms) same
-zip_last (m ∷ ms) (q ∷ qs) n p same = ap (λ xs. (m, q) ∷ xs) (zip_last ms qs n p (less_one (length ms) (length qs) same))
+-- the last one of those that are left comes first
+turned : (ns left : List Node) (n : Node) → left ≡ ns ++ n ∷ [] → reverse left ≡ n ∷ reverse ns
+turned ns left n was = ap (λ (xs : List Node). reverse xs) was ∙ reverse-append ns (n ∷ [])
 
--- one node more, of the last of those that are left
-zip_popped : (ns : List Node) (ps : List NodePlan) (n : Node) (p : NodePlan) (made : List (Node × NodePlan)) → length ns ≡ length ps
-    → zip ns ps ++ reverse (made ++ (n, p) ∷ []) ≡ zip (ns ++ n ∷ []) (ps ++ p ∷ []) ++ reverse made
-zip_popped ns ps n p made same =
-    ap (λ zs. zip ns ps ++ zs) (reverse-append made ((n, p) ∷ [])) ∙ sym (append_assoc (zip ns ps) ((n, p) ∷ []) (reverse made)) ∙ ap (λ zs. zs ++ reverse made) (sym (zip_last ns ps n p same))
+module _ (f : Node → PlanAnswer NodePlan) (ns left : List Node) (n : Node) (was : left ≡ ns ++ n ∷ []) (done : List NodePlan) where
+  one_by : (a : PlanAnswer NodePlan) → f n ≡ a → behind done (each_plan f (reverse left)) ≡ behind done (then_plan (λ e. e) a (λ z. then_plan (λ e. e) (each_plan f (reverse ns)) (λ zs. Ok (z ∷ zs))))
+  one_by a is = ap (λ xs. behind done (each_plan f xs)) (turned ns left n was) ∙ ap (λ r. behind done (then_plan (λ e. e) r (λ z. then_plan (λ e. e) (each_plan f (reverse ns)) (λ zs. Ok (z ∷ zs))))) is
 
--- as many are left of both
-length_last : {A : Type 0} (xs : List A) (x : A) → length (xs ++ x ∷ []) ≡ suc (length xs)
-length_last [] x = refl
-length_last (y ∷ ys) x = ap (λ k. suc k) (length_last ys x)
+  -- a plan more
+  pub plan_more : (y : NodePlan) → f n ≡ Ok y → behind (done ++ y ∷ []) (each_plan f (reverse ns)) ≡ behind done (each_plan f (reverse left))
+  plan_more y is = moved done y (each_plan f (reverse ns)) ∙ sym (one_by (Ok y) is)
 
-pub even_popped : (ns : List Node) (ps : List NodePlan) (n : Node) (p : NodePlan) (left : List Node) (beside : List NodePlan) → left ≡ ns ++ n ∷ [] → beside ≡ ps ++ p ∷ [] → length left ≡ length beside → length ns ≡ length ps
-even_popped ns ps n p left beside was had same =
-    less_one (length ns) (length ps) (sym (length_last ns n) ∙ sym (ap (λ (xs : List Node). length xs) was) ∙ same ∙ ap (λ (xs : List NodePlan). length xs) had ∙ length_last ps p)
+  -- a refusal
+  pub plan_refusal : (e : PlanError) → f n ≡ Err e → behind done (each_plan f (reverse left)) ≡ Err e
+  plan_refusal e is = one_by (Err e) is
 
--- what is planned for the nodes so far and for one more
-planned_pushed : (made more : List PlanNode) (x : PlanNode) (n : Node) (p : NodePlan) → planned x ≡ (n, p) → more ≡ made ++ x ∷ [] → map planned more ≡ map planned made ++ (n, p) ∷ []
-planned_pushed made more x n p is grew = ap (λ (xs : List PlanNode). map planned xs) grew ∙ map-append planned made (x ∷ []) ∙ ap (λ (y : Node × NodePlan). map planned made ++ y ∷ []) is
+-- a plan more, of what was made for a node
+pub made_more : (f : Node → PlanAnswer NodePlan) (ns left : List Node) (n : Node) → left ≡ ns ++ n ∷ [] → (made more : List PlanNode) (x : PlanNode) → more ≡ made ++ x ∷ [] → f n ≡ Ok (node_planned x)
+    → behind (map node_planned more) (each_plan f (reverse ns)) ≡ behind (map node_planned made) (each_plan f (reverse left))
+made_more f ns left n was made more x grew is =
+    ap (λ ps. behind ps (each_plan f (reverse ns))) (ap (λ (xs : List PlanNode). map node_planned xs) grew ∙ map-append node_planned made (x ∷ []))
+    ∙ plan_more f ns left n was (map node_planned made) (node_planned x) is
 
--- so the nodes that are left and those so far make what they made before
-pub nodes_popped : (ns : List Node) (ps : List NodePlan) (n : Node) (p : NodePlan) (left : List Node) (beside : List NodePlan) (made more : List PlanNode) (x : PlanNode)
-    → left ≡ ns ++ n ∷ [] → beside ≡ ps ++ p ∷ [] → planned x ≡ (n, p) → more ≡ made ++ x ∷ [] → length ns ≡ length ps
-    → zip ns ps ++ reverse (map planned more) ≡ zip left beside ++ reverse (map planned made)
-nodes_popped ns ps n p left beside made more x was had is grew same =
-    ap (λ (xs : List (Node × NodePlan)). zip ns ps ++ reverse xs) (planned_pushed made more x n p is grew) ∙ zip_popped ns ps n p (map planned made) same
-    ∙ ap (λ (xs : List Node). zip xs (ps ++ p ∷ []) ++ reverse (map planned made)) (sym was) ∙ ap (λ (qs : List NodePlan). zip left qs ++ reverse (map planned made)) (sym had)
+-- a node more
+pub node_more : (ns left : List Node) (n : Node) → left ≡ ns ++ n ∷ [] → (made more : List PlanNode) (x : PlanNode) → more ≡ made ++ x ∷ [] → x.node ≡ n
+    → map (λ x. x.node) more ++ reverse ns ≡ map (λ x. x.node) made ++ reverse left
+node_more ns left n was made more x grew same =
+    ap (λ (xs : List PlanNode). map (λ x. x.node) xs ++ reverse ns) grew ∙ ap (λ (xs : List Node). xs ++ reverse ns) (map-append (λ (x : PlanNode). x.node) made (x ∷ []))
+    ∙ append_assoc (map (λ (x : PlanNode). x.node) made) (x.node ∷ []) (reverse ns) ∙ ap (λ m. map (λ (x : PlanNode). x.node) made ++ m ∷ reverse ns) same
+    ∙ ap (λ xs. map (λ (x : PlanNode). x.node) made ++ xs) (sym (turned ns left n was))
 
--- what holds of each of some nodes, and of one more, holds of each of both
+-- what holds of each of some, and of one more, holds of each of both
 pub all_pushed : {A : Type 0} (P : A → Type 0) (made more : List A) (x : A) → more ≡ made ++ x ∷ [] → All P made → P x → All P more
 all_pushed P made more x grew all one = subst (λ ys. All P ys) (sym grew) (All-append P made (x ∷ []) all (All-cons P x [] one (All-nil P)))
 
--- what holds of each of some holds of the last one, and of each before it
-all_last : {A : Type 0} (P : A → Type 0) (xs : List A) (x : A) → All P (xs ++ x ∷ []) → P x
-all_last P [] x all = All-head P x [] all
-all_last P (y ∷ ys) x all = all_last P ys x (All-tail P y (ys ++ x ∷ []) all)
-
-all_before : {A : Type 0} (P : A → Type 0) (xs : List A) (x : A) → All P (xs ++ x ∷ []) → All P xs
-all_before P [] x all = All-nil P
-all_before P (y ∷ ys) x all = All-cons P y ys (All-head P y (ys ++ x ∷ []) all) (all_before P ys x (All-tail P y (ys ++ x ∷ []) all))
-
-pub paired_last : (ps beside : List NodePlan) (p : NodePlan) → beside ≡ ps ++ p ∷ [] → All (λ p. IsPaired p.cache) beside → IsPaired p.cache
-paired_last ps beside p had all = all_last (λ (q : NodePlan). IsPaired q.cache) ps p (subst (λ (qs : List NodePlan). All (λ p. IsPaired p.cache) qs) had all)
-
-pub paired_before : (ps beside : List NodePlan) (p : NodePlan) → beside ≡ ps ++ p ∷ [] → All (λ p. IsPaired p.cache) beside → All (λ p. IsPaired p.cache) ps
-paired_before ps beside p had all = all_before (λ (q : NodePlan). IsPaired q.cache) ps p (subst (λ (qs : List NodePlan). All (λ p. IsPaired p.cache) qs) had all)
-
 -- ---- all of them
 
--- the nodes are those of the closure, where each has its plan
-firsts : (ns : List Node) (ps : List NodePlan) → length ns ≡ length ps → map (λ (x : Node × NodePlan). x.0) (zip ns ps) ≡ ns
-firsts [] ps same = refl
-firsts (n ∷ ns) [] same = some_none (length ns) same
-firsts (n ∷ ns) (p ∷ ps) same = ap (λ ms. n ∷ ms) (firsts ns ps (less_one (length ns) (length ps) same))
+-- each node stands with what is planned for it
+pub planned_zip : (made : List PlanNode) → map planned made ≡ zip (map (λ x. x.node) made) (map node_planned made)
+planned_zip [] = refl
+planned_zip (x ∷ xs) = ap (λ zs. planned x ∷ zs) (planned_zip xs)
 
-nodes_of : (made : List PlanNode) → map (λ (x : PlanNode). x.node) made ≡ map (λ (x : Node × NodePlan). x.0) (map planned made)
-nodes_of [] = refl
-nodes_of (x ∷ xs) = ap (λ ms. x.node ∷ ms) (nodes_of xs)
-
-pub nodes_of_plans : (ns : List Node) (ps : List NodePlan) (made : List PlanNode) → length ns ≡ length ps → map planned made ≡ zip ns ps → map (λ x. x.node) made ≡ ns
-nodes_of_plans ns ps made same are = nodes_of made ∙ ap (λ (xs : List (Node × NodePlan)). map (λ (x : Node × NodePlan). x.0) xs) are ∙ firsts ns ps same
+pub planned_nodes : (ns : List Node) (made : List PlanNode) → map (λ x. x.node) made ≡ ns → map planned made ≡ zip ns (map node_planned made)
+planned_nodes ns made same = planned_zip made ∙ ap (λ ms. zip ms (map node_planned made)) same
 
 -- so they are well formed, as the closure is, and as many
-pub well_planned : (ns : List Node) (invocations : List ℕ) (ps : List NodePlan) (made : List PlanNode) → length ns ≡ length ps → map planned made ≡ zip ns ps → IsWellFormed ns invocations → ∥ IsWellFormed (map (λ x. x.node) made) invocations ∥₁
-well_planned ns invocations ps made same are well = ∣ subst (λ (ms : List Node). IsWellFormed ms invocations) (sym (nodes_of_plans ns ps made same are)) well ∣₁
+pub well_planned : (ns : List Node) (invocations : List ℕ) (made : List PlanNode) → map (λ x. x.node) made ≡ ns → IsWellFormed ns invocations → ∥ IsWellFormed (map (λ x. x.node) made) invocations ∥₁
+well_planned ns invocations made same well = ∣ subst (λ (ms : List Node). IsWellFormed ms invocations) (sym same) well ∣₁
 
-pub few_planned : (ns : List Node) (ps : List NodePlan) (made : List PlanNode) (limit : ℕ) → length ns ≡ length ps → map planned made ≡ zip ns ps → length ns < limit → length made < limit
-few_planned ns ps made limit same are few =
-    subst (λ k. k < limit) (sym (sym (length-map made (λ (x : PlanNode). x.node)) ∙ ap (λ (ms : List Node). length ms) (nodes_of_plans ns ps made same are))) few
-
--- what holds of each holds of each in the other order
-pub all_reversed : {A : Type 0} (P : A → Type 0) (xs : List A) → All P xs → All P (reverse xs)
-all_reversed P [] all = All-nil P
-all_reversed P (x ∷ xs) all =
-    subst (λ ys. All P ys) (sym (reverse-append (x ∷ []) xs)) (All-append P (reverse xs) (x ∷ []) (all_reversed P xs (All-tail P x xs all)) (All-cons P x [] (All-head P x xs all) (All-nil P)))
-
--- what is planned for them in the other order
-pub planned_reversed : (xs : List PlanNode) → map planned (reverse xs) ≡ reverse (map planned xs)
-planned_reversed [] = refl
-planned_reversed (x ∷ xs) =
-    ap (λ (ys : List PlanNode). map planned ys) (reverse-append (x ∷ []) xs) ∙ map-append planned (reverse xs) (x ∷ []) ∙ ap (λ (ys : List (Node × NodePlan)). ys ++ planned x ∷ []) (planned_reversed xs)
-    ∙ sym (reverse-append (planned x ∷ []) (map planned xs))
+pub few_planned : (ns : List Node) (made : List PlanNode) (limit : ℕ) → map (λ x. x.node) made ≡ ns → length ns < limit → length made < limit
+few_planned ns made limit same few = subst (λ k. k < limit) (sym (sym (length-map made (λ (x : PlanNode). x.node)) ∙ ap (λ (ms : List Node). length ms) same)) few

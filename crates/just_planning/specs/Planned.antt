@@ -16,7 +16,7 @@ use Rattle.just_commands.specs.declared.run_flags.RunFlags.{RunFlags}
 use Rattle.just_lines.specs.Bodies.{body_lines}
 use Rattle.just_plans.specs.declared.error.PlanError.{PlanError}
 use Rattle.just_plans.specs.declared.error.PlanError.TheVariants as plan_error
-use Rattle.just_plans.specs.Plans.{node_plans}
+use Rattle.just_plans.specs.Plans.{plan_of_node, node_plans}
 use Rattle.just_errors.specs.Refusals.{error_of_lang}
 use Rattle.just_errors.specs.declared.error.Error.{Error}
 use Rattle.just_errors.specs.declared.error.Error.TheVariants as error
@@ -55,7 +55,11 @@ message_at (Some l) = prints_code (settings_of l.parent) l.recipe.attributes
 abbrev pub messages_of : List Justfile → List Node → List Bool
 messages_of modules nodes = map (λ n. message_at (recipe_at modules n.key.recipe)) nodes
 
--- what is planned for each of some nodes, or the first refusal; and for each of a closure. The entries of caches stand in that folder
+-- what is planned for a node, or why its body can't be run. The entries of caches stand in that folder
+abbrev pub plan_for : RunFlags → List ℕ → List Justfile → Scopes → Node → Result NodePlan PlanError
+plan_for flags folder modules scopes node = plan_of_node flags folder modules scopes (body_lines modules scopes) (changes_of modules scopes) node
+
+-- for each of some nodes, or the first refusal; and for each of a closure
 abbrev pub plans_for : RunFlags → List ℕ → List Justfile → Scopes → List Node → Result (List NodePlan) PlanError
 plans_for flags folder modules scopes nodes = node_plans flags folder modules scopes (body_lines modules scopes) (changes_of modules scopes) nodes
 

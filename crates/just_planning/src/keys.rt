@@ -1,10 +1,11 @@
 //! From the values of a project's variables to the plan of a run.
 
-ghost use Rattle.std.specs.Prelude.{◌≡◌, ◌≢◌, ◌<◌, ◌^◌, ◌∷◌, [], List, length, option_map, Ok, Err, IfOk, IfErr};
+ghost use Rattle.std.specs.Prelude.{◌≡◌, ◌≢◌, ◌<◌, ◌^◌, ◌∷◌, [], List, length, map, option_map, Ok, Err, IfOk, IfErr};
 ghost use Rattle.std.specs.Int.NonZero.{non_zero_u64_get};
 ghost use Rattle.just_lang.specs.declared.project.Justfile.{Justfile};
 ghost use Rattle.just_lang.specs.declared.project.LangError.{LangError};
 ghost use Rattle.just_closure.specs.WellFormed.{IsWellFormed};
+ghost use Rattle.just_eval.specs.Requests.{IsIndexed};
 ghost use Rattle.just_value.specs.Modules.{AreModules};
 ghost use Rattle.just_planning.specs.Own.{OrMemory};
 ghost use Rattle.just_planning.specs.Projects.{IsSound};
@@ -13,7 +14,7 @@ ghost use Rattle.just_planning.specs.Request.{outline_of, AsksKeys, MakesPlan, P
 use super::Wanted;
 use super::planning::plan_of;
 use just_errors::Error;
-use just_eval::{Request, closure};
+use just_eval::{Request, closure_within};
 use just_history::Plan;
 use just_invocations::{invocations, within_one};
 use just_lang::project::{Justfile, LangError};
@@ -44,19 +45,18 @@ fn keys_of(
 /// The plan of the closure of what the words ask for.
 fn plan_of_closure(
     alloc: Global,
-    justfile: &Justfile,
-    scopes: &Scopes,
+    request: &Request<'_>,
     wanted: &Wanted,
     closure: Closure,
 ) -> Result<(Plan, Seq<bool>), Error>
+    requires indexed { IsIndexed request.now }
     requires formed { IsWellFormed closure.nodes closure.invocations }
     requires few { length closure.nodes < 2 ^ 32 }
-    ensures plan { IfOk result (λ p. (modules : List Justfile) → AreModules (justfile.now ∷ []) modules → MakesPlan (record { wanted = wanted.now; modules = modules; scopes = scopes.now; closure = closure }) (Ok (outline_of p.0 (option_map non_zero_u64_get wanted.now.jobs) p.1))) }
-    ensures refused { IfErr result (OrMemory (λ e. (modules : List Justfile) → AreModules (justfile.now ∷ []) modules → MakesPlan (record { wanted = wanted.now; modules = modules; scopes = scopes.now; closure = closure }) (Err e))) }
+    ensures plan { IfOk result (λ p. MakesPlan (record { wanted = wanted.now; modules = map (λ m. m.now) request.now.modules.items; scopes = request.now.scopes.now; closure = closure }) (Ok (outline_of p.0 (option_map non_zero_u64_get wanted.now.jobs) p.1))) }
+    ensures refused { IfErr result (OrMemory (λ e. MakesPlan (record { wanted = wanted.now; modules = map (λ m. m.now) request.now.modules.items; scopes = request.now.scopes.now; closure = closure }) (Err e))) }
 {
-    let request = Request::new(alloc, justfile, scopes)?;
     let folder = wanted.cache_folder.as_path();
-    match plan_of(alloc, &request, &wanted.flags, folder, closure) {
+    match plan_of(alloc, request, &wanted.flags, folder, closure) {
         Ok(planned) => Ok(planned),
         Err(error) => Err(error),
     }
@@ -77,11 +77,12 @@ pub(crate) fn plan_of_keys(
         Ok(keys) => keys,
         Err(error) => return Err(Error::from(error)),
     };
-    let closure = match closure(alloc, justfile, scopes, keys.as_slice(), wanted.no_deps) {
+    let request = Request::new(alloc, justfile, scopes)?;
+    let closure = match closure_within(alloc, &request, keys.as_slice(), wanted.no_deps) {
         Ok(closure) => closure,
         Err(error) => return Err(Error::from(error)),
     };
-    match plan_of_closure(alloc, justfile, scopes, wanted, closure) {
+    match plan_of_closure(alloc, &request, wanted, closure) {
         Ok(planned) => Ok(planned),
         Err(error) => Err(error),
     }

@@ -11,7 +11,7 @@ ghost use Rattle.just_plans.specs.declared.node_plan.NodePlan.{NodePlan};
 ghost use Rattle.just_commands.specs.Steps.{commands_of};
 ghost use Rattle.just_planning.specs.Own.{OrMemory};
 ghost use Rattle.just_plans.specs.Caches.{IsPaired};
-ghost use Rattle.just_planning.specs.Planned.{changes_of, cache_planned, planned, message_at, messages_of, plans_for, plans_in, error_of_command, error_of_plan, RefusesNodes};
+ghost use Rattle.just_planning.specs.Planned.{changes_of, cache_planned, node_planned, planned, message_at, messages_of, plan_for, plans_for, plans_in, error_of_command, error_of_plan, RefusesNodes};
 
 use just_changes::changes_of_recipe;
 use just_commands::{CommandError, RunFlags, Work, prints_code};
@@ -23,7 +23,7 @@ use just_lang::project::LangError;
 use just_lang::{BodyLine, Closure, Key, Node};
 use just_lines::lines_of;
 use just_path::Utf8Path;
-use just_plans::{Bodies, NodeCache, NodePlan, PlanError, node_plans};
+use just_plans::{Bodies, NodeCache, NodePlan, PlanError, key_plan};
 use just_text::{NoMemory, Seq, Text};
 use just_value::View;
 use std::alloc::Global;
@@ -157,28 +157,56 @@ fn plan_node(alloc: Global, node: Node, plan: NodePlan) -> Result<PlanNode, NoMe
     })
 }
 
-/// The nodes of a plan, which are made from the last one on.
-#[tactic(auto, using(crate::proofs::PlanNodes::all_reversed, crate::proofs::PlanNodes::planned_reversed))]
+/// A node with what is planned for its key, where its body can be run.
+fn planned_node(
+    alloc: Global,
+    request: &Request<'_>,
+    flags: &RunFlags,
+    folder: Utf8Path<'_>,
+    node: Node,
+) -> Result<PlanNode, Error>
+    requires { IsIndexed request.now }
+    ensures planned { IfOk result (λ x. (x.node ≡ node) × (plan_for flags.now (text_of folder.entry) (map (λ m. m.now) request.now.modules.items) request.now.scopes.now node ≡ Ok (node_planned x))) }
+    ensures short { IfOk result (λ x. length (commands_of x.work) < 2 ^ 32) }
+    ensures refused { IfErr result (OrMemory (λ e. (f : PlanError) × (plan_for flags.now (text_of folder.entry) (map (λ m. m.now) request.now.modules.items) request.now.scopes.now node ≡ Err f) × (e ≡ error_of_plan f))) }
+{
+    let bodies = ProjectBodies { request };
+    match key_plan(alloc, request, &bodies, flags, folder, &node.key) {
+        Ok(plan) => Ok(plan_node(alloc, node, plan)?),
+        Err(error) => Err(plan_error(error)),
+    }
+}
+
+/// The nodes of a plan, each with what is planned for it. The first whose body can't be run refuses it.
 fn plan_nodes(
     alloc: Global,
+    request: &Request<'_>,
+    flags: &RunFlags,
+    folder: Utf8Path<'_>,
     nodes: Seq<Node>,
-    plans: Seq<NodePlan>,
-) -> Result<Seq<PlanNode>, NoMemory>
-    requires same { length nodes ≡ length plans }
-    requires paired { All (λ p. IsPaired p.cache) plans }
-    ensures nodes { IfOk result (λ made. map planned made ≡ zip nodes plans) }
+) -> Result<Seq<PlanNode>, Error>
+    requires { IsIndexed request.now }
+    ensures nodes { IfOk result (λ made. (map (λ x. x.node) made ≡ nodes) × (plans_for flags.now (text_of folder.entry) (map (λ m. m.now) request.now.modules.items) request.now.scopes.now nodes ≡ Ok (map node_planned made))) }
     ensures short { IfOk result (All (λ x. length (commands_of x.work) < 2 ^ 32)) }
+    ensures refused { IfErr result (OrMemory (λ e. (f : PlanError) × (plans_for flags.now (text_of folder.entry) (map (λ m. m.now) request.now.modules.items) request.now.scopes.now nodes ≡ Err f) × (e ≡ error_of_plan f))) }
 {
     let mut left = nodes.into_vec();
-    let mut beside = plans.into_vec();
-    let mut made = Vec::with_capacity(alloc, left.len())?;
+    let mut made = match Vec::with_capacity(alloc, left.len()) {
+        Ok(made) => made,
+        Err(_) => return Err(Error::NoMemory),
+    };
+    // the first one is at the end, from which they are taken
+    left.reverse();
     'nodes: while let Some(node) = left.pop() {
-        let Some(plan) = beside.pop() else {
-            return Err(NoMemory);
+        let planned = match planned_node(alloc, request, flags, folder, node) {
+            Ok(planned) => planned,
+            Err(error) => return Err(error),
         };
-        made.push(plan_node(alloc, node, plan)?)?;
+        match made.push(planned) {
+            Ok(()) => {}
+            Err(_) => return Err(Error::NoMemory),
+        }
     }
-    made.reverse();
     Ok(Seq::from(made))
 }
 
@@ -206,44 +234,6 @@ fn messages_of(alloc: Global, request: &Request<'_>, nodes: &[Node]) -> Result<S
     Ok(Seq::from(messages))
 }
 
-/// What is planned for each of some nodes. The first whose body can't be run refuses it.
-fn plans_of(
-    alloc: Global,
-    request: &Request<'_>,
-    flags: &RunFlags,
-    folder: Utf8Path<'_>,
-    nodes: &[Node],
-) -> Result<Seq<NodePlan>, Error>
-    requires { IsIndexed request.now }
-    ensures plans { IfOk result (λ plans. plans_for flags.now (text_of folder.entry) (map (λ m. m.now) request.now.modules.items) request.now.scopes.now nodes.now ≡ Ok plans) }
-    ensures paired { IfOk result (All (λ p. IsPaired p.cache)) }
-    ensures refused { IfErr result (OrMemory (λ e. (f : PlanError) × (plans_for flags.now (text_of folder.entry) (map (λ m. m.now) request.now.modules.items) request.now.scopes.now nodes.now ≡ Err f) × (e ≡ error_of_plan f))) }
-{
-    let bodies = ProjectBodies { request };
-    match node_plans(alloc, request, &bodies, flags, folder, nodes) {
-        Ok(plans) => Ok(plans),
-        Err(error) => Err(plan_error(error)),
-    }
-}
-
-/// The plan with these nodes, each with what is planned for it.
-fn plan_with(
-    alloc: Global,
-    nodes: Seq<Node>,
-    invocations: Seq<u32>,
-    plans: Seq<NodePlan>,
-) -> Result<Plan, NoMemory>
-    requires formed { IsWellFormed nodes invocations }
-    requires few { length nodes < 2 ^ 32 }
-    requires same { length nodes ≡ length plans }
-    requires paired { All (λ p. IsPaired p.cache) plans }
-    ensures nodes { IfOk result (λ p. map planned p.nodes ≡ zip nodes plans) }
-    ensures invocations { IfOk result (λ p. p.invocations ≡ invocations) }
-{
-    let nodes = plan_nodes(alloc, nodes, plans)?;
-    Ok(Plan { nodes, invocations })
-}
-
 /// The plan of a closure, with of each node whether the message of its exit code is told. The entries of caches stand in that folder. The
 /// first node whose body can't be run, or whose cache has no values, refuses it.
 pub(crate) fn plan_of(
@@ -262,11 +252,10 @@ pub(crate) fn plan_of(
     ensures refused { IfErr result (OrMemory (λ e. RefusesNodes flags.now (text_of folder.entry) (map (λ m. m.now) request.now.modules.items) request.now.scopes.now closure e)) }
 {
     let Closure { nodes, invocations } = closure;
-    let plans = match plans_of(alloc, request, flags, folder, nodes.as_slice()) {
-        Ok(plans) => plans,
+    let messages = messages_of(alloc, request, nodes.as_slice())?;
+    let nodes = match plan_nodes(alloc, request, flags, folder, nodes) {
+        Ok(nodes) => nodes,
         Err(error) => return Err(error),
     };
-    let messages = messages_of(alloc, request, nodes.as_slice())?;
-    let plan = plan_with(alloc, nodes, invocations, plans)?;
-    Ok((plan, messages))
+    Ok((Plan { nodes, invocations }, messages))
 }

@@ -1,5 +1,4 @@
 -- The lemmas of plans.
 pub mod Caching
-pub mod Each
 pub mod KeyPlans
 pub mod Paired

@@ -1,15 +1,13 @@
 -- The cache that is planned for a node has as many paths as inputs.
 use Rattle.std.proofs.Common.{◌≡◌, ℕ, Bool, true, false, List, [], ◌∷◌, Option, Some, None, Result, Ok, Err, refl, subst}
-use Rattle.std.specs.Prelude.{All, if◌then◌else◌, codes}
+use Rattle.std.specs.Prelude.{if◌then◌else◌, codes, IfOk}
 use Rattle.std.proofs.lemmas.List.{length-map}
-use Rattle.std.proofs.lemmas.List.Elements.{All-cons, All-nil}
 use Rattle.just_outside.specs.declared.entry.Script.{Script}
 use Rattle.just_outside.specs.declared.entry.Spec.{Spec}
 use Rattle.just_syntax.specs.declared.ast.Attribute.{Attribute}
 use Rattle.just_lang.specs.declared.key.Key.{Key}
 use Rattle.just_lang.specs.declared.key.Value.{Value}
 use Rattle.just_lang.specs.declared.node.BodyLine.{BodyLine}
-use Rattle.just_lang.specs.declared.node.Node.{Node}
 use Rattle.just_lang.specs.declared.project.Justfile.{Justfile}
 use Rattle.just_lang.specs.declared.scope.Scopes.{Scopes}
 use Rattle.just_value.specs.Answers.{Answer, and_then}
@@ -21,7 +19,7 @@ use Rattle.just_plans.specs.declared.error.PlanError.{PlanError}
 use Rattle.just_plans.specs.declared.node_cache.NodeCache.{NodeCache}
 use Rattle.just_plans.specs.declared.node_plan.NodePlan.{NodePlan}
 use Rattle.just_plans.specs.Caches.{IsPaired, cache_attribute, keyed_texts, texts_under, path_in, cache_of, script_child, cache_by, recipe_cache}
-use Rattle.just_plans.specs.Plans.{PlanAnswer, then_plan, each_plan, running, node_plan, no_plan, run_plan, recipe_plan, key_plan, plan_of_node, node_plans}
+use Rattle.just_plans.specs.Plans.{PlanAnswer, GivesPlan, then_plan, running, node_plan, no_plan, run_plan, recipe_plan, key_plan}
 
 found_one : {A E : Type 0} (x y : A) → ◌≡◌ {A = Result A E} (Ok x) (Ok y) → x ≡ y
 found_one x y is = cc
@@ -73,18 +71,12 @@ paired_recipe flags folder scopes None values changes lines p is = subst (λ (q 
 paired_recipe flags folder scopes (Some from) values changes lines p is = paired_run scopes from (running flags from values changes) folder lines p is
 
 module _ (flags : RunFlags) (folder : List ℕ) (modules : List Justfile) (scopes : Scopes) (lines : Key → Answer (List BodyLine)) (changes : Key → List (List ℕ × Option (List ℕ))) where
-  paired_key : (k : Key) (p : NodePlan) → key_plan flags folder modules scopes lines changes k ≡ Ok p → IsPaired p.cache
+  pub paired_key : (k : Key) (p : NodePlan) → key_plan flags folder modules scopes lines changes k ≡ Ok p → IsPaired p.cache
   paired_key k p is =
       let body = both_found _ (lines k) _ p is in
       paired_recipe flags folder scopes (recipe_at modules k.recipe) k.arguments (changes k) body.0 p body.2
 
-  paired_each : (ns : List Node) (ps : List NodePlan) → each_plan (plan_of_node flags folder modules scopes lines changes) ns ≡ Ok ps → All (λ p. IsPaired p.cache) ps
-  paired_each [] ps is = subst (λ (qs : List NodePlan). All (λ p. IsPaired p.cache) qs) (found_one [] ps is) (All-nil (λ (p : NodePlan). IsPaired p.cache))
-  paired_each (n ∷ ns) ps is =
-      let one = both_found _ (plan_of_node flags folder modules scopes lines changes n) _ ps is in
-      let rest = both_found _ (each_plan (plan_of_node flags folder modules scopes lines changes) ns) _ ps one.2 in
-      subst (λ (qs : List NodePlan). All (λ p. IsPaired p.cache) qs) (found_one (one.0 ∷ rest.0) ps rest.2)
-      (All-cons (λ (p : NodePlan). IsPaired p.cache) one.0 rest.0 (paired_key n.key one.0 one.1) (paired_each ns rest.0 rest.1))
-
-  pub plans_paired : (ns : List Node) (ps : List NodePlan) → node_plans flags folder modules scopes lines changes ns ≡ Ok ps → All (λ p. IsPaired p.cache) ps
-  plans_paired ns ps is = paired_each ns ps is
+-- so it has where a call gives it
+pub paired_given : (answer r : PlanAnswer NodePlan) → GivesPlan answer r → ((p : NodePlan) → answer ≡ Ok p → IsPaired p.cache) → IfOk r (λ p. IsPaired p.cache)
+paired_given answer (Ok p) given holds = holds p given
+paired_given answer (Err e) given holds = tt

@@ -21,4 +21,4 @@ pub use error::PlanError;
 pub use heading::banner;
 pub use node_cache::NodeCache;
 pub use node_plan::NodePlan;
-pub use plans::node_plans;
+pub use plans::key_plan;

@@ -1,12 +1,12 @@
-//! The plans of nodes.
+//! The plans of keys.
 
-ghost use Rattle.std.specs.Prelude.{◌≡◌, All, IfOk, map};
+ghost use Rattle.std.specs.Prelude.{◌≡◌, IfOk, map};
 ghost use Rattle.just_path.specs.Path.{text_of};
 ghost use Rattle.just_commands.specs.Works.{run_of};
 ghost use Rattle.just_eval.specs.Entries.{located_of, Sees};
 ghost use Rattle.just_eval.specs.Requests.{IsIndexed};
 ghost use Rattle.just_plans.specs.Caches.{IsPaired};
-ghost use Rattle.just_plans.specs.Plans.{GivesPlan, folder_in, running, node_plan, no_plan, run_plan, key_plan, node_plans};
+ghost use Rattle.just_plans.specs.Plans.{GivesPlan, folder_in, running, node_plan, no_plan, run_plan, key_plan};
 
 use super::asked::{is_parallel, prompt};
 use super::caches::recipe_cache;
@@ -15,9 +15,9 @@ use super::{Bodies, NodeCache, NodePlan, PlanError};
 use just_commands::{RunFlags, Running, Work, module_folder, recipe_work};
 use just_eval::{Entry, Request};
 use just_lang::project::Justfile;
-use just_lang::{BodyLine, Key, Node, Scopes, Value};
+use just_lang::{BodyLine, Key, Scopes, Value};
 use just_path::Utf8Path;
-use just_text::{NoMemory, Seq, Text};
+use just_text::{NoMemory, Text};
 use std::alloc::Global;
 
 /// The plan of a path at which no recipe is.
@@ -98,9 +98,11 @@ fn run_plan(
     Ok(node_plan(alloc, run.flags, from, work, cache)?)
 }
 
-/// The plan of a key's recipe, by the lines of its body.
+/// What the plan of a run says of a node of that key: what is asked before it, what its body has to run, what is printed when it is
+/// begun, and its cache, whose entries stand in that folder. It is refused where its lines have no values, its script names no interpreter, or
+/// its `cache` has no values.
 #[tactic(auto, using(crate::proofs::KeyPlans::lines_refused, crate::proofs::KeyPlans::no_recipe))]
-fn key_plan<B: Bodies>(
+pub fn key_plan<B: Bodies>(
     alloc: Global,
     request: &Request<'_>,
     bodies: &B,
@@ -110,7 +112,8 @@ fn key_plan<B: Bodies>(
 ) -> Result<NodePlan, PlanError>
     requires indexed { IsIndexed request.now }
     requires known { B.known bodies.now }
-    ensures { GivesPlan (key_plan flags.now (text_of folder.entry) (map (λ m. m.now) request.now.modules.items) request.now.scopes.now (B.lines bodies.now) (B.changes bodies.now) key.now) result }
+    ensures plan { GivesPlan (key_plan flags.now (text_of folder.entry) (map (λ m. m.now) request.now.modules.items) request.now.scopes.now (B.lines bodies.now) (B.changes bodies.now) key.now) result }
+    ensures paired { IfOk result (λ p. IsPaired p.cache) }
 {
     let lines = bodies.lines(alloc, key)?;
     let Some(from) = request.entry(&key.recipe) else {
@@ -121,28 +124,4 @@ fn key_plan<B: Bodies>(
     let run = running(flags, &from, values, changes.as_slice());
     let lines = lines.as_slice();
     run_plan(alloc, request.scopes, &from, &run, folder, lines)
-}
-
-/// What the plan of a run says of each of some nodes: what is asked before it, what its body has to run, what is printed when it is
-/// begun, and its cache, whose entries stand in that folder. The first node whose lines have no values, whose script names no interpreter, or
-/// whose `cache` has no values refuses it.
-#[tactic(auto, using(crate::proofs::Each::each_more, crate::proofs::Each::refused_gives, crate::proofs::Each::each_end, crate::proofs::Paired::plans_paired))]
-pub fn node_plans<B: Bodies>(
-    alloc: Global,
-    request: &Request<'_>,
-    bodies: &B,
-    flags: &RunFlags,
-    folder: Utf8Path<'_>,
-    nodes: &[Node],
-) -> Result<Seq<NodePlan>, PlanError>
-    requires indexed { IsIndexed request.now }
-    requires known { B.known bodies.now }
-    ensures plans { GivesPlan (node_plans flags.now (text_of folder.entry) (map (λ m. m.now) request.now.modules.items) request.now.scopes.now (B.lines bodies.now) (B.changes bodies.now) nodes.now) result }
-    ensures paired { IfOk result (All (λ p. IsPaired p.cache)) }
-{
-    let mut plans = Vec::with_capacity(alloc, nodes.len())?;
-    'nodes: for node in nodes {
-        plans.push(key_plan(alloc, request, bodies, flags, folder, &node.key)?)?;
-    }
-    Ok(Seq::from(plans))
 }

@@ -22,7 +22,11 @@ pub fn string_of(alloc: Global, characters: &[char]) -> Result<String, AllocErro
 pub fn characters_of(alloc: Global, text: &str) -> Result<Vec<char>, AllocError>
     ensures { IfOk result (λ v. v.items ≡ chars text.now) }
 {
-    text.chars().collect(alloc)
+    let mut characters = Vec::with_capacity(alloc, text.len())?;
+    'characters: for character in text.chars() {
+        characters.push(character)?;
+    }
+    Ok(characters)
 }
 
 /// The characters of a text without the indentation of its lines.

@@ -104,6 +104,17 @@ fn push_placed(text: &mut String, above: usize, lines: &[BodyLine]) -> Result<()
     Ok(())
 }
 
+/// How many bytes some lines have, each with the end of its line. No clause: it is the room that they are given.
+fn room_of(lines: &[BodyLine]) -> usize {
+    let mut room = 0usize;
+    for line in lines {
+        room = room
+            .saturating_add(line.text.as_str().len())
+            .saturating_add(1);
+    }
+    room
+}
+
 /// The first of some lines behind so many others, without the blank lines in front of it, and those that follow, each at its number.
 fn placed_rest(
     alloc: Global,
@@ -113,8 +124,10 @@ fn placed_rest(
 ) -> Result<Text, NoMemory>
     ensures { IfOk result (λ t. t ≡ ended first.now.text ++ placed (above + gap above first.now + 1) others.now) }
 {
-    let mut text = String::new(alloc);
-    push_ended(&mut text, first.text.as_str())?;
+    let line = first.text.as_str();
+    let room = room_of(others).saturating_add(line.len()).saturating_add(1);
+    let mut text = String::with_capacity(alloc, room)?;
+    push_ended(&mut text, line)?;
     push_placed(&mut text, behind(above, first)?, others)?;
     Ok(Text::from(text))
 }

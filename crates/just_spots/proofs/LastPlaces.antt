@@ -1,26 +1,16 @@
 -- The last places of names.
-use Rattle.std.proofs.Common.{◌≡◌, ℕ, zero, suc, ◌+◌, ◌<◌, Bool, true, false, not, ◌||◌, cond, List, [], ◌∷◌, ◌++◌, length, drop, get_or, Option, Some, None, refl, sym, ap, ◌∙◌, subst, arith, add-one}
-use Rattle.std.specs.Prelude.{nat_eq, is_some, slice_get}
+use Rattle.std.proofs.Common.{◌≡◌, ℕ, suc, Bool, true, false, ◌||◌, cond, List, [], ◌∷◌, ◌++◌, length, Option, Some, None, refl, ap, ◌∙◌}
+use Rattle.std.specs.Prelude.{is_some, slice_get}
 use Rattle.std.specs.List.{list_any}
 use Rattle.std.specs.Option.{option_and_then}
-use Rattle.std.specs.Cmp.Lexicographic.{nat_list_eq_equiv}
-use Rattle.std.proofs.lemmas.Bool.Decides.{nat_tests}
-use Rattle.std.proofs.Math.Seq.{drop-cons}
-use Rattle.just_spots.specs.Standing.{has_name, named, or_earlier, last_of_each}
-use Rattle.just_spots.specs.Entries.{or_place, last_place, is_place}
+use Rattle.just_spots.specs.Standing.{has_name, named, or_earlier}
+use Rattle.just_spots.specs.Entries.{or_place, last_place}
 
 or_place_some : (b : Bool) (o : Option ℕ) → is_some (or_place b o) ≡ b || is_some o
 or_place_some true None = refl
 or_place_some false None = refl
 or_place_some true (Some k) = refl
 or_place_some false (Some k) = refl
-
--- a place behind the first one is one less behind it
-place_behind : (b : Bool) (i k : ℕ) → is_place (suc i) (or_place b (Some k)) ≡ is_place i (Some k)
-place_behind b i k = grind (arith, nat_tests)
-
-not_first : (k : ℕ) → nat_eq (suc k) 0 ≡ false
-not_first k = grind (arith, nat_tests)
 
 module _ {A : Type 0} (name : A → List ℕ) where
   -- with one more at the end
@@ -71,44 +61,3 @@ module _ {A : Type 0} (name : A → List ℕ) where
         | None ↦ λ i. first_or_none x xs (has_name name q x)
         | Some k ↦ λ i. or_some x (has_name name q x) (slice_get xs k) i
       ] (in_range q xs)
-
-  any_at : (q : List ℕ) (xs : List (ℕ × A)) (i : ℕ) (x : ℕ × A) → i < length xs → x ≡ get_or xs i x → has_name name q x ≡ true → list_any (has_name name q) xs ≡ true
-  any_at q [] i x lt e h = absurd (omega (arith, lt))
-  any_at q (y ∷ ys) zero x lt e h = let here : has_name name q y ≡ true = subst (λ z. has_name name q z ≡ true) e h in ap (λ b. b || list_any (has_name name q) ys) here
-  any_at q (y ∷ ys) (suc i) x lt e h = or_true (has_name name q y) (list_any (has_name name q) ys) (any_at q ys i x (omega (arith, lt)) e h)
-    where
-      or_true : (a b : Bool) → b ≡ true → a || b ≡ true
-      or_true true b k = refl
-      or_true false b k = k
-
-  first_is_last : (b : Bool) (o : Option ℕ) → b ≡ true → is_place 0 (or_place b o) ≡ not (is_some o)
-  first_is_last true None h = refl
-  first_is_last true (Some k) h = not_first k
-  first_is_last false o h = absurd (cc)
-
-  -- one that has the name stands at its last place exactly where none behind it has it
-  last_here : (q : List ℕ) (xs : List (ℕ × A)) (i : ℕ) (x : ℕ × A) → i < length xs → x ≡ get_or xs i x → has_name name q x ≡ true
-      → is_place i (last_place name q xs) ≡ not (list_any (has_name name q) (drop (suc i) xs))
-  last_here q [] i x lt e h = absurd (omega (arith, lt))
-  last_here q (y ∷ ys) zero x lt e h =
-      first_is_last (has_name name q y) (last_place name q ys) (subst (λ z. has_name name q z ≡ true) e h) ∙ ap not (some_last q ys)
-  last_here q (y ∷ ys) (suc i) x lt e h =
-      elim (last_place name q ys) as (λ o. is_some o ≡ true → is_place i o ≡ not (list_any (has_name name q) (drop (suc i) ys))
-      → is_place (suc i) (or_place (has_name name q y) o) ≡ not (list_any (has_name name q) (drop (suc i) ys))) [
-        | None ↦ λ s ih. absurd (cc)
-        | Some k ↦ λ s ih. place_behind (has_name name q y) i k ∙ ih
-      ] (some_last q ys ∙ any_at q ys i x (omega (arith, lt)) e h) (last_here q ys i x (omega (arith, lt)) e h)
-
-  if_not : {B : Type 0} (b : Bool) (u v : B) → cond b u v ≡ cond (not b) v u
-  if_not true u v = refl
-  if_not false u v = refl
-
-  -- the last ones from a place on: the one there, where it stands at the last place of its name, and those behind it
-  pub last_of_each_here : (xs : List (ℕ × A)) (i : ℕ) (x : ℕ × A) → i < length xs → x ≡ get_or xs i x
-      → last_of_each name (drop i xs) ≡ cond (is_place i (last_place name (name x.1) xs)) (x ∷ last_of_each name (drop (i + 1) xs)) (last_of_each name (drop (i + 1) xs))
-  last_of_each_here xs i x lt e =
-      let here : drop i xs ≡ x ∷ drop (suc i) xs = drop-cons xs i x lt ∙ ap (λ y. y ∷ drop (suc i) xs) (sym e) in
-      let itself : has_name name (name x.1) x ≡ true = nat_list_eq_equiv.refl (name x.1) in
-      rw add-one (ap (last_of_each name) here
-      ∙ if_not (list_any (has_name name (name x.1)) (drop (suc i) xs)) (last_of_each name (drop (suc i) xs)) (x ∷ last_of_each name (drop (suc i) xs))
-      ∙ ap (λ b. cond b (x ∷ last_of_each name (drop (suc i) xs)) (last_of_each name (drop (suc i) xs))) (sym (last_here (name x.1) xs i x lt e itself)))

@@ -1,6 +1,6 @@
 -- The first of some places is one of them, and none of them comes before it.
-use Rattle.std.proofs.Common.{◌≡◌, ℕ, List, [], ◌∷◌, ◌++◌, ◌≤◌, length, drop, Option, Some, None, refl, sym, ap, ◌∙◌, subst, arith, true, false, Bool}
-use Rattle.std.specs.Prelude.{◌==◌, nat_lt, not, if◌then◌else◌, All, Contains}
+use Rattle.std.proofs.Common.{◌≡◌, ℕ, List, [], ◌∷◌, ◌≤◌, length, drop, Option, Some, None, refl, sym, ap, ◌∙◌, subst, arith, true, false, Bool}
+use Rattle.std.specs.Prelude.{nat_lt, if◌then◌else◌, All, Contains}
 use Rattle.std.proofs.lemmas.List.Elements.{All-nil, All-cons, All-weaker, Contains-push, Contains-append_left, Contains-append_right}
 use Rattle.just_spots.specs.declared.spot.Spot.{Spot}
 use Rattle.just_spots.specs.Spots.{comes_before, earlier, first_spot, IsFirstOf}

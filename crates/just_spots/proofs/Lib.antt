@@ -9,3 +9,4 @@ pub mod LastPlaces
 pub mod StandingLaws
 pub mod BeatenLaws
 pub mod Tables
+pub mod Reversed

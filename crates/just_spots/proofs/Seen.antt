@@ -1,5 +1,5 @@
 -- One more name among those that were seen.
-use Rattle.std.proofs.Common.{◌≡◌, ◌<◌, ◌+◌, ℕ, List, [], ◌∷◌, ◌++◌, map, take, drop, get_or, length, drop-cons, add-one, suc, Option, not, refl, sym, ◌∙◌, ap, Bool, true, false, Ordering}
+use Rattle.std.proofs.Common.{◌≡◌, ◌<◌, ◌+◌, ℕ, List, [], ◌∷◌, ◌++◌, map, take, drop, get_or, length, drop-cons, add-one, Option, not, refl, sym, ◌∙◌, ap, Bool, true, false, Ordering}
 use Rattle.std.specs.Prelude.{◌||◌}
 use mathlib.Core.Bool.{cond}
 use denote.Ref.{Bor}

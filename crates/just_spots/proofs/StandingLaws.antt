@@ -1,5 +1,5 @@
 -- The tables of names, one more item at a time.
-use Rattle.std.proofs.Common.{◌≡◌, ℕ, zero, suc, ◌+◌, ◌<◌, ◌≤◌, Bool, true, false, ◌&&◌, ◌||◌, cond, List, [], ◌∷◌, ◌++◌, map, length, take, drop, get_or, Option, Some, None, refl, sym, ap, ◌∙◌, subst, arith}
+use Rattle.std.proofs.Common.{◌≡◌, ℕ, zero, suc, ◌+◌, ◌<◌, ◌≤◌, Bool, true, false, ◌&&◌, ◌||◌, cond, List, [], ◌∷◌, ◌++◌, length, take, get_or, Option, Some, refl, sym, ap, ◌∙◌, arith}
 use Rattle.std.specs.Prelude.{nat_eq, bytes_eq}
 use Rattle.std.specs.List.{list_any}
 use Rattle.std.specs.Ordering.{is_eq, nat_cmp, ordering_then}
@@ -8,13 +8,12 @@ use Rattle.std.specs.declared.cmp.Ordering.TheVariants.{Less, Equal, Greater}
 use Rattle.std.specs.Cmp.Lexicographic.{slice_cmp}
 use Rattle.std.proofs.lemmas.Bool.Decides.{nat_tests}
 use Rattle.std.proofs.lemmas.Map.Text.{is_eq-slice_cmp}
-use Rattle.just_syntax.specs.declared.ast.AstItem.{AstItem}
 use Rattle.just_spots.specs.declared.entries.Entry.{Entry}
-use Rattle.just_spots.specs.Entries.{entry, entries, last_place, is_place}
-use Rattle.just_spots.specs.Standing.{has_name, last_of_each}
+use Rattle.just_spots.specs.Entries.{entry, entries, last_place}
+use Rattle.just_spots.specs.Standing.{has_name}
 use Rattle.just_spots.specs.Items.{item_name}
-use Rattle.just_spots.proofs.LastPlaces.{last_place_more, last_of_each_here}
-use Rattle.just_spots.proofs.ListLaws.{entries_take, entries_drop}
+use Rattle.just_spots.proofs.LastPlaces.{last_place_more}
+use Rattle.just_spots.proofs.ListLaws.{entries_take}
 
 count_taken : (xs : List Entry) (i : ℕ) → i ≤ length xs → length (entries (take i xs)) ≡ i
 count_taken [] zero h = refl
@@ -67,32 +66,3 @@ pairs_step items i x file q before after lt e h k =
     ∙ ap (cond (nat_eq x.file file && bytes_eq (item_name x.item.now) q) true) h
     ∙ sym (ap (list_any (λ y. nat_eq y.0 file && has_name item_name q y)) (entries_take items i x lt e)
     ∙ any_more (λ y. nat_eq y.0 file && has_name item_name q y) (entries (take i items)) (entry x))
-
-mapped_here : {A B : Type 0} (f : A → B) (xs : List A) (i : ℕ) (x : A) → i < length xs → x ≡ get_or xs i x → (i < length (map f xs)) × (f x ≡ get_or (map f xs) i (f x))
-mapped_here f [] i x lt e = absurd (omega (arith, lt))
-mapped_here f (y ∷ ys) zero x lt e = (omega arith, ap f e)
-mapped_here f (y ∷ ys) (suc i) x lt e = let rest = mapped_here f ys i x (omega (arith, lt)) e in (omega (arith, rest.0), rest.1)
-
-mapped_drop : {A B : Type 0} (f : A → B) (i : ℕ) (xs : List A) → map f (drop i xs) ≡ drop i (map f xs)
-mapped_drop f zero [] = refl
-mapped_drop f zero (x ∷ xs) = refl
-mapped_drop f (suc i) [] = refl
-mapped_drop f (suc i) (x ∷ xs) = mapped_drop f i xs
-
--- the last ones from a place on
-pub last_of_each_entries : (items : List Entry) (i : ℕ) (x : Entry) → i < length items → x ≡ get_or items i x
-    → last_of_each item_name (entries (drop i items))
-    ≡ cond (is_place i (last_place item_name (item_name x.item.now) (entries items))) (entry x ∷ last_of_each item_name (entries (drop (i + 1) items))) (last_of_each item_name (entries (drop (i + 1) items)))
-last_of_each_entries items i x lt e =
-    let here = mapped_here entry items i x lt e in
-    ap (last_of_each item_name) (mapped_drop entry i items)
-    ∙ last_of_each_here item_name (entries items) i (entry x) here.0 here.1
-    ∙ ap (λ ys. cond (is_place i (last_place item_name (item_name x.item.now) (entries items))) (entry x ∷ last_of_each item_name ys) (last_of_each item_name ys)) (sym (mapped_drop entry (i + 1) items))
-
--- the same by what the table told of the one there
-pub last_by : (items : List Entry) (i : ℕ) (x : Entry) (r : Bool) → i < length items → x ≡ get_or items i x → r ≡ is_place i (last_place item_name (item_name x.item.now) (entries items))
-    → last_of_each item_name (entries (drop i items))
-    ≡ cond r (entry x ∷ last_of_each item_name (entries (drop (i + 1) items))) (last_of_each item_name (entries (drop (i + 1) items)))
-last_by items i x r lt e t =
-    last_of_each_entries items i x lt e
-    ∙ ap (λ b. cond b (entry x ∷ last_of_each item_name (entries (drop (i + 1) items))) (last_of_each item_name (entries (drop (i + 1) items)))) (sym t)

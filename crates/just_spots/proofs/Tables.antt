@@ -1,5 +1,5 @@
 -- The tables of names after one more item.
-use Rattle.std.proofs.Common.{◌≡◌, ℕ, ◌+◌, ◌<◌, Bool, true, ◌&&◌, List, length, take, get_or, Option, Some, Ordering, ap, ◌∙◌}
+use Rattle.std.proofs.Common.{◌≡◌, ℕ, ◌+◌, ◌<◌, true, ◌&&◌, List, length, take, get_or, Some, Ordering, ap, ◌∙◌}
 use denote.Ref.{Bor}
 use mathlib.Core.Bool.{cond}
 use Rattle.std.specs.Prelude.{nat_eq, bytes_eq}

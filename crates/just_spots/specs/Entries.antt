@@ -1,5 +1,5 @@
 -- What the code keeps of items: where they stand, and for each name its last place.
-use Rattle.std.specs.Prelude.{◌≡◌, ℕ, suc, nat_eq, Bool, false, if◌then◌else◌, List, [], ◌∷◌, map, Option, Some, None}
+use Rattle.std.specs.Prelude.{◌≡◌, ℕ, suc, Bool, if◌then◌else◌, List, [], ◌∷◌, map, Option, Some, None}
 use Rattle.std.specs.Ordering.{nat_cmp}
 use Rattle.std.specs.Cmp.Lexicographic.{slice_cmp}
 use Rattle.std.specs.BTreeMap.{get_by}
@@ -23,10 +23,6 @@ or_place is_it None = if is_it then Some 0 else None
 abbrev pub last_place : {A : Type 0} → (A → List ℕ) → List ℕ → List (ℕ × A) → Option ℕ
 last_place name q [] = None
 last_place name q (x ∷ xs) = or_place (has_name name q x) (last_place name q xs)
-
-abbrev pub is_place : ℕ → Option ℕ → Bool
-is_place i None = false
-is_place i (Some k) = nat_eq k i
 
 -- the place that an index has for a name
 abbrev pub place_in : Index → List ℕ → Option ℕ

@@ -1,5 +1,5 @@
 -- Places in the order of the sources, and the first of a list.
-use Rattle.std.specs.Prelude.{◌≡◌, All, Contains, ℕ, ◌==◌, ◌&&◌, ◌||◌, not, nat_lt, Bool, true, false, if◌then◌else◌, List, [], ◌∷◌, Option, Some, None}
+use Rattle.std.specs.Prelude.{◌≡◌, All, Contains, ◌==◌, not, nat_lt, Bool, false, if◌then◌else◌, List, [], ◌∷◌, Option, Some, None}
 use Rattle.just_spots.specs.declared.spot.Spot.{Spot}
 
 abbrev pub comes_before : Spot → Spot → Bool

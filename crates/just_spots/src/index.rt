@@ -1,7 +1,7 @@
 //! For each of some names the place of the last item that has it.
 ghost use Rattle.std.specs.Prelude.{◌≡◌, IfOk, Some};
 ghost use Rattle.std.specs.Option.{option_copied};
-ghost use Rattle.just_spots.specs.Entries.{entries, is_place, place_in, IsIndex};
+ghost use Rattle.just_spots.specs.Entries.{entries, place_in, IsIndex};
 
 use super::entries::{Entry, item_name};
 use just_text::NoMemory;
@@ -31,15 +31,5 @@ impl<'a> Index<'a> {
         ensures { result ≡ place_in self.now name.now }
     {
         self.places.get(name).copied()
-    }
-
-    /// Whether that is the place of the last item of that name.
-    pub fn is_last(&self, name: &str, at: usize) -> bool
-        ensures { result ≡ is_place at (place_in self.now name.now) }
-    {
-        match self.place(name) {
-            Some(place) => place == at,
-            None => false,
-        }
     }
 }

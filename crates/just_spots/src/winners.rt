@@ -7,7 +7,6 @@ ghost use Rattle.just_spots.specs.Standing.{unbeaten, last_of_each, standing};
 ghost use Rattle.just_spots.specs.Winners.{is_imported, wins_in, has_pair, ArePairs, is_beaten_by};
 
 use super::entries::{Entry, item_name};
-use super::index::index_of;
 use just_text::{NoMemory, Seq};
 use std::alloc::{AllocError, Global};
 use std::collections::BTreeSet;
@@ -131,12 +130,14 @@ pub fn unbeaten<'a>(
 fn last_of_each<'a>(alloc: Global, items: &[Entry<'a>]) -> Result<Vec<Entry<'a>>, NoMemory>
     ensures { IfOk result (λ v. entries v.items ≡ last_of_each item_name (entries items.now)) }
 {
-    let index = index_of(alloc, items)?;
-    let mut kept = Vec::new(alloc);
-    'items: for (at, one) in items.iter().enumerate() {
-        let is_last = index.is_last(item_name(one.item), at);
-        keep_where(&mut kept, is_last, *one)?;
+    let mut seen: BTreeSet<&str> = BTreeSet::new(alloc);
+    let mut kept = Vec::with_capacity(alloc, items.len())?;
+    'items: for at in (0..items.len()).rev() {
+        let one = items[at];
+        let is_last = seen.insert(item_name(one.item))?;
+        keep_where(&mut kept, is_last, one)?;
     }
+    kept.reverse();
     Ok(kept)
 }
 

@@ -60,6 +60,9 @@ impl StringLiteral {
     pub fn text(&self, alloc: Global) -> Result<Text, ReadError>
         ensures { TellsText (text_of self.now) result }
     {
+        if !self.quote.is_block() && !self.quote.is_cooked() {
+            return Ok(Text::from(String::from_str(alloc, self.raw.as_str())?));
+        }
         let characters = if self.quote.is_block() {
             unindented(alloc, self.raw.as_str())?
         } else {

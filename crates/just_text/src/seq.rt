@@ -114,7 +114,7 @@ impl<T: TryClone> Seq<T> {
     pub fn try_clone(&self) -> Result<Seq<T>, NoMemory>
         ensures { IfOk result (λ copy. copy ≡ self.now) }
     {
-        let mut copies = Vec::new(*self.vec.allocator());
+        let mut copies = Vec::with_capacity(*self.vec.allocator(), self.len())?;
         for item in self.as_slice() {
             let copy = item.try_clone()?;
             copies.push(copy)?;

@@ -1,3 +1,4 @@
+-- The law that projects end, as the lemmas beside it prove it.
 use Rattle.just_ends.proofs.Laws.{projects_end as law}
 use Rattle.just_ends.proofs.projects_end.Goals as goal
 

@@ -1,3 +1,4 @@
+-- The error of a node is that of the last reason that its history tells.
 use Rattle.std.proofs.Common.{◌≡◌, List, Some, length, slice_get, refl, subst}
 use Rattle.std.proofs.lemmas.Option.{slice_get_read}
 use Rattle.just_history.specs.declared.plan_node.PlanNode.{PlanNode}

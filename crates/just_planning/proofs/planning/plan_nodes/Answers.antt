@@ -1,33 +1,24 @@
 -- A node more.
-use Rattle.std.proofs.Common.{rules, ◌≡◌, ◌^◌, ◌<◌, length, ◌++◌, [], ◌∷◌, ◌∙◌}
+use Rattle.std.proofs.Common.{rules, ◌≡◌, ◌^◌, ◌<◌, length, map, ◌++◌, [], ◌∷◌, ◌∙◌}
+use Rattle.just_path.specs.Path.{text_of}
 use Rattle.just_commands.specs.Steps.{commands_of}
 use Rattle.just_history.specs.declared.plan_node.PlanNode.{PlanNode}
-use Rattle.just_planning.proofs.PlanNodes.{even_popped, nodes_popped, all_pushed, paired_last, paired_before}
+use Rattle.just_planning.specs.Planned.{plan_for}
+use Rattle.just_planning.proofs.PlanNodes.{made_more, node_more, all_pushed}
 use Rattle.just_planning.proofs.planning.plan_nodes.Goals as goal
-
-pub plan_node-requires : goal.plan_node-requires
-plan_node-requires c =
-    let had : c.nodes.beside.items ≡ c.pop-in-Some.new.self.items ++ c.in-Some-pop.plan ∷ [] = search rules in
-    paired_last c.pop-in-Some.new.self.items c.nodes.beside.items c.in-Some-pop.plan had c.nodes.invariant.paired
 
 pub nodes-preserved : goal.nodes-preserved
 nodes-preserved c =
+    let f = plan_for c.args.flags.now (text_of c.args.folder) (map (λ m. m.now) c.args.request.now.modules.items) c.args.request.now.scopes.now in
     let left = c.nodes.left.items in
-    let beside = c.nodes.beside.items in
     let made = c.nodes.made.items in
     let ns = c.pop.new.self.items in
-    let ps = c.pop-in-Some.new.self.items in
     let n = c.in-Some.node in
-    let p = c.in-Some-pop.plan in
-    let x = c.in_ok-plan_node.field-0 in
+    let x = c.in-Ok-planned_node.planned in
     let was : left ≡ ns ++ n ∷ [] = search rules in
-    let had : beside ≡ ps ++ p ∷ [] = search rules in
     let grew : c.push.new.self.items ≡ made ++ x ∷ [] = search rules in
-    let same = even_popped ns ps n p left beside was had c.nodes.invariant.same in
-    let nodes = nodes_popped ns ps n p left beside made c.push.new.self.items x was had c.in_ok-plan_node.ensures.node grew same in
     record {
-      same = same;
-      paired = paired_before ps beside p had c.nodes.invariant.paired;
-      nodes = nodes ∙ c.nodes.invariant.nodes;
-      short = all_pushed (λ (y : PlanNode). length (commands_of y.work) < 2 ^ 32) made c.push.new.self.items x grew c.nodes.invariant.short c.in_ok-plan_node.ensures.short;
+      nodes = node_more ns left n was made c.push.new.self.items x grew c.in-Ok-planned_node.ensures.planned.0 ∙ c.nodes.invariant.nodes;
+      plans = made_more f ns left n was made c.push.new.self.items x grew c.in-Ok-planned_node.ensures.planned.1 ∙ c.nodes.invariant.plans;
+      short = all_pushed (λ (y : PlanNode). length (commands_of y.work) < 2 ^ 32) made c.push.new.self.items x grew c.nodes.invariant.short c.in-Ok-planned_node.ensures.short;
     }

@@ -1,16 +1,19 @@
 -- The nodes that are left, and those so far.
-use Rattle.std.proofs.Common.{◌≡◌, ◌<◌, ◌^◌, ◌++◌, length, map, reverse, zip}
+use Rattle.std.proofs.Common.{◌≡◌, ◌<◌, ◌^◌, ◌++◌, length, map, reverse}
 use Rattle.std.specs.Prelude.{All}
+use Rattle.just_path.specs.Path.{text_of}
 use Rattle.just_commands.specs.Steps.{commands_of}
-use Rattle.just_plans.specs.Caches.{IsPaired}
-use Rattle.just_planning.specs.Planned.{planned}
+use Rattle.just_plans.specs.Plans.{each_plan}
+use Rattle.just_planning.specs.Planned.{node_planned, plan_for}
+use Rattle.just_planning.proofs.PlanNodes.{behind}
 use Rattle.just_planning.proofs.planning.plan_nodes.Given as goal
 
 abbrev pub invariant-nodes : goal.invariant-nodes
 invariant-nodes l = record {
-  same : length l.left.items ≡ length l.beside.items;
-  paired : All (λ p. IsPaired p.cache) l.beside.items;
-  nodes : zip l.left.items l.beside.items ++ reverse (map planned l.made.items) ≡ zip l.initial.left.items l.initial.beside.items;
+  nodes : map (λ x. x.node) l.made.items ++ reverse l.left.items ≡ reverse l.initial.left.items;
+  plans :
+      behind (map node_planned l.made.items) (each_plan (plan_for l.flags (text_of l.folder) (map (λ m. m.now) l.request.modules.items) l.request.scopes.now) (reverse l.left.items))
+      ≡ each_plan (plan_for l.flags (text_of l.folder) (map (λ m. m.now) l.request.modules.items) l.request.scopes.now) (reverse l.initial.left.items);
   short : All (λ x. length (commands_of x.work) < 2 ^ 32) l.made.items;
 }
 

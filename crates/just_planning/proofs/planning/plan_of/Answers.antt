@@ -1,9 +1,17 @@
 -- Each node has its plan.
-use Rattle.std.proofs.Common.{map}
-use Rattle.just_path.specs.Path.{text_of}
-use Rattle.just_planning.proofs.AsMany.{as_many_planned}
+use Rattle.std.proofs.Common.{◌^◌, map}
+use Rattle.just_planning.specs.Planned.{node_planned}
+use Rattle.just_planning.proofs.PlanNodes.{planned_nodes, well_planned, few_planned}
 use Rattle.just_planning.proofs.planning.plan_of.Goals as goal
 
-pub plan_with-requires-clause-same : goal.plan_with-requires-clause-same
-plan_with-requires-clause-same c =
-    as_many_planned c.args.flags.now (text_of c.args.folder) (map (λ m. m.now) c.args.request.now.modules.items) c.args.request.now.scopes.now c.args.closure.nodes c.as_slice.result.now c.as_slice.ensures c.in-Ok.plans c.in-Ok.ensures.plans
+pub invariant_of-result-clause-well : goal.invariant_of-result-clause-well
+invariant_of-result-clause-well c = well_planned c.args.closure.nodes c.args.closure.invocations c.in-Ok.nodes c.in-Ok.ensures.nodes.0 c.requires.formed
+
+pub invariant_of-result-clause-few : goal.invariant_of-result-clause-few
+invariant_of-result-clause-few c = few_planned c.args.closure.nodes c.in-Ok.nodes (2 ^ 32) c.in-Ok.ensures.nodes.0 c.requires.few
+
+pub invariant_of-result-clause-short : goal.invariant_of-result-clause-short
+invariant_of-result-clause-short c = ∣ c.in-Ok.ensures.short ∣₁
+
+pub returns-clause-nodes : goal.returns-clause-nodes
+returns-clause-nodes c = (map node_planned c.in-Ok.nodes, c.in-Ok.ensures.nodes.1, planned_nodes c.args.closure.nodes c.in-Ok.nodes c.in-Ok.ensures.nodes.0)

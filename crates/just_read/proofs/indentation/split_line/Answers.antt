@@ -1,3 +1,4 @@
+-- A line is cut behind its line feed.
 use Rattle.std.proofs.Common.{◌≡◌, [], rules}
 use Rattle.just_read.proofs.SharedBlanks.{split_is}
 use Rattle.just_read.proofs.indentation.split_line.Goals as goal

@@ -1,3 +1,4 @@
+-- Each name that stands behind an equal one is among those that were seen.
 use Rattle.std.proofs.Common.{ℕ, List, [], get_or, take, map, not, ◌∙◌, sym, ap}
 use Rattle.just_spots.specs.declared.repeated.Named.{Named}
 use Rattle.just_spots.specs.Repeated.{is_among}

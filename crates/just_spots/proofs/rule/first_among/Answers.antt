@@ -1,3 +1,4 @@
+-- The first place of the things so far, and of one more.
 use Rattle.std.proofs.Common.{◌∙◌}
 use Rattle.just_spots.proofs.Spots.{first_step}
 use Rattle.just_spots.proofs.rule.first_among.Goals as goal

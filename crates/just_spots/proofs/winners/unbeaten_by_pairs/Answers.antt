@@ -2,7 +2,7 @@
 use Rattle.std.proofs.Common.{◌∙◌, ◌+◌, ℕ, Bool, not, drop}
 use Rattle.std.specs.Prelude.{filter}
 use Rattle.just_syntax.specs.declared.ast.AstItem.{AstItem}
-use Rattle.just_spots.specs.Entries.{entry, entries}
+use Rattle.just_spots.specs.Entries.{entries}
 use Rattle.just_spots.specs.Items.{item_name}
 use Rattle.just_spots.specs.Standing.{is_beaten}
 use Rattle.just_spots.specs.Winners.{wins_in}

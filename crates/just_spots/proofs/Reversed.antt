@@ -1,0 +1,40 @@
+-- The last ones of their names among items, found from the last item on.
+use Rattle.std.proofs.Common.{◌≡◌, ℕ, Bool, true, false, List, [], ◌∷◌, ◌++◌, reverse, not, cond, ◌||◌, refl, ap, sym, ◌∙◌}
+use denote.Ref.{Bor}
+use Rattle.std.specs.BTreeSet.{BTreeSet, contains, Updates}
+use Rattle.std.specs.List.{list_any}
+use Rattle.std.specs.Str.{bytes_eq}
+use Rattle.std.proofs.lemmas.List.{append-nil, reverse-append}
+use Rattle.std.proofs.lemmas.Map.Text.{is_eq-slice_cmp}
+use Rattle.just_syntax.specs.declared.ast.AstItem.{AstItem}
+use Rattle.just_spots.specs.declared.entries.Entry.{Entry}
+use Rattle.just_spots.specs.Entries.{entry, entries}
+use Rattle.just_spots.specs.Items.{item_name}
+use Rattle.just_spots.specs.Standing.{has_name}
+use Rattle.just_spots.proofs.ListLaws.{entries_end}
+use Rattle.just_spots.proofs.Seen.{text_cmp}
+
+pub entries_reverse : (xs : List Entry) → entries (reverse xs) ≡ reverse (entries xs)
+entries_reverse [] = refl
+entries_reverse (x ∷ xs) =
+    ap entries (reverse-append (x ∷ []) xs) ∙ entries_end (reverse xs) x ∙ ap (λ ys. ys ++ entry x ∷ []) (entries_reverse xs)
+    ∙ sym (reverse-append (entry x ∷ []) (entries xs))
+
+-- one more in front of the last ones, unless its name is found
+pub last_kept : (old new last : List (ℕ × AstItem)) (test found : Bool) (y : ℕ × AstItem) → new ≡ old ++ cond test (y ∷ []) [] → test ≡ not found → reverse old ≡ last
+    → reverse new ≡ cond found last (y ∷ last)
+last_kept old new last test true y grew is same =
+    ap (λ (xs : List (ℕ × AstItem)). reverse xs) (grew ∙ ap (λ b. old ++ cond b (y ∷ []) []) is ∙ append-nil old) ∙ same
+last_kept old new last test false y grew is same =
+    ap (λ (xs : List (ℕ × AstItem)). reverse xs) (grew ∙ ap (λ b. old ++ cond b (y ∷ []) []) is) ∙ reverse-append old (y ∷ []) ∙ ap (λ xs. y ∷ xs) same
+
+or_cond : (b c : Bool) → cond b true c ≡ (b || c)
+or_cond true c = refl
+or_cond false c = refl
+
+-- a set that gained the name of one more
+pub sees_front : (q : Bor (List ℕ)) (k : Bor (List ℕ)) (old new : BTreeSet (Bor (List ℕ))) (x : Entry) (rest : List (ℕ × AstItem)) → Updates text_cmp old new k true → k.now ≡ item_name x.item.now
+    → contains text_cmp old q ≡ list_any (has_name item_name q.now) rest → contains text_cmp new q ≡ list_any (has_name item_name q.now) (entry x ∷ rest)
+sees_front q k old new x rest h is same =
+    h.0 q ∙ ap (λ b. cond b true (contains text_cmp old q)) (is_eq-slice_cmp k.now q.now ∙ ap (λ n. bytes_eq n q.now) is) ∙ ap (λ b. cond (bytes_eq (item_name x.item.now) q.now) true b) same
+    ∙ or_cond (bytes_eq (item_name x.item.now) q.now) (list_any (has_name item_name q.now) rest)
