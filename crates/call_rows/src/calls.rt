@@ -62,7 +62,7 @@ const FOLDERS: [Row; 13] = [
         "names",
         "d/e",
         "",
-        "Ok(Seq { vec: [Text { string: \"x\" }] })",
+        "Ok(Seq { vec: [Text { kept: Short(\"x\") }] })",
     ),
     ("names", "f", "", "Err(Missed(NotFolder))"),
     ("remove", "d/e", "", "Err(Missed(NotEmpty))"),

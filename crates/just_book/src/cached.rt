@@ -23,7 +23,7 @@ pub(crate) fn cache(plan: &Plan, node: u32) -> &CachePlan
 {
     match plan.nodes.as_slice().get(node as usize) {
         Some(planned) => match &planned.cache {
-            Some(cache) => cache,
+            Some(cache) => cache.get(),
             None => unreachable!(),
         },
         None => unreachable!(),

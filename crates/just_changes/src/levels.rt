@@ -1,8 +1,9 @@
 //! Changes, level by level.
 
-ghost use Rattle.std.specs.Prelude.{◌≡◌, map, IfOk, OnOk};
+ghost use Rattle.std.specs.Prelude.{◌≡◌, map, None, IfOk, OnOk};
+ghost use Rattle.std.specs.BTreeMap.{insert_entry};
 ghost use Rattle.std.specs.List.{flat_map};
-ghost use Rattle.just_changes.specs.Changes.{given_text, exported, exports, put_all, gets, goes, level_changes};
+ghost use Rattle.just_changes.specs.Changes.{text_cmp, given_text, exported, exports, put_all, gets, goes, level_changes};
 
 use just_lang::{Binding, Level, Value};
 use just_text::{NoMemory, Text};
@@ -23,12 +24,20 @@ pub(crate) fn put_pairs(changes: &mut Changes, pairs: &[(Text, Text)]) -> Result
     Ok(())
 }
 
+/// Takes a name out.
+fn take_name(changes: &mut Changes, name: &Text) -> Result<(), NoMemory>
+    ensures { OnOk result (changes.new.entries ≡ insert_entry text_cmp changes.old.entries name.now None) }
+{
+    changes.insert(name.try_clone()?, None)?;
+    Ok(())
+}
+
 /// Takes names out.
 fn take_out(changes: &mut Changes, names: &[Text]) -> Result<(), NoMemory>
     ensures { OnOk result (changes.new.entries ≡ put_all changes.old.entries (map goes names.now)) }
 {
     'names: for name in names {
-        changes.insert(name.try_clone()?, None)?;
+        take_name(changes, name)?;
     }
     Ok(())
 }

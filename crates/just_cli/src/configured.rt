@@ -46,12 +46,12 @@ fn shell_args(clear: bool, given: Seq<Text>) -> Option<Seq<Text>>
 }
 
 /// The path that a text is, where there is one.
-fn path_of(text: Option<Text>) -> Option<Utf8PathBuf>
-    ensures { result ≡ text }
+fn path_of(alloc: Global, text: &Option<Text>) -> Result<Option<Utf8PathBuf>, NoMemory>
+    ensures { IfOk result (λ p. p ≡ text.now) }
 {
     match text {
-        Some(text) => Some(Utf8PathBuf::from(text.into_string())),
-        None => None,
+        Some(text) => Ok(Some(Utf8Path::new(text.as_str()).to_path_buf(alloc)?)),
+        None => Ok(None),
     }
 }
 
@@ -72,12 +72,12 @@ fn dotenv_ask(config: &Config) -> Result<DotenvAsk, NoMemory>
 }
 
 /// How a configuration runs recipes in that folder.
-fn run_flags(config: &Config, folder: &Utf8PathBuf) -> Result<RunFlags, NoMemory>
+fn run_flags(alloc: Global, config: &Config, folder: &Utf8PathBuf) -> Result<RunFlags, NoMemory>
     ensures { IfOk result (λ f. f ≡ flags_of config.now folder.now) }
 {
     let shell = config.shell.try_clone()?;
     let arguments = config.shell_arg.try_clone()?;
-    let tempdir = config.tempdir.try_clone()?;
+    let tempdir = path_of(alloc, &config.tempdir)?;
     let folder = folder.try_clone()?;
     Ok(RunFlags {
         shell,
@@ -88,7 +88,7 @@ fn run_flags(config: &Config, folder: &Utf8PathBuf) -> Result<RunFlags, NoMemory
         no_cache: config.no_cache,
         yes: config.yes,
         explain: config.explain,
-        tempdir: path_of(tempdir),
+        tempdir,
         folder,
     })
 }
@@ -141,7 +141,7 @@ pub(crate) fn wanted(
     let words = config.arguments.try_clone()?;
     let overrides = all_copied(alloc, config.overrides.as_slice())?;
     let dotenv = dotenv_ask(config)?;
-    let flags = run_flags(config, folder)?;
+    let flags = run_flags(alloc, config, folder)?;
     let cache_folder = cache_beside(alloc, file)?;
     Ok(Wanted {
         words,

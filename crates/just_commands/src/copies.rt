@@ -30,7 +30,7 @@ pub(crate) fn sh_with(alloc: Global, argument: &str) -> Result<Interpreter, NoMe
 pub(crate) fn one_text(alloc: Global, text: &str) -> Result<Seq<Text>, NoMemory>
     ensures { IfOk result (λ ts. ts ≡ text.now ∷ []) }
 {
-    let mut texts = Vec::new(alloc);
+    let mut texts = Vec::with_capacity(alloc, 1)?;
     texts.push(Text::from_str(alloc, text)?)?;
     Ok(Seq::from(texts))
 }

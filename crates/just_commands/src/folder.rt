@@ -50,8 +50,10 @@ pub(crate) fn recipe_folder(
         return Ok(None);
     }
     let base = under(alloc, folder, &settings.working_directory)?;
-    let folder = under(alloc, base.as_path(), &attributes.working_directory)?;
-    Ok(Some(folder))
+    match &attributes.working_directory {
+        Some(path) => Ok(Some(base.as_path().join(alloc, Utf8Path::new(path.as_str()))?)),
+        None => Ok(Some(base)),
+    }
 }
 
 /// The folder in which the fresh folder of a script is made, if one is asked for.

@@ -13,7 +13,7 @@ pub fn command(work: &Work, at: usize) -> Option<&Command>
 {
     match work {
         Work::Lines(commands) => commands.as_slice().get(at),
-        Work::Script(command) => { if at == 0 { Some(command) } else { None } }
+        Work::Script(command) => { if at == 0 { Some(command.get()) } else { None } }
         Work::Empty => None,
     }
 }

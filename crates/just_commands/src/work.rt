@@ -1,6 +1,7 @@
 //! What a body has to run, and its next step.
 
 use just_outside::Spec;
+use just_read::Boxed;
 use just_text::{Seq, Text};
 
 /// What a body has to run.
@@ -9,7 +10,7 @@ pub enum Work {
     /// One child for each line.
     Lines(Seq<Command>),
     /// One child for the whole body.
-    Script(Command),
+    Script(Boxed<Command>),
     Empty,
 }
 

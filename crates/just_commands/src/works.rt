@@ -11,6 +11,7 @@ use super::runner::runner;
 use super::script::script_command;
 use super::{Command, CommandError, RunAttributes, Running, Work};
 use just_lang::BodyLine;
+use just_read::Boxed;
 use just_text::Seq;
 use std::alloc::Global;
 
@@ -40,7 +41,10 @@ fn script_work(
     match runner(alloc, run.settings, attributes, first.text.as_str())? {
         Some(executor) => {
             let command = script_command(alloc, run, attributes, &executor, lines)?;
-            Ok(Work::Script(command))
+            match Boxed::new(alloc, command) {
+                Ok(command) => Ok(Work::Script(command)),
+                Err(_) => Err(CommandError::NoMemory),
+            }
         }
         None => Err(CommandError::InvalidShebang {
             recipe: run.recipe.name.try_clone()?,

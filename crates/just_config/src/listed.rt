@@ -1,6 +1,7 @@
 //! Overrides as a list in prose has them.
-ghost use Rattle.std.specs.Prelude.{◌≡◌, ◌++◌, [], map, codes, string_bytes, IfOk};
-ghost use Rattle.just_config.specs.Listed.{set_all, prefix_of, entry_text, listed};
+ghost use Rattle.std.specs.Prelude.{◌≡◌, ◌++◌, [], map, codes, string_bytes, IfOk, OnOk};
+ghost use Rattle.std.specs.BTreeMap.{insert_entry};
+ghost use Rattle.just_config.specs.Listed.{set_all, variable_cmp, prefix_of, entry_text, listed};
 
 use just_lang::Override;
 use just_text::{NoMemory, Seq, Text};
@@ -10,14 +11,22 @@ use std::collections::BTreeMap;
 /// A variable: the path of its module, and its name.
 type Variable = (Seq<Text>, Text);
 
+/// Sets the variable of an override.
+fn set(values: &mut BTreeMap<Variable, Text>, one: &Override) -> Result<(), NoMemory>
+    ensures { OnOk result (values.new.entries ≡ insert_entry variable_cmp values.old.entries (one.now.module.components, one.now.name) one.now.value) }
+{
+    let variable = (one.module.components.try_clone()?, one.name.try_clone()?);
+    values.insert(variable, one.value.try_clone()?)?;
+    Ok(())
+}
+
 /// The last value of each variable.
 fn values_of(alloc: Global, overrides: &[Override]) -> Result<BTreeMap<Variable, Text>, NoMemory>
     ensures { IfOk result (λ values. values.entries ≡ set_all [] overrides.now) }
 {
     let mut values = BTreeMap::new(alloc);
     'overrides: for one in overrides {
-        let variable = (one.module.components.try_clone()?, one.name.try_clone()?);
-        values.insert(variable, one.value.try_clone()?)?;
+        set(&mut values, one)?;
     }
     Ok(values)
 }

@@ -17,7 +17,7 @@ use just_names::{Names, PathKind, child, is_absent, recipe_named, target_of};
 use just_syntax::{AstDependency, Name};
 use just_text::{NoMemory, Seq};
 use std::alloc::{AllocError, Global};
-use std::collections::BTreeSet;
+use std::collections::HashSet;
 
 /// Why recipes can't be run.
 #[derive(Drop)]
@@ -123,7 +123,7 @@ fn text_where<'a>(test: bool, name: &'a str) -> Option<&'a str>
 fn each_once<'a>(alloc: Global, all: &[&'a str]) -> Result<Vec<&'a str>, NoMemory>
     ensures { IfOk result (λ once. texts once.items ≡ each_once [] (texts all.now)) }
 {
-    let mut seen: BTreeSet<&str> = BTreeSet::new(alloc);
+    let mut seen: HashSet<&str> = HashSet::with_capacity(alloc, all.len())?;
     let mut once = Vec::new(alloc);
     'all: for name in all {
         let is_new = seen.insert(*name)?;

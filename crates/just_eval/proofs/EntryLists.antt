@@ -1,13 +1,11 @@
 -- Recipes by their paths.
-use Rattle.std.proofs.Common.{◌≡◌, ℕ, suc, ◌+◌, ◌<◌, ◌≤◌, Bool, true, false, cond, find, Bor, List, [], ◌∷◌, ◌++◌, append_assoc, map, length, get_or, drop, drop-cons, Option, Some, None, is_some, refl, sym, ap, ◌∙◌, subst, arith}
+use Rattle.std.proofs.Common.{◌≡◌, ℕ, suc, ◌+◌, ◌<◌, ◌≤◌, Bool, true, false, cond, find, Bor, List, [], ◌∷◌, ◌++◌, append_assoc, map, length, get_or, drop, drop-cons, nat_eq, eqb-true, eq-eqb, Option, Some, None, is_some, refl, sym, ap, ◌∙◌, subst, arith}
 use Rattle.std.specs.BTreeMap.{get, Updates, is_at}
+use Rattle.std.specs.HashMap.{get as get_hashed, Updates as HashUpdates}
 use Rattle.std.specs.List.{All}
 use Rattle.std.specs.Map.{lookup}
 use Rattle.std.specs.Prelude.{if◌then◌else◌}
-use Rattle.std.proofs.lemmas.Cmp.{nat_cmp_total, tied_itself}
 use Rattle.std.proofs.lemmas.List.{drop_all}
-use Rattle.std.proofs.lemmas.Map.Lookups.{exact_unsigned}
-use Rattle.std.specs.Ordering.{nat_cmp, is_eq}
 use Rattle.std.specs.Option.{option_map}
 use Rattle.just_text.specs.Environ.{or_else}
 use Rattle.just_lang.specs.declared.recipe.Modulepath.{Modulepath}
@@ -18,7 +16,7 @@ use Rattle.just_closure.specs.Marks.{path_mark}
 use Rattle.just_closure.specs.Numbers.{path_cmp}
 use Rattle.just_closure.proofs.Equal.{same_path_is}
 use Rattle.just_closure.proofs.Items.{found, all_in}
-use Rattle.just_closure.proofs.Numbered.{is_equal, path_tie}
+use Rattle.just_closure.proofs.Numbered.{path_tie}
 use Rattle.just_eval.specs.declared.entry.Entry.{Entry}
 use Rattle.just_eval.specs.declared.entry.Index.{Index}
 use Rattle.just_eval.specs.Entries.{located_of, Sees, IsFound, first_or, indexed, AreEntries, Enters, AreFirst}
@@ -113,36 +111,36 @@ none_other path (Some f) other h = pick (same_path f.recipe.now.path path) h
 -- one whose path is new, and is kept by itself
 pub entered_other : (m i : Index) (e : Entry) (copy : Modulepath) → copy ≡ e.recipe.now.path → is_some (indexed m e.recipe.now.path) ≡ false → i.firsts ≡ m.firsts → Updates path_cmp m.others i.others copy (Some e) → Enters m e i
 entered_other m i e copy same new firsts updates path =
-    ap (λ f. first_or path (get nat_cmp f (path_mark path)) (get path_cmp i.others path)) firsts ∙ ap (λ o. first_or path (get nat_cmp m.firsts (path_mark path)) o) (updates.0 path ∙ ap (λ b. cond b (Some e) (get path_cmp m.others path)) (path_tie copy path ∙ ap (λ c. same_path c path) same)) ∙ pick (has_path path e) refl
+    ap (λ f. first_or path (get_hashed nat_eq f (path_mark path)) (get path_cmp i.others path)) firsts ∙ ap (λ o. first_or path (get_hashed nat_eq m.firsts (path_mark path)) o) (updates.0 path ∙ ap (λ b. cond b (Some e) (get path_cmp m.others path)) (path_tie copy path ∙ ap (λ c. same_path c path) same)) ∙ pick (has_path path e) refl
   where
-    pick : (b : Bool) → has_path path e ≡ b → first_or path (get nat_cmp m.firsts (path_mark path)) (cond (has_path path e) (Some e) (get path_cmp m.others path)) ≡ or_else (indexed m path) (added e path)
+    pick : (b : Bool) → has_path path e ≡ b → first_or path (get_hashed nat_eq m.firsts (path_mark path)) (cond (has_path path e) (Some e) (get path_cmp m.others path)) ≡ or_else (indexed m path) (added e path)
     pick true h =
         let none : indexed m path ≡ None = nothing (indexed m path) (subst (λ q. is_some (indexed m q) ≡ false) (same_path_is e.recipe.now.path path h) new) in
-        let other = none_other path (get nat_cmp m.firsts (path_mark path)) (get path_cmp m.others path) none in
-        ap (λ b. first_or path (get nat_cmp m.firsts (path_mark path)) (cond b (Some e) (get path_cmp m.others path))) h ∙ other_counts path (get nat_cmp m.firsts (path_mark path)) e (ap (λ o. first_or path (get nat_cmp m.firsts (path_mark path)) o) (sym other) ∙ none) ∙ sym (ap (λ o. or_else o (added e path)) none ∙ added_under e path true h)
+        let other = none_other path (get_hashed nat_eq m.firsts (path_mark path)) (get path_cmp m.others path) none in
+        ap (λ b. first_or path (get_hashed nat_eq m.firsts (path_mark path)) (cond b (Some e) (get path_cmp m.others path))) h ∙ other_counts path (get_hashed nat_eq m.firsts (path_mark path)) e (ap (λ o. first_or path (get_hashed nat_eq m.firsts (path_mark path)) o) (sym other) ∙ none) ∙ sym (ap (λ o. or_else o (added e path)) none ∙ added_under e path true h)
     pick false h =
-        ap (λ b. first_or path (get nat_cmp m.firsts (path_mark path)) (cond b (Some e) (get path_cmp m.others path))) h ∙ sym (ap (λ o. or_else (indexed m path) o) (added_under e path false h) ∙ or_else_none (indexed m path))
+        ap (λ b. first_or path (get_hashed nat_eq m.firsts (path_mark path)) (cond b (Some e) (get path_cmp m.others path))) h ∙ sym (ap (λ o. or_else (indexed m path) o) (added_under e path false h) ∙ or_else_none (indexed m path))
 
 -- one whose mark is new
-pub entered_first : (m i : Index) (e : Entry) (mark : ℕ) → mark ≡ path_mark e.recipe.now.path → is_some (indexed m e.recipe.now.path) ≡ false → is_some (get nat_cmp m.firsts mark) ≡ false → i.others ≡ m.others → Updates nat_cmp m.firsts i.firsts mark (Some e) → Enters m e i
+pub entered_first : (m i : Index) (e : Entry) (mark : ℕ) → mark ≡ path_mark e.recipe.now.path → is_some (indexed m e.recipe.now.path) ≡ false → is_some (get_hashed nat_eq m.firsts mark) ≡ false → i.others ≡ m.others → HashUpdates nat_eq m.firsts i.firsts mark (Some e) → Enters m e i
 entered_first m i e mark same new free others updates path =
-    ap (λ f. first_or path (get nat_cmp i.firsts (path_mark path)) (get path_cmp f path)) others ∙ ap (λ o. first_or path o (get path_cmp m.others path)) (updates.0 (path_mark path)) ∙ pick (has_path path e) refl (is_at (nat_cmp mark) (path_mark path)) refl
+    ap (λ f. first_or path (get_hashed nat_eq i.firsts (path_mark path)) (get path_cmp f path)) others ∙ ap (λ o. first_or path o (get path_cmp m.others path)) (updates.0 (path_mark path)) ∙ pick (has_path path e) refl (nat_eq mark (path_mark path)) refl
   where
-    pick : (b : Bool) → has_path path e ≡ b → (c : Bool) → is_at (nat_cmp mark) (path_mark path) ≡ c → first_or path (cond (is_at (nat_cmp mark) (path_mark path)) (Some e) (get nat_cmp m.firsts (path_mark path))) (get path_cmp m.others path) ≡ or_else (indexed m path) (added e path)
+    pick : (b : Bool) → has_path path e ≡ b → (c : Bool) → nat_eq mark (path_mark path) ≡ c → first_or path (cond (nat_eq mark (path_mark path)) (Some e) (get_hashed nat_eq m.firsts (path_mark path))) (get path_cmp m.others path) ≡ or_else (indexed m path) (added e path)
     pick true h true g =
         let none : indexed m path ≡ None = nothing (indexed m path) (subst (λ q. is_some (indexed m q) ≡ false) (same_path_is e.recipe.now.path path h) new) in
-        ap (λ c. first_or path (cond c (Some e) (get nat_cmp m.firsts (path_mark path))) (get path_cmp m.others path)) g ∙ ap (λ b. if b then Some e else get path_cmp m.others path) h ∙ sym (ap (λ o. or_else o (added e path)) none ∙ added_under e path true h)
-    pick true h false g = absurd (no_test (sym (ap (λ o. is_eq o) (tied_itself nat_cmp_total mark)) ∙ ap (λ k. is_eq (nat_cmp mark k)) (same ∙ ap (λ q. path_mark q) (same_path_is e.recipe.now.path path h)) ∙ g))
+        ap (λ c. first_or path (cond c (Some e) (get_hashed nat_eq m.firsts (path_mark path))) (get path_cmp m.others path)) g ∙ ap (λ b. if b then Some e else get path_cmp m.others path) h ∙ sym (ap (λ o. or_else o (added e path)) none ∙ added_under e path true h)
+    pick true h false g = absurd (no_test (sym (eq-eqb mark (path_mark path) (same ∙ ap (λ q. path_mark q) (same_path_is e.recipe.now.path path h))) ∙ g))
     pick false h true g =
-        let marks : mark ≡ path_mark path = exact_unsigned mark (path_mark path) (is_equal (nat_cmp mark (path_mark path)) g) in
-        let none : get nat_cmp m.firsts (path_mark path) ≡ None = ap (λ k. get nat_cmp m.firsts k) (sym marks) ∙ nothing (get nat_cmp m.firsts mark) free in
-        ap (λ c. first_or path (cond c (Some e) (get nat_cmp m.firsts (path_mark path))) (get path_cmp m.others path)) g ∙ ap (λ b. if b then Some e else get path_cmp m.others path) h ∙ sym (ap (λ o. first_or path o (get path_cmp m.others path)) none) ∙ sym (ap (λ o. or_else (indexed m path) o) (added_under e path false h) ∙ or_else_none (indexed m path))
-    pick false h false g = ap (λ c. first_or path (cond c (Some e) (get nat_cmp m.firsts (path_mark path))) (get path_cmp m.others path)) g ∙ sym (ap (λ o. or_else (indexed m path) o) (added_under e path false h) ∙ or_else_none (indexed m path))
+        let marks : mark ≡ path_mark path = eqb-true mark (path_mark path) g in
+        let none : get_hashed nat_eq m.firsts (path_mark path) ≡ None = ap (λ k. get_hashed nat_eq m.firsts k) (sym marks) ∙ nothing (get_hashed nat_eq m.firsts mark) free in
+        ap (λ c. first_or path (cond c (Some e) (get_hashed nat_eq m.firsts (path_mark path))) (get path_cmp m.others path)) g ∙ ap (λ b. if b then Some e else get path_cmp m.others path) h ∙ sym (ap (λ o. first_or path o (get path_cmp m.others path)) none) ∙ sym (ap (λ o. or_else (indexed m path) o) (added_under e path false h) ∙ or_else_none (indexed m path))
+    pick false h false g = ap (λ c. first_or path (cond c (Some e) (get_hashed nat_eq m.firsts (path_mark path))) (get path_cmp m.others path)) g ∙ sym (ap (λ o. or_else (indexed m path) o) (added_under e path false h) ∙ or_else_none (indexed m path))
 
 -- nothing is entered yet
 pub none_entered : (all : List Entry) (index : Index) → index.firsts.entries ≡ [] → index.others.entries ≡ [] → Indexes all 0 index
 none_entered all index none nothing path =
-    ap (λ es. or_else (first_or path (lookup (is_at (nat_cmp (path_mark path))) es) (get path_cmp index.others path)) (find (has_path path) all)) none ∙ ap (λ es. or_else (lookup (is_at (path_cmp path)) es) (find (has_path path) all)) nothing
+    ap (λ es. or_else (first_or path (lookup (nat_eq (path_mark path)) es) (get path_cmp index.others path)) (find (has_path path) all)) none ∙ ap (λ es. or_else (lookup (is_at (path_cmp path)) es) (find (has_path path) all)) nothing
 
 -- all are
 pub all_entered : (all : List Entry) (n : ℕ) (index : Index) → length all ≤ n → Indexes all n index → AreFirst all index

@@ -1,7 +1,7 @@
 -- A recipe that was found, with what its expressions see.
-use Rattle.std.specs.Prelude.{◌≡◌, List, Option, Some, None, find, if◌then◌else◌}
+use Rattle.std.specs.Prelude.{◌≡◌, List, Option, Some, None, find, nat_eq, if◌then◌else◌}
 use Rattle.std.specs.BTreeMap.{get}
-use Rattle.std.specs.Ordering.{nat_cmp}
+use Rattle.std.specs.HashMap.{get as get_hashed}
 use Rattle.just_text.specs.Environ.{or_else}
 use Rattle.just_lang.specs.declared.recipe.Modulepath.{Modulepath}
 use Rattle.just_lang.specs.declared.scope.Scopes.{Scopes}
@@ -37,7 +37,7 @@ first_or path (Some e) other = if same_path e.recipe.now.path path then Some e e
 
 -- the entry of a path
 abbrev pub indexed : Index → Modulepath → Option Entry
-indexed index path = first_or path (get nat_cmp index.firsts (path_mark path)) (get path_cmp index.others path)
+indexed index path = first_or path (get_hashed nat_eq index.firsts (path_mark path)) (get path_cmp index.others path)
 
 -- the index finds for each path the first of these recipes that has it
 abbrev pub AreEntries : Scopes → List Located → Index → Type 0

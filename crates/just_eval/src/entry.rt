@@ -3,7 +3,7 @@
 use just_lang::project::Justfile;
 use just_lang::{Level, Modulepath, Recipe};
 use just_text::Text;
-use std::collections::BTreeMap;
+use std::collections::{BTreeMap, HashMap};
 
 /// A recipe, the module that it stands in, and what the expressions in it see of that module.
 #[derive(Clone, Copy)]
@@ -16,12 +16,12 @@ pub struct Entry<'p> {
     pub pairs: &'p [(Text, Text)],
 }
 
-/// The first recipe of each path. Most are found by the marks of their paths alone; those of which another path has the mark are
-/// kept by their paths. Looking one up takes the logarithm of their number.
+/// The first recipe of each path. Most are found by the marks of their paths alone, each in constant time; those of which another
+/// path has the mark are kept by their paths, and looking one up takes the logarithm of their number.
 #[derive(Drop)]
 pub struct Index<'p> {
     /// The first recipe of each mark.
-    pub firsts: BTreeMap<u64, Entry<'p>>,
+    pub firsts: HashMap<u64, Entry<'p>>,
     /// The first recipe of each path behind the first one of its mark.
     pub others: BTreeMap<Modulepath, Entry<'p>>,
 }

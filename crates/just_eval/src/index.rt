@@ -8,7 +8,7 @@ use just_closure::{copy_of_path, path_mark};
 use just_lang::Modulepath;
 use just_text::NoMemory;
 use std::alloc::Global;
-use std::collections::BTreeMap;
+use std::collections::{BTreeMap, HashMap};
 
 impl<'p> Index<'p> {
     /// The recipe of a path, where there is one.
@@ -48,7 +48,7 @@ pub(crate) fn index_of<'p>(alloc: Global, all: &[Entry<'p>]) -> Result<Index<'p>
     ensures { IfOk result (λ index. AreFirst all.now index) }
 {
     let mut index = Index {
-        firsts: BTreeMap::new(alloc),
+        firsts: HashMap::with_capacity(alloc, all.len())?,
         others: BTreeMap::new(alloc),
     };
     'entries: for entry in all {

@@ -201,26 +201,39 @@ fn path_of(found: PathBuf) -> Utf8PathBuf
     Utf8PathBuf::from(found.into_string())
 }
 
+/// The room for the bytes of a file of that length, with one more, so that its end is seen.
+fn room_for(length: u64) -> usize {
+    let most = MAX_BYTES + 1;
+    match usize::try_from(length) {
+        Ok(length) => length.saturating_add(1).min(most),
+        Err(_) => most,
+    }
+}
+
 /// The text of a file, or why it is none that can be read. What is neither a file nor a folder isn't opened, so that
 /// nothing is waited for.
 pub fn read<F: Files>(files: &F, alloc: Global, path: &str) -> io::Result<Result<String, Miss>>
     ensures { IfOk result (λ r. IfOk r (λ s. length (string_bytes s) ≤ MAX_BYTES)) }
 {
-    let kind = kind_of(&fs::metadata(files, path)?.file_type());
-    match kind {
-        Kind::File => read_text(alloc, fs::open(files, path)?),
+    let meta = fs::metadata(files, path)?;
+    match kind_of(&meta.file_type()) {
+        Kind::File => read_text(alloc, fs::open(files, path)?, room_for(meta.len())),
         Kind::Folder => Ok(Err(Miss::IsFolder)),
         Kind::Link | Kind::Other => Err(io::Error::from(ErrorKind::Other)),
     }
 }
 
-/// The text that a reader gives up to its end, or why it is none that can be read.
-pub fn read_text<F: Read + Drop>(alloc: Global, reader: F) -> io::Result<Result<String, Miss>>
+/// The text that a reader gives up to its end, or why it is none that can be read. Room for so many bytes is taken at first.
+pub fn read_text<F: Read + Drop>(
+    alloc: Global,
+    reader: F,
+    room: usize,
+) -> io::Result<Result<String, Miss>>
     ensures limit { IfOk result (λ r. IfOk r (λ s. length (string_bytes s) ≤ MAX_BYTES)) }
     // where the reader's bytes are known, none is cut off
     ensures told { IfOk result (λ r. IfSome (F.remaining reader) (λ bytes. Tells (text_in bytes) r)) }
 {
-    let mut bytes = Vec::new(alloc);
+    let mut bytes = Vec::with_capacity(alloc, room)?;
     reader.take(MAX_BYTES as u64 + 1).read_to_end(&mut bytes)?;
     Ok(text_of(bytes))
 }

@@ -2,14 +2,13 @@
 use Rattle.std.proofs.Common.{◌≡◌, ℕ, zero, suc, ◌+◌, ◌<◌, ◌≤◌, ◌==◌, ◌&&◌, ◌||◌, not, Bool, true, false, if◌then◌else◌, cond, List, [], ◌∷◌, ◌++◌, length, length-append, set, get_or, get_or-set_same, get_or-set_other, slice_get, Option, Some, None, option_map, bytes_eq, true≢false, ⊎_elim, refl, ap, ap₂, sym, ◌∙◌, subst, arith, eqb-true, eq-eqb, ne_eqb}
 use Rattle.std.specs.List.{list_any, range_with_len}
 use denote.Ref.{Bor}
-use Rattle.std.specs.BTreeMap.{BTreeMap, Updates}
+use Rattle.std.specs.HashMap.{HashMap, Updates}
 use Rattle.std.proofs.Math.ListN.{get_or-append, replicate}
 use Rattle.std.proofs.Math.Seq.{get_or-append_seam}
 use Rattle.std.proofs.lemmas.Option.{slice_get_within}
 use Rattle.std.proofs.Math.Bool.{Bool-set}
 use Rattle.std.proofs.Math.Logic.{∥∥₁_elim}
-use Rattle.std.proofs.lemmas.Map.Text.{is_eq-slice_cmp}
-use Rattle.just_spots.proofs.Seen.{text_cmp}
+use Rattle.just_spots.proofs.Seen.{text_eq}
 use Rattle.just_spots.proofs.Tables.{query}
 use Rattle.std.proofs.lemmas.Slice.Eq.{bytes_eq-Decides}
 use Rattle.just_history.specs.declared.cache_plan.CachePlan.{CachePlan}
@@ -130,14 +129,14 @@ classless (Some d) e = absurd (some_none (Some d.class) d.class refl (sym e))
 -- ---- the numbers of classes
 
 -- each node before a place has its number: that of its class, or its own; and each class that is in the map has the number of a node of it
-pub record AreNumbered (nodes : List PlanNode) (place : ℕ) (classes : List ℕ) (numbers : BTreeMap (Bor (List ℕ)) ℕ) : Type 0 where
+pub record AreNumbered {S : Type 0} (nodes : List PlanNode) (place : ℕ) (classes : List ℕ) (numbers : HashMap (Bor (List ℕ)) ℕ S) : Type 0 where
   pub long : length classes ≡ place
   pub cached : (n : ℕ) (c : CachePlan) → n < place → cache_at nodes n ≡ Some c → number_in numbers c.class ≡ Some (class_of classes n)
   pub alone : (n : ℕ) → n < place → cache_at nodes n ≡ None → class_of classes n ≡ n
   pub there : (name : List ℕ) (k : ℕ) → number_in numbers name ≡ Some k → (k < place) × ((c : CachePlan) × (cache_at nodes k ≡ Some c) × (c.class ≡ name))
 
 -- nothing is numbered yet
-pub numbered_none : (nodes : List PlanNode) (classes : List ℕ) (numbers : BTreeMap (Bor (List ℕ)) ℕ) → classes ≡ [] → ((name : List ℕ) → number_in numbers name ≡ None) → AreNumbered nodes 0 classes numbers
+pub numbered_none : {S : Type 0} (nodes : List PlanNode) (classes : List ℕ) (numbers : HashMap (Bor (List ℕ)) ℕ S) → classes ≡ [] → ((name : List ℕ) → number_in numbers name ≡ None) → AreNumbered nodes 0 classes numbers
 numbered_none nodes classes numbers empty none = record {
   long = ap length empty;
   cached = λ n c lt q. absurd (omega (arith, lt));
@@ -153,7 +152,7 @@ pushed_here : (classes : List ℕ) (place x : ℕ) → length classes ≡ place 
 pushed_here classes place x long = subst (λ k. get_or (classes ++ x ∷ []) k 0 ≡ x) long (get_or-append_seam classes x [] 0)
 
 -- a node without a cache has its own number
-pub numbered_alone : (nodes : List PlanNode) (place : ℕ) (classes later : List ℕ) (numbers : BTreeMap (Bor (List ℕ)) ℕ) → later ≡ classes ++ place ∷ [] → cache_at nodes place ≡ None → AreNumbered nodes place classes numbers → AreNumbered nodes (place + 1) later numbers
+pub numbered_alone : {S : Type 0} (nodes : List PlanNode) (place : ℕ) (classes later : List ℕ) (numbers : HashMap (Bor (List ℕ)) ℕ S) → later ≡ classes ++ place ∷ [] → cache_at nodes place ≡ None → AreNumbered nodes place classes numbers → AreNumbered nodes (place + 1) later numbers
 numbered_alone nodes place classes later numbers grew none a = subst (λ l. AreNumbered nodes (place + 1) l numbers) (sym grew) (record {
   long = length-append classes (place ∷ []) ∙ omega (arith, a.long);
   cached = λ n c lt q.
@@ -168,7 +167,7 @@ numbered_alone nodes place classes later numbers grew none a = subst (λ l. AreN
 })
 
 -- the number of a class, where it has one, is that of a node before the place; else it is the place
-module _ (nodes : List PlanNode) (place number : ℕ) (d : CachePlan) (classes : List ℕ) (old new : BTreeMap (Bor (List ℕ)) ℕ) (at : cache_at nodes place ≡ Some d) (a : AreNumbered nodes place classes old) (step : Numbers d.class place number old new) where
+module _ {S : Type 0} (nodes : List PlanNode) (place number : ℕ) (d : CachePlan) (classes : List ℕ) (old new : HashMap (Bor (List ℕ)) ℕ S) (at : cache_at nodes place ≡ Some d) (a : AreNumbered nodes place classes old) (step : Numbers d.class place number old new) where
   -- in the map as it is now, the class has its number
   now_has : number_in new d.class ≡ Some number
   now_has = step.1 d.class ∙ ap (λ b. if b then Some number else number_in old d.class) ((bytes_eq-Decides d.class d.class).1 refl)
@@ -211,12 +210,12 @@ module _ (nodes : List PlanNode) (place number : ℕ) (d : CachePlan) (classes :
   })
 
 -- a table after one more number
-pub number_put : (class : Bor (List ℕ)) (number : ℕ) (old new : BTreeMap (Bor (List ℕ)) ℕ) → Updates text_cmp old new class (Some number) → (name : List ℕ)
+pub number_put : {S : Type 0} (class : Bor (List ℕ)) (number : ℕ) (old new : HashMap (Bor (List ℕ)) ℕ S) → Updates text_eq old new class (Some number) → (name : List ℕ)
     → number_in new name ≡ (if bytes_eq class.now name then Some number else number_in old name)
-number_put class number old new updates name = updates.0 (query name) ∙ ap (λ b. cond b (Some number) (number_in old name)) (is_eq-slice_cmp class.now name)
+number_put class number old new updates name = updates.0 (query name)
 
 -- a class that has a number has it again
-pub number_again : (class : Bor (List ℕ)) (next number : ℕ) (old put new : BTreeMap (Bor (List ℕ)) ℕ) → number_in old class.now ≡ Some number → Updates text_cmp old put class (Some next) → Updates text_cmp put new class (Some number)
+pub number_again : {S : Type 0} (class : Bor (List ℕ)) (next number : ℕ) (old put new : HashMap (Bor (List ℕ)) ℕ S) → number_in old class.now ≡ Some number → Updates text_eq old put class (Some next) → Updates text_eq put new class (Some number)
     → Numbers class.now next number old new
 number_again class next number old put new was once again = (
   sym (ap (λ o. some_or o next) was),
@@ -230,11 +229,11 @@ number_again class next number old put new was once again = (
     twice false x y z = refl
 
 -- one that has none gets the next
-pub number_new : (class : Bor (List ℕ)) (next : ℕ) (old new : BTreeMap (Bor (List ℕ)) ℕ) → number_in old class.now ≡ None → Updates text_cmp old new class (Some next) → Numbers class.now next next old new
+pub number_new : {S : Type 0} (class : Bor (List ℕ)) (next : ℕ) (old new : HashMap (Bor (List ℕ)) ℕ S) → number_in old class.now ≡ None → Updates text_eq old new class (Some next) → Numbers class.now next next old new
 number_new class next old new none updates = (sym (ap (λ o. some_or o next) none), number_put class next old new updates)
 
 -- all nodes are numbered
-module _ (nodes : List PlanNode) (place : ℕ) (classes : List ℕ) (numbers : BTreeMap (Bor (List ℕ)) ℕ) (all : length nodes ≤ place) (a : AreNumbered nodes place classes numbers) where
+module _ {S : Type 0} (nodes : List PlanNode) (place : ℕ) (classes : List ℕ) (numbers : HashMap (Bor (List ℕ)) ℕ S) (all : length nodes ≤ place) (a : AreNumbered nodes place classes numbers) where
   -- the number of a node, by its cache
   number_within : (n : ℕ) → n < length nodes → (o : Option CachePlan) → cache_at nodes n ≡ o → class_of classes n < length nodes
   number_within n lt (Some c) q = let t = a.there c.class (class_of classes n) (a.cached n c (omega (arith, lt, all)) q) in cached_there nodes (class_of classes n) t.1.0 t.1.1

@@ -1,9 +1,8 @@
 -- Numbers of the classes of nodes, and which classes have an open body.
 use Rattle.std.specs.Prelude.{ℕ, ◌≡◌, ◌==◌, ◌<◌, ◌&&◌, ◌||◌, true, false, Bool, if◌then◌else◌, List, Option, Some, None, MatchBool, bytes_eq, length, slice_index_or}
-use Rattle.std.specs.BTreeMap.{BTreeMap, get_by}
+use Rattle.std.specs.HashMap.{HashMap, get_by}
 use denote.Ref.{Bor}
 use Rattle.std.specs.List.{list_any, range_with_len}
-use Rattle.just_closure.specs.Numbers.{text_cmp}
 use Rattle.just_history.specs.declared.event.Event.{Event}
 use Rattle.just_history.specs.declared.event.Event.TheVariants as event
 use Rattle.just_history.specs.declared.plan_node.PlanNode.{PlanNode}
@@ -33,11 +32,11 @@ some_or (Some x) other = x
 some_or None other = other
 
 -- the number that a table has for a class
-abbrev pub number_in : BTreeMap (Bor (List ℕ)) ℕ → List ℕ → Option ℕ
-number_in numbers class = get_by (λ k. text_cmp class k.now) numbers
+abbrev pub number_in : {S : Type 0} → HashMap (Bor (List ℕ)) ℕ S → List ℕ → Option ℕ
+number_in numbers class = get_by (λ k. bytes_eq class k.now) numbers
 
 -- a class has the number that it had, else the next, and no other class another
-abbrev pub Numbers : List ℕ → ℕ → ℕ → BTreeMap (Bor (List ℕ)) ℕ → BTreeMap (Bor (List ℕ)) ℕ → Type 0
+abbrev pub Numbers : {S : Type 0} → List ℕ → ℕ → ℕ → HashMap (Bor (List ℕ)) ℕ S → HashMap (Bor (List ℕ)) ℕ S → Type 0
 Numbers class next number old new = (number ≡ some_or (number_in old class) next) × ((name : List ℕ) → number_in new name ≡ (if bytes_eq class name then Some number else number_in old name))
 
 -- the node whose body takes a job by the event, or gives it back, and which of the two; none where it does neither

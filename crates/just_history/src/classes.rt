@@ -13,7 +13,7 @@ ghost use Rattle.just_history.specs.Tables.{flag};
 use super::{Event, Plan};
 use just_text::NoMemory;
 use std::alloc::Global;
-use std::collections::BTreeMap;
+use std::collections::HashMap;
 
 /// The class of the node at a place, if it has one.
 fn class_at(plan: &Plan, at: usize) -> Option<&str>
@@ -21,14 +21,14 @@ fn class_at(plan: &Plan, at: usize) -> Option<&str>
     ensures { option_copied result ≡ option_map (λ c. c.class) (cache_at plan.now.nodes at) }
 {
     match &plan.nodes.as_slice()[at].cache {
-        Some(cache) => Some(cache.class.as_str()),
+        Some(cache) => Some(cache.get().class.as_str()),
         None => None,
     }
 }
 
 /// The number of a class: the one that it has, else the next.
 fn number_of<'p>(
-    numbers: &mut BTreeMap<&'p str, usize>,
+    numbers: &mut HashMap<&'p str, usize>,
     class: &'p str,
     next: usize,
 ) -> Result<usize, NoMemory>
@@ -51,7 +51,7 @@ pub(crate) fn class_numbers(alloc: Global, plan: &Plan) -> Result<Vec<usize>, No
 {
     let count = plan.nodes.len();
     let mut classes = Vec::with_capacity(alloc, count)?;
-    let mut numbers = BTreeMap::new(alloc);
+    let mut numbers = HashMap::with_capacity(alloc, count)?;
     'nodes: for at in 0..count {
         let number = match class_at(plan, at) {
             Some(class) => number_of(&mut numbers, class, at)?,

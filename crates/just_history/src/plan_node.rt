@@ -2,6 +2,7 @@
 
 use super::{CachePlan, Work};
 use just_lang::Node;
+use just_read::Boxed;
 use just_text::Text;
 
 /// A node of a plan: its place in the closure, and what its body does.
@@ -16,5 +17,5 @@ pub struct PlanNode {
     /// What is printed to standard error as the body begins; nothing where it is empty.
     pub banner: Text,
     /// The cache of its body; none where it is always run.
-    pub cache: Option<CachePlan>,
+    pub cache: Option<Boxed<CachePlan>>,
 }

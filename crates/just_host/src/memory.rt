@@ -22,7 +22,7 @@ ghost use Rattle.just_outside.proofs.Laws.{counts_noted};
 
 use just_files::{copied_bytes, copies_of, path_or_empty};
 use just_outside::{
-    Call, Entry, Host, HostFault, Log, Look, MAX_BYTES, Signal, Spec, Status, Stream,
+    Call, Entry, Host, HostFault, Log, Look, MAX_BYTES, Signal, Spec, Status, Stream, boxed_copy,
 };
 use just_path::{Item, Meta, Miss, PathCall, PathFault, PathHost, Utf8Path, Utf8PathBuf};
 use just_text::{Environ, NoMemory, Seq, Text, TryClone};
@@ -375,7 +375,7 @@ impl Host for MemHost {
             ));
         }
         let noted = Text::from_str(self.alloc, line)?;
-        let answer = noted.try_clone()?.into_string();
+        let answer = noted.to_string(self.alloc)?;
         let prompt = Text::from_str(self.alloc, prompt)?;
         self.log.note(Entry::Asked(prompt, noted))?;
         use_answer(&mut self.answers);
@@ -616,7 +616,7 @@ impl Host for MemHost {
                 TreeFault::Missed(Miss::TooLarge),
             ));
         }
-        let copy = spec.try_clone()?;
+        let copy = boxed_copy(self.alloc, spec)?;
         let fed = copied_bytes(self.alloc, input)?;
         let noted = copied_bytes(self.alloc, output.as_slice())?;
         self.log.ready()?;
@@ -646,7 +646,7 @@ impl Host for MemHost {
         if !self.log.can_number() {
             return Err(HostFault::NoMemory);
         }
-        let copy = spec.try_clone()?;
+        let copy = boxed_copy(self.alloc, spec)?;
         let word = word_of(self.alloc, spec)?;
         self.log.ready()?;
         let status = self

@@ -1,135 +1,122 @@
--- The texts of a key, cut at their inputs.
-use Rattle.std.proofs.Common.{◌≡◌, ℕ, zero, suc, ◌+◌, ◌-◌, ◌<◌, List, [], ◌∷◌, ◌++◌, length, get_or, take, drop, append_assoc, length-append, Bool, true, false, Option, None, codes, refl, sym, ap, ◌∙◌, arith}
+-- The texts of a key, made of its members' texts, and cut at their inputs.
+use Rattle.std.proofs.Common.{◌≡◌, ℕ, zero, suc, ◌<◌, List, [], ◌∷◌, ◌++◌, length, get_or, take, drop, append_assoc, true, false, Option, None, codes, refl, sym, ap, ◌∙◌, arith}
 use Rattle.std.specs.Str.{IsCharBoundary, IsUtf8}
-use Rattle.std.proofs.lemmas.List.{append_cancel_right}
 use Rattle.std.proofs.lemmas.Str.{IsUtf8-drop, IsCharBoundary-before_ascii, IsCharBoundary-after_ascii}
-use Rattle.json.specs.Print.{escape_byte, quoted}
-use Rattle.serde_json.specs.Data.{Data, null, object, Members, no_members, member}
-use Rattle.serde_json.specs.Written.{compact_text, members_text, comma_if, has_float}
+use Rattle.json.specs.Print.{escape_byte}
+use Rattle.serde_json.specs.Data.{Data, null, string, object, Members, member}
+use Rattle.serde_json.specs.Written.{compact_text, members_text, has_float}
+use Rattle.just_lang.specs.declared.settings.Interpreter.{Interpreter}
 use Rattle.just_key.specs.declared.key.CacheKey.{CacheKey}
-use Rattle.just_key.specs.Members.{text_or_null, texts, environment, inputs, executor_data}
+use Rattle.just_key.specs.Members.{text_or_null, texts, texts_or_null, environment, inputs, command_data, shebang_data, executor_data, path_text}
 use Rattle.just_key.specs.Keys.{before_inputs, behind_inputs, data_with, with_inputs, TakesInputs}
 use Rattle.just_key.proofs.Plain.{float_free}
-use Rattle.just_key.proofs.Fields.{text_plain, texts_plain, texts_or_null_plain, environment_plain, inputs_plain, executor_plain}
+use Rattle.just_key.proofs.Fields.{text_plain, texts_plain, texts_or_null_plain, environment_plain, inputs_plain}
 
 -- ---- no floats
 
-pub before_float_free : (k : CacheKey) → has_float (object (before_inputs k no_members)) ≡ false
-before_float_free k = float_free (object (before_inputs k no_members)) 3 (texts_plain k.body 1, (environment_plain k.environment 1, (executor_plain k.executor 0, (text_plain k.extension 2, (text_plain k.extra 2, tt)))))
+pub text_float_free : (t : Option (List ℕ)) → has_float (text_or_null t) ≡ false
+text_float_free t = float_free (text_or_null t) 0 (text_plain t 0)
 
-pub behind_float_free : (k : CacheKey) → has_float (object (behind_inputs k)) ≡ false
-behind_float_free k = float_free (object (behind_inputs k)) 3 (texts_or_null_plain k.positional 1, (tt, (text_plain k.working_directory 2, tt)))
+pub texts_float_free : (ts : List (List ℕ)) → has_float (texts ts) ≡ false
+texts_float_free ts = float_free (texts ts) 1 (texts_plain ts 0)
+
+pub texts_or_null_float_free : (ts : Option (List (List ℕ))) → has_float (texts_or_null ts) ≡ false
+texts_or_null_float_free ts = float_free (texts_or_null ts) 1 (texts_or_null_plain ts 0)
+
+pub environment_float_free : (pairs : List (List ℕ × Option (List ℕ))) → has_float (environment pairs) ≡ false
+environment_float_free pairs = float_free (environment pairs) 1 (environment_plain pairs 0)
 
 pub inputs_float_free : (i : Option (List (List ℕ × List ℕ))) → has_float (inputs i) ≡ false
 inputs_float_free i = float_free (inputs i) 2 (inputs_plain i 1)
 
+-- ---- a text that is made piece by piece
+
+-- to a text a front and some data were added
+abbrev pub Says : List ℕ → List ℕ → List ℕ → Data → Type 0
+Says old new front d = new ≡ old ++ (front ++ compact_text d)
+
+pub said : (old new front : List ℕ) (d e : Data) → Says old new front d → d ≡ e → Says old new front e
+said old new front d e is same = is ∙ ap (λ x. old ++ (front ++ compact_text x)) same
+
+then : (old new front : List ℕ) (d : Data) → Says old new front d → (rest : List ℕ) → new ++ rest ≡ old ++ (front ++ (compact_text d ++ rest))
+then old new front d is rest = ap (λ t. t ++ rest) is ∙ append_assoc old (front ++ compact_text d) rest ∙ ap (λ t. old ++ t) (append_assoc front (compact_text d) rest)
+
+command_text : (i : Interpreter) → codes ",\"executor\":{\"arguments\":" ++ (compact_text (texts i.arguments) ++ (codes ",\"command\":" ++ (compact_text (string i.command) ++ codes ",\"type\":\"command\"}"))) ≡ codes ",\"executor\":" ++ compact_text (command_data i)
+unfolding escape_byte
+command_text i = refl
+
+pub command_pushed : (i : Interpreter) (start first second end : List ℕ) → Says start first (codes ",\"executor\":{\"arguments\":") (texts i.arguments) → Says first second (codes ",\"command\":") (string i.command) → end ≡ second ++ codes ",\"type\":\"command\"}" → Says start end (codes ",\"executor\":") (command_data i)
+command_pushed i start first second end one two last =
+    last ∙ then first second (codes ",\"command\":") (string i.command) two (codes ",\"type\":\"command\"}")
+    ∙ then start first (codes ",\"executor\":{\"arguments\":") (texts i.arguments) one (codes ",\"command\":" ++ (compact_text (string i.command) ++ codes ",\"type\":\"command\"}"))
+    ∙ ap (λ t. start ++ t) (command_text i)
+
+shebang_text : (a : Option (List ℕ)) (i : List ℕ) → codes ",\"executor\":{\"argument\":" ++ (compact_text (text_or_null a) ++ (codes ",\"interpreter\":" ++ (compact_text (string i) ++ codes ",\"type\":\"shebang\"}"))) ≡ codes ",\"executor\":" ++ compact_text (shebang_data a i)
+unfolding escape_byte
+shebang_text a i = refl
+
+pub shebang_pushed : (a : Option (List ℕ)) (i start first second end : List ℕ) → Says start first (codes ",\"executor\":{\"argument\":") (text_or_null a) → Says first second (codes ",\"interpreter\":") (string i) → end ≡ second ++ codes ",\"type\":\"shebang\"}" → Says start end (codes ",\"executor\":") (shebang_data a i)
+shebang_pushed a i start first second end one two last =
+    last ∙ then first second (codes ",\"interpreter\":") (string i) two (codes ",\"type\":\"shebang\"}")
+    ∙ then start first (codes ",\"executor\":{\"argument\":") (text_or_null a) one (codes ",\"interpreter\":" ++ (compact_text (string i) ++ codes ",\"type\":\"shebang\"}"))
+    ∙ ap (λ t. start ++ t) (shebang_text a i)
+
+-- the members from `extension` on, before the inputs
+abbrev from_extension : CacheKey → Members → List ℕ
+from_extension k following = codes ",\"extension\":" ++ (compact_text (text_or_null k.extension) ++ (codes ",\"extra\":" ++ (compact_text (text_or_null k.extra) ++ members_text true following)))
+
+before_text : (k : CacheKey) (following : Members) → codes "{\"body\":" ++ (compact_text (texts k.body) ++ (codes ",\"environment\":" ++ (compact_text (environment k.environment) ++ (codes ",\"executor\":" ++ (compact_text (executor_data k.executor) ++ from_extension k following))))) ≡ compact_text (object (before_inputs k following))
+unfolding escape_byte
+before_text k following = refl
+
+pub before_pushed : (k : CacheKey) (start body environed run extended end : List ℕ) → Says start body (codes "{\"body\":") (texts k.body) → Says body environed (codes ",\"environment\":") (environment k.environment) → Says environed run (codes ",\"executor\":") (executor_data k.executor) → Says run extended (codes ",\"extension\":") (text_or_null k.extension) → Says extended end (codes ",\"extra\":") (text_or_null k.extra) → (following : Members) → end ++ members_text true following ≡ start ++ compact_text (object (before_inputs k following))
+before_pushed k start body environed run extended end one two three four five following =
+    let rest = members_text true following in
+    then extended end (codes ",\"extra\":") (text_or_null k.extra) five rest
+    ∙ then run extended (codes ",\"extension\":") (text_or_null k.extension) four (codes ",\"extra\":" ++ (compact_text (text_or_null k.extra) ++ rest))
+    ∙ then environed run (codes ",\"executor\":") (executor_data k.executor) three (from_extension k following)
+    ∙ then body environed (codes ",\"environment\":") (environment k.environment) two (codes ",\"executor\":" ++ (compact_text (executor_data k.executor) ++ from_extension k following))
+    ∙ then start body (codes "{\"body\":") (texts k.body) one (codes ",\"environment\":" ++ (compact_text (environment k.environment) ++ (codes ",\"executor\":" ++ (compact_text (executor_data k.executor) ++ from_extension k following))))
+    ∙ ap (λ t. start ++ t) (before_text k following)
+
+behind_text : (k : CacheKey) → codes ",\"positional\":" ++ (compact_text (texts_or_null k.positional) ++ (codes ",\"recipe\":" ++ (compact_text (string (path_text k.recipe.components)) ++ (codes ",\"working_directory\":" ++ (compact_text (text_or_null k.working_directory) ++ codes "}"))))) ≡ members_text true (behind_inputs k)
+unfolding escape_byte
+behind_text k = refl
+
+pub behind_pushed : (k : CacheKey) (start listed named placed end : List ℕ) → Says start listed (codes ",\"positional\":") (texts_or_null k.positional) → Says listed named (codes ",\"recipe\":") (string (path_text k.recipe.components)) → Says named placed (codes ",\"working_directory\":") (text_or_null k.working_directory) → end ≡ placed ++ codes "}" → end ≡ start ++ members_text true (behind_inputs k)
+behind_pushed k start listed named placed end one two three last =
+    last ∙ then named placed (codes ",\"working_directory\":") (text_or_null k.working_directory) three (codes "}")
+    ∙ then listed named (codes ",\"recipe\":") (string (path_text k.recipe.components)) two (codes ",\"working_directory\":" ++ (compact_text (text_or_null k.working_directory) ++ codes "}"))
+    ∙ then start listed (codes ",\"positional\":") (texts_or_null k.positional) one (codes ",\"recipe\":" ++ (compact_text (string (path_text k.recipe.components)) ++ (codes ",\"working_directory\":" ++ (compact_text (text_or_null k.working_directory) ++ codes "}"))))
+    ∙ ap (λ t. start ++ t) (behind_text k)
+
 -- ---- the text before the value of the inputs, and that behind it
 
--- a member as it is written
-abbrev written : Bool → List ℕ → Data → List ℕ
-written later name d = comma_if later ++ (quoted name ++ 58 ∷ compact_text d)
-
-one : (later : Bool) (name : List ℕ) (d : Data) (ms : Members) → members_text later (member name d ms) ≡ written later name d ++ members_text true ms
-one later name d ms = sym (append_assoc (comma_if later) (quoted name ++ 58 ∷ compact_text d) (members_text true ms) ∙ ap (λ t. comma_if later ++ t) (append_assoc (quoted name) (58 ∷ compact_text d) (members_text true ms)))
-
--- members that others stand before, without the bracket behind them
-abbrev front : Members → List ℕ
-front no_members = []
-front (member name d ms) = written true name d ++ front ms
-
-abbrev followed : Members → Members → Members
-followed no_members ns = ns
-followed (member name d ms) ns = member name d (followed ms ns)
-
-parted : (ms ns : Members) → members_text true (followed ms ns) ≡ front ms ++ members_text true ns
-parted no_members ns = refl
-parted (member name d ms) ns = one true name d (followed ms ns) ∙ ap (λ t. written true name d ++ t) (parted ms ns) ∙ sym (append_assoc (written true name d) (front ms) (members_text true ns))
-
--- the members before the inputs, but for the first
-abbrev later_members : CacheKey → Members
-later_members k =
-    member (codes "environment") (environment k.environment)
-    (member (codes "executor") (executor_data k.executor)
-    (member (codes "extension") (text_or_null k.extension)
-    (member (codes "extra") (text_or_null k.extra) no_members)))
-
-abbrev opening : CacheKey → List ℕ
-opening k = 123 ∷ (written false (codes "body") (texts k.body) ++ front (later_members k))
-
-opened : (k : CacheKey) (ms : Members) → compact_text (object (before_inputs k ms)) ≡ opening k ++ members_text true ms
-opened k ms =
-    let first = written false (codes "body") (texts k.body) in
-    ap (λ t. 123 ∷ t) (one false (codes "body") (texts k.body) (followed (later_members k) ms) ∙ ap (λ t. first ++ t) (parted (later_members k) ms) ∙ sym (append_assoc first (front (later_members k)) (members_text true ms)))
-
-abbrev closing : CacheKey → List ℕ
-closing k = members_text false (behind_inputs k)
-
-named : (given : Data) (k : CacheKey) → members_text true (member (codes "inputs") given (behind_inputs k)) ≡ codes ",\"inputs\":" ++ (compact_text given ++ 44 ∷ closing k)
+named : (given : Data) (k : CacheKey) → members_text true (member (codes "inputs") given (behind_inputs k)) ≡ codes ",\"inputs\":" ++ (compact_text given ++ members_text true (behind_inputs k))
 unfolding escape_byte
 named given k = refl
-
-cut : (given : Data) (k : CacheKey) → compact_text (data_with given k) ≡ (opening k ++ codes ",\"inputs\":") ++ (compact_text given ++ 44 ∷ closing k)
-cut given k = opened k (member (codes "inputs") given (behind_inputs k)) ∙ ap (λ t. opening k ++ t) (named given k) ∙ sym (append_assoc (opening k) (codes ",\"inputs\":") (compact_text given ++ 44 ∷ closing k))
-
--- the object of the members before the inputs ends with a brace
-ended : (k : CacheKey) → compact_text (object (before_inputs k no_members)) ≡ opening k ++ codes "}"
-ended k = opened k no_members
-
-pub ends_with_brace : (k : CacheKey) (text : List ℕ) → text ≡ compact_text (object (before_inputs k no_members)) → (before : List ℕ) × (text ≡ before ++ codes "}")
-ends_with_brace k text same = (opening k, same ∙ ended k)
 
 -- a text in place of the `null` behind a front
 put_in : (head value tail : List ℕ) → head ++ (value ++ tail) ≡ take (length head) (head ++ (codes "null" ++ tail)) ++ value ++ drop 4 (drop (length head) (head ++ (codes "null" ++ tail)))
 put_in [] value tail = refl
 put_in (c ∷ head) value tail = ap (λ t. c ∷ t) (put_in head value tail)
 
-module _ (k : CacheKey) (before : List ℕ) (first : before ++ codes "}" ≡ compact_text (object (before_inputs k no_members))) where
-  opening_is : before ≡ opening k
-  opening_is = append_cancel_right before (opening k) (codes "}") (first ∙ ended k)
-
+module _ (k : CacheKey) (before : List ℕ) (first : (following : Members) → before ++ members_text true following ≡ compact_text (object (before_inputs k following))) where
   -- the text around the value of the inputs
-  pub text_with : (behind value : List ℕ) → codes "{" ++ behind ≡ compact_text (object (behind_inputs k)) → (given : Data) → compact_text given ≡ value → before ++ codes ",\"inputs\":" ++ value ++ codes "," ++ behind ≡ compact_text (data_with given k)
-  text_with behind value last given same =
-      let head = before ++ codes ",\"inputs\":" in
-      let rest : behind ≡ closing k = ap (drop 1) last in
-      append_assoc (head ++ value) (codes ",") behind ∙ append_assoc head value (44 ∷ behind)
-      ∙ ap (λ t. t ++ codes ",\"inputs\":" ++ (value ++ 44 ∷ behind)) opening_is
-      ∙ ap (λ t. opening k ++ codes ",\"inputs\":" ++ (value ++ 44 ∷ t)) rest
-      ∙ ap (λ t. opening k ++ codes ",\"inputs\":" ++ (t ++ 44 ∷ closing k)) (sym same)
-      ∙ sym (cut given k)
+  pub text_with : (given : Data) → (before ++ codes ",\"inputs\":") ++ (compact_text given ++ members_text true (behind_inputs k)) ≡ compact_text (data_with given k)
+  text_with given =
+      append_assoc before (codes ",\"inputs\":") (compact_text given ++ members_text true (behind_inputs k))
+      ∙ ap (λ t. before ++ t) (sym (named given k))
+      ∙ first (member (codes "inputs") given (behind_inputs k))
 
   -- which begins behind the name of the inputs
   pub takes_inputs : (at : ℕ) → at ≡ length (before ++ codes ",\"inputs\":") → TakesInputs k at
   takes_inputs at is files =
-      let head = opening k ++ codes ",\"inputs\":" in
-      let place : at ≡ length head = is ∙ ap (λ t. length (t ++ codes ",\"inputs\":")) opening_is in
-      let put = put_in head (compact_text (inputs files)) (44 ∷ closing k) in
-      cut (inputs files) k ∙ put ∙ ap (λ n. take n (head ++ (codes "null" ++ 44 ∷ closing k)) ++ compact_text (inputs files) ++ drop 4 (drop n (head ++ (codes "null" ++ 44 ∷ closing k)))) (sym place)
-      ∙ ap (λ c. with_inputs c at files) (sym (cut null k))
-
--- ---- cutting off braces
-
-last_at : (before : List ℕ) → get_or (before ++ codes "}") (length before) 0 ≡ 125
-last_at [] = refl
-last_at (c ∷ before) = last_at before
-
-front_at : (before : List ℕ) → take (length before) (before ++ codes "}") ≡ before
-front_at [] = refl
-front_at (c ∷ before) = ap (λ t. c ∷ t) (front_at before)
-
-pub before_last : (text before : List ℕ) → text ≡ before ++ codes "}" → (0 < length text) × IsCharBoundary text (length text - 1) × (take (length text - 1) text ++ codes "}" ≡ text)
-before_last text before e =
-    let size : length text ≡ length before + 1 = ap length e ∙ length-append before (codes "}") in
-    let at : length text - 1 ≡ length before = omega (arith, size) in
-    let byte : get_or text (length text - 1) 0 ≡ 125 = ap (λ t. get_or t (length text - 1) 0) e ∙ ap (λ n. get_or (before ++ codes "}") n 0) at ∙ last_at before in
-    let taken : take (length text - 1) text ≡ before = ap (λ t. take (length text - 1) t) e ∙ ap (λ n. take n (before ++ codes "}")) at ∙ front_at before in
-    (omega (arith, size), IsCharBoundary-before_ascii text (length text - 1) (omega (arith, size)) (omega (arith, byte)), ap (λ t. t ++ codes "}") taken ∙ sym e)
-
-pub behind_first : (text rest : List ℕ) → text ≡ codes "{" ++ rest → IsUtf8 text → IsCharBoundary text 1 × (codes "{" ++ drop 1 text ≡ text)
-behind_first text rest e u =
-    let size : length text ≡ suc (length rest) = ap length e in
-    let byte : get_or text 0 0 ≡ 123 = ap (λ t. get_or t 0 0) e in
-    (IsCharBoundary-after_ascii text 0 u (omega (arith, size)) (omega (arith, byte)), ap (λ t. codes "{" ++ t) (ap (drop 1) e) ∙ sym e)
+      let head = before ++ codes ",\"inputs\":" in
+      let tail = members_text true (behind_inputs k) in
+      sym (text_with (inputs files)) ∙ put_in head (compact_text (inputs files)) tail
+      ∙ ap (λ n. take n (head ++ (codes "null" ++ tail)) ++ compact_text (inputs files) ++ drop 4 (drop n (head ++ (codes "null" ++ tail)))) (sym is)
+      ∙ ap (λ c. with_inputs c at files) (text_with null)
 
 -- ---- cutting out the `null`
 

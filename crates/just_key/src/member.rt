@@ -2,17 +2,15 @@
 ghost use Rattle.std.specs.Prelude.{◌≡◌, ◌++◌, IfOk, map, string_bytes};
 ghost use Rattle.serde_json.specs.Data.{string};
 ghost use Rattle.serde_json.specs.View.{view};
-ghost use Rattle.just_key.specs.Members.{text_or_null, texts, texts_or_null, environment, inputs, object_of_inputs, command_data, shebang_data, executor_data, path_text};
+ghost use Rattle.just_key.specs.Members.{text_or_null, texts, texts_or_null, environment, inputs, object_of_inputs, path_text};
 
-use super::KeyExecutor;
-use just_lang::Interpreter;
 use just_path::Utf8PathBuf;
 use just_text::{NoMemory, Seq, Text};
 use serde_json::{Map, Value};
 use std::alloc::Global;
 
 /// A text as JSON.
-fn text_value(alloc: Global, text: &str) -> Result<Value, NoMemory>
+pub(crate) fn text_value(alloc: Global, text: &str) -> Result<Value, NoMemory>
     ensures { IfOk result (λ v. view v ≡ string text.now) }
 {
     Ok(Value::String(String::from_str(alloc, text)?))
@@ -99,51 +97,6 @@ pub(crate) fn inputs_value(
             [_, ..] => object_of_inputs(alloc, files.as_slice()),
         },
         None => Ok(Value::Null),
-    }
-}
-
-/// A command with its arguments.
-fn command_value(alloc: Global, interpreter: &Interpreter) -> Result<Value, NoMemory>
-    ensures { IfOk result (λ v. view v ≡ command_data interpreter.now) }
-{
-    let mut members = Map::new(alloc);
-    let kind = text_value(alloc, "command")?;
-    serde_json::put(&mut members, alloc, "type", kind)?;
-    let command = text_value(alloc, interpreter.command.as_str())?;
-    serde_json::put(&mut members, alloc, "command", command)?;
-    let arguments = texts_value(alloc, interpreter.arguments.as_slice())?;
-    serde_json::put(&mut members, alloc, "arguments", arguments)?;
-    Ok(Value::Object(members))
-}
-
-/// What the first line of a script names.
-fn shebang_value(
-    alloc: Global,
-    argument: &Option<Text>,
-    interpreter: &Text,
-) -> Result<Value, NoMemory>
-    ensures { IfOk result (λ v. view v ≡ shebang_data argument.now interpreter.now) }
-{
-    let mut members = Map::new(alloc);
-    let kind = text_value(alloc, "shebang")?;
-    serde_json::put(&mut members, alloc, "type", kind)?;
-    let interpreter = text_value(alloc, interpreter.as_str())?;
-    serde_json::put(&mut members, alloc, "interpreter", interpreter)?;
-    let argument = text_or_null(alloc, argument)?;
-    serde_json::put(&mut members, alloc, "argument", argument)?;
-    Ok(Value::Object(members))
-}
-
-/// What runs the script.
-pub(crate) fn executor_value(alloc: Global, executor: &KeyExecutor) -> Result<Value, NoMemory>
-    ensures { IfOk result (λ v. view v ≡ executor_data executor.now) }
-{
-    match executor {
-        KeyExecutor::Command(interpreter) => command_value(alloc, interpreter),
-        KeyExecutor::Shebang {
-            argument,
-            interpreter,
-        } => shebang_value(alloc, argument, interpreter),
     }
 }
 

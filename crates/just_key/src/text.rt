@@ -1,109 +1,126 @@
 //! The texts of a key.
-ghost use Rattle.std.specs.Prelude.{◌≡◌, ℕ, List, ◌++◌, IfOk, None, length, codes, string_bytes};
-ghost use Rattle.serde_json.specs.Data.{Data, object, no_members};
+ghost use Rattle.std.specs.Prelude.{◌≡◌, ◌++◌, IfOk, OnOk, None, true, false, length, codes, string_bytes};
+ghost use Rattle.serde_json.specs.Data.{Data, Members, object};
 ghost use Rattle.serde_json.specs.View.{view};
-ghost use Rattle.serde_json.specs.Written.{compact_text};
-ghost use Rattle.just_key.specs.Members.{inputs};
+ghost use Rattle.serde_json.specs.Written.{compact_text, members_text, has_float};
+ghost use Rattle.just_key.specs.Members.{inputs, command_data, shebang_data, executor_data};
 ghost use Rattle.just_key.specs.Keys.{before_inputs, behind_inputs, data_with, key_text, class_text, with_inputs, TakesInputs};
 ghost use Rattle.just_key.specs.Readable.{FixesClass, FixesKey};
 
 use super::member::{
-    environment_value, executor_value, folder_or_null, inputs_value, path_value, text_or_null,
+    environment_value, folder_or_null, inputs_value, path_value, text_or_null, text_value,
     texts_or_null, texts_value,
 };
-use super::{CacheKey, ClassText};
+use super::{CacheKey, ClassText, KeyExecutor};
+use just_lang::Interpreter;
 use just_text::{NoMemory, Seq, Text};
-use serde_json::{Map, Value};
+use serde_json::Value;
 use std::alloc::Global;
 
 /// The names of files with their digests.
 pub type Inputs = Option<Seq<(Text, Text)>>;
 
-/// The members of a key before its inputs.
-fn value_before(alloc: Global, key: &CacheKey) -> Result<Value, NoMemory>
-    ensures { IfOk result (λ v. view v ≡ object (before_inputs key.now no_members)) }
+/// Adds what stands before a value, and the value as JSON in its shortest form.
+fn push_value(alloc: Global, text: &mut String, front: &str, value: &Value) -> Result<(), NoMemory>
+    requires { has_float (view value.now) ≡ false }
+    ensures { OnOk result (string_bytes text.new ≡ string_bytes text.old ++ (front.now ++ compact_text (view value.now))) }
 {
-    let mut members = Map::new(alloc);
-    let extra = text_or_null(alloc, &key.extra)?;
-    serde_json::put(&mut members, alloc, "extra", extra)?;
-    let extension = text_or_null(alloc, &key.extension)?;
-    serde_json::put(&mut members, alloc, "extension", extension)?;
-    let executor = executor_value(alloc, &key.executor)?;
-    serde_json::put(&mut members, alloc, "executor", executor)?;
-    let environment = environment_value(alloc, key.environment.as_slice())?;
-    serde_json::put(&mut members, alloc, "environment", environment)?;
-    let body = texts_value(alloc, key.body.as_slice())?;
-    serde_json::put(&mut members, alloc, "body", body)?;
-    Ok(Value::Object(members))
+    text.push_str(front)?;
+    match value {
+        Value::Null => text.push_str("null")?,
+        value => text.push_str(value.to_string(alloc)?.as_str())?,
+    }
+    Ok(())
 }
 
-/// The members of a key behind its inputs.
-fn value_behind(alloc: Global, key: &CacheKey) -> Result<Value, NoMemory>
-    ensures { IfOk result (λ v. view v ≡ object (behind_inputs key.now)) }
+/// Adds the member of a command that runs the script, with its arguments.
+fn push_command(alloc: Global, text: &mut String, interpreter: &Interpreter) -> Result<(), NoMemory>
+    ensures { OnOk result (string_bytes text.new ≡ string_bytes text.old ++ (codes ",\"executor\":" ++ compact_text (command_data interpreter.now))) }
 {
-    let mut members = Map::new(alloc);
-    let folder = folder_or_null(alloc, &key.working_directory)?;
-    serde_json::put(&mut members, alloc, "working_directory", folder)?;
-    let recipe = path_value(alloc, key.recipe.components.as_slice())?;
-    serde_json::put(&mut members, alloc, "recipe", recipe)?;
-    let positional = texts_or_null(alloc, &key.positional)?;
-    serde_json::put(&mut members, alloc, "positional", positional)?;
-    Ok(Value::Object(members))
+    let arguments = texts_value(alloc, interpreter.arguments.as_slice())?;
+    push_value(alloc, text, ",\"executor\":{\"arguments\":", &arguments)?;
+    let command = text_value(alloc, interpreter.command.as_str())?;
+    push_value(alloc, text, ",\"command\":", &command)?;
+    text.push_str(",\"type\":\"command\"}")?;
+    Ok(())
 }
 
-/// The text of the members before the inputs, as an object.
-#[tactic(auto, using(crate::proofs::Cut::before_float_free))]
-fn text_before(alloc: Global, key: &CacheKey) -> Result<String, NoMemory>
-    ensures { IfOk result (λ s. string_bytes s ≡ compact_text (object (before_inputs key.now no_members))) }
-{
-    Ok(value_before(alloc, key)?.to_string(alloc)?)
-}
-
-/// The text of the members behind the inputs, as an object.
-#[tactic(auto, using(crate::proofs::Cut::behind_float_free))]
-fn text_behind(alloc: Global, key: &CacheKey) -> Result<String, NoMemory>
-    ensures { IfOk result (λ s. string_bytes s ≡ compact_text (object (behind_inputs key.now))) }
-{
-    Ok(value_behind(alloc, key)?.to_string(alloc)?)
-}
-
-/// What stands before a closing brace.
-fn before_brace(text: &str) -> &str
-    requires { (front : List ℕ) × (text.now ≡ front ++ codes "}") }
-    ensures { result.now ++ codes "}" ≡ text.now }
-{
-    text.split_at(text.len() - 1).0
-}
-
-/// What stands behind an opening brace.
-fn behind_brace(text: &str) -> &str
-    requires { (rest : List ℕ) × (text.now ≡ codes "{" ++ rest) }
-    ensures { codes "{" ++ result.now ≡ text.now }
-{
-    text.split_at(1).1
-}
-
-/// The text of inputs between what stands before and behind them, and the place at which it begins.
-fn joined(
+/// Adds the member of what the first line of a script names to run it.
+fn push_shebang(
     alloc: Global,
-    before: &str,
-    inputs: &str,
-    behind: &str,
-) -> Result<(String, usize), NoMemory>
-    ensures text { IfOk result (λ t. string_bytes t.0 ≡ before.now ++ codes ",\"inputs\":" ++ inputs.now ++ codes "," ++ behind.now) }
-    ensures place { IfOk result (λ t. t.1 ≡ length (before.now ++ codes ",\"inputs\":")) }
+    text: &mut String,
+    argument: &Option<Text>,
+    interpreter: &Text,
+) -> Result<(), NoMemory>
+    ensures { OnOk result (string_bytes text.new ≡ string_bytes text.old ++ (codes ",\"executor\":" ++ compact_text (shebang_data argument.now interpreter.now))) }
 {
-    let around = before.len().saturating_add(behind.len());
-    let frame = ",\"inputs\":,".len();
-    let size = around.saturating_add(inputs.len()).saturating_add(frame);
-    let mut text = String::with_capacity(alloc, size)?;
-    text.push_str(before)?;
+    let argument = text_or_null(alloc, argument)?;
+    push_value(alloc, text, ",\"executor\":{\"argument\":", &argument)?;
+    let interpreter = text_value(alloc, interpreter.as_str())?;
+    push_value(alloc, text, ",\"interpreter\":", &interpreter)?;
+    text.push_str(",\"type\":\"shebang\"}")?;
+    Ok(())
+}
+
+/// Adds the member of what runs the script.
+fn push_executor(alloc: Global, text: &mut String, executor: &KeyExecutor) -> Result<(), NoMemory>
+    ensures { OnOk result (string_bytes text.new ≡ string_bytes text.old ++ (codes ",\"executor\":" ++ compact_text (executor_data executor.now))) }
+{
+    match executor {
+        KeyExecutor::Command(interpreter) => push_command(alloc, text, interpreter),
+        KeyExecutor::Shebang {
+            argument,
+            interpreter,
+        } => push_shebang(alloc, text, argument, interpreter),
+    }
+}
+
+/// Adds the members of a key before its inputs, behind a brace.
+fn push_before(alloc: Global, text: &mut String, key: &CacheKey) -> Result<(), NoMemory>
+    ensures { OnOk result ((following : Members) → string_bytes text.new ++ members_text true following ≡ string_bytes text.old ++ compact_text (object (before_inputs key.now following))) }
+{
+    let body = texts_value(alloc, key.body.as_slice())?;
+    push_value(alloc, text, "{\"body\":", &body)?;
+    let environment = environment_value(alloc, key.environment.as_slice())?;
+    push_value(alloc, text, ",\"environment\":", &environment)?;
+    push_executor(alloc, text, &key.executor)?;
+    let extension = text_or_null(alloc, &key.extension)?;
+    push_value(alloc, text, ",\"extension\":", &extension)?;
+    let extra = text_or_null(alloc, &key.extra)?;
+    push_value(alloc, text, ",\"extra\":", &extra)?;
+    Ok(())
+}
+
+/// Adds the members of a key behind its inputs, and the brace behind them.
+fn push_behind(alloc: Global, text: &mut String, key: &CacheKey) -> Result<(), NoMemory>
+    ensures { OnOk result (string_bytes text.new ≡ string_bytes text.old ++ members_text true (behind_inputs key.now)) }
+{
+    let positional = texts_or_null(alloc, &key.positional)?;
+    push_value(alloc, text, ",\"positional\":", &positional)?;
+    let recipe = path_value(alloc, key.recipe.components.as_slice())?;
+    push_value(alloc, text, ",\"recipe\":", &recipe)?;
+    let folder = folder_or_null(alloc, &key.working_directory)?;
+    push_value(alloc, text, ",\"working_directory\":", &folder)?;
+    text.push_str("}")?;
+    Ok(())
+}
+
+/// How many bytes the texts of a list have. No clause: it is the room that they are given.
+fn room_of(texts: &[Text]) -> usize {
+    let mut room = 0usize;
+    for text in texts {
+        room = room.saturating_add(text.as_str().len());
+    }
+    room
+}
+
+/// Adds the name of the inputs, and answers where their value begins.
+fn push_inputs_name(text: &mut String) -> Result<usize, NoMemory>
+    ensures text { OnOk result (string_bytes text.new ≡ string_bytes text.old ++ codes ",\"inputs\":") }
+    ensures place { IfOk result (λ at. at ≡ length (string_bytes text.old ++ codes ",\"inputs\":")) }
+{
     text.push_str(",\"inputs\":")?;
-    let place = text.len();
-    text.push_str(inputs)?;
-    text.push_str(",")?;
-    text.push_str(behind)?;
-    Ok((text, place))
+    Ok(text.len())
 }
 
 /// The text of a key whose inputs have this text, and the place at which they begin.
@@ -111,11 +128,13 @@ fn text_around(alloc: Global, key: &CacheKey, inputs: &str) -> Result<(String, u
     ensures text { IfOk result (λ t. (given : Data) → compact_text given ≡ inputs.now → string_bytes t.0 ≡ compact_text (data_with given key.now)) }
     ensures place { IfOk result (λ t. TakesInputs key.now t.1) }
 {
-    let before = text_before(alloc, key)?;
-    let behind = text_behind(alloc, key)?;
-    let front = before_brace(before.as_str());
-    let back = behind_brace(behind.as_str());
-    joined(alloc, front, inputs, back)
+    let room = room_of(key.body.as_slice()).saturating_add(320);
+    let mut text = String::with_capacity(alloc, room.saturating_add(inputs.len()))?;
+    push_before(alloc, &mut text, key)?;
+    let place = push_inputs_name(&mut text)?;
+    text.push_str(inputs)?;
+    push_behind(alloc, &mut text, key)?;
+    Ok((text, place))
 }
 
 /// The text of inputs.

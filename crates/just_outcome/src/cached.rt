@@ -9,6 +9,7 @@ use just_errors::Error;
 use just_history::{CachePlan, Event, PlanNode, entry_path_of};
 use just_outside::HostFault;
 use just_path::{Miss, Utf8PathBuf};
+use just_read::Boxed;
 use just_text::{NoMemory, Text};
 use std::alloc::Global;
 
@@ -31,14 +32,14 @@ fn path_error(alloc: Global, path: &str, io: HostFault) -> Result<Error, NoMemor
 /// The error of a refused call that names the folder of a cache.
 pub(crate) fn folder_error(
     alloc: Global,
-    cache: &Option<CachePlan>,
+    cache: &Option<Boxed<CachePlan>>,
     io: HostFault,
 ) -> Result<Error, NoMemory>
     ensures error { IfOk result (λ e. e ≡ Error.FilesystemIo (entries_folder cache.now) io) }
     ensures wanting { IfErr result (λ _. copies_text (Error.FilesystemIo (entries_folder cache.now) io) ≡ true) }
 {
     match cache {
-        Some(cache) => path_error(alloc, cache.folder.as_str(), io),
+        Some(cache) => path_error(alloc, cache.get().folder.as_str(), io),
         None => path_error(alloc, "", io),
     }
 }
@@ -61,7 +62,7 @@ fn seen_sums(history: &[Event], number: u32) -> Option<&[[u8; 32]]>
 #[tactic(auto, using(crate::proofs::Paths::entry_by_sums, crate::proofs::Paths::entry_filled, crate::proofs::Paths::nothing_seen, crate::proofs::Paths::no_cache))]
 pub(crate) fn entry_seen(
     alloc: Global,
-    cache: &Option<CachePlan>,
+    cache: &Option<Boxed<CachePlan>>,
     history: &[Event],
     number: u32,
 ) -> Result<Utf8PathBuf, NoMemory>
@@ -69,7 +70,7 @@ pub(crate) fn entry_seen(
     ensures wanting { IfErr result (λ _. is_filled (seen_entry cache.now (seen_at history.now number)) ≡ true) }
 {
     match (cache, seen_sums(history, number)) {
-        (Some(cache), Some(sums)) => entry_path_of(alloc, cache, sums),
+        (Some(cache), Some(sums)) => entry_path_of(alloc, cache.get(), sums),
         _ => Ok(Utf8PathBuf::from(String::new(alloc))),
     }
 }
@@ -102,11 +103,11 @@ fn path_at(paths: &[Utf8PathBuf], place: u32) -> &str
 }
 
 /// The path of the input of a cache at a place.
-fn input_at(cache: &Option<CachePlan>, place: u32) -> &str
+fn input_at(cache: &Option<Boxed<CachePlan>>, place: u32) -> &str
     ensures { result.now ≡ slice_index_or (paths_in cache.now) place [] }
 {
     match cache {
-        Some(cache) => path_at(cache.paths.as_slice(), place),
+        Some(cache) => path_at(cache.get().paths.as_slice(), place),
         None => "",
     }
 }
@@ -114,13 +115,13 @@ fn input_at(cache: &Option<CachePlan>, place: u32) -> &str
 /// The text of the output of a cache at a place.
 pub(crate) fn output_at(
     alloc: Global,
-    cache: &Option<CachePlan>,
+    cache: &Option<Boxed<CachePlan>>,
     place: u32,
 ) -> Result<Text, NoMemory>
     ensures { IfOk result (λ t. t ≡ slice_index_or (outputs_in cache.now) place []) }
 {
     match cache {
-        Some(cache) => Text::from_str(alloc, path_at(cache.outputs.as_slice(), place)),
+        Some(cache) => Text::from_str(alloc, path_at(cache.get().outputs.as_slice(), place)),
         None => Text::from_str(alloc, ""),
     }
 }
@@ -135,7 +136,7 @@ fn copied_path(alloc: Global, path: &str) -> Result<Utf8PathBuf, NoMemory>
 /// The error of the input at a place that is such a miss.
 pub(crate) fn input_error(
     alloc: Global,
-    cache: &Option<CachePlan>,
+    cache: &Option<Boxed<CachePlan>>,
     place: u32,
     miss: Miss,
 ) -> Result<Error, NoMemory>

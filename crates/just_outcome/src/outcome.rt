@@ -158,7 +158,7 @@ fn lost_error(
 {
     let recipe = name_of(alloc, node)?;
     match &node.work {
-        Work::Script(command) => script_error(alloc, recipe, &command.spec, io),
+        Work::Script(command) => script_error(alloc, recipe, &command.get().spec, io),
         Work::Lines(_) | Work::Empty => {
             let shell = shell_of(alloc, node, history, number)?;
             Ok(Error::ShellIo { recipe, shell, io })

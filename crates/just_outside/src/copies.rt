@@ -1,6 +1,10 @@
 //! Copies of what a child is asked for by.
+ghost use Rattle.std.specs.Prelude.{◌≡◌, IfOk};
+
 use super::{Script, Spec};
+use just_read::Boxed;
 use just_text::{NoMemory, TryClone};
+use std::alloc::Global;
 
 impl TryClone for Script {
     fn try_clone(&self) -> Result<Script, NoMemory> {
@@ -33,4 +37,11 @@ impl TryClone for Spec {
             script,
         })
     }
+}
+
+/// A copy of what a child is asked for by, on the heap.
+pub fn boxed_copy(alloc: Global, spec: &Spec) -> Result<Boxed<Spec>, NoMemory>
+    ensures { IfOk result (λ b. b ≡ spec.now) }
+{
+    Ok(Boxed::new(alloc, spec.try_clone()?)?)
 }

@@ -4,6 +4,7 @@ ghost use Rattle.just_outside.specs.declared.entry.HostFault.{HostFault};
 
 use super::{ScriptText, Signal};
 use just_path::{Miss, Utf8PathBuf};
+use just_read::Boxed;
 use just_text::{NoMemory, Seq, Text};
 
 /// The calls of a host that can fail.
@@ -110,10 +111,10 @@ pub enum Entry {
     Checked(Seq<Utf8PathBuf>, Option<u32>),
     Saved(Utf8PathBuf),
     /// The number of a child and what it was started by.
-    Started(u32, Spec),
+    Started(u32, Boxed<Spec>),
     /// The number of a child and how it ended.
     Ended(u32, Status),
-    Captured(Spec, Seq<u8>, Status, Seq<u8>),
+    Captured(Boxed<Spec>, Seq<u8>, Status, Seq<u8>),
     /// A child that was to be settled, and the other child whose end was handed in.
     Strayed(u32, u32),
     Signalled(Signal),

@@ -9,6 +9,7 @@ mod script_text;
 mod signal;
 mod tree;
 
+pub use copies::boxed_copy;
 pub use entry::{Call, Entry, HostFault, Look, Script, Spec, Status, Stream};
 pub use log::Log;
 pub use outside::{Host, MAX_BYTES, MAX_SUMMED};

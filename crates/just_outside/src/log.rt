@@ -8,6 +8,7 @@ ghost use Rattle.just_outside.specs.Record.{call_of, noted, IsFailure, IsMissOf,
 
 use super::{Call, Entry, HostFault, Spec, Status};
 use just_path::{Miss, PathCall, PathFault, Utf8Path};
+use just_read::Boxed;
 use just_text::NoMemory;
 use std::alloc::Global;
 
@@ -145,7 +146,7 @@ impl Log {
     }
 
     /// Appends the start of a child, and answers its number.
-    pub fn start(&mut self, spec: Spec) -> u32
+    pub fn start(&mut self, spec: Boxed<Spec>) -> u32
         requires room { HasRoom self.old }
         requires number { started_of self.old < u32.MAX }
         ensures entries { entries_of self.new ≡ entries_of self.old ++ Entry.Started result spec ∷ [] }

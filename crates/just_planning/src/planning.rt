@@ -24,6 +24,7 @@ use just_lang::{BodyLine, Closure, Key, Node};
 use just_lines::lines_of;
 use just_path::Utf8Path;
 use just_plans::{Bodies, NodeCache, NodePlan, PlanError, key_plan};
+use just_read::Boxed;
 use just_text::{NoMemory, Seq, Text};
 use just_value::View;
 use std::alloc::Global;
@@ -121,12 +122,15 @@ fn cache_plan(alloc: Global, cache: NodeCache) -> Result<CachePlan, NoMemory>
 }
 
 /// The same of a node that may have one.
-fn cache_plan_of(alloc: Global, cache: Option<NodeCache>) -> Result<Option<CachePlan>, NoMemory>
+fn cache_plan_of(
+    alloc: Global,
+    cache: Option<NodeCache>,
+) -> Result<Option<Boxed<CachePlan>>, NoMemory>
     requires { IsPaired cache }
     ensures { IfOk result (λ c. option_map cache_planned c ≡ cache) }
 {
     match cache {
-        Some(cache) => Ok(Some(cache_plan(alloc, cache)?)),
+        Some(cache) => Ok(Some(Boxed::new(alloc, cache_plan(alloc, cache)?)?)),
         None => Ok(None),
     }
 }

@@ -69,7 +69,7 @@ fn keyed_texts(
     requires { Sees scopes.now from.now }
     ensures { Gives (keyed_texts scopes.now (located_of from.now) values.now arguments.now) result }
 {
-    let mut texts = Vec::new(alloc);
+    let mut texts = Vec::with_capacity(alloc, arguments.len())?;
     'arguments: for argument in arguments {
         texts.push(keyed_text(alloc, scopes, from, values, argument)?)?;
     }
@@ -81,7 +81,7 @@ fn keyed_texts(
 fn texts_under(alloc: Global, key: &str, texts: &[(Text, Text)]) -> Result<Seq<Text>, NoMemory>
     ensures { IfOk result (λ ts. ts ≡ texts_under key.now texts.now) }
 {
-    let mut found = Vec::new(alloc);
+    let mut found = Vec::with_capacity(alloc, texts.len())?;
     'texts: for pair in texts {
         if pair.0.as_str() == key {
             found.push(pair.1.try_clone()?)?;
@@ -152,10 +152,13 @@ fn script_child(work: &Work) -> Option<(&Spec, &Script)>
     ensures { option_map (λ c. (c.0.now, c.1.now)) result ≡ script_child work.now }
 {
     match work {
-        Work::Script(command) => match &command.spec.script {
-            Some(script) => Some((&command.spec, script)),
-            None => None,
-        },
+        Work::Script(command) => {
+            let spec = &command.get().spec;
+            match &spec.script {
+                Some(script) => Some((spec, script)),
+                None => None,
+            }
+        }
         Work::Lines(_) | Work::Empty => None,
     }
 }

@@ -7,6 +7,9 @@ use super::{Class, ReadError};
 use std::alloc::Global;
 use std::marker::Model;
 
+/// The room that a text is given at first. Most names are no longer.
+const SHORT: usize = 16;
+
 /// A place in a text: the characters that are left, and the line and the column of the first of them. Contracts see it as a
 /// `Place`.
 ///
@@ -201,7 +204,7 @@ impl<'a> Cursor<'a> {
         ensures text { IfOk result (λ text. string_bytes text ≡ encode_utf8_all (run C.members self.old.rest)) }
         ensures memory { IfErr result (λ e. e ≡ ReadError.NoMemory) }
     {
-        let mut text = String::new(alloc);
+        let mut text = String::with_capacity(alloc, SHORT)?;
         while let Some(c) = self.next_of::<C>() {
             text.push(c)?;
         }

@@ -1,18 +1,17 @@
 -- The last ones of their names among items, found from the last item on.
 use Rattle.std.proofs.Common.{◌≡◌, ℕ, Bool, true, false, List, [], ◌∷◌, ◌++◌, reverse, not, cond, ◌||◌, refl, ap, sym, ◌∙◌}
 use denote.Ref.{Bor}
-use Rattle.std.specs.BTreeSet.{BTreeSet, contains, Updates}
+use Rattle.std.specs.HashSet.{HashSet, contains, Updates}
 use Rattle.std.specs.List.{list_any}
 use Rattle.std.specs.Str.{bytes_eq}
 use Rattle.std.proofs.lemmas.List.{append-nil, reverse-append}
-use Rattle.std.proofs.lemmas.Map.Text.{is_eq-slice_cmp}
 use Rattle.just_syntax.specs.declared.ast.AstItem.{AstItem}
 use Rattle.just_spots.specs.declared.entries.Entry.{Entry}
 use Rattle.just_spots.specs.Entries.{entry, entries}
 use Rattle.just_spots.specs.Items.{item_name}
 use Rattle.just_spots.specs.Standing.{has_name}
 use Rattle.just_spots.proofs.ListLaws.{entries_end}
-use Rattle.just_spots.proofs.Seen.{text_cmp}
+use Rattle.just_spots.proofs.Seen.{text_eq}
 
 pub entries_reverse : (xs : List Entry) → entries (reverse xs) ≡ reverse (entries xs)
 entries_reverse [] = refl
@@ -33,8 +32,8 @@ or_cond true c = refl
 or_cond false c = refl
 
 -- a set that gained the name of one more
-pub sees_front : (q : Bor (List ℕ)) (k : Bor (List ℕ)) (old new : BTreeSet (Bor (List ℕ))) (x : Entry) (rest : List (ℕ × AstItem)) → Updates text_cmp old new k true → k.now ≡ item_name x.item.now
-    → contains text_cmp old q ≡ list_any (has_name item_name q.now) rest → contains text_cmp new q ≡ list_any (has_name item_name q.now) (entry x ∷ rest)
+pub sees_front : {S : Type 0} (q : Bor (List ℕ)) (k : Bor (List ℕ)) (old new : HashSet (Bor (List ℕ)) S) (x : Entry) (rest : List (ℕ × AstItem)) → Updates text_eq old new k true → k.now ≡ item_name x.item.now
+    → contains text_eq old q ≡ list_any (has_name item_name q.now) rest → contains text_eq new q ≡ list_any (has_name item_name q.now) (entry x ∷ rest)
 sees_front q k old new x rest h is same =
-    h.0 q ∙ ap (λ b. cond b true (contains text_cmp old q)) (is_eq-slice_cmp k.now q.now ∙ ap (λ n. bytes_eq n q.now) is) ∙ ap (λ b. cond (bytes_eq (item_name x.item.now) q.now) true b) same
+    h.0 q ∙ ap (λ n. cond (bytes_eq n q.now) true (contains text_eq old q)) is ∙ ap (λ b. cond (bytes_eq (item_name x.item.now) q.now) true b) same
     ∙ or_cond (bytes_eq (item_name x.item.now) q.now) (list_any (has_name item_name q.now) rest)

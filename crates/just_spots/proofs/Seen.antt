@@ -3,22 +3,25 @@ use Rattle.std.proofs.Common.{◌≡◌, ◌<◌, ◌+◌, ℕ, List, [], ◌∷
 use Rattle.std.specs.Prelude.{◌||◌}
 use mathlib.Core.Bool.{cond}
 use denote.Ref.{Bor}
-use Rattle.std.specs.BTreeSet.{BTreeSet, contains, Updates}
+use Rattle.std.specs.HashSet.{HashSet, contains, Updates}
 use Rattle.std.specs.Cmp.Lexicographic.{slice_cmp}
 use Rattle.std.specs.Ordering.{nat_cmp}
 use Rattle.std.specs.Str.{bytes_eq}
-use Rattle.std.proofs.lemmas.Map.Text.{is_eq-slice_cmp}
 use Rattle.std.proofs.lemmas.List.Folds.{list_any-append}
 use Rattle.std.proofs.lemmas.List.{take_more}
 use Rattle.just_spots.specs.declared.spot.Spot.{Spot}
 use Rattle.just_spots.specs.declared.repeated.Named.{Named}
 use Rattle.just_spots.specs.Spots.{spot_where, earlier, first_spot}
-use Rattle.just_spots.specs.Repeated.{is_among, repeated_behind, named}
+use Rattle.just_spots.specs.Repeated.{is_among, repeated_behind, repeated, named}
 use Rattle.just_spots.proofs.Spots.{first_behind}
 
 -- the order of borrowed texts
 abbrev pub text_cmp : Bor (List ℕ) → Bor (List ℕ) → Ordering
 text_cmp x y = slice_cmp nat_cmp x.now y.now
+
+-- whether two borrowed texts are one
+abbrev pub text_eq : Bor (List ℕ) → Bor (List ℕ) → Bool
+text_eq x y = bytes_eq x.now y.now
 
 or_last : (b c : Bool) → cond b true c ≡ (c || (b || false))
 or_last true true = refl
@@ -30,11 +33,9 @@ pub among_more : (q k : List ℕ) (names : List (List ℕ)) → cond (bytes_eq k
 among_more q k names = or_last (bytes_eq k q) (is_among q names) ∙ sym (list_any-append (λ other. bytes_eq other q) names (k ∷ []))
 
 -- a set that gained a name has it and what it had
-pub sees_more : (q k : Bor (List ℕ)) (old new : BTreeSet (Bor (List ℕ))) (names : List (List ℕ))
-    → Updates text_cmp old new k true → contains text_cmp old q ≡ is_among q.now names → contains text_cmp new q ≡ is_among q.now (names ++ k.now ∷ [])
-sees_more q k old new names h same =
-    h.0 q ∙ ap (λ b. cond b true (contains text_cmp old q)) (is_eq-slice_cmp k.now q.now) ∙ ap (λ b. cond (bytes_eq k.now q.now) true b) same
-    ∙ among_more q.now k.now names
+pub sees_more : {S : Type 0} (q k : Bor (List ℕ)) (old new : HashSet (Bor (List ℕ)) S) (names : List (List ℕ))
+    → Updates text_eq old new k true → contains text_eq old q ≡ is_among q.now names → contains text_eq new q ≡ is_among q.now (names ++ k.now ∷ [])
+sees_more q k old new names h same = h.0 q ∙ ap (λ b. cond (bytes_eq k.now q.now) true b) same ∙ among_more q.now k.now names
 
 pub map_push : {X Y : Type 0} (f : X → Y) (xs : List X) (x : X) → map f (xs ++ x ∷ []) ≡ map f xs ++ f x ∷ []
 map_push f [] x = refl
@@ -66,3 +67,11 @@ repeated_step found here next xs i d is_new less h k e =
     ∙ ap (λ (o : Option Spot). earlier o (first_spot (repeated_behind (names ++ x.name.now ∷ []) rest))) (e ∙ ap (earlier found) (k ∙ ap (λ (b : Bool). first_spot (spot_where b x.spot)) test))
     ∙ sym (first_behind found (spot_where (is_among x.name.now names) x.spot) (repeated_behind (names ++ x.name.now ∷ []) rest))
     ∙ ap (λ (ys : List Named). earlier found (first_spot (repeated_behind names (map named ys)))) (sym cons)
+
+-- of two names the second, where it is the first one
+pub two_repeated : (a b : Named) (test : Bool) → test ≡ bytes_eq a.name.now b.name.now → first_spot (spot_where test b.spot) ≡ first_spot (repeated (named a ∷ named b ∷ []))
+two_repeated a b test e = ap (λ t. first_spot (spot_where t b.spot)) e ∙ at (bytes_eq a.name.now b.name.now)
+  where
+    at : (t : Bool) → first_spot (spot_where t b.spot) ≡ first_spot (spot_where (t || false) b.spot ++ [])
+    at true = refl
+    at false = refl

@@ -6,7 +6,7 @@ ghost use Rattle.just_spots.specs.Repeated.{repeated, named};
 use super::spot::{Spot, earlier, spot_where};
 use just_text::NoMemory;
 use std::alloc::Global;
-use std::collections::BTreeSet;
+use std::collections::HashSet;
 
 /// A name, and its place.
 #[derive(Clone, Copy, Drop)]
@@ -16,11 +16,15 @@ pub struct Named<'a> {
 }
 
 /// The first place of a name that stands behind an equal one.
-#[tactic(auto, using(crate::proofs::Seen::sees_more, crate::proofs::Seen::names_more, crate::proofs::Spots::first_behind, crate::proofs::Spots::earlier_none))]
+#[tactic(auto, using(crate::proofs::Seen::sees_more, crate::proofs::Seen::names_more, crate::proofs::Spots::first_behind, crate::proofs::Spots::earlier_none, crate::proofs::Seen::two_repeated))]
 pub fn first_repeated(alloc: Global, names: &[Named<'_>]) -> Result<Option<Spot>, NoMemory>
     ensures { IfOk result (λ s. s ≡ first_spot (repeated (map named names.now))) }
 {
-    let mut seen: BTreeSet<&str> = BTreeSet::new(alloc);
+    // many lists have two names, for which no set is made
+    if let [first, second] = names {
+        return Ok(spot_where(first.name == second.name, second.spot));
+    }
+    let mut seen: HashSet<&str> = HashSet::with_capacity(alloc, names.len())?;
     let mut found = None;
     'names: for name in names {
         let is_new = seen.insert(name.name)?;

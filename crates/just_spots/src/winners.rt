@@ -9,7 +9,7 @@ ghost use Rattle.just_spots.specs.Winners.{is_imported, wins_in, has_pair, ArePa
 use super::entries::{Entry, item_name};
 use just_text::{NoMemory, Seq};
 use std::alloc::{AllocError, Global};
-use std::collections::BTreeSet;
+use std::collections::{BTreeSet, HashSet};
 
 /// The names that the files of some items give.
 #[derive(Drop)]
@@ -130,7 +130,7 @@ pub fn unbeaten<'a>(
 fn last_of_each<'a>(alloc: Global, items: &[Entry<'a>]) -> Result<Vec<Entry<'a>>, NoMemory>
     ensures { IfOk result (λ v. entries v.items ≡ last_of_each item_name (entries items.now)) }
 {
-    let mut seen: BTreeSet<&str> = BTreeSet::new(alloc);
+    let mut seen: HashSet<&str> = HashSet::with_capacity(alloc, items.len())?;
     let mut kept = Vec::with_capacity(alloc, items.len())?;
     'items: for at in (0..items.len()).rev() {
         let one = items[at];

@@ -4,11 +4,14 @@ ghost use Rattle.std.specs.Prelude.{◌≡◌, ◌++◌, ◌∷◌, [], IfOk};
 use just_text::Seq;
 use std::alloc::AllocError;
 
-/// Adds an item behind others. The first one takes room for itself alone, since most lists of a justfile have one item.
+/// How many items of a list take room one by one.
+const FEW: usize = 4;
+
+/// Adds an item behind others. The first few take room for themselves alone, since most lists of a justfile are short.
 pub fn add<T: Drop>(found: &mut Vec<T>, item: T) -> Result<(), AllocError>
     ensures { IfOk result (λ u. found.new.items ≡ found.old.items ++ item ∷ []) }
 {
-    if found.is_empty() {
+    if found.len() < FEW {
         found.reserve_exact(1)?;
     }
     found.push(item)?;

@@ -21,8 +21,11 @@ use just_files::system::{
     ask, canonical, here, list, look, miss_of, names, pairs, read, read_text, show, target,
 };
 use just_files::{copied_bytes, copies_of, path_or_empty};
-use just_outside::{Call, Entry, Host, HostFault, Log, Look, Script, Spec, Status, Stream};
+use just_outside::{
+    Call, Entry, Host, HostFault, Log, Look, Script, Spec, Status, Stream, boxed_copy,
+};
 use just_path::{Item, Meta, Miss, PathCall, PathFault, PathHost, Utf8Path, Utf8PathBuf};
+use just_read::Boxed;
 use just_text::{Environ, NoMemory, Seq, Text, TryClone};
 use std::alloc::Global;
 use std::fs::File;
@@ -273,7 +276,7 @@ fn answer_print(
 }
 
 /// Makes the log ready for the start of a child, and answers a copy of what it is started by.
-fn prepare(log: &mut Log, spec: &Spec) -> Result<Spec, HostFault>
+fn prepare(log: &mut Log, alloc: Global, spec: &Spec) -> Result<Boxed<Spec>, HostFault>
     ensures room { OnOk result (HasRoom log.new) }
     ensures number { OnOk result (started_of log.new < u32.MAX) }
     ensures copy { IfOk result (λ p. p ≡ spec.now) }
@@ -284,7 +287,7 @@ fn prepare(log: &mut Log, spec: &Spec) -> Result<Spec, HostFault>
     if !log.can_number() {
         return Err(HostFault::NoMemory);
     }
-    let copy = spec.try_clone()?;
+    let copy = boxed_copy(alloc, spec)?;
     log.ready()?;
     Ok(copy)
 }
@@ -396,7 +399,7 @@ fn clear<F: Files>(files: &F, file: &Option<ScriptFile>) {
 /// Notes the start of a child, or that it failed, where the log was made ready.
 fn answer_start(
     log: &mut Log,
-    spec: Spec,
+    spec: Boxed<Spec>,
     script: Option<ScriptFile>,
     told: io::Result<Child<SystemProcess>>,
 ) -> Result<RealChild, HostFault>
@@ -500,7 +503,7 @@ impl<R: Runtime + Files<File = File> + Processes<Started = SystemProcess>> Host 
     }
 
     fn input(&mut self) -> Result<String, HostFault> {
-        let told = read_text(self.alloc, self.rt.reader());
+        let told = read_text(self.alloc, self.rt.reader(), 0);
         answer_read(
             &mut self.log,
             self.alloc,
@@ -613,7 +616,7 @@ impl<R: Runtime + Files<File = File> + Processes<Started = SystemProcess>> Host 
     }
 
     fn capture(&mut self, spec: &Spec, input: &[u8]) -> Result<(Status, Vec<u8>), HostFault> {
-        let copy = spec.try_clone()?;
+        let copy = boxed_copy(self.alloc, spec)?;
         let fed = copied_bytes(self.alloc, input)?;
         self.log.ready()?;
         match capture(&self.rt, self.alloc, spec, input) {
@@ -627,7 +630,7 @@ impl<R: Runtime + Files<File = File> + Processes<Started = SystemProcess>> Host 
     }
 
     fn start(&mut self, spec: &Spec) -> Result<RealChild, HostFault> {
-        let copy = prepare(&mut self.log, spec)?;
+        let copy = prepare(&mut self.log, self.alloc, spec)?;
         let file = place_script(&self.rt, &mut self.log, self.alloc, spec)?;
         let told = spawn(&self.rt, self.alloc, &mut self.shell, spec, &file);
         answer_start(&mut self.log, copy, file, told)

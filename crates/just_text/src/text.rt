@@ -9,6 +9,7 @@ ghost use Rattle.std.specs.Hash as fed;
 ghost use Rattle.std.proofs.Common.{refl, rules};
 
 use super::{NoMemory, TryClone};
+use arrayvec::ArrayString;
 use std::alloc::Global;
 use std::cmp::Ordering;
 use std::hash::{Hash, Hasher};
@@ -23,7 +24,14 @@ use std::marker::Model;
 /// ```
 #[derive(Debug, Drop)]
 pub struct Text {
-    string: String,
+    kept: Kept,
+}
+
+/// How a text is kept: a short one in place, a longer one on the heap.
+#[derive(Debug, Drop)]
+enum Kept {
+    Short(ArrayString<16>),
+    Long(String),
 }
 
 impl Model for Text {
@@ -31,7 +39,9 @@ impl Model for Text {
 
     ghost Value = { List ℕ };
 
-    ghost view = { λ t. string_bytes t.string };
+    ghost use Rattle.just_text.specs.Texts.{kept_bytes};
+
+    ghost view = { λ t. kept_bytes t.kept };
 }
 
 impl From<String> for Text {
@@ -41,7 +51,11 @@ impl From<String> for Text {
     fn from(string: String) -> Text
         ensures { result ≡ string_bytes string }
     {
-        Text { string }
+        let kept = match ArrayString::from(string.as_str()) {
+            Ok(short) => Kept::Short(short),
+            Err(_) => Kept::Long(string),
+        };
+        Text { kept }
     }
 }
 
@@ -54,8 +68,11 @@ impl Text {
     pub fn from_str(alloc: Global, text: &str) -> Result<Text, NoMemory>
         ensures { IfOk result (λ t. t ≡ text.now) }
     {
-        let string = String::from_str(alloc, text)?;
-        Ok(Text { string })
+        let kept = match ArrayString::from(text) {
+            Ok(short) => Kept::Short(short),
+            Err(_) => Kept::Long(String::from_str(alloc, text)?),
+        };
+        Ok(Text { kept })
     }
 
     /// The text, borrowed.
@@ -66,7 +83,10 @@ impl Text {
     pub fn as_str(&self) -> &str
         ensures { result.now ≡ self.now }
     {
-        self.string.as_str()
+        match &self.kept {
+            Kept::Short(short) => short.as_str(),
+            Kept::Long(string) => string.as_str(),
+        }
     }
 
     /// A copy on the same allocator; it is equal to this text.
@@ -77,20 +97,22 @@ impl Text {
     pub fn try_clone(&self) -> Result<Text, NoMemory>
         ensures { IfOk result (λ t. t ≡ self.now) }
     {
-        let string = self.string.clone()?;
-        Ok(Text { string })
+        let kept = match &self.kept {
+            Kept::Short(short) => Kept::Short(*short),
+            Kept::Long(string) => Kept::Long(string.clone()?),
+        };
+        Ok(Text { kept })
     }
 
-    /// The string that holds the text, without taking memory.
+    /// The text as a string of its own.
     ///
     /// ```
-    /// let string = text.into_string();
+    /// let string = text.to_string(alloc)?;
     /// ```
-    pub fn into_string(self) -> String
-        ensures { string_bytes result ≡ self }
+    pub fn to_string(&self, alloc: Global) -> Result<String, NoMemory>
+        ensures { IfOk result (λ s. string_bytes s ≡ self.now) }
     {
-        let Text { string } = self;
-        string
+        Ok(String::from_str(alloc, self.as_str())?)
     }
 }
 

@@ -50,9 +50,9 @@ module _ (all : List Override) (path : Modulepath) (n : ℕ) (o : Override) (lt 
       ∙ sym (ap (λ os. or_else (override_of os path name) (get text_cmp m name)) here) ∙ before name
 
 -- an override of the module
-pub kept_given : (o : Override) (path : Modulepath) (m i : BTreeMap (List ℕ) (List ℕ)) (key text : List ℕ) → key ≡ o.name → text ≡ o.value → same_path o.module path ≡ true → Updates text_cmp m i key (Some text) → Keeps o path m i
-kept_given o path m i key text key_is text_is ours updates name =
-    updates.0 name ∙ ap (λ k. cond (is_at (text_cmp k) name) (Some text) (get text_cmp m name)) key_is ∙ ap (λ b. cond b (Some text) (get text_cmp m name)) (text_tie o.name name) ∙ ap (λ t. cond (bytes_eq o.name name) (Some t) (get text_cmp m name)) text_is
+pub kept_given : (o : Override) (path : Modulepath) (m i : BTreeMap (List ℕ) (List ℕ)) → same_path o.module path ≡ true → Updates text_cmp m i o.name (Some o.value) → Keeps o path m i
+kept_given o path m i ours updates name =
+    updates.0 name ∙ ap (λ b. cond b (Some o.value) (get text_cmp m name)) (text_tie o.name name)
     ∙ chosen o (bytes_eq o.name name) (get text_cmp m name) ∙ sym (ap (λ b. or_else (override_in o (b && bytes_eq o.name name)) (get text_cmp m name)) ours)
 
 -- one of another module

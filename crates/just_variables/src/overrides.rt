@@ -1,7 +1,9 @@
 //! What the command line gives to the variables of a module, and what it gives to none.
 
-ghost use Rattle.std.specs.Prelude.{◌≡◌, ◌≢◌, ◌++◌, ◌&&◌, [], List, not, map, false, string_bytes, IfOk, OnOk, MatchOption};
+ghost use Rattle.std.specs.Prelude.{◌≡◌, ◌≢◌, ◌++◌, ◌&&◌, [], List, not, map, false, string_bytes, IfOk, OnOk, Some, MatchOption};
+ghost use Rattle.std.specs.BTreeMap.{Updates};
 ghost use Rattle.std.specs.BTreeSet.{contains};
+ghost use Rattle.just_closure.specs.Numbers.{text_cmp};
 ghost use Rattle.just_lang.specs.Keys.{same_path};
 ghost use Rattle.just_variables.specs.Overrides.{Variable, Keeps, AreGiven, is_overridden, assigns, is_assigned, variable_cmp, AreUnknown, prefix_of, variable_text};
 
@@ -14,6 +16,14 @@ use std::collections::{BTreeMap, BTreeSet};
 /// A variable of a project: the path of its module, and its name.
 type Variable = (Modulepath, Text);
 
+/// Sets the variable of an override.
+fn set(given: &mut BTreeMap<Text, Text>, one: &Override) -> Result<(), NoMemory>
+    ensures updates { OnOk result (Updates text_cmp given.old given.new one.now.name (Some one.now.value)) }
+{
+    given.insert(one.name.try_clone()?, one.value.try_clone()?)?;
+    Ok(())
+}
+
 /// Keeps what an override gives, where it is one of the module.
 #[tactic(auto, using(crate::proofs::GivenTexts::passed_given))]
 fn keep_given(
@@ -24,7 +34,7 @@ fn keep_given(
     ensures { OnOk result (Keeps one.now path.now given.old given.new) }
 {
     if one.module.same(path) {
-        given.insert(one.name.try_clone()?, one.value.try_clone()?)?;
+        set(given, one)?;
         return Ok(());
     }
     Ok(())

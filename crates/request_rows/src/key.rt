@@ -40,7 +40,7 @@ fn optional(alloc: Global, fields: &[&str], number: usize) -> Result<Option<Text
 /// The folder of a row, or none.
 fn folder(alloc: Global, fields: &[&str]) -> Result<Option<Utf8PathBuf>, Wrong> {
     match optional(alloc, fields, 8)? {
-        Some(text) => Ok(Some(Utf8PathBuf::from(text.into_string()))),
+        Some(text) => Ok(Some(Utf8PathBuf::from(text.to_string(alloc)?))),
         None => Ok(None),
     }
 }

@@ -96,7 +96,7 @@ pub(crate) fn children(alloc: Global, entries: &[Entry]) -> Result<String, Alloc
     let mut all = String::new(alloc);
     for entry in entries {
         if let Entry::Started(_, spec) = entry {
-            push_child(alloc, &mut all, spec)?;
+            push_child(alloc, &mut all, spec.get())?;
         }
     }
     Ok(all)
@@ -121,7 +121,7 @@ pub(crate) fn changes(alloc: Global, entries: &[Entry]) -> Result<String, AllocE
     let mut all = String::new(alloc);
     for entry in entries {
         if let Entry::Started(_, spec) = entry {
-            push_changes(&mut all, spec)?;
+            push_changes(&mut all, spec.get())?;
         }
     }
     Ok(all)

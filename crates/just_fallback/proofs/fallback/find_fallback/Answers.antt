@@ -2,7 +2,7 @@
 use Rattle.std.proofs.Common.{rules, ◌≡◌, true, false}
 use Rattle.just_path.specs.Path.{text_of}
 use Rattle.just_fallback.specs.Fallback.{is_search, is_not_found}
-use Rattle.just_fallback.proofs.Rising.{falls_found, falls_nowhere, falls_refused}
+use Rattle.just_fallback.proofs.Rising.{falls_found, falls_nowhere, falls_refused, nowhere_unheard}
 use Rattle.just_fallback.proofs.fallback.find_fallback.Goals as goal
 
 pub returns-in-Ok-clause-found : goal.returns-in-Ok-clause-found
@@ -21,3 +21,8 @@ returns-else-is_not_found-clause-found g c =
     let searches : is_search c.args.config.now.search_config ≡ true = search rules in
     let other : is_not_found c.in-Err.error ≡ false = search rules in
     falls_refused (g.H.Host.world c.args.host.now) c.args.config.now (text_of c.args.folder) c.in-Err.error searches other c.in-Err.ensures.found
+
+pub returns-then-is_not_found-clause-entries : goal.returns-then-is_not_found-clause-entries
+returns-then-is_not_found-clause-entries g c =
+    let none : is_not_found c.in-Err.error ≡ true = search rules in
+    nowhere_unheard (g.H.Host.entries c.args.host.now) (g.H.Host.entries c.find_above.new.host) c.in-Err.error none c.in-Err.ensures.entries

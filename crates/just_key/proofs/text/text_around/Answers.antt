@@ -1,19 +1,30 @@
--- The members before and behind the inputs, with their text between, are the object of the key.
-use Rattle.std.proofs.Common.{◌∙◌}
-use Rattle.std.proofs.lemmas.Result.{IfOk-weaker}
-use Rattle.just_key.proofs.Cut.{ends_with_brace, text_with, takes_inputs}
+-- What stands before the inputs, then they, then what stands behind them.
+use Rattle.std.proofs.Common.{◌≡◌, ◌++◌, append_assoc, true, codes, string_bytes, sym, ap, ◌∙◌}
+use Rattle.serde_json.specs.Data.{Members, object}
+use Rattle.serde_json.specs.Written.{compact_text, members_text}
+use Rattle.just_key.specs.Keys.{before_inputs, behind_inputs}
+use Rattle.just_key.proofs.Cut.{text_with, takes_inputs}
 use Rattle.just_key.proofs.text.text_around.Goals as goal
 
-pub before_brace-front-requires : goal.before_brace-front-requires
-before_brace-front-requires c = ends_with_brace c.args.key.now c.as_str.result.now (c.as_str.ensures.value ∙ c.in_ok-before.ensures)
-
 pub returns-clause-text : goal.returns-clause-text
-returns-clause-text c =
-    let first = c.before_brace-front.ensures ∙ c.as_str.ensures.value ∙ c.in_ok-before.ensures in
-    let last = c.behind_brace-back.ensures ∙ c.as_str-2.ensures.value ∙ c.in_ok-behind.ensures in
-    IfOk-weaker c.joined.result _ _ (λ t same given is. same ∙ text_with c.args.key.now c.before_brace-front.result.now first c.behind_brace-back.result.now c.args.inputs.now last given is) c.joined.ensures.text
+returns-clause-text c given same =
+    let k = c.args.key.now in
+    let before = string_bytes c.push_before.new.text in
+    let head = before ++ codes ",\"inputs\":" in
+    let inputs = c.args.inputs.now in
+    let tail = members_text true (behind_inputs k) in
+    let first : (following : Members) → before ++ members_text true following ≡ compact_text (object (before_inputs k following)) =
+    λ following. c.in_ok-push_before.ensures following ∙ ap (λ t. t ++ compact_text (object (before_inputs k following))) c.in_ok-text.ensures.bytes in
+    c.in_ok-push_behind.ensures
+    ∙ ap (λ t. t ++ tail) (c.in_ok-push_str.ensures.bytes ∙ ap (λ t. t ++ inputs) c.in_ok-place.ensures.text)
+    ∙ append_assoc head inputs tail
+    ∙ ap (λ v. head ++ (v ++ tail)) (sym same)
+    ∙ text_with k before first given
 
 pub returns-clause-place : goal.returns-clause-place
 returns-clause-place c =
-    let first = c.before_brace-front.ensures ∙ c.as_str.ensures.value ∙ c.in_ok-before.ensures in
-    IfOk-weaker c.joined.result _ _ (λ t is. takes_inputs c.args.key.now c.before_brace-front.result.now first t.1 is) c.joined.ensures.place
+    let k = c.args.key.now in
+    let before = string_bytes c.push_before.new.text in
+    let first : (following : Members) → before ++ members_text true following ≡ compact_text (object (before_inputs k following)) =
+    λ following. c.in_ok-push_before.ensures following ∙ ap (λ t. t ++ compact_text (object (before_inputs k following))) c.in_ok-text.ensures.bytes in
+    takes_inputs k before first c.in_ok-place.place c.in_ok-place.ensures.place

@@ -16,6 +16,6 @@ names-preserved c =
           sees_more q key c.names.seen c.insert.new.self (map text_of_name (take c.names.name-index c.args.names.now)) c.in_ok-is_new.ensures.updates (c.names.invariant.same q)
           ∙ ap (λ (ns : List (List ℕ)). is_among q.now ns) (sym (names_more text_of_name c.args.names.now c.names.name-index none c.names-test.true));
       rest =
-          repeated_step c.names.found c.spot_where.result c.earlier-found.result c.args.names.now c.names.name-index none c.in_ok-is_new.is_new c.names-test.true
-          (c.in_ok-is_new.ensures.added ∙ ap not (c.names.invariant.same key)) c.spot_where.ensures c.earlier-found.ensures ∙ c.names.invariant.rest;
+          repeated_step c.names.found c.spot_where-in-names.result c.earlier-found.result c.args.names.now c.names.name-index none c.in_ok-is_new.is_new c.names-test.true
+          (c.in_ok-is_new.ensures.added ∙ ap not (c.names.invariant.same key)) c.spot_where-in-names.ensures c.earlier-found.ensures ∙ c.names.invariant.rest;
     }

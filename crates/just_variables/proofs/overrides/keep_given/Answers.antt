@@ -5,4 +5,4 @@ use Rattle.just_variables.proofs.overrides.keep_given.Goals as goal
 
 pub returns-then-same : goal.returns-then-same
 returns-then-same c =
-    kept_given c.args.one.now c.args.path.now c.args.given.now c.insert.new.self c.in_ok-try_clone.field-0 c.in_ok-try_clone-2.field-0 c.in_ok-try_clone.ensures c.in_ok-try_clone-2.ensures (sym c.same.ensures ∙ c.if-same.true) c.in_ok-insert.ensures.updates
+    kept_given c.args.one.now c.args.path.now c.args.given.now c.set.new.given (sym c.same.ensures ∙ c.if-same.true) c.in_ok-set.ensures.updates

@@ -1,7 +1,6 @@
 -- A recipe whose path is new, and is kept by itself or by its mark.
-use Rattle.std.proofs.Common.{rules, ◌≡◌, false, is_some, refl, sym, ◌∙◌}
-use Rattle.std.specs.BTreeMap.{get}
-use Rattle.std.specs.Ordering.{nat_cmp}
+use Rattle.std.proofs.Common.{rules, ◌≡◌, nat_eq, false, is_some, refl, sym, ◌∙◌}
+use Rattle.std.specs.HashMap.{get}
 use Rattle.just_eval.specs.Entries.{indexed}
 use Rattle.just_eval.proofs.EntryLists.{entered_other, entered_first}
 use Rattle.just_eval.proofs.entry.Index.enter.Goals as goal
@@ -18,5 +17,5 @@ returns c =
     let m = c.args.self.now in
     let e = c.args.entry.now in
     let new : is_some (indexed m e.recipe.now.path) ≡ false = search rules in
-    let free : is_some (get nat_cmp m.firsts c.path_mark-mark.result) ≡ false = sym c.contains_key.ensures ∙ c.if-contains_key.false in
+    let free : is_some (get nat_eq m.firsts c.path_mark-mark.result) ≡ false = sym c.contains_key.ensures ∙ c.if-contains_key.false in
     entered_first m (record { firsts = c.insert-2.new.self; others = m.others }) e c.path_mark-mark.result c.path_mark-mark.ensures new free refl c.in_ok-insert-2.ensures.updates

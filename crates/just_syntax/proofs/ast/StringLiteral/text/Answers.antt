@@ -1,5 +1,5 @@
 -- A string that is neither a block nor double quoted means its own text.
-use Rattle.std.proofs.Common.{◌≡◌, Some, if◌then◌else◌, encode_utf8_all, chars, ap, sym, ◌∙◌, subst, rules, IsUtf8}
+use Rattle.std.proofs.Common.{Some, if◌then◌else◌, encode_utf8_all, chars, ap, sym, ◌∙◌, subst, rules, IsUtf8}
 use Rattle.std.proofs.lemmas.Str.{encodes-chars}
 use Rattle.just_read.specs.Indentation.{unindented}
 use Rattle.just_syntax.specs.Strings.{plain_text}
