@@ -12,9 +12,9 @@ use Rattle.std.specs.declared.cmp.Ordering.TheVariants.{Less, Equal, Greater}
 use Rattle.std.proofs.lemmas.Cmp.{nat_list_cmp_total}
 use Rattle.std.proofs.lemmas.Map.Text.{is_eq-slice_cmp}
 use Rattle.std.proofs.lemmas.Slice.Eq.{bytes_eq-Decides}
-use Rattle.just_text.specs.Environ.{or_else, value_of}
-use Rattle.just_key.specs.Members.{object_by, object_of_inputs}
-use Rattle.just_key.specs.Readable.{AreInOrder}
+use Rattle.just_path_text.specs.Environ.{or_else, value_of}
+use Rattle.just_cache.specs.Members.{object_by, object_of_inputs}
+use Rattle.just_cache.specs.Readable.{AreInOrder}
 use Rattle.just_cache.specs.Maps.{text_cmp, put_all, AreLast}
 
 -- ---- texts

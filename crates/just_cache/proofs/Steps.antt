@@ -4,12 +4,12 @@ use Rattle.std.proofs.Math.Seq.{take-suc, drop-cons}
 use Rattle.std.proofs.lemmas.List.{map-append, take-append-drop, take_all}
 use Rattle.std.specs.Prelude.{Result, Ok, Err, IsErrAnd, MatchOption}
 use Rattle.just_path.specs.Path.{pushed}
-use Rattle.just_outside.specs.declared.entry.Entry.{Entry}
-use Rattle.just_outside.specs.declared.entry.Entry.TheVariants as entry
-use Rattle.just_outside.specs.declared.entry.HostFault.{HostFault}
-use Rattle.just_outside.specs.declared.entry.HostFault.TheVariants as fault
-use Rattle.just_outside.specs.Looks.{told_sum, TellsAnswer}
-use Rattle.just_outside.specs.World.{World}
+use Rattle.just_host_record.specs.declared.entry.Entry.{Entry}
+use Rattle.just_host_record.specs.declared.entry.Entry.TheVariants as entry
+use Rattle.just_host_record.specs.declared.entry.HostFault.{HostFault}
+use Rattle.just_host_record.specs.declared.entry.HostFault.TheVariants as fault
+use Rattle.just_host_record.specs.Looks.{told_sum, TellsAnswer}
+use Rattle.just_host_record.specs.World.{World}
 use Rattle.just_cache.specs.declared.cache_error.CacheError.{CacheError}
 use Rattle.just_cache.specs.declared.cache_error.CacheError.TheVariants as error
 use Rattle.just_cache.specs.Errors.{input_error}

@@ -1,14 +1,14 @@
 -- What one call of the host answers, as the cache tells it.
 use Rattle.std.proofs.Common.{◌≡◌, ℕ, List, Option, Some, None, refl, ap, sym, ◌∙◌, subst, append-nil}
 use Rattle.std.specs.Prelude.{Result, Ok, Err, IsErrAnd}
-use Rattle.just_lang.specs.declared.recipe.Modulepath.{Modulepath}
-use Rattle.just_outside.specs.declared.entry.Entry.{Entry}
-use Rattle.just_outside.specs.declared.entry.HostFault.{HostFault}
-use Rattle.just_outside.specs.declared.entry.HostFault.TheVariants as fault
-use Rattle.just_outside.specs.declared.entry.Look.{Look}
-use Rattle.just_outside.specs.Changes.{Changes, IsOfEntry, with_cache_entry, place_written, written}
-use Rattle.just_outside.specs.Looks.{LookTells}
-use Rattle.just_outside.specs.World.{World}
+use Rattle.just_lang_types.specs.declared.recipe.Modulepath.{Modulepath}
+use Rattle.just_host_record.specs.declared.entry.Entry.{Entry}
+use Rattle.just_host_record.specs.declared.entry.HostFault.{HostFault}
+use Rattle.just_host_record.specs.declared.entry.HostFault.TheVariants as fault
+use Rattle.just_host_record.specs.declared.entry.Look.{Look}
+use Rattle.just_host_record.specs.Changes.{Changes, IsOfEntry, with_cache_entry, place_written, written}
+use Rattle.just_host_record.specs.Looks.{LookTells}
+use Rattle.just_host_record.specs.World.{World}
 use Rattle.just_cache.specs.declared.cache_error.CacheError.{CacheError}
 use Rattle.just_cache.specs.declared.cache_error.CacheError.TheVariants as error
 use Rattle.just_cache.specs.declared.status.CacheStatus.{CacheStatus}

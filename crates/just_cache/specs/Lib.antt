@@ -1,4 +1,8 @@
--- The definitions of a cache.
+-- The definitions of the contracts of keys cite, a cache.
+pub mod Members
+pub mod Keys
+pub mod Readable
+pub mod Digests
 pub mod Places
 pub mod Shows
 pub mod Errors

@@ -1,16 +1,16 @@
 -- The status of a key by a look at its entry and outputs, and what is saved.
 use Rattle.std.specs.Prelude.{ℕ, ◌≡◌, List, [], ◌∷◌, ◌++◌, Option, Result, Ok, Err, MatchOption}
-use Rattle.just_lang.specs.declared.recipe.Modulepath.{Modulepath}
-use Rattle.just_outside.specs.declared.entry.Call.TheVariants as call
-use Rattle.just_outside.specs.declared.entry.Entry.{Entry}
-use Rattle.just_outside.specs.declared.entry.Entry.TheVariants as entry
-use Rattle.just_outside.specs.declared.entry.HostFault.{HostFault}
-use Rattle.just_outside.specs.declared.entry.Look.{Look}
-use Rattle.just_outside.specs.declared.entry.Look.TheVariants as look
-use Rattle.just_outside.specs.Changes.{Changes, IsOfEntry, with_cache_entry, place_written, written}
-use Rattle.just_outside.specs.Looks.{LookTells, look_at, told_bytes}
-use Rattle.just_outside.specs.Record.{gained, IsOwn}
-use Rattle.just_outside.specs.World.{World, view_of}
+use Rattle.just_lang_types.specs.declared.recipe.Modulepath.{Modulepath}
+use Rattle.just_host_record.specs.declared.entry.Call.TheVariants as call
+use Rattle.just_host_record.specs.declared.entry.Entry.{Entry}
+use Rattle.just_host_record.specs.declared.entry.Entry.TheVariants as entry
+use Rattle.just_host_record.specs.declared.entry.HostFault.{HostFault}
+use Rattle.just_host_record.specs.declared.entry.Look.{Look}
+use Rattle.just_host_record.specs.declared.entry.Look.TheVariants as look
+use Rattle.just_host_record.specs.Changes.{Changes, IsOfEntry, with_cache_entry, place_written, written}
+use Rattle.just_host_record.specs.Looks.{LookTells, look_at, told_bytes}
+use Rattle.just_host_record.specs.Record.{gained, IsOwn}
+use Rattle.just_host_record.specs.World.{World, view_of}
 use Rattle.just_cache.specs.declared.cache_error.CacheError.{CacheError}
 use Rattle.just_cache.specs.declared.status.CacheStatus.{CacheStatus}
 use Rattle.just_cache.specs.declared.status.CacheStatus.TheVariants as status

@@ -6,11 +6,11 @@ use Rattle.std.specs.Map.{lookup}
 use Rattle.std.specs.Ordering.{nat_cmp}
 use Rattle.std.specs.declared.cmp.Ordering.{Ordering}
 use Rattle.hex.specs.Hex.{encode_lower}
-use Rattle.just_text.specs.Environ.{value_of}
-use Rattle.just_outside.specs.declared.entry.Entry.{Entry}
-use Rattle.just_outside.specs.World.{World}
-use Rattle.just_key.specs.Members.{object_of_inputs}
-use Rattle.just_key.specs.Readable.{AreInOrder}
+use Rattle.just_path_text.specs.Environ.{value_of}
+use Rattle.just_host_record.specs.declared.entry.Entry.{Entry}
+use Rattle.just_host_record.specs.World.{World}
+use Rattle.just_cache.specs.Members.{object_of_inputs}
+use Rattle.just_cache.specs.Readable.{AreInOrder}
 use Rattle.just_cache.specs.declared.cache_error.CacheError.{CacheError}
 use Rattle.just_cache.specs.declared.cache_error.CacheError.TheVariants as error
 use Rattle.just_cache.specs.Sums.{AreSummed, IsRefused}

@@ -1,9 +1,9 @@
 -- Where a cache and its entries stand.
 use Rattle.std.specs.Prelude.{ℕ, List, ◌∷◌, ◌++◌, codes}
 use Rattle.just_path.specs.Path.{pushed}
-use Rattle.just_key.specs.Digests.{digest}
-use Rattle.just_key.specs.Keys.{key_text}
-use Rattle.just_key.specs.declared.key.CacheKey.{CacheKey}
+use Rattle.just_cache.specs.Digests.{digest}
+use Rattle.just_cache.specs.Keys.{key_text}
+use Rattle.just_cache.specs.declared.key.CacheKey.{CacheKey}
 
 -- the folder of the cache beside a justfile that was found in that folder
 abbrev pub cache_folder : List ℕ → List ℕ

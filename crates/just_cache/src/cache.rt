@@ -5,9 +5,9 @@ ghost use Rattle.just_path.specs.Path.{text_of};
 ghost use Rattle.just_cache.specs.Places.{cache_folder, entry_path, entry_of_key};
 ghost use Rattle.just_cache.specs.Shows.{folder_of};
 
-use just_key::{CacheKey, digest, key_text};
+use crate::{CacheKey, digest, key_text};
 use just_path::{Utf8Path, Utf8PathBuf};
-use just_text::NoMemory;
+use just_path_text::NoMemory;
 use std::alloc::Global;
 
 /// A cache: the folder that its entries stand in. The folder is made with the first entry.

@@ -3,9 +3,9 @@
 ghost use Rattle.std.specs.Prelude.{◌≡◌};
 ghost use Rattle.just_cache.specs.declared.cache_error.CacheError.TheVariants.{NoMemory as OutOfMemory};
 
-use just_outside::HostFault;
+use just_host_record::HostFault;
 use just_path::Utf8PathBuf;
-use just_text::NoMemory;
+use just_path_text::NoMemory;
 use std::alloc::{AllocError, AllocFailed};
 
 /// Why the cache has no answer, with the path of what it asked for. No fault of a host that a variant holds is want of memory.

@@ -7,9 +7,9 @@ ghost use Rattle.just_cache.specs.Maps.{GivesInputs};
 use super::CacheError;
 use super::named::named;
 use super::sums::sums_of;
-use just_outside::Host;
+use just_host_record::Host;
 use just_path::Utf8Path;
-use just_text::{Seq, Text};
+use just_path_text::{Seq, Text};
 use std::alloc::Global;
 
 /// The inputs of a body: each name once, in byte order, with the SHA-256 of the file at its path under the folder, in 64

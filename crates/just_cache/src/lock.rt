@@ -2,14 +2,14 @@
 
 ghost use Rattle.std.specs.Prelude.{◌≡◌};
 ghost use Rattle.just_path.specs.Path.{text_of};
-ghost use Rattle.just_key.specs.Keys.{entry_text};
+ghost use Rattle.just_cache.specs.Keys.{entry_text};
 ghost use Rattle.just_cache.specs.Looks.{Saves};
 
 use super::CacheError;
 use super::status::entry_error;
-use just_key::CacheEntry;
-use just_lang::Modulepath;
-use just_outside::Host;
+use crate::CacheEntry;
+use just_host_record::Host;
+use just_lang_types::Modulepath;
 use just_path::{Utf8Path, Utf8PathBuf};
 use std::alloc::Global;
 

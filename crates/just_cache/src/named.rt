@@ -4,7 +4,7 @@ ghost use Rattle.std.specs.Prelude.{◌≡◌, map, IfOk, OnOk};
 ghost use Rattle.just_cache.specs.Maps.{AreLast, put_all, with_digits};
 
 use super::sums::Given;
-use just_text::{NoMemory, Seq, Text};
+use just_path_text::{NoMemory, Seq, Text};
 use std::alloc::Global;
 use std::collections::BTreeMap;
 

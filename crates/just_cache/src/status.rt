@@ -8,11 +8,11 @@ ghost use Rattle.just_cache.specs.Shows.{folder_of};
 ghost use Rattle.just_cache.specs.Looks.{status_of, GivesStatus, ShowsStatus};
 
 use super::{Cache, CacheError, CacheLock};
-use just_key::CacheKey;
-use just_lang::Modulepath;
-use just_outside::{Host, HostFault, Look};
+use crate::CacheKey;
+use just_host_record::{Host, HostFault, Look};
+use just_lang_types::Modulepath;
 use just_path::{Utf8Path, Utf8PathBuf};
-use just_text::TryClone;
+use just_path_text::TryClone;
 use std::alloc::Global;
 
 /// Whether a body may be skipped.

@@ -6,9 +6,9 @@ ghost use Rattle.just_cache.specs.Errors.{missed_input, input_error};
 ghost use Rattle.just_cache.specs.Sums.{GivesSum, AddsSum, GivesSums};
 
 use super::CacheError;
-use just_outside::{Host, HostFault};
+use just_host_record::{Host, HostFault};
 use just_path::{Miss, Utf8Path, Utf8PathBuf};
-use just_text::Text;
+use just_path_text::Text;
 use std::alloc::Global;
 
 /// A name with the sum of its file.

@@ -1,10 +1,10 @@
 -- Steps that take acts: over told worlds and the same acts two that give one answer of their own at most give one such answer, one behind another.
 use Rattle.std.proofs.Common.{◌≡◌, ◌++◌, List, [], ◌∷◌, map, Option, Some, None, MatchOption, Result, Ok, Err, refl, sym, ◌∙◌, ap, subst, append_assoc, append-nil}
-use Rattle.just_outside.specs.World.{World}
-use Rattle.just_env_files.specs.Captures.{Capture, AreTold, told_behind}
-use Rattle.just_errors.specs.declared.error.Error.{Error}
-use Rattle.just_planning.specs.Own.{IsOwn}
-use Rattle.just_planning.proofs.Steps.{GivesOwn, same_refusal, refused_or_found, same_found}
+use Rattle.just_host_record.specs.World.{World}
+use Rattle.just_env.specs.Captures.{Capture, AreTold, told_behind}
+use Rattle.just_exec.specs.declared.error.Error.{Error}
+use Rattle.just_cli_plan.specs.Own.{IsOwn}
+use Rattle.just_cli_plan.proofs.Steps.{GivesOwn, same_refusal, refused_or_found, same_found}
 use Rattle.just_cli.specs.Acts.{Act, AreToldBehind, Step, Looks, Behind}
 
 pub own_refusal : {A : Type 0} (r : Result A Error) (e : Error) → r ≡ Err e → IsOwn r → IsOwn {A = A} (Err e)

@@ -10,22 +10,22 @@ use Rattle.std.proofs.lemmas.Slice.Eq.{bytes_eq-Decides}
 use Rattle.std.proofs.lemmas.List.Elements.{Contains-append_left, Contains-append_right}
 use Rattle.std.proofs.lemmas.List.Folds.{list_any-append}
 use Rattle.just_path.specs.declared.host.Miss.{Miss}
-use Rattle.just_outside.specs.declared.entry.Call.TheVariants as call
-use Rattle.just_outside.specs.declared.entry.Entry.{Entry}
-use Rattle.just_outside.specs.declared.entry.Entry.TheVariants as entry
-use Rattle.just_outside.specs.declared.entry.HostFault.{HostFault}
-use Rattle.just_outside.specs.declared.entry.HostFault.TheVariants as fault
-use Rattle.just_outside.specs.declared.tree.Thing.TheVariants as thing
-use Rattle.just_outside.specs.Changes.{with_tree, DiffersAt}
-use Rattle.just_outside.specs.Folders.{Removes as RemovesPath}
-use Rattle.just_outside.specs.Record.{refused, gained, IsOwnFault, is_failed}
-use Rattle.just_outside.specs.Sights.{Tree}
-use Rattle.just_outside.specs.World.{World}
-use Rattle.just_outside.proofs.Writing.{put_elsewhere, written_elsewhere}
-use Rattle.just_history.specs.declared.plan_node.PlanNode.{PlanNode}
-use Rattle.just_history.specs.Touched.{IsTouched}
-use Rattle.just_tangled.specs.Files.{Makes, Writes, file_in}
-use Rattle.just_tangled.specs.Removals.{IsWithin, IsAnswered, IsTried, Clears, RemovesFolder, RemovesAll, RemovesSome}
+use Rattle.just_host_record.specs.declared.entry.Call.TheVariants as call
+use Rattle.just_host_record.specs.declared.entry.Entry.{Entry}
+use Rattle.just_host_record.specs.declared.entry.Entry.TheVariants as entry
+use Rattle.just_host_record.specs.declared.entry.HostFault.{HostFault}
+use Rattle.just_host_record.specs.declared.entry.HostFault.TheVariants as fault
+use Rattle.just_host_record.specs.declared.tree.Thing.TheVariants as thing
+use Rattle.just_host_record.specs.Changes.{with_tree, DiffersAt}
+use Rattle.just_host_record.specs.Folders.{Removes as RemovesPath}
+use Rattle.just_host_record.specs.Record.{refused, gained, IsOwnFault, is_failed}
+use Rattle.just_host_record.specs.Sights.{Tree}
+use Rattle.just_host_record.specs.World.{World}
+use Rattle.just_host_record.proofs.Writing.{put_elsewhere, written_elsewhere}
+use Rattle.just_sched_history.specs.declared.plan_node.PlanNode.{PlanNode}
+use Rattle.just_sched_history.specs.Touched.{IsTouched}
+use Rattle.just_search.specs.Files.{Makes, Writes, file_in}
+use Rattle.just_search.specs.Removals.{IsWithin, IsAnswered, IsTried, Clears, RemovesFolder, RemovesAll, RemovesSome}
 use Rattle.just_cli.specs.Altered.{LeadsTo, IsLedTo, Alters, IsAltered, EndsAsItWas, StaysAsItWas}
 use Rattle.just_cli.specs.Record.{Removes, AreRefusals, EndsBehind}
 

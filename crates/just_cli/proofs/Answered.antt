@@ -2,20 +2,20 @@
 use Rattle.std.proofs.Common.{◌≡◌, ◌⊎◌, inl, inr, ℕ, Bool, true, false, List, Option, Some, None, Result, Ok, Err, IfErr, MatchOption, refl}
 use Rattle.std.specs.Prelude.{MatchResult}
 use Rattle.std.proofs.Math.Logic.{∥∥₁_map, ∥∥₁_elim}
-use Rattle.just_outside.specs.World.{World}
-use Rattle.just_outside.specs.declared.entry.Entry.{Entry}
-use Rattle.just_history.specs.declared.plan.Plan.{Plan}
-use Rattle.just_errors.specs.declared.error.Error.{Error}
+use Rattle.just_host_record.specs.World.{World}
+use Rattle.just_host_record.specs.declared.entry.Entry.{Entry}
+use Rattle.just_sched_history.specs.declared.plan.Plan.{Plan}
+use Rattle.just_exec.specs.declared.error.Error.{Error}
 use Rattle.just_cli.specs.declared.ended.Failure.{Failure}
 use Rattle.just_cli.specs.declared.ended.Report.{Report}
 use Rattle.just_cli.specs.Answered.{IsBeside, call_failed, uncaptured, too_big, no_memory, Fits, IsAnswered}
-use Rattle.just_planning.specs.Own.{is_too_big, is_uncaptured}
+use Rattle.just_cli_plan.specs.Own.{is_too_big, is_uncaptured}
 use Rattle.just_cli.specs.Acts.{Act, AreToldBehind}
-use Rattle.just_planning.specs.Own.{is_fault, IsOwn}
-use Rattle.just_planning.specs.Request.{Outline, outline_of}
+use Rattle.just_cli_plan.specs.Own.{is_fault, IsOwn}
+use Rattle.just_cli_plan.specs.Request.{Outline, outline_of}
 use Rattle.just_cli.specs.Request.{NoneFailed, Asks, IsAsked, RefusedFor}
 use Rattle.just_cli.proofs.Requests.{one_answer}
-use Rattle.just_planning.proofs.Steps.{same_found, refused_or_found}
+use Rattle.just_cli_plan.proofs.Steps.{same_found, refused_or_found}
 
 module _ (jobs : Option ℕ) (messages : List Bool) (words : List (List ℕ)) (w : World) (acts : List Act) (after own_after : Option World) (listings : List Entry) (none : NoneFailed listings) (own_listings : List Entry) (never : NoneFailed own_listings) (told : AreToldBehind acts) where
   -- the plan of a run is the one that is asked for

@@ -2,9 +2,9 @@
 use Rattle.std.proofs.Common.{◌≡◌, ◌<◌, ◌∙◌, ℕ, List, Option, Some, None, option_map, refl, sym, ap, subst}
 use Rattle.std.specs.Int.NonZero.{non_zero_u64_get}
 use Rattle.std.specs.declared.num.NonZeroU64.{NonZeroU64}
-use Rattle.just_words.specs.declared.arguments.Arguments.{Arguments}
-use Rattle.just_words.specs.declared.occurrence.Occurrence.{Occurrence}
-use Rattle.just_words.specs.Arguments.{AreArguments}
+use Rattle.just_config_words.specs.declared.arguments.Arguments.{Arguments}
+use Rattle.just_config_words.specs.declared.occurrence.Occurrence.{Occurrence}
+use Rattle.just_config_words.specs.Arguments.{AreArguments}
 use Rattle.std.proofs.Math.Bridge.{le_prop}
 
 -- a number that isn't 0 is its value

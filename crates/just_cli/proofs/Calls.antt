@@ -6,13 +6,13 @@ use Rattle.just_path.specs.declared.host.Miss.{Miss}
 use Rattle.just_path.specs.declared.host.PathCall.TheVariants as path_call
 use Rattle.just_path.specs.declared.host.PathFault.{PathFault}
 use Rattle.just_path.specs.declared.host.PathFault.TheVariants as path_fault
-use Rattle.just_outside.specs.declared.entry.Call.TheVariants as call
-use Rattle.just_outside.specs.declared.entry.HostFault.{HostFault}
-use Rattle.just_outside.specs.declared.entry.HostFault.TheVariants as fault
-use Rattle.just_outside.specs.Record.{refused, noted, IsOwnFault, IsNoMiss}
-use Rattle.just_outside.specs.World.{World, view_of}
-use Rattle.just_errors.specs.declared.error.Error.{Error}
-use Rattle.just_planning.specs.Own.{OrMemory}
+use Rattle.just_host_record.specs.declared.entry.Call.TheVariants as call
+use Rattle.just_host_record.specs.declared.entry.HostFault.{HostFault}
+use Rattle.just_host_record.specs.declared.entry.HostFault.TheVariants as fault
+use Rattle.just_host_record.specs.Record.{refused, noted, IsOwnFault, IsNoMiss}
+use Rattle.just_host_record.specs.World.{World, view_of}
+use Rattle.just_exec.specs.declared.error.Error.{Error}
+use Rattle.just_cli_plan.specs.Own.{OrMemory}
 use Rattle.just_cli.specs.Faults.{entries_of, fault_of_path, io_error, folder_error}
 use Rattle.just_cli.specs.Request.{EnvironGiven, FolderGiven}
 

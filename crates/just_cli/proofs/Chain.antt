@@ -1,32 +1,32 @@
 -- The chain of a request over a host, from what its calls answered.
 use Rattle.std.proofs.Common.{◌≡◌, ◌++◌, ◌∙◌, inl, inr, ℕ, Bool, true, false, true≢false, List, [], ◌∷◌, map, Option, Result, Ok, Err, IfOk, IfErr, refl, sym, ap, subst, append_assoc, append-nil}
-use Rattle.just_text.specs.declared.environ.Environ.{Environ}
-use Rattle.just_outside.specs.World.{World}
-use Rattle.just_outside.specs.declared.entry.Entry.{Entry}
-use Rattle.just_lang.specs.declared.source.Source.{Source}
+use Rattle.just_path_text.specs.declared.environ.Environ.{Environ}
+use Rattle.just_host_record.specs.World.{World}
+use Rattle.just_host_record.specs.declared.entry.Entry.{Entry}
+use Rattle.just_lang_types.specs.declared.source.Source.{Source}
 use Rattle.just_env.specs.declared.search_error.SearchError.{SearchError}
-use Rattle.just_search.specs.Loads.{Loads}
-use Rattle.just_words.specs.declared.arguments.Arguments.{Arguments}
-use Rattle.just_words.specs.declared.words.Read.TheVariants as read
-use Rattle.just_words.specs.Words.{Means}
+use Rattle.just_search_load.specs.Loads.{Loads}
+use Rattle.just_config_words.specs.declared.arguments.Arguments.{Arguments}
+use Rattle.just_config_words.specs.declared.words.Read.TheVariants as read
+use Rattle.just_config_words.specs.Words.{Means}
 use Rattle.just_config.specs.declared.config.Config.{Config}
-use Rattle.just_locate.specs.declared.location.Location.{Location}
-use Rattle.just_errors.specs.Refusals.{error_of_search}
-use Rattle.just_errors.specs.declared.error.Error.{Error}
-use Rattle.just_planning.specs.declared.wanted.Wanted.{Wanted}
-use Rattle.just_planning.specs.Own.{OrMemory}
-use Rattle.just_lang.specs.declared.project.Justfile.{Justfile}
-use Rattle.just_lang.specs.declared.scope.DotenvOf.{DotenvOf}
-use Rattle.just_value.specs.Modules.{AreModules, settings_of}
+use Rattle.just_search.specs.declared.location.Location.{Location}
+use Rattle.just_exec.specs.Refusals.{error_of_search}
+use Rattle.just_exec.specs.declared.error.Error.{Error}
+use Rattle.just_cli_plan.specs.declared.wanted.Wanted.{Wanted}
+use Rattle.just_cli_plan.specs.Own.{OrMemory}
+use Rattle.just_lang_types.specs.declared.project.Justfile.{Justfile}
+use Rattle.just_lang_types.specs.declared.scope.DotenvOf.{DotenvOf}
+use Rattle.just_eval_closure.specs.Modules.{AreModules, settings_of}
 use Rattle.std.specs.List.{list_any}
-use Rattle.just_outside.specs.Record.{is_failed}
-use Rattle.just_outside.specs.declared.entry.HostFault.TheVariants as fault
-use Rattle.just_env_files.specs.declared.env_error.OutputError.TheVariants as output
-use Rattle.just_env_files.specs.Captures.{Capture, told_behind, AreAmongMisses}
-use Rattle.just_errors.specs.declared.error.Error.TheVariants as error
-use Rattle.just_planning.specs.Pairs.{LoadsPairs, Runs, Leaves, ErrorLeaves, entries_of as entries_in}
+use Rattle.just_host_record.specs.Record.{is_failed}
+use Rattle.just_host_record.specs.declared.entry.HostFault.TheVariants as fault
+use Rattle.just_env.specs.declared.env_error.OutputError.TheVariants as output
+use Rattle.just_env.specs.Captures.{Capture, told_behind, AreAmongMisses}
+use Rattle.just_exec.specs.declared.error.Error.TheVariants as error
+use Rattle.just_cli_plan.specs.Pairs.{LoadsPairs, Runs, Leaves, ErrorLeaves, entries_of as entries_in}
 use Rattle.just_cli.specs.Faults.{entries_of}
-use Rattle.just_planning.specs.Request.{SourcesRequest, ProjectRequest, LoadedRequest, Outline, FindsProject, PlansProject}
+use Rattle.just_cli_plan.specs.Request.{SourcesRequest, ProjectRequest, LoadedRequest, Outline, FindsProject, PlansProject}
 use Rattle.just_cli.specs.NewPath.{is_init}
 use Rattle.just_cli.specs.Acts.{Act, AreActs, folders_in, captures_in, Behind}
 use Rattle.just_cli.specs.Preparing.{AreMisses, EndsWith, Answers, Performs}
@@ -34,7 +34,7 @@ use Rattle.just_cli.specs.Taken.{TakesWanted, PlansIt, PerformsPlan}
 use Rattle.just_cli.specs.Request.{FindsProjectOf, AnswersAt, Tries, Searches, Decides, Serves, EnvironGiven, FolderGiven, Asks, AsksGlobal}
 use Rattle.just_cli.proofs.Altering.{altered_same, quiet_rest}
 use Rattle.just_cli.proofs.Prepared.{left_nothing, performs_as, performs_lost, performs_looking, performs_then, performs_refusal, performs_behind}
-use Rattle.just_planning.specs.Steps.{stops, goes_on}
+use Rattle.just_cli_plan.specs.Steps.{stops, goes_on}
 use Rattle.just_cli.specs.Words.{WordsRequest, ArgumentsRequest, FolderRequest, ConfigRequest, LocatedRequest, JustfileRequest, ReadsWords, Configures, FindsLocation}
 
 -- ---- what is known

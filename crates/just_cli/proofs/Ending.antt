@@ -1,11 +1,11 @@
 -- What ends without a run, behind the removal of no folder.
 use Rattle.std.proofs.Common.{◌≡◌, inl, inr, List, [], Option, Result, Ok, Err, sym, ◌∙◌, ap, subst, append-nil}
 use Rattle.std.specs.Prelude.{ℕ, OnOk, OnErr}
-use Rattle.just_outside.specs.World.{World}
-use Rattle.just_outside.specs.declared.entry.Entry.{Entry}
+use Rattle.just_host_record.specs.World.{World}
+use Rattle.just_host_record.specs.declared.entry.Entry.{Entry}
 use Rattle.just_cli.specs.declared.ended.Failure.{Failure}
 use Rattle.just_cli.specs.declared.ended.Report.{Report}
-use Rattle.just_tangled.specs.Removals.{RemovesAll, RemovesSome}
+use Rattle.just_search.specs.Removals.{RemovesAll, RemovesSome}
 use Rattle.just_cli.specs.Record.{Removes}
 use Rattle.just_cli.specs.Run.{IsEnded}
 use Rattle.just_cli.proofs.Altering.{removes_none}

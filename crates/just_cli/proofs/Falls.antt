@@ -8,37 +8,37 @@ use Rattle.std.proofs.lemmas.List.{append_cancel_left}
 use Rattle.std.proofs.lemmas.List.Elements.{All-contains, Contains-append_left, Contains-append_right}
 use Rattle.std.proofs.lemmas.List.Folds.{list_any-append}
 use Rattle.std.proofs.lemmas.List.Sums.{sum_by-append, sum_by-cons}
-use Rattle.just_outside.specs.World.{World}
-use Rattle.just_outside.specs.Looks.{dash}
-use Rattle.just_outside.specs.Record.{refused, faults_of, misses_of, is_failed, is_missed, is_started}
+use Rattle.just_host_record.specs.World.{World}
+use Rattle.just_host_record.specs.Looks.{dash}
+use Rattle.just_host_record.specs.Record.{refused, faults_of, misses_of, is_failed, is_missed, is_started}
 use Rattle.just_path.specs.declared.host.Miss.{Miss}
 use Rattle.just_path.specs.declared.host.Miss.TheVariants as miss
-use Rattle.just_outside.specs.declared.entry.Call.{Call}
-use Rattle.just_outside.specs.declared.entry.Call.TheVariants as call
-use Rattle.just_outside.specs.declared.entry.Entry.{Entry}
-use Rattle.just_outside.specs.declared.entry.Entry.TheVariants as entry
-use Rattle.just_outside.specs.declared.entry.HostFault.{HostFault}
-use Rattle.just_outside.specs.declared.entry.HostFault.TheVariants as fault
-use Rattle.just_history.specs.declared.event.Event.{Event}
-use Rattle.just_history.specs.declared.plan.Plan.{Plan}
-use Rattle.just_history.specs.declared.plan_node.PlanNode.{PlanNode}
-use Rattle.just_history.specs.Causes.{ShowsFailure, ShowsMiss}
-use Rattle.just_history.specs.Favourable.{is_favourable, IsFavourable}
-use Rattle.just_history.specs.Touched.{IsTouched}
-use Rattle.just_history.specs.Start.{Start, IsKept, run_of}
-use Rattle.just_history.proofs.Laws.{nothing_started}
+use Rattle.just_host_record.specs.declared.entry.Call.{Call}
+use Rattle.just_host_record.specs.declared.entry.Call.TheVariants as call
+use Rattle.just_host_record.specs.declared.entry.Entry.{Entry}
+use Rattle.just_host_record.specs.declared.entry.Entry.TheVariants as entry
+use Rattle.just_host_record.specs.declared.entry.HostFault.{HostFault}
+use Rattle.just_host_record.specs.declared.entry.HostFault.TheVariants as fault
+use Rattle.just_sched_history.specs.declared.event.Event.{Event}
+use Rattle.just_sched_history.specs.declared.plan.Plan.{Plan}
+use Rattle.just_sched_history.specs.declared.plan_node.PlanNode.{PlanNode}
+use Rattle.just_sched_history.specs.Causes.{ShowsFailure, ShowsMiss}
+use Rattle.just_sched_history.specs.Favourable.{is_favourable, IsFavourable}
+use Rattle.just_sched_history.specs.Touched.{IsTouched}
+use Rattle.just_sched_history.specs.Start.{Start, IsKept, run_of}
+use Rattle.just_sched_history.proofs.Laws.{nothing_started}
 use Rattle.just_cli.specs.declared.ended.Failure.{Failure}
 use Rattle.just_cli.specs.declared.ended.Report.{Report}
-use Rattle.just_errors.specs.declared.error.Error.{Error}
-use Rattle.just_errors.specs.declared.error.Error.TheVariants as error
-use Rattle.just_outcome.specs.Caused.{IsCaused}
-use Rattle.just_planning.specs.Own.{is_failed_call, is_missed_call}
+use Rattle.just_exec.specs.declared.error.Error.{Error}
+use Rattle.just_exec.specs.declared.error.Error.TheVariants as error
+use Rattle.just_cli_plan.specs.Caused.{IsCaused}
+use Rattle.just_cli_plan.specs.Own.{is_failed_call, is_missed_call}
 use Rattle.just_env.specs.declared.search_error.SearchError.TheVariants as search
 use Rattle.just_cli.specs.Acts.{Act}
-use Rattle.just_planning.specs.Own.{is_fault, is_miss}
-use Rattle.just_env_files.specs.declared.env_error.OutputError.TheVariants as output
-use Rattle.just_planning.specs.Pairs.{entries_of as entries_in}
-use Rattle.just_outcome.proofs.Laws.{only_memory}
+use Rattle.just_cli_plan.specs.Own.{is_fault, is_miss}
+use Rattle.just_env.specs.declared.env_error.OutputError.TheVariants as output
+use Rattle.just_cli_plan.specs.Pairs.{entries_of as entries_in}
+use Rattle.just_cli_plan.proofs.OutcomeLaws.{only_memory}
 use Rattle.just_cli.specs.Preparing.{EndsActs}
 use Rattle.just_cli.specs.Record.{Stretches, EndsIll, EndsUnopened, IsQuiet}
 

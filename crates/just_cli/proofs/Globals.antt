@@ -1,8 +1,8 @@
 -- A search for the user's own justfile is asked for.
 use Rattle.std.proofs.Common.{◌≡◌, inl, inr, ℕ, Bool, true, false, List, Option, Some, None, refl, sym, ◌∙◌, ap}
 use Rattle.std.specs.Prelude.{if◌then◌else◌, codes, bytes_eq}
-use Rattle.just_outside.specs.declared.entry.Entry.{Entry}
-use Rattle.just_words.specs.declared.arguments.Arguments.{Arguments}
+use Rattle.just_host_record.specs.declared.entry.Entry.{Entry}
+use Rattle.just_config_words.specs.declared.arguments.Arguments.{Arguments}
 use Rattle.just_config.specs.declared.config.Config.{Config}
 use Rattle.just_config.specs.declared.search_config.SearchConfig.{SearchConfig}
 use Rattle.just_config.specs.declared.search_config.SearchConfig.TheVariants as search

@@ -1,18 +1,18 @@
 -- What loading a project leaves in the record: misses, and the entry of the call for which it is refused.
 use Rattle.std.proofs.Common.{◌≡◌, ◌++◌, ◌⊎◌, inl, inr, ℕ, true, List, [], ◌∷◌, Option, Result, Err, refl, sym, ◌∙◌, ap, subst, append_assoc}
-use Rattle.just_outside.specs.World.{World}
-use Rattle.just_outside.specs.declared.entry.Entry.{Entry}
-use Rattle.just_lang.specs.declared.project.LangError.{LangError}
-use Rattle.just_lang.specs.declared.project.LangError.TheVariants as lang
-use Rattle.just_lang.specs.declared.source.Source.{Source}
+use Rattle.just_host_record.specs.World.{World}
+use Rattle.just_host_record.specs.declared.entry.Entry.{Entry}
+use Rattle.just_lang_types.specs.declared.project.LangError.{LangError}
+use Rattle.just_lang_types.specs.declared.project.LangError.TheVariants as lang
+use Rattle.just_lang_types.specs.declared.source.Source.{Source}
 use Rattle.just_env.specs.declared.search_error.SearchError.{SearchError}
 use Rattle.just_env.specs.declared.search_error.SearchError.TheVariants as search
 use Rattle.just_env.specs.Answers.{Gains, entries_of as search_entries}
-use Rattle.just_search.specs.Loads.{Loads}
-use Rattle.just_errors.specs.Refusals.{error_of_lang, error_of_search}
-use Rattle.just_errors.specs.declared.error.Error.{Error}
+use Rattle.just_search_load.specs.Loads.{Loads}
+use Rattle.just_exec.specs.Refusals.{error_of_lang, error_of_search}
+use Rattle.just_exec.specs.declared.error.Error.{Error}
 use Rattle.just_cli.specs.Faults.{entries_of}
-use Rattle.just_planning.specs.Own.{OrMemory}
+use Rattle.just_cli_plan.specs.Own.{OrMemory}
 use Rattle.just_cli.specs.Preparing.{EndsWith}
 use Rattle.just_cli.proofs.PlainSearch.{is_plain}
 

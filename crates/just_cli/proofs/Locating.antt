@@ -1,20 +1,20 @@
 -- What a search for a justfile answers and leaves, behind whatever stood in the record.
 use Rattle.std.proofs.Common.{◌≡◌, ◌++◌, ◌⊎◌, inl, inr, List, [], Option, Result, Ok, Err, refl, sym, ◌∙◌, ap, subst, append_assoc, append-nil}
 use Rattle.std.proofs.lemmas.List.{append_cancel_left}
-use Rattle.just_outside.specs.World.{World}
-use Rattle.just_outside.specs.declared.entry.Entry.{Entry}
+use Rattle.just_host_record.specs.World.{World}
+use Rattle.just_host_record.specs.declared.entry.Entry.{Entry}
 use Rattle.just_config.specs.declared.config.Config.{Config}
 use Rattle.just_config.specs.declared.search_config.SearchConfig.{SearchConfig}
 use Rattle.just_config.specs.declared.search_config.SearchConfig.TheVariants as search
 use Rattle.just_env.specs.declared.search_error.SearchError.{SearchError}
 use Rattle.just_env.specs.declared.search_error.SearchError.TheVariants as search_error
 use Rattle.just_env.specs.Answers.{entries_of as search_entries, told_entries}
-use Rattle.just_locate.specs.declared.location.Location.{Location}
-use Rattle.just_locate.specs.Finding.{FindsBy, Finds}
-use Rattle.just_locate.specs.Record.{FindGains}
-use Rattle.just_errors.specs.Refusals.{error_of_search}
-use Rattle.just_errors.specs.declared.error.Error.{Error}
-use Rattle.just_planning.specs.Own.{OrMemory}
+use Rattle.just_search.specs.declared.location.Location.{Location}
+use Rattle.just_search.specs.Finding.{FindsBy, Finds}
+use Rattle.just_search.specs.Record.{FindGains}
+use Rattle.just_exec.specs.Refusals.{error_of_search}
+use Rattle.just_exec.specs.declared.error.Error.{Error}
+use Rattle.just_cli_plan.specs.Own.{OrMemory}
 use Rattle.just_cli.specs.Faults.{entries_of}
 use Rattle.just_cli.specs.Request.{ArePassed}
 use Rattle.just_cli.specs.Words.{FindsLocation}

@@ -1,20 +1,20 @@
 -- A new justfile is written and told of, from what the calls answered.
 use Rattle.std.proofs.Common.{◌≡◌, ◌++◌, inl, inr, ℕ, Bool, true, false, List, [], ◌∷◌, Option, Some, None, Result, Ok, Err, IfOk, IfErr, refl, sym, ap, ◌∙◌, subst, append_assoc, append-nil}
-use Rattle.just_outside.specs.declared.entry.Call.TheVariants as call
-use Rattle.just_outside.specs.declared.entry.Entry.{Entry}
-use Rattle.just_outside.specs.declared.entry.Entry.TheVariants as entry
-use Rattle.just_outside.specs.declared.entry.HostFault.{HostFault}
-use Rattle.just_outside.specs.declared.entry.HostFault.TheVariants as fault
-use Rattle.just_outside.specs.declared.entry.Stream.TheVariants as stream
-use Rattle.just_outside.specs.Changes.{place_written, written, Changes}
-use Rattle.just_outside.specs.Record.{refused, IsOwnFault, IsNoMiss}
-use Rattle.just_outside.specs.World.{World}
+use Rattle.just_host_record.specs.declared.entry.Call.TheVariants as call
+use Rattle.just_host_record.specs.declared.entry.Entry.{Entry}
+use Rattle.just_host_record.specs.declared.entry.Entry.TheVariants as entry
+use Rattle.just_host_record.specs.declared.entry.HostFault.{HostFault}
+use Rattle.just_host_record.specs.declared.entry.HostFault.TheVariants as fault
+use Rattle.just_host_record.specs.declared.entry.Stream.TheVariants as stream
+use Rattle.just_host_record.specs.Changes.{place_written, written, Changes}
+use Rattle.just_host_record.specs.Record.{refused, IsOwnFault, IsNoMiss}
+use Rattle.just_host_record.specs.World.{World}
 use Rattle.just_env.specs.Answers.{GainsMisses}
-use Rattle.just_history.specs.declared.event.Event.{Event}
-use Rattle.just_errors.specs.Codes.{exit_code}
-use Rattle.just_errors.specs.declared.error.Error.{Error}
-use Rattle.just_errors.specs.declared.error.Error.TheVariants as error
-use Rattle.just_planning.specs.Own.{OrMemory}
+use Rattle.just_sched_history.specs.declared.event.Event.{Event}
+use Rattle.just_exec.specs.Codes.{exit_code}
+use Rattle.just_exec.specs.declared.error.Error.{Error}
+use Rattle.just_exec.specs.declared.error.Error.TheVariants as error
+use Rattle.just_cli_plan.specs.Own.{OrMemory}
 use Rattle.just_cli.specs.declared.ended.Failure.{Failure}
 use Rattle.just_cli.specs.declared.ended.Report.{Report}
 use Rattle.just_cli.specs.Faults.{entries_of, print_error, write_error}

@@ -4,19 +4,19 @@ use Rattle.just_path.specs.View.{View, Tells, meta_told}
 use Rattle.just_path.specs.declared.host.Miss.{Miss}
 use Rattle.just_path.specs.declared.host.PathFault.TheVariants as path_fault
 use Rattle.just_path.specs.declared.meta.Meta.{Meta}
-use Rattle.just_outside.specs.declared.entry.Entry.{Entry}
-use Rattle.just_outside.specs.declared.entry.Entry.TheVariants as entry
-use Rattle.just_outside.specs.World.{World, view_of}
+use Rattle.just_host_record.specs.declared.entry.Entry.{Entry}
+use Rattle.just_host_record.specs.declared.entry.Entry.TheVariants as entry
+use Rattle.just_host_record.specs.World.{World, view_of}
 use Rattle.just_config.specs.declared.config.Config.{Config}
 use Rattle.just_env.specs.declared.search_error.SearchError.{SearchError}
 use Rattle.just_env.specs.declared.search_error.SearchError.TheVariants as search_error
 use Rattle.just_env.specs.Answers.{entries_of as search_entries}
-use Rattle.just_init.specs.declared.search.Search.{Search}
-use Rattle.just_init.specs.Inits.{Inits}
-use Rattle.just_errors.specs.Refusals.{error_of_search}
-use Rattle.just_errors.specs.declared.error.Error.{Error}
-use Rattle.just_planning.specs.Own.{OrMemory}
-use Rattle.just_planning.specs.Steps.{stops, goes_on}
+use Rattle.just_search.specs.declared.search_result.Search.{Search}
+use Rattle.just_search.specs.Inits.{Inits}
+use Rattle.just_exec.specs.Refusals.{error_of_search}
+use Rattle.just_exec.specs.declared.error.Error.{Error}
+use Rattle.just_cli_plan.specs.Own.{OrMemory}
+use Rattle.just_cli_plan.specs.Steps.{stops, goes_on}
 use Rattle.just_cli.specs.Faults.{entries_of}
 use Rattle.just_cli.specs.NewPath.{is_written_to, is_file_found, ShowsFile, FindsPath, IsFree, FindsFree}
 use Rattle.just_cli.specs.Preparing.{AreMisses, EndsWith}

@@ -5,33 +5,33 @@ use Rattle.std.specs.Str.Lines.{lines}
 use Rattle.std.specs.FinMap as finmap
 use Rattle.just_path.specs.View.{folder_told}
 use Rattle.just_path.specs.declared.host.Miss.{Miss}
-use Rattle.just_outside.specs.declared.entry.Call.{Call}
-use Rattle.just_outside.specs.declared.entry.Call.TheVariants as call
-use Rattle.just_outside.specs.declared.entry.HostFault.{HostFault}
-use Rattle.just_outside.specs.declared.entry.HostFault.TheVariants as fault
-use Rattle.just_outside.specs.declared.tree.Thing.TheVariants as thing
-use Rattle.just_outside.specs.Sights.{Tree}
-use Rattle.just_outside.specs.Changes.{with_tree, written}
-use Rattle.just_outside.specs.Folders.{ParentMiss}
-use Rattle.just_outside.specs.Looks.{told_input}
-use Rattle.just_outside.specs.World.{World, view_of, told_read}
+use Rattle.just_host_record.specs.declared.entry.Call.{Call}
+use Rattle.just_host_record.specs.declared.entry.Call.TheVariants as call
+use Rattle.just_host_record.specs.declared.entry.HostFault.{HostFault}
+use Rattle.just_host_record.specs.declared.entry.HostFault.TheVariants as fault
+use Rattle.just_host_record.specs.declared.tree.Thing.TheVariants as thing
+use Rattle.just_host_record.specs.Sights.{Tree}
+use Rattle.just_host_record.specs.Changes.{with_tree, written}
+use Rattle.just_host_record.specs.Folders.{ParentMiss}
+use Rattle.just_host_record.specs.Looks.{told_input}
+use Rattle.just_host_record.specs.World.{World, view_of, told_read}
 use Rattle.just_env.specs.declared.search_error.SearchError.{SearchError}
 use Rattle.just_env.specs.declared.search_error.SearchError.TheVariants as search
-use Rattle.just_init.specs.declared.search.Search.{Search}
-use Rattle.just_init.specs.Inits.{search_at}
-use Rattle.just_locate.specs.declared.location.Location.{Location}
-use Rattle.just_locate.specs.declared.location.Origin.{Origin}
-use Rattle.just_locate.specs.declared.location.Origin.TheVariants as origin
-use Rattle.just_tangle.specs.declared.fence.Fence.{Fence}
-use Rattle.just_tangle.specs.Fences.{fence_of, closes}
-use Rattle.just_tangle.specs.Running.{line_out, fence_behind, out_of}
-use Rattle.just_tangle.specs.Tangles.{kept, AreInside, Tangles, text_of_lines, IsTangled}
-use Rattle.just_tangled.specs.Calls.{IsRefusal, Refuses}
-use Rattle.just_tangled.specs.Files.{Makes, Writes, WritesText, Materializes, search_in, file_in}
-use Rattle.just_tangled.specs.Texts.{GivesText}
-use Rattle.just_errors.specs.Refusals.{error_of_search}
+use Rattle.just_search.specs.declared.search_result.Search.{Search}
+use Rattle.just_search.specs.Inits.{search_at}
+use Rattle.just_search.specs.declared.location.Location.{Location}
+use Rattle.just_search.specs.declared.location.Origin.{Origin}
+use Rattle.just_search.specs.declared.location.Origin.TheVariants as origin
+use Rattle.just_search_load.specs.declared.fence.Fence.{Fence}
+use Rattle.just_search_load.specs.Fences.{fence_of, closes}
+use Rattle.just_search_load.specs.Running.{line_out, fence_behind, out_of}
+use Rattle.just_search_load.specs.Tangles.{kept, AreInside, Tangles, text_of_lines, IsTangled}
+use Rattle.just_search.specs.Calls.{IsRefusal, Refuses}
+use Rattle.just_search.specs.Files.{Makes, Writes, WritesText, Materializes, search_in, file_in}
+use Rattle.just_search.specs.Texts.{GivesText}
+use Rattle.just_exec.specs.Refusals.{error_of_search}
 use Rattle.just_cli.specs.Acts.{Act}
-use Rattle.just_planning.specs.Own.{is_fault}
+use Rattle.just_cli_plan.specs.Own.{is_fault}
 use Rattle.just_cli.proofs.Acting.{Agrees}
 
 -- ---- tangling

@@ -13,29 +13,29 @@ use Rattle.just_path.specs.View.{Sights, named, AreInOrder, AreItemsOf}
 use Rattle.just_path.specs.declared.host.Miss.{Miss}
 use Rattle.just_path.specs.declared.meta.Item.{Item}
 use Rattle.just_path.specs.declared.meta.Kind.{Kind}
-use Rattle.just_outside.specs.declared.entry.Entry.{Entry}
-use Rattle.just_outside.specs.declared.entry.Call.TheVariants as call
-use Rattle.just_outside.specs.declared.entry.HostFault.{HostFault}
-use Rattle.just_outside.specs.declared.entry.HostFault.TheVariants as fault
-use Rattle.just_outside.specs.Record.{is_failed, refused}
-use Rattle.just_outside.specs.World.{World, view_of}
+use Rattle.just_host_record.specs.declared.entry.Entry.{Entry}
+use Rattle.just_host_record.specs.declared.entry.Call.TheVariants as call
+use Rattle.just_host_record.specs.declared.entry.HostFault.{HostFault}
+use Rattle.just_host_record.specs.declared.entry.HostFault.TheVariants as fault
+use Rattle.just_host_record.specs.Record.{is_failed, refused}
+use Rattle.just_host_record.specs.World.{World, view_of}
 use Rattle.just_config.specs.declared.config.Config.{Config}
 use Rattle.just_config.specs.declared.search_config.SearchConfig.{SearchConfig}
 use Rattle.just_config.specs.declared.search_config.SearchConfig.TheVariants as search
 use Rattle.just_env.specs.declared.search_error.SearchError.{SearchError}
 use Rattle.just_env.specs.declared.search_error.SearchError.TheVariants as error
 use Rattle.just_env.specs.Answers.{entries_of, told_entries}
-use Rattle.just_agree.specs.Loading.{tells_failure, IsOwn, GivesOwn}
-use Rattle.just_agree.proofs.Answers.{answered_or_refused, same_answer, same_refusal, failed, own_refusal}
-use Rattle.just_locate.specs.declared.location.Location.{Location}
-use Rattle.just_locate.specs.declared.place.Place.{Place}
-use Rattle.just_locate.specs.Climb.{candidates, chosen, LooksIn, FindsIn, folders_from, folders_above}
-use Rattle.just_locate.specs.Finding.{given_path, wanted_names, as_file, as_origin, own_file, located_as, FindsFrom, FindsOwn, FindsOwnOver, FindsBy, FindsAbove}
-use Rattle.just_locate.specs.First.{AllPassed, First}
-use Rattle.just_locate.specs.Global.{global_places, same_name, LooksAtPlace, FindsAmong}
-use Rattle.just_locate.specs.Listing.{AreNamesIn, ListFaultFits, ListsFolder}
-use Rattle.just_locate.specs.Root.{if_marked, LooksForMark, FindsRoot}
-use Rattle.just_fallback.specs.Fallback.{next_found, FallsBack}
+use Rattle.just_cli_plan.specs.Loading.{tells_failure, IsOwn, GivesOwn}
+use Rattle.just_cli_plan.proofs.Answers.{answered_or_refused, same_answer, same_refusal, failed, own_refusal}
+use Rattle.just_search.specs.declared.location.Location.{Location}
+use Rattle.just_search.specs.declared.place.Place.{Place}
+use Rattle.just_search.specs.Climb.{candidates, chosen, LooksIn, FindsIn, folders_from, folders_above}
+use Rattle.just_search.specs.Finding.{given_path, wanted_names, as_file, as_origin, own_file, located_as, FindsFrom, FindsOwn, FindsOwnOver, FindsBy, FindsAbove}
+use Rattle.just_search.specs.First.{AllPassed, First}
+use Rattle.just_search.specs.Global.{global_places, same_name, LooksAtPlace, FindsAmong}
+use Rattle.just_search.specs.Listing.{AreNamesIn, ListFaultFits, ListsFolder}
+use Rattle.just_search.specs.Root.{if_marked, LooksForMark, FindsRoot}
+use Rattle.just_search.specs.Fallback.{next_found, FallsBack}
 use Rattle.just_cli.specs.Request.{NoneFailed}
 
 -- ---- names

@@ -1,12 +1,12 @@
 -- Which refusals of a search the world determines.
 use Rattle.std.proofs.Common.{◌≡◌, false, true≢false, refl, sym, ◌∙◌, ap}
-use Rattle.just_outside.specs.declared.entry.HostFault.TheVariants as fault
+use Rattle.just_host_record.specs.declared.entry.HostFault.TheVariants as fault
 use Rattle.just_env.specs.declared.search_error.SearchError.{SearchError}
 use Rattle.just_env.specs.declared.search_error.SearchError.TheVariants as search
-use Rattle.just_agree.specs.Loading.{tells_failure}
-use Rattle.just_errors.specs.Refusals.{error_of_search}
-use Rattle.just_errors.specs.declared.error.Error.{Error}
-use Rattle.just_planning.specs.Own.{is_fault}
+use Rattle.just_cli_plan.specs.Loading.{tells_failure}
+use Rattle.just_exec.specs.Refusals.{error_of_search}
+use Rattle.just_exec.specs.declared.error.Error.{Error}
+use Rattle.just_cli_plan.specs.Own.{is_fault}
 
 -- a refusal that tells of no failed call is one of a search that tells of none
 pub own_search : (f : SearchError) → is_fault (error_of_search f) ≡ false → tells_failure f ≡ false

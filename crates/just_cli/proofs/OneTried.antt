@@ -1,18 +1,18 @@
 -- Over a told world and the same acts the justfiles that are tried from a place on give one answer at most, where each of them does, and each search for the next.
 use Rattle.std.proofs.Common.{◌≡◌, ◌++◌, ℕ, Bool, true, false, true≢false, List, [], Option, Some, None, Result, Ok, Err, refl, sym, ◌∙◌, ap, subst}
 use Rattle.std.specs.Prelude.{◌&&◌, if◌then◌else◌}
-use Rattle.just_outside.specs.World.{World}
+use Rattle.just_host_record.specs.World.{World}
 use Rattle.just_env.specs.declared.search_error.SearchError.{SearchError}
-use Rattle.just_agree.specs.Loading.{tells_failure, IsOwn as IsOwnSearch}
+use Rattle.just_cli_plan.specs.Loading.{tells_failure, IsOwn as IsOwnSearch}
 use Rattle.just_config.specs.declared.config.Config.{Config}
-use Rattle.just_locate.specs.declared.location.Location.{Location}
-use Rattle.just_fallback.specs.Fallback.{FallsBack}
-use Rattle.just_errors.specs.Refusals.{error_of_search}
-use Rattle.just_errors.specs.declared.error.Error.{Error}
-use Rattle.just_errors.specs.declared.error.Error.TheVariants as error
-use Rattle.just_planning.specs.Request.{Outline}
+use Rattle.just_search.specs.declared.location.Location.{Location}
+use Rattle.just_search.specs.Fallback.{FallsBack}
+use Rattle.just_exec.specs.Refusals.{error_of_search}
+use Rattle.just_exec.specs.declared.error.Error.{Error}
+use Rattle.just_exec.specs.declared.error.Error.TheVariants as error
+use Rattle.just_cli_plan.specs.Request.{Outline}
 use Rattle.just_cli.specs.Acts.{Act, AreToldBehind}
-use Rattle.just_planning.specs.Own.{IsOwn}
+use Rattle.just_cli_plan.specs.Own.{IsOwn}
 use Rattle.just_cli.specs.Options.{is_lacking, lacks, is_missing, empty_outline, allowed}
 use Rattle.just_cli.specs.Words.{ConfigRequest, LocatedRequest}
 use Rattle.just_cli.specs.Request.{AnswersAt, at_place, TriesFrom}

@@ -3,32 +3,32 @@ use Rattle.std.proofs.Common.{◌≡◌, ◌⊎◌, ◌++◌, inl, inr, ℕ, Boo
 use Rattle.std.specs.Prelude.{if◌then◌else◌, bytes_eq}
 use Rattle.std.specs.List.{list_any}
 use Rattle.just_path.specs.Comps.{slash}
-use Rattle.just_outside.specs.World.{World}
-use Rattle.just_outside.specs.declared.entry.Entry.{Entry}
-use Rattle.just_lang.specs.declared.source.Source.{Source}
-use Rattle.just_layout.specs.Paths.{Pairs}
-use Rattle.just_syntax.specs.declared.ast.AstItem.{AstItem}
-use Rattle.just_syntax.specs.declared.ast.AstItem.TheVariants as item
-use Rattle.just_syntax.specs.declared.ast.StringLiteral.{StringLiteral}
+use Rattle.just_host_record.specs.World.{World}
+use Rattle.just_host_record.specs.declared.entry.Entry.{Entry}
+use Rattle.just_lang_types.specs.declared.source.Source.{Source}
+use Rattle.just_lang_layout.specs.Paths.{Pairs}
+use Rattle.just_lang_syntax.specs.declared.ast.AstItem.{AstItem}
+use Rattle.just_lang_syntax.specs.declared.ast.AstItem.TheVariants as item
+use Rattle.just_lang_syntax.specs.declared.ast.StringLiteral.{StringLiteral}
 use Rattle.just_config.specs.declared.config.Config.{Config}
 use Rattle.just_config.specs.declared.search_config.SearchConfig.{SearchConfig}
 use Rattle.just_config.specs.declared.search_config.SearchConfig.TheVariants as search
 use Rattle.just_env.specs.declared.search_error.SearchError.{SearchError}
 use Rattle.just_env.specs.declared.search_error.SearchError.TheVariants as error
-use Rattle.just_locate.specs.declared.location.Location.{Location}
-use Rattle.just_locate.specs.declared.place.Place.{Place}
-use Rattle.just_locate.specs.Climb.{candidates, chosen, LooksIn, FindsIn, folders_from, folders_above}
-use Rattle.just_locate.specs.Finding.{given_path, wanted_names, folder_of, as_file, as_origin, origin_of, own_file, located_as, with_file, FindsFrom, FindsOwn, FindsOwnOver, FindsBy, Finds, FindsAbove}
-use Rattle.just_locate.specs.First.{First}
-use Rattle.just_locate.specs.Global.{FindsAmong}
-use Rattle.just_locate.specs.Listing.{ListsFolder}
-use Rattle.just_locate.specs.Root.{if_marked, is_mark, LooksForMark, FindsRoot}
-use Rattle.just_fallback.specs.Fallback.{is_not_found, next_found, FallsBack}
-use Rattle.just_init.specs.declared.search.Search.{Search}
-use Rattle.just_init.specs.Inits.{in_root, init_given, search_at, InitsIn, InitsBy, Inits}
-use Rattle.just_search.specs.Gathers.{Gathers}
-use Rattle.just_search.specs.Loads.{Loads}
-use Rattle.just_search.specs.Named.{IfPresent, ModuleFiles, ItemNames, ModuleNames, SourceNames}
+use Rattle.just_search.specs.declared.location.Location.{Location}
+use Rattle.just_search.specs.declared.place.Place.{Place}
+use Rattle.just_search.specs.Climb.{candidates, chosen, LooksIn, FindsIn, folders_from, folders_above}
+use Rattle.just_search.specs.Finding.{given_path, wanted_names, folder_of, as_file, as_origin, origin_of, own_file, located_as, with_file, FindsFrom, FindsOwn, FindsOwnOver, FindsBy, Finds, FindsAbove}
+use Rattle.just_search.specs.First.{First}
+use Rattle.just_search.specs.Global.{FindsAmong}
+use Rattle.just_search.specs.Listing.{ListsFolder}
+use Rattle.just_search.specs.Root.{if_marked, is_mark, LooksForMark, FindsRoot}
+use Rattle.just_search.specs.Fallback.{is_not_found, next_found, FallsBack}
+use Rattle.just_search.specs.declared.search_result.Search.{Search}
+use Rattle.just_search.specs.Inits.{in_root, init_given, search_at, InitsIn, InitsBy, Inits}
+use Rattle.just_search_load.specs.Gathers.{Gathers}
+use Rattle.just_search_load.specs.Loads.{Loads}
+use Rattle.just_search_load.specs.Named.{IfPresent, ModuleFiles, ItemNames, ModuleNames, SourceNames}
 
 -- neither of standard input nor of a temporary folder
 abbrev pub is_plain : SearchError → Bool

@@ -1,18 +1,18 @@
 -- Refusals of plans are of no call, and leave no entry in the record.
 use Rattle.std.proofs.Common.{◌≡◌, true, List, [], ◌∷◌, Err, refl, ◌∙◌, ap}
-use Rattle.just_lang.specs.declared.project.LangError.{LangError}
-use Rattle.just_lang.specs.declared.project.LangError.TheVariants as lang
-use Rattle.just_commands.specs.declared.error.CommandError.TheVariants as command
-use Rattle.just_errors.specs.Refusals.{error_of_lang}
-use Rattle.just_errors.specs.declared.error.Error.{Error}
-use Rattle.just_planning.specs.Own.{OrMemory}
-use Rattle.just_planning.specs.Planned.{error_of_plan}
-use Rattle.just_planning.specs.Request.{SourcesRequest, LoadedRequest, AssemblesJustfile, ChecksFeatures, EvaluatesVariables, InvokesKeys, ClosesKeys, MakesPlan, FindsProject, PlansKeys, PlansProject}
-use Rattle.just_plans.specs.declared.error.PlanError.{PlanError}
-use Rattle.just_plans.specs.declared.error.PlanError.TheVariants as plan_error
-use Rattle.just_errors.specs.declared.error.Error.TheVariants as error
-use Rattle.just_lang.specs.declared.project.Justfile.{Justfile}
-use Rattle.just_value.specs.Modules.{AreModules}
+use Rattle.just_lang_types.specs.declared.project.LangError.{LangError}
+use Rattle.just_lang_types.specs.declared.project.LangError.TheVariants as lang
+use Rattle.just_exec_work.specs.declared.error.CommandError.TheVariants as command
+use Rattle.just_exec.specs.Refusals.{error_of_lang}
+use Rattle.just_exec.specs.declared.error.Error.{Error}
+use Rattle.just_cli_plan.specs.Own.{OrMemory}
+use Rattle.just_cli_plan.specs.Planned.{error_of_plan}
+use Rattle.just_cli_plan.specs.Request.{SourcesRequest, LoadedRequest, AssemblesJustfile, ChecksFeatures, EvaluatesVariables, InvokesKeys, ClosesKeys, MakesPlan, FindsProject, PlansKeys, PlansProject}
+use Rattle.just_exec.specs.declared.plan_error.PlanError.{PlanError}
+use Rattle.just_exec.specs.declared.plan_error.PlanError.TheVariants as plan_error
+use Rattle.just_exec.specs.declared.error.Error.TheVariants as error
+use Rattle.just_lang_types.specs.declared.project.Justfile.{Justfile}
+use Rattle.just_eval_closure.specs.Modules.{AreModules}
 use Rattle.just_cli.specs.Faults.{entries_of}
 use Rattle.just_cli.specs.Options.{is_lacking, is_missing}
 use Rattle.just_cli.proofs.Silent.{IsSilent, then_silent, or_silent}

@@ -1,20 +1,20 @@
 -- What words and arguments ask for, from what the readers of words and of a configuration ensure.
 use Rattle.std.proofs.Common.{◌≡◌, ℕ, List, Some, None, inl, inr, Result, Ok, Err, IfOk, IfErr, refl, sym, ◌∙◌, ap}
-use Rattle.just_text.specs.declared.environ.Environ.{Environ}
-use Rattle.just_words.specs.declared.arguments.Arguments.{Arguments}
-use Rattle.just_words.specs.declared.usage.Usage.{Usage}
-use Rattle.just_words.specs.declared.usage.UsageKind.{UsageKind}
-use Rattle.just_words.specs.declared.usage.UsageKind.TheVariants as usage
-use Rattle.just_words.specs.Words.{IsUsage}
+use Rattle.just_path_text.specs.declared.environ.Environ.{Environ}
+use Rattle.just_config_words.specs.declared.arguments.Arguments.{Arguments}
+use Rattle.just_config_words.specs.declared.usage.Usage.{Usage}
+use Rattle.just_config_words.specs.declared.usage.UsageKind.{UsageKind}
+use Rattle.just_config_words.specs.declared.usage.UsageKind.TheVariants as usage
+use Rattle.just_config_words.specs.Words.{IsUsage}
 use Rattle.just_config.specs.declared.config.Config.{Config}
 use Rattle.just_config.specs.declared.config_error.ConfigError.{ConfigError}
 use Rattle.just_config.specs.declared.config_error.ConfigError.TheVariants as config_error
 use Rattle.just_config.specs.Config.{refusal, config_of, IsRefusedBy}
-use Rattle.just_errors.specs.Refusals.{usage_of_kind, error_of_usage, error_of_config}
-use Rattle.just_errors.specs.declared.error.Error.{Error}
-use Rattle.just_errors.specs.declared.error.Error.TheVariants as error
-use Rattle.just_planning.specs.Own.{OrMemory}
-use Rattle.just_planning.specs.Steps.{stops, goes_on}
+use Rattle.just_exec.specs.Refusals.{usage_of_kind, error_of_usage, error_of_config}
+use Rattle.just_exec.specs.declared.error.Error.{Error}
+use Rattle.just_exec.specs.declared.error.Error.TheVariants as error
+use Rattle.just_cli_plan.specs.Own.{OrMemory}
+use Rattle.just_cli_plan.specs.Steps.{stops, goes_on}
 use Rattle.just_cli.specs.Options.{not_built}
 use Rattle.just_cli.specs.Words.{WordsRequest, FolderRequest, ConfigRequest, ReadsWords, IsBuilt, Configures}
 

@@ -1,48 +1,48 @@
 -- Each step of a request gives one answer of its own at most, and so does the request.
 use Rattle.std.proofs.Common.{◌≡◌, ℕ, Bool, true, false, true≢false, List, [], ◌∷◌, map, Option, Some, None, Result, Ok, Err, ◌++◌, refl, sym, ◌∙◌, ap, subst, append_assoc, append-nil}
-use Rattle.just_text.specs.declared.environ.Environ.{Environ}
+use Rattle.just_path_text.specs.declared.environ.Environ.{Environ}
 use Rattle.just_path.specs.declared.host.Miss.{Miss}
-use Rattle.just_outside.specs.World.{World}
-use Rattle.just_outside.specs.declared.entry.Call.{Call}
-use Rattle.just_outside.specs.declared.entry.Call.TheVariants as call
-use Rattle.just_outside.specs.declared.entry.HostFault.{HostFault}
-use Rattle.just_outside.specs.declared.entry.HostFault.TheVariants as fault
-use Rattle.just_words.specs.declared.words.Read.TheVariants as read
-use Rattle.just_words.proofs.Laws.{one_meaning}
-use Rattle.just_errors.specs.declared.error.Error.{Error}
-use Rattle.just_errors.specs.declared.error.Error.TheVariants as error
-use Rattle.just_planning.specs.Own.{is_fault, IsOwn}
+use Rattle.just_host_record.specs.World.{World}
+use Rattle.just_host_record.specs.declared.entry.Call.{Call}
+use Rattle.just_host_record.specs.declared.entry.Call.TheVariants as call
+use Rattle.just_host_record.specs.declared.entry.HostFault.{HostFault}
+use Rattle.just_host_record.specs.declared.entry.HostFault.TheVariants as fault
+use Rattle.just_config_words.specs.declared.words.Read.TheVariants as read
+use Rattle.just_config_words.proofs.Laws.{one_meaning}
+use Rattle.just_exec.specs.declared.error.Error.{Error}
+use Rattle.just_exec.specs.declared.error.Error.TheVariants as error
+use Rattle.just_cli_plan.specs.Own.{is_fault, IsOwn}
 use Rattle.just_env.specs.declared.search_error.SearchError.{SearchError}
-use Rattle.just_init.specs.declared.search.Search.{Search}
-use Rattle.just_tangled.specs.Files.{parent_of}
+use Rattle.just_search.specs.declared.search_result.Search.{Search}
+use Rattle.just_search.specs.Files.{parent_of}
 use Rattle.just_cli.specs.Acts.{Act, AreToldBehind, Step, Looks, Behind}
 use Rattle.just_cli.proofs.Acting.{Agrees, GivesOwnStep, looks_own, agrees_as, agrees_refusal, in_two, told_later, told_front, told_world, common, behind_own}
 use Rattle.just_cli.proofs.OneFile.{materializes_one}
 use Rattle.just_cli.specs.Faults.{CallGives, FaultFits, io_error, folder_error}
-use Rattle.just_outside.specs.declared.entry.Entry.{Entry}
+use Rattle.just_host_record.specs.declared.entry.Entry.{Entry}
 use Rattle.just_config.specs.declared.config.Config.{Config}
 use Rattle.just_env.specs.Answers.{entries_of}
-use Rattle.just_locate.specs.declared.location.Location.{Location}
+use Rattle.just_search.specs.declared.location.Location.{Location}
 use Rattle.just_cli.specs.NewPath.{is_init, FindsNew}
 use Rattle.just_cli.specs.Options.{cache_beside, wanted_of, allowed}
 use Rattle.just_cli.specs.Words.{WordsRequest, ArgumentsRequest, FolderRequest, ConfigRequest, LocatedRequest, JustfileRequest, FindsEnviron, ReadsWords, FindsFolder, GivesConfig, IsBuilt, Configures, FindsLocation, FindsJustfile, TakesFile}
-use Rattle.just_errors.specs.Refusals.{error_of_search}
-use Rattle.just_value.specs.Modules.{settings_of}
-use Rattle.just_agree.proofs.Laws.{loads_agree}
-use Rattle.just_env_files.specs.Captures.{Capture, told_behind}
-use Rattle.just_planning.specs.Request.{SourcesRequest, ProjectRequest, LoadedRequest, Outline, FindsProject, PlansSources}
-use Rattle.just_planning.proofs.Loading.{own_world}
+use Rattle.just_exec.specs.Refusals.{error_of_search}
+use Rattle.just_eval_closure.specs.Modules.{settings_of}
+use Rattle.just_cli_plan.proofs.AgreeLaws.{loads_agree}
+use Rattle.just_env.specs.Captures.{Capture, told_behind}
+use Rattle.just_cli_plan.specs.Request.{SourcesRequest, ProjectRequest, LoadedRequest, Outline, FindsProject, PlansSources}
+use Rattle.just_cli_plan.proofs.Loading.{own_world}
 use Rattle.std.proofs.lemmas.List.{append_cancel_left}
-use Rattle.just_planning.proofs.Laws.{plans_agree}
-use Rattle.just_planning.proofs.Requests.{finds_project}
-use Rattle.just_planning.specs.Steps.{Then, stops, goes_on}
+use Rattle.just_cli_plan.proofs.Laws.{plans_agree}
+use Rattle.just_cli_plan.proofs.Requests.{finds_project}
+use Rattle.just_cli_plan.specs.Steps.{Then, stops, goes_on}
 use Rattle.just_cli.specs.Request.{LoadsSources, EnvironGiven, FolderGiven, FindsProjectOf, FindsProjectAt, PlansLoaded, AnswersAt, Tries, Decides, Serves, Asks, NoneFailed}
 use Rattle.just_cli.proofs.Arguments.{arguments_one}
 use Rattle.just_cli.proofs.OneLocation.{by_one, own_unfailed}
 use Rattle.just_cli.proofs.OneTried.{own_answer, AnswersOne, from_one}
 use Rattle.just_cli.proofs.OneNew.{new_own}
 use Rattle.just_cli.proofs.OneSearch.{own_search, search_refused}
-use Rattle.just_planning.proofs.Steps.{GivesOwn, same_refusal, refused_or_found, same_found, then_own}
+use Rattle.just_cli_plan.proofs.Steps.{GivesOwn, same_refusal, refused_or_found, same_found, then_own}
 
 -- an option that holds something holds one thing, and not nothing
 held_one : {A : Type 0} (o : Option A) (x y : A) → o ≡ Some x → o ≡ Some y → x ≡ y

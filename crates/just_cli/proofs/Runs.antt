@@ -3,40 +3,40 @@ use Rattle.std.proofs.Common.{◌≡◌, ◌⊎◌, ◌++◌, inl, inr, ℕ, Boo
 use Rattle.std.specs.List.{list_any}
 use Rattle.std.proofs.Math.Logic.{∥∥₁_map}
 use Rattle.std.proofs.lemmas.List.{append_cancel_left}
-use Rattle.just_outside.specs.World.{World}
-use Rattle.just_outside.specs.Record.{is_failed, is_started}
-use Rattle.just_outside.specs.declared.entry.Entry.{Entry}
-use Rattle.just_history.specs.declared.event.Event.{Event}
-use Rattle.just_history.specs.declared.event.Verdict.{Verdict}
-use Rattle.just_history.specs.declared.event.Verdict.TheVariants as verdict
-use Rattle.just_history.specs.declared.plan.Plan.{Plan}
-use Rattle.just_history.specs.declared.plan_node.PlanNode.{PlanNode}
+use Rattle.just_host_record.specs.World.{World}
+use Rattle.just_host_record.specs.Record.{is_failed, is_started}
+use Rattle.just_host_record.specs.declared.entry.Entry.{Entry}
+use Rattle.just_sched_history.specs.declared.event.Event.{Event}
+use Rattle.just_sched_history.specs.declared.event.Verdict.{Verdict}
+use Rattle.just_sched_history.specs.declared.event.Verdict.TheVariants as verdict
+use Rattle.just_sched_history.specs.declared.plan.Plan.{Plan}
+use Rattle.just_sched_history.specs.declared.plan_node.PlanNode.{PlanNode}
 use Rattle.just_sched.specs.Driven.{IsDriven}
-use Rattle.just_history.specs.Idle.{HasWork}
-use Rattle.just_history.specs.Legal.{Run, IsComplete}
-use Rattle.just_history.specs.Start.{IsKept, run_over, run_of, start_with}
-use Rattle.just_history.specs.State.{has_caught}
-use Rattle.just_history.specs.Touched.{IsTouched}
-use Rattle.just_history.specs.Verdict.{IsVerdict, NoneDecides}
-use Rattle.just_history.proofs.Laws.{nothing_started}
+use Rattle.just_sched_history.specs.Idle.{HasWork}
+use Rattle.just_sched_history.specs.Legal.{Run, IsComplete}
+use Rattle.just_sched_history.specs.Start.{IsKept, run_over, run_of, start_with}
+use Rattle.just_sched_history.specs.State.{has_caught}
+use Rattle.just_sched_history.specs.Touched.{IsTouched}
+use Rattle.just_sched_history.specs.Verdict.{IsVerdict, NoneDecides}
+use Rattle.just_sched_history.proofs.Laws.{nothing_started}
 use Rattle.just_cli.specs.declared.ended.Failure.{Failure}
 use Rattle.just_cli.specs.declared.ended.Report.{Report}
-use Rattle.just_errors.specs.declared.error.Error.{Error}
-use Rattle.just_planning.specs.Own.{OrMemory}
-use Rattle.just_outcome.specs.Outcome.{IsErrorFor}
+use Rattle.just_exec.specs.declared.error.Error.{Error}
+use Rattle.just_cli_plan.specs.Own.{OrMemory}
+use Rattle.just_cli_plan.specs.Outcome.{IsErrorFor}
 use Rattle.just_cli.specs.Acts.{Act, AreActs, folders_in, captures_in}
 use Rattle.just_cli.specs.Altered.{IsAltered, EndsAsItWas, StaysAsItWas}
-use Rattle.just_planning.specs.Pairs.{entries_of as entries_in}
+use Rattle.just_cli_plan.specs.Pairs.{entries_of as entries_in}
 use Rattle.just_cli.specs.Quiet.{AskQuiet}
 use Rattle.just_cli.specs.Preparing.{EndsWith, LeavesActs, EndsActs, Performs, Prepares}
 use Rattle.just_cli.specs.Record.{GoByCacheRule, IsBook, IsTold, is_captured, IsQuiet, Removes, EndsBehind, EndsWell, EndsIll, EndsUnopened, EndsBefore}
-use Rattle.just_planning.specs.Request.{Outline, outline_of}
+use Rattle.just_cli_plan.specs.Request.{Outline, outline_of}
 use Rattle.just_cli.specs.Request.{Asks, AsksGlobal, IsAsked, RefusedFor}
 use Rattle.just_cli.specs.Run.{IsRun}
-use Rattle.just_errors.specs.Codes.{exit_code}
+use Rattle.just_exec.specs.Codes.{exit_code}
 use Rattle.just_cli.proofs.Altering.{quiet_first, quiet_rest, clearing, removes_none, behind_book, ends_as_it_was, stays_as_it_was}
 use Rattle.just_cli.proofs.Answered.{answered}
-use Rattle.just_outcome.proofs.Laws.{error_caused, only_memory_left}
+use Rattle.just_cli_plan.proofs.OutcomeLaws.{error_caused, only_memory_left}
 use Rattle.just_cli.proofs.Falls.{faults_rise, misses_rise, memory_wanted}
 use Rattle.just_cli.proofs.Served.{served}
 

@@ -3,18 +3,18 @@ use Rattle.std.proofs.Common.{◌≡◌, ◌⊎◌, ◌||◌, inl, inr, ℕ, Boo
 use Rattle.std.specs.List.{list_all}
 use Rattle.std.proofs.Math.Logic.{∥∥₁_map, ∥∥₁_elim, ∥∥₁_prop}
 use Rattle.std.proofs.lemmas.List.Sums.{AllPass-from_list_all, list_all-from_AllPass}
-use Rattle.just_outside.specs.World.{World}
-use Rattle.just_outside.specs.declared.entry.Entry.{Entry}
-use Rattle.just_history.specs.Favourable.{is_favourable}
-use Rattle.just_history.specs.declared.plan.Plan.{Plan}
-use Rattle.just_errors.specs.declared.error.Error.TheVariants as error
+use Rattle.just_host_record.specs.World.{World}
+use Rattle.just_host_record.specs.declared.entry.Entry.{Entry}
+use Rattle.just_sched_history.specs.Favourable.{is_favourable}
+use Rattle.just_sched_history.specs.declared.plan.Plan.{Plan}
+use Rattle.just_exec.specs.declared.error.Error.TheVariants as error
 use Rattle.just_cli.specs.declared.ended.Failure.{Failure}
 use Rattle.just_cli.specs.declared.ended.Report.{Report}
 use Rattle.just_cli.specs.Answered.{IsBeside, call_failed, uncaptured, too_big, no_memory, IsTooBig, IsAnswered, IsServed}
-use Rattle.just_planning.specs.Own.{is_fault, is_uncaptured}
+use Rattle.just_cli_plan.specs.Own.{is_fault, is_uncaptured}
 use Rattle.just_cli.specs.Acts.{Act}
 use Rattle.just_cli.specs.Record.{EndsIll, EndsUnopened, Hindered, before, within}
-use Rattle.just_planning.specs.Request.{Outline, outline_of}
+use Rattle.just_cli_plan.specs.Request.{Outline, outline_of}
 use Rattle.just_cli.proofs.Falls.{Failed}
 
 or_true : (a b : Bool) → b ≡ true → (a || b) ≡ true

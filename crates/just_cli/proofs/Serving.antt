@@ -1,21 +1,21 @@
 -- What the preparation of a run answers and leaves, from what its calls do.
 use Rattle.std.proofs.Common.{◌≡◌, ◌++◌, inl, inr, ℕ, Bool, true, false, None, List, [], Option, option_map, Result, Ok, Err, refl, sym, ◌∙◌, ap, subst, append-nil}
 use Rattle.std.specs.Int.NonZero.{non_zero_u64_get}
-use Rattle.just_text.specs.declared.environ.Environ.{Environ}
-use Rattle.just_outside.specs.World.{World}
-use Rattle.just_outside.specs.declared.entry.Entry.{Entry}
-use Rattle.just_words.specs.declared.arguments.Arguments.{Arguments}
-use Rattle.just_words.specs.declared.words.Read.TheVariants as read
-use Rattle.just_words.specs.Words.{Means}
+use Rattle.just_path_text.specs.declared.environ.Environ.{Environ}
+use Rattle.just_host_record.specs.World.{World}
+use Rattle.just_host_record.specs.declared.entry.Entry.{Entry}
+use Rattle.just_config_words.specs.declared.arguments.Arguments.{Arguments}
+use Rattle.just_config_words.specs.declared.words.Read.TheVariants as read
+use Rattle.just_config_words.specs.Words.{Means}
 use Rattle.just_config.specs.declared.config.Config.{Config}
 use Rattle.just_config.specs.declared.search_config.SearchConfig.TheVariants as search
 use Rattle.just_config.specs.Config.{refusal, config_of}
-use Rattle.just_locate.specs.declared.location.Location.{Location}
-use Rattle.just_errors.specs.declared.error.Error.{Error}
-use Rattle.just_errors.specs.declared.error.Error.TheVariants as error
-use Rattle.just_planning.specs.Own.{OrMemory}
-use Rattle.just_planning.specs.Request.{Outline, outline_of}
-use Rattle.just_planning.specs.Steps.{goes_on}
+use Rattle.just_search.specs.declared.location.Location.{Location}
+use Rattle.just_exec.specs.declared.error.Error.{Error}
+use Rattle.just_exec.specs.declared.error.Error.TheVariants as error
+use Rattle.just_cli_plan.specs.Own.{OrMemory}
+use Rattle.just_cli_plan.specs.Request.{Outline, outline_of}
+use Rattle.just_cli_plan.specs.Steps.{goes_on}
 use Rattle.just_cli.specs.Acts.{Act}
 use Rattle.just_cli.specs.Faults.{entries_of}
 use Rattle.just_env.specs.Answers.{GainsMisses}

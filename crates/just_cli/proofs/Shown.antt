@@ -1,19 +1,19 @@
 -- Words that ask for a text get it, or the error of a print that failed.
 use Rattle.std.proofs.Common.{◌≡◌, ◌++◌, ℕ, false, List, [], Option, None, Result, Err, refl, sym, ◌∙◌, ap, subst}
-use Rattle.just_outside.specs.World.{World}
-use Rattle.just_outside.specs.Record.{refused}
-use Rattle.just_outside.specs.declared.entry.Entry.{Entry}
-use Rattle.just_outside.specs.declared.entry.HostFault.{HostFault}
-use Rattle.just_outside.specs.declared.entry.HostFault.TheVariants as fault
-use Rattle.just_history.specs.declared.event.Event.{Event}
+use Rattle.just_host_record.specs.World.{World}
+use Rattle.just_host_record.specs.Record.{refused}
+use Rattle.just_host_record.specs.declared.entry.Entry.{Entry}
+use Rattle.just_host_record.specs.declared.entry.HostFault.{HostFault}
+use Rattle.just_host_record.specs.declared.entry.HostFault.TheVariants as fault
+use Rattle.just_sched_history.specs.declared.event.Event.{Event}
 use Rattle.just_cli.specs.declared.ended.Failure.{Failure}
 use Rattle.just_cli.specs.declared.ended.Report.{Report}
-use Rattle.just_errors.specs.declared.error.Error.{Error}
+use Rattle.just_exec.specs.declared.error.Error.{Error}
 use Rattle.just_cli.specs.Faults.{entries_of, print_error}
 use Rattle.just_cli.specs.Questions.{IsQuestion, IsShown}
 use Rattle.just_cli.specs.Record.{IsTold}
 use Rattle.just_cli.specs.Run.{IsEnded, by_text}
-use Rattle.just_errors.specs.Codes.{exit_code}
+use Rattle.just_exec.specs.Codes.{exit_code}
 use Rattle.just_cli.proofs.Runs.{ends_before}
 
 -- the error of a text that wasn't printed has the entry of the refused print

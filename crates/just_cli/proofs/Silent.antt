@@ -1,9 +1,9 @@
 -- Refusals of no call leave no entry in the record.
 use Rattle.std.proofs.Common.{◌≡◌, inl, inr, [], Result, Err, ◌∙◌, ap}
-use Rattle.just_text.specs.declared.environ.Environ.{Environ}
-use Rattle.just_errors.specs.declared.error.Error.{Error}
-use Rattle.just_planning.specs.Own.{OrMemory}
-use Rattle.just_planning.specs.Steps.{Then, stops, goes_on}
+use Rattle.just_path_text.specs.declared.environ.Environ.{Environ}
+use Rattle.just_exec.specs.declared.error.Error.{Error}
+use Rattle.just_cli_plan.specs.Own.{OrMemory}
+use Rattle.just_cli_plan.specs.Steps.{Then, stops, goes_on}
 use Rattle.just_cli.specs.Faults.{entries_of}
 use Rattle.just_cli.specs.Words.{WordsRequest, FolderRequest, ReadsWords, GivesConfig, IsBuilt, Configures}
 

@@ -2,33 +2,33 @@
 use Rattle.std.proofs.Common.{◌≡◌, ◌⊎◌, ◌++◌, inl, inr, ℕ, Bool, true, false, true≢false, List, [], ◌∷◌, map, Option, Some, None, Result, Ok, Err, refl, sym, ◌∙◌, ap, subst, append-nil}
 use Rattle.std.specs.Prelude.{◌≢◌}
 use Rattle.std.specs.List.{list_any}
-use Rattle.just_text.specs.declared.environ.Environ.{Environ}
-use Rattle.just_outside.specs.World.{World}
-use Rattle.just_outside.specs.Looks.{dash}
-use Rattle.just_outside.specs.Record.{is_failed, refused, text_or_empty}
-use Rattle.just_outside.specs.declared.entry.Call.TheVariants as call
-use Rattle.just_outside.specs.declared.entry.Entry.{Entry}
-use Rattle.just_outside.specs.declared.entry.HostFault.{HostFault}
-use Rattle.just_outside.specs.declared.entry.HostFault.TheVariants as fault
+use Rattle.just_path_text.specs.declared.environ.Environ.{Environ}
+use Rattle.just_host_record.specs.World.{World}
+use Rattle.just_host_record.specs.Looks.{dash}
+use Rattle.just_host_record.specs.Record.{is_failed, refused, text_or_empty}
+use Rattle.just_host_record.specs.declared.entry.Call.TheVariants as call
+use Rattle.just_host_record.specs.declared.entry.Entry.{Entry}
+use Rattle.just_host_record.specs.declared.entry.HostFault.{HostFault}
+use Rattle.just_host_record.specs.declared.entry.HostFault.TheVariants as fault
 use Rattle.just_config.specs.declared.config.Config.{Config}
 use Rattle.just_env.specs.declared.search_error.SearchError.{SearchError}
 use Rattle.just_env.specs.declared.search_error.SearchError.TheVariants as search
-use Rattle.just_init.specs.declared.search.Search.{Search}
-use Rattle.just_locate.specs.declared.location.Location.{Location}
-use Rattle.just_locate.specs.declared.location.Origin.{Origin}
-use Rattle.just_locate.specs.declared.location.Origin.TheVariants as origin
-use Rattle.just_tangled.specs.Calls.{IsRefusal, made_entries, left_entries, entries_of as search_entries}
-use Rattle.just_tangled.specs.Files.{parent_of, file_in, Makes, Writes, WritesText, MakesFolders, Materializes}
-use Rattle.just_tangled.specs.Texts.{GivesText}
-use Rattle.just_errors.specs.Refusals.{error_of_search}
-use Rattle.just_errors.specs.declared.error.Error.{Error}
-use Rattle.just_errors.specs.declared.error.Error.TheVariants as error
-use Rattle.just_planning.specs.Own.{OrMemory}
-use Rattle.just_planning.specs.declared.wanted.Wanted.{Wanted}
-use Rattle.just_history.specs.declared.plan_node.PlanNode.{PlanNode}
+use Rattle.just_search.specs.declared.search_result.Search.{Search}
+use Rattle.just_search.specs.declared.location.Location.{Location}
+use Rattle.just_search.specs.declared.location.Origin.{Origin}
+use Rattle.just_search.specs.declared.location.Origin.TheVariants as origin
+use Rattle.just_search.specs.Calls.{IsRefusal, made_entries, left_entries, entries_of as search_entries}
+use Rattle.just_search.specs.Files.{parent_of, file_in, Makes, Writes, WritesText, MakesFolders, Materializes}
+use Rattle.just_search.specs.Texts.{GivesText}
+use Rattle.just_exec.specs.Refusals.{error_of_search}
+use Rattle.just_exec.specs.declared.error.Error.{Error}
+use Rattle.just_exec.specs.declared.error.Error.TheVariants as error
+use Rattle.just_cli_plan.specs.Own.{OrMemory}
+use Rattle.just_cli_plan.specs.declared.wanted.Wanted.{Wanted}
+use Rattle.just_sched_history.specs.declared.plan_node.PlanNode.{PlanNode}
 use Rattle.just_cli.specs.Acts.{Act, folders_in, AreActs}
 use Rattle.just_cli.specs.Altered.{IsAltered}
-use Rattle.just_planning.specs.Pairs.{entries_of as entries_in}
+use Rattle.just_cli_plan.specs.Pairs.{entries_of as entries_in}
 use Rattle.just_cli.specs.Options.{cache_beside, wanted_of}
 use Rattle.just_cli.specs.Preparing.{Performs}
 use Rattle.just_cli.specs.Taken.{TakesWanted}

@@ -1,20 +1,20 @@
 -- The justfiles that are tried one behind the other, as parts of a preparation, from what is asked of each.
 use Rattle.std.proofs.Common.{◌≡◌, ◌++◌, ◌⊎◌, inl, inr, ℕ, Bool, true, false, true≢false, List, [], Option, Some, None, Result, Ok, Err, MatchOption, refl, sym, ◌∙◌, ap, subst, append_assoc, append-nil}
 use Rattle.std.specs.Prelude.{◌&&◌, if◌then◌else◌}
-use Rattle.just_outside.specs.World.{World}
-use Rattle.just_outside.specs.declared.entry.Entry.{Entry}
+use Rattle.just_host_record.specs.World.{World}
+use Rattle.just_host_record.specs.declared.entry.Entry.{Entry}
 use Rattle.just_env.specs.declared.search_error.SearchError.{SearchError}
 use Rattle.just_env.specs.declared.search_error.SearchError.TheVariants as search
 use Rattle.just_env.specs.Answers.{Answers as AnswersSearch, entries_of as search_entries}
-use Rattle.just_locate.specs.declared.location.Location.{Location}
-use Rattle.just_fallback.specs.Fallback.{FallsBack}
-use Rattle.just_errors.specs.Refusals.{error_of_search}
-use Rattle.just_errors.specs.declared.error.Error.{Error}
-use Rattle.just_errors.specs.declared.error.Error.TheVariants as error
-use Rattle.just_planning.specs.Own.{OrMemory}
-use Rattle.just_planning.specs.Request.{Outline}
+use Rattle.just_search.specs.declared.location.Location.{Location}
+use Rattle.just_search.specs.Fallback.{FallsBack}
+use Rattle.just_exec.specs.Refusals.{error_of_search}
+use Rattle.just_exec.specs.declared.error.Error.{Error}
+use Rattle.just_exec.specs.declared.error.Error.TheVariants as error
+use Rattle.just_cli_plan.specs.Own.{OrMemory}
+use Rattle.just_cli_plan.specs.Request.{Outline}
 use Rattle.just_cli.specs.Acts.{Act}
-use Rattle.just_planning.specs.Pairs.{entries_of as entries_in}
+use Rattle.just_cli_plan.specs.Pairs.{entries_of as entries_in}
 use Rattle.just_cli.specs.Faults.{entries_of}
 use Rattle.just_cli.specs.Options.{is_lacking, is_missing, empty_outline}
 use Rattle.just_cli.specs.Preparing.{Answers, Performs}

@@ -3,19 +3,19 @@
 use Rattle.std.proofs.Common.{◌≡◌, ◌++◌, ◌⊎◌, inl, inr, ℕ, Bool, true, false, true≢false, List, [], ◌∷◌, map, Option, Some, None, Result, Ok, Err, refl, sym, ◌∙◌, ap, subst}
 use Rattle.std.specs.Prelude.{◌&&◌}
 use Rattle.std.specs.List.{AllByRecursion}
-use Rattle.just_outside.specs.World.{World}
+use Rattle.just_host_record.specs.World.{World}
 use Rattle.just_env.specs.declared.search_error.SearchError.{SearchError}
-use Rattle.just_agree.specs.Loading.{tells_failure, IsOwn as IsOwnSearch}
-use Rattle.just_locate.specs.declared.location.Location.{Location}
-use Rattle.just_fallback.specs.Fallback.{FallsBack, AreTried}
-use Rattle.just_value.specs.Modules.{settings_of}
-use Rattle.just_errors.specs.Refusals.{error_of_search}
-use Rattle.just_errors.specs.declared.error.Error.{Error}
-use Rattle.just_env_files.specs.Captures.{Capture, told_behind}
-use Rattle.just_planning.specs.Request.{ProjectRequest, LoadedRequest, Outline}
-use Rattle.just_planning.proofs.Loading.{own_world}
+use Rattle.just_cli_plan.specs.Loading.{tells_failure, IsOwn as IsOwnSearch}
+use Rattle.just_search.specs.declared.location.Location.{Location}
+use Rattle.just_search.specs.Fallback.{FallsBack, AreTried}
+use Rattle.just_eval_closure.specs.Modules.{settings_of}
+use Rattle.just_exec.specs.Refusals.{error_of_search}
+use Rattle.just_exec.specs.declared.error.Error.{Error}
+use Rattle.just_env.specs.Captures.{Capture, told_behind}
+use Rattle.just_cli_plan.specs.Request.{ProjectRequest, LoadedRequest, Outline}
+use Rattle.just_cli_plan.proofs.Loading.{own_world}
 use Rattle.just_cli.specs.Acts.{Act, Behind}
-use Rattle.just_planning.specs.Own.{is_fault, IsOwn}
+use Rattle.just_cli_plan.specs.Own.{is_fault, IsOwn}
 use Rattle.just_cli.specs.Options.{is_lacking, lacks}
 use Rattle.just_cli.specs.Words.{ConfigRequest, LocatedRequest, JustfileRequest, TakesFile}
 use Rattle.just_cli.specs.Request.{FindsProjectAt, PlansLoaded, AnswersAt, at_place, TriesFrom}
@@ -25,7 +25,7 @@ use Rattle.just_cli.proofs.OneSearch.{own_search}
 use Rattle.just_cli.proofs.OneTried.{own_lacking, found_or_refused, none_or_one, one_next, one_error}
 use Rattle.just_cli.proofs.Requests.{project_own, own_refused}
 use Rattle.just_cli.proofs.Taking.{takes_still}
-use Rattle.just_planning.proofs.Steps.{refused_or_found, same_found}
+use Rattle.just_cli_plan.proofs.Steps.{refused_or_found, same_found}
 
 -- ---- where no act is taken, the world stays
 

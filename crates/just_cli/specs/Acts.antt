@@ -1,11 +1,11 @@
 -- What a host does for a request beside what it looks at, before the book is opened; and steps that take such acts.
 use Rattle.std.specs.Prelude.{ℕ, ◌≡◌, List, [], ◌∷◌, ◌++◌, Option, Result, Ok, Err}
 use Rattle.just_path.specs.declared.host.Miss.{Miss}
-use Rattle.just_outside.specs.declared.entry.Entry.{Entry}
-use Rattle.just_outside.specs.declared.entry.Entry.TheVariants as entry
-use Rattle.just_outside.specs.World.{World}
-use Rattle.just_env_files.specs.Captures.{Capture, AreTold, entry_of as entry_of_capture}
-use Rattle.just_errors.specs.declared.error.Error.{Error}
+use Rattle.just_host_record.specs.declared.entry.Entry.{Entry}
+use Rattle.just_host_record.specs.declared.entry.Entry.TheVariants as entry
+use Rattle.just_host_record.specs.World.{World}
+use Rattle.just_env.specs.Captures.{Capture, AreTold, entry_of as entry_of_capture}
+use Rattle.just_exec.specs.declared.error.Error.{Error}
 
 -- a temporary folder was made, or a child was run to its end for what it printed
 pub data Act : Type 0 where

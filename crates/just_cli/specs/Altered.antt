@@ -1,12 +1,12 @@
 -- What temporary folders and caches make of a told world.
 use Rattle.std.specs.Prelude.{ℕ, ◌≡◌, List, [], ◌∷◌, Option, Some, None, Ok, MatchOption}
 use Rattle.std.specs.List.{Contains}
-use Rattle.just_outside.specs.Changes.{place_written, DiffersAt}
-use Rattle.just_outside.specs.Folders.{removed_place}
-use Rattle.just_outside.specs.World.{World}
-use Rattle.just_history.specs.declared.plan_node.PlanNode.{PlanNode}
-use Rattle.just_history.specs.Touched.{Touches, IsTouched}
-use Rattle.just_tangled.specs.Removals.{IsWithin}
+use Rattle.just_host_record.specs.Changes.{place_written, DiffersAt}
+use Rattle.just_host_record.specs.Folders.{removed_place}
+use Rattle.just_host_record.specs.World.{World}
+use Rattle.just_sched_history.specs.declared.plan_node.PlanNode.{PlanNode}
+use Rattle.just_sched_history.specs.Touched.{Touches, IsTouched}
+use Rattle.just_search.specs.Removals.{IsWithin}
 
 -- where a path leads in a world: a folder is made at the path itself, a file is written there, and what stands there is removed
 pub data LeadsTo (w : World) (path place : List ℕ) : Type 0 where

@@ -1,16 +1,16 @@
 -- The answer to a request, over a told world.
 use Rattle.std.specs.Prelude.{ℕ, ◌≡◌, ◌⊎◌, Bool, true, List, Option, None, Result, Ok, Err, IfErr, MatchOption, MatchResult}
-use Rattle.just_outside.specs.declared.entry.Entry.{Entry}
-use Rattle.just_outside.specs.World.{World}
-use Rattle.just_errors.specs.declared.error.Error.{Error}
-use Rattle.just_errors.specs.declared.error.Error.TheVariants as error
+use Rattle.just_host_record.specs.declared.entry.Entry.{Entry}
+use Rattle.just_host_record.specs.World.{World}
+use Rattle.just_exec.specs.declared.error.Error.{Error}
+use Rattle.just_exec.specs.declared.error.Error.TheVariants as error
 use Rattle.just_cli.specs.declared.ended.Failure.{Failure}
 use Rattle.just_cli.specs.declared.ended.Report.{Report}
-use Rattle.just_planning.specs.Own.{is_too_big, is_uncaptured}
+use Rattle.just_cli_plan.specs.Own.{is_too_big, is_uncaptured}
 use Rattle.just_cli.specs.Acts.{Act}
-use Rattle.just_planning.specs.Own.{is_fault, IsOwn}
+use Rattle.just_cli_plan.specs.Own.{is_fault, IsOwn}
 use Rattle.just_cli.specs.Record.{Hindered}
-use Rattle.just_planning.specs.Request.{Outline, outline_of}
+use Rattle.just_cli_plan.specs.Request.{Outline, outline_of}
 use Rattle.just_cli.specs.Request.{NoneFailed, Asks, AsksIn}
 
 -- the words are refused since a pattern of the project is too big for the library

@@ -5,19 +5,19 @@ use Rattle.just_path.specs.declared.host.Miss.{Miss}
 use Rattle.just_path.specs.declared.meta.Kind.{Kind}
 use Rattle.just_path.specs.declared.meta.Kind.TheVariants as kind
 use Rattle.just_path.specs.declared.meta.Meta.{Meta}
-use Rattle.just_outside.specs.declared.entry.Call.TheVariants as call
-use Rattle.just_outside.specs.declared.entry.HostFault.TheVariants as fault
-use Rattle.just_outside.specs.World.{World, view_of}
-use Rattle.just_words.specs.declared.subcommand.Subcommand.{Subcommand}
-use Rattle.just_words.specs.declared.subcommand.Subcommand.TheVariants as command
+use Rattle.just_host_record.specs.declared.entry.Call.TheVariants as call
+use Rattle.just_host_record.specs.declared.entry.HostFault.TheVariants as fault
+use Rattle.just_host_record.specs.World.{World, view_of}
+use Rattle.just_config_words.specs.declared.subcommand.Subcommand.{Subcommand}
+use Rattle.just_config_words.specs.declared.subcommand.Subcommand.TheVariants as command
 use Rattle.just_config.specs.declared.config.Config.{Config}
 use Rattle.just_env.specs.declared.search_error.SearchError.{SearchError}
-use Rattle.just_init.specs.declared.search.Search.{Search}
-use Rattle.just_init.specs.Inits.{Inits}
-use Rattle.just_errors.specs.Refusals.{error_of_search}
-use Rattle.just_errors.specs.declared.error.Error.{Error}
-use Rattle.just_errors.specs.declared.error.Error.TheVariants as error
-use Rattle.just_planning.specs.Steps.{Then}
+use Rattle.just_search.specs.declared.search_result.Search.{Search}
+use Rattle.just_search.specs.Inits.{Inits}
+use Rattle.just_exec.specs.Refusals.{error_of_search}
+use Rattle.just_exec.specs.declared.error.Error.{Error}
+use Rattle.just_exec.specs.declared.error.Error.TheVariants as error
+use Rattle.just_cli_plan.specs.Steps.{Then}
 use Rattle.just_cli.specs.Words.{ConfigRequest}
 
 -- whether a command asks for a new justfile

@@ -1,20 +1,20 @@
 -- What of a configuration isn't built yet, what is asked of a justfile, and which names may be missing.
 use Rattle.std.specs.Prelude.{ℕ, Bool, true, false, not, ◌||◌, ◌&&◌, if◌then◌else◌, nat_le, List, [], ◌∷◌, Option, Some, None, option_map, Result, Ok, Err, codes}
 use Rattle.std.specs.Int.NonZero.{non_zero_u64_get}
-use Rattle.just_text.specs.Environ.{or_else}
-use Rattle.just_words.specs.declared.subcommand.Subcommand.{Subcommand}
-use Rattle.just_words.specs.declared.subcommand.Subcommand.TheVariants as command
+use Rattle.just_path_text.specs.Environ.{or_else}
+use Rattle.just_config_words.specs.declared.subcommand.Subcommand.{Subcommand}
+use Rattle.just_config_words.specs.declared.subcommand.Subcommand.TheVariants as command
 use Rattle.just_config.specs.declared.config.Config.{Config}
 use Rattle.just_config.specs.Verbosities.{level}
-use Rattle.just_errors.specs.declared.error.Error.{Error}
-use Rattle.just_errors.specs.declared.error.Error.TheVariants as error
-use Rattle.just_planning.specs.Request.{Outline}
-use Rattle.just_commands.specs.declared.run_flags.RunFlags.{RunFlags}
-use Rattle.just_env_files.specs.declared.ask.DotenvAsk.{DotenvAsk}
+use Rattle.just_exec.specs.declared.error.Error.{Error}
+use Rattle.just_exec.specs.declared.error.Error.TheVariants as error
+use Rattle.just_cli_plan.specs.Request.{Outline}
+use Rattle.just_exec_work.specs.declared.run_flags.RunFlags.{RunFlags}
+use Rattle.just_env.specs.declared.ask.DotenvAsk.{DotenvAsk}
 use Rattle.just_cache.specs.Places.{cache_folder}
-use Rattle.just_locate.specs.Finding.{folder_of}
-use Rattle.just_planning.specs.Forms.{word_if}
-use Rattle.just_planning.specs.declared.wanted.Wanted.{Wanted}
+use Rattle.just_search.specs.Finding.{folder_of}
+use Rattle.just_cli_plan.specs.Forms.{word_if}
+use Rattle.just_cli_plan.specs.declared.wanted.Wanted.{Wanted}
 
 -- ---- what isn't built
 

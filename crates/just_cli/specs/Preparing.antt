@@ -3,17 +3,17 @@ use Rattle.std.specs.Prelude.{ℕ, ◌≡◌, ◌++◌, Bool, true, false, List,
 use Rattle.std.specs.List.{list_any, AllByRecursion}
 use Rattle.std.specs.Int.NonZero.{non_zero_u64_get}
 use Rattle.std.specs.declared.num.NonZeroU64.{NonZeroU64}
-use Rattle.just_outside.specs.declared.entry.Entry.{Entry}
-use Rattle.just_outside.specs.Record.{is_missed, is_failed}
-use Rattle.just_outside.specs.World.{World}
-use Rattle.just_history.specs.declared.plan.Plan.{Plan}
-use Rattle.just_history.specs.declared.plan_node.PlanNode.{PlanNode}
-use Rattle.just_errors.specs.declared.error.Error.{Error}
-use Rattle.just_planning.specs.Own.{OrMemory}
-use Rattle.just_planning.specs.Request.{Outline, outline_of}
+use Rattle.just_host_record.specs.declared.entry.Entry.{Entry}
+use Rattle.just_host_record.specs.Record.{is_missed, is_failed}
+use Rattle.just_host_record.specs.World.{World}
+use Rattle.just_sched_history.specs.declared.plan.Plan.{Plan}
+use Rattle.just_sched_history.specs.declared.plan_node.PlanNode.{PlanNode}
+use Rattle.just_exec.specs.declared.error.Error.{Error}
+use Rattle.just_cli_plan.specs.Own.{OrMemory}
+use Rattle.just_cli_plan.specs.Request.{Outline, outline_of}
 use Rattle.just_cli.specs.Acts.{Act, AreActs, folders_in, captures_in}
 use Rattle.just_cli.specs.Altered.{IsAltered}
-use Rattle.just_planning.specs.Pairs.{entries_of as entries_in}
+use Rattle.just_cli_plan.specs.Pairs.{entries_of as entries_in}
 use Rattle.just_cli.specs.Faults.{entries_of}
 use Rattle.just_cli.specs.Request.{ArePassed}
 

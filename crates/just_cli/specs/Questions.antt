@@ -1,16 +1,16 @@
 -- Words that ask for the help, the version or a new justfile, and what those of a text get.
 use Rattle.std.specs.Prelude.{ℕ, ◌≡◌, ◌++◌, Bool, true, false, List, [], ◌∷◌, codes, Option, Some, None, option_map, Result, Ok, IfOk, IfErr}
 use Rattle.std.specs.Int.NonZero.{non_zero_u64_get}
-use Rattle.just_text.specs.declared.environ.Environ.{Environ}
-use Rattle.just_outside.specs.declared.entry.Entry.{Entry}
-use Rattle.just_outside.specs.declared.entry.Entry.TheVariants as entry
-use Rattle.just_outside.specs.declared.entry.HostFault.{HostFault}
-use Rattle.just_outside.specs.declared.entry.Stream.TheVariants as stream
-use Rattle.just_outside.specs.World.{World}
-use Rattle.just_words.specs.declared.arguments.Arguments.{Arguments}
-use Rattle.just_words.specs.declared.words.Read.{Read}
-use Rattle.just_words.specs.declared.words.Read.TheVariants as read
-use Rattle.just_words.specs.Words.{Means}
+use Rattle.just_path_text.specs.declared.environ.Environ.{Environ}
+use Rattle.just_host_record.specs.declared.entry.Entry.{Entry}
+use Rattle.just_host_record.specs.declared.entry.Entry.TheVariants as entry
+use Rattle.just_host_record.specs.declared.entry.HostFault.{HostFault}
+use Rattle.just_host_record.specs.declared.entry.Stream.TheVariants as stream
+use Rattle.just_host_record.specs.World.{World}
+use Rattle.just_config_words.specs.declared.arguments.Arguments.{Arguments}
+use Rattle.just_config_words.specs.declared.words.Read.{Read}
+use Rattle.just_config_words.specs.declared.words.Read.TheVariants as read
+use Rattle.just_config_words.specs.Words.{Means}
 use Rattle.just_config.specs.declared.help.TheConstants.{HELP}
 use Rattle.just_config.specs.Versions.{version_text}
 use Rattle.just_env.specs.Answers.{GainsMisses}
@@ -21,10 +21,10 @@ use Rattle.just_cli.specs.Preparing.{Prepares}
 use Rattle.just_cli.specs.Record.{EndsBefore}
 use Rattle.just_cli.specs.declared.task.Task.{Task}
 use Rattle.just_cli.specs.declared.task.Task.TheVariants as task
-use Rattle.just_planning.specs.Request.{outline_of}
+use Rattle.just_cli_plan.specs.Request.{outline_of}
 use Rattle.just_cli.specs.Request.{EnvironGiven, Serves, ServesNew, Asks, AsksNew, AsksGlobal}
 use Rattle.just_cli.specs.Words.{ArgumentsRequest}
-use Rattle.just_errors.specs.Codes.{exit_code}
+use Rattle.just_exec.specs.Codes.{exit_code}
 
 -- the line of the version: `just 1.58.0`
 abbrev pub version_line : List ℕ

@@ -1,13 +1,13 @@
 -- Whether the words ask for quiet, and which errors are told then.
 use Rattle.std.specs.Prelude.{ℕ, ◌≡◌, ◌⊎◌, ◌&&◌, ◌||◌, not, Bool, false, List, Option, Ok, Err}
-use Rattle.just_text.specs.declared.environ.Environ.{Environ}
-use Rattle.just_outside.specs.World.{World}
-use Rattle.just_words.specs.declared.arguments.Arguments.{Arguments}
-use Rattle.just_words.specs.declared.words.Read.TheVariants as read
-use Rattle.just_words.specs.Words.{Means}
-use Rattle.just_errors.specs.Codes.{prints, prints_always}
-use Rattle.just_errors.specs.declared.error.Error.{Error}
-use Rattle.just_errors.specs.declared.error.Error.TheVariants as error
+use Rattle.just_path_text.specs.declared.environ.Environ.{Environ}
+use Rattle.just_host_record.specs.World.{World}
+use Rattle.just_config_words.specs.declared.arguments.Arguments.{Arguments}
+use Rattle.just_config_words.specs.declared.words.Read.TheVariants as read
+use Rattle.just_config_words.specs.Words.{Means}
+use Rattle.just_exec.specs.Codes.{prints, prints_always}
+use Rattle.just_exec.specs.declared.error.Error.{Error}
+use Rattle.just_exec.specs.declared.error.Error.TheVariants as error
 use Rattle.just_cli.specs.Request.{EnvironGiven}
 use Rattle.just_cli.specs.Words.{ReadsWords}
 

@@ -1,35 +1,35 @@
 -- What a run leaves in its host's record.
 use Rattle.std.specs.Prelude.{ℕ, ◌≡◌, ◌<◌, ◌++◌, ◌⊎◌, ◌||◌, Bool, true, false, List, [], ◌∷◌, length, Option, Some, None}
 use Rattle.std.specs.List.{list_any, AllByRecursion}
-use Rattle.just_outside.specs.declared.entry.Call.TheVariants as call
-use Rattle.just_outside.specs.declared.entry.Entry.{Entry}
-use Rattle.just_outside.specs.declared.entry.Entry.TheVariants as entry
-use Rattle.just_outside.specs.declared.entry.Stream.TheVariants as stream
-use Rattle.just_outside.specs.Record.{is_failed, is_missed, is_started}
-use Rattle.just_outside.specs.World.{World}
-use Rattle.just_history.specs.declared.event.Event.{Event}
-use Rattle.just_history.specs.declared.event.Verdict.{Verdict}
-use Rattle.just_history.specs.declared.plan.Plan.{Plan}
-use Rattle.just_history.specs.CacheRule.{GoesByCacheRule, IsSkippedByLook}
-use Rattle.just_history.specs.Cached.{is_cached}
-use Rattle.just_history.specs.Favourable.{IsFavourable}
-use Rattle.just_history.specs.Idle.{HasWork}
-use Rattle.just_history.specs.Legal.{Run, IsLegal, IsClosed, IsComplete}
-use Rattle.just_history.specs.Match.{Matches}
-use Rattle.just_history.specs.Start.{run_over}
-use Rattle.just_history.specs.State.{has_caught}
-use Rattle.just_history.specs.Verdict.{IsVerdict, NoneDecides}
-use Rattle.just_outcome.specs.Caused.{IsCaused}
-use Rattle.just_tangled.specs.Removals.{RemovesAll, RemovesSome}
+use Rattle.just_host_record.specs.declared.entry.Call.TheVariants as call
+use Rattle.just_host_record.specs.declared.entry.Entry.{Entry}
+use Rattle.just_host_record.specs.declared.entry.Entry.TheVariants as entry
+use Rattle.just_host_record.specs.declared.entry.Stream.TheVariants as stream
+use Rattle.just_host_record.specs.Record.{is_failed, is_missed, is_started}
+use Rattle.just_host_record.specs.World.{World}
+use Rattle.just_sched_history.specs.declared.event.Event.{Event}
+use Rattle.just_sched_history.specs.declared.event.Verdict.{Verdict}
+use Rattle.just_sched_history.specs.declared.plan.Plan.{Plan}
+use Rattle.just_sched_history.specs.CacheRule.{GoesByCacheRule, IsSkippedByLook}
+use Rattle.just_sched_history.specs.Cached.{is_cached}
+use Rattle.just_sched_history.specs.Favourable.{IsFavourable}
+use Rattle.just_sched_history.specs.Idle.{HasWork}
+use Rattle.just_sched_history.specs.Legal.{Run, IsLegal, IsClosed, IsComplete}
+use Rattle.just_sched_history.specs.Match.{Matches}
+use Rattle.just_sched_history.specs.Start.{run_over}
+use Rattle.just_sched_history.specs.State.{has_caught}
+use Rattle.just_sched_history.specs.Verdict.{IsVerdict, NoneDecides}
+use Rattle.just_cli_plan.specs.Caused.{IsCaused}
+use Rattle.just_search.specs.Removals.{RemovesAll, RemovesSome}
 use Rattle.just_cli.specs.Acts.{Act, folders_in}
-use Rattle.just_planning.specs.Own.{is_fault, is_uncaptured}
-use Rattle.just_outcome.specs.Outcome.{IsErrorFor}
+use Rattle.just_cli_plan.specs.Own.{is_fault, is_uncaptured}
+use Rattle.just_cli_plan.specs.Outcome.{IsErrorFor}
 use Rattle.just_cli.specs.declared.ended.Failure.{Failure}
 use Rattle.just_cli.specs.Preparing.{EndsWith, LeavesActs, EndsActs}
 use Rattle.just_cli.specs.Quiet.{tells}
-use Rattle.just_errors.specs.Texts.{error_text}
-use Rattle.just_errors.specs.declared.error.Error.{Error}
-use Rattle.just_errors.specs.declared.error.Error.TheVariants as error
+use Rattle.just_exec.specs.Texts.{error_text}
+use Rattle.just_exec.specs.declared.error.Error.{Error}
+use Rattle.just_exec.specs.declared.error.Error.TheVariants as error
 
 -- What a run adds to the record: a stretch before its book was opened, one while it was open, and one behind it.
 pub record Stretches (old new : List Entry) : Type 0 where

@@ -1,31 +1,31 @@
 -- What words ask for: a chain of steps from the words to the plan of a run, or to a refusal.
 use Rattle.std.specs.Prelude.{ℕ, ◌≡◌, ◌⊎◌, ◌&&◌, ◌++◌, Bool, true, false, List, [], ◌∷◌, map, Option, Some, None, option_map, Result, Ok, Err}
 use Rattle.std.specs.List.{list_any, AllByRecursion}
-use Rattle.just_text.specs.declared.environ.Environ.{Environ}
+use Rattle.just_path_text.specs.declared.environ.Environ.{Environ}
 use Rattle.just_path.specs.declared.host.Miss.{Miss}
-use Rattle.just_outside.specs.declared.entry.Call.TheVariants as call
-use Rattle.just_outside.specs.declared.entry.Entry.{Entry}
-use Rattle.just_outside.specs.Record.{is_failed}
-use Rattle.just_outside.specs.World.{World}
-use Rattle.just_words.specs.declared.arguments.Arguments.{Arguments}
-use Rattle.just_words.specs.declared.words.Read.TheVariants as read
-use Rattle.just_words.specs.Words.{Means}
-use Rattle.just_locate.specs.Listing.{is_refused_listing}
+use Rattle.just_host_record.specs.declared.entry.Call.TheVariants as call
+use Rattle.just_host_record.specs.declared.entry.Entry.{Entry}
+use Rattle.just_host_record.specs.Record.{is_failed}
+use Rattle.just_host_record.specs.World.{World}
+use Rattle.just_config_words.specs.declared.arguments.Arguments.{Arguments}
+use Rattle.just_config_words.specs.declared.words.Read.TheVariants as read
+use Rattle.just_config_words.specs.Words.{Means}
+use Rattle.just_search.specs.Listing.{is_refused_listing}
 use Rattle.just_env.specs.declared.search_error.SearchError.{SearchError}
-use Rattle.just_search.specs.Loads.{Loads}
-use Rattle.just_history.specs.declared.plan.Plan.{Plan}
-use Rattle.just_errors.specs.Refusals.{error_of_search}
-use Rattle.just_errors.specs.declared.error.Error.{Error}
-use Rattle.just_errors.specs.declared.error.Error.TheVariants as error
+use Rattle.just_search_load.specs.Loads.{Loads}
+use Rattle.just_sched_history.specs.declared.plan.Plan.{Plan}
+use Rattle.just_exec.specs.Refusals.{error_of_search}
+use Rattle.just_exec.specs.declared.error.Error.{Error}
+use Rattle.just_exec.specs.declared.error.Error.TheVariants as error
 use Rattle.just_cli.specs.Faults.{CallGives, io_error, folder_error}
-use Rattle.just_env_files.specs.Captures.{Capture}
-use Rattle.just_planning.specs.Pairs.{Leaves}
-use Rattle.just_planning.specs.Steps.{Then}
-use Rattle.just_planning.specs.Request.{SourcesRequest, ProjectRequest, LoadedRequest, Outline, outline_of, FindsProject, LoadsDotenv, PlansProject}
+use Rattle.just_env.specs.Captures.{Capture}
+use Rattle.just_cli_plan.specs.Pairs.{Leaves}
+use Rattle.just_cli_plan.specs.Steps.{Then}
+use Rattle.just_cli_plan.specs.Request.{SourcesRequest, ProjectRequest, LoadedRequest, Outline, outline_of, FindsProject, LoadsDotenv, PlansProject}
 use Rattle.just_cli.specs.NewPath.{is_init, FindsNew}
-use Rattle.just_locate.specs.declared.location.Location.{Location}
-use Rattle.just_fallback.specs.Fallback.{FallsBack}
-use Rattle.just_value.specs.Modules.{settings_of}
+use Rattle.just_search.specs.declared.location.Location.{Location}
+use Rattle.just_search.specs.Fallback.{FallsBack}
+use Rattle.just_eval_closure.specs.Modules.{settings_of}
 use Rattle.just_cli.specs.Acts.{Act, AreToldBehind, Step, Looks, Behind}
 use Rattle.just_cli.specs.Options.{is_lacking, lacks, allowed}
 use Rattle.just_cli.specs.Words.{ArgumentsRequest, ConfigRequest, LocatedRequest, JustfileRequest, FindsEnviron, ReadsWords, FindsFolder, Configures, FindsLocation, FindsJustfile, TakesFile}

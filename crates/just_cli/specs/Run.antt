@@ -1,18 +1,18 @@
 -- What a run of some words promises.
 use Rattle.std.specs.Prelude.{ℕ, ◌≡◌, ◌<◌, ◌++◌, Bool, true, List, [], Option, Some, None, Result, IfOk, IfErr, MatchOption, MatchResult}
-use Rattle.just_outside.specs.Record.{faults_of, misses_of}
-use Rattle.just_outside.specs.World.{World}
-use Rattle.just_outside.specs.declared.entry.Entry.{Entry}
-use Rattle.just_history.specs.Favourable.{IsFavourable}
-use Rattle.just_history.specs.declared.plan.Plan.{Plan}
+use Rattle.just_host_record.specs.Record.{faults_of, misses_of}
+use Rattle.just_host_record.specs.World.{World}
+use Rattle.just_host_record.specs.declared.entry.Entry.{Entry}
+use Rattle.just_sched_history.specs.Favourable.{IsFavourable}
+use Rattle.just_sched_history.specs.declared.plan.Plan.{Plan}
 use Rattle.just_cli.specs.declared.ended.Failure.{Failure}
 use Rattle.just_cli.specs.declared.ended.Report.{Report}
-use Rattle.just_errors.specs.Codes.{exit_code}
-use Rattle.just_errors.specs.declared.error.Error.TheVariants as error
+use Rattle.just_exec.specs.Codes.{exit_code}
+use Rattle.just_exec.specs.declared.error.Error.TheVariants as error
 use Rattle.just_cli.specs.Answered.{IsAnswered, IsServed}
 use Rattle.just_cli.specs.Acts.{Act, folders_in}
 use Rattle.just_cli.specs.Altered.{EndsAsItWas, StaysAsItWas}
-use Rattle.just_planning.specs.Own.{is_fault, is_miss}
+use Rattle.just_cli_plan.specs.Own.{is_fault, is_miss}
 use Rattle.just_cli.specs.Questions.{IsQuestion, AsksQuiet, IsShown}
 use Rattle.just_cli.specs.Quiet.{AskQuiet}
 use Rattle.just_cli.specs.Record.{EndsWell, EndsIll, EndsUnopened, IsQuiet}

@@ -1,19 +1,19 @@
 -- The file of a justfile in a place, as a part of a preparation.
 use Rattle.std.specs.Prelude.{ℕ, ◌≡◌, true, List, [], ◌∷◌, Option, Some, Result, Ok, Err}
-use Rattle.just_text.specs.declared.environ.Environ.{Environ}
-use Rattle.just_outside.specs.World.{World}
+use Rattle.just_path_text.specs.declared.environ.Environ.{Environ}
+use Rattle.just_host_record.specs.World.{World}
 use Rattle.just_config.specs.declared.config.Config.{Config}
-use Rattle.just_locate.specs.declared.location.Location.{Location}
-use Rattle.just_errors.specs.declared.error.Error.{Error}
-use Rattle.just_planning.specs.declared.wanted.Wanted.{Wanted}
+use Rattle.just_search.specs.declared.location.Location.{Location}
+use Rattle.just_exec.specs.declared.error.Error.{Error}
+use Rattle.just_cli_plan.specs.declared.wanted.Wanted.{Wanted}
 use Rattle.just_cli.specs.Acts.{Act}
-use Rattle.just_outside.specs.declared.entry.Entry.{Entry}
-use Rattle.just_fallback.specs.Fallback.{FallsBack}
-use Rattle.just_planning.specs.Request.{Outline}
+use Rattle.just_host_record.specs.declared.entry.Entry.{Entry}
+use Rattle.just_search.specs.Fallback.{FallsBack}
+use Rattle.just_cli_plan.specs.Request.{Outline}
 use Rattle.just_cli.specs.Options.{is_lacking}
 use Rattle.just_cli.specs.Preparing.{Performs}
-use Rattle.just_lang.specs.declared.project.Justfile.{Justfile}
-use Rattle.just_value.specs.Modules.{AreModules}
+use Rattle.just_lang_types.specs.declared.project.Justfile.{Justfile}
+use Rattle.just_eval_closure.specs.Modules.{AreModules}
 use Rattle.just_cli.specs.Request.{PlansLoaded, AnswersAt, at_place, TriesFrom, Tries}
 use Rattle.just_cli.specs.Words.{ConfigRequest, LocatedRequest, TakesFile}
 

@@ -1,15 +1,15 @@
 -- The answer of the whole list of justfiles, as far as it goes by `fallback` alone.
 use Rattle.std.specs.Prelude.{◌≡◌, ◌++◌, ◌⊎◌, Bool, true, false, List, [], ◌∷◌, Option, Some, Result, Ok, Err}
 use Rattle.std.specs.List.{AllByRecursion}
-use Rattle.just_outside.specs.World.{World}
+use Rattle.just_host_record.specs.World.{World}
 use Rattle.just_env.specs.declared.search_error.SearchError.{SearchError}
-use Rattle.just_locate.specs.declared.location.Location.{Location}
-use Rattle.just_fallback.specs.Fallback.{AreTried}
-use Rattle.just_value.specs.Modules.{settings_of}
-use Rattle.just_errors.specs.declared.error.Error.{Error}
-use Rattle.just_errors.specs.Refusals.{error_of_search}
-use Rattle.just_planning.specs.Own.{is_fault, IsOwn}
-use Rattle.just_planning.specs.Request.{ProjectRequest, Outline}
+use Rattle.just_search.specs.declared.location.Location.{Location}
+use Rattle.just_search.specs.Fallback.{AreTried}
+use Rattle.just_eval_closure.specs.Modules.{settings_of}
+use Rattle.just_exec.specs.declared.error.Error.{Error}
+use Rattle.just_exec.specs.Refusals.{error_of_search}
+use Rattle.just_cli_plan.specs.Own.{is_fault, IsOwn}
+use Rattle.just_cli_plan.specs.Request.{ProjectRequest, Outline}
 use Rattle.just_cli.specs.Options.{is_lacking, lacks, allowed}
 use Rattle.just_cli.specs.Words.{ConfigRequest, LocatedRequest}
 use Rattle.just_cli.specs.Request.{FindsProjectAt, AnswersAt, at_place, Tries}

@@ -1,29 +1,29 @@
 -- What words ask for: the arguments that they mean with the variables, the configuration that these give, and the justfile that it means.
 use Rattle.std.specs.Prelude.{ℕ, ◌≡◌, ◌≢◌, ◌++◌, List, [], map, Option, Some, None, Result, Ok, Err}
-use Rattle.just_text.specs.declared.environ.Environ.{Environ}
-use Rattle.just_outside.specs.declared.entry.Entry.{Entry}
-use Rattle.just_outside.specs.World.{World}
-use Rattle.just_words.specs.declared.arguments.Arguments.{Arguments}
-use Rattle.just_words.specs.declared.usage.Usage.{Usage}
-use Rattle.just_words.specs.declared.words.Read.TheVariants as read
-use Rattle.just_words.specs.Words.{Means}
+use Rattle.just_path_text.specs.declared.environ.Environ.{Environ}
+use Rattle.just_host_record.specs.declared.entry.Entry.{Entry}
+use Rattle.just_host_record.specs.World.{World}
+use Rattle.just_config_words.specs.declared.arguments.Arguments.{Arguments}
+use Rattle.just_config_words.specs.declared.usage.Usage.{Usage}
+use Rattle.just_config_words.specs.declared.words.Read.TheVariants as read
+use Rattle.just_config_words.specs.Words.{Means}
 use Rattle.just_config.specs.declared.config.Config.{Config}
 use Rattle.just_config.specs.declared.config_error.ConfigError.{ConfigError}
 use Rattle.just_config.specs.Config.{refusal, config_of}
 use Rattle.just_env.specs.declared.search_error.SearchError.{SearchError}
 use Rattle.just_env.specs.declared.search_error.SearchError.TheVariants as search
 use Rattle.just_env.specs.Answers.{entries_of}
-use Rattle.just_locate.specs.declared.location.Location.{Location}
-use Rattle.just_locate.specs.Finding.{Finds}
-use Rattle.just_errors.specs.Refusals.{error_of_search}
-use Rattle.just_errors.specs.declared.error.Error.{Error}
-use Rattle.just_errors.specs.declared.error.Error.TheVariants as error
-use Rattle.just_planning.specs.declared.wanted.Wanted.{Wanted}
-use Rattle.just_init.specs.declared.search.Search.{Search}
-use Rattle.just_tangled.specs.Files.{parent_of, Materializes}
+use Rattle.just_search.specs.declared.location.Location.{Location}
+use Rattle.just_search.specs.Finding.{Finds}
+use Rattle.just_exec.specs.Refusals.{error_of_search}
+use Rattle.just_exec.specs.declared.error.Error.{Error}
+use Rattle.just_exec.specs.declared.error.Error.TheVariants as error
+use Rattle.just_cli_plan.specs.declared.wanted.Wanted.{Wanted}
+use Rattle.just_search.specs.declared.search_result.Search.{Search}
+use Rattle.just_search.specs.Files.{parent_of, Materializes}
 use Rattle.just_cli.specs.Acts.{Act, Step}
 use Rattle.just_cli.specs.Options.{not_built, cache_beside, wanted_of}
-use Rattle.just_planning.specs.Steps.{Then}
+use Rattle.just_cli_plan.specs.Steps.{Then}
 
 -- ---- what is known behind each step; the environment goes along, since values ask it too
 

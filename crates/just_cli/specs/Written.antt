@@ -1,18 +1,18 @@
 -- A new justfile that is written, and told of; or that isn't.
 use Rattle.std.specs.Prelude.{ℕ, ◌≡◌, ◌++◌, Bool, false, if◌then◌else◌, List, [], ◌∷◌, codes, Option, None, Result, Ok, Err, IfOk, IfErr}
-use Rattle.just_outside.specs.declared.entry.Call.TheVariants as call
-use Rattle.just_outside.specs.declared.entry.Entry.{Entry}
-use Rattle.just_outside.specs.declared.entry.Entry.TheVariants as entry
-use Rattle.just_outside.specs.declared.entry.HostFault.{HostFault}
-use Rattle.just_outside.specs.declared.entry.HostFault.TheVariants as fault
-use Rattle.just_outside.specs.declared.entry.Stream.TheVariants as stream
-use Rattle.just_outside.specs.Changes.{place_written, written, Changes}
-use Rattle.just_outside.specs.Record.{IsOwnFault}
-use Rattle.just_outside.specs.World.{World}
-use Rattle.just_errors.specs.Codes.{exit_code}
-use Rattle.just_errors.specs.declared.error.Error.{Error}
-use Rattle.just_errors.specs.declared.error.Error.TheVariants as error
-use Rattle.just_planning.specs.Own.{OrMemory}
+use Rattle.just_host_record.specs.declared.entry.Call.TheVariants as call
+use Rattle.just_host_record.specs.declared.entry.Entry.{Entry}
+use Rattle.just_host_record.specs.declared.entry.Entry.TheVariants as entry
+use Rattle.just_host_record.specs.declared.entry.HostFault.{HostFault}
+use Rattle.just_host_record.specs.declared.entry.HostFault.TheVariants as fault
+use Rattle.just_host_record.specs.declared.entry.Stream.TheVariants as stream
+use Rattle.just_host_record.specs.Changes.{place_written, written, Changes}
+use Rattle.just_host_record.specs.Record.{IsOwnFault}
+use Rattle.just_host_record.specs.World.{World}
+use Rattle.just_exec.specs.Codes.{exit_code}
+use Rattle.just_exec.specs.declared.error.Error.{Error}
+use Rattle.just_exec.specs.declared.error.Error.TheVariants as error
+use Rattle.just_cli_plan.specs.Own.{OrMemory}
 use Rattle.just_cli.specs.declared.ended.Failure.{Failure}
 use Rattle.just_cli.specs.declared.ended.Report.{Report}
 use Rattle.just_cli.specs.declared.init_text.TheConstants.{INIT_JUSTFILE}

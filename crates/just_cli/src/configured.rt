@@ -1,11 +1,11 @@
 //! From the words to their configuration, and to what is asked of a justfile.
 
 ghost use Rattle.std.specs.Prelude.{◌≡◌, ◌||◌, if◌then◌else◌, Some, None, map, IfOk, IfErr, Ok, Err};
-ghost use Rattle.just_text.specs.declared.environ.Environ.{Environ};
-ghost use Rattle.just_words.specs.Words.{Means};
+ghost use Rattle.just_path_text.specs.declared.environ.Environ.{Environ};
+ghost use Rattle.just_config_words.specs.Words.{Means};
 ghost use Rattle.just_config.specs.Config.{refusal, config_of};
-ghost use Rattle.just_errors.specs.declared.error.Error.TheVariants as error;
-ghost use Rattle.just_planning.specs.Own.{OrMemory};
+ghost use Rattle.just_exec.specs.declared.error.Error.TheVariants as error;
+ghost use Rattle.just_cli_plan.specs.Own.{OrMemory};
 ghost use Rattle.just_path.specs.Path.{text_of};
 ghost use Rattle.just_cli.specs.Options.{is_any, dotenv_of, flags_of, cache_beside, wanted_of};
 ghost use Rattle.just_cli.specs.Words.{ReadsWords, IsBuilt, Configures};
@@ -13,13 +13,13 @@ ghost use Rattle.just_cli.specs.Words.{ReadsWords, IsBuilt, Configures};
 use super::Error;
 use super::options::{is_any, not_built};
 use just_cache::Cache;
-use just_commands::RunFlags;
+use just_cli_plan::{Wanted, not_built_error};
 use just_config::{Arguments, Config, Read, read_words};
-use just_env_files::DotenvAsk;
-use just_lang::Override;
+use just_env::DotenvAsk;
+use just_exec_work::RunFlags;
+use just_lang_types::Override;
 use just_path::{Utf8Path, Utf8PathBuf};
-use just_planning::{Wanted, not_built_error};
-use just_text::{Environ, NoMemory, Seq, Text, TryClone};
+use just_path_text::{Environ, NoMemory, Seq, Text, TryClone};
 use std::alloc::Global;
 
 /// What the words ask for, with the variables of the environment.

@@ -1,8 +1,8 @@
 //! How a run ends: its host, and a report or a failure.
 
 use super::Error;
+use just_path_text::Seq;
 use just_sched::{Event, Plan};
-use just_text::Seq;
 
 /// A host after a run, and how the run ended.
 pub struct Ended<H> {

@@ -1,16 +1,16 @@
 //! What a run answers that doesn't end well: its error, what is told of it, and its exit code.
 
 ghost use Rattle.std.specs.Prelude.{◌≡◌, ◌++◌, ◌∷◌, [], List, Option, IfOk, string_bytes};
-ghost use Rattle.just_outside.specs.declared.entry.Entry.{Entry};
-ghost use Rattle.just_errors.specs.Texts.{error_text};
-ghost use Rattle.just_errors.specs.Codes.{exit_code as code_for};
+ghost use Rattle.just_host_record.specs.declared.entry.Entry.{Entry};
+ghost use Rattle.just_exec.specs.Texts.{error_text};
+ghost use Rattle.just_exec.specs.Codes.{exit_code as code_for};
 ghost use Rattle.just_cli.specs.Quiet.{tells};
 ghost use Rattle.just_cli.specs.Record.{IsTold};
 
 use super::{Ended, Error, Failure};
 use just_host::{Host, Stream};
+use just_path_text::{NoMemory, Seq};
 use just_sched::{Event, Plan};
-use just_text::{NoMemory, Seq};
 use std::alloc::Global;
 
 /// The error's text and a newline.

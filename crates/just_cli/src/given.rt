@@ -2,13 +2,13 @@
 
 ghost use Rattle.std.specs.Prelude.{◌≡◌, ◌++◌, ◌∷◌, [], List, Result, Ok, Err, IfOk, IfErr, MatchResult};
 ghost use Rattle.just_path.specs.Path.{text_of};
-ghost use Rattle.just_outside.specs.declared.entry.Entry.{Entry};
+ghost use Rattle.just_host_record.specs.declared.entry.Entry.{Entry};
 ghost use Rattle.just_env.specs.declared.search_error.SearchError.{SearchError};
-ghost use Rattle.just_search.specs.Loads.{Loads};
-ghost use Rattle.just_search.specs.Shows.{sources_of};
-ghost use Rattle.just_errors.specs.Refusals.{error_of_search};
-ghost use Rattle.just_errors.specs.declared.error.Error.{Error};
-ghost use Rattle.just_planning.specs.Own.{OrMemory};
+ghost use Rattle.just_search_load.specs.Loads.{Loads};
+ghost use Rattle.just_search_load.specs.Shows.{sources_of};
+ghost use Rattle.just_exec.specs.Refusals.{error_of_search};
+ghost use Rattle.just_exec.specs.declared.error.Error.{Error};
+ghost use Rattle.just_cli_plan.specs.Own.{OrMemory};
 ghost use Rattle.just_cli.specs.Faults.{entries_of, fault_of_path as host_fault, io_error as told_error, folder_error as told_folder};
 ghost use Rattle.just_config.specs.declared.search_config.SearchConfig.TheVariants.{GlobalJustfile};
 ghost use Rattle.just_cli.specs.Preparing.{AreMisses, EndsWith};
@@ -18,10 +18,10 @@ ghost use Rattle.just_cli.specs.Words.{FindsLocation};
 use super::Error;
 use just_config::Config;
 use just_host::{Call, Host, HostFault};
-use just_locate::{Location, find};
 use just_path::{PathFault, Utf8Path, Utf8PathBuf};
-use just_search::Loader;
-use just_text::Environ;
+use just_path_text::Environ;
+use just_search::{Location, find};
+use just_search_load::Loader;
 use std::alloc::Global;
 
 /// The fault of asking for the current folder, as a fault of a host.

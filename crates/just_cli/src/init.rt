@@ -2,11 +2,11 @@
 
 ghost use Rattle.std.specs.Prelude.{◌≡◌, ◌++◌, false, [], List, Result, Ok, Err, IfOk, IfErr, MatchResult, string_bytes};
 ghost use Rattle.just_path.specs.Path.{text_of};
-ghost use Rattle.just_outside.specs.declared.entry.Call.TheVariants.{Print as PrintCall};
-ghost use Rattle.just_outside.specs.declared.entry.Entry.{Entry};
-ghost use Rattle.just_outside.specs.declared.entry.HostFault.TheVariants.{Failed as CallFailed};
-ghost use Rattle.just_errors.specs.declared.error.Error.TheVariants.{StdoutIo as NotPrinted};
-ghost use Rattle.just_planning.specs.Own.{OrMemory};
+ghost use Rattle.just_host_record.specs.declared.entry.Call.TheVariants.{Print as PrintCall};
+ghost use Rattle.just_host_record.specs.declared.entry.Entry.{Entry};
+ghost use Rattle.just_host_record.specs.declared.entry.HostFault.TheVariants.{Failed as CallFailed};
+ghost use Rattle.just_exec.specs.declared.error.Error.TheVariants.{StdoutIo as NotPrinted};
+ghost use Rattle.just_cli_plan.specs.Own.{OrMemory};
 ghost use Rattle.just_cli.specs.Faults.{entries_of, write_error as told_error};
 ghost use Rattle.just_cli.specs.NewPath.{is_init, is_written_to, FindsPath, IsFree, FindsFree};
 ghost use Rattle.just_cli.specs.Preparing.{AreMisses, EndsWith};
@@ -18,9 +18,9 @@ use super::show::{empty_plan, print_error};
 use super::{Ended, Error, Report};
 use just_config::{Config, Subcommand};
 use just_host::{Call, Host, HostFault, Stream};
-use just_init::Search;
 use just_path::{Kind, PathFault, Utf8Path, Utf8PathBuf};
-use just_text::{NoMemory, Seq};
+use just_path_text::{NoMemory, Seq};
+use just_search::Search;
 use std::alloc::Global;
 
 /// Whether a command asks for a new justfile.

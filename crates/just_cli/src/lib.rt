@@ -19,7 +19,7 @@ mod tried;
 
 pub use ended::{Ended, Failure, Report};
 pub use init_text::INIT_JUSTFILE;
-pub use just_errors::Error;
+pub use just_exec::Error;
 pub use law::first_answers;
 pub use program::{exit_status, no_arguments, run_arguments};
 pub use runner::{run, run_with};

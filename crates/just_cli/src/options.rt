@@ -6,7 +6,7 @@ ghost use Rattle.just_cli.specs.Options.{is_any, flag_not_built, command_word, c
 
 use super::Error;
 use just_config::{Config, Subcommand};
-use just_text::{Seq, Text};
+use just_path_text::{Seq, Text};
 
 /// The word of the first flag that isn't built.
 fn flag_not_built(config: &Config) -> Option<&'static str>

@@ -6,7 +6,7 @@ ghost use Rattle.just_config.specs.declared.help.TheConstants.{HELP};
 ghost use Rattle.just_cli.specs.Questions.{version_line, IsTask, IsServed};
 ghost use Rattle.just_cli.specs.Quiet.{AskQuiet};
 ghost use Rattle.just_cli.specs.Preparing.{Prepares};
-ghost use Rattle.just_planning.specs.Request.{Outline, outline_of};
+ghost use Rattle.just_cli_plan.specs.Request.{Outline, outline_of};
 ghost use Rattle.just_cli.specs.Request.{Serves, Asks, AsksGlobal};
 
 use super::configured::{configure, read};
@@ -17,7 +17,7 @@ use super::{Error, Task};
 use just_config::{Arguments, HELP, Read, Version};
 use just_host::Host;
 use just_path::Utf8PathBuf;
-use just_text::{Environ, NoMemory, Text};
+use just_path_text::{Environ, NoMemory, Text};
 use std::alloc::Global;
 
 /// The run or the new justfile that arguments ask for.

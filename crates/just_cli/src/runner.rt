@@ -1,8 +1,8 @@
 //! The top calls: words and a host become a run and its end.
 
 ghost use Rattle.std.specs.Prelude.{[], List, Option, None, map, IfOk};
-ghost use Rattle.just_outside.specs.World.{World};
-ghost use Rattle.just_outside.specs.declared.entry.Entry.{Entry};
+ghost use Rattle.just_host_record.specs.World.{World};
+ghost use Rattle.just_host_record.specs.declared.entry.Entry.{Entry};
 ghost use Rattle.just_host.specs.Real.{record_of};
 ghost use Rattle.just_cli.specs.Record.{Removes};
 ghost use Rattle.just_cli.specs.Run.{IsEnded};
@@ -12,12 +12,12 @@ use super::init::init;
 use super::prepare::prepare;
 use super::show::show;
 use super::{Ended, Error, Report, Task};
+use just_cli_plan::error_for;
 use just_host::{Host, RealHost};
-use just_outcome::error_for;
 use just_path::Utf8PathBuf;
+use just_path_text::{NoMemory, Seq};
 use just_sched::{Driven, drive};
-use just_tangled::remove_folders;
-use just_text::{NoMemory, Seq};
+use just_search::remove_folders;
 use std::alloc::Global;
 use std::fs::File;
 use std::process::{Processes, SystemProcess};

@@ -7,8 +7,8 @@ ghost use Rattle.just_cli.specs.Questions.{IsShown};
 use super::failure::fail;
 use super::{Ended, Error, Report};
 use just_host::{Host, HostFault, Stream};
+use just_path_text::Seq;
 use just_sched::Plan;
-use just_text::Seq;
 use std::alloc::Global;
 
 /// The error of a text that wasn't printed.

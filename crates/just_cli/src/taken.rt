@@ -7,13 +7,12 @@ ghost use Rattle.just_cli.specs.Taken.{TakesWanted};
 
 use super::Error;
 use super::configured::wanted;
+use just_cli_plan::Wanted;
 use just_config::Config;
 use just_host::Host;
-use just_locate::{Location, Origin};
 use just_path::Utf8PathBuf;
-use just_planning::Wanted;
-use just_tangled::{Search, materialize};
-use just_text::NoMemory;
+use just_path_text::NoMemory;
+use just_search::{Location, Origin, Search, materialize};
 use std::alloc::Global;
 
 /// A copy of where a justfile's text comes from.

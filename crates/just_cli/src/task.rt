@@ -1,8 +1,8 @@
 //! What words ask for.
 
 use just_path::Utf8PathBuf;
+use just_path_text::{Seq, Text};
 use just_sched::Plan;
-use just_text::{Seq, Text};
 use std::num::NonZeroU64;
 
 /// What words ask for.

@@ -1,8 +1,8 @@
 -- Steps of the loops over overrides and positional words.
 use Rattle.std.proofs.Common.{◌≡◌, ℕ, ◌==◌, ◌<◌, ◌++◌, not, true, false, List, [], ◌∷◌, length, refl, sym, ap, ◌∙◌, append_assoc, append-nil, arith}
 use Rattle.std.specs.Prelude.{Option, Some, None, is_some, if◌then◌else◌}
-use Rattle.just_lang.specs.declared.scope.Override.{Override}
-use Rattle.just_words.specs.Cuts.{holds, before_first, behind_first}
+use Rattle.just_lang_types.specs.declared.scope.Override.{Override}
+use Rattle.just_config_words.specs.Cuts.{holds, before_first, behind_first}
 use Rattle.just_config.specs.Positional.{overrides_in, behind_overrides}
 use Rattle.just_config.specs.Config.{pairs_of, is_odd, override_of, overrides_of, ill_override}
 

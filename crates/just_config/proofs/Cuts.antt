@@ -6,7 +6,7 @@ use Rattle.std.specs.Option.{MatchOption}
 use Rattle.std.proofs.lemmas.Bool.Decides.{nat_tests}
 use Rattle.std.proofs.lemmas.List.{take-append-drop}
 use Rattle.std.proofs.lemmas.Str.Pattern.{NoCharPasses-char, drop_at_char}
-use Rattle.just_words.specs.Cuts.{holds}
+use Rattle.just_config_words.specs.Cuts.{holds}
 use Rattle.just_config.specs.Cuts.{up_to_last, behind_last}
 
 -- the character stands at no place of a text

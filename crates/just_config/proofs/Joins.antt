@@ -1,7 +1,7 @@
 -- Names that `::` joins in one word, by the parts between its colons.
 use Rattle.std.proofs.Common.{◌≡◌, ℕ, List, [], ◌∷◌, ◌++◌, length, ◌==◌, true, false, refl, sym, ap, ◌∙◌, append_assoc, arith}
 use Rattle.std.specs.Prelude.{Option, Some, None}
-use Rattle.just_words.specs.Cuts.{parts}
+use Rattle.just_config_words.specs.Cuts.{parts}
 use Rattle.just_config.specs.ModulePaths.{colon, put_before, outer_parts}
 
 -- names in front of those that follow

@@ -3,8 +3,8 @@ use Rattle.std.proofs.Common.{◌≡◌, ◌&&◌, ℕ, Bool, true, false, List,
 use Rattle.std.proofs.lemmas.Bool.{false≢true}
 use Rattle.std.specs.Prelude.{IsTrue, ◌↔◌}
 use Rattle.std.specs.List.{list_all}
-use Rattle.just_read.specs.Characters.{begins_name, in_name}
-use Rattle.just_lang.specs.Names.{IsName}
+use Rattle.just_lang_read.specs.Characters.{begins_name, in_name}
+use Rattle.just_lang_types.specs.Names.{IsName}
 use Rattle.just_config.specs.ModulePaths.{is_name}
 
 both : (a b : Bool) → a ≡ true → b ≡ true → true ≡ (a && b)

@@ -1,8 +1,8 @@
 -- What a command takes.
 use Rattle.std.specs.Prelude.{ℕ, Bool, true, false, List, [], drop, Option, Some, None, codes}
-use Rattle.just_lang.specs.declared.scope.Override.{Override}
-use Rattle.just_words.specs.declared.subcommand.Subcommand.{Subcommand}
-use Rattle.just_words.specs.declared.subcommand.Subcommand.TheVariants as command
+use Rattle.just_lang_types.specs.declared.scope.Override.{Override}
+use Rattle.just_config_words.specs.declared.subcommand.Subcommand.{Subcommand}
+use Rattle.just_config_words.specs.declared.subcommand.Subcommand.TheVariants as command
 
 -- its name in texts: the first one, but `format` for `--fmt`
 abbrev pub name_of : Subcommand → List ℕ

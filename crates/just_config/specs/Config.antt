@@ -1,9 +1,9 @@
 -- The configuration that arguments give, or the first refusal.
 use Rattle.std.specs.Prelude.{ℕ, Bool, true, false, not, ◌≡◌, ◌||◌, ◌&&◌, if◌then◌else◌, List, [], ◌∷◌, ◌++◌, flat_map, Option, Some, None, codes, bytes_eq, is_some, ◌⊎◌}
 use Rattle.std.specs.Option.{option_map}
-use Rattle.just_text.specs.Environ.{or_else}
-use Rattle.just_lang.specs.declared.scope.Override.{Override}
-use Rattle.just_words.specs.declared.arguments.Arguments.{Arguments}
+use Rattle.just_path_text.specs.Environ.{or_else}
+use Rattle.just_lang_types.specs.declared.scope.Override.{Override}
+use Rattle.just_config_words.specs.declared.arguments.Arguments.{Arguments}
 use Rattle.just_config.specs.declared.positional.Positional.{Positional}
 use Rattle.just_config.specs.declared.config_error.ConfigError.{ConfigError}
 use Rattle.just_config.specs.declared.config_error.ConfigError.TheVariants as error
@@ -12,7 +12,7 @@ use Rattle.just_config.specs.declared.search_config.SearchConfig.TheVariants as 
 use Rattle.just_config.specs.declared.config.Config.{Config}
 use Rattle.just_config.specs.declared.verbosity.Verbosity.{Verbosity}
 use Rattle.just_config.specs.declared.verbosity.Verbosity.TheVariants as verbosity
-use Rattle.just_words.specs.declared.subcommand.Subcommand.{Subcommand}
+use Rattle.just_config_words.specs.declared.subcommand.Subcommand.{Subcommand}
 use Rattle.just_config.specs.ModulePaths.{module_path}
 use Rattle.just_config.specs.Commands.{name_of, path_words, is_empty_command, request_words, surplus_arguments, surplus_overrides}
 use Rattle.just_config.specs.Positional.{positional_of}

@@ -1,6 +1,6 @@
 -- What a text is cut into at the last one of a character.
 use Rattle.std.specs.Prelude.{ℕ, ◌==◌, if◌then◌else◌, List, [], ◌∷◌}
-use Rattle.just_words.specs.Cuts.{holds}
+use Rattle.just_config_words.specs.Cuts.{holds}
 
 -- what stands up to the last one, with it
 abbrev pub up_to_last : ℕ → List ℕ → List ℕ

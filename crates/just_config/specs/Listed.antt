@@ -4,7 +4,7 @@ use Rattle.std.specs.declared.cmp.Ordering.{Ordering}
 use Rattle.std.specs.Ordering.{nat_cmp, ordering_then}
 use Rattle.std.specs.Cmp.Lexicographic.{slice_cmp}
 use Rattle.std.specs.BTreeMap.{insert_entry}
-use Rattle.just_lang.specs.declared.scope.Override.{Override}
+use Rattle.just_lang_types.specs.declared.scope.Override.{Override}
 
 -- the order of variables: by module path, and then by name
 abbrev pub variable_cmp : List (List ℕ) × List ℕ → List (List ℕ) × List ℕ → Ordering

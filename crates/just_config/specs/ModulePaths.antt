@@ -1,8 +1,8 @@
 -- Module paths in words.
 use Rattle.std.specs.Prelude.{ℕ, Bool, true, false, ◌||◌, ◌&&◌, if◌then◌else◌, List, [], ◌∷◌, flat_map, Option, Some, None}
 use Rattle.std.specs.List.{list_all}
-use Rattle.just_read.specs.Characters.{begins_name, in_name}
-use Rattle.just_words.specs.Cuts.{holds, parts}
+use Rattle.just_lang_read.specs.Characters.{begins_name, in_name}
+use Rattle.just_config_words.specs.Cuts.{holds, parts}
 
 abbrev pub colon : ℕ
 colon = 58

@@ -1,6 +1,6 @@
 -- What positional words are: overrides, then a search folder, then arguments.
 use Rattle.std.specs.Prelude.{ℕ, Bool, ◌||◌, if◌then◌else◌, List, [], ◌∷◌, ◌++◌, Option, Some, None, codes, bytes_eq}
-use Rattle.just_words.specs.Cuts.{holds, before_first, behind_first}
+use Rattle.just_config_words.specs.Cuts.{holds, before_first, behind_first}
 use Rattle.just_config.specs.Cuts.{up_to_last, behind_last}
 use Rattle.just_config.specs.ModulePaths.{unless_empty}
 use Rattle.just_config.specs.declared.positional.Positional.{Positional}

@@ -2,8 +2,8 @@
 use Rattle.std.specs.Prelude.{ℕ, ◌&&◌, if◌then◌else◌, nat_le, List, ◌++◌, length, codes, Option, Some, None}
 use Rattle.std.specs.Fmt.{decimal as digits_of}
 use Rattle.just_config.specs.declared.version.Version.{Version}
-use Rattle.just_words.specs.Cuts.{holds, before_first, behind_first}
-use Rattle.just_words.specs.Decimal.{decimal}
+use Rattle.just_config_words.specs.Cuts.{holds, before_first, behind_first}
+use Rattle.just_config_words.specs.Decimal.{decimal}
 
 abbrev pub dot : ℕ
 dot = 46

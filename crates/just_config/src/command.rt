@@ -4,8 +4,8 @@ ghost use Rattle.std.specs.Option.{option_copied};
 ghost use Rattle.just_config.specs.Commands.{name_of, path_words, is_empty_command, request_words, surplus_arguments, surplus_overrides};
 
 use super::Subcommand;
-use just_lang::Override;
-use just_text::{Seq, Text};
+use just_lang_types::Override;
+use just_path_text::{Seq, Text};
 
 /// Its name in texts: the first long one, but `format` for `--fmt`.
 pub(crate) fn name_of(subcommand: &Subcommand) -> &'static str

@@ -6,9 +6,9 @@ ghost use Rattle.just_config.specs.Config.{pairs_of, by_justfile, search_config_
 use super::overrides::{add_named, add_pairs, overrides_of};
 use super::refusal::later_refusal;
 use super::{Arguments, ConfigError, Positional, SearchConfig, Subcommand, Verbosity};
-use just_lang::Override;
+use just_lang_types::Override;
 use just_path::Utf8PathBuf;
-use just_text::{NoMemory, Seq, Text};
+use just_path_text::{NoMemory, Seq, Text};
 use std::alloc::Global;
 use std::num::NonZeroU64;
 

@@ -4,8 +4,8 @@ ghost use Rattle.std.specs.Fmt.{DisplaysOnOk};
 ghost use Rattle.just_print.specs.SmallTexts.{list_text, plural};
 ghost use Rattle.just_config.specs.Texts.{error_text, internal_text, use_text, used_with};
 
+use just_path_text::{NoMemory, Seq, Text};
 use just_print::List;
-use just_text::{NoMemory, Seq, Text};
 use std::fmt;
 
 /// Why arguments give no configuration.

@@ -1,6 +1,6 @@
 //! Texts that are cut at the last one of a character.
 ghost use Rattle.std.specs.Prelude.{◌≡◌, ◌<◌, ◌++◌, ◌∷◌, [], true, false, MatchOption};
-ghost use Rattle.just_words.specs.Cuts.{holds};
+ghost use Rattle.just_config_words.specs.Cuts.{holds};
 ghost use Rattle.just_config.specs.Cuts.{up_to_last, behind_last};
 
 /// What stands before the last one of the character, and behind it.

@@ -20,7 +20,7 @@ mod version;
 pub use config::Config;
 pub use config_error::ConfigError;
 pub use help::HELP;
-pub use just_words::{Arguments, Read, Subcommand, Usage, UsageKind, read_words};
+pub use just_config_words::{Arguments, Read, Subcommand, Usage, UsageKind, read_words};
 pub use positional::Positional;
 pub use request::{Request, Response};
 pub use search_config::SearchConfig;

@@ -3,8 +3,8 @@ ghost use Rattle.std.specs.Prelude.{◌≡◌, ◌++◌, [], map, codes, string_
 ghost use Rattle.std.specs.BTreeMap.{insert_entry};
 ghost use Rattle.just_config.specs.Listed.{set_all, variable_cmp, prefix_of, entry_text, listed};
 
-use just_lang::Override;
-use just_text::{NoMemory, Seq, Text};
+use just_lang_types::Override;
+use just_path_text::{NoMemory, Seq, Text};
 use std::alloc::Global;
 use std::collections::BTreeMap;
 

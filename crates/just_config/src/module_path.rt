@@ -1,12 +1,12 @@
 //! Module paths in words.
 ghost use Rattle.std.specs.Prelude.{ℕ, List, [], ◌∷◌, ◌≡◌, ◌<◌, ◌++◌, flat_map, length, IfOk, None, MatchOption};
-ghost use Rattle.just_words.specs.Cuts.{parts};
+ghost use Rattle.just_config_words.specs.Cuts.{parts};
 ghost use Rattle.just_config.specs.ModulePaths.{colon, outer_parts, is_name, has_blank, pieces, unless_empty, in_one_word, in_pieces, components_of, module_path, all_names};
 
-use just_lang::is_recipe_name;
-use just_text::{NoMemory, Seq, Text};
-use just_words::add_copies;
-use just_words::cut::{add_parts, cut};
+use just_config_words::add_copies;
+use just_config_words::cut::{add_parts, cut};
+use just_lang_types::is_recipe_name;
+use just_path_text::{NoMemory, Seq, Text};
 use std::alloc::Global;
 
 /// Whether a whole text is a name.

@@ -3,8 +3,8 @@ ghost use Rattle.std.specs.Prelude.{◌≡◌, ◌++◌, ◌∷◌, [], IfOk, So
 ghost use Rattle.just_config.specs.Config.{pairs_of, as_override, override_of, overrides_of, ill_override};
 
 use super::module_path::module_path;
-use just_lang::{Modulepath, Override};
-use just_text::{NoMemory, Seq, Text};
+use just_lang_types::{Modulepath, Override};
+use just_path_text::{NoMemory, Seq, Text};
 use std::alloc::Global;
 
 /// A name with its value.

@@ -3,9 +3,9 @@ ghost use Rattle.std.specs.Prelude.{◌≡◌, ◌∷◌, IfOk};
 ghost use Rattle.just_config.specs.Positional.{positional_of, is_dots, folder_of, argument_of, folder_in, arguments_in};
 
 use super::cut::cut_last;
-use just_text::{NoMemory, Seq, Text};
-use just_words::add_copies;
-use just_words::cut::cut;
+use just_config_words::add_copies;
+use just_config_words::cut::cut;
+use just_path_text::{NoMemory, Seq, Text};
 use std::alloc::Global;
 
 /// What positional words are.

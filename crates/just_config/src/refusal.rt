@@ -10,9 +10,9 @@ use super::listed::listed;
 use super::module_path::module_path;
 use super::request::is_one_request;
 use super::{Arguments, ConfigError, Positional, Subcommand};
-use just_lang::Override;
-use just_text::{NoMemory, Seq, Text};
-use just_words::add_copies;
+use just_config_words::add_copies;
+use just_lang_types::Override;
+use just_path_text::{NoMemory, Seq, Text};
 use std::alloc::Global;
 
 /// Whether there is an odd number of texts.

@@ -4,7 +4,7 @@ ghost use Rattle.serde_json.specs.View.{view};
 ghost use Rattle.serde_json.specs.Find.{get, as_str};
 ghost use Rattle.just_config.specs.Requests.{field, request_of, as_request, has_one_field, is_one_request, response_data};
 
-use just_text::{NoMemory, Seq, Text};
+use just_path_text::{NoMemory, Seq, Text};
 use serde_json::{Category, Map, Value};
 use std::alloc::Global;
 

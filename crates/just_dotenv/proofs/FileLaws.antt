@@ -1,9 +1,9 @@
 -- Texts: a text gives one list of pairs at most, and none where its lines stop before its end.
 use Rattle.std.proofs.Common.{◌≡◌, ℕ, ◌<◌, true, false, List, [], ◌∷◌, ◌++◌, length, Option, Some, None, Ok, Err, refl, sym, ap, ◌∙◌, subst}
 use Rattle.std.proofs.lemmas.Bool.{false≢true}
-use Rattle.just_read.specs.Place.{Place, AreMany, is_end}
-use Rattle.just_read.proofs.Laws.{one_value, one_place, bind_ok, ok_value, ok_place}
-use Rattle.just_read.specs.declared.error.ReadError.{ReadError}
+use Rattle.just_lang_read.specs.Place.{Place, AreMany, is_end}
+use Rattle.just_lang_read.proofs.Laws.{one_value, one_place, bind_ok, ok_value, ok_place}
+use Rattle.just_lang_read.specs.declared.error.ReadError.{ReadError}
 use Rattle.just_dotenv.specs.declared.error.DotenvError.{DotenvError}
 use Rattle.just_dotenv.specs.declared.error.DotenvError.TheVariants.{Line, NoMemory}
 use Rattle.just_dotenv.specs.Grammar.{Entry, IsLine}

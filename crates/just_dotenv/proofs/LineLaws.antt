@@ -3,10 +3,10 @@ use Rattle.std.proofs.Common.{◌≡◌, ℕ, ◌<◌, ◌≤◌, ◌==◌, Bool
 use Rattle.std.proofs.lemmas.Bool.{false≢true}
 use Rattle.std.proofs.lemmas.Slice.Eq.{bytes_eq-Decides}
 use Rattle.std.proofs.lemmas.Str.{cons_from_encodes}
-use Rattle.just_read.specs.Place.{Place, next, past, run, first_in, passes, starts, sees, is_end, is_empty}
-use Rattle.just_read.specs.Reader.{and_then, pure, expect}
-use Rattle.just_read.specs.declared.error.ReadError.TheVariants.{Syntax}
-use Rattle.just_read.proofs.Laws.{bind_ok, choose, ok_value, ok_place, expect_ok, expect_again, starts_seen, past_le, character_shorter, not_end_where_starts, length_before_end, not_end_of_length, length_at_end}
+use Rattle.just_lang_read.specs.Place.{Place, next, past, run, first_in, passes, starts, sees, is_end, is_empty}
+use Rattle.just_lang_read.specs.Reader.{and_then, pure, expect}
+use Rattle.just_lang_read.specs.declared.error.ReadError.TheVariants.{Syntax}
+use Rattle.just_lang_read.proofs.Laws.{bind_ok, choose, ok_value, ok_place, expect_ok, expect_again, starts_seen, past_le, character_shorter, not_end_where_starts, length_before_end, not_end_of_length, length_at_end}
 use Rattle.just_dotenv.specs.Characters.{is_blank, begins_name, in_name, in_line, number_sign, equals_sign, line_feed, carriage_return}
 use Rattle.just_dotenv.specs.Grammar.{behind_blanks, word, Entry, IsValue, IsAssignment, IsPair, IsNewline, IsRest, IsLine}
 use Rattle.just_dotenv.specs.Grammar.IsAssignment.{assigned}

@@ -1,9 +1,9 @@
 -- One part of a value: what the code reads is what the grammar says, and nothing else.
 use Rattle.std.proofs.Common.{◌≡◌, ℕ, ◌<◌, ◌≤◌, ◌==◌, Bool, true, false, not, ◌&&◌, ◌||◌, if◌then◌else◌, List, [], ◌∷◌, length, Option, Some, None, Ok, Err, encode_utf8_all, refl, sym, ◌∙◌, subst, ⊎_elim, arith}
 use Rattle.std.proofs.lemmas.Bool.{false≢true}
-use Rattle.just_read.specs.Place.{Place, AreMany, IsCharacter, next, past, run, first, starts, sees}
-use Rattle.just_read.specs.declared.error.ReadError.TheVariants.{Syntax}
-use Rattle.just_read.proofs.Laws.{choose, ok_value, ok_place, starts_at, starts_seen, sees_first, next_shorter, past_le, character_shorter, many_ok, many_again}
+use Rattle.just_lang_read.specs.Place.{Place, AreMany, IsCharacter, next, past, run, first, starts, sees}
+use Rattle.just_lang_read.specs.declared.error.ReadError.TheVariants.{Syntax}
+use Rattle.just_lang_read.proofs.Laws.{choose, ok_value, ok_place, starts_at, starts_seen, sees_first, next_shorter, past_le, character_shorter, many_ok, many_again}
 use Rattle.just_dotenv.specs.declared.part.Part.{Part}
 use Rattle.just_dotenv.specs.declared.part.Part.TheVariants.{Letter, Name, Braced, Gap, Sign}
 use Rattle.just_dotenv.specs.Characters.{in_word, in_value, is_plain, escape, dollar_sign, backslash, open_brace, close_brace}

@@ -1,9 +1,9 @@
 -- Values: what the code reads is what the grammar says, and nothing else.
 use Rattle.std.proofs.Common.{◌≡◌, ℕ, ◌≤◌, ◌==◌, Bool, true, false, not, ◌&&◌, if◌then◌else◌, List, [], length, map, Ok, Err, refl, sym, ap, ◌∙◌, subst, ⊎_elim, arith}
-use Rattle.just_read.specs.Place.{Place, AreMany, next, past, run, starts, sees}
-use Rattle.just_read.specs.Reader.{pure, expect}
-use Rattle.just_read.specs.declared.error.ReadError.TheVariants.{Syntax}
-use Rattle.just_read.proofs.Laws.{bind_ok, choose, ok_value, ok_place, expect_ok, expect_again, starts_seen, past_le, character_shorter}
+use Rattle.just_lang_read.specs.Place.{Place, AreMany, next, past, run, starts, sees}
+use Rattle.just_lang_read.specs.Reader.{pure, expect}
+use Rattle.just_lang_read.specs.declared.error.ReadError.TheVariants.{Syntax}
+use Rattle.just_lang_read.proofs.Laws.{bind_ok, choose, ok_value, ok_place, expect_ok, expect_again, starts_seen, past_le, character_shorter}
 use Rattle.just_dotenv.specs.declared.part.Part.{Part}
 use Rattle.just_dotenv.specs.declared.part.Part.TheVariants.{Letter}
 use Rattle.just_dotenv.specs.Characters.{is_blank, is_bare, in_single_quotes, in_value, single_quote, double_quote, number_sign}

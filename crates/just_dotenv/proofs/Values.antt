@@ -1,10 +1,10 @@
 -- Values: what a loop over parts has read, and what a single quoted value means.
 use Rattle.std.proofs.Common.{◌≡◌, ℕ, Bool, true, false, not, ◌&&◌, ◌||◌, if◌then◌else◌, List, [], ◌∷◌, ◌++◌, map, Ok, Err, encode_utf8, encode_utf8_all, append-nil, append_assoc, refl, ap, ◌∙◌}
-use Rattle.just_read.specs.Place.{Place, starts, past, run}
-use Rattle.just_read.specs.Reader.{Outcome, Reader, and_then, pure, expect}
-use Rattle.just_read.specs.declared.error.ReadError.{ReadError}
-use Rattle.just_read.specs.declared.error.ReadError.TheVariants.{Syntax}
-use Rattle.just_read.proofs.Laws.{many_end, many_more, many_wrong}
+use Rattle.just_lang_read.specs.Place.{Place, starts, past, run}
+use Rattle.just_lang_read.specs.Reader.{Outcome, Reader, and_then, pure, expect}
+use Rattle.just_lang_read.specs.declared.error.ReadError.{ReadError}
+use Rattle.just_lang_read.specs.declared.error.ReadError.TheVariants.{Syntax}
+use Rattle.just_lang_read.proofs.Laws.{many_end, many_more, many_wrong}
 use Rattle.just_dotenv.proofs.Parts.{read_shorter}
 use Rattle.just_dotenv.specs.declared.part.Part.{Part}
 use Rattle.just_dotenv.specs.declared.part.Part.TheVariants.{Letter}

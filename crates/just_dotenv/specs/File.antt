@@ -1,6 +1,6 @@
 -- Which pairs a text gives in an environment, and where a text that gives none goes wrong.
 use Rattle.std.specs.Prelude.{◌≡◌, ℕ, true, false, if◌then◌else◌, List, [], Option}
-use Rattle.just_read.specs.Place.{Place, AreMany, start, next, sees, is_end}
+use Rattle.just_lang_read.specs.Place.{Place, AreMany, start, next, sees, is_end}
 use Rattle.just_dotenv.specs.Characters.{byte_order_mark}
 use Rattle.just_dotenv.specs.declared.error.DotenvError.{DotenvError}
 use Rattle.just_dotenv.specs.declared.error.DotenvError.TheVariants.{Line, NoMemory}

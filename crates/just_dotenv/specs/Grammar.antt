@@ -1,7 +1,7 @@
 -- The grammar: which parts, values, pairs and lines stand between two places of a text.
 -- In this file p is where something begins, q is directly behind it, and m and n are places between the two.
 use Rattle.std.specs.Prelude.{◌≡◌, ℕ, Bool, true, false, not, ◌&&◌, ◌||◌, ◌==◌, List, [], ◌∷◌, map, Option, Some, None, codes, encode_utf8_all}
-use Rattle.just_read.specs.Place.{Place, AreMany, IsCharacter, next, past, run, first, starts, sees, is_end}
+use Rattle.just_lang_read.specs.Place.{Place, AreMany, IsCharacter, next, past, run, first, starts, sees, is_end}
 use Rattle.just_dotenv.specs.declared.part.Part.{Part}
 use Rattle.just_dotenv.specs.declared.part.Part.TheVariants.{Letter, Name, Braced, Gap, Sign}
 use Rattle.just_dotenv.specs.Characters.{is_blank, begins_name, in_word, in_name, in_line, in_single_quotes, is_bare, is_plain, escape, dollar_sign, backslash, open_brace, close_brace, single_quote, double_quote, number_sign, equals_sign, line_feed, carriage_return}

@@ -1,6 +1,6 @@
 -- What the entries of a text mean: their values with each `$NAME` and `${NAME}` looked up.
 use Rattle.std.specs.Prelude.{ℕ, List, [], ◌∷◌, ◌++◌, flat_map, Option, Some, None, encode_utf8}
-use Rattle.just_text.specs.Environ.{or_else, value_of}
+use Rattle.just_path_text.specs.Environ.{or_else, value_of}
 use Rattle.just_dotenv.specs.Characters.{dollar_sign}
 use Rattle.just_dotenv.specs.declared.part.Part.{Part}
 use Rattle.just_dotenv.specs.declared.part.Part.TheVariants.{Letter, Name, Braced, Gap, Sign}

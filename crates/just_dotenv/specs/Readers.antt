@@ -1,9 +1,9 @@
 -- What the code reads from a place on, step by step. That this is what the grammar says is proved in proofs/.
 use Rattle.std.specs.Prelude.{◌≡◌, ℕ, Bool, true, false, not, ◌&&◌, ◌||◌, ◌==◌, if◌then◌else◌, List, [], ◌∷◌, map, Option, Some, None, Result, Ok, Err, codes, encode_utf8_all, bytes_eq}
-use Rattle.just_read.specs.Place.{Place, next, past, run, first, starts, sees, is_end}
-use Rattle.just_read.specs.Reader.{Outcome, Reader, ◌>>=◌, ◌>>◌, pure, refuse, expect, many}
-use Rattle.just_read.specs.declared.error.ReadError.{ReadError}
-use Rattle.just_read.specs.declared.error.ReadError.TheVariants.{Syntax}
+use Rattle.just_lang_read.specs.Place.{Place, next, past, run, first, starts, sees, is_end}
+use Rattle.just_lang_read.specs.Reader.{Outcome, Reader, ◌>>=◌, ◌>>◌, pure, refuse, expect, many}
+use Rattle.just_lang_read.specs.declared.error.ReadError.{ReadError}
+use Rattle.just_lang_read.specs.declared.error.ReadError.TheVariants.{Syntax}
 use Rattle.just_dotenv.specs.declared.error.DotenvError.{DotenvError}
 use Rattle.just_dotenv.specs.declared.error.DotenvError.TheVariants.{Line, NoMemory}
 use Rattle.just_dotenv.specs.declared.part.Part.{Part}

@@ -2,7 +2,7 @@
 ghost use Rattle.std.specs.Prelude.{◌≡◌};
 ghost use Rattle.just_dotenv.specs.Characters.{is_plain, in_value};
 
-use just_read::Class;
+use just_lang_read::Class;
 
 /// A space or a tab.
 pub struct Blank;

@@ -6,8 +6,8 @@ ghost use Rattle.just_dotenv.specs.Readers.{as_line, line, ReadsLine};
 use super::DotenvError;
 use super::line::read_line;
 use super::scope::Scope;
-use just_read::{Cursor, ReadError};
-use just_text::{Environ, Seq, Text};
+use just_lang_read::{Cursor, ReadError};
+use just_path_text::{Environ, Seq, Text};
 use std::alloc::{AllocError, Global};
 
 /// Answers the pairs of a dotenv text, in its order, one for each line that has one. A name that stands twice has two pairs.

@@ -1,7 +1,7 @@
 //! Lines, and the pair that one may have.
 ghost use Rattle.std.specs.Prelude.{◌≡◌, Ok, encode_utf8_all};
-ghost use Rattle.just_read.specs.Place.{past, run};
-ghost use Rattle.just_read.specs.Reader.{Reads};
+ghost use Rattle.just_lang_read.specs.Place.{past, run};
+ghost use Rattle.just_lang_read.specs.Reader.{Reads};
 ghost use Rattle.just_dotenv.specs.Characters.{in_name};
 ghost use Rattle.just_dotenv.specs.Grammar.{word};
 ghost use Rattle.just_dotenv.specs.Readers.{as_pair, as_line, assignment, pair, newline, rest, line};
@@ -9,8 +9,8 @@ ghost use Rattle.just_dotenv.specs.Readers.{as_pair, as_line, assignment, pair, 
 use super::characters::{Blank, InLine, InName, NameStart};
 use super::scope::Scope;
 use super::value::value;
-use just_read::{Cursor, ReadError};
-use just_text::Text;
+use just_lang_read::{Cursor, ReadError};
+use just_path_text::Text;
 use std::alloc::Global;
 
 /// The longest run of characters of a name.

@@ -1,14 +1,14 @@
 //! The parts of a bare or double quoted value.
 ghost use Rattle.std.specs.Prelude.{◌≡◌, ◌++◌, IfOk, string_bytes};
-ghost use Rattle.just_read.specs.Reader.{Reads};
+ghost use Rattle.just_lang_read.specs.Reader.{Reads};
 ghost use Rattle.just_dotenv.specs.Meaning.{part_text};
 ghost use Rattle.just_dotenv.specs.Readers.{part, dollar, brace, escape_at, waits};
-ghost use Rattle.just_read.specs.Place.{next};
+ghost use Rattle.just_lang_read.specs.Place.{next};
 
 use super::characters::{InWord, is_plain};
 use super::scope::Scope;
-use just_read::{Cursor, ReadError};
-use just_text::Text;
+use just_lang_read::{Cursor, ReadError};
+use just_path_text::Text;
 use std::alloc::{AllocError, Global};
 
 /// One part of a double quoted or bare value, as it is written.

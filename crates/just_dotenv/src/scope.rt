@@ -1,9 +1,9 @@
 //! Where a value looks names up.
 ghost use Rattle.std.specs.Prelude.{◌≡◌, option_copied};
-ghost use Rattle.just_text.specs.Environ.{value_of};
+ghost use Rattle.just_path_text.specs.Environ.{value_of};
 ghost use Rattle.just_dotenv.specs.Meaning.{value_in_scope};
 
-use just_text::{Environ, Text};
+use just_path_text::{Environ, Text};
 
 /// Where names are looked up: the environment, and the pairs that stand earlier in the text.
 #[derive(Drop)]

@@ -1,15 +1,15 @@
 //! Values: single quoted, double quoted, and bare.
 ghost use Rattle.std.specs.Prelude.{◌≡◌, ◌&&◌, not};
-ghost use Rattle.just_read.specs.Place.{starts, sees};
-ghost use Rattle.just_read.specs.Reader.{Reads};
+ghost use Rattle.just_lang_read.specs.Place.{starts, sees};
+ghost use Rattle.just_lang_read.specs.Reader.{Reads};
 ghost use Rattle.just_dotenv.specs.Characters.{in_value, is_bare, is_blank, number_sign};
 ghost use Rattle.just_dotenv.specs.Readers.{as_text, closed_parts, single_quoted_value, double_quoted_value, value};
 
 use super::characters::{Bare, Blank, InSingleQuotes, is_in_value};
 use super::part::read_part;
 use super::scope::Scope;
-use just_read::{Cursor, ReadError};
-use just_text::Text;
+use just_lang_read::{Cursor, ReadError};
+use just_path_text::Text;
 use std::alloc::Global;
 
 /// Whether a double quoted or bare value goes on here.

@@ -1,2 +1,16 @@
--- Laws of what surrounds a justfile.
+-- The lemmas of -- Laws of what surrounds a justfile, how dotenv files are loaded, and commands run for their pairs, what changes in an environment.
 pub mod Laws
+pub mod Record
+pub mod Running
+pub mod OneFile
+pub mod Gathered
+pub mod Climbs
+pub mod Commanding
+pub mod Owned
+pub mod Turning
+pub mod Stopped
+pub mod Agreed
+pub mod Alone
+mod Bound
+mod Lookups
+mod Put

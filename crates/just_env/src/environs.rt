@@ -4,9 +4,9 @@ ghost use Rattle.std.specs.Prelude.{◌≡◌, ◌++◌};
 ghost use Rattle.just_env.specs.Answers.{Answers, GivesEnviron, told_entries};
 
 use super::SearchError;
-use just_outside::{Host, HostFault};
+use just_host_record::{Host, HostFault};
 use just_path::Utf8PathBuf;
-use just_text::Environ;
+use just_path_text::Environ;
 use std::alloc::Global;
 
 /// The environment of a host. A failure has the empty path.

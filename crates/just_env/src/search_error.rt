@@ -3,10 +3,10 @@
 ghost use Rattle.std.specs.Prelude.{◌≡◌};
 ghost use Rattle.just_env.specs.declared.search_error.SearchError.TheVariants.{NoMemory as OutOfMemory};
 
-use just_lang::project::LangError;
-use just_outside::HostFault;
+use just_host_record::HostFault;
+use just_lang_types::project::LangError;
 use just_path::Utf8PathBuf;
-use just_text::{NoMemory, Seq, Text};
+use just_path_text::{NoMemory, Seq, Text};
 use std::alloc::{AllocError, AllocFailed};
 
 /// Why a justfile can't be found or loaded. No fault of a host that a variant holds is want of memory.

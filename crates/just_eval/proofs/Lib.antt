@@ -1,6 +1,26 @@
--- The lemmas of evaluation.
-pub mod Shares
-pub mod GivenValues
-pub mod EntryLists
-pub mod Ends
-pub mod Keys
+-- The lemmas of variables, lines.
+pub mod Agree
+pub mod Leading
+pub mod Evaluating
+pub mod Final
+pub mod GivenTexts
+pub mod Lists
+pub mod NamesIn
+pub mod Numbers
+pub mod Only
+pub mod Order
+pub mod Settling
+pub mod Sorted
+pub mod Told
+pub mod Targets
+pub mod Unique
+pub mod UnknownVariables
+pub mod Marks
+pub mod Pieces
+pub mod Joins
+pub mod Signs
+pub mod Fronts
+pub mod Texts
+pub mod Commands
+pub mod Kept
+pub mod Recipes

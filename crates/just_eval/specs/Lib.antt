@@ -1,6 +1,9 @@
--- The definitions that the contracts of evaluation cite.
-pub mod Dependencies
-pub mod Entries
-pub mod Requests
-pub mod Ends
-pub mod Closures
+-- The definitions of the contracts of variables cite, the contracts of lines cite.
+pub mod Uses
+pub mod Overrides
+pub mod Outcomes
+pub mod Evaluations
+pub mod Numbers
+pub mod Partial
+pub mod Bodies
+pub mod Parts

@@ -1,20 +1,21 @@
-//! What a request asks of a project: the keys that its words, its recipes and their dependencies name, and the closure of
-//! these keys.
+//! The variables of a project, each evaluated once, and the lines of a recipe's body with the values in them.
 #![tactic(auto)]
 
-mod argument;
-mod around;
-mod closing;
-mod entries;
-mod entry;
-mod given;
-mod index;
-mod request;
+mod body;
+mod command;
+mod constants;
+mod continuation;
+mod ending;
+mod evaluation;
+mod names;
+mod overrides;
+mod part;
+mod scopes;
+mod settled;
+mod sigils;
+mod text;
 
-pub use argument::text_in_recipe;
-pub use around::dependencies;
-pub use closing::{closure, closure_within};
-pub use entries::levels;
-pub use entry::{Entry, Index};
-pub use just_closure::{CLOSURE_LIMIT, Ran};
-pub use request::Request;
+pub use body::{body_lines, lines_of};
+pub use ending::is_ending;
+pub use evaluation::evaluate;
+pub use just_lang_types::BodyLine;

@@ -5,7 +5,7 @@ use Rattle.std.specs.Prelude.{String, Bool, true, false, not, IsTrue, ◌↔◌}
 use Rattle.std.specs.declared.alloc.Global.{Global}
 use Rattle.std.specs.Fn.{CalledAt, Mut}
 use denote.Ref.{Bor}
-use Rattle.just_text.specs.declared.memory.NoMemory.{NoMemory}
+use Rattle.just_path_text.specs.declared.memory.NoMemory.{NoMemory}
 use Rattle.just_expand.specs.Code.{AnswersWithMemory}
 use Rattle.just_expand.specs.Contexts.{reply_of}
 use Rattle.std.proofs.lemmas.Fn.{FoldsTo-push}

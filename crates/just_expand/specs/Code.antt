@@ -2,7 +2,7 @@
 use Rattle.std.specs.Prelude.{◌≡◌, ◌++◌, ℕ, List, Option, Result, Ok, Err, string_bytes}
 use Rattle.std.specs.Prelude.{String}
 use denote.Ref.{Bor}
-use Rattle.just_text.specs.declared.memory.NoMemory.{NoMemory}
+use Rattle.just_path_text.specs.declared.memory.NoMemory.{NoMemory}
 use Rattle.std.specs.declared.alloc.Global.{Global}
 use Rattle.std.specs.Fn.{CalledAt, Mut}
 use Rattle.just_expand.specs.Pieces.{Piece, plain, dollar, bare, braced, defaulted, unclosed, lone}

@@ -7,10 +7,10 @@ use Rattle.std.specs.declared.alloc.Global.{Global}
 use Rattle.std.specs.declared.borrow.CowStr.{CowStr}
 use Rattle.std.specs.declared.convert.Infallible.{Infallible}
 use denote.Ref.{Bor}
-use Rattle.just_text.specs.declared.memory.NoMemory.{NoMemory}
+use Rattle.just_path_text.specs.declared.memory.NoMemory.{NoMemory}
 use Rattle.just_expand.specs.Expansion.{Reply, ExpandsTo, FailsAt}
 use Rattle.just_expand.specs.Tilde.{FullyExpandsTo}
-use Rattle.just_text.specs.Environ.{value_of}
+use Rattle.just_path_text.specs.Environ.{value_of}
 use Rattle.just_expand.specs.declared.error.NotPresent.{NotPresent}
 use Rattle.just_expand.specs.declared.error.Expand.{Expand}
 use Rattle.just_expand.specs.declared.error.Expand.TheVariants as expand

@@ -1,7 +1,7 @@
 //! What an expansion may be refused for.
 ghost use Rattle.std.specs.Prelude.{◌≡◌, Some, codes};
 
-use just_text::NoMemory;
+use just_path_text::NoMemory;
 use std::alloc::AllocError;
 use std::error::Error;
 use std::fmt;

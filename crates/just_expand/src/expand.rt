@@ -10,7 +10,7 @@ ghost use Rattle.just_expand.specs.Contexts.{reply_of, IsCause, IsExpansion};
 
 use crate::error::{Expand, LookupError};
 use crate::piece::{Piece, split_piece};
-use just_text::NoMemory;
+use just_path_text::NoMemory;
 use std::alloc::{AllocError, Global};
 use std::borrow::CowStr;
 

@@ -2,7 +2,7 @@
 ghost use Rattle.std.specs.Prelude.{◌≡◌, ◌∷◌, List, ℕ, Ok, IfOk};
 ghost use Rattle.std.specs.Fn.{TakesAt};
 ghost use Rattle.std.specs.Cow.{cow_str_bytes, IsBorrowedStr};
-ghost use Rattle.just_text.specs.Environ.{home_of};
+ghost use Rattle.just_path_text.specs.Environ.{home_of};
 ghost use Rattle.just_expand.specs.Bytes.{dollar_sign, tilde_sign};
 ghost use Rattle.just_expand.specs.Pieces.{Lacks, BeginsWithout, HasOneCut};
 ghost use Rattle.just_expand.specs.Expansion.{MayAsk, ExpandsTo, AsksNothing};
@@ -12,7 +12,7 @@ ghost use Rattle.just_expand.specs.Contexts.{Answers, AnswersWithoutError, Envir
 use crate::error::{Expand, NotPresent};
 use crate::texts::{env, env_with_context, env_with_context_no_errors};
 use crate::tildes::{ask_home, behind_own_tilde, behind_tilde, put_home};
-use just_text::{Environ, NoMemory};
+use just_path_text::{Environ, NoMemory};
 use std::alloc::Global;
 use std::borrow::CowStr;
 

@@ -10,7 +10,7 @@
 //! ```
 ghost use Rattle.std.specs.Prelude.{◌≡◌, ◌∷◌, List, ℕ, IfOk};
 ghost use Rattle.std.specs.Fn.{TakesAt};
-ghost use Rattle.just_text.specs.Environ.{home_of};
+ghost use Rattle.just_path_text.specs.Environ.{home_of};
 ghost use Rattle.just_path.specs.Path.{text_of};
 ghost use Rattle.just_expand.specs.Bytes.{dollar_sign, tilde_sign};
 ghost use Rattle.just_expand.specs.Pieces.{Lacks, BeginsWithout, HasOneCut};
@@ -24,7 +24,7 @@ use crate::error::{Expand, NotPresent};
 pub use crate::texts::{WInput, Wstr};
 use crate::{home, texts};
 use just_path::{Utf8Path, Utf8PathBuf};
-use just_text::{Environ, NoMemory};
+use just_path_text::{Environ, NoMemory};
 use std::alloc::Global;
 use std::borrow::CowStr;
 

@@ -2,7 +2,7 @@
 ghost use Rattle.std.specs.Prelude.{◌≡◌, Ok, IfOk};
 ghost use Rattle.std.specs.Cow.{IsBorrowedStr};
 ghost use Rattle.std.specs.Fn.{TakesAt, CalledAt};
-ghost use Rattle.just_text.specs.Environ.{value_of};
+ghost use Rattle.just_path_text.specs.Environ.{value_of};
 ghost use Rattle.just_expand.specs.Bytes.{dollar_sign};
 ghost use Rattle.just_expand.specs.Pieces.{Lacks, HasOneCut};
 ghost use Rattle.just_expand.specs.Expansion.{MayAsk, AsksNothing};
@@ -11,7 +11,7 @@ ghost use Rattle.just_expand.specs.Contexts.{Answers, AnswersWithoutError, Envir
 
 use crate::error::{Expand, NotPresent};
 use crate::expand::expand_text;
-use just_text::{Environ, NoMemory};
+use just_path_text::{Environ, NoMemory};
 use std::alloc::Global;
 use std::borrow::CowStr;
 use std::convert::Infallible;

@@ -5,16 +5,16 @@ use Rattle.std.proofs.lemmas.Option.{slice_get_read, get_or_from_slice_get}
 use Rattle.just_path.specs.View.{View, meta_told}
 use Rattle.just_path.specs.declared.host.Miss.{Miss}
 use Rattle.just_path.specs.declared.meta.Meta.{Meta}
-use Rattle.just_outside.specs.Changes.{is_not_found}
-use Rattle.just_outside.specs.declared.entry.Call.{Call}
-use Rattle.just_outside.specs.declared.entry.Entry.{Entry}
-use Rattle.just_outside.specs.declared.entry.HostFault.{HostFault}
-use Rattle.just_outside.specs.declared.entry.HostFault.TheVariants as fault
-use Rattle.just_outside.specs.Looks.{is_missing, first_missing, absent_or, absent_at, ChecksTo, ShowsMiss}
-use Rattle.just_outside.specs.Record.{refused}
-use Rattle.just_tree.specs.declared.sights.TreeFault.{TreeFault}
-use Rattle.just_tree.specs.declared.sights.TreeFault.TheVariants as tree_fault
-use Rattle.just_tree.specs.Trees.{Shows}
+use Rattle.just_host_record.specs.Changes.{is_not_found}
+use Rattle.just_host_record.specs.declared.entry.Call.{Call}
+use Rattle.just_host_record.specs.declared.entry.Entry.{Entry}
+use Rattle.just_host_record.specs.declared.entry.HostFault.{HostFault}
+use Rattle.just_host_record.specs.declared.entry.HostFault.TheVariants as fault
+use Rattle.just_host_record.specs.Looks.{is_missing, first_missing, absent_or, absent_at, ChecksTo, ShowsMiss}
+use Rattle.just_host_record.specs.Record.{refused}
+use Rattle.just_host_memory.specs.declared.sights.TreeFault.{TreeFault}
+use Rattle.just_host_memory.specs.declared.sights.TreeFault.TheVariants as tree_fault
+use Rattle.just_host_memory.specs.Trees.{Shows}
 use Rattle.just_host.specs.Mem.{IsFailureOf, IsHostFaultOf}
 use Rattle.just_host.proofs.Positions.{position_inside}
 

@@ -1,9 +1,9 @@
 -- What calls make of the world that a host in memory tells.
 use Rattle.std.proofs.Common.{◌≡◌, Some, refl, ap}
-use Rattle.just_outside.specs.declared.entry.Call.{Call}
-use Rattle.just_outside.specs.declared.entry.HostFault.{HostFault}
-use Rattle.just_outside.specs.declared.entry.HostFault.TheVariants as fault
-use Rattle.just_outside.specs.World.{World, FaultLeaves}
+use Rattle.just_host_record.specs.declared.entry.Call.{Call}
+use Rattle.just_host_record.specs.declared.entry.HostFault.{HostFault}
+use Rattle.just_host_record.specs.declared.entry.HostFault.TheVariants as fault
+use Rattle.just_host_record.specs.World.{World, FaultLeaves}
 use Rattle.just_host.specs.Mem.{IsFailureOf}
 
 -- a child that wasn't run as it was planned left all as it was

@@ -5,20 +5,20 @@ use Rattle.just_path.specs.declared.host.Miss.{Miss}
 use Rattle.just_path.specs.declared.host.PathFault.{PathFault}
 use Rattle.just_path.specs.declared.host.PathFault.TheVariants as path_fault
 use Rattle.just_path.specs.declared.host.PathNote.{PathNote}
-use Rattle.just_outside.specs.declared.entry.Call.{Call}
-use Rattle.just_outside.specs.declared.entry.Entry.{Entry}
-use Rattle.just_outside.specs.declared.entry.HostFault.{HostFault}
-use Rattle.just_outside.specs.declared.entry.HostFault.TheVariants as fault
+use Rattle.just_host_record.specs.declared.entry.Call.{Call}
+use Rattle.just_host_record.specs.declared.entry.Entry.{Entry}
+use Rattle.just_host_record.specs.declared.entry.HostFault.{HostFault}
+use Rattle.just_host_record.specs.declared.entry.HostFault.TheVariants as fault
 use Rattle.just_host.specs.declared.memory.MemHost.{MemHost}
-use Rattle.just_tree.specs.declared.plot.Faults.{Faults}
-use Rattle.just_outside.specs.declared.entry.Status.{Status}
-use Rattle.just_outside.specs.Record.{noted, IsMissOf}
-use Rattle.just_tree.specs.declared.sights.TreeFault.{TreeFault}
-use Rattle.just_tree.specs.declared.sights.TreeFault.TheVariants as tree_fault
-use Rattle.just_tree.specs.Playing.{ending_of, others, tree_after, next_call}
-use Rattle.just_tree.specs.Trees.{files_of}
-use Rattle.just_outside.specs.Logs.{entries_of, spare_of}
-use Rattle.just_outside.specs.World.{World}
+use Rattle.just_host_memory.specs.declared.plot.Faults.{Faults}
+use Rattle.just_host_record.specs.declared.entry.Status.{Status}
+use Rattle.just_host_record.specs.Record.{noted, IsMissOf}
+use Rattle.just_host_memory.specs.declared.sights.TreeFault.{TreeFault}
+use Rattle.just_host_memory.specs.declared.sights.TreeFault.TheVariants as tree_fault
+use Rattle.just_host_memory.specs.Playing.{ending_of, others, tree_after, next_call}
+use Rattle.just_host_memory.specs.Trees.{files_of}
+use Rattle.just_host_record.specs.Logs.{entries_of, spare_of}
+use Rattle.just_host_record.specs.World.{World}
 
 -- the record of a host in memory
 abbrev pub record_of : MemHost → List Entry

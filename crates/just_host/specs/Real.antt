@@ -1,2 +1,2 @@
 -- What is known of the host of this process.
-pub use Rattle.just_system.specs.Real.{record_of}
+pub use Rattle.just_host_system.specs.Real.{record_of}

@@ -1,15 +1,15 @@
 //! A host in memory whose first child is held until a second one was started: it shows whether children run side by side.
 ghost use Rattle.std.specs.Prelude.{◌≡◌, Some, refl, option_map, IfOk};
-ghost use Rattle.just_outside.specs.Record.{faults_of, misses_of};
-ghost use Rattle.just_outside.specs.Logs.{spare_of};
-ghost use Rattle.just_outside.specs.World.{view_of};
-ghost use Rattle.just_outside.proofs.Laws.{counts_noted};
+ghost use Rattle.just_host_record.specs.Record.{faults_of, misses_of};
+ghost use Rattle.just_host_record.specs.Logs.{spare_of};
+ghost use Rattle.just_host_record.specs.World.{view_of};
+ghost use Rattle.just_host_record.proofs.Laws.{counts_noted};
 ghost use Rattle.just_host.specs.Mem.{record_of, world_of, Went};
 
 use super::memory::{MemChild, MemDone, MemHost};
-use just_outside::{Entry, Host, HostFault, Look, Spec, Status, Stream};
+use just_host_record::{Entry, Host, HostFault, Look, Spec, Status, Stream};
 use just_path::{Item, Meta, PathFault, PathHost, Utf8Path, Utf8PathBuf};
-use just_text::{Environ, NoMemory, Seq, Text};
+use just_path_text::{Environ, NoMemory, Seq, Text};
 use std::sync::Arc;
 use std::sync::atomic::{AtomicBool, Ordering};
 

@@ -5,28 +5,30 @@ ghost use Rattle.just_path.specs.Comps.{slash};
 ghost use Rattle.just_path.specs.Host.{note_of, note_of_fault};
 ghost use Rattle.just_path.specs.View.{place_under, AreInOrder, AreNamesInOrder, Told, TellsItems, TellsNames, meta_told, canonical_told, link_told};
 ghost use Rattle.just_path.specs.declared.host.PathCall.{PathCall};
-ghost use Rattle.just_outside.specs.declared.entry.Entry.{Entry};
-ghost use Rattle.just_outside.specs.declared.entry.Status.{Status};
-ghost use Rattle.just_outside.specs.declared.outside.TheConstants.{MAX_BYTES};
-ghost use Rattle.just_outside.specs.Record.{noted, gained, refused, IsOwn, NeverMissed, children, faults_of, misses_of, settled_entry, settled_answer, text_or_empty, script_folder, IsStartFault, IsCaptureFault};
-ghost use Rattle.just_outside.specs.Logs.{entries_of, spare_of};
-ghost use Rattle.just_outside.specs.World.{view_of, ReadTells, Touched, Leaves};
-ghost use Rattle.just_outside.specs.Changes.{place_written, written, with_cache_entry, IsOfEntry, Changes};
-ghost use Rattle.just_outside.specs.Folders.{TempTells, Removes};
-ghost use Rattle.just_outside.specs.NewFolders.{with_folder, IsOfFolder};
-ghost use Rattle.just_outside.specs.Looks.{dash, TellsAnswer, told_input, told_sum, told_check, LookTells, ChecksTo};
-ghost use Rattle.just_tree.specs.Trees.{files_of};
+ghost use Rattle.just_host_record.specs.declared.entry.Entry.{Entry};
+ghost use Rattle.just_host_record.specs.declared.entry.Status.{Status};
+ghost use Rattle.just_host_record.specs.declared.outside.TheConstants.{MAX_BYTES};
+ghost use Rattle.just_host_record.specs.Record.{noted, gained, refused, IsOwn, NeverMissed, children, faults_of, misses_of, settled_entry, settled_answer, text_or_empty, script_folder, IsStartFault, IsCaptureFault};
+ghost use Rattle.just_host_record.specs.Logs.{entries_of, spare_of};
+ghost use Rattle.just_host_record.specs.World.{view_of, ReadTells, Touched, Leaves};
+ghost use Rattle.just_host_record.specs.Changes.{place_written, written, with_cache_entry, IsOfEntry, Changes};
+ghost use Rattle.just_host_record.specs.Folders.{TempTells, Removes};
+ghost use Rattle.just_host_record.specs.NewFolders.{with_folder, IsOfFolder};
+ghost use Rattle.just_host_record.specs.Looks.{dash, TellsAnswer, told_input, told_sum, told_check, LookTells, ChecksTo};
+ghost use Rattle.just_host_memory.specs.Trees.{files_of};
 ghost use Rattle.just_host.specs.Mem.{record_of, world_of, Went, OnlyNotes, OnlyFiles, Answers, answer_in, Plays, Runs, IsFaultOf, IsHostFaultOf, IsFailureOf, is_struck, is_wait_struck, waited_for, FailsIf, PathFailsIf};
-ghost use Rattle.just_tree.specs.Playing.{next_call, word_of, ending_of, status_of, output_of};
-ghost use Rattle.just_outside.proofs.Laws.{counts_noted};
+ghost use Rattle.just_host_memory.specs.Playing.{next_call, word_of, ending_of, status_of, output_of};
+ghost use Rattle.just_host_record.proofs.Laws.{counts_noted};
 
-use just_files::{copied_bytes, copies_of, path_or_empty};
-use just_outside::{
+use just_host_files::{copied_bytes, copies_of, path_or_empty};
+use just_host_memory::{
+    Ending, Faults, Place, Plot, Tree, TreeFault, copied_text, output_of, word_of,
+};
+use just_host_record::{
     Call, Entry, Host, HostFault, Log, Look, MAX_BYTES, Signal, Spec, Status, Stream, boxed_copy,
 };
 use just_path::{Item, Meta, Miss, PathCall, PathFault, PathHost, Utf8Path, Utf8PathBuf};
-use just_text::{Environ, NoMemory, Seq, Text, TryClone};
-use just_tree::{Ending, Faults, Place, Plot, Tree, TreeFault, copied_text, output_of, word_of};
+use just_path_text::{Environ, NoMemory, Seq, Text, TryClone};
 use std::alloc::Global;
 
 /// A host in memory, which does what its plot says. It tells its world.

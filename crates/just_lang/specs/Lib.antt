@@ -1,6 +1,18 @@
--- The definitions that the contracts of justfiles and their closures cite.
-pub mod Constants
-pub mod Keys
-pub mod Names
-pub mod References
-pub mod Trees
+-- The definitions of this crate.
+pub mod Cycles
+pub mod CycleTables
+pub mod Disabling
+pub mod DisablingTables
+pub mod SpotOrder
+pub mod Order
+pub mod Rules
+pub mod Errors
+pub mod Projects
+pub mod Befores
+pub mod Linked
+pub mod Tables
+pub mod Assembled
+pub mod Sound
+pub mod SoundLinks
+pub mod SoundRules
+pub mod SoundProjects

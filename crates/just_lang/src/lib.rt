@@ -1,35 +1,26 @@
-//! The justfile: its tree and its shapes, and why a project or a request of its recipes is refused.
+//! The justfile of a project's sources, or the first rule that they break; when it is sound.
 #![tactic(auto)]
 
-mod constants;
-mod error;
-mod key;
-mod name;
-mod node;
-mod place;
-mod position;
-pub mod project;
+mod before;
+mod circular;
+mod disabled;
+mod errors;
+mod first;
+mod law;
+mod names;
+mod paths;
+mod project;
 mod recipe;
-mod reference;
-mod same;
-mod scope;
-mod settings;
-mod source;
+mod rule;
+mod sources;
+mod steps;
+mod tables;
+mod variable;
 
-pub use constants::constant;
-pub use error::{CompileError, CompileKind};
-pub use just_syntax::{
-    Argument, Ast, AstDependency, AstItem, AstParameter, AstRecipe, Attribute, Comparison, Expr,
-    Fragment, Line, Name, ParameterKind, Quote, SettingValue, StringLiteral,
-};
-pub use key::{Key, Value};
-pub use name::is_recipe_name;
-pub use node::{BodyLine, Closure, Node};
-pub use place::Place;
-pub use position::Position;
-pub use project::{Justfile, LangError};
-pub use recipe::{Dependency, Modulepath, Parameter, Pattern, Recipe};
-pub use reference::{FileKind, FileRef, references};
-pub use scope::{Alias, Assignment, Binding, Disabled, DotenvOf, Level, Override, Scope, Scopes};
-pub use settings::{Interpreter, Settings};
-pub use source::{Source, parse};
+pub use disabled::{Disabling, causes, modules_of_alias, modules_of_recipe};
+pub use errors::{check_rules, error_of_files};
+pub use law::projects_are_sound;
+pub use project::first_broken;
+pub use recipe::{Recipes, StandingRecipe, circular_recipe, standing_recipes};
+pub use sources::assemble;
+pub use variable::circular_variable;

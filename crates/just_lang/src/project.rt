@@ -1,182 +1,71 @@
-//! The justfile that a project's files make, and why a project or a request of it is refused.
+//! The first rule that sources break.
+ghost use Rattle.std.specs.Prelude.{◌≢◌, IfOk, IfErr};
+ghost use Rattle.just_lang_types.specs.declared.project.LangError.{LangError};
+ghost use Rattle.just_lang_spots.specs.Importers.{AreImporters};
+ghost use Rattle.just_lang_names.specs.Names.{AreNames, layout_of, wins_of};
+ghost use Rattle.just_lang.specs.Errors.{BreaksNone, IsErrorIn};
+ghost use Rattle.just_lang.specs.Projects.{HasNone, HasError, AreWell, IsFirstError};
 
-ghost use Rattle.std.specs.Prelude.{◌≡◌};
-ghost use Rattle.just_lang.specs.declared.project.LangError.TheVariants.{NoMemory as OutOfMemory};
+use super::errors::{check_rules, error_of_files};
+use crate::standing_recipes;
+use just_lang_layout::{Layout, lay};
+use just_lang_names::{Names, names_of};
+use just_lang_spots::winners_of;
+use just_lang_types::Source;
+use just_lang_types::project::LangError;
+use just_path_text::{Environ, Seq};
+use std::alloc::Global;
 
-use super::{Alias, Assignment, CompileError, Disabled, Modulepath, Parameter, Recipe, Settings};
-use just_path::Utf8PathBuf;
-use just_text::{NoMemory, Seq, Text};
-use std::alloc::{AllocError, AllocFailed};
-
-/// A module of a project: what its file and the files that it imports say. The root module is the whole project.
-#[derive(Drop)]
-pub struct Justfile {
-    /// The names that lead here from the root, which has none.
-    pub module_path: Modulepath,
-    /// The path of its file.
-    pub source: Utf8PathBuf,
-    pub settings: Settings,
-    /// The variables that stand, in the order of the sources.
-    pub assignments: Seq<Assignment>,
-    pub unexports: Seq<Text>,
-    /// The recipes that stand, in the order of the sources, those of `disabled_recipes` too. A dependency's path begins at the root.
-    pub recipes: Seq<Recipe>,
-    /// The further names of recipes; a target's path begins at the root.
-    pub recipe_aliases: Seq<Alias>,
-    pub modules: Seq<Justfile>,
-    /// The further names of modules; a target's path begins at the root.
-    pub module_aliases: Seq<Alias>,
-    /// The modules that may be missing and are.
-    pub absent_modules: Seq<Text>,
-    /// The recipes that can't be run, since they lead to an absent module.
-    pub disabled_recipes: Seq<Disabled>,
-    pub disabled_aliases: Seq<Disabled>,
-    /// The groups that the module's declaration names.
-    pub groups: Seq<Text>,
-    /// What a listing says of it.
-    pub doc: Option<Text>,
+/// Refuses the first rule that a project breaks whose names these are.
+#[tactic(auto, using(crate::proofs::ProjectLaws::same_none, crate::proofs::ProjectLaws::same_error))]
+fn check_names(alloc: Global, environ: &Environ, names: &Names<'_>) -> Result<(), LangError>
+    requires { AreNames names.now }
+    ensures none { IfOk result (λ _. BreaksNone environ.now.pairs (wins_of names.now) (layout_of names.now)) }
+    ensures refused { IfErr result (λ e. e ≢ LangError.NoMemory → IsErrorIn environ.now.pairs (wins_of names.now) (layout_of names.now) e) }
+{
+    let recipes = standing_recipes(alloc, names)?;
+    check_rules(alloc, environ, &recipes)
 }
 
-/// Why a project, or a request of its recipes, is refused. The texts of `Display` say each.
-#[derive(Drop)]
-pub enum LangError {
-    /// The first broken rule.
-    Compile(CompileError),
-    /// A setting or an attribute has a text that isn't constant.
-    Const {
-        path: Utf8PathBuf,
-        line: usize,
-        column: usize,
-    },
-    MissingImportFile,
-    /// A file is named by one that it leads to.
-    CircularImport {
-        current: Utf8PathBuf,
-        import: Utf8PathBuf,
-    },
-    MissingModuleFile {
-        module: Text,
-    },
-    AmbiguousModuleFile {
-        module: Text,
-        found: Seq<Text>,
-    },
-    /// A path begins with `~`, and there is no home folder.
-    Homedir,
-    UnknownOverrides {
-        overrides: Seq<Text>,
-    },
-    FunctionCall {
-        name: Text,
-    },
-    NoRecipes,
-    NoDefaultRecipe,
-    DefaultRecipeRequiresArguments {
-        recipe: Text,
-        min_arguments: u64,
-    },
-    UnknownRecipe {
-        recipe: Text,
-    },
-    UnknownSubmodule {
-        path: Text,
-    },
-    ModuleAbsent {
-        module: Text,
-    },
-    RecipeDisabled {
-        recipe: Text,
-        modules: Seq<Text>,
-    },
-    AliasDisabled {
-        alias: Text,
-        modules: Seq<Text>,
-    },
-    ExpectedSubmoduleButFoundRecipe {
-        path: Text,
-    },
-    UnknownOption {
-        recipe: Text,
-        switch: Text,
-    },
-    InvalidOption {
-        argument: Text,
-    },
-    FlagWithValue {
-        recipe: Text,
-        switch: Text,
-    },
-    NonFinalOptionWithValue {
-        recipe: Text,
-        switch: Text,
-    },
-    OptionMissingValue {
-        recipe: Text,
-        switch: Text,
-    },
-    DuplicateOption {
-        recipe: Text,
-        switch: Text,
-    },
-    PositionalArgumentCountMismatch {
-        recipe: Text,
-        path: Modulepath,
-        parameters: Seq<Parameter>,
-        found: usize,
-    },
-    MissingOption {
-        recipe: Text,
-        switch: Text,
-    },
-    ArgumentTooFewValues {
-        recipe: Text,
-        parameter: Text,
-        found: u64,
-        min: u64,
-    },
-    ArgumentTooManyValues {
-        recipe: Text,
-        parameter: Text,
-        found: u64,
-        max: u64,
-    },
-    ArgumentPatternMismatch {
-        argument: Text,
-        recipe: Text,
-        parameter: Text,
-        pattern: Seq<Text>,
-    },
-    EmptyListArgument {
-        recipe: Text,
-        parameter: Text,
-    },
-    ExcessInvocations {
-        invocations: u64,
-    },
-    ClosureLimit,
-    NoMemory,
+/// Refuses the first rule that a project with a layout breaks. For each file `winners` has those that import it, straight or
+/// through others.
+fn check_winners(
+    alloc: Global,
+    environ: &Environ,
+    winners: &[Seq<usize>],
+    layout: &Layout,
+) -> Result<(), LangError>
+    requires { AreImporters layout.now.imports winners.now }
+    ensures none { IfOk result (λ _. HasNone environ.now.pairs layout.now) }
+    ensures refused { IfErr result (λ e. e ≢ LangError.NoMemory → HasError environ.now.pairs layout.now e) }
+{
+    let names = names_of(alloc, winners, layout)?;
+    check_names(alloc, environ, &names)
 }
 
-impl From<NoMemory> for LangError {
-    ghost from_gives = { λ _ e. e ≡ OutOfMemory };
-
-    fn from(_refused: NoMemory) -> LangError {
-        LangError::NoMemory
-    }
+/// Refuses the first rule that a project with a layout breaks.
+fn check_layout(alloc: Global, environ: &Environ, layout: &Layout) -> Result<(), LangError>
+    ensures none { IfOk result (λ _. HasNone environ.now.pairs layout.now) }
+    ensures refused { IfErr result (λ e. e ≢ LangError.NoMemory → HasError environ.now.pairs layout.now e) }
+{
+    let imports = layout.imports.as_slice();
+    let winners = winners_of(alloc, imports)?;
+    let importers = winners.as_slice();
+    check_winners(alloc, environ, importers, layout)
 }
 
-impl From<AllocError> for LangError {
-    ghost from_gives = { λ _ e. e ≡ OutOfMemory };
-
-    fn from(_refused: AllocError) -> LangError {
-        LangError::NoMemory
-    }
-}
-
-impl<T: Drop> From<AllocFailed<T>> for LangError {
-    ghost from_gives = { λ _ e. e ≡ OutOfMemory };
-
-    fn from(_refused: AllocFailed<T>) -> LangError {
-        LangError::NoMemory
-    }
+/// Refuses the first rule that sources break, the first of which is the root: by the kind of the rule, then by the file in the order of
+/// loading, then by line and column. Rules on files come before all others, and texts that have to be constant behind them.
+#[tactic(auto, using(crate::proofs::ProjectLaws::sources_are_well, crate::proofs::ProjectLaws::error_in_layout, crate::proofs::ProjectLaws::error_on_files))]
+pub fn first_broken(alloc: Global, sources: &[Source], environ: &Environ) -> Result<(), LangError>
+    // No rule is broken.
+    ensures none { IfOk result (λ _. AreWell sources.now environ.now.pairs) }
+    // The error is that of the first rule that is broken.
+    ensures refused { IfErr result (λ e. e ≢ LangError.NoMemory → IsFirstError sources.now environ.now.pairs e) }
+{
+    let layout = match lay(alloc, sources, environ) {
+        Ok(layout) => layout,
+        Err(refused) => return Err(error_of_files(refused)),
+    };
+    check_layout(alloc, environ, &layout)
 }

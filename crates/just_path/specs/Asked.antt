@@ -7,7 +7,7 @@ use Rattle.just_path.specs.declared.host.PathCall.TheVariants as path_call
 use Rattle.just_path.specs.declared.host.PathFault.{PathFault}
 use Rattle.just_path.specs.declared.host.PathFault.TheVariants as fault
 use Rattle.just_path.specs.declared.host.PathNote.{PathNote}
-use Rattle.just_text.specs.declared.memory.NoMemory.{NoMemory}
+use Rattle.just_path_text.specs.declared.memory.NoMemory.{NoMemory}
 use Rattle.just_path.specs.declared.meta.Meta.{Meta}
 
 -- one call of `meta` decides: the host answered so, and the result is made of that answer

@@ -6,7 +6,7 @@ ghost use Rattle.just_path.specs.Absolute.{is_double, root_of, spread, under, Gi
 use super::path::needs_slash;
 use super::walk::first_name;
 use super::{Miss, PathFault, PathHost, Utf8Path, Utf8PathBuf};
-use just_text::NoMemory;
+use just_path_text::NoMemory;
 use std::alloc::Global;
 
 /// The path as an absolute one. An absolute path is rebuilt from its components, where two slashes in front stay

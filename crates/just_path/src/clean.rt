@@ -8,7 +8,7 @@ ghost use Rattle.just_path.specs.Reduced.{may_precede, is_reduced, comps_of};
 ghost use Rattle.just_path.specs.Walk.{comps_left};
 
 use super::{Utf8Component, Utf8Components, Utf8Path, Utf8PathBuf};
-use just_text::NoMemory;
+use just_path_text::NoMemory;
 use std::alloc::Global;
 
 impl<'a> Utf8Path<'a> {

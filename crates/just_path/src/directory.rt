@@ -8,7 +8,7 @@ ghost use Rattle.just_path.specs.Directory.{entry_of, entries_left, Lists, Tells
 ghost use Rattle.just_path.specs.declared.host.PathCall.{PathCall};
 
 use super::{Item, Kind, Meta, PathFault, PathHost, Utf8Path, Utf8PathBuf};
-use just_text::{NoMemory, Text};
+use just_path_text::{NoMemory, Text};
 use std::alloc::Global;
 use std::iter::FusedIterator;
 

@@ -9,7 +9,7 @@ use super::name::stem_of;
 use super::path::needs_slash;
 use super::walk::{last_name, trim_back};
 use super::{Utf8Path, Utf8PathBuf};
-use just_text::NoMemory;
+use just_path_text::NoMemory;
 
 /// The place in a path's text where the stem of its file name ends.
 #[tactic(auto, using(crate::proofs::FileNames::file_name_last, crate::proofs::FileNames::file_name_none))]

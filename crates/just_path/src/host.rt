@@ -6,7 +6,7 @@ ghost use Rattle.just_path.specs.Host.{note_of, Counts};
 ghost use Rattle.just_path.specs.View.{View, IsCleanlyTold, Tells, TellsItems, TellsNames, AreInOrder, AreNamesInOrder, meta_told, canonical_told, link_told, current_told};
 
 use super::{Item, Meta, Utf8Path, Utf8PathBuf};
-use just_text::{Seq, Text};
+use just_path_text::{Seq, Text};
 
 /// Why a path wasn't found as it was asked for.
 #[derive(Clone, Copy, Debug, PartialEq, Eq, Hash)]

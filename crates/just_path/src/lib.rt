@@ -23,7 +23,7 @@
 //! - What asks the files asks a [`PathHost`]; a listing is refused whole, comes in byte order of names, and keeps the
 //!   kinds.
 //!
-//! [`Text`], [`Seq`], [`TryClone`], [`NoMemory`] and [`Environ`] are those of the crate `just_text`.
+//! [`Text`], [`Seq`], [`TryClone`], [`NoMemory`] and [`Environ`] are those of the crate `just_path_text`.
 #![tactic(auto)]
 
 mod absolute;
@@ -65,7 +65,7 @@ pub use from_bytes_error::{FromOsStrError, FromPathError};
 pub use from_owned_error::{FromBoxedPathError, FromOsStringError, FromPathBufError};
 pub use host::{Miss, PathCall, PathFault, PathHost, PathNote};
 pub use iter::Iter;
-pub use just_text::{Environ, NoMemory, Seq, Text, TryClone};
+pub use just_path_text::{Environ, NoMemory, Seq, Text, TryClone};
 pub use meta::{Item, Kind, Meta};
 pub use path::Utf8Path;
 pub use path_buf::Utf8PathBuf;

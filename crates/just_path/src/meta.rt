@@ -1,5 +1,5 @@
 //! What is known of a thing at a path.
-use just_text::{NoMemory, Text, TryClone};
+use just_path_text::{NoMemory, Text, TryClone};
 
 /// What stands at a path.
 #[derive(Clone, Copy, Debug, PartialEq, Eq, Hash)]

@@ -7,7 +7,7 @@ ghost use Rattle.just_path.specs.Asked.{Decides, Holds, Tried};
 ghost use Rattle.just_path.specs.declared.host.PathCall.{PathCall};
 
 use super::{Kind, Meta, Miss, PathFault, PathHost, Utf8Path, Utf8PathBuf};
-use just_text::NoMemory;
+use just_path_text::NoMemory;
 
 /// Whether anything was answered.
 fn holds(answer: Result<Meta, PathFault>) -> Result<bool, NoMemory>

@@ -4,7 +4,7 @@ ghost use Rattle.just_path.specs.Path.{text_of, pushed, is_absolute, ends_open};
 ghost use Rattle.just_path.specs.Comps.{comps, join_comps};
 
 use super::Utf8PathBuf;
-use just_text::NoMemory;
+use just_path_text::NoMemory;
 use std::alloc::Global;
 
 /// A borrowed path: a text that is read as Unix paths are.

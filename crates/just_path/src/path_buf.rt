@@ -3,7 +3,7 @@ ghost use Rattle.std.specs.Prelude.{◌≡◌, IfOk, string_bytes};
 ghost use Rattle.just_path.specs.Path.{text_of};
 
 use super::Utf8Path;
-use just_text::{NoMemory, TryClone};
+use just_path_text::{NoMemory, TryClone};
 use std::marker::Model;
 
 /// An owned path, which contracts see as the list of its text's bytes.

@@ -4,7 +4,7 @@ ghost use Rattle.just_path.specs.Path.{text_of, pushed, is_absolute};
 ghost use Rattle.just_path.specs.Names.{with_file_name, with_extension, with_added_extension, has_no_slash};
 
 use super::{Utf8Path, Utf8PathBuf};
-use just_text::NoMemory;
+use just_path_text::NoMemory;
 use std::alloc::Global;
 
 impl<'a> Utf8Path<'a> {

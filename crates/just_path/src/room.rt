@@ -3,7 +3,7 @@ ghost use Rattle.std.specs.Prelude.{◌≡◌, ◌≤◌, [], length, IfOk, IsOk
 ghost use Rattle.just_path.specs.Path.{text_of, pushed};
 
 use super::{Utf8Path, Utf8PathBuf};
-use just_text::NoMemory;
+use just_path_text::NoMemory;
 use std::alloc::Global;
 
 impl Utf8PathBuf {

@@ -2,14 +2,14 @@
 use Rattle.std.proofs.Common.{◌≡◌, ℕ, Bool, true, false, not, ◌&&◌, List, [], ◌∷◌, ◌++◌, map, Some, codes, encode_utf8_all, refl, sym, ap, ◌∙◌, subst, append_assoc}
 use Rattle.std.proofs.lemmas.Bool.{false≢true}
 use Rattle.std.proofs.lemmas.List.{map-append}
-use Rattle.just_read.specs.Place.{Place, next, first, first_in, begins}
-use Rattle.just_syntax.specs.declared.ast.Argument.{Argument}
-use Rattle.just_syntax.specs.declared.form.Form.{Form}
-use Rattle.just_read.specs.Characters.{is_blank}
-use Rattle.just_read.specs.Lines.{skip, IsToken}
-use Rattle.just_syntax.specs.Attributes.{IsArgument, goes_on, AreFurther, IsTrailing, AreArguments}
-use Rattle.just_syntax.specs.Attributes.IsTrailing.{comma, nothing}
-use Rattle.just_syntax.specs.Attributes.AreArguments.{in_parentheses}
+use Rattle.just_lang_read.specs.Place.{Place, next, first, first_in, begins}
+use Rattle.just_lang_syntax.specs.declared.ast.Argument.{Argument}
+use Rattle.just_lang_syntax.specs.declared.form.Form.{Form}
+use Rattle.just_lang_read.specs.Characters.{is_blank}
+use Rattle.just_lang_read.specs.Lines.{skip, IsToken}
+use Rattle.just_lang_syntax.specs.Attributes.{IsArgument, goes_on, AreFurther, IsTrailing, AreArguments}
+use Rattle.just_lang_syntax.specs.Attributes.IsTrailing.{comma, nothing}
+use Rattle.just_lang_syntax.specs.Attributes.AreArguments.{in_parentheses}
 use Rattle.just_print.specs.Printed.{led, printed_argument, behind_attribute}
 use Rattle.just_print.specs.Shapes.{bare_argument}
 use Rattle.just_print.proofs.Places.{beyond, beyond_dark, and_true, parts, Near, one_first, both_part, IsApart, token_back}

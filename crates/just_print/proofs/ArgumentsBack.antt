@@ -1,32 +1,32 @@
 -- What is printed of an argument of an attribute is read again, where a comma or a closing parenthesis stood behind it.
 use Rattle.std.proofs.Common.{◌≡◌, ℕ, ◌==◌, Bool, true, false, not, ◌&&◌, ◌||◌, if◌then◌else◌, List, [], ◌∷◌, ◌++◌, Option, Some, None, codes, refl, sym, ap, ◌∙◌, subst, append_assoc}
 use Rattle.std.proofs.lemmas.Bool.{false≢true}
-use Rattle.just_read.specs.Place.{Place, Rule, next, run, first_in, passes, starts, sees, begins, begins_in, behind_text}
-use Rattle.just_read.proofs.Laws.{starts_at, sees_first, first_is}
-use Rattle.just_read.specs.declared.quote.Quote.{Quote}
-use Rattle.just_read.specs.declared.quote.Quote.TheVariants.{Single, Double, SingleBlock, DoubleBlock}
-use Rattle.just_syntax.specs.declared.ast.Name.{Name}
-use Rattle.just_syntax.specs.declared.ast.StringLiteral.{StringLiteral}
-use Rattle.just_syntax.specs.declared.ast.Expr.{Expr}
-use Rattle.just_syntax.specs.declared.ast.Expr.TheVariants as e
-use Rattle.just_syntax.specs.declared.ast.Argument.{Argument}
-use Rattle.just_syntax.specs.declared.form.Form.{Form}
-use Rattle.just_syntax.specs.declared.form.Form.TheVariants.{Open}
-use Rattle.just_read.specs.Characters.{is_blank, begins_name, in_name, is_quote}
-use Rattle.just_read.specs.Lines.{is_word, behind_word, IsWord}
-use Rattle.just_read.specs.Quotes.{quote_at}
-use Rattle.just_syntax.specs.Places.{name_at, IsName}
-use Rattle.just_syntax.specs.Strings.{IsString, IsTextOf}
-use Rattle.just_syntax.specs.Strings.IsString.{string}
-use Rattle.just_syntax.specs.Strings.IsTextOf.{raw, cooked}
-use Rattle.just_syntax.specs.Exprs.{begins_expr, begins_condition, IsValue, IsLevel, IsInner, IsExpr}
-use Rattle.just_syntax.specs.Exprs.IsValue.{literal, group, env, variable}
-use Rattle.just_syntax.specs.Exprs.IsLevel.{conditional, root, value, joined, concatenated}
-use Rattle.just_syntax.specs.Forms.{key_form, may_stand_alone, has_text}
-use Rattle.just_syntax.specs.Attributes.{argument_at, IsKey, is_keyed, may_cache, may_have, is_decimal, behind_first, IsOption, IsArgument}
-use Rattle.just_syntax.specs.Attributes.IsKey.{key_sign}
-use Rattle.just_syntax.specs.Attributes.IsOption.{alone, valued, number}
-use Rattle.just_syntax.specs.Attributes.IsArgument.{text, option, cached, any, any_key}
+use Rattle.just_lang_read.specs.Place.{Place, Rule, next, run, first_in, passes, starts, sees, begins, begins_in, behind_text}
+use Rattle.just_lang_read.proofs.Laws.{starts_at, sees_first, first_is}
+use Rattle.just_lang_read.specs.declared.quote.Quote.{Quote}
+use Rattle.just_lang_read.specs.declared.quote.Quote.TheVariants.{Single, Double, SingleBlock, DoubleBlock}
+use Rattle.just_lang_syntax.specs.declared.ast.Name.{Name}
+use Rattle.just_lang_syntax.specs.declared.ast.StringLiteral.{StringLiteral}
+use Rattle.just_lang_syntax.specs.declared.ast.Expr.{Expr}
+use Rattle.just_lang_syntax.specs.declared.ast.Expr.TheVariants as e
+use Rattle.just_lang_syntax.specs.declared.ast.Argument.{Argument}
+use Rattle.just_lang_syntax.specs.declared.form.Form.{Form}
+use Rattle.just_lang_syntax.specs.declared.form.Form.TheVariants.{Open}
+use Rattle.just_lang_read.specs.Characters.{is_blank, begins_name, in_name, is_quote}
+use Rattle.just_lang_read.specs.Lines.{is_word, behind_word, IsWord}
+use Rattle.just_lang_read.specs.Quotes.{quote_at}
+use Rattle.just_lang_syntax.specs.Places.{name_at, IsName}
+use Rattle.just_lang_syntax.specs.Strings.{IsString, IsTextOf}
+use Rattle.just_lang_syntax.specs.Strings.IsString.{string}
+use Rattle.just_lang_syntax.specs.Strings.IsTextOf.{raw, cooked}
+use Rattle.just_lang_syntax.specs.Exprs.{begins_expr, begins_condition, IsValue, IsLevel, IsInner, IsExpr}
+use Rattle.just_lang_syntax.specs.Exprs.IsValue.{literal, group, env, variable}
+use Rattle.just_lang_syntax.specs.Exprs.IsLevel.{conditional, root, value, joined, concatenated}
+use Rattle.just_lang_syntax.specs.Forms.{key_form, may_stand_alone, has_text}
+use Rattle.just_lang_syntax.specs.Attributes.{argument_at, IsKey, is_keyed, may_cache, may_have, is_decimal, behind_first, IsOption, IsArgument}
+use Rattle.just_lang_syntax.specs.Attributes.IsKey.{key_sign}
+use Rattle.just_lang_syntax.specs.Attributes.IsOption.{alone, valued, number}
+use Rattle.just_lang_syntax.specs.Attributes.IsArgument.{text, option, cached, any, any_key}
 use Rattle.just_print.specs.Printed.{printed_expr, printed_argument}
 use Rattle.just_print.specs.Shapes.{bare_name, bare_string, bare_expr, bare_argument}
 use Rattle.just_print.proofs.Exprs.{literal_is, variable_is}

@@ -3,21 +3,21 @@ use lib.Utf8.{scalars}
 use Rattle.std.proofs.Common.{◌≡◌, ℕ, ◌==◌, Bool, true, false, not, ◌&&◌, List, [], ◌∷◌, ◌++◌, ◌⊎◌, inl, inr, codes, chars, encode_utf8_all, IsUtf8, refl, sym, ap, ◌∙◌, subst, append_assoc}
 use Rattle.std.proofs.lemmas.Bool.{false≢true}
 use Rattle.std.proofs.lemmas.List.{append_cancel_left}
-use Rattle.just_read.specs.Place.{Place, next, first_in, passes, starts, sees, begins, begins_in, behind_text}
-use Rattle.just_read.proofs.Laws.{first_is}
-use Rattle.just_syntax.specs.declared.ast.Attribute.{Attribute}
-use Rattle.just_syntax.specs.declared.ast.AstRecipe.{AstRecipe}
-use Rattle.just_syntax.specs.declared.ast.AstItem.{AstItem}
-use Rattle.just_syntax.specs.declared.entry.Entry.TheVariants as entry
-use Rattle.just_syntax.specs.declared.item.Opening.TheVariants as opening
-use Rattle.just_read.specs.Characters.{is_blank, begins_name, in_name}
-use Rattle.just_read.specs.Lines.{behind_word, is_word}
-use Rattle.just_syntax.specs.Attributes.{IsAttributeLine, concat, AreAttributes}
-use Rattle.just_syntax.specs.Attributes.IsAttributeLine.{in_brackets}
-use Rattle.just_syntax.specs.Attributes.AreAttributes.{line_by_line}
-use Rattle.just_syntax.specs.Recipes.{IsRecipeLine}
-use Rattle.just_syntax.specs.Items.{is_assignment, is_module, opening_at, opens_module, IsModule, IsItem}
-use Rattle.just_syntax.specs.File.{IsFile}
+use Rattle.just_lang_read.specs.Place.{Place, next, first_in, passes, starts, sees, begins, begins_in, behind_text}
+use Rattle.just_lang_read.proofs.Laws.{first_is}
+use Rattle.just_lang_syntax.specs.declared.ast.Attribute.{Attribute}
+use Rattle.just_lang_syntax.specs.declared.ast.AstRecipe.{AstRecipe}
+use Rattle.just_lang_syntax.specs.declared.ast.AstItem.{AstItem}
+use Rattle.just_lang_syntax.specs.declared.entry.Entry.TheVariants as entry
+use Rattle.just_lang_syntax.specs.declared.item.Opening.TheVariants as opening
+use Rattle.just_lang_read.specs.Characters.{is_blank, begins_name, in_name}
+use Rattle.just_lang_read.specs.Lines.{behind_word, is_word}
+use Rattle.just_lang_syntax.specs.Attributes.{IsAttributeLine, concat, AreAttributes}
+use Rattle.just_lang_syntax.specs.Attributes.IsAttributeLine.{in_brackets}
+use Rattle.just_lang_syntax.specs.Attributes.AreAttributes.{line_by_line}
+use Rattle.just_lang_syntax.specs.Recipes.{IsRecipeLine}
+use Rattle.just_lang_syntax.specs.Items.{is_assignment, is_module, opening_at, opens_module, IsModule, IsItem}
+use Rattle.just_lang_syntax.specs.File.{IsFile}
 use Rattle.just_print.specs.Printed.{only_if, printed_attributes, printed_file, printed_end, printed_item, printed}
 use Rattle.just_print.specs.Shapes.{SameShape}
 use Rattle.just_print.specs.Law.{IsIndentation, NoReturnAtEnd}

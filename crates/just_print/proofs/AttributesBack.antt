@@ -1,23 +1,23 @@
 -- What is printed of attributes is read again, each on a line of its own.
 use Rattle.std.proofs.Common.{◌≡◌, ℕ, true, false, List, [], ◌∷◌, ◌++◌, map, Option, None, ◌⊎◌, inl, inr, codes, encode_utf8_all, refl, sym, ap, ◌∙◌, subst, append_assoc, append-nil}
-use Rattle.just_read.specs.Place.{Place, AreMany, next, run, first_in, passes, begins_in}
-use Rattle.just_syntax.specs.declared.ast.Name.{Name}
-use Rattle.just_syntax.specs.declared.ast.StringLiteral.{StringLiteral}
-use Rattle.just_syntax.specs.declared.ast.Expr.{Expr}
-use Rattle.just_syntax.specs.declared.ast.Expr.TheVariants as e
-use Rattle.just_syntax.specs.declared.ast.Argument.{Argument}
-use Rattle.just_syntax.specs.declared.ast.Attribute.{Attribute}
-use Rattle.just_syntax.specs.declared.form.Form.{Form}
-use Rattle.just_read.specs.Characters.{is_blank, in_name}
-use Rattle.just_read.specs.Lines.{skip, behind_word}
-use Rattle.just_syntax.specs.Places.{name_at, IsName, IsRest}
-use Rattle.just_syntax.specs.Places.IsRest.{ended}
-use Rattle.just_syntax.specs.Strings.{IsString}
-use Rattle.just_syntax.specs.Forms.{form_of, may_be_bare, has_colon}
-use Rattle.just_syntax.specs.Attributes.{argument_at, AreArguments, attribute_of, IsAttribute, IsFurtherAttribute, with_comment, IsAttributeLine, concat, AreAttributes}
-use Rattle.just_syntax.specs.Attributes.IsAttribute.{bare, behind_colon, grouped}
-use Rattle.just_syntax.specs.Attributes.IsAttributeLine.{in_brackets}
-use Rattle.just_syntax.specs.Attributes.AreAttributes.{line_by_line}
+use Rattle.just_lang_read.specs.Place.{Place, AreMany, next, run, first_in, passes, begins_in}
+use Rattle.just_lang_syntax.specs.declared.ast.Name.{Name}
+use Rattle.just_lang_syntax.specs.declared.ast.StringLiteral.{StringLiteral}
+use Rattle.just_lang_syntax.specs.declared.ast.Expr.{Expr}
+use Rattle.just_lang_syntax.specs.declared.ast.Expr.TheVariants as e
+use Rattle.just_lang_syntax.specs.declared.ast.Argument.{Argument}
+use Rattle.just_lang_syntax.specs.declared.ast.Attribute.{Attribute}
+use Rattle.just_lang_syntax.specs.declared.form.Form.{Form}
+use Rattle.just_lang_read.specs.Characters.{is_blank, in_name}
+use Rattle.just_lang_read.specs.Lines.{skip, behind_word}
+use Rattle.just_lang_syntax.specs.Places.{name_at, IsName, IsRest}
+use Rattle.just_lang_syntax.specs.Places.IsRest.{ended}
+use Rattle.just_lang_syntax.specs.Strings.{IsString}
+use Rattle.just_lang_syntax.specs.Forms.{form_of, may_be_bare, has_colon}
+use Rattle.just_lang_syntax.specs.Attributes.{argument_at, AreArguments, attribute_of, IsAttribute, IsFurtherAttribute, with_comment, IsAttributeLine, concat, AreAttributes}
+use Rattle.just_lang_syntax.specs.Attributes.IsAttribute.{bare, behind_colon, grouped}
+use Rattle.just_lang_syntax.specs.Attributes.IsAttributeLine.{in_brackets}
+use Rattle.just_lang_syntax.specs.Attributes.AreAttributes.{line_by_line}
 use Rattle.just_print.specs.Printed.{newline, printed_expr, printed_end, behind_attribute, printed_attribute, printed_attributes}
 use Rattle.just_print.specs.Shapes.{bare_name, bare_expr, bare_argument, bare_attribute}
 use Rattle.just_print.proofs.Exprs.{literal_is}

@@ -1,13 +1,13 @@
 -- Expressions without places, one law a variant.
 use Rattle.std.specs.Option.{option_map}
 use Rattle.std.proofs.Common.{◌≡◌, ℕ, Bool, Option, Some, None, sym, ap, ◌∙◌}
-use Rattle.just_syntax.specs.declared.ast.Name.{Name}
-use Rattle.just_syntax.specs.declared.ast.StringLiteral.{StringLiteral}
-use Rattle.just_syntax.specs.declared.ast.Comparison.{Comparison}
-use Rattle.just_syntax.specs.declared.ast.Expr.{Expr}
-use Rattle.just_syntax.specs.declared.ast.Expr.TheOpen.{Expr-F}
-use Rattle.just_syntax.specs.declared.ast.Expr.TheFolds.{fold-roll-Expr}
-use Rattle.just_syntax.specs.declared.ast.Expr.TheVariants as e
+use Rattle.just_lang_syntax.specs.declared.ast.Name.{Name}
+use Rattle.just_lang_syntax.specs.declared.ast.StringLiteral.{StringLiteral}
+use Rattle.just_lang_syntax.specs.declared.ast.Comparison.{Comparison}
+use Rattle.just_lang_syntax.specs.declared.ast.Expr.{Expr}
+use Rattle.just_lang_syntax.specs.declared.ast.Expr.TheOpen.{Expr-F}
+use Rattle.just_lang_syntax.specs.declared.ast.Expr.TheFolds.{fold-roll-Expr}
+use Rattle.just_lang_syntax.specs.declared.ast.Expr.TheVariants as e
 use Rattle.just_print.specs.Shapes.{bare_name, bare_string, bare_step, bare_expr}
 
 -- a condition without places

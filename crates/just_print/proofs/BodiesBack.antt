@@ -3,13 +3,13 @@ use lib.Utf8.{scalars}
 use Rattle.std.proofs.Common.{◌≡◌, ℕ, ◌==◌, nat_lt, Bool, true, false, not, ◌&&◌, ◌||◌, List, [], ◌∷◌, ◌++◌, encode_utf8_all, refl, sym, ap, ◌∙◌, append_assoc}
 use Rattle.std.proofs.lemmas.Bool.{false≢true, eqb-true}
 use Rattle.std.specs.List.{flat_map, list_all}
-use Rattle.just_read.specs.Place.{Place, AreMany, next, run, first_in, passes, starts, begins, begins_in, behind_text, is_empty, is_end}
-use Rattle.just_syntax.specs.declared.ast.Fragment.{Fragment}
-use Rattle.just_syntax.specs.declared.ast.Line.{Line}
-use Rattle.just_read.specs.Characters.{is_blank}
-use Rattle.just_read.specs.Lines.{skip, ends_line, is_blank_line}
-use Rattle.just_syntax.specs.Bodies.{is_body_line, IsFragment, IsBodyLine}
-use Rattle.just_syntax.specs.Bodies.IsBodyLine.{line}
+use Rattle.just_lang_read.specs.Place.{Place, AreMany, next, run, first_in, passes, starts, begins, begins_in, behind_text, is_empty, is_end}
+use Rattle.just_lang_syntax.specs.declared.ast.Fragment.{Fragment}
+use Rattle.just_lang_syntax.specs.declared.ast.Line.{Line}
+use Rattle.just_lang_read.specs.Characters.{is_blank}
+use Rattle.just_lang_read.specs.Lines.{skip, ends_line, is_blank_line}
+use Rattle.just_lang_syntax.specs.Bodies.{is_body_line, IsFragment, IsBodyLine}
+use Rattle.just_lang_syntax.specs.Bodies.IsBodyLine.{line}
 use Rattle.just_print.specs.Printed.{newline, printed_fragment, printed_line}
 use Rattle.just_print.specs.Shapes.{bare_line}
 use Rattle.just_print.specs.Law.{IsIndentation, line_returns}

@@ -1,13 +1,13 @@
 -- What is printed of calls, and so of values, is read again, where it is so of the expressions inside.
 use Rattle.std.specs.Option.{option_map}
 use Rattle.std.proofs.Common.{◌≡◌, ℕ, Bool, false, not, List, [], ◌∷◌, ◌++◌, Option, Some, None, codes, encode_utf8_all, refl, sym, ap, ◌∙◌, append_assoc}
-use Rattle.just_read.specs.Place.{Place, Rule, first, first_in, starts, begins, behind_text}
-use Rattle.just_syntax.specs.declared.ast.Expr.{Expr}
-use Rattle.just_syntax.specs.declared.ast.Expr.TheVariants as e
-use Rattle.just_read.specs.Characters.{is_blank, in_name}
-use Rattle.just_read.specs.Lines.{IsToken, IsWord}
-use Rattle.just_syntax.specs.Exprs.{begins_condition, IsDefault, IsValue}
-use Rattle.just_syntax.specs.Exprs.IsValue.{literal, group, env, variable}
+use Rattle.just_lang_read.specs.Place.{Place, Rule, first, first_in, starts, begins, behind_text}
+use Rattle.just_lang_syntax.specs.declared.ast.Expr.{Expr}
+use Rattle.just_lang_syntax.specs.declared.ast.Expr.TheVariants as e
+use Rattle.just_lang_read.specs.Characters.{is_blank, in_name}
+use Rattle.just_lang_read.specs.Lines.{IsToken, IsWord}
+use Rattle.just_lang_syntax.specs.Exprs.{begins_condition, IsDefault, IsValue}
+use Rattle.just_lang_syntax.specs.Exprs.IsValue.{literal, group, env, variable}
 use Rattle.just_print.specs.Printed.{printed_expr, printed_second}
 use Rattle.just_print.specs.Shapes.{bare_expr}
 use Rattle.just_print.proofs.Exprs.{printed_env}

@@ -1,25 +1,25 @@
 -- What is printed of dependencies is read again.
 use Rattle.std.proofs.Common.{◌≡◌, ℕ, ◌==◌, Bool, true, false, ◌||◌, if◌then◌else◌, List, [], ◌∷◌, ◌++◌, map, Some, codes, encode_utf8_all, refl, sym, ap, ◌∙◌, subst, append_assoc}
-use Rattle.just_read.specs.Place.{Place, Rule, AreMany, next, first, first_in, starts, sees, begins, begins_in}
-use Rattle.just_read.proofs.Laws.{sees_first, starts_with}
-use Rattle.just_syntax.specs.declared.ast.Name.{Name}
-use Rattle.just_read.specs.declared.quote.Quote.{Quote}
-use Rattle.just_read.specs.declared.quote.Quote.TheVariants.{Single, Double, SingleBlock, DoubleBlock}
-use Rattle.just_syntax.specs.declared.ast.StringLiteral.{StringLiteral}
-use Rattle.just_syntax.specs.declared.ast.Expr.{Expr}
-use Rattle.just_syntax.specs.declared.ast.AstDependency.{AstDependency}
-use Rattle.just_read.specs.Characters.{is_blank, begins_name}
-use Rattle.just_read.specs.Lines.{IsToken}
-use Rattle.just_syntax.specs.Places.{IsPath}
-use Rattle.just_read.specs.Quotes.{quote_at, behind_x}
-use Rattle.just_syntax.specs.Strings.{IsString}
-use Rattle.just_syntax.specs.Strings.IsString.{string}
-use Rattle.just_syntax.specs.Exprs.{begins_condition, IsValue, IsLevel, IsInner, IsExpr}
-use Rattle.just_syntax.specs.Exprs.IsValue.{literal, group, env, variable}
-use Rattle.just_syntax.specs.Exprs.IsLevel.{conditional, root, value, joined, concatenated}
-use Rattle.just_syntax.specs.Recipes.{begins_dependency, IsDependencyValue, IsDependency, AreDependencies}
-use Rattle.just_syntax.specs.Recipes.IsDependency.{bare, grouped}
-use Rattle.just_syntax.specs.Recipes.AreDependencies.{dependencies}
+use Rattle.just_lang_read.specs.Place.{Place, Rule, AreMany, next, first, first_in, starts, sees, begins, begins_in}
+use Rattle.just_lang_read.proofs.Laws.{sees_first, starts_with}
+use Rattle.just_lang_syntax.specs.declared.ast.Name.{Name}
+use Rattle.just_lang_read.specs.declared.quote.Quote.{Quote}
+use Rattle.just_lang_read.specs.declared.quote.Quote.TheVariants.{Single, Double, SingleBlock, DoubleBlock}
+use Rattle.just_lang_syntax.specs.declared.ast.StringLiteral.{StringLiteral}
+use Rattle.just_lang_syntax.specs.declared.ast.Expr.{Expr}
+use Rattle.just_lang_syntax.specs.declared.ast.AstDependency.{AstDependency}
+use Rattle.just_lang_read.specs.Characters.{is_blank, begins_name}
+use Rattle.just_lang_read.specs.Lines.{IsToken}
+use Rattle.just_lang_syntax.specs.Places.{IsPath}
+use Rattle.just_lang_read.specs.Quotes.{quote_at, behind_x}
+use Rattle.just_lang_syntax.specs.Strings.{IsString}
+use Rattle.just_lang_syntax.specs.Strings.IsString.{string}
+use Rattle.just_lang_syntax.specs.Exprs.{begins_condition, IsValue, IsLevel, IsInner, IsExpr}
+use Rattle.just_lang_syntax.specs.Exprs.IsValue.{literal, group, env, variable}
+use Rattle.just_lang_syntax.specs.Exprs.IsLevel.{conditional, root, value, joined, concatenated}
+use Rattle.just_lang_syntax.specs.Recipes.{begins_dependency, IsDependencyValue, IsDependency, AreDependencies}
+use Rattle.just_lang_syntax.specs.Recipes.IsDependency.{bare, grouped}
+use Rattle.just_lang_syntax.specs.Recipes.AreDependencies.{dependencies}
 use Rattle.just_print.specs.Printed.{printed_expr, printed_path, printed_values, printed_dependency, printed_dependencies}
 use Rattle.just_print.specs.Shapes.{bare_name, bare_expr, bare_dependency}
 use Rattle.just_print.proofs.Places.{beyond, beyond_dark, not_that, Alike, widen, one_first, alike_test, IsApart, token_back}

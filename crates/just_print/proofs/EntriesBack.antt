@@ -2,19 +2,19 @@
 use Rattle.std.proofs.Common.{◌≡◌, ℕ, ◌==◌, Bool, true, false, not, ◌&&◌, ◌||◌, List, [], ◌∷◌, ◌++◌, map, Some, encode_utf8_all, refl, sym, ap, ◌∙◌, subst, append_assoc}
 use Rattle.std.proofs.lemmas.Bool.{false≢true, eqb-true}
 use Rattle.std.specs.List.{flat_map, list_all}
-use Rattle.just_read.specs.Place.{Place, next, first_in, passes, starts, begins, begins_in, is_empty, is_end}
-use Rattle.just_syntax.specs.declared.ast.AstRecipe.{AstRecipe}
-use Rattle.just_syntax.specs.declared.ast.AstItem.{AstItem}
-use Rattle.just_syntax.specs.declared.ast.AstItem.TheVariants as tree
-use Rattle.just_syntax.specs.declared.ast.Line.{Line}
-use Rattle.just_syntax.specs.declared.entry.Entry.{Entry}
-use Rattle.just_syntax.specs.declared.entry.Entry.TheVariants as entry
-use Rattle.just_syntax.specs.declared.entry.Body.{Body}
-use Rattle.just_syntax.specs.declared.entry.Body.TheVariants as body
-use Rattle.just_read.specs.Characters.{is_blank}
-use Rattle.just_read.specs.Lines.{skip, ends_line, is_blank_line, IsBlankLine}
-use Rattle.just_syntax.specs.Items.{IsItem}
-use Rattle.just_syntax.specs.File.{indentation_at, is_in_body, behind_blank, IsEntry, AreEntries, blank_line, gather_blank, gathered}
+use Rattle.just_lang_read.specs.Place.{Place, next, first_in, passes, starts, begins, begins_in, is_empty, is_end}
+use Rattle.just_lang_syntax.specs.declared.ast.AstRecipe.{AstRecipe}
+use Rattle.just_lang_syntax.specs.declared.ast.AstItem.{AstItem}
+use Rattle.just_lang_syntax.specs.declared.ast.AstItem.TheVariants as tree
+use Rattle.just_lang_syntax.specs.declared.ast.Line.{Line}
+use Rattle.just_lang_syntax.specs.declared.entry.Entry.{Entry}
+use Rattle.just_lang_syntax.specs.declared.entry.Entry.TheVariants as entry
+use Rattle.just_lang_syntax.specs.declared.entry.Body.{Body}
+use Rattle.just_lang_syntax.specs.declared.entry.Body.TheVariants as body
+use Rattle.just_lang_read.specs.Characters.{is_blank}
+use Rattle.just_lang_read.specs.Lines.{skip, ends_line, is_blank_line, IsBlankLine}
+use Rattle.just_lang_syntax.specs.Items.{IsItem}
+use Rattle.just_lang_syntax.specs.File.{indentation_at, is_in_body, behind_blank, IsEntry, AreEntries, blank_line, gather_blank, gathered}
 use Rattle.just_print.specs.Printed.{newline, printed_line, printed_item, printed_attributes, printed_recipe_line, is_blank_item, one_blank}
 use Rattle.just_print.specs.Shapes.{bare_line, bare_recipe, bare_item}
 use Rattle.just_print.specs.Law.{IsIndentation}

@@ -1,13 +1,13 @@
 -- The texts of expressions, one law a variant.
 use Rattle.std.specs.Option.{option_map}
 use Rattle.std.proofs.Common.{◌≡◌, ℕ, Bool, List, ◌++◌, Option, Some, None, codes, sym, ap, ◌∙◌, append_assoc}
-use Rattle.just_syntax.specs.declared.ast.Name.{Name}
-use Rattle.just_syntax.specs.declared.ast.StringLiteral.{StringLiteral}
-use Rattle.just_syntax.specs.declared.ast.Comparison.{Comparison}
-use Rattle.just_syntax.specs.declared.ast.Expr.{Expr}
-use Rattle.just_syntax.specs.declared.ast.Expr.TheOpen.{Expr-F}
-use Rattle.just_syntax.specs.declared.ast.Expr.TheFolds.{fold-roll-Expr}
-use Rattle.just_syntax.specs.declared.ast.Expr.TheVariants as e
+use Rattle.just_lang_syntax.specs.declared.ast.Name.{Name}
+use Rattle.just_lang_syntax.specs.declared.ast.StringLiteral.{StringLiteral}
+use Rattle.just_lang_syntax.specs.declared.ast.Comparison.{Comparison}
+use Rattle.just_lang_syntax.specs.declared.ast.Expr.{Expr}
+use Rattle.just_lang_syntax.specs.declared.ast.Expr.TheOpen.{Expr-F}
+use Rattle.just_lang_syntax.specs.declared.ast.Expr.TheFolds.{fold-roll-Expr}
+use Rattle.just_lang_syntax.specs.declared.ast.Expr.TheVariants as e
 use Rattle.just_print.specs.Printed.{printed_string, printed_comparison, otherwise, printed_second, expr_of, printed_expr}
 
 -- the text of a condition

@@ -1,17 +1,17 @@
 -- What is printed of an expression is read again as an expression of the same shape.
 use Rattle.std.proofs.Common.{◌≡◌, ℕ, zero, suc, Bool, true, false, not, ◌&&◌, List, [], ◌∷◌, ◌++◌, codes, encode_utf8_all, refl, sym, ap, ◌∙◌, subst, append_assoc}
-use Rattle.just_read.specs.Place.{Place, Rule, first, first_in, starts, begins, behind_text}
-use Rattle.just_syntax.specs.declared.ast.Comparison.{Comparison}
-use Rattle.just_syntax.specs.declared.ast.Comparison.TheVariants.{Equal, Unequal}
-use Rattle.just_syntax.specs.declared.ast.Expr.{Expr}
-use Rattle.just_syntax.specs.declared.ast.Expr.TheVariants as e
-use Rattle.just_read.specs.Characters.{is_blank, in_name}
-use Rattle.just_read.specs.Lines.{is_word, behind_word, IsToken, IsWord}
-use Rattle.just_syntax.specs.Exprs.{begins_expr, begins_condition, IsComparison, IsValue, IsBlock, IsOtherwise, IsLevel, IsInner, IsExpr}
-use Rattle.just_syntax.specs.Exprs.IsComparison.{equal, unequal}
-use Rattle.just_syntax.specs.Exprs.IsBlock.{block}
-use Rattle.just_syntax.specs.Exprs.IsOtherwise.{last, further}
-use Rattle.just_syntax.specs.Exprs.IsLevel.{conditional, root, value, joined, concatenated}
+use Rattle.just_lang_read.specs.Place.{Place, Rule, first, first_in, starts, begins, behind_text}
+use Rattle.just_lang_syntax.specs.declared.ast.Comparison.{Comparison}
+use Rattle.just_lang_syntax.specs.declared.ast.Comparison.TheVariants.{Equal, Unequal}
+use Rattle.just_lang_syntax.specs.declared.ast.Expr.{Expr}
+use Rattle.just_lang_syntax.specs.declared.ast.Expr.TheVariants as e
+use Rattle.just_lang_read.specs.Characters.{is_blank, in_name}
+use Rattle.just_lang_read.specs.Lines.{is_word, behind_word, IsToken, IsWord}
+use Rattle.just_lang_syntax.specs.Exprs.{begins_expr, begins_condition, IsComparison, IsValue, IsBlock, IsOtherwise, IsLevel, IsInner, IsExpr}
+use Rattle.just_lang_syntax.specs.Exprs.IsComparison.{equal, unequal}
+use Rattle.just_lang_syntax.specs.Exprs.IsBlock.{block}
+use Rattle.just_lang_syntax.specs.Exprs.IsOtherwise.{last, further}
+use Rattle.just_lang_syntax.specs.Exprs.IsLevel.{conditional, root, value, joined, concatenated}
 use Rattle.just_print.specs.Printed.{printed_comparison, otherwise, printed_expr}
 use Rattle.just_print.specs.Shapes.{bare_expr}
 use Rattle.just_print.proofs.Exprs.{printed_if, printed_root, printed_join, printed_concat}

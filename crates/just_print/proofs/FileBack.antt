@@ -4,27 +4,27 @@ use Rattle.std.proofs.Common.{◌≡◌, ℕ, Bool, true, false, not, if◌then�
 use Rattle.std.proofs.lemmas.Bool.{false≢true}
 use Rattle.std.proofs.lemmas.Str.{chars_from_encodes}
 use Rattle.std.specs.List.{flat_map, list_all}
-use Rattle.just_read.specs.Place.{Place, start, run, first_in, passes, starts, behind_text}
-use Rattle.just_read.proofs.Laws.{past_ends}
-use Rattle.just_syntax.specs.declared.ast.Attribute.{Attribute}
-use Rattle.just_syntax.specs.declared.ast.AstRecipe.{AstRecipe}
-use Rattle.just_syntax.specs.declared.ast.AstItem.{AstItem}
-use Rattle.just_syntax.specs.declared.ast.Line.{Line}
-use Rattle.just_syntax.specs.declared.entry.Entry.{Entry}
-use Rattle.just_syntax.specs.declared.entry.Entry.TheVariants as entry
-use Rattle.just_syntax.specs.declared.entry.Body.{Body}
-use Rattle.just_syntax.specs.declared.entry.Body.TheVariants as body
-use Rattle.just_syntax.specs.declared.item.Opening.TheVariants as opening
-use Rattle.just_read.specs.Characters.{is_blank}
-use Rattle.just_read.specs.Lines.{skip}
-use Rattle.just_syntax.specs.Bodies.{IsBodyLine}
-use Rattle.just_syntax.specs.Bodies.IsBodyLine.{line}
-use Rattle.just_syntax.specs.Attributes.{AreAttributes}
-use Rattle.just_syntax.specs.Recipes.{IsRecipeLine}
-use Rattle.just_syntax.specs.Items.{opening_at, opens_module, IsAlias, IsImport, IsModule, IsAssignment, IsUnexport, IsSetting, IsItem}
-use Rattle.just_syntax.specs.Items.IsItem.{comment, alias, import, module_alone, assignment, export, unexport, setting_item, attributed_module, recipe}
-use Rattle.just_syntax.specs.File.{indentation_at, behind_blank, behind_item, AreEntries, IsFile, gather_blank, gather_one, gathered, items_of}
-use Rattle.just_syntax.specs.File.IsEntry.{blank, body_line, further}
+use Rattle.just_lang_read.specs.Place.{Place, start, run, first_in, passes, starts, behind_text}
+use Rattle.just_lang_read.proofs.Laws.{past_ends}
+use Rattle.just_lang_syntax.specs.declared.ast.Attribute.{Attribute}
+use Rattle.just_lang_syntax.specs.declared.ast.AstRecipe.{AstRecipe}
+use Rattle.just_lang_syntax.specs.declared.ast.AstItem.{AstItem}
+use Rattle.just_lang_syntax.specs.declared.ast.Line.{Line}
+use Rattle.just_lang_syntax.specs.declared.entry.Entry.{Entry}
+use Rattle.just_lang_syntax.specs.declared.entry.Entry.TheVariants as entry
+use Rattle.just_lang_syntax.specs.declared.entry.Body.{Body}
+use Rattle.just_lang_syntax.specs.declared.entry.Body.TheVariants as body
+use Rattle.just_lang_syntax.specs.declared.item.Opening.TheVariants as opening
+use Rattle.just_lang_read.specs.Characters.{is_blank}
+use Rattle.just_lang_read.specs.Lines.{skip}
+use Rattle.just_lang_syntax.specs.Bodies.{IsBodyLine}
+use Rattle.just_lang_syntax.specs.Bodies.IsBodyLine.{line}
+use Rattle.just_lang_syntax.specs.Attributes.{AreAttributes}
+use Rattle.just_lang_syntax.specs.Recipes.{IsRecipeLine}
+use Rattle.just_lang_syntax.specs.Items.{opening_at, opens_module, IsAlias, IsImport, IsModule, IsAssignment, IsUnexport, IsSetting, IsItem}
+use Rattle.just_lang_syntax.specs.Items.IsItem.{comment, alias, import, module_alone, assignment, export, unexport, setting_item, attributed_module, recipe}
+use Rattle.just_lang_syntax.specs.File.{indentation_at, behind_blank, behind_item, AreEntries, IsFile, gather_blank, gather_one, gathered, items_of}
+use Rattle.just_lang_syntax.specs.File.IsEntry.{blank, body_line, further}
 use Rattle.just_print.specs.Printed.{printed, printed_line, is_blank_item}
 use Rattle.just_print.specs.Shapes.{shape, SameShape}
 use Rattle.just_print.specs.Law.{IsIndentation, line_returns, has_no_return, NoReturnAtEnd}

@@ -4,17 +4,17 @@ use Rattle.std.proofs.Common.{◌≡◌, ℕ, ◌==◌, Bool, true, false, not, 
 use Rattle.std.proofs.lemmas.Bool.{false≢true}
 use Rattle.std.proofs.lemmas.Str.{chars-encodes}
 use Rattle.std.specs.List.{flat_map}
-use Rattle.just_read.specs.Place.{Place, AreMany, at, first_in, begins, begins_in, behind_text}
-use Rattle.just_syntax.specs.declared.ast.Expr.{Expr}
-use Rattle.just_syntax.specs.declared.ast.Fragment.{Fragment}
-use Rattle.just_syntax.specs.declared.ast.Fragment.TheVariants as fragment
-use Rattle.just_read.specs.Characters.{is_blank}
-use Rattle.just_read.specs.Lines.{ends_line, IsToken}
-use Rattle.just_syntax.specs.Strings.{concat}
-use Rattle.just_syntax.specs.Exprs.{IsExpr}
-use Rattle.just_syntax.specs.Bodies.{opens, is_text, IsLetter, IsFragment}
-use Rattle.just_syntax.specs.Bodies.IsLetter.{braces, itself}
-use Rattle.just_syntax.specs.Bodies.IsFragment.{text, value}
+use Rattle.just_lang_read.specs.Place.{Place, AreMany, at, first_in, begins, begins_in, behind_text}
+use Rattle.just_lang_syntax.specs.declared.ast.Expr.{Expr}
+use Rattle.just_lang_syntax.specs.declared.ast.Fragment.{Fragment}
+use Rattle.just_lang_syntax.specs.declared.ast.Fragment.TheVariants as fragment
+use Rattle.just_lang_read.specs.Characters.{is_blank}
+use Rattle.just_lang_read.specs.Lines.{ends_line, IsToken}
+use Rattle.just_lang_syntax.specs.Strings.{concat}
+use Rattle.just_lang_syntax.specs.Exprs.{IsExpr}
+use Rattle.just_lang_syntax.specs.Bodies.{opens, is_text, IsLetter, IsFragment}
+use Rattle.just_lang_syntax.specs.Bodies.IsLetter.{braces, itself}
+use Rattle.just_lang_syntax.specs.Bodies.IsFragment.{text, value}
 use Rattle.just_print.specs.Printed.{printed_expr, printed_fragment, doubled}
 use Rattle.just_print.specs.Shapes.{bare_fragment}
 use Rattle.just_print.specs.Law.{ends_in_return, fragment_returns, line_returns}

@@ -1,21 +1,21 @@
 -- Imports that are printed are read again as entries.
 use Rattle.std.proofs.Common.{◌≡◌, ℕ, ◌==◌, Bool, true, false, ◌||◌, if◌then◌else◌, List, [], ◌++◌, Some, codes, encode_utf8_all, refl, sym, ap, ◌∙◌}
-use Rattle.just_read.specs.Place.{Place, next, first, first_in, passes, starts, sees, begins, begins_in}
-use Rattle.just_read.proofs.Laws.{sees_first, first_is}
-use Rattle.just_read.specs.declared.quote.Quote.{Quote}
-use Rattle.just_read.specs.declared.quote.Quote.TheVariants.{Single, Double, SingleBlock, DoubleBlock}
-use Rattle.just_syntax.specs.declared.ast.StringLiteral.{StringLiteral}
-use Rattle.just_syntax.specs.declared.ast.AstItem.{AstItem}
-use Rattle.just_syntax.specs.declared.entry.Entry.TheVariants as entry
-use Rattle.just_syntax.specs.declared.item.Opening.TheVariants as opening
-use Rattle.just_read.specs.Characters.{is_blank, is_quote, begins_name}
-use Rattle.just_read.specs.Lines.{behind_word, is_word}
-use Rattle.just_read.specs.Quotes.{quote_at, begins_string}
-use Rattle.just_syntax.specs.Strings.{IsString}
-use Rattle.just_syntax.specs.Strings.IsString.{string}
-use Rattle.just_syntax.specs.Recipes.{IsMaybe}
-use Rattle.just_syntax.specs.Recipes.IsMaybe.{here, not_here}
-use Rattle.just_syntax.specs.Items.{is_assignment, opening_at, IsImport, IsItem}
+use Rattle.just_lang_read.specs.Place.{Place, next, first, first_in, passes, starts, sees, begins, begins_in}
+use Rattle.just_lang_read.proofs.Laws.{sees_first, first_is}
+use Rattle.just_lang_read.specs.declared.quote.Quote.{Quote}
+use Rattle.just_lang_read.specs.declared.quote.Quote.TheVariants.{Single, Double, SingleBlock, DoubleBlock}
+use Rattle.just_lang_syntax.specs.declared.ast.StringLiteral.{StringLiteral}
+use Rattle.just_lang_syntax.specs.declared.ast.AstItem.{AstItem}
+use Rattle.just_lang_syntax.specs.declared.entry.Entry.TheVariants as entry
+use Rattle.just_lang_syntax.specs.declared.item.Opening.TheVariants as opening
+use Rattle.just_lang_read.specs.Characters.{is_blank, is_quote, begins_name}
+use Rattle.just_lang_read.specs.Lines.{behind_word, is_word}
+use Rattle.just_lang_read.specs.Quotes.{quote_at, begins_string}
+use Rattle.just_lang_syntax.specs.Strings.{IsString}
+use Rattle.just_lang_syntax.specs.Strings.IsString.{string}
+use Rattle.just_lang_syntax.specs.Recipes.{IsMaybe}
+use Rattle.just_lang_syntax.specs.Recipes.IsMaybe.{here, not_here}
+use Rattle.just_lang_syntax.specs.Items.{is_assignment, opening_at, IsImport, IsItem}
 use Rattle.just_print.specs.Printed.{only_if, printed_string, printed_end, printed_item}
 use Rattle.just_print.proofs.Places.{beyond, next_rest}
 use Rattle.just_print.proofs.StringsBack.{quote_character, quote_first}

@@ -1,46 +1,46 @@
 -- Where a text has scalar values alone, so has what is left of it behind an item.
 use Rattle.std.proofs.Common.{ℕ, Bool, true, false, List, [], ◌∷◌, ◌++◌, codes, Option, Some, None}
-use Rattle.just_read.specs.Place.{Place, past, behind_text}
-use Rattle.just_syntax.specs.declared.ast.Name.{Name}
-use Rattle.just_syntax.specs.declared.ast.StringLiteral.{StringLiteral}
-use Rattle.just_syntax.specs.declared.ast.Expr.{Expr}
-use Rattle.just_syntax.specs.declared.ast.Argument.{Argument}
-use Rattle.just_syntax.specs.declared.ast.Attribute.{Attribute}
-use Rattle.just_syntax.specs.declared.ast.ParameterKind.{ParameterKind}
-use Rattle.just_syntax.specs.declared.ast.ParameterKind.TheVariants.{Singular, Plus, Star}
-use Rattle.just_syntax.specs.declared.ast.AstParameter.{AstParameter}
-use Rattle.just_syntax.specs.declared.ast.AstDependency.{AstDependency}
-use Rattle.just_syntax.specs.declared.ast.AstRecipe.{AstRecipe}
-use Rattle.just_syntax.specs.declared.ast.AstItem.{AstItem}
-use Rattle.just_syntax.specs.declared.ast.SettingValue.{SettingValue}
-use Rattle.just_syntax.specs.declared.entry.Entry.{Entry}
-use Rattle.just_syntax.specs.declared.form.Form.{Form}
-use Rattle.just_syntax.specs.declared.form.Sort.{Sort}
-use Rattle.just_read.specs.Characters.{is_blank, in_line}
-use Rattle.just_read.specs.Lines.{crlf, skip, IsNewline}
-use Rattle.just_syntax.specs.Places.{IsFurtherName, IsPath, IsComment, IsRest}
-use Rattle.just_syntax.specs.Places.IsPath.{names}
-use Rattle.just_read.specs.Lines.IsNewline.{last, feed, return_feed}
-use Rattle.just_syntax.specs.Places.IsRest.{ended, commented}
-use Rattle.just_syntax.specs.Exprs.{IsInner}
-use Rattle.just_syntax.specs.Attributes.{IsPlain, IsKey, IsOption, IsArgument, AreFurther, IsTrailing, AreArguments, IsAttribute, IsFurtherAttribute, IsAttributeLine, AreAttributes}
-use Rattle.just_syntax.specs.Attributes.IsKey.{key_sign}
-use Rattle.just_syntax.specs.Attributes.IsOption.{alone, valued, number}
-use Rattle.just_syntax.specs.Attributes.IsArgument.{text, option, cached, any, any_key}
-use Rattle.just_syntax.specs.Attributes.IsTrailing.{comma, nothing}
-use Rattle.just_syntax.specs.Attributes.AreArguments.{in_parentheses}
-use Rattle.just_syntax.specs.Attributes.IsAttributeLine.{in_brackets}
-use Rattle.just_syntax.specs.Attributes.AreAttributes.{line_by_line}
-use Rattle.just_syntax.specs.Recipes.{IsMaybe, IsDefault, IsParameter, IsVariadic, IsSingular, AreParameters, IsDependencyValue, IsDependency, AreDependencies, AreSubsequents, IsRecipeLine}
-use Rattle.just_syntax.specs.Recipes.IsMaybe.{here, not_here}
-use Rattle.just_syntax.specs.Recipes.IsDefault.{default, without}
-use Rattle.just_syntax.specs.Recipes.IsParameter.{parameter}
-use Rattle.just_syntax.specs.Recipes.AreParameters.{parameters}
-use Rattle.just_syntax.specs.Recipes.AreDependencies.{dependencies}
-use Rattle.just_syntax.specs.Recipes.IsRecipeLine.{line}
-use Rattle.just_syntax.specs.Items.{IsTruth, IsFurtherString, AreStrings, IsSettingValue, IsAlias, IsImport, IsModulePath, IsModule, IsAssignment, IsUnexport, IsSetting, IsItem}
-use Rattle.just_syntax.specs.Items.IsTruth.{yes_word, no_word}
-use Rattle.just_syntax.specs.Forms.{form_of, sort_of}
+use Rattle.just_lang_read.specs.Place.{Place, past, behind_text}
+use Rattle.just_lang_syntax.specs.declared.ast.Name.{Name}
+use Rattle.just_lang_syntax.specs.declared.ast.StringLiteral.{StringLiteral}
+use Rattle.just_lang_syntax.specs.declared.ast.Expr.{Expr}
+use Rattle.just_lang_syntax.specs.declared.ast.Argument.{Argument}
+use Rattle.just_lang_syntax.specs.declared.ast.Attribute.{Attribute}
+use Rattle.just_lang_syntax.specs.declared.ast.ParameterKind.{ParameterKind}
+use Rattle.just_lang_syntax.specs.declared.ast.ParameterKind.TheVariants.{Singular, Plus, Star}
+use Rattle.just_lang_syntax.specs.declared.ast.AstParameter.{AstParameter}
+use Rattle.just_lang_syntax.specs.declared.ast.AstDependency.{AstDependency}
+use Rattle.just_lang_syntax.specs.declared.ast.AstRecipe.{AstRecipe}
+use Rattle.just_lang_syntax.specs.declared.ast.AstItem.{AstItem}
+use Rattle.just_lang_syntax.specs.declared.ast.SettingValue.{SettingValue}
+use Rattle.just_lang_syntax.specs.declared.entry.Entry.{Entry}
+use Rattle.just_lang_syntax.specs.declared.form.Form.{Form}
+use Rattle.just_lang_syntax.specs.declared.form.Sort.{Sort}
+use Rattle.just_lang_read.specs.Characters.{is_blank, in_line}
+use Rattle.just_lang_read.specs.Lines.{crlf, skip, IsNewline}
+use Rattle.just_lang_syntax.specs.Places.{IsFurtherName, IsPath, IsComment, IsRest}
+use Rattle.just_lang_syntax.specs.Places.IsPath.{names}
+use Rattle.just_lang_read.specs.Lines.IsNewline.{last, feed, return_feed}
+use Rattle.just_lang_syntax.specs.Places.IsRest.{ended, commented}
+use Rattle.just_lang_syntax.specs.Exprs.{IsInner}
+use Rattle.just_lang_syntax.specs.Attributes.{IsPlain, IsKey, IsOption, IsArgument, AreFurther, IsTrailing, AreArguments, IsAttribute, IsFurtherAttribute, IsAttributeLine, AreAttributes}
+use Rattle.just_lang_syntax.specs.Attributes.IsKey.{key_sign}
+use Rattle.just_lang_syntax.specs.Attributes.IsOption.{alone, valued, number}
+use Rattle.just_lang_syntax.specs.Attributes.IsArgument.{text, option, cached, any, any_key}
+use Rattle.just_lang_syntax.specs.Attributes.IsTrailing.{comma, nothing}
+use Rattle.just_lang_syntax.specs.Attributes.AreArguments.{in_parentheses}
+use Rattle.just_lang_syntax.specs.Attributes.IsAttributeLine.{in_brackets}
+use Rattle.just_lang_syntax.specs.Attributes.AreAttributes.{line_by_line}
+use Rattle.just_lang_syntax.specs.Recipes.{IsMaybe, IsDefault, IsParameter, IsVariadic, IsSingular, AreParameters, IsDependencyValue, IsDependency, AreDependencies, AreSubsequents, IsRecipeLine}
+use Rattle.just_lang_syntax.specs.Recipes.IsMaybe.{here, not_here}
+use Rattle.just_lang_syntax.specs.Recipes.IsDefault.{default, without}
+use Rattle.just_lang_syntax.specs.Recipes.IsParameter.{parameter}
+use Rattle.just_lang_syntax.specs.Recipes.AreParameters.{parameters}
+use Rattle.just_lang_syntax.specs.Recipes.AreDependencies.{dependencies}
+use Rattle.just_lang_syntax.specs.Recipes.IsRecipeLine.{line}
+use Rattle.just_lang_syntax.specs.Items.{IsTruth, IsFurtherString, AreStrings, IsSettingValue, IsAlias, IsImport, IsModulePath, IsModule, IsAssignment, IsUnexport, IsSetting, IsItem}
+use Rattle.just_lang_syntax.specs.Items.IsTruth.{yes_word, no_word}
+use Rattle.just_lang_syntax.specs.Forms.{form_of, sort_of}
 use Rattle.just_print.proofs.Scalars.{Keeps, text_keeps, past_keeps, same_keeps, character_keeps, token_keeps, word_keeps, name_keeps, many_keep, string_keeps, value_keeps, inner_keeps, expr_keeps}
 
 -- ---- paths and the ends of lines

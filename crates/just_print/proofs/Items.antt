@@ -1,7 +1,7 @@
 -- Items one by one, without a blank line behind another.
 use Rattle.std.proofs.Common.{◌≡◌, ℕ, Bool, true, false, not, ◌&&◌, List, ◌∷◌, ◌++◌, refl, append_assoc, append-nil}
 use Rattle.std.specs.List.{flat_map}
-use Rattle.just_syntax.specs.declared.ast.AstItem.{AstItem}
+use Rattle.just_lang_syntax.specs.declared.ast.AstItem.{AstItem}
 use Rattle.just_print.specs.Printed.{only_if, is_blank_item, one_blank, printed_item}
 
 more_by : (out indentation : List ℕ) (blank behind : Bool) (x : AstItem) (xs : List AstItem) → is_blank_item x ≡ blank

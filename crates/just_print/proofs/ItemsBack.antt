@@ -1,24 +1,24 @@
 -- What is printed of items without attributes and values of settings is read again.
 use Rattle.std.proofs.Common.{◌≡◌, ℕ, ◌==◌, Bool, true, false, if◌then◌else◌, List, [], ◌∷◌, ◌++◌, map, Some, codes, encode_utf8_all, refl, sym, ap, ◌∙◌, append_assoc}
-use Rattle.just_read.specs.Place.{Place, Rule, next, run, first, first_in, sees}
-use Rattle.just_read.proofs.Laws.{sees_first}
-use Rattle.just_syntax.specs.declared.ast.Name.{Name}
-use Rattle.just_read.specs.declared.quote.Quote.{Quote}
-use Rattle.just_read.specs.declared.quote.Quote.TheVariants.{Single, Double, SingleBlock, DoubleBlock}
-use Rattle.just_syntax.specs.declared.ast.StringLiteral.{StringLiteral}
-use Rattle.just_syntax.specs.declared.ast.Expr.{Expr}
-use Rattle.just_syntax.specs.declared.ast.AstItem.{AstItem}
-use Rattle.just_syntax.specs.declared.ast.AstItem.TheVariants as item
-use Rattle.just_read.specs.Characters.{is_blank, in_name}
-use Rattle.just_read.specs.Lines.{behind_word}
-use Rattle.just_syntax.specs.Places.{name_at, IsComment}
-use Rattle.just_read.specs.Quotes.{quote_at, behind_x}
-use Rattle.just_syntax.specs.Strings.{IsString}
-use Rattle.just_syntax.specs.Strings.IsString.{string}
-use Rattle.just_syntax.specs.Exprs.{begins_condition, IsExpr}
-use Rattle.just_syntax.specs.Recipes.{IsMaybe}
-use Rattle.just_syntax.specs.Recipes.IsMaybe.{here, not_here}
-use Rattle.just_syntax.specs.Items.{IsAlias, IsImport, IsAssignment, IsUnexport}
+use Rattle.just_lang_read.specs.Place.{Place, Rule, next, run, first, first_in, sees}
+use Rattle.just_lang_read.proofs.Laws.{sees_first}
+use Rattle.just_lang_syntax.specs.declared.ast.Name.{Name}
+use Rattle.just_lang_read.specs.declared.quote.Quote.{Quote}
+use Rattle.just_lang_read.specs.declared.quote.Quote.TheVariants.{Single, Double, SingleBlock, DoubleBlock}
+use Rattle.just_lang_syntax.specs.declared.ast.StringLiteral.{StringLiteral}
+use Rattle.just_lang_syntax.specs.declared.ast.Expr.{Expr}
+use Rattle.just_lang_syntax.specs.declared.ast.AstItem.{AstItem}
+use Rattle.just_lang_syntax.specs.declared.ast.AstItem.TheVariants as item
+use Rattle.just_lang_read.specs.Characters.{is_blank, in_name}
+use Rattle.just_lang_read.specs.Lines.{behind_word}
+use Rattle.just_lang_syntax.specs.Places.{name_at, IsComment}
+use Rattle.just_lang_read.specs.Quotes.{quote_at, behind_x}
+use Rattle.just_lang_syntax.specs.Strings.{IsString}
+use Rattle.just_lang_syntax.specs.Strings.IsString.{string}
+use Rattle.just_lang_syntax.specs.Exprs.{begins_condition, IsExpr}
+use Rattle.just_lang_syntax.specs.Recipes.{IsMaybe}
+use Rattle.just_lang_syntax.specs.Recipes.IsMaybe.{here, not_here}
+use Rattle.just_lang_syntax.specs.Items.{IsAlias, IsImport, IsAssignment, IsUnexport}
 use Rattle.just_print.specs.Printed.{newline, only_if, printed_string, printed_path, printed_expr, printed_end, printed_word, printed_item}
 use Rattle.just_print.specs.Shapes.{bare_name, bare_string, bare_expr, bare_item}
 use Rattle.just_print.proofs.Places.{beyond, beyond_dark, widen, token_back}

@@ -1,20 +1,20 @@
 -- Arguments of the same shape have the same keys: what may stand behind them is the same.
 use Rattle.std.specs.Option.{option_map}
 use Rattle.std.proofs.Common.{◌≡◌, ℕ, Bool, not, ◌&&◌, ◌||◌, List, [], ◌∷◌, map, Option, Some, None, codes, bytes_eq, refl, sym, ap, ◌∙◌}
-use Rattle.just_read.specs.Place.{Place}
-use Rattle.just_syntax.specs.declared.ast.Name.{Name}
-use Rattle.just_syntax.specs.declared.ast.Expr.{Expr, out-Expr}
-use Rattle.just_syntax.specs.declared.ast.Expr.TheOpen.{Expr-F}
-use Rattle.just_syntax.specs.declared.ast.Expr.TheViews.{roll-Expr, out-roll-Expr, roll-out-Expr}
-use Rattle.just_syntax.specs.declared.ast.Expr.TheFolds.{fold-roll-Expr}
-use Rattle.just_syntax.specs.declared.ast.Expr.TheVariants as e
-use Rattle.just_syntax.specs.declared.ast.Argument.{Argument}
-use Rattle.just_syntax.specs.declared.form.Form.{Form}
-use Rattle.just_syntax.specs.declared.form.Form.TheVariants.{Bare, MaybeText, Text, Texts, Arg, Cache, Open}
-use Rattle.just_syntax.specs.Forms.{is_cache_key}
-use Rattle.just_syntax.specs.Attributes.{is_named_in, is_named, is_key_or, has_key, may_cache, may_have, is_first, behind_first, takes_text, IsOption, IsArgument}
-use Rattle.just_syntax.specs.Attributes.IsOption.{alone, valued, number}
-use Rattle.just_syntax.specs.Attributes.IsArgument.{text, option, cached, any, any_key}
+use Rattle.just_lang_read.specs.Place.{Place}
+use Rattle.just_lang_syntax.specs.declared.ast.Name.{Name}
+use Rattle.just_lang_syntax.specs.declared.ast.Expr.{Expr, out-Expr}
+use Rattle.just_lang_syntax.specs.declared.ast.Expr.TheOpen.{Expr-F}
+use Rattle.just_lang_syntax.specs.declared.ast.Expr.TheViews.{roll-Expr, out-roll-Expr, roll-out-Expr}
+use Rattle.just_lang_syntax.specs.declared.ast.Expr.TheFolds.{fold-roll-Expr}
+use Rattle.just_lang_syntax.specs.declared.ast.Expr.TheVariants as e
+use Rattle.just_lang_syntax.specs.declared.ast.Argument.{Argument}
+use Rattle.just_lang_syntax.specs.declared.form.Form.{Form}
+use Rattle.just_lang_syntax.specs.declared.form.Form.TheVariants.{Bare, MaybeText, Text, Texts, Arg, Cache, Open}
+use Rattle.just_lang_syntax.specs.Forms.{is_cache_key}
+use Rattle.just_lang_syntax.specs.Attributes.{is_named_in, is_named, is_key_or, has_key, may_cache, may_have, is_first, behind_first, takes_text, IsOption, IsArgument}
+use Rattle.just_lang_syntax.specs.Attributes.IsOption.{alone, valued, number}
+use Rattle.just_lang_syntax.specs.Attributes.IsArgument.{text, option, cached, any, any_key}
 use Rattle.just_print.specs.Shapes.{bare_name, bare_string, bare_step, bare_expr, bare_argument}
 
 -- ---- whether an expression is a name doesn't depend on places

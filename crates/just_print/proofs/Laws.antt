@@ -3,16 +3,16 @@ use Rattle.std.proofs.Common.{◌≡◌, ℕ, true, List, [], ◌++◌, map, cha
 use Rattle.std.specs.Prelude.{IsUtf8, None}
 use lib.Utf8.{scalars}
 use Rattle.std.proofs.lemmas.Str.{chars_from_encodes}
-use Rattle.just_read.specs.Place.{Place, start, is_empty, is_end}
-use Rattle.just_syntax.specs.declared.ast.StringLiteral.{StringLiteral}
-use Rattle.just_syntax.specs.declared.ast.Expr.{Expr}
-use Rattle.just_syntax.specs.declared.ast.Attribute.{Attribute}
-use Rattle.just_syntax.specs.declared.ast.AstRecipe.{AstRecipe}
-use Rattle.just_syntax.specs.declared.ast.AstItem.{AstItem}
-use Rattle.just_syntax.specs.File.{IsFile, first_left_out}
-use Rattle.just_syntax.specs.Strings.{IsString}
-use Rattle.just_syntax.specs.Exprs.{begins_condition, IsExpr}
-use Rattle.just_syntax.specs.Recipes.{IsRecipeLine}
+use Rattle.just_lang_read.specs.Place.{Place, start, is_empty, is_end}
+use Rattle.just_lang_syntax.specs.declared.ast.StringLiteral.{StringLiteral}
+use Rattle.just_lang_syntax.specs.declared.ast.Expr.{Expr}
+use Rattle.just_lang_syntax.specs.declared.ast.Attribute.{Attribute}
+use Rattle.just_lang_syntax.specs.declared.ast.AstRecipe.{AstRecipe}
+use Rattle.just_lang_syntax.specs.declared.ast.AstItem.{AstItem}
+use Rattle.just_lang_syntax.specs.File.{IsFile, first_left_out}
+use Rattle.just_lang_syntax.specs.Strings.{IsString}
+use Rattle.just_lang_syntax.specs.Exprs.{begins_condition, IsExpr}
+use Rattle.just_lang_syntax.specs.Recipes.{IsRecipeLine}
 use Rattle.just_print.specs.Printed.{printed_string, printed_expr, printed_recipe_line, printed}
 use Rattle.just_print.specs.Law.{IsIndentation, NoReturnAtEnd}
 use Rattle.just_print.specs.Shapes.{bare_string, bare_expr, bare_attribute, bare_recipe, SameShape}

@@ -1,12 +1,12 @@
 -- Whether a tree has a left-out setting or attribute is a matter of its shape.
 use Rattle.std.proofs.Common.{◌≡◌, ◌∙◌, Bool, true, false, ◌&&◌, if◌then◌else◌, List, [], ◌∷◌, map, Option, Some, None, refl, sym, ap}
 use Rattle.std.specs.Option.{option_map}
-use Rattle.just_syntax.specs.declared.ast.Name.{Name}
-use Rattle.just_syntax.specs.declared.ast.Attribute.{Attribute}
-use Rattle.just_syntax.specs.declared.ast.AstItem.{AstItem}
-use Rattle.just_syntax.specs.declared.ast.AstItem.TheVariants as item
-use Rattle.just_syntax.specs.Forms.{is_left_out_setting, is_left_out_attribute}
-use Rattle.just_syntax.specs.File.{first_of, left_out_among, left_out_of, first_left_out}
+use Rattle.just_lang_syntax.specs.declared.ast.Name.{Name}
+use Rattle.just_lang_syntax.specs.declared.ast.Attribute.{Attribute}
+use Rattle.just_lang_syntax.specs.declared.ast.AstItem.{AstItem}
+use Rattle.just_lang_syntax.specs.declared.ast.AstItem.TheVariants as item
+use Rattle.just_lang_syntax.specs.Forms.{is_left_out_setting, is_left_out_attribute}
+use Rattle.just_lang_syntax.specs.File.{first_of, left_out_among, left_out_of, first_left_out}
 use Rattle.just_print.specs.Printed.{is_blank_item, one_blank}
 use Rattle.just_print.specs.Shapes.{bare_name, bare_attribute, bare_item, shape, SameShape}
 

@@ -1,4 +1,4 @@
--- The laws of printed texts.
+-- The lemmas of -- The laws of printed texts, usages.
 pub mod Exprs
 pub mod Places
 pub mod NamesBack
@@ -41,3 +41,4 @@ pub mod Braces
 pub mod Items
 pub mod ListLaws
 pub mod Laws
+mod Written

@@ -1,13 +1,13 @@
 -- What is printed of the end of an item's line is read again, with its comment.
 use Rattle.std.proofs.Common.{◌≡◌, ℕ, ◌==◌, Bool, true, false, List, [], ◌∷◌, ◌++◌, Option, Some, None, codes, encode_utf8_all, refl, sym, ap, ◌∙◌, subst, append_assoc}
 use Rattle.std.proofs.lemmas.Bool.{false≢true}
-use Rattle.just_read.specs.Place.{Place, next, past, run, first, first_in, passes, is_empty}
-use Rattle.just_read.proofs.Laws.{sees_first, starts_at}
-use Rattle.just_read.specs.Characters.{is_blank, in_line}
-use Rattle.just_read.specs.Lines.{put, without_returns, IsNewline}
-use Rattle.just_syntax.specs.Places.{IsComment, IsRest}
-use Rattle.just_read.specs.Lines.IsNewline.{last, feed, return_feed}
-use Rattle.just_syntax.specs.Places.IsRest.{ended, commented}
+use Rattle.just_lang_read.specs.Place.{Place, next, past, run, first, first_in, passes, is_empty}
+use Rattle.just_lang_read.proofs.Laws.{sees_first, starts_at}
+use Rattle.just_lang_read.specs.Characters.{is_blank, in_line}
+use Rattle.just_lang_read.specs.Lines.{put, without_returns, IsNewline}
+use Rattle.just_lang_syntax.specs.Places.{IsComment, IsRest}
+use Rattle.just_lang_read.specs.Lines.IsNewline.{last, feed, return_feed}
+use Rattle.just_lang_syntax.specs.Places.IsRest.{ended, commented}
 use Rattle.just_print.specs.Printed.{newline, printed_end}
 use Rattle.just_print.proofs.Places.{beyond, past_rest, next_rest, beyond_run, closes, Alike, one_first, both_close, IsApart}
 use Rattle.just_print.proofs.PiecesBack.{sees_at}

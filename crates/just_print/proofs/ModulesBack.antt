@@ -1,18 +1,18 @@
 -- What is printed of a module behind its attributes is read again.
 use Rattle.std.specs.Option.{option_map}
 use Rattle.std.proofs.Common.{◌≡◌, ℕ, ◌==◌, Bool, false, if◌then◌else◌, List, [], ◌++◌, map, Option, Some, None, codes, encode_utf8_all, refl, sym, ap, ◌∙◌, subst, append_assoc}
-use Rattle.just_read.specs.Place.{Place, next, run, first_in, passes, starts, sees}
-use Rattle.just_syntax.specs.declared.ast.Name.{Name}
-use Rattle.just_syntax.specs.declared.ast.StringLiteral.{StringLiteral}
-use Rattle.just_syntax.specs.declared.ast.Attribute.{Attribute}
-use Rattle.just_syntax.specs.declared.ast.AstItem.{AstItem}
-use Rattle.just_syntax.specs.declared.ast.AstItem.TheVariants as item
-use Rattle.just_read.specs.Characters.{is_blank, begins_name, in_name, is_quote}
-use Rattle.just_read.specs.Lines.{behind_word}
-use Rattle.just_syntax.specs.Places.{name_at, IsRest}
-use Rattle.just_read.specs.Quotes.{begins_string}
-use Rattle.just_syntax.specs.Items.{IsModulePath, IsModule}
-use Rattle.just_syntax.specs.Items.IsModulePath.{path, without}
+use Rattle.just_lang_read.specs.Place.{Place, next, run, first_in, passes, starts, sees}
+use Rattle.just_lang_syntax.specs.declared.ast.Name.{Name}
+use Rattle.just_lang_syntax.specs.declared.ast.StringLiteral.{StringLiteral}
+use Rattle.just_lang_syntax.specs.declared.ast.Attribute.{Attribute}
+use Rattle.just_lang_syntax.specs.declared.ast.AstItem.{AstItem}
+use Rattle.just_lang_syntax.specs.declared.ast.AstItem.TheVariants as item
+use Rattle.just_lang_read.specs.Characters.{is_blank, begins_name, in_name, is_quote}
+use Rattle.just_lang_read.specs.Lines.{behind_word}
+use Rattle.just_lang_syntax.specs.Places.{name_at, IsRest}
+use Rattle.just_lang_read.specs.Quotes.{begins_string}
+use Rattle.just_lang_syntax.specs.Items.{IsModulePath, IsModule}
+use Rattle.just_lang_syntax.specs.Items.IsModulePath.{path, without}
 use Rattle.just_print.specs.Printed.{only_if, printed_string, printed_attributes, printed_word, printed_file, printed_end, printed_item}
 use Rattle.just_print.specs.Shapes.{bare_name, bare_string, bare_attribute, bare_item}
 use Rattle.just_print.proofs.Places.{beyond, beyond_dark, not_that, alike_test, IsApart, token_back}

@@ -1,18 +1,18 @@
 -- Modules without attributes that are printed are read again as entries.
 use Rattle.std.proofs.Common.{◌≡◌, ℕ, ◌==◌, Bool, true, false, ◌&&◌, ◌||◌, List, [], ◌++◌, Option, codes, encode_utf8_all, refl, sym, ap, ◌∙◌}
-use Rattle.just_read.specs.Place.{Place, first_in, passes, starts, sees, begins, begins_in}
-use Rattle.just_syntax.specs.declared.ast.Name.{Name}
-use Rattle.just_syntax.specs.declared.ast.StringLiteral.{StringLiteral}
-use Rattle.just_syntax.specs.declared.ast.AstItem.{AstItem}
-use Rattle.just_syntax.specs.declared.entry.Entry.TheVariants as entry
-use Rattle.just_syntax.specs.declared.item.Opening.TheVariants as opening
-use Rattle.just_read.specs.Characters.{is_blank, begins_name}
-use Rattle.just_read.specs.Lines.{behind_word, is_word, is_rest}
-use Rattle.just_syntax.specs.Places.{IsName, IsRest}
-use Rattle.just_read.specs.Quotes.{begins_string}
-use Rattle.just_syntax.specs.Recipes.{IsMaybe}
-use Rattle.just_syntax.specs.Recipes.IsMaybe.{here, not_here}
-use Rattle.just_syntax.specs.Items.{is_assignment, is_module, opening_at, IsModulePath, IsModule, IsItem}
+use Rattle.just_lang_read.specs.Place.{Place, first_in, passes, starts, sees, begins, begins_in}
+use Rattle.just_lang_syntax.specs.declared.ast.Name.{Name}
+use Rattle.just_lang_syntax.specs.declared.ast.StringLiteral.{StringLiteral}
+use Rattle.just_lang_syntax.specs.declared.ast.AstItem.{AstItem}
+use Rattle.just_lang_syntax.specs.declared.entry.Entry.TheVariants as entry
+use Rattle.just_lang_syntax.specs.declared.item.Opening.TheVariants as opening
+use Rattle.just_lang_read.specs.Characters.{is_blank, begins_name}
+use Rattle.just_lang_read.specs.Lines.{behind_word, is_word, is_rest}
+use Rattle.just_lang_syntax.specs.Places.{IsName, IsRest}
+use Rattle.just_lang_read.specs.Quotes.{begins_string}
+use Rattle.just_lang_syntax.specs.Recipes.{IsMaybe}
+use Rattle.just_lang_syntax.specs.Recipes.IsMaybe.{here, not_here}
+use Rattle.just_lang_syntax.specs.Items.{is_assignment, is_module, opening_at, IsModulePath, IsModule, IsItem}
 use Rattle.just_print.specs.Printed.{only_if, printed_file, printed_end, printed_item}
 use Rattle.just_print.proofs.Places.{beyond, not_that}
 use Rattle.just_print.proofs.PathsBack.{name_cell}

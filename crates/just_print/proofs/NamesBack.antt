@@ -1,11 +1,11 @@
 -- What is printed of a name is read again as that name.
 use Rattle.std.proofs.Common.{◌≡◌, ℕ, true, false, List, ◌∷◌, ◌++◌, Some, encode_utf8_all, refl, sym, ap, ◌∙◌}
-use Rattle.just_read.specs.Place.{Place, Rule, past, run, first, first_in, passes, next}
-use Rattle.just_read.proofs.Laws.{starts_at, starts_with, run_next}
-use Rattle.just_syntax.specs.declared.ast.Name.{Name}
-use Rattle.just_read.specs.Characters.{is_blank, begins_name, in_name}
-use Rattle.just_read.specs.Lines.{behind_word}
-use Rattle.just_syntax.specs.Places.{name_at, IsName}
+use Rattle.just_lang_read.specs.Place.{Place, Rule, past, run, first, first_in, passes, next}
+use Rattle.just_lang_read.proofs.Laws.{starts_at, starts_with, run_next}
+use Rattle.just_lang_syntax.specs.declared.ast.Name.{Name}
+use Rattle.just_lang_read.specs.Characters.{is_blank, begins_name, in_name}
+use Rattle.just_lang_read.specs.Lines.{behind_word}
+use Rattle.just_lang_syntax.specs.Places.{name_at, IsName}
 use Rattle.just_print.specs.Shapes.{bare_name}
 use Rattle.just_print.proofs.Places.{beyond, past_rest, run_run, beyond_run, dark, Near, IsApart}
 

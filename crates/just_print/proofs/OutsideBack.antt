@@ -1,18 +1,18 @@
 -- Items that are printed are read again as items: the word or the sign that they begin with tells which.
 use Rattle.std.proofs.Common.{◌≡◌, ℕ, ◌==◌, Bool, true, false, ◌&&◌, ◌||◌, List, [], ◌∷◌, ◌++◌, Option, Some, codes, encode_utf8_all, refl, sym, ap, ◌∙◌, append_assoc}
 use Rattle.std.proofs.lemmas.Str.{encodes_same}
-use Rattle.just_read.specs.Place.{Place, next, past, run, first, first_in, passes, starts, sees, begins, begins_in, is_end}
-use Rattle.just_read.proofs.Laws.{sees_first, first_is}
-use Rattle.just_syntax.specs.declared.ast.Name.{Name}
-use Rattle.just_syntax.specs.declared.ast.AstItem.{AstItem}
-use Rattle.just_syntax.specs.declared.ast.AstItem.TheVariants as tree
-use Rattle.just_syntax.specs.declared.entry.Entry.TheVariants as entry
-use Rattle.just_syntax.specs.declared.item.Opening.TheVariants as opening
-use Rattle.just_read.specs.Characters.{is_blank, begins_name, in_name, in_line}
-use Rattle.just_read.specs.Lines.{crlf, put, without_returns, behind_word, is_word, is_rest, ends_line, IsNewline}
-use Rattle.just_syntax.specs.Places.{IsName, IsComment, IsRest}
-use Rattle.just_syntax.specs.Places.IsRest.{ended, commented}
-use Rattle.just_syntax.specs.Items.{is_assignment, is_last_name, opening_at, IsAlias, IsAssignment, IsUnexport, IsItem}
+use Rattle.just_lang_read.specs.Place.{Place, next, past, run, first, first_in, passes, starts, sees, begins, begins_in, is_end}
+use Rattle.just_lang_read.proofs.Laws.{sees_first, first_is}
+use Rattle.just_lang_syntax.specs.declared.ast.Name.{Name}
+use Rattle.just_lang_syntax.specs.declared.ast.AstItem.{AstItem}
+use Rattle.just_lang_syntax.specs.declared.ast.AstItem.TheVariants as tree
+use Rattle.just_lang_syntax.specs.declared.entry.Entry.TheVariants as entry
+use Rattle.just_lang_syntax.specs.declared.item.Opening.TheVariants as opening
+use Rattle.just_lang_read.specs.Characters.{is_blank, begins_name, in_name, in_line}
+use Rattle.just_lang_read.specs.Lines.{crlf, put, without_returns, behind_word, is_word, is_rest, ends_line, IsNewline}
+use Rattle.just_lang_syntax.specs.Places.{IsName, IsComment, IsRest}
+use Rattle.just_lang_syntax.specs.Places.IsRest.{ended, commented}
+use Rattle.just_lang_syntax.specs.Items.{is_assignment, is_last_name, opening_at, IsAlias, IsAssignment, IsUnexport, IsItem}
 use Rattle.just_print.specs.Printed.{newline, printed_path, printed_expr, printed_end, printed_item}
 use Rattle.just_print.proofs.Places.{beyond, past_rest, beyond_run, beyond_dark, not_that, token_back}
 use Rattle.just_print.proofs.PathsBack.{name_cell, path_back}

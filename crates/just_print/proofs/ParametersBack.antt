@@ -2,23 +2,23 @@
 use Rattle.std.specs.Option.{option_map}
 use Rattle.std.proofs.Common.{◌≡◌, ℕ, ◌==◌, Bool, true, false, ◌||◌, List, [], ◌∷◌, ◌++◌, map, Option, Some, None, codes, encode_utf8_all, refl, sym, ap, ◌∙◌, subst, append_assoc}
 use Rattle.std.proofs.lemmas.List.{map-append}
-use Rattle.just_read.specs.Place.{Place, AreMany, next, run, first, first_in, starts, begins}
-use Rattle.just_read.proofs.Laws.{starts_at}
-use Rattle.just_syntax.specs.declared.ast.Name.{Name}
-use Rattle.just_syntax.specs.declared.ast.Expr.{Expr}
-use Rattle.just_syntax.specs.declared.ast.ParameterKind.{ParameterKind}
-use Rattle.just_syntax.specs.declared.ast.ParameterKind.TheVariants.{Singular, Plus, Star}
-use Rattle.just_syntax.specs.declared.ast.AstParameter.{AstParameter}
-use Rattle.just_read.specs.Characters.{is_blank, begins_name, in_name}
-use Rattle.just_read.specs.Lines.{behind_word, IsToken}
-use Rattle.just_syntax.specs.Places.{name_at}
-use Rattle.just_syntax.specs.Exprs.{IsInner, IsValue}
-use Rattle.just_syntax.specs.Recipes.{begins_parameter, listed, IsMaybe, IsDefault, IsParameter, IsVariadic, IsSingular, AreParameters}
-use Rattle.just_syntax.specs.Recipes.IsMaybe.{here, not_here}
-use Rattle.just_syntax.specs.Recipes.IsDefault.{default, without}
-use Rattle.just_syntax.specs.Recipes.IsParameter.{parameter}
-use Rattle.just_syntax.specs.Recipes.IsVariadic.{star, plus, none}
-use Rattle.just_syntax.specs.Recipes.AreParameters.{parameters}
+use Rattle.just_lang_read.specs.Place.{Place, AreMany, next, run, first, first_in, starts, begins}
+use Rattle.just_lang_read.proofs.Laws.{starts_at}
+use Rattle.just_lang_syntax.specs.declared.ast.Name.{Name}
+use Rattle.just_lang_syntax.specs.declared.ast.Expr.{Expr}
+use Rattle.just_lang_syntax.specs.declared.ast.ParameterKind.{ParameterKind}
+use Rattle.just_lang_syntax.specs.declared.ast.ParameterKind.TheVariants.{Singular, Plus, Star}
+use Rattle.just_lang_syntax.specs.declared.ast.AstParameter.{AstParameter}
+use Rattle.just_lang_read.specs.Characters.{is_blank, begins_name, in_name}
+use Rattle.just_lang_read.specs.Lines.{behind_word, IsToken}
+use Rattle.just_lang_syntax.specs.Places.{name_at}
+use Rattle.just_lang_syntax.specs.Exprs.{IsInner, IsValue}
+use Rattle.just_lang_syntax.specs.Recipes.{begins_parameter, listed, IsMaybe, IsDefault, IsParameter, IsVariadic, IsSingular, AreParameters}
+use Rattle.just_lang_syntax.specs.Recipes.IsMaybe.{here, not_here}
+use Rattle.just_lang_syntax.specs.Recipes.IsDefault.{default, without}
+use Rattle.just_lang_syntax.specs.Recipes.IsParameter.{parameter}
+use Rattle.just_lang_syntax.specs.Recipes.IsVariadic.{star, plus, none}
+use Rattle.just_lang_syntax.specs.Recipes.AreParameters.{parameters}
 use Rattle.just_print.specs.Printed.{only_if, kind_sign, printed_expr, printed_default, printed_parameter, printed_parameters}
 use Rattle.just_print.specs.Shapes.{bare_name, bare_expr, bare_parameter}
 use Rattle.just_print.proofs.Places.{beyond, beyond_dark, not_that, Alike, Near, widen, one_first, alike_test, IsApart, token_back}

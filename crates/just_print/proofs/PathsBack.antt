@@ -1,12 +1,12 @@
 -- What is printed of a path is read again as that path.
 use Rattle.std.proofs.Common.{◌≡◌, ℕ, true, false, List, [], ◌∷◌, ◌++◌, map, Some, codes, encode_utf8_all, refl, sym, ap, ◌∙◌, append_assoc}
-use Rattle.just_read.specs.Place.{Place, AreMany, run, first, next, begins_in}
-use Rattle.just_read.proofs.Laws.{starts_at, starts_with, run_next}
-use Rattle.just_syntax.specs.declared.ast.Name.{Name}
-use Rattle.just_read.specs.Characters.{is_blank, begins_name, in_name}
-use Rattle.just_read.specs.Lines.{behind_word}
-use Rattle.just_syntax.specs.Places.{name_at, IsName, IsFurtherName, IsPath}
-use Rattle.just_syntax.specs.Places.IsPath.{names}
+use Rattle.just_lang_read.specs.Place.{Place, AreMany, run, first, next, begins_in}
+use Rattle.just_lang_read.proofs.Laws.{starts_at, starts_with, run_next}
+use Rattle.just_lang_syntax.specs.declared.ast.Name.{Name}
+use Rattle.just_lang_read.specs.Characters.{is_blank, begins_name, in_name}
+use Rattle.just_lang_read.specs.Lines.{behind_word}
+use Rattle.just_lang_syntax.specs.Places.{name_at, IsName, IsFurtherName, IsPath}
+use Rattle.just_lang_syntax.specs.Places.IsPath.{names}
 use Rattle.just_print.specs.Printed.{led, printed_name, printed_path}
 use Rattle.just_print.specs.Shapes.{bare_name}
 use Rattle.just_print.proofs.Places.{beyond, beyond_dark, dark, IsApart, token_back}

@@ -2,13 +2,13 @@
 use Rattle.std.proofs.Common.{◌≡◌, ℕ, ◌+◌, ◌-◌, ◌≤◌, ◌==◌, Bool, true, false, not, ◌&&◌, List, [], ◌∷◌, ◌++◌, length, ◌⊎◌, inl, inr, refl, sym, ap, ◌∙◌, append_assoc, length-append, arith}
 use Rattle.std.proofs.Math.Seq.{take-append_seam}
 use Rattle.std.proofs.lemmas.Bool.{false≢true, eqb-true}
-use Rattle.just_read.specs.Place.{Place, AreMany, IsCharacter, next, past, run, first_in, starts, sees, begins, begins_in, between, is_end}
-use Rattle.just_read.proofs.Laws.{starts_at, starts_with, sees_first, first_is, run_next}
-use Rattle.just_read.specs.declared.quote.Quote.{Quote}
-use Rattle.just_read.specs.Characters.{is_hex}
-use Rattle.just_read.specs.Quotes.{mark, is_cooked, goes_on, IsEscape, IsPiece, IsPieceOf}
-use Rattle.just_read.specs.Quotes.IsEscape.{letter, unicode, feed, return_feed}
-use Rattle.just_read.specs.Quotes.IsPiece.{itself, escaped}
+use Rattle.just_lang_read.specs.Place.{Place, AreMany, IsCharacter, next, past, run, first_in, starts, sees, begins, begins_in, between, is_end}
+use Rattle.just_lang_read.proofs.Laws.{starts_at, starts_with, sees_first, first_is, run_next}
+use Rattle.just_lang_read.specs.declared.quote.Quote.{Quote}
+use Rattle.just_lang_read.specs.Characters.{is_hex}
+use Rattle.just_lang_read.specs.Quotes.{mark, is_cooked, goes_on, IsEscape, IsPiece, IsPieceOf}
+use Rattle.just_lang_read.specs.Quotes.IsEscape.{letter, unicode, feed, return_feed}
+use Rattle.just_lang_read.specs.Quotes.IsPiece.{itself, escaped}
 use Rattle.just_print.proofs.Places.{beyond, past_rest, run_run, beyond_run, same, next_rest, and_true}
 
 -- the front of a text and what follows it; the front stands for x wherever it stands

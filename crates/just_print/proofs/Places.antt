@@ -3,10 +3,10 @@ use Rattle.std.proofs.Common.{◌≡◌, ℕ, ◌+◌, ◌==◌, ◌<◌, nat_lt
 use Rattle.std.proofs.lemmas.Bool.{false≢true, eqb-true}
 use Rattle.std.proofs.lemmas.Str.{encode_ascii}
 use Rattle.std.specs.List.{list_all}
-use Rattle.just_read.specs.Place.{Place, at, next, past, past_in, run, first, first_in, passes, begins_in, behind_text}
-use Rattle.just_read.proofs.Laws.{first_is}
-use Rattle.just_read.specs.Characters.{is_blank, in_name, is_quote}
-use Rattle.just_read.specs.Lines.{skip, IsToken}
+use Rattle.just_lang_read.specs.Place.{Place, at, next, past, past_in, run, first, first_in, passes, begins_in, behind_text}
+use Rattle.just_lang_read.proofs.Laws.{first_is}
+use Rattle.just_lang_read.specs.Characters.{is_blank, in_name, is_quote}
+use Rattle.just_lang_read.specs.Lines.{skip, IsToken}
 
 -- what is left of a text behind the longest run of characters that pass the test
 abbrev pub beyond : (ℕ → Bool) → List ℕ → List ℕ

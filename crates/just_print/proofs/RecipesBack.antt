@@ -1,21 +1,21 @@
 -- What is printed of the line of a recipe is read again.
 use Rattle.std.proofs.Common.{◌≡◌, ℕ, ◌==◌, Bool, true, false, ◌||◌, List, [], ◌∷◌, ◌++◌, map, Option, Some, codes, encode_utf8_all, refl, sym, ap, ◌∙◌, subst, append_assoc}
 use Rattle.std.proofs.lemmas.Bool.{false≢true}
-use Rattle.just_read.specs.Place.{Place, next, run, first, first_in, passes, starts, begins, begins_in}
-use Rattle.just_read.proofs.Laws.{sees_first, starts_at}
-use Rattle.just_syntax.specs.declared.ast.Name.{Name}
-use Rattle.just_syntax.specs.declared.ast.Attribute.{Attribute}
-use Rattle.just_syntax.specs.declared.ast.AstParameter.{AstParameter}
-use Rattle.just_syntax.specs.declared.ast.AstDependency.{AstDependency}
-use Rattle.just_syntax.specs.declared.ast.AstRecipe.{AstRecipe}
-use Rattle.just_read.specs.Characters.{is_blank, begins_name, in_name}
-use Rattle.just_read.specs.Lines.{behind_word, IsToken}
-use Rattle.just_syntax.specs.Places.{name_at, IsRest}
-use Rattle.just_syntax.specs.Places.IsRest.{ended, commented}
-use Rattle.just_syntax.specs.Recipes.{begins_dependency, AreDependencies, AreSubsequents, IsRecipeLine}
-use Rattle.just_syntax.specs.Recipes.AreDependencies.{dependencies}
-use Rattle.just_syntax.specs.Recipes.AreSubsequents.{none, some}
-use Rattle.just_syntax.specs.Recipes.IsRecipeLine.{line}
+use Rattle.just_lang_read.specs.Place.{Place, next, run, first, first_in, passes, starts, begins, begins_in}
+use Rattle.just_lang_read.proofs.Laws.{sees_first, starts_at}
+use Rattle.just_lang_syntax.specs.declared.ast.Name.{Name}
+use Rattle.just_lang_syntax.specs.declared.ast.Attribute.{Attribute}
+use Rattle.just_lang_syntax.specs.declared.ast.AstParameter.{AstParameter}
+use Rattle.just_lang_syntax.specs.declared.ast.AstDependency.{AstDependency}
+use Rattle.just_lang_syntax.specs.declared.ast.AstRecipe.{AstRecipe}
+use Rattle.just_lang_read.specs.Characters.{is_blank, begins_name, in_name}
+use Rattle.just_lang_read.specs.Lines.{behind_word, IsToken}
+use Rattle.just_lang_syntax.specs.Places.{name_at, IsRest}
+use Rattle.just_lang_syntax.specs.Places.IsRest.{ended, commented}
+use Rattle.just_lang_syntax.specs.Recipes.{begins_dependency, AreDependencies, AreSubsequents, IsRecipeLine}
+use Rattle.just_lang_syntax.specs.Recipes.AreDependencies.{dependencies}
+use Rattle.just_lang_syntax.specs.Recipes.AreSubsequents.{none, some}
+use Rattle.just_lang_syntax.specs.Recipes.IsRecipeLine.{line}
 use Rattle.just_print.specs.Printed.{only_if, printed_end, printed_parameters, printed_dependencies, printed_subsequents, printed_recipe_line}
 use Rattle.just_print.specs.Shapes.{bare_name, bare_attribute, bare_parameter, bare_dependency, bare_recipe}
 use Rattle.just_print.proofs.Places.{beyond, not_that, begins_one, Alike, one_first, alike_test, closes_test, token_back}

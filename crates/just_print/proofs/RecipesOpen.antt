@@ -1,21 +1,21 @@
 -- Where the line of a recipe stands, it is a recipe that begins: no other item's sign stands behind its first words.
 use Rattle.std.proofs.Common.{◌≡◌, ℕ, ◌==◌, Bool, true, false, ◌&&◌, ◌||◌, if◌then◌else◌, List, [], ◌∷◌, Option, Some, codes, refl, sym, ap, ◌∙◌, subst}
 use Rattle.std.proofs.lemmas.Bool.{false≢true, eqb-true}
-use Rattle.just_read.specs.Place.{Place, AreMany, next, first, first_in, passes, starts, sees, begins, begins_in, is_empty, is_end}
-use Rattle.just_read.proofs.Laws.{starts_at, starts_with, sees_first, first_is}
-use Rattle.just_syntax.specs.declared.ast.Attribute.{Attribute}
-use Rattle.just_syntax.specs.declared.ast.Expr.{Expr}
-use Rattle.just_syntax.specs.declared.ast.AstParameter.{AstParameter}
-use Rattle.just_syntax.specs.declared.ast.AstDependency.{AstDependency}
-use Rattle.just_syntax.specs.declared.ast.AstRecipe.{AstRecipe}
-use Rattle.just_syntax.specs.declared.item.Opening.TheVariants as opening
-use Rattle.just_read.specs.Characters.{is_blank, begins_name, in_name, is_quote}
-use Rattle.just_read.specs.Lines.{crlf, behind_word, is_word, is_rest, IsToken}
-use Rattle.just_syntax.specs.Places.{IsRest}
-use Rattle.just_syntax.specs.Places.IsPath.{names}
-use Rattle.just_read.specs.Quotes.{begins_string}
-use Rattle.just_syntax.specs.Recipes.{IsMaybe, IsDefault, IsParameter, IsVariadic, IsSingular, AreParameters, IsDependency, AreDependencies, AreSubsequents, IsRecipeLine}
-use Rattle.just_syntax.specs.Items.{is_assignment, is_last_name, is_module, opening_at, opens_module}
+use Rattle.just_lang_read.specs.Place.{Place, AreMany, next, first, first_in, passes, starts, sees, begins, begins_in, is_empty, is_end}
+use Rattle.just_lang_read.proofs.Laws.{starts_at, starts_with, sees_first, first_is}
+use Rattle.just_lang_syntax.specs.declared.ast.Attribute.{Attribute}
+use Rattle.just_lang_syntax.specs.declared.ast.Expr.{Expr}
+use Rattle.just_lang_syntax.specs.declared.ast.AstParameter.{AstParameter}
+use Rattle.just_lang_syntax.specs.declared.ast.AstDependency.{AstDependency}
+use Rattle.just_lang_syntax.specs.declared.ast.AstRecipe.{AstRecipe}
+use Rattle.just_lang_syntax.specs.declared.item.Opening.TheVariants as opening
+use Rattle.just_lang_read.specs.Characters.{is_blank, begins_name, in_name, is_quote}
+use Rattle.just_lang_read.specs.Lines.{crlf, behind_word, is_word, is_rest, IsToken}
+use Rattle.just_lang_syntax.specs.Places.{IsRest}
+use Rattle.just_lang_syntax.specs.Places.IsPath.{names}
+use Rattle.just_lang_read.specs.Quotes.{begins_string}
+use Rattle.just_lang_syntax.specs.Recipes.{IsMaybe, IsDefault, IsParameter, IsVariadic, IsSingular, AreParameters, IsDependency, AreDependencies, AreSubsequents, IsRecipeLine}
+use Rattle.just_lang_syntax.specs.Items.{is_assignment, is_last_name, is_module, opening_at, opens_module}
 use Rattle.just_print.proofs.Places.{beyond, past_rest, begins_one, closes, not_that, dark}
 use Rattle.just_print.proofs.WordsBack.{begins_other, token_first}
 use Rattle.just_print.proofs.OutsideBack.{after, behind_in}

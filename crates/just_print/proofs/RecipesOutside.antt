@@ -1,15 +1,15 @@
 -- Lines of recipes that are printed, with their attributes in front, are read again as entries.
 use Rattle.std.proofs.Common.{◌≡◌, ℕ, ◌==◌, false, List, [], ◌∷◌, ◌++◌, map, Some, codes, encode_utf8_all, refl, sym, ap, ◌∙◌, append_assoc}
-use Rattle.just_read.specs.Place.{Place, first, first_in, passes, begins_in}
-use Rattle.just_syntax.specs.declared.ast.Attribute.{Attribute}
-use Rattle.just_syntax.specs.declared.ast.AstRecipe.{AstRecipe}
-use Rattle.just_syntax.specs.declared.entry.Entry.TheVariants as entry
-use Rattle.just_syntax.specs.declared.item.Opening.TheVariants as opening
-use Rattle.just_read.specs.Characters.{is_blank}
-use Rattle.just_syntax.specs.Attributes.{AreAttributes}
-use Rattle.just_syntax.specs.Attributes.AreAttributes.{line_by_line}
-use Rattle.just_syntax.specs.Recipes.{IsRecipeLine}
-use Rattle.just_syntax.specs.Items.{opening_at, opens_module, IsItem}
+use Rattle.just_lang_read.specs.Place.{Place, first, first_in, passes, begins_in}
+use Rattle.just_lang_syntax.specs.declared.ast.Attribute.{Attribute}
+use Rattle.just_lang_syntax.specs.declared.ast.AstRecipe.{AstRecipe}
+use Rattle.just_lang_syntax.specs.declared.entry.Entry.TheVariants as entry
+use Rattle.just_lang_syntax.specs.declared.item.Opening.TheVariants as opening
+use Rattle.just_lang_read.specs.Characters.{is_blank}
+use Rattle.just_lang_syntax.specs.Attributes.{AreAttributes}
+use Rattle.just_lang_syntax.specs.Attributes.AreAttributes.{line_by_line}
+use Rattle.just_lang_syntax.specs.Recipes.{IsRecipeLine}
+use Rattle.just_lang_syntax.specs.Items.{opening_at, opens_module, IsItem}
 use Rattle.just_print.specs.Printed.{printed_end, behind_attribute, printed_attributes, printed_recipe_line}
 use Rattle.just_print.specs.Shapes.{bare_attribute}
 use Rattle.just_print.proofs.Places.{closes}

@@ -1,27 +1,27 @@
 -- Where a text has scalar values alone, so has what is left of it behind strings and expressions.
 use lib.Utf8.{scalar, scalars}
 use Rattle.std.proofs.Common.{◌≡◌, ℕ, zero, suc, ◌+◌, ◌==◌, Bool, true, false, if◌then◌else◌, List, [], ◌∷◌, codes, Option, Some, None, refl, ap, ◌∙◌}
-use Rattle.just_read.specs.Place.{Place, Rule, AreMany, IsCharacter, at, next, next_in, past, sees, behind_text}
-use Rattle.just_syntax.specs.declared.ast.Name.{Name}
-use Rattle.just_read.specs.declared.quote.Quote.{Quote}
-use Rattle.just_syntax.specs.declared.ast.StringLiteral.{StringLiteral}
-use Rattle.just_syntax.specs.declared.ast.Comparison.{Comparison}
-use Rattle.just_syntax.specs.declared.ast.Expr.{Expr}
-use Rattle.just_read.specs.Characters.{is_blank, in_name, is_hex}
-use Rattle.just_read.specs.Lines.{skip, behind_word, IsToken, IsWord}
-use Rattle.just_syntax.specs.Places.{IsName}
-use Rattle.just_read.specs.Quotes.{mark, behind_x, IsEscape, IsPieceOf}
-use Rattle.just_syntax.specs.Strings.{IsRaw, IsString}
-use Rattle.just_read.specs.Quotes.IsEscape.{letter, unicode, feed, return_feed}
-use Rattle.just_read.specs.Quotes.IsPiece.{itself, escaped}
-use Rattle.just_syntax.specs.Strings.IsRaw.{closed}
-use Rattle.just_syntax.specs.Strings.IsString.{string}
-use Rattle.just_syntax.specs.Exprs.{IsComparison, IsDefault, IsValue, IsBlock, IsOtherwise, IsLevel, IsInner, IsExpr}
-use Rattle.just_syntax.specs.Exprs.IsComparison.{equal, unequal}
-use Rattle.just_syntax.specs.Exprs.IsValue.{literal, group, env, variable}
-use Rattle.just_syntax.specs.Exprs.IsBlock.{block}
-use Rattle.just_syntax.specs.Exprs.IsOtherwise.{last, further}
-use Rattle.just_syntax.specs.Exprs.IsLevel.{conditional, root, value, joined, concatenated}
+use Rattle.just_lang_read.specs.Place.{Place, Rule, AreMany, IsCharacter, at, next, next_in, past, sees, behind_text}
+use Rattle.just_lang_syntax.specs.declared.ast.Name.{Name}
+use Rattle.just_lang_read.specs.declared.quote.Quote.{Quote}
+use Rattle.just_lang_syntax.specs.declared.ast.StringLiteral.{StringLiteral}
+use Rattle.just_lang_syntax.specs.declared.ast.Comparison.{Comparison}
+use Rattle.just_lang_syntax.specs.declared.ast.Expr.{Expr}
+use Rattle.just_lang_read.specs.Characters.{is_blank, in_name, is_hex}
+use Rattle.just_lang_read.specs.Lines.{skip, behind_word, IsToken, IsWord}
+use Rattle.just_lang_syntax.specs.Places.{IsName}
+use Rattle.just_lang_read.specs.Quotes.{mark, behind_x, IsEscape, IsPieceOf}
+use Rattle.just_lang_syntax.specs.Strings.{IsRaw, IsString}
+use Rattle.just_lang_read.specs.Quotes.IsEscape.{letter, unicode, feed, return_feed}
+use Rattle.just_lang_read.specs.Quotes.IsPiece.{itself, escaped}
+use Rattle.just_lang_syntax.specs.Strings.IsRaw.{closed}
+use Rattle.just_lang_syntax.specs.Strings.IsString.{string}
+use Rattle.just_lang_syntax.specs.Exprs.{IsComparison, IsDefault, IsValue, IsBlock, IsOtherwise, IsLevel, IsInner, IsExpr}
+use Rattle.just_lang_syntax.specs.Exprs.IsComparison.{equal, unequal}
+use Rattle.just_lang_syntax.specs.Exprs.IsValue.{literal, group, env, variable}
+use Rattle.just_lang_syntax.specs.Exprs.IsBlock.{block}
+use Rattle.just_lang_syntax.specs.Exprs.IsOtherwise.{last, further}
+use Rattle.just_lang_syntax.specs.Exprs.IsLevel.{conditional, root, value, joined, concatenated}
 use Rattle.just_print.proofs.Places.{beyond, past_rest, and_true}
 
 -- if there are scalar values alone from p on, there are from q on

@@ -1,32 +1,32 @@
 -- What is printed of settings is read again.
 use Rattle.std.specs.Option.{option_map}
 use Rattle.std.proofs.Common.{◌≡◌, ℕ, ◌==◌, Bool, true, false, ◌&&◌, List, [], ◌∷◌, ◌++◌, map, Option, Some, None, ◌⊎◌, inl, inr, ⊎_elim, codes, encode_utf8_all, refl, sym, ap, ◌∙◌, subst, append_assoc}
-use Rattle.just_read.specs.Place.{Place, AreMany, next, run, first, first_in, passes, begins}
-use Rattle.just_read.proofs.Laws.{starts_at}
-use Rattle.just_syntax.specs.declared.ast.Name.{Name}
-use Rattle.just_read.specs.declared.quote.Quote.{Quote}
-use Rattle.just_read.specs.declared.quote.Quote.TheVariants.{Single, Double, SingleBlock, DoubleBlock}
-use Rattle.just_syntax.specs.declared.ast.StringLiteral.{StringLiteral}
-use Rattle.just_syntax.specs.declared.ast.Expr.{Expr}
-use Rattle.just_syntax.specs.declared.ast.SettingValue.{SettingValue}
-use Rattle.just_syntax.specs.declared.ast.SettingValue.TheVariants as setting
-use Rattle.just_syntax.specs.declared.ast.AstItem.{AstItem}
-use Rattle.just_syntax.specs.declared.ast.AstItem.TheVariants as item
-use Rattle.just_syntax.specs.declared.form.Sort.{Sort}
-use Rattle.just_syntax.specs.declared.form.Sort.TheVariants as sort
-use Rattle.just_read.specs.Characters.{is_blank, in_name, is_quote}
-use Rattle.just_read.specs.Lines.{skip, behind_word}
-use Rattle.just_syntax.specs.Places.{name_at, IsRest}
-use Rattle.just_read.specs.Quotes.{behind_x, begins_string}
-use Rattle.just_syntax.specs.Strings.{IsString}
-use Rattle.just_syntax.specs.Strings.IsString.{string}
-use Rattle.just_syntax.specs.Exprs.{begins_condition, IsExpr}
-use Rattle.just_syntax.specs.Forms.{sort_of}
-use Rattle.just_syntax.specs.Attributes.IsTrailing.{nothing}
-use Rattle.just_syntax.specs.Items.{goes_on, IsTruth, IsFurtherString, AreStrings, IsSettingValue, IsSetting}
-use Rattle.just_syntax.specs.Items.IsTruth.{yes_word, no_word}
-use Rattle.just_syntax.specs.Items.AreStrings.{none, some}
-use Rattle.just_syntax.specs.Items.IsSettingValue.{absent, flag, text, list, any_text, any_list}
+use Rattle.just_lang_read.specs.Place.{Place, AreMany, next, run, first, first_in, passes, begins}
+use Rattle.just_lang_read.proofs.Laws.{starts_at}
+use Rattle.just_lang_syntax.specs.declared.ast.Name.{Name}
+use Rattle.just_lang_read.specs.declared.quote.Quote.{Quote}
+use Rattle.just_lang_read.specs.declared.quote.Quote.TheVariants.{Single, Double, SingleBlock, DoubleBlock}
+use Rattle.just_lang_syntax.specs.declared.ast.StringLiteral.{StringLiteral}
+use Rattle.just_lang_syntax.specs.declared.ast.Expr.{Expr}
+use Rattle.just_lang_syntax.specs.declared.ast.SettingValue.{SettingValue}
+use Rattle.just_lang_syntax.specs.declared.ast.SettingValue.TheVariants as setting
+use Rattle.just_lang_syntax.specs.declared.ast.AstItem.{AstItem}
+use Rattle.just_lang_syntax.specs.declared.ast.AstItem.TheVariants as item
+use Rattle.just_lang_syntax.specs.declared.form.Sort.{Sort}
+use Rattle.just_lang_syntax.specs.declared.form.Sort.TheVariants as sort
+use Rattle.just_lang_read.specs.Characters.{is_blank, in_name, is_quote}
+use Rattle.just_lang_read.specs.Lines.{skip, behind_word}
+use Rattle.just_lang_syntax.specs.Places.{name_at, IsRest}
+use Rattle.just_lang_read.specs.Quotes.{behind_x, begins_string}
+use Rattle.just_lang_syntax.specs.Strings.{IsString}
+use Rattle.just_lang_syntax.specs.Strings.IsString.{string}
+use Rattle.just_lang_syntax.specs.Exprs.{begins_condition, IsExpr}
+use Rattle.just_lang_syntax.specs.Forms.{sort_of}
+use Rattle.just_lang_syntax.specs.Attributes.IsTrailing.{nothing}
+use Rattle.just_lang_syntax.specs.Items.{goes_on, IsTruth, IsFurtherString, AreStrings, IsSettingValue, IsSetting}
+use Rattle.just_lang_syntax.specs.Items.IsTruth.{yes_word, no_word}
+use Rattle.just_lang_syntax.specs.Items.AreStrings.{none, some}
+use Rattle.just_lang_syntax.specs.Items.IsSettingValue.{absent, flag, text, list, any_text, any_list}
 use Rattle.just_print.specs.Printed.{led, printed_string, printed_strings, printed_expr, printed_setting, printed_end, printed_item}
 use Rattle.just_print.specs.Shapes.{bare_name, bare_string, bare_expr, bare_value, bare_item}
 use Rattle.just_print.proofs.Places.{beyond, beyond_dark, widen, one_first, alike_test, IsApart, token_back}

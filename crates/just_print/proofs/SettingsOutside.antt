@@ -2,17 +2,17 @@
 use Rattle.std.proofs.Common.{◌≡◌, ℕ, ◌==◌, ◌<◌, nat_lt, Bool, true, false, ◌||◌, List, [], ◌∷◌, ◌++◌, Option, codes, encode_utf8_all, refl, sym, ap, ◌∙◌, arith}
 use Rattle.std.proofs.lemmas.Bool.{false≢true}
 use Rattle.std.proofs.lemmas.Str.{encode_ascii, cons_from_encodes}
-use Rattle.just_read.specs.Place.{Place, first_in, passes, starts, sees, begins, begins_in, behind_text, is_empty}
-use Rattle.just_syntax.specs.declared.ast.SettingValue.{SettingValue}
-use Rattle.just_syntax.specs.declared.ast.AstItem.{AstItem}
-use Rattle.just_syntax.specs.declared.entry.Entry.TheVariants as entry
-use Rattle.just_syntax.specs.declared.form.Sort.{Sort}
-use Rattle.just_syntax.specs.declared.item.Opening.TheVariants as opening
-use Rattle.just_read.specs.Characters.{is_blank, begins_name}
-use Rattle.just_read.specs.Lines.{crlf, behind_word, is_word, is_rest, IsToken}
-use Rattle.just_syntax.specs.Places.{IsRest}
-use Rattle.just_syntax.specs.Forms.{sort_of}
-use Rattle.just_syntax.specs.Items.{is_assignment, is_last_name, opening_at, IsSettingValue, IsSetting, IsItem}
+use Rattle.just_lang_read.specs.Place.{Place, first_in, passes, starts, sees, begins, begins_in, behind_text, is_empty}
+use Rattle.just_lang_syntax.specs.declared.ast.SettingValue.{SettingValue}
+use Rattle.just_lang_syntax.specs.declared.ast.AstItem.{AstItem}
+use Rattle.just_lang_syntax.specs.declared.entry.Entry.TheVariants as entry
+use Rattle.just_lang_syntax.specs.declared.form.Sort.{Sort}
+use Rattle.just_lang_syntax.specs.declared.item.Opening.TheVariants as opening
+use Rattle.just_lang_read.specs.Characters.{is_blank, begins_name}
+use Rattle.just_lang_read.specs.Lines.{crlf, behind_word, is_word, is_rest, IsToken}
+use Rattle.just_lang_syntax.specs.Places.{IsRest}
+use Rattle.just_lang_syntax.specs.Forms.{sort_of}
+use Rattle.just_lang_syntax.specs.Items.{is_assignment, is_last_name, opening_at, IsSettingValue, IsSetting, IsItem}
 use Rattle.just_print.specs.Printed.{printed_setting, printed_end, printed_item}
 use Rattle.just_print.proofs.Places.{beyond, past_rest, behind_front, is_plain, and_true, not_that}
 use Rattle.just_print.proofs.PathsBack.{name_cell}

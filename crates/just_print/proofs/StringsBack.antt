@@ -3,17 +3,17 @@ use Rattle.std.proofs.Common.{◌≡◌, ℕ, ◌==◌, Bool, true, false, ◌&&
 use Rattle.std.specs.Option.{option_map}
 use Rattle.std.proofs.lemmas.Bool.{false≢true}
 use Rattle.std.proofs.lemmas.Str.{encodes-append}
-use Rattle.just_read.specs.Place.{Place, next, first, first_in, passes, sees, begins, begins_in, behind_text, between}
-use Rattle.just_read.proofs.Laws.{sees_first, first_is}
-use Rattle.just_read.specs.declared.quote.Quote.{Quote}
-use Rattle.just_read.specs.declared.quote.Quote.TheVariants.{Single, Double, SingleBlock, DoubleBlock}
-use Rattle.just_syntax.specs.declared.ast.StringLiteral.{StringLiteral}
-use Rattle.just_read.specs.Characters.{is_blank, is_quote}
-use Rattle.just_read.specs.Lines.{skip}
-use Rattle.just_read.specs.Quotes.{mark, quote_at, behind_x}
-use Rattle.just_syntax.specs.Strings.{literal_at, IsRaw, IsString}
-use Rattle.just_syntax.specs.Strings.IsRaw.{closed}
-use Rattle.just_syntax.specs.Strings.IsString.{string}
+use Rattle.just_lang_read.specs.Place.{Place, next, first, first_in, passes, sees, begins, begins_in, behind_text, between}
+use Rattle.just_lang_read.proofs.Laws.{sees_first, first_is}
+use Rattle.just_lang_read.specs.declared.quote.Quote.{Quote}
+use Rattle.just_lang_read.specs.declared.quote.Quote.TheVariants.{Single, Double, SingleBlock, DoubleBlock}
+use Rattle.just_lang_syntax.specs.declared.ast.StringLiteral.{StringLiteral}
+use Rattle.just_lang_read.specs.Characters.{is_blank, is_quote}
+use Rattle.just_lang_read.specs.Lines.{skip}
+use Rattle.just_lang_read.specs.Quotes.{mark, quote_at, behind_x}
+use Rattle.just_lang_syntax.specs.Strings.{literal_at, IsRaw, IsString}
+use Rattle.just_lang_syntax.specs.Strings.IsRaw.{closed}
+use Rattle.just_lang_syntax.specs.Strings.IsString.{string}
 use Rattle.just_print.specs.Printed.{only_if, printed_string}
 use Rattle.just_print.specs.Shapes.{bare_string}
 use Rattle.just_print.proofs.Places.{beyond, past_rest, next_rest, same, begins_front, behind_front, begins_one, encoded_plain, IsApart}

@@ -2,12 +2,12 @@
 use lib.Utf8.{scalar, scalars, low_scalar}
 use Rattle.std.proofs.Common.{◌≡◌, ℕ, ◌==◌, Bool, true, false, not, ◌&&◌, ◌||◌, List, [], ◌∷◌, ◌++◌, codes, refl, sym, ap, ◌∙◌, arith}
 use Rattle.std.proofs.lemmas.Bool.{false≢true, eqb-true}
-use Rattle.just_read.specs.Place.{Place, AreMany, next, first_in, passes, begins_in, behind_text, is_empty}
-use Rattle.just_read.proofs.Laws.{first_is}
-use Rattle.just_read.specs.Lines.{crlf}
-use Rattle.just_syntax.specs.Strings.{concat}
-use Rattle.just_syntax.specs.Bodies.{is_text, IsLetter}
-use Rattle.just_syntax.specs.Bodies.IsLetter.{braces, itself}
+use Rattle.just_lang_read.specs.Place.{Place, AreMany, next, first_in, passes, begins_in, behind_text, is_empty}
+use Rattle.just_lang_read.proofs.Laws.{first_is}
+use Rattle.just_lang_read.specs.Lines.{crlf}
+use Rattle.just_lang_syntax.specs.Strings.{concat}
+use Rattle.just_lang_syntax.specs.Bodies.{is_text, IsLetter}
+use Rattle.just_lang_syntax.specs.Bodies.IsLetter.{braces, itself}
 use Rattle.just_print.specs.Printed.{doubled}
 use Rattle.just_print.specs.Law.{ends_in_return}
 use Rattle.just_print.proofs.Places.{next_rest, behind_front, and_true}

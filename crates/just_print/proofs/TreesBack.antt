@@ -1,10 +1,10 @@
 -- What is printed of a text's tree is a text whose tree has the same shape.
 use Rattle.std.proofs.Common.{◌≡◌, ℕ, true, List, chars, IsUtf8}
-use Rattle.just_read.specs.Place.{Place}
-use Rattle.just_syntax.specs.declared.ast.Attribute.{Attribute}
-use Rattle.just_syntax.specs.declared.ast.AstItem.{AstItem}
-use Rattle.just_syntax.specs.Attributes.{AreAttributes}
-use Rattle.just_syntax.specs.File.{IsFile}
+use Rattle.just_lang_read.specs.Place.{Place}
+use Rattle.just_lang_syntax.specs.declared.ast.Attribute.{Attribute}
+use Rattle.just_lang_syntax.specs.declared.ast.AstItem.{AstItem}
+use Rattle.just_lang_syntax.specs.Attributes.{AreAttributes}
+use Rattle.just_lang_syntax.specs.File.{IsFile}
 use Rattle.just_print.specs.Printed.{printed}
 use Rattle.just_print.specs.Shapes.{SameShape}
 use Rattle.just_print.specs.Law.{IsIndentation, NoReturnAtEnd}

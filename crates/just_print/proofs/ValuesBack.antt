@@ -1,22 +1,22 @@
 -- What is printed of strings, names and expressions in parentheses is read again, where it is so of the expressions inside.
 use Rattle.std.proofs.Common.{◌≡◌, ℕ, ◌==◌, Bool, true, false, ◌&&◌, if◌then◌else◌, List, [], ◌∷◌, ◌++◌, Some, codes, refl, sym, ap, ◌∙◌, subst, append_assoc}
 use Rattle.std.proofs.lemmas.Bool.{false≢true}
-use Rattle.just_read.specs.Place.{Place, Rule, next, run, first_in, passes, starts, sees, begins}
-use Rattle.just_read.proofs.Laws.{starts_at, starts_with, run_next, sees_first}
-use Rattle.just_syntax.specs.declared.ast.Name.{Name}
-use Rattle.just_read.specs.declared.quote.Quote.{Quote}
-use Rattle.just_read.specs.declared.quote.Quote.TheVariants.{Single, Double, SingleBlock, DoubleBlock}
-use Rattle.just_syntax.specs.declared.ast.StringLiteral.{StringLiteral}
-use Rattle.just_syntax.specs.declared.ast.Expr.{Expr}
-use Rattle.just_syntax.specs.declared.ast.Expr.TheVariants as e
-use Rattle.just_read.specs.Characters.{is_blank, begins_name, in_name, is_quote}
-use Rattle.just_read.specs.Lines.{is_word, behind_word, IsToken}
-use Rattle.just_syntax.specs.Places.{name_at, IsName}
-use Rattle.just_read.specs.Quotes.{quote_at, behind_x, begins_string}
-use Rattle.just_syntax.specs.Strings.{IsString}
-use Rattle.just_syntax.specs.Strings.IsString.{string}
-use Rattle.just_syntax.specs.Exprs.{begins_expr, begins_condition, is_call, IsValue}
-use Rattle.just_syntax.specs.Exprs.IsValue.{literal, group, variable}
+use Rattle.just_lang_read.specs.Place.{Place, Rule, next, run, first_in, passes, starts, sees, begins}
+use Rattle.just_lang_read.proofs.Laws.{starts_at, starts_with, run_next, sees_first}
+use Rattle.just_lang_syntax.specs.declared.ast.Name.{Name}
+use Rattle.just_lang_read.specs.declared.quote.Quote.{Quote}
+use Rattle.just_lang_read.specs.declared.quote.Quote.TheVariants.{Single, Double, SingleBlock, DoubleBlock}
+use Rattle.just_lang_syntax.specs.declared.ast.StringLiteral.{StringLiteral}
+use Rattle.just_lang_syntax.specs.declared.ast.Expr.{Expr}
+use Rattle.just_lang_syntax.specs.declared.ast.Expr.TheVariants as e
+use Rattle.just_lang_read.specs.Characters.{is_blank, begins_name, in_name, is_quote}
+use Rattle.just_lang_read.specs.Lines.{is_word, behind_word, IsToken}
+use Rattle.just_lang_syntax.specs.Places.{name_at, IsName}
+use Rattle.just_lang_read.specs.Quotes.{quote_at, behind_x, begins_string}
+use Rattle.just_lang_syntax.specs.Strings.{IsString}
+use Rattle.just_lang_syntax.specs.Strings.IsString.{string}
+use Rattle.just_lang_syntax.specs.Exprs.{begins_expr, begins_condition, is_call, IsValue}
+use Rattle.just_lang_syntax.specs.Exprs.IsValue.{literal, group, variable}
 use Rattle.just_print.specs.Printed.{printed_string, printed_expr}
 use Rattle.just_print.specs.Shapes.{bare_string, bare_expr}
 use Rattle.just_print.proofs.Exprs.{literal_is, variable_is, printed_group}

@@ -3,10 +3,10 @@ use Rattle.std.proofs.Common.{◌≡◌, ℕ, ◌==◌, Bool, true, false, not, 
 use Rattle.std.specs.List.{list_all}
 use Rattle.std.proofs.lemmas.Bool.{false≢true, eqb-true}
 use Rattle.std.proofs.lemmas.Str.{encodes-append}
-use Rattle.just_read.specs.Place.{Place, next, past, run, first, first_in, passes, starts, begins, begins_in, behind_text}
-use Rattle.just_read.specs.Characters.{is_blank, begins_name, in_name, is_quote}
-use Rattle.just_read.specs.Lines.{is_word, behind_word, IsToken, IsWord}
-use Rattle.just_syntax.specs.Exprs.{begins_expr, begins_condition}
+use Rattle.just_lang_read.specs.Place.{Place, next, past, run, first, first_in, passes, starts, begins, begins_in, behind_text}
+use Rattle.just_lang_read.specs.Characters.{is_blank, begins_name, in_name, is_quote}
+use Rattle.just_lang_read.specs.Lines.{is_word, behind_word, IsToken, IsWord}
+use Rattle.just_lang_syntax.specs.Exprs.{begins_expr, begins_condition}
 use Rattle.just_print.proofs.Places.{beyond, past_rest, beyond_nothing, next_rest, begins_one, behind_front, encoded_plain, is_plain, and_true, Alike, Near, alike_test, near_test, token_back}
 use Rattle.just_print.proofs.PiecesBack.{front_of}
 

@@ -1,7 +1,7 @@
 -- The entries of a file as they are printed, and apart from places.
 use Rattle.std.specs.Prelude.{ℕ, Bool, true, false, not, List, [], ◌++◌}
-use Rattle.just_syntax.specs.declared.entry.Entry.{Entry}
-use Rattle.just_syntax.specs.declared.entry.Entry.TheVariants as entry
+use Rattle.just_lang_syntax.specs.declared.entry.Entry.{Entry}
+use Rattle.just_lang_syntax.specs.declared.entry.Entry.TheVariants as entry
 use Rattle.just_print.specs.Printed.{printed_attributes, printed_recipe_line, printed_item, is_blank_item}
 use Rattle.just_print.specs.Shapes.{bare_line, bare_recipe, bare_item}
 

@@ -1,13 +1,13 @@
 -- What the law of printed trees asks: of an indentation, and of the lines of bodies.
 use Rattle.std.specs.Prelude.{◌≡◌, ℕ, Bool, true, false, not, ◌==◌, List, [], ◌∷◌, chars}
 use Rattle.std.specs.List.{list_all}
-use Rattle.just_read.specs.Place.{is_empty}
-use Rattle.just_read.specs.Characters.{is_blank}
-use Rattle.just_syntax.specs.declared.ast.Fragment.{Fragment}
-use Rattle.just_syntax.specs.declared.ast.Fragment.TheVariants as fragment
-use Rattle.just_syntax.specs.declared.ast.Line.{Line}
-use Rattle.just_syntax.specs.declared.ast.AstItem.{AstItem}
-use Rattle.just_syntax.specs.declared.ast.AstItem.TheVariants as item
+use Rattle.just_lang_read.specs.Place.{is_empty}
+use Rattle.just_lang_read.specs.Characters.{is_blank}
+use Rattle.just_lang_syntax.specs.declared.ast.Fragment.{Fragment}
+use Rattle.just_lang_syntax.specs.declared.ast.Fragment.TheVariants as fragment
+use Rattle.just_lang_syntax.specs.declared.ast.Line.{Line}
+use Rattle.just_lang_syntax.specs.declared.ast.AstItem.{AstItem}
+use Rattle.just_lang_syntax.specs.declared.ast.AstItem.TheVariants as item
 
 -- one or more blanks
 abbrev pub IsIndentation : List ℕ → Type 0

@@ -1,28 +1,28 @@
 -- The text of a tree, as it is printed.
 use Rattle.std.specs.Prelude.{ℕ, Bool, true, false, ◌&&◌, ◌==◌, if◌then◌else◌, List, [], ◌∷◌, ◌++◌, map, Option, Some, None, codes, chars, encode_utf8_all}
 use Rattle.std.specs.List.{flat_map}
-use Rattle.just_syntax.specs.declared.ast.Name.{Name}
-use Rattle.just_syntax.specs.declared.ast.StringLiteral.{StringLiteral}
-use Rattle.just_syntax.specs.declared.ast.Comparison.{Comparison}
-use Rattle.just_syntax.specs.declared.ast.Comparison.TheVariants.{Equal, Unequal}
-use Rattle.just_syntax.specs.declared.ast.Expr.{Expr}
-use Rattle.just_syntax.specs.declared.ast.Expr.TheOpen.{Expr-F}
-use Rattle.just_syntax.specs.declared.ast.Expr.TheFolds.{fold-Expr}
-use Rattle.just_syntax.specs.declared.ast.Argument.{Argument}
-use Rattle.just_syntax.specs.declared.ast.Attribute.{Attribute}
-use Rattle.just_syntax.specs.declared.ast.ParameterKind.{ParameterKind}
-use Rattle.just_syntax.specs.declared.ast.ParameterKind.TheVariants.{Singular, Plus, Star}
-use Rattle.just_syntax.specs.declared.ast.AstParameter.{AstParameter}
-use Rattle.just_syntax.specs.declared.ast.AstDependency.{AstDependency}
-use Rattle.just_syntax.specs.declared.ast.AstRecipe.{AstRecipe}
-use Rattle.just_syntax.specs.declared.ast.Fragment.{Fragment}
-use Rattle.just_syntax.specs.declared.ast.Fragment.TheVariants as fragment
-use Rattle.just_syntax.specs.declared.ast.Line.{Line}
-use Rattle.just_syntax.specs.declared.ast.SettingValue.{SettingValue}
-use Rattle.just_syntax.specs.declared.ast.SettingValue.TheVariants as setting
-use Rattle.just_syntax.specs.declared.ast.AstItem.{AstItem}
-use Rattle.just_syntax.specs.declared.ast.AstItem.TheVariants as item
-use Rattle.just_read.specs.Quotes.{mark}
+use Rattle.just_lang_syntax.specs.declared.ast.Name.{Name}
+use Rattle.just_lang_syntax.specs.declared.ast.StringLiteral.{StringLiteral}
+use Rattle.just_lang_syntax.specs.declared.ast.Comparison.{Comparison}
+use Rattle.just_lang_syntax.specs.declared.ast.Comparison.TheVariants.{Equal, Unequal}
+use Rattle.just_lang_syntax.specs.declared.ast.Expr.{Expr}
+use Rattle.just_lang_syntax.specs.declared.ast.Expr.TheOpen.{Expr-F}
+use Rattle.just_lang_syntax.specs.declared.ast.Expr.TheFolds.{fold-Expr}
+use Rattle.just_lang_syntax.specs.declared.ast.Argument.{Argument}
+use Rattle.just_lang_syntax.specs.declared.ast.Attribute.{Attribute}
+use Rattle.just_lang_syntax.specs.declared.ast.ParameterKind.{ParameterKind}
+use Rattle.just_lang_syntax.specs.declared.ast.ParameterKind.TheVariants.{Singular, Plus, Star}
+use Rattle.just_lang_syntax.specs.declared.ast.AstParameter.{AstParameter}
+use Rattle.just_lang_syntax.specs.declared.ast.AstDependency.{AstDependency}
+use Rattle.just_lang_syntax.specs.declared.ast.AstRecipe.{AstRecipe}
+use Rattle.just_lang_syntax.specs.declared.ast.Fragment.{Fragment}
+use Rattle.just_lang_syntax.specs.declared.ast.Fragment.TheVariants as fragment
+use Rattle.just_lang_syntax.specs.declared.ast.Line.{Line}
+use Rattle.just_lang_syntax.specs.declared.ast.SettingValue.{SettingValue}
+use Rattle.just_lang_syntax.specs.declared.ast.SettingValue.TheVariants as setting
+use Rattle.just_lang_syntax.specs.declared.ast.AstItem.{AstItem}
+use Rattle.just_lang_syntax.specs.declared.ast.AstItem.TheVariants as item
+use Rattle.just_lang_read.specs.Quotes.{mark}
 
 -- ---- lists
 

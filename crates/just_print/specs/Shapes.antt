@@ -1,24 +1,24 @@
 -- When two trees have the same shape: they are equal apart from places, line numbers and how many blank lines stand together.
 use Rattle.std.specs.Prelude.{◌≡◌, false, List, map}
 use Rattle.std.specs.Option.{option_map}
-use Rattle.just_syntax.specs.declared.ast.Name.{Name}
-use Rattle.just_syntax.specs.declared.ast.StringLiteral.{StringLiteral}
-use Rattle.just_syntax.specs.declared.ast.Expr.{Expr}
-use Rattle.just_syntax.specs.declared.ast.Expr.TheOpen.{Expr-F}
-use Rattle.just_syntax.specs.declared.ast.Expr.TheFolds.{fold-Expr}
-use Rattle.just_syntax.specs.declared.ast.Expr.TheVariants as e
-use Rattle.just_syntax.specs.declared.ast.Argument.{Argument}
-use Rattle.just_syntax.specs.declared.ast.Attribute.{Attribute}
-use Rattle.just_syntax.specs.declared.ast.AstParameter.{AstParameter}
-use Rattle.just_syntax.specs.declared.ast.AstDependency.{AstDependency}
-use Rattle.just_syntax.specs.declared.ast.AstRecipe.{AstRecipe}
-use Rattle.just_syntax.specs.declared.ast.Fragment.{Fragment}
-use Rattle.just_syntax.specs.declared.ast.Fragment.TheVariants as fragment
-use Rattle.just_syntax.specs.declared.ast.Line.{Line}
-use Rattle.just_syntax.specs.declared.ast.SettingValue.{SettingValue}
-use Rattle.just_syntax.specs.declared.ast.SettingValue.TheVariants as setting
-use Rattle.just_syntax.specs.declared.ast.AstItem.{AstItem}
-use Rattle.just_syntax.specs.declared.ast.AstItem.TheVariants as item
+use Rattle.just_lang_syntax.specs.declared.ast.Name.{Name}
+use Rattle.just_lang_syntax.specs.declared.ast.StringLiteral.{StringLiteral}
+use Rattle.just_lang_syntax.specs.declared.ast.Expr.{Expr}
+use Rattle.just_lang_syntax.specs.declared.ast.Expr.TheOpen.{Expr-F}
+use Rattle.just_lang_syntax.specs.declared.ast.Expr.TheFolds.{fold-Expr}
+use Rattle.just_lang_syntax.specs.declared.ast.Expr.TheVariants as e
+use Rattle.just_lang_syntax.specs.declared.ast.Argument.{Argument}
+use Rattle.just_lang_syntax.specs.declared.ast.Attribute.{Attribute}
+use Rattle.just_lang_syntax.specs.declared.ast.AstParameter.{AstParameter}
+use Rattle.just_lang_syntax.specs.declared.ast.AstDependency.{AstDependency}
+use Rattle.just_lang_syntax.specs.declared.ast.AstRecipe.{AstRecipe}
+use Rattle.just_lang_syntax.specs.declared.ast.Fragment.{Fragment}
+use Rattle.just_lang_syntax.specs.declared.ast.Fragment.TheVariants as fragment
+use Rattle.just_lang_syntax.specs.declared.ast.Line.{Line}
+use Rattle.just_lang_syntax.specs.declared.ast.SettingValue.{SettingValue}
+use Rattle.just_lang_syntax.specs.declared.ast.SettingValue.TheVariants as setting
+use Rattle.just_lang_syntax.specs.declared.ast.AstItem.{AstItem}
+use Rattle.just_lang_syntax.specs.declared.ast.AstItem.TheVariants as item
 use Rattle.just_print.specs.Printed.{one_blank}
 
 -- a name without its place

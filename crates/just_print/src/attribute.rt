@@ -3,8 +3,8 @@ ghost use Rattle.std.specs.Prelude.{◌≡◌, ◌++◌, map, codes, IfOk, strin
 ghost use Rattle.just_print.specs.Printed.{led, printed_end, printed_key, printed_argument, printed_arguments, behind_attribute, printed_attribute, printed_attributes};
 
 use super::expr::push_expr;
-use just_syntax::{Argument, Attribute, Name};
-use just_text::Text;
+use just_lang_syntax::{Argument, Attribute, Name};
+use just_path_text::Text;
 use std::alloc::AllocError;
 
 /// Adds the end of an item's line, with the comment behind it.

@@ -4,7 +4,7 @@ ghost use Rattle.std.specs.List.{flat_map};
 ghost use Rattle.just_print.specs.Printed.{doubled, printed_fragment, printed_fragments, printed_line};
 
 use super::expr::{push_expr, push_if};
-use just_syntax::{Fragment, Line};
+use just_lang_syntax::{Fragment, Line};
 use std::alloc::{AllocError, Global};
 
 /// Adds the lines of a body, each behind the indentation; a blank line is empty.

@@ -1,11 +1,11 @@
 //! Strings, names and expressions as texts.
 ghost use Rattle.std.specs.Prelude.{◌≡◌, ◌++◌, map, codes, IfOk, string_bytes};
 ghost use Rattle.std.specs.Option.{option_map};
-ghost use Rattle.just_read.specs.Quotes.{mark};
+ghost use Rattle.just_lang_read.specs.Quotes.{mark};
 ghost use Rattle.just_print.specs.Printed.{led, only_if, otherwise, printed_name, printed_string, printed_path, printed_comparison, printed_expr, printed_second, printed_values};
 
-use just_read::Boxed;
-use just_syntax::{Comparison, Expr, Name, Quote, StringLiteral};
+use just_lang_read::Boxed;
+use just_lang_syntax::{Comparison, Expr, Name, Quote, StringLiteral};
 use std::alloc::AllocError;
 
 /// The characters before and behind a string.

@@ -6,7 +6,7 @@ use super::attribute::{push_attributes, push_end};
 use super::body::push_body;
 use super::expr::{push_expr, push_if, push_path, push_string};
 use super::recipe::push_recipe_line;
-use just_syntax::{AstItem, AstRecipe, SettingValue, StringLiteral};
+use just_lang_syntax::{AstItem, AstRecipe, SettingValue, StringLiteral};
 use std::alloc::{AllocError, Global};
 
 /// Adds an item.

@@ -1,4 +1,4 @@
-//! Trees of justfiles as texts, and the small texts that other texts are made of.
+//! Trees of justfiles as texts, how a recipe is used, and the small texts that other texts are made of.
 #![tactic(auto)]
 
 mod attribute;
@@ -11,6 +11,7 @@ mod list;
 mod ordinals;
 mod range;
 mod recipe;
+mod usage;
 mod whitespace;
 mod whole;
 
@@ -20,5 +21,6 @@ pub use expr::push_expr;
 pub use list::List;
 pub use ordinals::ordinal;
 pub use range::{DisplayRange, display};
+pub use usage::{Usage, UsageParameter};
 pub use whitespace::ShowWhitespace;
 pub use whole::print;

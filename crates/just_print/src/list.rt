@@ -3,7 +3,7 @@ ghost use Rattle.std.specs.Prelude.{◌≡◌, ◌<◌, Some, codes, length};
 ghost use Rattle.std.specs.Fmt.{WritesOnOk};
 ghost use Rattle.just_print.specs.SmallTexts.{list_text, before_item, item_text};
 
-use just_text::Text;
+use just_path_text::Text;
 use std::fmt;
 
 /// Texts in backquotes, as prose has them: `a`; `a` and `b`; `a`, `b`, and `c`.

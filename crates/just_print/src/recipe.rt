@@ -4,7 +4,7 @@ ghost use Rattle.just_print.specs.Printed.{kind_sign, printed_default, printed_p
 
 use super::attribute::push_end;
 use super::expr::{push_expr, push_if, push_path, push_values};
-use just_syntax::{AstDependency, AstParameter, AstRecipe, Expr, ParameterKind};
+use just_lang_syntax::{AstDependency, AstParameter, AstRecipe, Expr, ParameterKind};
 use std::alloc::AllocError;
 
 /// Adds a recipe without its attributes and its body.

@@ -4,8 +4,8 @@ ghost use Rattle.std.specs.List.{flat_map};
 ghost use Rattle.just_print.specs.Printed.{only_if, is_blank_item, one_blank, printed_item, printed};
 
 use super::item::push_item;
-use just_syntax::{Ast, AstItem};
-use just_text::NoMemory;
+use just_lang_syntax::{Ast, AstItem};
+use just_path_text::NoMemory;
 use std::alloc::{AllocError, Global};
 
 /// The text of a tree: each item in one style, one blank line where one or more stood, each line of a body behind the

@@ -1,19 +1,19 @@
 -- What the drive of a run promises.
 use Rattle.std.specs.Prelude.{ℕ, ◌≡◌, ◌<◌, ◌⊎◌, true, List, length, Option}
-use Rattle.just_outside.specs.declared.entry.Entry.{Entry}
-use Rattle.just_outside.specs.World.{World}
-use Rattle.just_history.specs.declared.event.Event.{Event}
-use Rattle.just_history.specs.declared.event.Idle.{Idle}
-use Rattle.just_history.specs.declared.event.Verdict.{Verdict}
-use Rattle.just_history.specs.declared.event.Verdict.TheVariants as ended
-use Rattle.just_history.specs.declared.plan.Plan.{Plan}
-use Rattle.just_history.specs.CacheRule.{GoesByCacheRule, IsSkippedByLook}
-use Rattle.just_history.specs.Cached.{is_cached}
-use Rattle.just_history.specs.Idle.{IsIdle, HasWork}
-use Rattle.just_history.specs.Legal.{IsClosed, IsComplete}
-use Rattle.just_history.specs.Start.{Start, IsKept, run_of}
-use Rattle.just_history.specs.State.{has_caught}
-use Rattle.just_history.specs.Verdict.{IsVerdict}
+use Rattle.just_host_record.specs.declared.entry.Entry.{Entry}
+use Rattle.just_host_record.specs.World.{World}
+use Rattle.just_sched_history.specs.declared.event.Event.{Event}
+use Rattle.just_sched_history.specs.declared.event.Idle.{Idle}
+use Rattle.just_sched_history.specs.declared.event.Verdict.{Verdict}
+use Rattle.just_sched_history.specs.declared.event.Verdict.TheVariants as ended
+use Rattle.just_sched_history.specs.declared.plan.Plan.{Plan}
+use Rattle.just_sched_history.specs.CacheRule.{GoesByCacheRule, IsSkippedByLook}
+use Rattle.just_sched_history.specs.Cached.{is_cached}
+use Rattle.just_sched_history.specs.Idle.{IsIdle, HasWork}
+use Rattle.just_sched_history.specs.Legal.{IsClosed, IsComplete}
+use Rattle.just_sched_history.specs.Start.{Start, IsKept, run_of}
+use Rattle.just_sched_history.specs.State.{has_caught}
+use Rattle.just_sched_history.specs.Verdict.{IsVerdict}
 
 -- A run that began there was driven to its end: this plan came back with this history and this verdict, over a host whose
 -- record and told world are these now.

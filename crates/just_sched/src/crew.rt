@@ -4,9 +4,9 @@ ghost use Rattle.std.specs.Prelude.{◌≡◌, ◌+◌, ◌<◌, ◌≤◌, ℕ,
 
 use super::shared::Shared;
 use super::worker::work_at;
-use just_book::{Naming, Seat};
-use just_history::Plan;
-use just_outside::Host;
+use just_host_record::Host;
+use just_sched_book::{Naming, Seat};
+use just_sched_history::Plan;
 use std::num::NonZeroU64;
 use std::sync::Wait;
 use std::thread;

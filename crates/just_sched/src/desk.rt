@@ -2,15 +2,15 @@
 
 ghost use Rattle.std.specs.Prelude.{◌≡◌, ◌+◌, ◌<◌, ℕ, [], true, false, MatchOption};
 ghost use Rattle.std.specs.List.{list_any};
-ghost use Rattle.just_history.specs.Idle.{IsIdle};
-ghost use Rattle.just_history.specs.Legal.{open_bodies};
-ghost use Rattle.just_book.specs.MoveAnswers.{MatchNext};
-ghost use Rattle.just_history.specs.Running.{EachOpenRuns};
-ghost use Rattle.just_history.specs.Start.{run_of};
-ghost use Rattle.just_history.specs.State.{is_open};
+ghost use Rattle.just_sched_history.specs.Idle.{IsIdle};
+ghost use Rattle.just_sched_history.specs.Legal.{open_bodies};
+ghost use Rattle.just_sched_book.specs.MoveAnswers.{MatchNext};
+ghost use Rattle.just_sched_history.specs.Running.{EachOpenRuns};
+ghost use Rattle.just_sched_history.specs.Start.{run_of};
+ghost use Rattle.just_sched_history.specs.State.{is_open};
 
-use just_book::{Book, Naming, Next, OpenBody, Seat, WaitedBody};
-use just_outside::Host;
+use just_host_record::Host;
+use just_sched_book::{Book, Naming, Next, OpenBody, Seat, WaitedBody};
 
 /// A book each open body of which runs a child. The book's own facts hold with it: the history is legal, it matches what
 /// the host's record gained, each node that was answered by a no is done, no more bodies are open than there are jobs, and the told world is as it was where nothing was

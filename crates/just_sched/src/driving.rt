@@ -2,17 +2,17 @@
 
 ghost use Rattle.std.specs.Prelude.{◌≡◌, ◌+◌, ℕ, Bool, false, option_map, IfOk, IfErr};
 ghost use Rattle.std.specs.Int.NonZero.{non_zero_u64_get};
-ghost use Rattle.just_history.specs.declared.event.Idle.{Idle};
+ghost use Rattle.just_sched_history.specs.declared.event.Idle.{Idle};
 ghost use Rattle.just_sched.specs.Driven.{IsDriven};
-ghost use Rattle.just_history.specs.Idle.{IsIdle};
-ghost use Rattle.just_history.specs.Start.{run_of, start_with};
-ghost use Rattle.just_history.specs.State.{is_open};
+ghost use Rattle.just_sched_history.specs.Idle.{IsIdle};
+ghost use Rattle.just_sched_history.specs.Start.{run_of, start_with};
+ghost use Rattle.just_sched_history.specs.State.{is_open};
 
 use super::crew::{hand_out, take_back, work_all, worker_count};
 use super::{Desk, Shared};
-use just_book::{Book, Driven, Named, Naming, Next, OpenBody, Seat};
-use just_history::Plan;
-use just_outside::Host;
+use just_host_record::Host;
+use just_sched_book::{Book, Driven, Named, Naming, Next, OpenBody, Seat};
+use just_sched_history::Plan;
 use std::alloc::Global;
 use std::marker::Brand;
 use std::num::NonZeroU64;

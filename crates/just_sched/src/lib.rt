@@ -10,8 +10,10 @@ mod worker;
 
 pub use desk::Desk;
 pub use driving::drive;
-pub use just_book::{Book, Driven, HeldBody, Named, Naming, Next, OpenBody, Seat, WaitedBody};
-pub use just_history::{
+pub use just_sched_book::{
+    Book, Driven, HeldBody, Named, Naming, Next, OpenBody, Seat, WaitedBody,
+};
+pub use just_sched_history::{
     CachePlan, Command, Event, Idle, NodeState, Outcome, Plan, PlanNode, Reason, Step, Verdict,
     Work, entry_path_of, last_status, reason_of, status_count,
 };

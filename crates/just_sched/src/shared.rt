@@ -1,11 +1,11 @@
 //! A run that several workers share: its desk under a lock, and where those wait who have nothing to do.
 
 ghost use Rattle.std.specs.Prelude.{◌≡◌, ◌+◌, ℕ, MatchOption};
-ghost use Rattle.just_book.specs.MoveAnswers.{MatchNext};
+ghost use Rattle.just_sched_book.specs.MoveAnswers.{MatchNext};
 
 use super::Desk;
-use just_book::{Naming, Next, OpenBody, Seat, WaitedBody};
-use just_outside::Host;
+use just_host_record::Host;
+use just_sched_book::{Naming, Next, OpenBody, Seat, WaitedBody};
 use std::sync::{Condvar, Mutex, Wait};
 
 /// A run under one lock. Whenever the lock is free, the history is legal and matches what the host's record gained, no

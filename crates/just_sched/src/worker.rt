@@ -3,8 +3,8 @@
 ghost use Rattle.std.specs.Prelude.{◌≡◌};
 
 use super::shared::Shared;
-use just_book::{Naming, Next, OpenBody, Seat};
-use just_outside::Host;
+use just_host_record::Host;
+use just_sched_book::{Naming, Next, OpenBody, Seat};
 use std::sync::Wait;
 
 /// Waits for a body's child, without the lock, and goes on with the body, until its job is given back.

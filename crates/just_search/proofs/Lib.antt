@@ -1,16 +1,20 @@
--- The lemmas of loading.
-pub mod Sights
+-- The lemmas of searches, what is tried, looks for a program, where a justfile is to be written, -- Lemmas of temporary folders.
+pub mod Along
+pub mod Listings
 pub mod Listed
-pub mod Gathered
-pub mod Naming
-pub mod Positions
-pub mod Numbered
-pub mod Growing
-pub mod Skipped
-pub mod Leading
-pub mod Reaching
-pub mod Rooted
-pub mod Behind
-pub mod BehindItems
-pub mod TreeOrFault
-pub mod WithoutWords
+pub mod Climbing
+pub mod Climbs
+pub mod Deciding
+pub mod Places
+pub mod Owning
+pub mod Folders
+pub mod Names
+pub mod Rising
+pub mod Looks
+pub mod Writing
+pub mod TangledWriting
+pub mod Removing
+pub mod Items
+pub mod Placing
+pub mod Making
+pub mod Steps

@@ -1,9 +1,17 @@
--- The definitions of how the files of a project are loaded.
-pub mod Shown
-pub mod Gathers
-pub mod Named
-pub mod Numbers
-pub mod Loads
-pub mod Turns
-pub mod Shows
-pub mod Whole
+-- The definitions of this crate.
+pub mod First
+pub mod Listing
+pub mod Climb
+pub mod Root
+pub mod Global
+pub mod Record
+pub mod Finding
+pub mod Fallback
+pub mod Programs
+pub mod Inits
+pub mod Calls
+pub mod Texts
+pub mod Files
+pub mod Removals
+pub mod Places
+pub mod Searches

@@ -1,11 +1,36 @@
-//! The files of a project: found by the imports and modules that its sources name, and loaded one after the other.
+//! Where a justfile is or is to be written, the justfiles above it, the program that a name means, and a tangled
+//! justfile as a file.
 #![tactic(auto)]
 
-mod loader;
-mod loading;
-mod named;
-mod present;
-mod shown;
+mod above;
+mod climb;
+mod fallback;
+mod file;
+mod finding;
+mod global;
+mod init;
+mod law;
+mod listing;
+mod location;
+mod place;
+mod program;
+mod removal;
+mod root;
+mod search_result;
+mod searches;
+mod text;
+mod which_error;
 
+pub use above::find_above;
+pub use fallback::find_fallback;
+pub use file::materialize;
+pub use finding::{find, folder_of, given_path};
 pub use just_env::SearchError;
-pub use loader::Loader;
+pub use law::{makes_in_folders, removes_in_folders};
+pub use location::{Location, Origin};
+pub use program::which;
+pub use removal::remove_folders;
+pub use root::root_of;
+pub use search_result::Search;
+pub use searches::{search, search_parent_directory};
+pub use which_error::WhichError;

@@ -2,7 +2,7 @@
 
 use super::{bad_words, out_of_memory};
 use just_path::Utf8Path;
-use just_text::NoMemory;
+use just_path_text::NoMemory;
 use std::alloc::Global;
 use std::cmp::Ordering;
 use std::{fs, io};

@@ -2,19 +2,19 @@
 //! each recipe has up to two dependencies, in another one.
 
 ghost use Rattle.std.specs.Prelude.{List, [], ◌∷◌, IfOk};
-ghost use Rattle.just_lang.specs.declared.project.Justfile.{Justfile};
-ghost use Rattle.just_value.specs.Modules.{AreModules};
-ghost use Rattle.just_eval.specs.Ends.{AreEnding};
+ghost use Rattle.just_lang_types.specs.declared.project.Justfile.{Justfile};
+ghost use Rattle.just_eval_closure.specs.Modules.{AreModules};
+ghost use Rattle.just_eval_closure.specs.Ends.{AreEnding};
 
 use super::recipes::recipes;
 use super::{bad_words, out_of_memory};
-use just_ends::projects_end;
-use just_eval::closure;
-use just_lang::project::Justfile;
-use just_lang::{Key, Modulepath, Scopes, Source};
+use just_cli_plan::projects_end;
+use just_eval_closure::closure;
+use just_lang::assemble;
+use just_lang_types::project::Justfile;
+use just_lang_types::{Key, Modulepath, Scopes, Source};
 use just_path::Utf8Path;
-use just_project::assemble;
-use just_text::{Environ, NoMemory, Seq, Text};
+use just_path_text::{Environ, NoMemory, Seq, Text};
 use std::alloc::Global;
 use std::io;
 

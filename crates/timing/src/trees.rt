@@ -1,8 +1,8 @@
 //! One justfile, read many times, and its tree, printed many times: what bench/parse times.
 
 use super::out_of_memory;
+use just_lang_syntax::parse;
 use just_print::print;
-use just_syntax::parse;
 use std::alloc::Global;
 use std::{fs, io};
 

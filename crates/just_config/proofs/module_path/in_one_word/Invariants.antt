@@ -2,7 +2,7 @@
 use Rattle.std.proofs.Common.{◌≡◌, length}
 use denote.Shadow.{shadow}
 use denote.Text.{Utf8}
-use Rattle.just_words.specs.Cuts.{parts}
+use Rattle.just_config_words.specs.Cuts.{parts}
 use Rattle.just_config.specs.ModulePaths.{colon, outer_parts}
 use Rattle.just_config.proofs.Joins.{put_all}
 use Rattle.just_config.proofs.module_path.in_one_word.Given as goal

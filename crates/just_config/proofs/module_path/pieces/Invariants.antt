@@ -1,7 +1,7 @@
 -- The pieces of the parts to come follow those so far.
 use Rattle.std.proofs.Common.{◌≡◌, ◌++◌, drop}
 use Rattle.std.specs.Prelude.{flat_map}
-use Rattle.just_words.specs.Cuts.{parts}
+use Rattle.just_config_words.specs.Cuts.{parts}
 use Rattle.just_config.specs.ModulePaths.{unless_empty}
 use Rattle.just_config.proofs.module_path.pieces.Given as goal
 

@@ -1,6 +1,6 @@
 -- A turn adds its line's pair; at the end, and at a line that isn't read, it is settled what the text gives.
 use Rattle.std.proofs.Common.{◌≡◌, true, false, chars, Some, None, Ok, Err, sym, ◌∙◌, subst, rules}
-use Rattle.just_read.specs.Place.{is_end}
+use Rattle.just_lang_read.specs.Place.{is_end}
 use Rattle.just_dotenv.specs.Meaning.{Pairs}
 use Rattle.just_dotenv.specs.Readers.{as_line, line, ReadsLine}
 use Rattle.just_dotenv.proofs.FileLaws.{UpTo, up_to_more, up_to_end, one_gift, none_given}

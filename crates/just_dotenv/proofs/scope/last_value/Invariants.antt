@@ -1,7 +1,7 @@
 -- The last pair of that name among those behind, else what was found, is the value.
 use Rattle.std.proofs.Common.{◌≡◌, drop}
 use Rattle.std.specs.Option.{option_copied}
-use Rattle.just_text.specs.Environ.{value_of, or_else}
+use Rattle.just_path_text.specs.Environ.{value_of, or_else}
 use Rattle.just_dotenv.proofs.scope.last_value.Given as goal
 
 abbrev pub invariant-loop-pair : goal.invariant-loop-pair

@@ -1,7 +1,7 @@
 -- The text that was taken up to the quote is what the value means.
 use Rattle.std.proofs.Common.{◌≡◌, Ok, ◌∙◌, sym, ap}
-use Rattle.just_read.specs.Place.{Place, past}
-use Rattle.just_read.specs.Reader.{expect}
+use Rattle.just_lang_read.specs.Place.{Place, past}
+use Rattle.just_lang_read.specs.Reader.{expect}
 use Rattle.just_dotenv.specs.Characters.{in_single_quotes, single_quote}
 use Rattle.just_dotenv.proofs.Values.{single_reads}
 use Rattle.just_dotenv.proofs.value.single_quoted_value.Goals as goal

@@ -5,7 +5,7 @@ use Rattle.just_expand.specs.Bytes.{dollar_sign, tilde_sign}
 use Rattle.just_expand.specs.Pieces.{Lacks, BeginsWithout}
 use Rattle.just_expand.specs.Expansion.{ExpandsTo}
 use Rattle.just_expand.specs.Contexts.{EnvironAnswers, IsHome}
-use Rattle.just_text.specs.Environ.{home_of}
+use Rattle.just_path_text.specs.Environ.{home_of}
 use Rattle.just_expand.proofs.OverPaths.{sure_over_path, full_expansion_over_path, same_path_over_path, borrowed_without_dollar}
 use Rattle.just_expand.proofs.path.full.Goals as goal
 

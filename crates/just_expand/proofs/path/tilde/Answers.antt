@@ -3,7 +3,7 @@ use Rattle.std.proofs.Common.{sym, subst}
 use Rattle.just_path.specs.Path.{text_of}
 use Rattle.just_expand.specs.Tilde.{NeedsNoHome, TildeExpandsTo}
 use Rattle.just_expand.specs.Contexts.{IsHome}
-use Rattle.just_text.specs.Environ.{home_of}
+use Rattle.just_path_text.specs.Environ.{home_of}
 use Rattle.just_expand.proofs.OverPaths.{sure_over_path, same_path_over_path}
 use Rattle.just_expand.proofs.path.tilde.Goals as goal
 

@@ -1,7 +1,7 @@
 -- The closure over the environment answers as the environment does.
 use Rattle.std.proofs.Common.{◌∙◌, ap}
 use Rattle.just_expand.specs.Contexts.{EnvironAnswers, environ_reply}
-use Rattle.just_text.specs.Environ.{value_of}
+use Rattle.just_path_text.specs.Environ.{value_of}
 use Rattle.just_expand.proofs.Transfer.{is_expansion}
 use Rattle.just_expand.proofs.texts.env.Goals as goal
 

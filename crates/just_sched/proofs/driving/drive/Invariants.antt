@@ -1,7 +1,7 @@
 -- The name under which a run is driven: it begins at the plan, the limit and the host as they are, and its ledger is new.
 use Rattle.std.proofs.Common.{option_map}
 use Rattle.std.specs.Int.NonZero.{non_zero_u64_get}
-use Rattle.just_history.specs.Start.{start_with}
+use Rattle.just_sched_history.specs.Start.{start_with}
 use Rattle.just_sched.proofs.driving.drive.Given as goal
 
 abbrev pub ghosts-drive_named-P-Naming : goal.ghosts-drive_named-P-Naming

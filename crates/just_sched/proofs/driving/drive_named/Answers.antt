@@ -1,12 +1,12 @@
 -- A book that was opened, run until it is idle, and closed is a run that was driven.
 use Rattle.std.proofs.Common.{ap, sym, ◌∙◌, subst}
-use Rattle.just_history.specs.Legal.{IsClosed}
-use Rattle.just_history.specs.Running.{EachNoIsDone}
-use Rattle.just_history.specs.Start.{run_of}
-use Rattle.just_history.specs.State.{is_open}
-use Rattle.just_history.specs.Idle.{IsIdle}
-use Rattle.just_history.proofs.CacheRules.{kept_skipped}
-use Rattle.just_book.proofs.Ended.{nothing_left_by, well_complete}
+use Rattle.just_sched_history.specs.Legal.{IsClosed}
+use Rattle.just_sched_history.specs.Running.{EachNoIsDone}
+use Rattle.just_sched_history.specs.Start.{run_of}
+use Rattle.just_sched_history.specs.State.{is_open}
+use Rattle.just_sched_history.specs.Idle.{IsIdle}
+use Rattle.just_sched_history.proofs.CacheRules.{kept_skipped}
+use Rattle.just_sched_book.proofs.Ended.{nothing_left_by, well_complete}
 use Rattle.just_sched.proofs.driving.drive_named.Goals as goal
 
 pub close-requires-after_bounds : goal.close-requires-after_bounds

@@ -1,7 +1,7 @@
 -- At the end there is a reason why no move can be made.
 use Rattle.std.proofs.Common.{ap, sym, subst}
-use Rattle.just_history.specs.Idle.{IsIdle}
-use Rattle.just_history.specs.Start.{run_of}
+use Rattle.just_sched_history.specs.Idle.{IsIdle}
+use Rattle.just_sched_history.specs.Start.{run_of}
 use Rattle.just_sched.proofs.driving.run_all.Goals as goal
 
 pub returns-in-Idle-clause-idle : goal.returns-in-Idle-clause-idle

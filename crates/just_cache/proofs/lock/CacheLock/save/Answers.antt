@@ -2,7 +2,7 @@
 use Rattle.std.proofs.Common.{◌≡◌, arith}
 use Rattle.std.proofs.lemmas.Grind.{common_steps}
 use Rattle.just_path.specs.Path.{text_of}
-use Rattle.just_key.specs.Keys.{entry_text}
+use Rattle.just_cache.specs.Keys.{entry_text}
 use Rattle.just_cache.proofs.Told.{save_moved}
 use Rattle.just_cache.proofs.lock.CacheLock.save.Goals as goal
 

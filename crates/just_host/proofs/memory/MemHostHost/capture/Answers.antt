@@ -1,6 +1,6 @@
 -- A captured child leaves the world but for its files.
 use Rattle.std.proofs.Common.{refl}
-use Rattle.just_outside.specs.declared.entry.Call.TheVariants as call
+use Rattle.just_host_record.specs.declared.entry.Call.TheVariants as call
 use Rattle.just_host.specs.Mem.{world_of}
 use Rattle.just_host.proofs.Worlds.{failed_leaves}
 use Rattle.just_host.proofs.memory.MemHostHost.capture.Goals as goal

@@ -3,11 +3,11 @@ use Rattle.std.proofs.Common.{◌≡◌, true, length, Some, sym, ap, subst, ◌
 use Rattle.std.specs.List.{Contains}
 use Rattle.just_path.specs.Path.{text_of}
 use Rattle.just_path.specs.View.{meta_told}
-use Rattle.just_outside.specs.declared.entry.Call.TheVariants as call
-use Rattle.just_outside.specs.Looks.{first_missing, absent_or, told_check}
-use Rattle.just_outside.specs.World.{view_of}
+use Rattle.just_host_record.specs.declared.entry.Call.TheVariants as call
+use Rattle.just_host_record.specs.Looks.{first_missing, absent_or, told_check}
+use Rattle.just_host_record.specs.World.{view_of}
 use Rattle.just_host.specs.Mem.{record_of, world_of}
-use Rattle.just_outside.specs.Logs.{entries_of}
+use Rattle.just_host_record.specs.Logs.{entries_of}
 use Rattle.just_host.proofs.Checks.{missing_inside, absent_within, check_told, missing_contained, failed_check, refused_check, refused_shows}
 use Rattle.just_host.proofs.memory.MemHostHost.check.Goals as goal
 

@@ -1,7 +1,7 @@
 -- With no unit out no body runs, so none is open.
 use Rattle.std.proofs.Common.{ap, sym, ◌∙◌, subst}
-use Rattle.just_history.specs.Running.{EachOpenRuns}
-use Rattle.just_book.proofs.Runners.{none_open}
+use Rattle.just_sched_history.specs.Running.{EachOpenRuns}
+use Rattle.just_sched_book.proofs.Runners.{none_open}
 use Rattle.just_sched.proofs.desk.Desk.audit.Goals as goal
 
 pub invariant_of-self : goal.invariant_of-self

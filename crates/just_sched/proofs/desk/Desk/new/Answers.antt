@@ -1,6 +1,6 @@
 -- Of no events each of these facts holds.
 use Rattle.std.proofs.Common.{sym, subst}
-use Rattle.just_history.specs.Running.{EachOpenRuns}
+use Rattle.just_sched_history.specs.Running.{EachOpenRuns}
 use Rattle.just_sched.proofs.desk.Desk.new.Goals as goal
 
 pub invariant_of-result : goal.invariant_of-result

@@ -1,6 +1,6 @@
 -- A move leaves each open body running.
-use Rattle.just_history.specs.Start.{run_of}
-use Rattle.just_book.proofs.Runners.{each_next}
+use Rattle.just_sched_history.specs.Start.{run_of}
+use Rattle.just_sched_book.proofs.Runners.{each_next}
 use Rattle.just_sched.proofs.desk.Desk.next.Goals as goal
 
 pub invariant_of-self : goal.invariant_of-self

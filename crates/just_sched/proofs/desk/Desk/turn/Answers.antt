@@ -1,5 +1,5 @@
 -- A turn leaves each open body running.
-use Rattle.just_book.proofs.Runners.{each_turn}
+use Rattle.just_sched_book.proofs.Runners.{each_turn}
 use Rattle.just_sched.proofs.desk.Desk.turn.Goals as goal
 
 pub invariant_of-self : goal.invariant_of-self

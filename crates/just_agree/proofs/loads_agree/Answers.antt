@@ -1,9 +1,0 @@
--- The laws.
-use Rattle.just_agree.proofs.Laws.{loads_agree, roots_agree}
-use Rattle.just_agree.proofs.loads_agree.Goals as goal
-
-pub returns-clause-loads : goal.returns-clause-loads
-returns-clause-loads c = loads_agree
-
-pub returns-clause-roots : goal.returns-clause-roots
-returns-clause-roots c = roots_agree

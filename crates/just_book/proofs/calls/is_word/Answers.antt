@@ -1,7 +1,0 @@
--- A text is told to be a word where they are one in lower case.
-use Rattle.std.proofs.lemmas.Bool.Decides.{same_from_decides}
-use Rattle.std.proofs.lemmas.Slice.Eq.{bytes_eq-Decides}
-use Rattle.just_book.proofs.calls.is_word.Goals as goal
-
-pub returns : goal.returns
-returns c = same_from_decides _ _ c.eq_ignore_ascii_case.ensures.test (bytes_eq-Decides _ _)

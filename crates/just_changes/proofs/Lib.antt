@@ -1,4 +1,0 @@
--- The lemmas of what changes in an environment.
-mod Bound
-mod Lookups
-mod Put

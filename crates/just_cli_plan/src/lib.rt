@@ -1,0 +1,27 @@
+//! The plan of a run, from the sources of a project and what is asked of it; that there is one at most; and the error
+//! of a run that failed.
+#![tactic(auto)]
+
+mod agree;
+mod cached;
+mod ends;
+mod forms;
+mod keys;
+mod law;
+mod one;
+mod outcome;
+mod pairs;
+mod planning;
+mod project;
+mod wanted;
+
+pub use agree::{closures_agree, evaluations_agree, loads_agree};
+pub use ends::projects_end;
+pub use forms::not_built_error;
+pub use just_env::DotenvAsk;
+pub use law::plans_agree;
+pub use one::projects_agree;
+pub use outcome::error_for;
+pub use pairs::load_pairs;
+pub use project::{plan_of_project, project_of_sources};
+pub use wanted::Wanted;

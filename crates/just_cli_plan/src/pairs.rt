@@ -1,0 +1,39 @@
+//! The dotenv pairs of a project.
+
+ghost use Rattle.std.specs.Prelude.{◌≡◌};
+ghost use Rattle.just_cli_plan.specs.Pairs.{LoadsPairs, Runs};
+
+use super::Wanted;
+use just_env::load_modules;
+use just_exec::Error;
+use just_host_record::Host;
+use just_lang_types::DotenvOf;
+use just_lang_types::project::Justfile;
+use just_path_text::{Environ, Seq};
+use std::alloc::Global;
+
+/// The dotenv pairs of the modules of a justfile, from files and from what commands print.
+pub fn load_pairs<H: Host>(
+    alloc: Global,
+    host: &mut H,
+    justfile: &Justfile,
+    environ: &Environ,
+    wanted: &Wanted,
+) -> Result<Seq<DotenvOf>, Error>
+    // The pairs are those that the settings of the modules and the words ask for, or the first refusal. The record gains the entries of the children that were
+    // run to their end for them, misses among these, and the entry of the refused call; only these children may touch the files.
+    ensures loaded { Runs (LoadsPairs (H.world host.old) wanted.now environ.now justfile.now) (H.world host.old) (H.world host.new) (H.entries host.old) (H.entries host.new) result }
+    ensures spare { H.spare host.new ≡ H.spare host.old }
+{
+    match load_modules(
+        alloc,
+        host,
+        &wanted.dotenv,
+        &wanted.flags,
+        environ,
+        justfile,
+    ) {
+        Ok(pairs) => Ok(pairs),
+        Err(error) => Err(Error::from(error)),
+    }
+}

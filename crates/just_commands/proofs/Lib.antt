@@ -1,3 +1,0 @@
--- The lemmas of commands.
-pub mod Lists
-pub mod Given

@@ -1,7 +1,0 @@
--- The texts so far and those of what is left are those of all.
-use Rattle.std.proofs.Common.{◌≡◌, ◌++◌, drop, map}
-use Rattle.just_commands.specs.Attributes.{argument_text}
-use Rattle.just_commands.proofs.attribute.argument_texts.Given as goal
-
-abbrev pub invariant-arguments : goal.invariant-arguments
-invariant-arguments l = l.texts.items ++ map argument_text (drop l.argument-index l.arguments) ≡ map argument_text l.arguments

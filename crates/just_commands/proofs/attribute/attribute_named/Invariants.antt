@@ -1,7 +1,0 @@
--- None of those so far has the name.
-use Rattle.std.proofs.Common.{◌≡◌, drop}
-use Rattle.just_commands.specs.Attributes.{attribute_named}
-use Rattle.just_commands.proofs.attribute.attribute_named.Given as goal
-
-abbrev pub invariant-attributes : goal.invariant-attributes
-invariant-attributes l = attribute_named (drop l.attribute-index l.attributes) l.name ≡ attribute_named l.attributes l.name

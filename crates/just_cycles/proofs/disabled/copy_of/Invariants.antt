@@ -1,6 +1,0 @@
--- The texts so far.
-use Rattle.std.proofs.Common.{◌≡◌, take}
-use Rattle.just_cycles.proofs.disabled.copy_of.Given as goal
-
-abbrev pub invariant-list : goal.invariant-list
-invariant-list l = l.copy.items ≡ take l.one-index l.list

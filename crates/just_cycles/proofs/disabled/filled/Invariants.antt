@@ -1,8 +1,0 @@
--- The lists so far.
-use Rattle.std.proofs.Common.{◌≡◌, map, take}
-use Rattle.just_cycles.specs.Disabling.{is_filled}
-use Rattle.just_cycles.specs.DisablingTables.{texts}
-use Rattle.just_cycles.proofs.disabled.filled.Given as goal
-
-abbrev pub invariant-lists : goal.invariant-lists
-invariant-lists l = l.filled.items ≡ map is_filled (map (λ v. texts v.items) (take l.list-index l.lists))

@@ -1,7 +1,0 @@
--- The places so far have their keys.
-use Rattle.std.proofs.Common.{◌≡◌, take}
-use Rattle.just_cycles.specs.SpotOrder.{numbered_from}
-use Rattle.just_cycles.proofs.first.keys_of.Given as goal
-
-abbrev pub invariant-spots : goal.invariant-spots
-invariant-spots l = l.keys.items ≡ numbered_from 0 (take l.number l.spots)

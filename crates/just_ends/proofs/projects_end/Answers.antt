@@ -1,7 +1,0 @@
--- The law that projects end, as the lemmas beside it prove it.
-use Rattle.just_ends.proofs.Laws.{projects_end as law}
-use Rattle.just_ends.proofs.projects_end.Goals as goal
-
--- src/lib.rt:8:1
-pub returns : goal.returns
-returns c = law

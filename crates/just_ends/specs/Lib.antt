@@ -1,2 +1,0 @@
--- The definitions of what ends.
-pub mod Projects

@@ -1,0 +1,149 @@
+-- Commands, one after the other, as the loop comes to them.
+use Rattle.std.proofs.Common.{◌≡◌, ◌⊎◌, inl, inr, ℕ, ◌<◌, ◌≤◌, ◌+◌, false, List, [], ◌∷◌, ◌++◌, length, drop, drop_of_length-le, Option, Some, None, refl, ap, sym, ◌∙◌, subst, append_assoc}
+use Rattle.std.specs.Prelude.{Result, Ok, Err, IfErr, IsErrAnd, chars, get_or}
+use Rattle.std.specs.Str.{is_utf8, IsUtf8}
+use Rattle.std.proofs.lemmas.Str.{is_utf8-from_IsUtf8}
+use Rattle.std.proofs.lemmas.List.{append-nil, drop_more}
+use Rattle.just_lang_types.specs.declared.settings.Interpreter.{Interpreter}
+use Rattle.just_host_record.specs.declared.entry.Entry.{Entry}
+use Rattle.just_host_record.specs.declared.entry.HostFault.{HostFault}
+use Rattle.just_host_record.specs.Record.{refused}
+use Rattle.just_host_record.specs.declared.entry.Status.{Status}
+use Rattle.just_host_record.specs.World.{World, Touched, FaultLeaves}
+use Rattle.just_dotenv.specs.File.{Gives, Stops}
+use Rattle.just_dotenv.specs.Meaning.{Pairs}
+use Rattle.just_env.specs.declared.env_error.EnvError.{EnvError}
+use Rattle.just_env.specs.declared.env_error.EnvError.TheVariants as error
+use Rattle.just_env.specs.declared.env_error.OutputError.{OutputError}
+use Rattle.just_env.specs.declared.env_error.OutputError.TheVariants as output
+use Rattle.just_env.specs.DotenvAnswers.{Answers, GainsAmong, Runs, entries_of}
+use Rattle.just_env.specs.Captures.{Capture, entry_of, told_behind, AreAmongMisses}
+use Rattle.just_env.specs.Commands.{command_spec, GivesPairs, ending_error, IsUncaptured, RunsCommand, RunsCommands, before_pairs}
+use Rattle.just_env.proofs.Running.{error_stays, among_none, among_then, behind_append, run_refused_behind, run_short_behind}
+
+-- ---- what a child printed
+
+module _ (environ : Pairs) (folder command : List ℕ) (ending : Status) where
+  pub printed_pairs : (text : List ℕ) (pairs : Pairs) → ending_error ending ≡ None → IsUtf8 text → Gives (chars text) environ pairs → GivesPairs environ folder command ending text (Ok pairs)
+  printed_pairs text pairs well is gives = GivesPairs.readable pairs well (is_utf8-from_IsUtf8 text is) gives
+
+  pub printed_faulty : (text named : List ℕ) (line : ℕ) (e : EnvError) → ending_error ending ≡ None → IsUtf8 text → Stops (chars text) line → named ≡ folder → e ≡ error.Dotenv named line
+      → (e ≡ error.NoMemory) ⊎ GivesPairs environ folder command ending text (Err e)
+  printed_faulty text named line e well is stops at so =
+      inr (subst (λ x. GivesPairs environ folder command ending text (Err x)) (sym (so ∙ ap (λ p. error.Dotenv p line) at)) (GivesPairs.faulty line well (is_utf8-from_IsUtf8 text is) stops))
+
+  pub printed_no_text : (printed named : List ℕ) (e : EnvError) → ending_error ending ≡ None → is_utf8 printed ≡ false → named ≡ command → e ≡ error.DotenvCommand named output.Utf8
+      → (e ≡ error.NoMemory) ⊎ GivesPairs environ folder command ending printed (Err e)
+  printed_no_text printed named e well is at so =
+      inr (subst (λ x. GivesPairs environ folder command ending printed (Err x)) (sym (so ∙ ap (λ c. error.DotenvCommand c output.Utf8) at)) (GivesPairs.no_text well is))
+
+  pub printed_ended : (printed named : List ℕ) (f : OutputError) (e : EnvError) → ending_error ending ≡ Some f → named ≡ command → e ≡ error.DotenvCommand named f
+      → (e ≡ error.NoMemory) ⊎ GivesPairs environ folder command ending printed (Err e)
+  printed_ended printed named f e is at so =
+      inr (subst (λ x. GivesPairs environ folder command ending printed (Err x)) (sym (so ∙ ap (λ c. error.DotenvCommand c f) at)) (GivesPairs.ended f is))
+
+-- ---- commands in their order
+
+-- pairs behind pairs
+abbrev pub behind : Pairs → Result Pairs EnvError → Result Pairs EnvError
+behind done (Ok others) = Ok (done ++ others)
+behind done (Err e) = Err e
+
+behind_pairs : (done pairs : Pairs) (r : Result Pairs EnvError) → behind done (before_pairs pairs r) ≡ behind (done ++ pairs) r
+behind_pairs done pairs (Ok others) = ap (λ l. Ok l) (sym (append_assoc done pairs others))
+behind_pairs done pairs (Err e) = refl
+
+nothing_before : (r : Result Pairs EnvError) → r ≡ behind [] r
+nothing_before (Ok others) = refl
+nothing_before (Err e) = refl
+
+module _ (environ : Pairs) (shell : Interpreter) (folder : List ℕ) (told : Option World) (commands : List (List ℕ)) where
+  -- whatever the commands that are left come to, all come to that behind the pairs so far
+  pub record LeadsOn (now : Option World) (left : List (List ℕ)) (cs : List Capture) (done : Pairs) : Type 0 where
+    pub so : (ds : List Capture) (r : Result Pairs EnvError) → RunsCommands environ shell folder now left ds r → RunsCommands environ shell folder told commands (cs ++ ds) (behind done r)
+
+  pub on_first : LeadsOn told commands [] []
+  on_first = record {
+    so = λ ds r runs. subst (λ x. RunsCommands environ shell folder told commands ds x) (nothing_before r) runs;
+  }
+
+  pub on_next : (now : Option World) (command : List ℕ) (left : List (List ℕ)) (cs ds : List Capture) (done pairs : Pairs) → LeadsOn now (command ∷ left) cs done
+      → RunsCommand environ shell folder now command ds (Ok pairs) → LeadsOn (told_behind now ds) left (cs ++ ds) (done ++ pairs)
+  on_next now command left cs ds done pairs leads runs = record {
+    so = λ es r rest.
+        let all : RunsCommands environ shell folder told commands (cs ++ (ds ++ es)) (behind done (before_pairs pairs r)) = leads.so (ds ++ es) (before_pairs pairs r) (RunsCommands.more now command left ds es pairs r runs rest) in
+        subst (λ l. RunsCommands environ shell folder told commands l (behind (done ++ pairs) r)) (sym (append_assoc cs ds es)) (subst (λ x. RunsCommands environ shell folder told commands (cs ++ (ds ++ es)) x) (behind_pairs done pairs r) all);
+  }
+
+  pub on_refused : (now : Option World) (command : List ℕ) (left : List (List ℕ)) (cs ds : List Capture) (done : Pairs) (e : EnvError) → LeadsOn now (command ∷ left) cs done
+      → RunsCommand environ shell folder now command ds (Err e) → RunsCommands environ shell folder told commands (cs ++ ds) (Err e)
+  on_refused now command left cs ds done e leads runs = leads.so ds (Err e) (RunsCommands.refused now command left ds e runs)
+
+  pub on_all : (now : Option World) (cs : List Capture) (done : Pairs) → LeadsOn now [] cs done → RunsCommands environ shell folder told commands cs (Ok done)
+  on_all now cs done leads =
+      subst (λ l. RunsCommands environ shell folder told commands l (Ok done)) (append-nil cs)
+      (subst (λ p. RunsCommands environ shell folder told commands (cs ++ []) (Ok p)) (append-nil done) (leads.so [] (Ok []) (RunsCommands.none now)))
+
+-- ---- one child
+
+module _ (environ : Pairs) (shell : Interpreter) (folder : List ℕ) (told after : Option World) (command : List ℕ) where
+  -- it was run to its end
+  module _ (c : Capture) (is : c.spec ≡ command_spec shell folder command) (touched : Touched told c.after) (now : after ≡ c.after) (old new : List Entry) (gained : new ≡ old ++ entry_of c ∷ []) where
+    among_one : GainsAmong (c ∷ []) old new
+    among_one = (entry_of c ∷ [], AreAmongMisses.a_child c [] [] AreAmongMisses.none, gained)
+
+    pub ran_one : (r : Result Pairs EnvError) → Answers (GivesPairs environ folder command c.status c.output) r → IfErr r (λ e. entries_of [] e ≡ []) → Runs (RunsCommand environ shell folder told command) told after old new r
+    ran_one (Ok pairs) gives unheard = (c ∷ [], RunsCommand.captured c (Ok pairs) is touched gives, among_one, now)
+    ran_one (Err e) (inl memory) unheard =
+        (c ∷ [], inl memory, (new, [], among_one, sym (append-nil new) ∙ ap (λ l. new ++ l) (sym unheard)), error_stays c.after after e now)
+    ran_one (Err e) (inr gives) unheard =
+        (c ∷ [], inr (RunsCommand.captured c (Err e) is touched gives), (new, [], among_one, sym (append-nil new) ∙ ap (λ l. new ++ l) (sym unheard)), error_stays c.after after e now)
+
+  -- it wasn't
+  pub ran_none : (io : HostFault) (named : List ℕ) (e : EnvError) (program : List ℕ) (old new : List Entry) → named ≡ command → e ≡ error.DotenvCommand named (output.Io io) → IsUncaptured io → FaultLeaves told after io
+      → new ≡ old ++ refused program io → Runs (RunsCommand environ shell folder told command) told after old new (Err e)
+  ran_none io named e program old new at so refuses leaves gained =
+      let same : e ≡ error.DotenvCommand command (output.Io io) = so ∙ ap (λ k. error.DotenvCommand k (output.Io io)) at in
+      subst (λ x. Runs (RunsCommand environ shell folder told command) told after old new (Err x)) (sym same)
+      ([], inr (RunsCommand.uncaptured io refuses), (old, program, among_none old, gained), leaves)
+
+-- ---- the loop over commands
+
+module _ (environ : Pairs) (shell : Interpreter) (folder : List ℕ) (told : Option World) (commands : List (List ℕ)) (old : List Entry) where
+  -- children were run for the commands so far, whatever those that are left come to
+  abbrev pub RanOn : Option World → List (List ℕ) → Pairs → List Entry → Type 0
+  RanOn now left done entries = (cs : List Capture) × LeadsOn environ shell folder told commands now left cs done × GainsAmong cs old entries × (now ≡ told_behind told cs)
+
+  pub on_start : (done : Pairs) → done ≡ [] → RanOn told commands done old
+  on_start done none = subst (λ p. RanOn told commands p old) (sym none) ([], on_first environ shell folder told commands, among_none old, refl)
+
+  pub on_end : (now : Option World) (i : ℕ) (done : Pairs) (entries : List Entry) → length commands ≤ i → RanOn now (drop i commands) done entries → Runs (RunsCommands environ shell folder told commands) told now old entries (Ok done)
+  on_end now i done entries last (cs, leads, gained, is) =
+      (cs, on_all environ shell folder told commands now cs done (subst (λ l. LeadsOn environ shell folder told commands now l cs done) (drop_of_length-le commands last) leads), gained, is)
+
+  module _ (now after : Option World) (i : ℕ) (command : List ℕ) (done : Pairs) (middle new : List Entry) (less : i < length commands) (here : command ≡ get_or commands i command)
+      (ran : RanOn now (drop i commands) done middle) where
+    left : drop i commands ≡ command ∷ drop (i + 1) commands
+    left = drop_more commands i command less ∙ ap (λ c. c ∷ drop (i + 1) commands) (sym here)
+
+    leads : LeadsOn environ shell folder told commands now (command ∷ drop (i + 1) commands) ran.0 done
+    leads = subst (λ l. LeadsOn environ shell folder told commands now l ran.0 done) left ran.1
+
+    pub on_more : (pairs all : Pairs) → Runs (RunsCommand environ shell folder now command) now after middle new (Ok pairs) → all ≡ done ++ pairs → RanOn after (drop (i + 1) commands) all new
+    on_more pairs all (ds, runs, gained, is) so =
+        let next : LeadsOn environ shell folder told commands (told_behind now ds) (drop (i + 1) commands) (ran.0 ++ ds) (done ++ pairs) =
+        on_next environ shell folder told commands now command (drop (i + 1) commands) ran.0 ds done pairs leads runs in (
+          ran.0 ++ ds,
+          subst (λ w. LeadsOn environ shell folder told commands w (drop (i + 1) commands) (ran.0 ++ ds) all) (sym is) (subst (λ p. LeadsOn environ shell folder told commands (told_behind now ds) (drop (i + 1) commands) (ran.0 ++ ds) p) (sym so) next),
+          among_then ran.0 ds old middle new ran.2 gained,
+          is ∙ ap (λ w. told_behind w ds) ran.3 ∙ sym (behind_append told ran.0 ds),
+        )
+
+    pub on_error : (e : EnvError) → Runs (RunsCommand environ shell folder now command) now after middle new (Err e) → Runs (RunsCommands environ shell folder told commands) told after old new (Err e)
+    on_error e runs =
+        run_refused_behind (RunsCommands environ shell folder told commands) told after old new ran.0 middle now ran.2 ran.3 (RunsCommand environ shell folder now command) e runs
+        (λ ds refuses. on_refused environ shell folder told commands now command (drop (i + 1) commands) ran.0 ds done e leads refuses)
+
+    pub on_short : (pairs : Pairs) (r : Result Pairs EnvError) → Runs (RunsCommand environ shell folder now command) now after middle new (Ok pairs) → IsErrAnd r (λ e. e ≡ error.NoMemory) → Runs (RunsCommands environ shell folder told commands) told after old new r
+    on_short pairs (Ok x) runs memory = absurd memory
+    on_short pairs (Err e) runs memory = run_short_behind (RunsCommands environ shell folder told commands) told after old new ran.0 middle now ran.2 ran.3 runs.0 e runs.2 runs.3 memory

@@ -1,0 +1,157 @@
+-- The modules of a project, one after the other, as the loop comes to them.
+use Rattle.std.proofs.Common.{◌≡◌, ◌<◌, List, [], ◌∷◌, ◌++◌, map, reverse, Option, Bor, refl, ap, sym, ◌∙◌, subst, append_assoc}
+use Rattle.std.specs.Prelude.{Result, Ok, Err, IsErrAnd}
+use Rattle.std.proofs.lemmas.List.{append-nil, map-append, reverse-append, reverse-reverse}
+use Rattle.just_host_record.specs.declared.entry.Entry.{Entry}
+use Rattle.just_host_record.specs.World.{World}
+use Rattle.just_dotenv.specs.Meaning.{Pairs}
+use Rattle.just_lang_types.specs.declared.project.Justfile.{Justfile}
+use Rattle.just_lang_types.specs.declared.scope.DotenvOf.{DotenvOf}
+use Rattle.just_eval_closure.specs.Modules.{modules_of}
+use Rattle.just_eval_closure.proofs.Nesting.{weights, fewer}
+use Rattle.just_exec_work.specs.declared.run_flags.RunFlags.{RunFlags}
+use Rattle.just_env.specs.declared.ask.DotenvAsk.{DotenvAsk}
+use Rattle.just_env.specs.declared.env_error.EnvError.{EnvError}
+use Rattle.just_env.specs.declared.env_error.EnvError.TheVariants as error
+use Rattle.just_env.specs.DotenvAnswers.{GainsAmong, Runs}
+use Rattle.just_env.specs.Captures.{Capture, told_behind}
+use Rattle.just_env.specs.Loads.{LoadsOwn, LoadsModules, LoadsProject, Following, following, folder_of, dotenv_of, before_others}
+use Rattle.just_env.specs.Turns.{LoadsNext, seen}
+use Rattle.just_env.proofs.Running.{among_none, among_then, behind_append, run_refused_behind, run_short_behind}
+
+-- ---- the stack
+
+-- one more on top, behind a borrow
+pub seen_more : (pending : List (Bor Justfile × Pairs)) (p : Bor Justfile × Pairs) → seen (pending ++ p ∷ []) ≡ seen pending ++ (p.0.now, p.1) ∷ []
+seen_more pending p = map-append (λ (q : Bor Justfile × Pairs). (q.0.now, q.1)) pending (p ∷ [])
+
+-- the modules on a stack
+abbrev pub modules_in : Following → List Justfile
+modules_in pending = map (λ (p : Justfile × Pairs). p.0) pending
+
+modules_following : (pairs : Pairs) (js : List Justfile) → modules_in (reverse (following pairs js)) ≡ reverse js
+modules_following pairs [] = refl
+modules_following pairs (j ∷ js) =
+    ap modules_in (reverse-append ((j, pairs) ∷ []) (following pairs js))
+    ∙ map-append (λ (p : Justfile × Pairs). p.0) (reverse (following pairs js)) ((j, pairs) ∷ [])
+    ∙ ap (λ ks. ks ++ j ∷ []) (modules_following pairs js) ∙ sym (reverse-append (j ∷ []) js)
+
+-- ---- what is loaded
+
+-- what is loaded, before what is still to be
+abbrev pub behind : List DotenvOf → Result (List DotenvOf) EnvError → Result (List DotenvOf) EnvError
+behind done (Ok others) = Ok (done ++ others)
+behind done (Err e) = Err e
+
+behind_one : (done : List DotenvOf) (one : DotenvOf) (r : Result (List DotenvOf) EnvError) → behind done (before_others one r) ≡ behind (done ++ one ∷ []) r
+behind_one done one (Ok others) = ap (λ l. Ok l) (sym (append_assoc done (one ∷ []) others))
+behind_one done one (Err e) = refl
+
+nothing_before : (r : Result (List DotenvOf) EnvError) → r ≡ behind [] r
+nothing_before (Ok others) = refl
+nothing_before (Err e) = refl
+
+-- whatever the modules on the stack come to, the first ones come to that behind what is loaded
+pub record Leads (ask : DotenvAsk) (flags : RunFlags) (environ : Pairs) (told : Option World) (first : Following) (now : Option World) (pending : Following) (cs : List Capture) (done : List DotenvOf) : Type 0 where
+  pub so : (ds : List Capture) (r : Result (List DotenvOf) EnvError) → LoadsModules ask flags environ now (reverse pending) ds r → LoadsModules ask flags environ told first (cs ++ ds) (behind done r)
+
+-- ---- one module
+
+module _ (ask : DotenvAsk) (flags : RunFlags) (environ : Pairs) where
+  pub next_loaded : (told : Option World) (j : Justfile) (before own pairs : Pairs) (old new : Following) (one : DotenvOf) (cs : List Capture) → pairs ≡ before ++ own
+      → one ≡ dotenv_of j pairs → new ≡ old ++ reverse (following pairs (modules_of j)) → LoadsOwn told ask flags environ (folder_of flags.folder j) j cs (Ok own) → LoadsNext told ask flags environ j before old new cs (Ok one)
+  next_loaded told j before own pairs old new one cs are is pushed loads =
+      (own, loads, is ∙ ap (λ ps. dotenv_of j ps) are, pushed ∙ ap (λ ps. old ++ reverse (following ps (modules_of j))) are)
+
+  -- ---- all modules
+
+  pub leads_first : (told : Option World) (j : Justfile) (pending : Following) → pending ≡ (j, []) ∷ [] → Leads ask flags environ told (following [] (j ∷ [])) told pending [] []
+  leads_first told j pending is = record {
+    so = λ ds r loads. subst (λ x. LoadsModules ask flags environ told (following [] (j ∷ [])) ds x) (nothing_before r) (subst (λ ps. LoadsModules ask flags environ told (reverse ps) ds r) is loads);
+  }
+
+  turned : (ps us : Following) (p : Justfile × Pairs) → ps ≡ us ++ p ∷ [] → reverse ps ≡ p ∷ reverse us
+  turned ps us p is = ap (λ l. reverse l) is ∙ reverse-append us (p ∷ [])
+
+  within : (us qs rs : Following) → qs ≡ us ++ reverse rs → reverse qs ≡ rs ++ reverse us
+  within us qs rs is = ap (λ l. reverse l) is ∙ reverse-append us (reverse rs) ∙ ap (λ l. l ++ reverse us) (reverse-reverse rs)
+
+  module _ (told now : Option World) (first ps us qs : Following) (cs ds : List Capture) (done : List DotenvOf) (j : Justfile) (before : Pairs) (is : ps ≡ us ++ (j, before) ∷ []) (leads : Leads ask flags environ told first now ps cs done) where
+    -- one module is loaded
+    pub leads_next : (one : DotenvOf) → LoadsNext now ask flags environ j before us qs ds (Ok one) → Leads ask flags environ told first (told_behind now ds) qs (cs ++ ds) (done ++ one ∷ [])
+    leads_next one next = record {
+      so = λ es r loads.
+          let here : LoadsModules ask flags environ (told_behind now ds) (following (before ++ next.0) (modules_of j) ++ reverse us) es r =
+          subst (λ l. LoadsModules ask flags environ (told_behind now ds) l es r) (within us qs (following (before ++ next.0) (modules_of j)) next.3) loads in
+          let more : LoadsModules ask flags environ now ((j, before) ∷ reverse us) (ds ++ es) (before_others (dotenv_of j (before ++ next.0)) r) = LoadsModules.more now j before next.0 (reverse us) ds es r next.1 here in
+          let all : LoadsModules ask flags environ told first (cs ++ (ds ++ es)) (behind done (before_others (dotenv_of j (before ++ next.0)) r)) =
+          leads.so (ds ++ es) (before_others (dotenv_of j (before ++ next.0)) r) (subst (λ l. LoadsModules ask flags environ now l (ds ++ es) (before_others (dotenv_of j (before ++ next.0)) r)) (sym (turned ps us (j, before) is)) more) in
+          subst (λ l. LoadsModules ask flags environ told first l (behind (done ++ one ∷ []) r)) (sym (append_assoc cs ds es))
+          (subst (λ x. LoadsModules ask flags environ told first (cs ++ (ds ++ es)) x) (ap (λ o. behind done (before_others o r)) (sym next.2) ∙ behind_one done one r) all);
+    }
+
+    -- one is refused
+    pub leads_refused : (e : EnvError) → LoadsNext now ask flags environ j before us qs ds (Err e) → LoadsModules ask flags environ told first (cs ++ ds) (Err e)
+    leads_refused e next =
+        leads.so ds (Err e) (subst (λ l. LoadsModules ask flags environ now l ds (Err e)) (sym (turned ps us (j, before) is)) (LoadsModules.refused now j before (reverse us) ds e next))
+
+    -- there are fewer modules left, with those within it
+    pub fewer_left : (one : DotenvOf) → LoadsNext now ask flags environ j before us qs ds (Ok one) → weights (modules_in qs) < weights (modules_in ps)
+    fewer_left one next =
+        fewer (modules_in ps) (modules_in us) (modules_in qs) j
+        (ap modules_in is ∙ map-append (λ (p : Justfile × Pairs). p.0) us ((j, before) ∷ []))
+        (ap modules_in next.3 ∙ map-append (λ (p : Justfile × Pairs). p.0) us (reverse (following (before ++ next.0) (modules_of j)))
+        ∙ ap (λ ks. modules_in us ++ ks) (modules_following (before ++ next.0) (modules_of j)))
+
+  -- none is left
+  pub leads_all : (told now : Option World) (first ps : Following) (cs : List Capture) (done : List DotenvOf) → ps ≡ [] → Leads ask flags environ told first now ps cs done → LoadsModules ask flags environ told first cs (Ok done)
+  leads_all told now first ps cs done none leads =
+      subst (λ l. LoadsModules ask flags environ told first l (Ok done)) (append-nil cs)
+      (subst (λ l. LoadsModules ask flags environ told first (cs ++ []) (Ok l)) (append-nil done)
+      (leads.so [] (Ok []) (subst (λ l. LoadsModules ask flags environ now l [] (Ok [])) (sym (ap (λ l. reverse l) none)) (LoadsModules.none now))))
+
+-- ---- with modules behind borrows
+
+pub top : (ps us : List (Bor Justfile × Pairs)) (p : Bor Justfile × Pairs) → ps ≡ us ++ p ∷ [] → seen ps ≡ seen us ++ (p.0.now, p.1) ∷ []
+top ps us p popped = ap seen popped ∙ seen_more us p
+
+-- ---- the loop over modules
+
+module _ (ask : DotenvAsk) (flags : RunFlags) (environ : Pairs) (told : Option World) (j : Justfile) (old : List Entry) where
+  -- children were run for what is loaded, whatever the modules on the stack come to
+  abbrev pub LoadedOn : Option World → Following → List DotenvOf → List Entry → Type 0
+  LoadedOn now pending done entries = (cs : List Capture) × Leads ask flags environ told (following [] (j ∷ [])) now pending cs done × GainsAmong cs old entries × (now ≡ told_behind told cs)
+
+  pub on_start : (pending : Following) (done : List DotenvOf) → pending ≡ (j, []) ∷ [] → done ≡ [] → LoadedOn told pending done old
+  on_start pending done is none = subst (λ l. LoadedOn told pending l old) (sym none) ([], leads_first ask flags environ told j pending is, among_none old, refl)
+
+  pub on_end : (now : Option World) (pending : Following) (done all : List DotenvOf) (entries : List Entry) → pending ≡ [] → all ≡ done → LoadedOn now pending done entries
+      → Runs (LoadsProject told ask flags environ j) told now old entries (Ok all)
+  on_end now pending done all entries none same (cs, leads, gained, is) =
+      subst (λ l. Runs (LoadsProject told ask flags environ j) told now old entries (Ok l)) (sym same)
+      (cs, leads_all ask flags environ told now (following [] (j ∷ [])) pending cs done none leads, gained, is)
+
+  -- a module is taken from the stack
+  module _ (now after : Option World) (ps us qs : Following) (k : Justfile) (before : Pairs) (done : List DotenvOf) (middle new : List Entry) (is : ps ≡ us ++ (k, before) ∷ []) (loaded : LoadedOn now ps done middle) where
+    pub on_more : (one : DotenvOf) (all : List DotenvOf) → Runs (LoadsNext now ask flags environ k before us qs) now after middle new (Ok one) → all ≡ done ++ one ∷ [] → LoadedOn after qs all new
+    on_more one all (ds, next, gained, world) so =
+        let leads : Leads ask flags environ told (following [] (j ∷ [])) (told_behind now ds) qs (loaded.0 ++ ds) (done ++ one ∷ []) =
+        leads_next ask flags environ told now (following [] (j ∷ [])) ps us qs loaded.0 ds done k before is loaded.1 one next in (
+          loaded.0 ++ ds,
+          subst (λ w. Leads ask flags environ told (following [] (j ∷ [])) w qs (loaded.0 ++ ds) all) (sym world) (subst (λ l. Leads ask flags environ told (following [] (j ∷ [])) (told_behind now ds) qs (loaded.0 ++ ds) l) (sym so) leads),
+          among_then loaded.0 ds old middle new loaded.2 gained,
+          world ∙ ap (λ w. told_behind w ds) loaded.3 ∙ sym (behind_append told loaded.0 ds),
+        )
+
+    pub on_fewer : (one : DotenvOf) → Runs (LoadsNext now ask flags environ k before us qs) now after middle new (Ok one) → weights (modules_in qs) < weights (modules_in ps)
+    on_fewer one (ds, next, gained, world) = fewer_left ask flags environ told now (following [] (j ∷ [])) ps us qs loaded.0 ds done k before is loaded.1 one next
+
+    pub on_error : (e : EnvError) → Runs (LoadsNext now ask flags environ k before us qs) now after middle new (Err e) → Runs (LoadsProject told ask flags environ j) told after old new (Err e)
+    on_error e runs =
+        run_refused_behind (LoadsProject told ask flags environ j) told after old new loaded.0 middle now loaded.2 loaded.3 (LoadsNext now ask flags environ k before us qs) e runs
+        (λ ds refuses. leads_refused ask flags environ told now (following [] (j ∷ [])) ps us qs loaded.0 ds done k before is loaded.1 e refuses)
+
+    pub on_short : (one : DotenvOf) (r : Result (List DotenvOf) EnvError) → Runs (LoadsNext now ask flags environ k before us qs) now after middle new (Ok one) → IsErrAnd r (λ e. e ≡ error.NoMemory)
+        → Runs (LoadsProject told ask flags environ j) told after old new r
+    on_short one (Ok x) runs memory = absurd memory
+    on_short one (Err e) runs memory = run_short_behind (LoadsProject told ask flags environ j) told after old new loaded.0 middle now loaded.2 loaded.3 runs.0 e runs.2 runs.3 memory

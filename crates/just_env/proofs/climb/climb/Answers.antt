@@ -1,0 +1,32 @@
+-- A folder that has a file of the names ends the climb, and so does one that is refused; any other is passed.
+use Rattle.std.proofs.Common.{rules, ◌≡◌, ◌∷◌, ◌∙◌, Some, None}
+use Rattle.just_path.specs.Path.{text_of}
+use Rattle.just_path.specs.Ancestors.{ancestors_of, ancestors_left}
+use Rattle.just_env.proofs.Laws.{misses_then}
+use Rattle.just_env.proofs.Climbs.{climb_next, climb_found, climb_refused}
+use Rattle.just_env.proofs.climb.climb.Goals as goal
+
+pub returns-in-Ok-Some-clause-found : goal.returns-in-Ok-Some-clause-found
+returns-in-Ok-Some-clause-found g c =
+    let steps : ancestors_left c.folders.folders ≡ text_of c.in-Some.folder ∷ ancestors_left c.next.new.self = search rules in
+    let some : c.in-Ok-Some.field-0 ≡ Some c.in-Ok-Some.pairs = search rules in
+    climb_found (g.H.Host.world c.args.host.now) (g.H.Host.world c.folders.host) c.args.environ.now.pairs c.args.names.now (ancestors_of (text_of c.args.start)) (ancestors_left c.folders.folders) (ancestors_left c.next.new.self)
+    (text_of c.in-Some.folder) c.folders.invariant.world c.folders.invariant.along steps c.in-Ok-Some.field-0 c.in-Ok-Some.pairs c.in-Ok-Some.ensures.loaded some
+
+pub folders-preserved : goal.folders-preserved
+folders-preserved g c =
+    let steps : ancestors_left c.folders.folders ≡ text_of c.in-Some.folder ∷ ancestors_left c.next.new.self = search rules in
+    let none : c.in-Ok-None.field-0 ≡ None = search rules in
+    record {
+      along = climb_next (g.H.Host.world c.args.host.now) (g.H.Host.world c.folders.host) c.args.environ.now.pairs c.args.names.now (ancestors_of (text_of c.args.start)) (ancestors_left c.folders.folders) (ancestors_left c.next.new.self)
+          (text_of c.in-Some.folder) c.folders.invariant.world c.folders.invariant.along steps c.in-Ok-None.field-0 c.in-Ok-None.ensures.loaded none;
+      gains = misses_then _ _ _ c.folders.invariant.gains c.in-Ok-None.ensures.gains;
+      world = c.load_files.ensures.world ∙ c.folders.invariant.world;
+      spare = c.load_files.ensures.spare ∙ c.folders.invariant.spare;
+    }
+
+pub returns-in-Err-clause-found : goal.returns-in-Err-clause-found
+returns-in-Err-clause-found g c =
+    let steps : ancestors_left c.folders.folders ≡ text_of c.in-Some.folder ∷ ancestors_left c.next.new.self = search rules in
+    climb_refused (g.H.Host.world c.args.host.now) (g.H.Host.world c.folders.host) c.args.environ.now.pairs c.args.names.now (ancestors_of (text_of c.args.start)) (ancestors_left c.folders.folders) (ancestors_left c.next.new.self)
+    (text_of c.in-Some.folder) c.folders.invariant.world c.folders.invariant.along steps c.in-Err.error c.in-Err.ensures.loaded

@@ -1,0 +1,19 @@
+-- The folders so far have no file of the names; the record gained misses alone.
+use Rattle.std.proofs.Common.{◌≡◌, length}
+use Rattle.just_path.specs.Path.{text_of}
+use Rattle.just_path.specs.Ancestors.{ancestors_of, ancestors_left}
+use Rattle.just_env.specs.Answers.{GainsMisses}
+use Rattle.just_env.specs.Files.{LoadsUnder}
+use Rattle.just_env.proofs.Climbs.{Along}
+use Rattle.just_env.proofs.climb.climb.Given as goal
+
+abbrev pub invariant-folders : goal.invariant-folders
+invariant-folders g l = record {
+  along : Along (LoadsUnder (g.H.Host.world l.fn.host) l.environ.pairs l.names) (ancestors_of (text_of l.fn.start)) (ancestors_left l.folders);
+  gains : GainsMisses (g.H.Host.entries l.fn.host) (g.H.Host.entries l.host);
+  world : g.H.Host.world l.host ≡ g.H.Host.world l.fn.host;
+  spare : g.H.Host.spare l.host ≡ g.H.Host.spare l.fn.host;
+}
+
+abbrev pub decreases-folders : goal.decreases-folders
+decreases-folders g l = length (ancestors_left l.folders)

@@ -1,0 +1,15 @@
+-- Children were run for what is loaded, whatever the modules on the stack come to.
+use Rattle.std.proofs.Common.{◌≡◌}
+use Rattle.just_eval_closure.proofs.Nesting.{weights}
+use Rattle.just_env.specs.Turns.{seen}
+use Rattle.just_env.proofs.Turning.{LoadedOn, modules_in}
+use Rattle.just_env.proofs.modules.load_modules.Given as goal
+
+abbrev pub invariant-modules : goal.invariant-modules
+invariant-modules g l = record {
+  ran : LoadedOn l.ask l.flags l.environ.pairs (g.H.Host.world l.fn.host) l.justfile (g.H.Host.entries l.fn.host) (g.H.Host.world l.host) (seen l.pending.items) l.loaded.items (g.H.Host.entries l.host);
+  spare : g.H.Host.spare l.host ≡ g.H.Host.spare l.fn.host;
+}
+
+abbrev pub decreases-modules : goal.decreases-modules
+decreases-modules g l = weights (modules_in (seen l.pending.items))

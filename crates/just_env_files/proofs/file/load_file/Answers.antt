@@ -1,6 +1,0 @@
--- A text that is refused leaves no entry.
-use Rattle.just_env_files.proofs.Record.{gains_error}
-use Rattle.just_env_files.proofs.file.load_file.Goals as goal
-
-pub returns-clause-gains : goal.returns-clause-gains
-returns-clause-gains g c = gains_error _ _ c.in-Err-pairs_of_text.error c.in-Ok-Some.ensures.gains c.in-Err-pairs_of_text.ensures.unheard

@@ -1,7 +1,0 @@
--- The first entries so far are in the index.
-use Rattle.just_eval.proofs.EntryLists.{Indexes}
-use Rattle.just_eval.proofs.index.index_of.Given as goal
-
-abbrev pub invariant-entries : goal.invariant-entries
-invariant-entries l =
-    Indexes l.all l.entry-index l.index

@@ -1,0 +1,21 @@
+-- The lemmas of closures, values, evaluation.
+pub mod Equal
+pub mod Items
+pub mod Places
+pub mod Reaches
+pub mod Grown
+pub mod Closed
+pub mod Numbered
+pub mod Pending
+pub mod Nodes
+pub mod Popped
+pub mod Tasks
+pub mod Exprs
+pub mod Bindings
+pub mod Nesting
+pub mod Each
+pub mod Shares
+pub mod GivenValues
+pub mod EntryLists
+pub mod Ends
+pub mod Keys

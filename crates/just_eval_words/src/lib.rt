@@ -1,0 +1,23 @@
+//! What words give to the parameters of recipes, and the keys that the words of a request ask for.
+#![tactic(auto)]
+
+mod check;
+mod copy;
+mod form;
+mod found;
+mod given;
+mod invocation;
+mod name;
+mod parameter;
+mod path;
+mod pattern;
+mod sight;
+mod switch;
+mod taken;
+mod target;
+mod value;
+mod words;
+
+pub use invocation::{invocations, invocations_agree, within_one};
+pub use parameter::least_words;
+pub use words::words_given;

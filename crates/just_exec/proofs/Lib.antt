@@ -1,0 +1,4 @@
+-- The lemmas of plans, errors.
+pub mod Caching
+pub mod KeyPlans
+pub mod Paired

@@ -1,0 +1,266 @@
+//! Why a request is refused, or a run failed.
+
+use just_config::{ConfigError, UnstableFeature};
+use just_config_words::Usage;
+use just_env::{OutputError, SearchError};
+use just_host_record::{HostFault, Signal};
+use just_lang_types::{CompileError, Modulepath, Parameter};
+use just_path::Utf8PathBuf;
+use just_path_text::{Seq, Text};
+
+/// Why a request is refused, or a run failed. Recipes are told by their names without those of their modules, switches with their dashes.
+#[derive(Drop)]
+pub enum Error {
+    /// The words of the command line, or a variable that fills them in, are at fault.
+    Usage(Usage),
+    /// A form that isn't built yet: the first long name of an option or of a command.
+    NotBuilt {
+        word: Text,
+    },
+    /// The arguments of the words give no configuration.
+    Config(ConfigError),
+    CurrentDir {
+        io: HostFault,
+    },
+    /// No justfile is found.
+    Search(SearchError),
+    /// A file of a justfile can't be read.
+    Load {
+        path: Utf8PathBuf,
+        io: HostFault,
+    },
+    /// A call of the host was a miss or failed; the path is empty where the call names none.
+    FilesystemIo {
+        path: Utf8PathBuf,
+        io: HostFault,
+    },
+    MissingImportFile,
+    /// A file is named by one that it leads to.
+    CircularImport {
+        current: Utf8PathBuf,
+        import: Utf8PathBuf,
+    },
+    MissingModuleFile {
+        module: Text,
+    },
+    AmbiguousModuleFile {
+        module: Text,
+        found: Seq<Text>,
+    },
+    /// A path begins with `~`, and there is no home folder.
+    Homedir,
+    /// The first broken rule of a justfile.
+    Compile(CompileError),
+    /// A setting or an attribute has a text that isn't constant.
+    Const {
+        path: Utf8PathBuf,
+        line: usize,
+        column: usize,
+    },
+    UnstableFeature(UnstableFeature),
+    /// A module requires a dotenv file, and none was found.
+    DotenvRequired,
+    /// A dotenv file has a text that can't be read, from an entry on that begins on that line.
+    Dotenv {
+        path: Utf8PathBuf,
+        line: usize,
+    },
+    /// The words give several names or several paths of dotenv files, and a module doesn't set `lists`.
+    DotenvArgumentsRequireLists,
+    /// A command that gives dotenv pairs gave none.
+    DotenvCommand {
+        command: Text,
+        output_error: OutputError,
+    },
+    /// The words override variables that the justfile doesn't have: each once, as `module::name`, ordered by module path and then by name.
+    UnknownOverrides {
+        overrides: Seq<Text>,
+    },
+    /// A value asks the environment for a variable that isn't there.
+    FunctionCall {
+        name: Text,
+    },
+    NoRecipes,
+    NoDefaultRecipe,
+    DefaultRecipeRequiresArguments {
+        recipe: Text,
+        min_arguments: u64,
+    },
+    UnknownRecipe {
+        recipe: Text,
+    },
+    UnknownSubmodule {
+        path: Text,
+    },
+    ModuleAbsent {
+        module: Text,
+    },
+    RecipeDisabled {
+        recipe: Text,
+        modules: Seq<Text>,
+    },
+    AliasDisabled {
+        alias: Text,
+        modules: Seq<Text>,
+    },
+    ExpectedSubmoduleButFoundRecipe {
+        path: Text,
+    },
+    UnknownOption {
+        recipe: Text,
+        switch: Text,
+    },
+    InvalidOption {
+        argument: Text,
+    },
+    FlagWithValue {
+        recipe: Text,
+        switch: Text,
+    },
+    NonFinalOptionWithValue {
+        recipe: Text,
+        switch: Text,
+    },
+    OptionMissingValue {
+        recipe: Text,
+        switch: Text,
+    },
+    DuplicateOption {
+        recipe: Text,
+        switch: Text,
+    },
+    /// A recipe got more or fewer positional arguments than it takes.
+    PositionalArgumentCountMismatch {
+        recipe: Text,
+        path: Modulepath,
+        parameters: Seq<Parameter>,
+        found: usize,
+    },
+    MissingOption {
+        recipe: Text,
+        switch: Text,
+    },
+    ArgumentTooFewValues {
+        recipe: Text,
+        parameter: Text,
+        found: u64,
+        min: u64,
+    },
+    ArgumentTooManyValues {
+        recipe: Text,
+        parameter: Text,
+        found: u64,
+        max: u64,
+    },
+    ArgumentPatternMismatch {
+        argument: Text,
+        recipe: Text,
+        parameter: Text,
+        pattern: Seq<Text>,
+    },
+    EmptyListArgument {
+        recipe: Text,
+        parameter: Text,
+    },
+    /// More recipes are asked for than one.
+    ExcessInvocations {
+        invocations: u64,
+    },
+    /// The request needs more than 1,000,000 recipes.
+    ClosureLimit,
+    /// The first line of a script names no interpreter.
+    InvalidShebang {
+        recipe: Text,
+        shebang: Text,
+    },
+    /// A command ended with a code other than 0; a script has no line. The last field says whether the message is printed.
+    Code {
+        recipe: Text,
+        line: Option<usize>,
+        code: i32,
+        message: bool,
+    },
+    /// A guard ended with a code other than 0 and 1.
+    GuardCode {
+        recipe: Text,
+        line: usize,
+        code: i32,
+    },
+    /// A command was ended by a signal.
+    Signal {
+        recipe: Text,
+        line: Option<usize>,
+        signal: i32,
+    },
+    /// How a command ended isn't known.
+    Unknown {
+        recipe: Text,
+        line: Option<usize>,
+    },
+    /// The shell of a recipe's line couldn't be started or waited for.
+    ShellIo {
+        recipe: Text,
+        shell: Text,
+        io: HostFault,
+    },
+    /// The command of a recipe's script, with its arguments, couldn't be started or waited for.
+    Script {
+        recipe: Text,
+        command: Text,
+        io: HostFault,
+    },
+    /// The script of a recipe, which names an interpreter and perhaps its argument, couldn't be started or waited for.
+    Shebang {
+        recipe: Text,
+        command: Text,
+        argument: Option<Text>,
+        io: HostFault,
+    },
+    /// The temporary file of a recipe's script couldn't be made.
+    TempdirIo {
+        recipe: Text,
+        io: HostFault,
+    },
+    /// An input of a cached recipe isn't there.
+    CacheInputMissing {
+        path: Utf8PathBuf,
+    },
+    /// An input of a cached recipe is a folder.
+    CacheInputDirectory {
+        path: Utf8PathBuf,
+    },
+    /// A cached recipe ended well and didn't make what it names as its output.
+    CacheOutputMissing {
+        recipe: Text,
+        output: Text,
+    },
+    /// The entry of a cached recipe couldn't be written.
+    CacheEntryWrite {
+        path: Utf8PathBuf,
+        io: HostFault,
+    },
+    /// A recipe's prompt wasn't answered by a yes.
+    NotConfirmed {
+        recipe: Text,
+    },
+    /// The answer to a prompt couldn't be read.
+    GetConfirmation {
+        io: HostFault,
+    },
+    /// A text couldn't be printed.
+    StdoutIo {
+        io: HostFault,
+    },
+    /// A file stands where a justfile is to be written.
+    InitExists {
+        justfile: Utf8PathBuf,
+    },
+    /// A justfile couldn't be written.
+    WriteJustfile {
+        justfile: Utf8PathBuf,
+        io: HostFault,
+    },
+    /// A signal was caught before all recipes were done.
+    Interrupted(Signal),
+    NoMemory,
+}

@@ -1,2 +1,0 @@
--- The definitions of which justfiles are tried behind one.
-pub mod Fallback

@@ -1,0 +1,7 @@
+-- What isn't started fails as its start.
+use Rattle.std.proofs.Common.{subst}
+use Rattle.just_host_record.specs.Record.{IsCaptureFault}
+use Rattle.just_host_system.proofs.capturing.capture_with.Goals as goal
+
+pub returns-in-Err-clause-fault : goal.returns-in-Err-clause-fault
+returns-in-Err-clause-fault g c = λ input. subst (λ r. IsCaptureFault input r) c.in-Err.is (c.begin.ensures input)

@@ -1,3 +1,0 @@
--- The lemmas of importers.
-pub mod Rows
-pub mod Whole

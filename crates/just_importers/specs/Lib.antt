@@ -1,2 +1,0 @@
--- Which files import which.
-pub mod Importers

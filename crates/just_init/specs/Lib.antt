@@ -1,2 +1,0 @@
--- The definitions of where a justfile is to be written.
-pub mod Inits

@@ -1,8 +1,0 @@
--- What was added and the names that are left are all.
-use Rattle.std.proofs.Common.{◌≡◌, ◌++◌, drop, string_bytes}
-use Rattle.just_invocations.specs.Paths.{further}
-use Rattle.just_invocations.proofs.path.push_further.Given as goal
-
-abbrev pub invariant-names : goal.invariant-names
-invariant-names l =
-    string_bytes l.text ++ further (drop l.name-index l.names) ≡ string_bytes l.fn.text ++ further l.names

@@ -1,0 +1,177 @@
+//! The aliases of a module: of recipes, of modules, and those that can't be run.
+ghost use Rattle.std.specs.Prelude.{◌≡◌, IfOk};
+ghost use Rattle.just_lang_spots.specs.Entries.{entry, entries};
+ghost use Rattle.just_lang_justfile.specs.Aliases.{recipe_alias, module_alias, target_of, alias_by, recipe_aliases_of, module_aliases_of, disabled_alias, disabled_aliases_of};
+
+use super::linker::{AliasTarget, Linker};
+use super::recipes::disabled_for;
+use just_lang_spots::Entry;
+use just_lang_syntax::{AstItem, Name};
+use just_lang_types::{Alias, Disabled};
+use just_path_text::{NoMemory, Seq, Text};
+use std::alloc::Global;
+
+/// The alias of that name, where its target is a recipe.
+fn recipe_alias(alloc: Global, name: &Name, target: AliasTarget) -> Result<Option<Alias>, NoMemory>
+    ensures { IfOk result (λ a. a ≡ recipe_alias name.now.text target) }
+{
+    match target {
+        AliasTarget::Recipe(path) => Ok(Some(Alias {
+            name: Text::from_str(alloc, name.text.as_str())?,
+            target: path,
+        })),
+        AliasTarget::Module(_) | AliasTarget::Nothing => Ok(None),
+    }
+}
+
+/// The alias of that name, where its target is a module.
+fn module_alias(alloc: Global, name: &Name, target: AliasTarget) -> Result<Option<Alias>, NoMemory>
+    ensures { IfOk result (λ a. a ≡ module_alias name.now.text target) }
+{
+    match target {
+        AliasTarget::Module(path) => Ok(Some(Alias {
+            name: Text::from_str(alloc, name.text.as_str())?,
+            target: path,
+        })),
+        AliasTarget::Recipe(_) | AliasTarget::Nothing => Ok(None),
+    }
+}
+
+/// The target of an alias of that path in the module of that number; none where it can't be run.
+#[tactic(auto, using(crate::proofs::ListLaws::where_empty, crate::proofs::ListLaws::where_filled))]
+fn target_of<'a, L: Linker<'a>>(
+    alloc: Global,
+    links: &L,
+    number: usize,
+    path: &'a [Name],
+) -> Result<Option<AliasTarget>, NoMemory>
+    requires { L.known links.now }
+    ensures { IfOk result (λ t. t ≡ target_of (L.links links.now) number path.now) }
+{
+    let modules = links.modules_of_alias(alloc, number, path)?;
+    if !modules.is_empty() {
+        return Ok(None);
+    }
+    Ok(Some(links.alias_target(alloc, number, path)?))
+}
+
+/// The alias of a recipe that an item is, where it can be run.
+fn recipe_alias_in<'a, L: Linker<'a>>(
+    alloc: Global,
+    links: &L,
+    number: usize,
+    one: &Entry<'a>,
+) -> Result<Option<Alias>, NoMemory>
+    requires { L.known links.now }
+    ensures { IfOk result (λ a. a ≡ alias_by (L.links links.now) number recipe_alias (entry one.now)) }
+{
+    match one.item {
+        AstItem::Alias { name, target, .. } => {
+            match target_of(alloc, links, number, target.as_slice())? {
+                None => Ok(None),
+                Some(target) => recipe_alias(alloc, name, target),
+            }
+        }
+        _ => Ok(None),
+    }
+}
+
+/// The alias of a module that an item is, where it can be run.
+fn module_alias_in<'a, L: Linker<'a>>(
+    alloc: Global,
+    links: &L,
+    number: usize,
+    one: &Entry<'a>,
+) -> Result<Option<Alias>, NoMemory>
+    requires { L.known links.now }
+    ensures { IfOk result (λ a. a ≡ alias_by (L.links links.now) number module_alias (entry one.now)) }
+{
+    match one.item {
+        AstItem::Alias { name, target, .. } => {
+            match target_of(alloc, links, number, target.as_slice())? {
+                None => Ok(None),
+                Some(target) => module_alias(alloc, name, target),
+            }
+        }
+        _ => Ok(None),
+    }
+}
+
+/// The aliases of recipes in the module of that number that can be run.
+#[tactic(auto, using(crate::proofs::ListLaws::one_more))]
+pub(crate) fn recipe_aliases_of<'a, L: Linker<'a>>(
+    alloc: Global,
+    links: &L,
+    number: usize,
+    items: &[Entry<'a>],
+) -> Result<Seq<Alias>, NoMemory>
+    requires { L.known links.now }
+    ensures { IfOk result (λ all. all ≡ recipe_aliases_of (L.links links.now) number (entries items.now)) }
+{
+    let mut all = Vec::new(alloc);
+    'items: for one in items {
+        if let Some(alias) = recipe_alias_in(alloc, links, number, one)? {
+            all.push(alias)?;
+        }
+    }
+    Ok(Seq::from(all))
+}
+
+/// The aliases of modules in the module of that number that can be run.
+#[tactic(auto, using(crate::proofs::ListLaws::one_more))]
+pub(crate) fn module_aliases_of<'a, L: Linker<'a>>(
+    alloc: Global,
+    links: &L,
+    number: usize,
+    items: &[Entry<'a>],
+) -> Result<Seq<Alias>, NoMemory>
+    requires { L.known links.now }
+    ensures { IfOk result (λ all. all ≡ module_aliases_of (L.links links.now) number (entries items.now)) }
+{
+    let mut all = Vec::new(alloc);
+    'items: for one in items {
+        if let Some(alias) = module_alias_in(alloc, links, number, one)? {
+            all.push(alias)?;
+        }
+    }
+    Ok(Seq::from(all))
+}
+
+/// The alias that an item is, where it can't be run.
+fn disabled_alias<'a, L: Linker<'a>>(
+    alloc: Global,
+    links: &L,
+    number: usize,
+    one: &Entry<'a>,
+) -> Result<Option<Disabled>, NoMemory>
+    requires { L.known links.now }
+    ensures { IfOk result (λ d. d ≡ disabled_alias (L.links links.now) number (entry one.now)) }
+{
+    match one.item {
+        AstItem::Alias { name, target, .. } => {
+            let modules = links.modules_of_alias(alloc, number, target.as_slice())?;
+            disabled_for(alloc, name.text.as_str(), modules)
+        }
+        _ => Ok(None),
+    }
+}
+
+/// The aliases in the module of that number that can't be run.
+#[tactic(auto, using(crate::proofs::ListLaws::one_more))]
+pub(crate) fn disabled_aliases_of<'a, L: Linker<'a>>(
+    alloc: Global,
+    links: &L,
+    number: usize,
+    items: &[Entry<'a>],
+) -> Result<Seq<Disabled>, NoMemory>
+    requires { L.known links.now }
+    ensures { IfOk result (λ all. all ≡ disabled_aliases_of (L.links links.now) number (entries items.now)) }
+{
+    let mut all = Vec::new(alloc);
+    'items: for one in items {
+        if let Some(disabled) = disabled_alias(alloc, links, number, one)? {
+            all.push(disabled)?;
+        }
+    }
+    Ok(Seq::from(all))
+}

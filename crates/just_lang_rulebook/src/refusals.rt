@@ -1,0 +1,61 @@
+//! Why patterns are refused.
+ghost use Rattle.std.specs.Prelude.{◌≡◌, IfOk, string_bytes};
+ghost use Rattle.just_lang_rulebook.specs.Patterns.{whole_pattern, is_pattern, refusal_by, IsOwnRefusal, IsRefusal};
+
+use just_path_text::NoMemory;
+use regex::{Error, Regex};
+use std::alloc::{AllocError, Global};
+
+/// Why a pattern is refused.
+#[derive(Clone, Copy, Debug, PartialEq, Eq)]
+pub enum Refusal {
+    /// The grammar of regular expressions doesn't read it, or it nests too deep.
+    Syntax,
+    /// It is one, but the library doesn't build it, alone or for a whole value.
+    Size,
+}
+
+/// The pattern that a whole value has to match.
+fn whole_pattern(alloc: Global, text: &str) -> Result<String, AllocError>
+    ensures { IfOk result (λ s. string_bytes s ≡ whole_pattern text.now) }
+{
+    let mut whole = String::from_str(alloc, "^(?:")?;
+    whole.push_str(text)?;
+    whole.push_str(")$")?;
+    Ok(whole)
+}
+
+/// Why a text isn't built, by the library's answer.
+fn refusal_by(built: Result<Regex, Error>) -> Result<Option<Refusal>, NoMemory>
+    ensures { result ≡ refusal_by built }
+{
+    match built {
+        Ok(_) => Ok(None),
+        Err(Error::Syntax(_)) => Ok(Some(Refusal::Syntax)),
+        Err(Error::CompiledTooBig | Error::Internal) => Ok(Some(Refusal::Size)),
+        Err(Error::OutOfMemory) => Err(NoMemory),
+    }
+}
+
+/// Why the library refuses to build the text, where it does.
+pub(crate) fn own_refusal(alloc: Global, text: &str) -> Result<Option<Refusal>, NoMemory>
+    ensures { IfOk result (IsOwnRefusal (is_pattern text.now)) }
+{
+    refusal_by(Regex::new(alloc, text))
+}
+
+/// Why a pattern of a parameter is refused, where it is. It has to be a regular expression by itself, and is then built for whole
+/// values too: `a)(b` is none, though `^(?:a)(b)$` is one. When one that is read is too big is the library's answer; no clause
+/// tells more of it.
+pub fn pattern_refusal(alloc: Global, text: &str) -> Result<Option<Refusal>, NoMemory>
+    ensures { IfOk result (IsRefusal text.now) }
+{
+    if let Some(own) = own_refusal(alloc, text)? {
+        return Ok(Some(own));
+    }
+    let whole = whole_pattern(alloc, text)?;
+    match own_refusal(alloc, whole.as_str())? {
+        None => Ok(None),
+        Some(_) => Ok(Some(Refusal::Size)),
+    }
+}

@@ -1,0 +1,216 @@
+//! The rules on the names of attributes, and on those that don't go with the body.
+ghost use Rattle.std.specs.Prelude.{◌≡◌, codes};
+ghost use Rattle.just_lang_syntax.specs.Forms.{is_one_of};
+ghost use Rattle.just_lang_rules.specs.Tables.{recipe_attributes, module_attributes};
+ghost use Rattle.just_lang_rules.specs.AttributeSpots.{is_called, begins_shebang, is_shebang, has_script, is_script};
+
+use just_lang_spots::{Rule, Spot, first_among, name_spot, spot_where};
+use just_lang_syntax::{AstItem, AstRecipe, Attribute, Fragment, Line};
+use just_path_text::NoMemory;
+use std::alloc::Global;
+
+/// Whether recipes have an attribute of that name.
+fn is_recipe_attribute(name: &str) -> bool
+    ensures { result ≡ is_one_of recipe_attributes name.now }
+{
+    matches!(
+        name,
+        "arg"
+            | "cache"
+            | "confirm"
+            | "default"
+            | "doc"
+            | "exit-message"
+            | "extension"
+            | "group"
+            | "no-cd"
+            | "no-exit-message"
+            | "no-quiet"
+            | "parallel"
+            | "positional-arguments"
+            | "private"
+            | "script"
+            | "working-directory"
+            | "linux"
+            | "unix"
+            | "macos"
+            | "windows"
+            | "openbsd"
+            | "freebsd"
+            | "netbsd"
+            | "dragonfly"
+            | "android"
+    )
+}
+
+/// Whether modules have an attribute of that name.
+fn is_module_attribute(name: &str) -> bool
+    ensures { result ≡ is_one_of module_attributes name.now }
+{
+    matches!(name, "doc" | "group" | "private")
+}
+
+/// The rule that recipes have each attribute.
+#[derive(Clone, Copy, Drop)]
+struct UnknownRecipeAttribute;
+
+impl Rule<Attribute> for UnknownRecipeAttribute {
+    ghost use Rattle.std.specs.Prelude.{not};
+    ghost use Rattle.just_lang_syntax.specs.Forms.{is_one_of};
+    ghost use Rattle.just_lang_rules.specs.Tables.{recipe_attributes};
+    ghost use Rattle.just_lang_spots.specs.Places.{name_spot};
+    ghost use Rattle.just_lang_spots.specs.Spots.{spot_where};
+
+    ghost spots = { λ _ file a. spot_where (not (is_one_of recipe_attributes a.name.text)) (name_spot file a.name) };
+
+    fn first(
+        &self,
+        _alloc: Global,
+        file: usize,
+        thing: &Attribute,
+    ) -> Result<Option<Spot>, NoMemory> {
+        let is_unknown = !is_recipe_attribute(thing.name.text.as_str());
+        Ok(spot_where(is_unknown, name_spot(file, &thing.name)))
+    }
+}
+
+/// The rule that modules have each attribute.
+#[derive(Clone, Copy, Drop)]
+struct UnknownModuleAttribute;
+
+impl Rule<Attribute> for UnknownModuleAttribute {
+    ghost use Rattle.std.specs.Prelude.{not};
+    ghost use Rattle.just_lang_syntax.specs.Forms.{is_one_of};
+    ghost use Rattle.just_lang_rules.specs.Tables.{module_attributes};
+    ghost use Rattle.just_lang_spots.specs.Places.{name_spot};
+    ghost use Rattle.just_lang_spots.specs.Spots.{spot_where};
+
+    ghost spots = { λ _ file a. spot_where (not (is_one_of module_attributes a.name.text)) (name_spot file a.name) };
+
+    fn first(
+        &self,
+        _alloc: Global,
+        file: usize,
+        thing: &Attribute,
+    ) -> Result<Option<Spot>, NoMemory> {
+        let is_unknown = !is_module_attribute(thing.name.text.as_str());
+        Ok(spot_where(is_unknown, name_spot(file, &thing.name)))
+    }
+}
+
+/// The rule that each attribute is one that there is. Its place is the attribute's name.
+#[derive(Clone, Copy, Debug, Drop)]
+pub struct UnknownAttribute;
+
+impl Rule<AstItem> for UnknownAttribute {
+    ghost use Rattle.just_lang_rules.specs.AttributeSpots.{unknown_attribute_of};
+
+    ghost spots = { λ _ file x. unknown_attribute_of file x };
+
+    fn first(&self, alloc: Global, file: usize, thing: &AstItem) -> Result<Option<Spot>, NoMemory> {
+        match thing {
+            AstItem::Module { attributes, .. } => {
+                first_among(alloc, &UnknownModuleAttribute, file, attributes.as_slice())
+            }
+            AstItem::Recipe(recipe) => {
+                let attributes = recipe.get().attributes.as_slice();
+                first_among(alloc, &UnknownRecipeAttribute, file, attributes)
+            }
+            _ => Ok(None),
+        }
+    }
+}
+
+/// Whether the text begins with `#!`.
+fn begins_shebang(text: &str) -> bool
+    ensures { result ≡ begins_shebang text.now }
+{
+    match text.as_bytes() {
+        [first, second, ..] => *first == b'#' && *second == b'!',
+        _ => false,
+    }
+}
+
+/// Whether the first line of a body begins with `#!`.
+fn is_shebang(body: &[Line]) -> bool
+    ensures { result ≡ is_shebang body.now }
+{
+    match body {
+        [] => false,
+        [line, ..] => match line.fragments.as_slice() {
+            [Fragment::Text(text), ..] => begins_shebang(text.as_str()),
+            _ => false,
+        },
+    }
+}
+
+/// Whether one of the attributes is `script`.
+fn has_script(attributes: &[Attribute]) -> bool
+    ensures { result ≡ has_script attributes.now }
+{
+    'attributes: for attribute in attributes {
+        if attribute.name.text.as_str() == "script" {
+            return true;
+        }
+    }
+    false
+}
+
+/// Whether the body of a recipe is one script.
+pub fn is_script(recipe: &AstRecipe) -> bool
+    ensures { result ≡ is_script recipe.now }
+{
+    is_shebang(recipe.body.as_slice()) || has_script(recipe.attributes.as_slice())
+}
+
+/// The rule that an attribute goes with the body that has this form.
+#[derive(Clone, Copy, Drop)]
+struct Conflict {
+    has_shebang: bool,
+    is_script: bool,
+}
+
+impl Rule<Attribute> for Conflict {
+    ghost use Rattle.just_lang_rules.specs.AttributeSpots.{conflicts};
+    ghost use Rattle.just_lang_spots.specs.Places.{name_spot};
+    ghost use Rattle.just_lang_spots.specs.Spots.{spot_where};
+
+    ghost spots = { λ c file a. spot_where (conflicts c.has_shebang c.is_script a) (name_spot file a.name) };
+
+    fn first(
+        &self,
+        _alloc: Global,
+        file: usize,
+        thing: &Attribute,
+    ) -> Result<Option<Spot>, NoMemory> {
+        let name = thing.name.text.as_str();
+        let conflicts = (name == "script" && self.has_shebang)
+            || (name == "cache" && !self.is_script);
+        Ok(spot_where(conflicts, name_spot(file, &thing.name)))
+    }
+}
+
+/// The rule that the attributes of a recipe go with its body: `script` with one that has no shebang, `cache` with a script. Its
+/// place is the attribute's name.
+#[derive(Clone, Copy, Debug, Drop)]
+pub struct AttributeConflict;
+
+impl Rule<AstItem> for AttributeConflict {
+    ghost use Rattle.just_lang_rules.specs.AttributeSpots.{conflict_of};
+
+    ghost spots = { λ _ file x. conflict_of file x };
+
+    fn first(&self, alloc: Global, file: usize, thing: &AstItem) -> Result<Option<Spot>, NoMemory> {
+        match thing {
+            AstItem::Recipe(recipe) => {
+                let recipe = recipe.get();
+                let rule = Conflict {
+                    has_shebang: is_shebang(recipe.body.as_slice()),
+                    is_script: is_script(recipe),
+                };
+                first_among(alloc, &rule, file, recipe.attributes.as_slice())
+            }
+            _ => Ok(None),
+        }
+    }
+}

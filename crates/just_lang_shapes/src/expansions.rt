@@ -1,0 +1,179 @@
+//! Copies of what stands in items, where each string with an `x` in front gives way to the text that it expands to.
+ghost use Rattle.std.specs.Prelude.{◌≡◌, IfOk};
+ghost use Rattle.just_lang_shapes.specs.Expansions.{literal_with, expanded_literal, expanded_expr, expanded_exprs, expanded_default};
+
+use just_lang_read::Boxed;
+use just_lang_rules::Texts;
+use just_lang_syntax::{Expr, Name, Quote, StringLiteral};
+use just_path_text::{NoMemory, Seq, Text, TryClone};
+use std::alloc::Global;
+
+/// A copy of a name.
+pub(crate) fn copy_of_name(name: &Name) -> Result<Name, NoMemory>
+    ensures { IfOk result (λ copy. copy ≡ name.now) }
+{
+    let text = name.text.try_clone()?;
+    Ok(Name {
+        text,
+        line: name.line,
+        column: name.column,
+    })
+}
+
+/// A copy of a string.
+fn copy_of_literal(literal: &StringLiteral) -> Result<StringLiteral, NoMemory>
+    ensures { IfOk result (λ copy. copy ≡ literal.now) }
+{
+    let raw = literal.raw.try_clone()?;
+    Ok(StringLiteral {
+        expands: literal.expands,
+        quote: literal.quote,
+        raw,
+        line: literal.line,
+        column: literal.column,
+    })
+}
+
+/// A string of that text, at the place of another.
+fn literal_with(literal: &StringLiteral, text: Text) -> StringLiteral
+    ensures { result ≡ literal_with literal.now text }
+{
+    StringLiteral {
+        expands: false,
+        quote: Quote::Single,
+        raw: text,
+        line: literal.line,
+        column: literal.column,
+    }
+}
+
+/// A string, or the text that it expands to where it has an `x` in front.
+fn expanded_literal<T: Texts>(
+    alloc: Global,
+    texts: &T,
+    literal: &StringLiteral,
+) -> Result<StringLiteral, NoMemory>
+    ensures { IfOk result (λ x. x ≡ expanded_literal (T.text_of texts.now) literal.now) }
+{
+    if !literal.expands {
+        return copy_of_literal(literal);
+    }
+    match texts.text(alloc, literal)? {
+        Some(text) => Ok(literal_with(literal, text)),
+        None => copy_of_literal(literal),
+    }
+}
+
+/// Moves an expression to the heap.
+fn boxed(alloc: Global, expr: Expr) -> Result<Boxed<Expr>, NoMemory>
+    ensures { IfOk result (λ b. b ≡ expr) }
+{
+    match Boxed::new(alloc, expr) {
+        Ok(boxed) => Ok(boxed),
+        Err(_) => Err(NoMemory),
+    }
+}
+
+/// An expression with its strings expanded.
+pub fn expanded_expr<T: Texts>(alloc: Global, texts: &T, expr: &Expr) -> Result<Expr, NoMemory>
+    ensures { IfOk result (λ x. x ≡ expanded_expr (T.text_of texts.now) expr.now) }
+{
+    match expr {
+        Expr::If {
+            left,
+            comparison,
+            right,
+            consequent,
+            chained,
+            alternative,
+        } => {
+            let left = boxed(alloc, expanded_expr(alloc, texts, left.get())?)?;
+            let right = boxed(alloc, expanded_expr(alloc, texts, right.get())?)?;
+            let consequent = boxed(alloc, expanded_expr(alloc, texts, consequent.get())?)?;
+            let alternative = boxed(alloc, expanded_expr(alloc, texts, alternative.get())?)?;
+            Ok(Expr::If {
+                left,
+                comparison: *comparison,
+                right,
+                consequent,
+                chained: *chained,
+                alternative,
+            })
+        }
+        Expr::Root(inside) => {
+            let inside = boxed(alloc, expanded_expr(alloc, texts, inside.get())?)?;
+            Ok(Expr::Root(inside))
+        }
+        Expr::Join(first, second) => {
+            let first = boxed(alloc, expanded_expr(alloc, texts, first.get())?)?;
+            let second = boxed(alloc, expanded_expr(alloc, texts, second.get())?)?;
+            Ok(Expr::Join(first, second))
+        }
+        Expr::Concat(first, second) => {
+            let first = boxed(alloc, expanded_expr(alloc, texts, first.get())?)?;
+            let second = boxed(alloc, expanded_expr(alloc, texts, second.get())?)?;
+            Ok(Expr::Concat(first, second))
+        }
+        Expr::Literal(literal) => Ok(Expr::Literal(expanded_literal(alloc, texts, literal)?)),
+        Expr::Variable(name) => Ok(Expr::Variable(copy_of_name(name)?)),
+        Expr::Group(inside) => {
+            let inside = boxed(alloc, expanded_expr(alloc, texts, inside.get())?)?;
+            Ok(Expr::Group(inside))
+        }
+        Expr::Env {
+            line,
+            column,
+            key,
+            default,
+        } => {
+            let key = boxed(alloc, expanded_expr(alloc, texts, key.get())?)?;
+            match default {
+                None => Ok(Expr::Env {
+                    line: *line,
+                    column: *column,
+                    key,
+                    default: None,
+                }),
+                Some(default) => {
+                    let default = boxed(alloc, expanded_expr(alloc, texts, default.get())?)?;
+                    Ok(Expr::Env {
+                        line: *line,
+                        column: *column,
+                        key,
+                        default: Some(default),
+                    })
+                }
+            }
+        }
+    }
+}
+
+/// Expressions with their strings expanded.
+pub fn expanded_exprs<T: Texts>(
+    alloc: Global,
+    texts: &T,
+    exprs: &[Expr],
+) -> Result<Seq<Expr>, NoMemory>
+    ensures { IfOk result (λ all. all ≡ expanded_exprs (T.text_of texts.now) exprs.now) }
+{
+    let mut all = Vec::with_capacity(alloc, exprs.len())?;
+    'exprs: for expr in exprs {
+        let expanded = expanded_expr(alloc, texts, expr)?;
+        all.push(expanded)?;
+    }
+    Ok(Seq::from(all))
+}
+
+/// The default of a parameter with its strings expanded, where there is one.
+pub(crate) fn expanded_default<T: Texts>(
+    alloc: Global,
+    texts: &T,
+    default: &Option<Expr>,
+) -> Result<Option<Expr>, NoMemory>
+    ensures { IfOk result (λ x. x ≡ expanded_default (T.text_of texts.now) default.now) }
+{
+    match default {
+        None => Ok(None),
+        Some(expr) => Ok(Some(expanded_expr(alloc, texts, expr)?)),
+    }
+}

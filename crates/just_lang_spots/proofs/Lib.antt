@@ -1,0 +1,20 @@
+-- The lemmas of places and names, graphs, importers.
+pub mod Spots
+pub mod Least
+pub mod Seen
+pub mod Collected
+pub mod Names
+pub mod ListLaws
+pub mod LastPlaces
+pub mod StandingLaws
+pub mod BeatenLaws
+pub mod Tables
+pub mod Reversed
+pub mod Marks
+pub mod Search
+pub mod Peelings
+pub mod Settled
+pub mod Levels
+pub mod Chains
+pub mod Rows
+pub mod Whole

@@ -1,0 +1,150 @@
+//! The items of a module, each with the number of its file.
+ghost use Rattle.std.specs.Prelude.{◌≡◌, map, filter, IfOk, codes};
+ghost use Rattle.std.specs.List.{list_any};
+ghost use Rattle.just_lang_syntax.specs.Forms.{is_one_of};
+ghost use Rattle.just_lang_spots.specs.Entries.{entry, entries};
+ghost use Rattle.just_lang_spots.specs.Items.{item_name, these_platforms, other_platforms, has_attribute, is_here, is_recipe_here, is_assignment, is_set_by, sets, is_set};
+
+use just_lang_syntax::{AstItem, Attribute, SettingValue};
+use just_path_text::NoMemory;
+use std::alloc::Global;
+
+/// An item, with the number of its file.
+#[derive(Clone, Copy)]
+pub struct Entry<'a> {
+    pub file: usize,
+    pub item: &'a AstItem,
+}
+
+/// The text of the name that an item gives to something; empty for one that gives none.
+pub fn item_name(item: &AstItem) -> &str
+    ensures { result.now ≡ item_name item.now }
+{
+    match item {
+        AstItem::Alias { name, .. } => name.text.as_str(),
+        AstItem::Module { name, .. } => name.text.as_str(),
+        AstItem::Assignment { name, .. } => name.text.as_str(),
+        AstItem::Unexport { name, .. } => name.text.as_str(),
+        AstItem::Setting { name, .. } => name.text.as_str(),
+        AstItem::Recipe(recipe) => recipe.get().name.text.as_str(),
+        AstItem::Blank | AstItem::Comment(_) | AstItem::Import { .. } => "",
+    }
+}
+
+fn is_this_platform(name: &str) -> bool
+    ensures { result ≡ is_one_of these_platforms name.now }
+{
+    matches!(name, "linux" | "unix")
+}
+
+fn is_other_platform(name: &str) -> bool
+    ensures { result ≡ is_one_of other_platforms name.now }
+{
+    matches!(
+        name,
+        "macos" | "windows" | "openbsd" | "freebsd" | "netbsd" | "dragonfly" | "android"
+    )
+}
+
+fn names_this_platform(attributes: &[Attribute]) -> bool
+    ensures { result ≡ has_attribute these_platforms attributes.now }
+{
+    'attributes: for attribute in attributes {
+        if is_this_platform(attribute.name.text.as_str()) {
+            return true;
+        }
+    }
+    false
+}
+
+fn names_other_platform(attributes: &[Attribute]) -> bool
+    ensures { result ≡ has_attribute other_platforms attributes.now }
+{
+    'attributes: for attribute in attributes {
+        if is_other_platform(attribute.name.text.as_str()) {
+            return true;
+        }
+    }
+    false
+}
+
+/// Whether this platform has what these attributes stand on.
+pub fn is_here(attributes: &[Attribute]) -> bool
+    ensures { result ≡ is_here attributes.now }
+{
+    names_this_platform(attributes) || !names_other_platform(attributes)
+}
+
+fn is_recipe_here(one: &Entry<'_>) -> bool
+    ensures { result ≡ is_recipe_here (entry one.now) }
+{
+    match one.item {
+        AstItem::Recipe(recipe) => is_here(recipe.get().attributes.as_slice()),
+        _ => false,
+    }
+}
+
+fn is_assignment(one: &Entry<'_>) -> bool
+    ensures { result ≡ is_assignment (entry one.now) }
+{
+    matches!(one.item, AstItem::Assignment { .. })
+}
+
+/// The recipes among some items that this platform has.
+#[tactic(auto, using(crate::proofs::ListLaws::entries_more))]
+pub fn recipe_items<'a>(alloc: Global, items: &[Entry<'a>]) -> Result<Vec<Entry<'a>>, NoMemory>
+    ensures { IfOk result (λ v. entries v.items ≡ filter is_recipe_here (entries items.now)) }
+{
+    let mut kept = Vec::new(alloc);
+    'items: for one in items {
+        if is_recipe_here(one) {
+            kept.push(*one)?;
+        }
+    }
+    Ok(kept)
+}
+
+/// The assignments among some items.
+#[tactic(auto, using(crate::proofs::ListLaws::entries_more))]
+pub fn variable_items<'a>(alloc: Global, items: &[Entry<'a>]) -> Result<Vec<Entry<'a>>, NoMemory>
+    ensures { IfOk result (λ v. entries v.items ≡ filter is_assignment (entries items.now)) }
+{
+    let mut kept = Vec::new(alloc);
+    'items: for one in items {
+        if is_assignment(one) {
+            kept.push(*one)?;
+        }
+    }
+    Ok(kept)
+}
+
+fn is_set_by(value: &Option<SettingValue>) -> bool
+    ensures { result ≡ is_set_by value.now }
+{
+    match value {
+        None => true,
+        Some(SettingValue::Bool(value)) => *value,
+        Some(SettingValue::Text(_) | SettingValue::List(_)) => false,
+    }
+}
+
+fn sets(flag: &str, item: &AstItem) -> bool
+    ensures { result ≡ sets flag.now item.now }
+{
+    match item {
+        AstItem::Setting { name, value, .. } => name.text.as_str() == flag && is_set_by(value),
+        _ => false,
+    }
+}
+
+/// Whether one of some items sets the flag of that name.
+pub fn is_set(flag: &str, items: &[Entry<'_>]) -> bool
+    ensures { result ≡ is_set flag.now (entries items.now) }
+{
+    'items: for one in items {
+        if sets(flag, one.item) {
+            return true;
+        }
+    }
+    false
+}

@@ -1,0 +1,10 @@
+-- What passes the test is counted.
+use Rattle.std.proofs.Common.{rules, tests}
+use Rattle.std.proofs.lemmas.Iterator.{YieldsList-from_slice}
+use Rattle.std.proofs.lemmas.Iterator.Consumers.{YieldsList-from_filter, count_from_yields_List}
+use Rattle.just_lang_syntax.specs.Room.{may_be_item}
+use Rattle.just_lang_syntax.proofs.entry.most_items.Goals as goal
+
+pub returns : goal.returns
+returns c = count_from_yields_List c.filter.result c.count.result c.count.ensures.ran
+    (YieldsList-from_filter _ may_be_item (YieldsList-from_slice c.args.entries.now cc) c.filter.ensures.closure (λ x r q k. search (rules, tests)))

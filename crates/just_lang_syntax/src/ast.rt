@@ -1,0 +1,208 @@
+//! The tree of a justfile: one variant for each form of an item and of an expression, one field for each of its parts in
+//! their order. Lines and columns count from 1, columns in characters.
+use just_lang_read::{Boxed, Quote};
+use just_path_text::{Seq, Text};
+
+/// The items of a justfile in their order.
+#[derive(Drop)]
+pub struct Ast {
+    pub items: Seq<AstItem>,
+}
+
+/// An item of a justfile. A comment is one behind the item on its line, from its `#` on.
+#[derive(Drop)]
+pub enum AstItem {
+    /// A line with nothing but blanks, outside bodies.
+    Blank,
+    /// A line that begins with `#`, whole.
+    Comment(Text),
+    /// `alias NAME := PATH`
+    Alias {
+        name: Name,
+        target: Seq<Name>,
+        comment: Option<Text>,
+    },
+    /// `import STRING`, or `import? STRING`
+    Import {
+        optional: bool,
+        path: StringLiteral,
+        comment: Option<Text>,
+    },
+    /// `mod NAME`, `mod NAME STRING`, or with a `?` behind `mod`
+    Module {
+        attributes: Seq<Attribute>,
+        optional: bool,
+        name: Name,
+        path: Option<StringLiteral>,
+        comment: Option<Text>,
+    },
+    /// `NAME := EXPR`, or with `export` in front
+    Assignment {
+        export: bool,
+        name: Name,
+        value: Expr,
+        comment: Option<Text>,
+    },
+    /// `unexport NAME`
+    Unexport {
+        name: Name,
+        comment: Option<Text>,
+    },
+    /// `set NAME`, or `set NAME := VALUE`
+    Setting {
+        name: Name,
+        value: Option<SettingValue>,
+        comment: Option<Text>,
+    },
+    Recipe(Boxed<AstRecipe>),
+}
+
+/// A name, with its place.
+#[derive(Debug, Drop)]
+pub struct Name {
+    pub text: Text,
+    pub line: usize,
+    pub column: usize,
+}
+
+/// What stands behind the `:=` of a setting.
+#[derive(Drop)]
+pub enum SettingValue {
+    Bool(bool),
+    Text(Expr),
+    List(Seq<StringLiteral>),
+}
+
+/// A string as it is written, with the place of its first character.
+#[derive(Debug, Drop)]
+pub struct StringLiteral {
+    /// Whether an `x` stands in front.
+    pub expands: bool,
+    pub quote: Quote,
+    /// What stands between the quotes.
+    pub raw: Text,
+    pub line: usize,
+    pub column: usize,
+}
+
+/// What a condition asks of two texts.
+#[derive(Clone, Copy, Debug, PartialEq, Eq)]
+pub enum Comparison {
+    /// `==`
+    Equal,
+    /// `!=`
+    Unequal,
+}
+
+/// An expression.
+#[derive(Drop)]
+pub enum Expr {
+    /// `if LEFT == RIGHT { CONSEQUENT } else { ALTERNATIVE }`; it is chained where another `if` stands in place of the
+    /// last block.
+    If {
+        left: Boxed<Expr>,
+        comparison: Comparison,
+        right: Boxed<Expr>,
+        consequent: Boxed<Expr>,
+        chained: bool,
+        alternative: Boxed<Expr>,
+    },
+    /// `/ EXPR`
+    Root(Boxed<Expr>),
+    /// `VALUE / EXPR`
+    Join(Boxed<Expr>, Boxed<Expr>),
+    /// `VALUE + EXPR`
+    Concat(Boxed<Expr>, Boxed<Expr>),
+    Literal(StringLiteral),
+    Variable(Name),
+    /// `(EXPR)`
+    Group(Boxed<Expr>),
+    /// `env(KEY)`, or `env(KEY, DEFAULT)`, with the place of `env`
+    Env {
+        line: usize,
+        column: usize,
+        key: Boxed<Expr>,
+        default: Option<Boxed<Expr>>,
+    },
+}
+
+/// An attribute in brackets: `NAME`, `NAME: STRING` or `NAME(ARGUMENT, ..)`. The comment is the one behind its line's
+/// bracket, which the last attribute of the line has.
+#[derive(Drop)]
+pub struct Attribute {
+    pub name: Name,
+    /// Whether its one argument stands behind a colon.
+    pub colon: bool,
+    pub arguments: Seq<Argument>,
+    pub comment: Option<Text>,
+}
+
+/// An argument of an attribute: `EXPR`, or `KEY=EXPR`; with the place of the expression.
+#[derive(Drop)]
+pub struct Argument {
+    pub key: Option<Name>,
+    pub line: usize,
+    pub column: usize,
+    pub value: Expr,
+}
+
+/// A recipe as it is written. The comment is the one behind the recipe's line.
+#[derive(Drop)]
+pub struct AstRecipe {
+    pub attributes: Seq<Attribute>,
+    /// Whether an `@` stands before the name.
+    pub quiet: bool,
+    pub name: Name,
+    pub parameters: Seq<AstParameter>,
+    pub priors: Seq<AstDependency>,
+    pub subsequents: Seq<AstDependency>,
+    pub comment: Option<Text>,
+    pub body: Seq<Line>,
+}
+
+/// How many values a parameter takes.
+#[derive(Clone, Copy, Debug, PartialEq, Eq)]
+pub enum ParameterKind {
+    /// One.
+    Singular,
+    /// `+`: one or more.
+    Plus,
+    /// `*`: any number.
+    Star,
+}
+
+/// A parameter of a recipe's line.
+#[derive(Drop)]
+pub struct AstParameter {
+    pub kind: ParameterKind,
+    /// Whether a `$` stands before the name.
+    pub export: bool,
+    pub name: Name,
+    pub default: Option<Expr>,
+}
+
+/// A recipe that another one depends on: a path, or a path with arguments in parentheses.
+#[derive(Drop)]
+pub struct AstDependency {
+    pub path: Seq<Name>,
+    /// Whether it stands in parentheses.
+    pub grouped: bool,
+    pub arguments: Seq<Expr>,
+}
+
+/// A line of a body, without the body's indentation; a blank one has no fragments.
+#[derive(Drop)]
+pub struct Line {
+    /// The number of the line on which it begins.
+    pub number: usize,
+    pub fragments: Seq<Fragment>,
+}
+
+/// A part of a body line.
+#[derive(Drop)]
+pub enum Fragment {
+    /// A text, in which `{{{{` has become `{{`.
+    Text(Text),
+    /// `{{ EXPR }}`
+    Value(Expr),
+}

@@ -1,0 +1,297 @@
+//! Expressions. The number `left` is how many levels may still open.
+ghost use Rattle.std.specs.Prelude.{◌≡◌, IfOk};
+ghost use Rattle.just_lang_read.specs.Reader.{Reads};
+ghost use Rattle.just_lang_syntax.specs.Exprs.{begins_expr, begins_condition, is_call};
+ghost use Rattle.just_lang_syntax.specs.Readers as read;
+
+use super::string::string;
+use super::token::name;
+use super::{Comparison, Expr};
+use just_lang_read::{
+    Boxed, Cursor, NameStart, QuoteMark, ReadError, begins_string, behind_word, is_word, token,
+    word,
+};
+use std::alloc::{AllocFailed, Global};
+
+/// How many levels may be open at a place of an expression.
+pub const LEVELS: usize = 256;
+
+/// Whether an expression may begin here.
+fn begins_expr(cursor: &Cursor<'_>) -> bool
+    ensures { result ≡ begins_expr cursor.now }
+{
+    cursor.starts::<NameStart>()
+        || cursor.starts::<QuoteMark>()
+        || cursor.begins(b"(")
+        || cursor.begins(b"/")
+}
+
+/// Whether the word `if` stands here before an expression; else it is a name.
+fn begins_condition(cursor: &Cursor<'_>) -> bool
+    ensures { result ≡ begins_condition cursor.now }
+{
+    is_word(cursor, b"if") && begins_expr(&behind_word(cursor))
+}
+
+/// Whether a call stands here: a name with a parenthesis behind it.
+fn is_call(cursor: &Cursor<'_>) -> bool
+    ensures { result ≡ is_call cursor.now }
+{
+    cursor.starts::<NameStart>() && behind_word(cursor).begins(b"(")
+}
+
+/// An expression, as long as it goes.
+#[cycle(expr)]
+#[tactic(auto, unfolding(crate::specs::Readers::level))]
+pub fn expr(alloc: Global, cursor: &mut Cursor<'_>, left: usize) -> Result<Expr, ReadError>
+    ensures { Reads (read.level (read.inner left) cursor.old) result cursor.new }
+{
+    if begins_condition(cursor) {
+        return conditional(alloc, cursor, left);
+    }
+    if cursor.begins(b"/") {
+        return root(alloc, cursor, left);
+    }
+    let first = value(alloc, cursor, left)?;
+    tail(alloc, cursor, left, first)
+}
+
+/// An expression a level further in.
+#[cycle(expr)]
+#[tactic(auto, using(crate::proofs::Levels::inner_none, crate::proofs::Levels::inner_more))]
+fn inner(alloc: Global, cursor: &mut Cursor<'_>, left: usize) -> Result<Expr, ReadError>
+    ensures { Reads (read.inner left cursor.old) result cursor.new }
+{
+    if left == 0 {
+        return Err(ReadError::Depth);
+    }
+    expr(alloc, cursor, left - 1)
+}
+
+/// `/ EXPR`
+#[cycle(expr)]
+#[tactic(auto, unfolding(crate::specs::Readers::root))]
+fn root(alloc: Global, cursor: &mut Cursor<'_>, left: usize) -> Result<Expr, ReadError>
+    ensures { Reads (read.root (read.inner left) cursor.old) result cursor.new }
+{
+    token(cursor, b"/")?;
+    let inside = inner(alloc, cursor, left)?;
+    Ok(Expr::Root(Boxed::new(alloc, inside)?))
+}
+
+/// `if LEFT == RIGHT { CONSEQUENT } else ..`
+#[cycle(expr)]
+#[tactic(auto, unfolding(crate::specs::Readers::conditional))]
+fn conditional(alloc: Global, cursor: &mut Cursor<'_>, left: usize) -> Result<Expr, ReadError>
+    ensures { Reads (read.conditional (read.inner left) cursor.old) result cursor.new }
+{
+    token(cursor, b"if")?;
+    let condition = condition(alloc, cursor, left)?;
+    let consequent = block(alloc, cursor, left)?;
+    word(cursor, b"else")?;
+    let alternative = otherwise(alloc, cursor, left)?;
+    Ok(join_if(alloc, condition, consequent, alternative)?)
+}
+
+/// `LEFT == RIGHT` or `LEFT != RIGHT`
+#[cycle(expr)]
+#[tactic(auto, unfolding(crate::specs::Readers::condition))]
+fn condition(
+    alloc: Global,
+    cursor: &mut Cursor<'_>,
+    left: usize,
+) -> Result<(Expr, Comparison, Expr), ReadError>
+    ensures { Reads (read.condition (read.inner left) cursor.old) result cursor.new }
+{
+    let first = inner(alloc, cursor, left)?;
+    let comparison = comparison(cursor)?;
+    let second = inner(alloc, cursor, left)?;
+    Ok((first, comparison, second))
+}
+
+#[tactic(auto, unfolding(crate::specs::Readers::comparison))]
+fn comparison(cursor: &mut Cursor<'_>) -> Result<Comparison, ReadError>
+    ensures { Reads (read.comparison cursor.old) result cursor.new }
+{
+    if cursor.begins(b"==") {
+        token(cursor, b"==")?;
+        Ok(Comparison::Equal)
+    } else {
+        token(cursor, b"!=")?;
+        Ok(Comparison::Unequal)
+    }
+}
+
+/// `{ EXPR }`
+#[cycle(expr)]
+#[tactic(auto, unfolding(crate::specs::Readers::block))]
+fn block(alloc: Global, cursor: &mut Cursor<'_>, left: usize) -> Result<Expr, ReadError>
+    ensures { Reads (read.block (read.inner left) cursor.old) result cursor.new }
+{
+    token(cursor, b"{")?;
+    let inside = inner(alloc, cursor, left)?;
+    token(cursor, b"}")?;
+    Ok(inside)
+}
+
+/// What stands behind `else`: a further `if`, or a block.
+#[cycle(expr)]
+#[tactic(auto, unfolding(crate::specs::Readers::otherwise))]
+fn otherwise(alloc: Global, cursor: &mut Cursor<'_>, left: usize) -> Result<(bool, Expr), ReadError>
+    ensures { Reads (read.otherwise (read.inner left) cursor.old) result cursor.new }
+{
+    if begins_condition(cursor) {
+        let further = inner(alloc, cursor, left)?;
+        Ok((true, further))
+    } else {
+        let last = block(alloc, cursor, left)?;
+        Ok((false, last))
+    }
+}
+
+/// The `if` of its parts.
+fn join_if(
+    alloc: Global,
+    condition: (Expr, Comparison, Expr),
+    consequent: Expr,
+    alternative: (bool, Expr),
+) -> Result<Expr, AllocFailed<Expr>>
+    ensures { IfOk result (λ x. x ≡ Expr.If condition.0 condition.1 condition.2 consequent alternative.0 alternative.1) }
+{
+    let (left, comparison, right) = condition;
+    let (chained, alternative) = alternative;
+    let left = Boxed::new(alloc, left)?;
+    let right = Boxed::new(alloc, right)?;
+    let consequent = Boxed::new(alloc, consequent)?;
+    let alternative = Boxed::new(alloc, alternative)?;
+    Ok(Expr::If {
+        left,
+        comparison,
+        right,
+        consequent,
+        chained,
+        alternative,
+    })
+}
+
+/// A value: what an operator may join.
+#[cycle(expr)]
+#[tactic(auto, unfolding(crate::specs::Readers::value))]
+pub fn value(alloc: Global, cursor: &mut Cursor<'_>, left: usize) -> Result<Expr, ReadError>
+    ensures { Reads (read.value (read.inner left) cursor.old) result cursor.new }
+{
+    if begins_string(cursor) {
+        let text = string(alloc, cursor)?;
+        return Ok(Expr::Literal(text));
+    }
+    if cursor.begins(b"(") {
+        return group(alloc, cursor, left);
+    }
+    if is_call(cursor) {
+        return env(alloc, cursor, left);
+    }
+    let name = name(alloc, cursor)?;
+    Ok(Expr::Variable(name))
+}
+
+/// `(EXPR)`
+#[cycle(expr)]
+#[tactic(auto, unfolding(crate::specs::Readers::group))]
+fn group(alloc: Global, cursor: &mut Cursor<'_>, left: usize) -> Result<Expr, ReadError>
+    ensures { Reads (read.group (read.inner left) cursor.old) result cursor.new }
+{
+    token(cursor, b"(")?;
+    let inside = inner(alloc, cursor, left)?;
+    token(cursor, b")")?;
+    Ok(Expr::Group(Boxed::new(alloc, inside)?))
+}
+
+/// `env(KEY)` or `env(KEY, DEFAULT)`
+#[cycle(expr)]
+#[tactic(auto, unfolding(crate::specs::Readers::env))]
+fn env(alloc: Global, cursor: &mut Cursor<'_>, left: usize) -> Result<Expr, ReadError>
+    ensures { Reads (read.env (read.inner left) cursor.old) result cursor.new }
+{
+    let line = cursor.line();
+    let column = cursor.column();
+    word(cursor, b"env")?;
+    token(cursor, b"(")?;
+    let key = inner(alloc, cursor, left)?;
+    let default = default(alloc, cursor, left)?;
+    token(cursor, b")")?;
+    Ok(join_env(alloc, line, column, key, default)?)
+}
+
+/// What stands behind the comma of `env`, if there is one.
+#[cycle(expr)]
+#[tactic(auto, unfolding(crate::specs::Readers::default))]
+fn default(alloc: Global, cursor: &mut Cursor<'_>, left: usize) -> Result<Option<Expr>, ReadError>
+    ensures { Reads (read.default (read.inner left) cursor.old) result cursor.new }
+{
+    if !cursor.begins(b",") {
+        return Ok(None);
+    }
+    token(cursor, b",")?;
+    let inside = inner(alloc, cursor, left)?;
+    Ok(Some(inside))
+}
+
+/// The call of its parts.
+fn join_env(
+    alloc: Global,
+    line: usize,
+    column: usize,
+    key: Expr,
+    default: Option<Expr>,
+) -> Result<Expr, AllocFailed<Expr>>
+    ensures { IfOk result (λ x. x ≡ Expr.Env line column key default) }
+{
+    let key = Boxed::new(alloc, key)?;
+    let default = match default {
+        Some(value) => Some(Boxed::new(alloc, value)?),
+        None => None,
+    };
+    Ok(Expr::Env {
+        line,
+        column,
+        key,
+        default,
+    })
+}
+
+/// What follows the first value of an expression.
+#[cycle(expr)]
+#[tactic(auto, unfolding(crate::specs::Readers::tail))]
+fn tail(alloc: Global, cursor: &mut Cursor<'_>, left: usize, first: Expr) -> Result<Expr, ReadError>
+    ensures { Reads (read.tail (read.inner left) first cursor.old) result cursor.new }
+{
+    if cursor.begins(b"/") {
+        token(cursor, b"/")?;
+        let second = inner(alloc, cursor, left)?;
+        return Ok(join_slash(alloc, first, second)?);
+    }
+    if cursor.begins(b"+") {
+        token(cursor, b"+")?;
+        let second = inner(alloc, cursor, left)?;
+        return Ok(join_plus(alloc, first, second)?);
+    }
+    Ok(first)
+}
+
+/// `FIRST / SECOND`
+fn join_slash(alloc: Global, first: Expr, second: Expr) -> Result<Expr, AllocFailed<Expr>>
+    ensures { IfOk result (λ x. x ≡ Expr.Join first second) }
+{
+    let first = Boxed::new(alloc, first)?;
+    let second = Boxed::new(alloc, second)?;
+    Ok(Expr::Join(first, second))
+}
+
+/// `FIRST + SECOND`
+fn join_plus(alloc: Global, first: Expr, second: Expr) -> Result<Expr, AllocFailed<Expr>>
+    ensures { IfOk result (λ x. x ≡ Expr.Concat first second) }
+{
+    let first = Boxed::new(alloc, first)?;
+    let second = Boxed::new(alloc, second)?;
+    Ok(Expr::Concat(first, second))
+}

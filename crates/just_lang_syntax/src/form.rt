@@ -1,0 +1,216 @@
+//! What the grammar asks of the attributes, settings and keys that it knows by name.
+ghost use Rattle.std.specs.Prelude.{◌≡◌};
+ghost use Rattle.just_lang_syntax.specs.Forms.{form_of, is_one_of, bare_attributes, key_form, is_cache_key, sort_of, flags, is_left_out_setting, is_left_out_attribute};
+
+/// What may stand behind the name of an attribute.
+#[derive(Clone, Copy, Debug, PartialEq, Eq)]
+pub enum Form {
+    /// Nothing.
+    Bare,
+    /// Nothing, or one text.
+    MaybeText,
+    /// One text.
+    Text,
+    /// Nothing, or texts.
+    Texts,
+    /// A parameter's name, and keys.
+    Arg,
+    /// Keys with texts.
+    Cache,
+    /// Anything: the name isn't known, or is left out.
+    Open,
+}
+
+impl Form {
+    ghost use Rattle.just_lang_syntax.specs.Forms.{may_be_bare, has_colon};
+
+    /// Whether nothing may stand behind the name.
+    pub fn may_be_bare(self) -> bool
+        ensures { result ≡ may_be_bare self }
+    {
+        match self {
+            Form::Bare | Form::MaybeText | Form::Texts | Form::Open => true,
+            Form::Text | Form::Arg | Form::Cache => false,
+        }
+    }
+
+    /// Whether one string may stand behind a colon.
+    pub fn has_colon(self) -> bool
+        ensures { result ≡ has_colon self }
+    {
+        match self {
+            Form::MaybeText | Form::Text | Form::Texts | Form::Arg | Form::Open => true,
+            Form::Bare | Form::Cache => false,
+        }
+    }
+}
+
+/// The form of the attribute with that name.
+pub fn form_of(name: &str) -> Form
+    ensures { result ≡ form_of name.now }
+{
+    match name {
+        "confirm" | "doc" => Form::MaybeText,
+        "extension" | "group" | "working-directory" => Form::Text,
+        "script" => Form::Texts,
+        "arg" => Form::Arg,
+        "cache" => Form::Cache,
+        _ => {
+            if is_bare(name) {
+                Form::Bare
+            } else {
+                Form::Open
+            }
+        }
+    }
+}
+
+/// Whether it is the name of an attribute that has nothing behind it.
+fn is_bare(name: &str) -> bool
+    ensures { result ≡ is_one_of bare_attributes name.now }
+{
+    matches!(
+        name,
+        "default"
+            | "exit-message"
+            | "no-cd"
+            | "no-exit-message"
+            | "no-quiet"
+            | "parallel"
+            | "positional-arguments"
+            | "private"
+            | "linux"
+            | "unix"
+            | "macos"
+            | "windows"
+            | "openbsd"
+            | "freebsd"
+            | "netbsd"
+            | "dragonfly"
+            | "android"
+    )
+}
+
+/// What may stand behind a key of `arg`.
+#[derive(Clone, Copy, Debug, PartialEq, Eq)]
+pub enum KeyForm {
+    /// Nothing.
+    Alone,
+    /// Nothing, or `=` and a text.
+    Either,
+    /// `=` and a text.
+    Value,
+    /// `=` and a number as a string.
+    Number,
+    /// It is no key of `arg`.
+    Unknown,
+}
+
+impl KeyForm {
+    ghost use Rattle.just_lang_syntax.specs.Forms.{may_stand_alone};
+
+    /// Whether nothing may stand behind the key.
+    pub fn may_stand_alone(self) -> bool
+        ensures { result ≡ may_stand_alone self }
+    {
+        match self {
+            KeyForm::Alone | KeyForm::Either => true,
+            KeyForm::Value | KeyForm::Number | KeyForm::Unknown => false,
+        }
+    }
+}
+
+/// The form of the key of `arg` with that name.
+pub fn key_form(name: &str) -> KeyForm
+    ensures { result ≡ key_form name.now }
+{
+    match name {
+        "flag" | "multiple" => KeyForm::Alone,
+        "long" => KeyForm::Either,
+        "short" | "value" | "help" | "pattern" => KeyForm::Value,
+        "min" | "max" => KeyForm::Number,
+        _ => KeyForm::Unknown,
+    }
+}
+
+/// Whether `cache` has this key.
+pub fn is_cache_key(name: &str) -> bool
+    ensures { result ≡ is_cache_key name.now }
+{
+    matches!(name, "inputs" | "outputs" | "extra")
+}
+
+/// The sorts of settings.
+#[derive(Clone, Copy, Debug, PartialEq, Eq)]
+pub enum Sort {
+    /// It is set, or `true` or `false`.
+    Flag,
+    /// An expression.
+    Text,
+    /// A list of strings.
+    List,
+    /// Any of these: the name isn't known, or is left out.
+    Open,
+}
+
+/// The sort of the setting with that name.
+pub fn sort_of(name: &str) -> Sort
+    ensures { result ≡ sort_of name.now }
+{
+    match name {
+        "dotenv-command"
+        | "dotenv-filename"
+        | "dotenv-path"
+        | "indentation"
+        | "tempdir"
+        | "working-directory" => Sort::Text,
+        "shell" | "script-interpreter" | "windows-shell" => Sort::List,
+        _ => {
+            if is_flag(name) {
+                Sort::Flag
+            } else {
+                Sort::Open
+            }
+        }
+    }
+}
+
+/// Whether it is the name of a setting that is a flag.
+fn is_flag(name: &str) -> bool
+    ensures { result ≡ is_one_of flags name.now }
+{
+    matches!(
+        name,
+        "allow-duplicate-recipes"
+            | "allow-duplicate-variables"
+            | "default-list"
+            | "dotenv-load"
+            | "dotenv-override"
+            | "dotenv-required"
+            | "export"
+            | "fallback"
+            | "guards"
+            | "ignore-comments"
+            | "lists"
+            | "no-cd"
+            | "no-exit-message"
+            | "positional-arguments"
+            | "quiet"
+            | "unstable"
+            | "windows-powershell"
+    )
+}
+
+/// Whether the setting with that name is left out.
+pub fn is_left_out_setting(name: &str) -> bool
+    ensures { result ≡ is_left_out_setting name.now }
+{
+    matches!(name, "lazy" | "minimum-version" | "default-script")
+}
+
+/// Whether the attribute with that name is left out.
+pub fn is_left_out_attribute(name: &str) -> bool
+    ensures { result ≡ is_left_out_attribute name.now }
+{
+    matches!(name, "env" | "metadata" | "timestamp")
+}

@@ -1,0 +1,27 @@
+//! The language of justfiles: its tree, the tree of a text, and the texts that its strings mean.
+#![tactic(auto)]
+
+mod ast;
+mod attribute;
+mod body;
+mod entry;
+mod error;
+mod expr;
+mod form;
+mod item;
+mod left_out;
+mod list;
+mod recipe;
+mod string;
+mod text;
+mod token;
+mod whole;
+
+pub use ast::{
+    Argument, Ast, AstDependency, AstItem, AstParameter, AstRecipe, Attribute, Comparison, Expr,
+    Fragment, Line, Name, ParameterKind, SettingValue, StringLiteral,
+};
+pub use error::{Fault, FaultKind, ParseError};
+pub use just_lang_read::Quote;
+pub use text::unindent;
+pub use whole::parse;

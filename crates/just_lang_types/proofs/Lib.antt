@@ -1,0 +1,4 @@
+-- The lemmas of justfiles; what crates above may rest on is in Laws.
+pub mod FilesNamed
+pub mod Laws
+pub mod Lists

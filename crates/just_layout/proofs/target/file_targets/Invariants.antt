@@ -1,7 +1,0 @@
--- The targets so far are those of the files so far.
-use Rattle.std.proofs.Common.{take}
-use Rattle.just_layout.specs.Targets.{AreFileTargets}
-use Rattle.just_layout.proofs.target.file_targets.Given as goal
-
-abbrev pub invariant-loop-file : goal.invariant-loop-file
-invariant-loop-file l = AreFileTargets l.environ.pairs l.paths (take l.file-index l.files) l.table.items

@@ -1,7 +1,0 @@
--- The targets so far are those of the items so far.
-use Rattle.std.proofs.Common.{take}
-use Rattle.just_layout.specs.Targets.{AreItemTargets}
-use Rattle.just_layout.proofs.target.item_targets.Given as goal
-
-abbrev pub invariant-loop-item : goal.invariant-loop-item
-invariant-loop-item l = AreItemTargets l.environ.pairs l.paths l.root (take l.item-index l.items) l.targets.items

@@ -1,2 +1,0 @@
--- Lemmas on sets of small numbers.
-mod Blocks

@@ -1,2 +1,0 @@
--- Sets of small numbers.
-pub mod Members

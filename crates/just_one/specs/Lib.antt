@@ -1,2 +1,0 @@
--- The definitions of what sources come to.
-pub mod Projects

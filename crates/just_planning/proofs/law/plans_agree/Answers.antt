@@ -1,9 +1,0 @@
--- The laws.
-use Rattle.just_planning.proofs.Laws.{plans_agree, plans_alone}
-use Rattle.just_planning.proofs.law.plans_agree.Goals as goal
-
-pub returns-clause-agrees : goal.returns-clause-agrees
-returns-clause-agrees c = plans_agree
-
-pub returns-clause-alone : goal.returns-clause-alone
-returns-clause-alone c = plans_alone

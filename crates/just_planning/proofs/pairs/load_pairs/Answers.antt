@@ -1,6 +1,0 @@
--- What the modules have is what their project has; a refusal is told as an error of the run.
-use Rattle.just_planning.proofs.Loading.{pairs_refused}
-use Rattle.just_planning.proofs.pairs.load_pairs.Goals as goal
-
-pub returns-in-Err-clause-loaded : goal.returns-in-Err-clause-loaded
-returns-in-Err-clause-loaded g c = pairs_refused _ _ _ _ c.args.wanted.now c.args.environ.now c.args.justfile.now c.in-Err.error _ c.from.ensures c.in-Err.ensures.loaded

@@ -1,9 +1,0 @@
--- The justfile of a project.
-use Rattle.std.specs.Prelude.{List, [], ◌∷◌}
-use Rattle.just_lang.specs.declared.project.Justfile.{Justfile}
-use Rattle.just_value.specs.Modules.{AreModules}
-use Rattle.just_ends.specs.Projects.{End}
-
--- a justfile in whose modules no recipe leads to itself, and no variable
-abbrev pub IsSound : Justfile → Type 0
-IsSound j = (modules : List Justfile) → AreModules (j ∷ []) modules → End modules

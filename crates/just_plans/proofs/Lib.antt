@@ -1,4 +1,0 @@
--- The lemmas of plans.
-pub mod Caching
-pub mod KeyPlans
-pub mod Paired

@@ -1,6 +1,0 @@
--- What is still to come, behind what was found, is the first of all.
-use Rattle.just_recipe_rules.proofs.BigPatterns.{GoesOn}
-use Rattle.just_recipe_rules.proofs.pattern_rules.first_big.Given as goal
-
-abbrev pub invariant-patterns : goal.invariant-patterns
-invariant-patterns l = GoesOn l.patterns l.found l.pattern-index

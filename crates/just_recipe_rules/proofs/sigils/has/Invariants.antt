@@ -1,7 +1,0 @@
--- The byte is none of those so far.
-use Rattle.std.proofs.Common.{◌≡◌, drop}
-use Rattle.just_recipe_rules.specs.Sigils.{has}
-use Rattle.just_recipe_rules.proofs.sigils.has.Given as goal
-
-abbrev pub invariant-bytes : goal.invariant-bytes
-invariant-bytes l = has l.byte (drop l.other-index l.bytes) ≡ has l.byte l.bytes

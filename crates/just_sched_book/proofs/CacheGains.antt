@@ -1,0 +1,79 @@
+-- What the calls that a cache makes gain together, and what they make of a told world.
+use Rattle.std.proofs.Common.{◌≡◌, ℕ, inl, inr, false, List, [], ◌∷◌, ◌++◌, length, Option, Some, None, Result, Ok, Err, refl, ap, ap₂, sym, ◌∙◌, subst, append_assoc, append-nil, arith}
+use Rattle.std.specs.List.{list_any}
+use Rattle.std.proofs.lemmas.List.Folds.{list_any-append}
+use Rattle.just_path.specs.declared.host.Miss.{Miss}
+use Rattle.just_host_record.specs.Changes.{Changes}
+use Rattle.just_host_record.specs.declared.entry.Call.TheVariants as call
+use Rattle.just_host_record.specs.declared.entry.Entry.{Entry}
+use Rattle.just_host_record.specs.declared.entry.Entry.TheVariants as entry
+use Rattle.just_host_record.specs.declared.entry.Look.{Look}
+use Rattle.just_host_record.specs.Record.{is_failed}
+use Rattle.just_host_record.specs.Sights.{Tree}
+use Rattle.just_host_record.specs.World.{World}
+use Rattle.just_sched_history.specs.declared.cache_plan.CachePlan.{CachePlan}
+use Rattle.just_sched_history.specs.declared.event.Reason.{Reason}
+use Rattle.just_sched_history.specs.declared.event.Reason.TheVariants as reason
+use Rattle.just_sched_history.specs.Cached.{entry_of}
+use Rattle.just_sched_book.specs.Gains.{ProbeGain, KeepGain, SaveGains, LookRefusal}
+use Rattle.just_sched_history.specs.Match.{summed_entries, looked_entries}
+use Rattle.just_sched_history.specs.Touched.{IsChangedBy, IsLooked, IsWritten}
+use Rattle.just_sched_history.proofs.Tests.{neither}
+
+-- a call that was answered changed the files so
+pub changes_ok : {A : Type 0} (change : World → Result Tree Miss) (places : World → List ℕ → Type 0) (told new : Option World) (x : A) → Changes change places told new (Ok x) → IsChangedBy change told new
+changes_ok change places None new x is = inl is
+changes_ok change places (Some w) new x is = inr (w, is.0, refl, is.1, is.2)
+
+-- where nothing in two stretches failed, nothing in the second did
+pub second_calm : (es fs : List Entry) → list_any is_failed (es ++ fs) ≡ false → list_any is_failed fs ≡ false
+second_calm es fs e = (neither (list_any is_failed es) (list_any is_failed fs) (sym (list_any-append is_failed es fs) ∙ e)).1
+
+-- ---- saving
+
+-- what an entry gains behind a check that found each output
+keep_behind : (c : CachePlan) (sums : List (List ℕ)) (path : List ℕ) (r : Result (Unit {0}) Reason) (fs : List Entry) → path ≡ entry_of c sums → KeepGain path r fs → SaveGains c sums r (entry.Checked c.outputs None ∷ fs)
+keep_behind c sums path (Ok done) fs at g = ap (λ k. entry.Checked c.outputs None ∷ k) (g ∙ ap (λ p. entry.Saved p ∷ []) at)
+keep_behind c sums path (Err (reason.Place call.Save m)) fs at g = ap (λ k. entry.Checked c.outputs None ∷ k) (g ∙ ap (λ p. entry.Missed p m ∷ []) at)
+keep_behind c sums path (Err (reason.Fault call.Save)) fs at g = ap (λ k. entry.Checked c.outputs None ∷ k) g
+keep_behind c sums path (Err reason.NoMemory) fs at g = inr (ap (λ k. entry.Checked c.outputs None ∷ k) g)
+keep_behind c sums path (Err _) fs at g = absurd g
+
+-- the two calls together
+pub saved_together : (c : CachePlan) (sums : List (List ℕ)) (path text : List ℕ) (r : Result (Unit {0}) Reason) (old mid new es fs : List Entry) (told here after : Option World)
+    → path ≡ entry_of c sums → mid ≡ old ++ es → es ≡ entry.Checked c.outputs None ∷ [] → here ≡ told → new ≡ mid ++ fs → KeepGain path r fs → (list_any is_failed fs ≡ false → IsWritten path text here after)
+    → (all : List Entry) × (new ≡ old ++ all) × SaveGains c sums r all × (list_any is_failed all ≡ false → IsWritten path text told after)
+saved_together c sums path text r old mid new es fs told here after at first checked same second g calm =
+    let are : es ++ fs ≡ entry.Checked c.outputs None ∷ fs = ap (λ k. k ++ fs) checked in (
+      es ++ fs,
+      second ∙ ap (λ k. k ++ fs) first ∙ append_assoc old es fs,
+      subst (λ k. SaveGains c sums r k) (sym are) (keep_behind c sums path r fs at g),
+      λ none. subst (λ w. IsWritten path text w after) same (calm (second_calm es fs none)),
+    )
+
+-- ---- looking
+
+look_behind : (c : CachePlan) (sums : List (List ℕ)) (r : Reason) (fs : List Entry) → length sums ≡ length c.paths → ProbeGain (entry_of c sums) c.outputs (Err r) fs → LookRefusal c r (summed_entries c.paths sums ++ fs)
+look_behind c sums (reason.Place call.Probe m) fs many g = (sums, many, ap (λ k. summed_entries c.paths sums ++ k) g)
+look_behind c sums (reason.Fault call.Probe) fs many g = (sums, many, ap (λ k. summed_entries c.paths sums ++ k) g)
+look_behind c sums reason.NoMemory fs many g = (sums, omega (arith, many), ap (λ k. summed_entries c.paths sums ++ k) g ∙ append-nil (summed_entries c.paths sums))
+look_behind c sums _ fs many g = absurd g
+
+module _ (c : CachePlan) (sums : List (List ℕ)) (old mid new es fs : List Entry) (told here after : Option World)
+    (first : mid ≡ old ++ es) (many : length sums ≡ length c.paths) (summed : es ≡ summed_entries c.paths sums) (same : here ≡ told) (second : new ≡ mid ++ fs)
+    (calm : list_any is_failed fs ≡ false → IsLooked (entry_of c sums) here after) where
+  together : new ≡ old ++ (es ++ fs)
+  together = second ∙ ap (λ k. k ++ fs) first ∙ append_assoc old es fs
+
+  changed : list_any is_failed (es ++ fs) ≡ false → (sums : List (List ℕ)) × IsLooked (entry_of c sums) told after
+  changed none = (sums, subst (λ w. IsLooked (entry_of c sums) w after) same (calm (second_calm es fs none)))
+
+  -- the sums and the look together
+  pub looked_together : (seen : Look) → ProbeGain (entry_of c sums) c.outputs (Ok seen) fs
+      → (all : List Entry) × (new ≡ old ++ all) × ((length sums ≡ length c.paths) × (all ≡ looked_entries c sums seen)) × (list_any is_failed all ≡ false → (sums : List (List ℕ)) × IsLooked (entry_of c sums) told after)
+  looked_together seen g = (es ++ fs, together, (many, ap₂ (λ a b. a ++ b) summed g), changed)
+
+  -- the sums, and a look that was refused
+  pub unlooked_together : (r : Reason) → ProbeGain (entry_of c sums) c.outputs (Err r) fs
+      → (all : List Entry) × (new ≡ old ++ all) × LookRefusal c r all × (list_any is_failed all ≡ false → (sums : List (List ℕ)) × IsLooked (entry_of c sums) told after)
+  unlooked_together r g = (es ++ fs, together, subst (λ k. LookRefusal c r (k ++ fs)) (sym summed) (look_behind c sums r fs many g), changed)

@@ -1,0 +1,71 @@
+-- What the calls of a host gained stands for the event that a book notes behind them.
+use Rattle.std.proofs.Common.{◌≡◌, ◌≢◌, ℕ, inl, inr, Bool, List, [], ◌∷◌, ◌++◌, Option, Some, MatchOption, Ok, Err, refl, ap, sym, subst, arith}
+use Rattle.just_host_record.specs.declared.entry.Call.TheVariants as call
+use Rattle.just_host_record.specs.declared.entry.Entry.{Entry}
+use Rattle.just_host_record.specs.declared.entry.Entry.TheVariants as entry
+use Rattle.just_host_record.specs.Record.{script_folder}
+use Rattle.just_sched_history.specs.declared.event.Event.{Event}
+use Rattle.just_sched_history.specs.declared.event.Event.TheVariants as event
+use Rattle.just_sched_history.specs.declared.event.Outcome.TheVariants as outcome
+use Rattle.just_sched_history.specs.declared.event.Reason.{Reason}
+use Rattle.just_sched_history.specs.declared.event.Reason.TheVariants as reason
+use Rattle.just_exec_work.specs.declared.work.Command.{Command}
+use Rattle.just_sched_book.specs.Gains.{TellGains, AskGains, StartGains}
+use Rattle.just_sched_history.specs.Legal.{Run, Asked, Begun, Started, IsDue, May, all_starts}
+use Rattle.just_sched_history.specs.Match.{StandsFor, printed_entries, is_yes, started_entries}
+use Rattle.just_sched_history.specs.Nodes.{prompt_at, banner_at, command_at}
+use Rattle.just_sched_history.proofs.OneMore.{all_starts_more}
+
+-- a banner that couldn't be printed ends the body so
+pub begin_fails : (A : Type 0) (s : Run) (h : List Event) (n : ℕ) (r : Reason) (es : List Entry) → IsDue s h n Begun → TellGains {A = A} (banner_at s.nodes n) (Err r) es → May s h (event.Done n (outcome.Failed r)) × StandsFor s h (event.Done n (outcome.Failed r)) es
+begin_fails A s h n (reason.Fault call.Print) es due g = (inl due, (g.1, inl (due, g.0)))
+begin_fails A s h n reason.NoMemory es due g = ((Begun, due, λ e. cc), (Begun, printed_entries (banner_at s.nodes n), printed_entries (banner_at s.nodes n), due, refl, ap (λ x. x ++ printed_entries (banner_at s.nodes n)) (sym g.1), g.0))
+begin_fails A s h n _ es due g = absurd g
+
+-- an answer stands for its entry
+pub ask_stands : (s : Run) (h : List Event) (n : ℕ) (p : List ℕ) (y : Bool) (es : List Entry) → prompt_at s.nodes n ≡ Some p → AskGains p (Ok y) es → StandsFor s h (event.Asked n y) es
+ask_stands s h n p y es q g = subst (λ (o : Option (List ℕ)). MatchOption o ⊥ (λ t. (answer : List ℕ) × (is_yes answer ≡ y) × (es ≡ entry.Asked t answer ∷ []))) (sym q) g
+
+-- a prompt that couldn't be asked ends its node so
+pub ask_fails : (s : Run) (h : List Event) (n : ℕ) (p : List ℕ) (r : Reason) (es : List Entry) → IsDue s h n Asked → prompt_at s.nodes n ≡ Some p → AskGains p (Err r) es → May s h (event.Done n (outcome.Failed r)) × StandsFor s h (event.Done n (outcome.Failed r)) es
+ask_fails s h n p (reason.Place call.Ask m) es due q g = (due, g)
+ask_fails s h n p (reason.Fault call.Ask) es due q g = (due, g)
+ask_fails s h n p reason.NoMemory es due q g =
+    let all = subst (λ (o : Option (List ℕ)). MatchOption o ⊥ (λ t. (answer : List ℕ) × (entry.Asked p [] ∷ [] ≡ entry.Asked t answer ∷ []))) (sym q) ([], refl) in
+    ((Asked, due, λ e. cc), (Asked, entry.Asked p [] ∷ [], entry.Asked p [] ∷ [], due, all, ap (λ x. x ++ entry.Asked p [] ∷ []) (sym g), λ e. cc))
+ask_fails s h n p _ es due q g = absurd g
+
+-- a list with a last item isn't empty
+pub some_pushed : {A : Type 0} (xs : List A) (y : A) → xs ++ y ∷ [] ≢ []
+some_pushed [] y e = cc
+some_pushed (x ∷ xs) y e = cc
+
+-- what holds of the command holds of the command at its place
+at_command : (P : Command → Type 0) (o : Option Command) (c : Command) → o ≡ Some c → P c → MatchOption o ⊥ P
+at_command P o c q p = subst (λ k. MatchOption k ⊥ P) (sym q) p
+
+-- a started child stands for its entries
+pub start_stands : (s : Run) (h : List Event) (n i child : ℕ) (c : Command) (es : List Entry) → command_at s.nodes n i ≡ Some c → es ≡ started_entries child c → StandsFor s h (event.Started n i child) es
+start_stands s h n i child c es q e = at_command (λ d. es ≡ started_entries child d) (command_at s.nodes n i) c q e
+
+-- a start that broke ends the body so
+pub start_fails : {C : Type 0} (number : C → ℕ) (s : Run) (h : List Event) (n i : ℕ) (c : Command) (r : Reason) (es : List Entry) → IsDue s h n (Started i) → command_at s.nodes n i ≡ Some c → StartGains number c (Err r) es → May s h (event.Done n (outcome.Failed r)) × StandsFor s h (event.Done n (outcome.Failed r)) es
+start_fails number s h n i c (reason.Fault call.Print) es due q g =
+    (inr (i, due), (g.1, inr (i, due, at_command (λ d. printed_entries d.echo ≢ []) (command_at s.nodes n i) c q g.0)))
+start_fails number s h n i c (reason.Fault call.Start) es due q g =
+    ((i, due), (i, due, at_command (λ d. es ≡ printed_entries d.echo ++ entry.Failed call.Start ∷ []) (command_at s.nodes n i) c q g))
+start_fails number s h n i c (reason.Fault call.Temp) es due q g =
+    ((i, due), (i, due, at_command (λ d. es ≡ printed_entries d.echo ++ entry.Failed call.Temp ∷ []) (command_at s.nodes n i) c q g))
+start_fails number s h n i c (reason.Place call.Temp m) es due q g =
+    ((i, due), (i, due, at_command (λ d. es ≡ printed_entries d.echo ++ entry.Missed (script_folder d.spec) m ∷ []) (command_at s.nodes n i) c q g))
+start_fails number s h n i c reason.NoMemory es due q (inl g) =
+    let all = at_command (λ d. (child : ℕ) × (started_entries 0 c ≡ started_entries child d)) (command_at s.nodes n i) c q (0, refl) in
+    ((Started i, due, λ e. cc), (Started i, started_entries 0 c, started_entries 0 c, due, all, ap (λ x. x ++ started_entries 0 c) (sym g.1), some_pushed (printed_entries c.echo) (entry.Started 0 c.spec)))
+start_fails number s h n i c reason.NoMemory es due q (inr g) =
+    let all = at_command (λ d. (child : ℕ) × (started_entries 0 c ≡ started_entries child d)) (command_at s.nodes n i) c q (0, refl) in
+    ((Started i, due, λ e. cc), (Started i, entry.Started 0 c.spec ∷ [], started_entries 0 c, due, all, ap (λ x. x ++ entry.Started 0 c.spec ∷ []) (sym g), λ e. cc))
+start_fails number s h n i c _ es due q g = absurd g
+
+-- a history with a start has one
+pub started_not_none : (h : List Event) (n i child : ℕ) → all_starts (h ++ event.Started n i child ∷ []) ≡ 0 → ⊥
+started_not_none h n i child z = omega (arith, all_starts_more h (event.Started n i child))

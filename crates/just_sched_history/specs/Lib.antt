@@ -1,0 +1,25 @@
+-- The definitions of -- Sets of small numbers, -- What plans and histories are, and what is kept of a history in tables.
+pub mod Members
+pub mod CacheRule
+pub mod Cached
+pub mod Causes
+pub mod Classes
+pub mod Covered
+pub mod Favourable
+pub mod Idle
+pub mod Led
+pub mod Legal
+pub mod Match
+pub mod Moves
+pub mod NodeStates
+pub mod Nodes
+pub mod Progress
+pub mod Room
+pub mod Rows
+pub mod Running
+pub mod Start
+pub mod State
+pub mod Tables
+pub mod Touched
+pub mod Turns
+pub mod Verdict

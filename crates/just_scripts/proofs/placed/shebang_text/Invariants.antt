@@ -1,7 +1,0 @@
--- What is left follows what was added.
-use Rattle.std.proofs.Common.{◌≡◌, ◌++◌, drop, string_bytes}
-use Rattle.just_scripts.specs.Scripts.{shebang_lines}
-use Rattle.just_scripts.proofs.placed.shebang_text.Given as goal
-
-abbrev pub invariant-lines : goal.invariant-lines
-invariant-lines l = string_bytes l.text ++ shebang_lines l.kept (drop l.line-index l.lines) ≡ shebang_lines l.kept l.lines

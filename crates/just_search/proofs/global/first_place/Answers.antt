@@ -1,0 +1,23 @@
+-- A place that has a justfile; one that is passed; and when all are passed.
+use Rattle.std.proofs.Common.{inr, ◌∙◌}
+use Rattle.just_search.proofs.Listings.{listings_then}
+use Rattle.just_search.proofs.Places.{passed_next, passed_found, passed_all}
+use Rattle.just_search.proofs.global.first_place.Goals as goal
+
+pub returns-in-Some-clause-found : goal.returns-in-Some-clause-found
+returns-in-Some-clause-found g c =
+    passed_found (g.H.Host.world c.args.host.now) (g.H.Host.world c.places.host) c.args.places.now c.places.place-index c.place-item.result (g.H.Host.entries c.args.host.now) (g.H.Host.entries c.places.host) (g.H.Host.entries c.look_at.new.host) c.in-Some.path c.places.invariant.world c.places-test.true c.place-item.is c.places.invariant.passed
+    (rw c.in-Some.is at c.in_ok-path.ensures.looks)
+
+pub places-preserved : goal.places-preserved
+places-preserved g c = record {
+  passed = passed_next (g.H.Host.world c.args.host.now) (g.H.Host.world c.places.host) c.args.places.now c.places.place-index c.place-item.result (g.H.Host.entries c.args.host.now) (g.H.Host.entries c.places.host) (g.H.Host.entries c.look_at.new.host) c.places.invariant.world c.places-test.true c.place-item.is c.places.invariant.passed
+      (rw c.in_default.is at c.in_ok-path.ensures.looks);
+  entries = listings_then _ _ _ c.places.invariant.entries c.look_at.ensures.entries;
+  world = c.look_at.ensures.world ∙ c.places.invariant.world;
+  spare = c.look_at.ensures.spare ∙ c.places.invariant.spare;
+}
+
+pub returns-clause-found : goal.returns-clause-found
+returns-clause-found g c =
+    inr (passed_all (g.H.Host.world c.args.host.now) c.args.places.now c.places.place-index (g.H.Host.entries c.args.host.now) (g.H.Host.entries c.places.host) c.places-test.false c.places.invariant.passed)

@@ -1,0 +1,28 @@
+-- A path that leads to a program, one that doesn't, and a look that failed.
+use Rattle.std.proofs.Common.{rules, ◌≡◌, ◌∙◌}
+use Rattle.std.specs.Prelude.{IsErrAnd}
+use Rattle.just_env.proofs.Laws.{misses_then}
+use Rattle.just_search.specs.declared.which_error.WhichError.TheVariants.{NoMemory as OutOfMemory}
+use Rattle.just_search.proofs.Looks.{looks_wanting, program_found, program_refused, program_passed}
+use Rattle.just_search.proofs.program.first_program.Goals as goal
+
+pub returns-in_err-try_clone-in-Ok-true-clause-entries : goal.returns-in_err-try_clone-in-Ok-true-clause-entries
+returns-in_err-try_clone-in-Ok-true-clause-entries g c =
+    let wanting : IsErrAnd c.from_residual.result (λ e. e ≡ OutOfMemory) = search rules in
+    looks_wanting (g.H.Host.entries c.args.host.now) (g.H.Host.entries c.paths.host) (g.H.Host.entries c.sees_program.new.host) c.from_residual.result c.paths.invariant.gains c.in-Ok-true.ensures.entries wanting
+
+pub returns-in-Ok-true-clause-located : goal.returns-in-Ok-true-clause-located
+returns-in-Ok-true-clause-located g c =
+    program_found (g.H.Host.world c.args.host.now) (g.H.Host.world c.paths.host) c.args.paths.now c.paths.path-index c.path-item.result c.in_ok-try_clone-in-Ok-true.field-0 c.paths.invariant.world c.paths-test.true c.path-item.is c.paths.invariant.along
+    (rw c.as_path.ensures at rw c.in-Ok-true.field-0-test at c.in-Ok-true.ensures.seen) c.in_ok-try_clone-in-Ok-true.ensures
+
+pub returns-in-Err-clause-located : goal.returns-in-Err-clause-located
+returns-in-Err-clause-located g c = program_refused (g.H.Host.world c.args.host.now) c.args.paths.now c.paths.path-index c.path-item.result c.in-Err.error c.paths-test.true c.path-item.is c.paths.invariant.along c.in-Err.ensures.refused
+
+pub paths-preserved : goal.paths-preserved
+paths-preserved g c = record {
+  along = program_passed (g.H.Host.world c.args.host.now) (g.H.Host.world c.paths.host) c.args.paths.now c.paths.path-index c.path-item.result c.paths.invariant.world c.paths-test.true c.path-item.is c.paths.invariant.along (rw c.as_path.ensures at rw c.in-Ok-false.field-0-test at c.in-Ok-false.ensures.seen);
+  gains = misses_then _ _ _ c.paths.invariant.gains c.in-Ok-false.ensures.entries;
+  world = c.sees_program.ensures.world ∙ c.paths.invariant.world;
+  spare = c.sees_program.ensures.spare ∙ c.paths.invariant.spare;
+}

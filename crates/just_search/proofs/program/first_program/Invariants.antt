@@ -1,0 +1,14 @@
+-- No path so far leads to an executable file; the record gained misses alone.
+use Rattle.std.proofs.Common.{◌≡◌, drop}
+use Rattle.just_env.specs.Answers.{GainsMisses}
+use Rattle.just_search.specs.Programs.{LooksAtProgram}
+use Rattle.just_search.proofs.Along.{Along}
+use Rattle.just_search.proofs.program.first_program.Given as goal
+
+abbrev pub invariant-paths : goal.invariant-paths
+invariant-paths g l = record {
+  along : Along (LooksAtProgram (g.H.Host.world l.fn.host)) l.paths (drop l.path-index l.paths);
+  gains : GainsMisses (g.H.Host.entries l.fn.host) (g.H.Host.entries l.host);
+  world : g.H.Host.world l.host ≡ g.H.Host.world l.fn.host;
+  spare : g.H.Host.spare l.host ≡ g.H.Host.spare l.fn.host;
+}

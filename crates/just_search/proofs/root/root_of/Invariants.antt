@@ -1,0 +1,19 @@
+-- No folder so far has a mark, none is the ceiling, and the record stays.
+use Rattle.std.proofs.Common.{◌≡◌, length}
+use Rattle.just_path.specs.Ancestors.{ancestors_left}
+use Rattle.just_path.specs.Path.{text_of}
+use Rattle.just_search.specs.Climb.{up_to, folders_from}
+use Rattle.just_search.specs.Root.{LooksForMark}
+use Rattle.just_search.proofs.Along.{Along}
+use Rattle.just_search.proofs.root.root_of.Given as goal
+
+abbrev pub invariant-folders : goal.invariant-folders
+invariant-folders g l = record {
+  along : Along (LooksForMark (g.H.Host.world l.fn.host)) (folders_from l.ceiling (text_of l.start)) (up_to l.ceiling (ancestors_left l.folders));
+  entries : g.H.Host.entries l.host ≡ g.H.Host.entries l.fn.host;
+  world : g.H.Host.world l.host ≡ g.H.Host.world l.fn.host;
+  spare : g.H.Host.spare l.host ≡ g.H.Host.spare l.fn.host;
+}
+
+abbrev pub decreases-folders : goal.decreases-folders
+decreases-folders g l = length (ancestors_left l.folders)

@@ -1,0 +1,62 @@
+//! The justfile above one.
+
+ghost use Rattle.std.specs.Prelude.{◌≡◌, ◌++◌, IfOk, Err};
+ghost use Rattle.just_path.specs.Path.{text_of};
+ghost use Rattle.just_env.specs.Answers.{Answers, told_entries};
+ghost use Rattle.just_search.specs.Climb.{folders_above, FindsIn};
+ghost use Rattle.just_search.specs.Finding.{wanted_names, FindsAbove};
+
+use super::SearchError;
+use super::climb::{climb, is_ceiling};
+use super::finding::{as_origin, wanted_names};
+use super::location::Location;
+use just_config::Config;
+use just_host_record::Host;
+use just_path::{Utf8Path, Utf8PathBuf};
+use std::alloc::Global;
+
+/// The justfile in the first folder above one that has a candidate.
+#[tactic(auto, using(crate::proofs::Climbs::above_next, crate::proofs::Climbs::above_top, crate::proofs::Climbs::above_none))]
+fn climb_above<H: Host>(
+    alloc: Global,
+    host: &mut H,
+    config: &Config,
+    folder: Utf8Path<'_>,
+) -> Result<Utf8PathBuf, SearchError>
+    ensures found { Answers (FindsIn (H.world host.old) (wanted_names config.now) (folders_above config.now.ceiling (text_of folder.entry))) result }
+    ensures entries { H.entries host.new ≡ H.entries host.old ++ told_entries result }
+    ensures world { H.world host.new ≡ H.world host.old }
+    ensures spare { H.spare host.new ≡ H.spare host.old }
+{
+    let names = wanted_names(alloc, config)?;
+    let mut folders = folder.ancestors();
+    match folders.next() {
+        Some(first) => {
+            if is_ceiling(&config.ceiling, first) {
+                Err(SearchError::NotFound)
+            } else {
+                climb(alloc, host, names.as_slice(), &config.ceiling, folders)
+            }
+        }
+        None => Err(SearchError::NotFound),
+    }
+}
+
+/// Where the justfile above a folder is, up to the ceiling: the one that is tried where a justfile in the folder lacks what is asked for.
+/// At the ceiling and at the root there is none.
+pub fn find_above<H: Host>(
+    alloc: Global,
+    folder: Utf8Path<'_>,
+    config: &Config,
+    host: &mut H,
+) -> Result<Location, SearchError>
+    ensures found { Answers (FindsAbove (H.world host.old) config.now (text_of folder.entry)) result }
+    ensures entries { H.entries host.new ≡ H.entries host.old ++ told_entries result }
+    ensures world { H.world host.new ≡ H.world host.old }
+    ensures spare { H.spare host.new ≡ H.spare host.old }
+{
+    match climb_above(alloc, host, config, folder) {
+        Ok(file) => Ok(as_origin(alloc, file)?),
+        Err(error) => Err(error),
+    }
+}

@@ -1,0 +1,90 @@
+//! The root of a project.
+
+ghost use Rattle.std.specs.Prelude.{◌≡◌, ◌++◌, [], Ok, IfOk, IfErr};
+ghost use Rattle.std.specs.List.{list_any};
+ghost use Rattle.just_path.specs.Path.{text_of};
+ghost use Rattle.just_env.specs.Answers.{Answers, entries_of, told_entries};
+ghost use Rattle.just_search.specs.Root.{is_mark, if_marked, LooksForMark, FindsRoot};
+ghost use Rattle.just_search.specs.First.{answer_of};
+
+use super::SearchError;
+use super::climb::is_ceiling;
+use super::listing::names_in;
+use just_host_record::Host;
+use just_path::{Utf8Path, Utf8PathBuf};
+use just_path_text::Text;
+use std::alloc::Global;
+
+/// Whether a name is one that stands in the root of a project.
+fn is_mark(name: &str) -> bool
+    ensures { result ≡ is_mark name.now }
+{
+    name == ".bzr" || name == ".git" || name == ".hg" || name == ".svn" || name == "_darcs"
+}
+
+fn has_mark(names: &[Text]) -> bool
+    ensures { result ≡ list_any is_mark names.now }
+{
+    names.iter().any(|name| is_mark(name.as_str()))
+}
+
+/// A folder, where one of those names stands in it.
+fn if_marked(
+    alloc: Global,
+    folder: Utf8Path<'_>,
+    names: &[Text],
+) -> Result<Option<Utf8PathBuf>, SearchError>
+    ensures marked { Answers (λ r. answer_of r ≡ if_marked (text_of folder.entry) names.now) result }
+    ensures unheard { IfErr result (λ e. entries_of e ≡ []) }
+{
+    if has_mark(names) {
+        Ok(Some(folder.to_path_buf(alloc)?))
+    } else {
+        Ok(None)
+    }
+}
+
+/// Looks for such a name in a folder.
+#[tactic(auto, using(crate::proofs::Deciding::told_nothing))]
+fn look_for_mark<H: Host>(
+    alloc: Global,
+    host: &mut H,
+    folder: Utf8Path<'_>,
+) -> Result<Option<Utf8PathBuf>, SearchError>
+    ensures looks { Answers (λ r. LooksForMark (H.world host.old) (text_of folder.entry) (answer_of r)) result }
+    ensures entries { H.entries host.new ≡ H.entries host.old ++ told_entries result }
+    ensures world { H.world host.new ≡ H.world host.old }
+    ensures spare { H.spare host.new ≡ H.spare host.old }
+{
+    match names_in(alloc, host, folder) {
+        Ok(names) => if_marked(alloc, folder, names.as_slice()),
+        Err(error) => Err(error),
+    }
+}
+
+/// The root of the project that a folder is in.
+#[tactic(auto, using(crate::proofs::Climbs::marks_start, crate::proofs::Climbs::marks_over))]
+pub fn root_of<H: Host>(
+    alloc: Global,
+    host: &mut H,
+    ceiling: &Option<Text>,
+    start: Utf8Path<'_>,
+) -> Result<Utf8PathBuf, SearchError>
+    ensures root { Answers (FindsRoot (H.world host.old) ceiling.now (text_of start.entry)) result }
+    ensures entries { H.entries host.new ≡ H.entries host.old ++ told_entries result }
+    ensures world { H.world host.new ≡ H.world host.old }
+    ensures spare { H.spare host.new ≡ H.spare host.old }
+{
+    let mut folders = start.ancestors();
+    'folders: while let Some(folder) = folders.next() {
+        match look_for_mark(alloc, host, folder) {
+            Ok(Some(root)) => return Ok(root),
+            Ok(None) => {}
+            Err(error) => return Err(error),
+        }
+        if is_ceiling(ceiling, folder) {
+            return Ok(start.to_path_buf(alloc)?);
+        }
+    }
+    Ok(start.to_path_buf(alloc)?)
+}

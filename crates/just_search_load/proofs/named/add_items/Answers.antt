@@ -1,0 +1,30 @@
+-- One item more; or one that is refused; or all of them.
+use Rattle.std.proofs.Common.{◌∙◌, subst}
+use Rattle.std.specs.Prelude.{Ok, Err}
+use Rattle.just_env.proofs.Laws.{misses_then}
+use Rattle.just_search_load.specs.Gathers.{Adds}
+use Rattle.just_search_load.specs.Named.{ItemNames}
+use Rattle.just_search_load.proofs.Gathered.{added_one, added_refused, added_all}
+use Rattle.just_search_load.proofs.named.add_items.Goals as goal
+
+pub returns-in-Err-clause-added : goal.returns-in-Err-clause-added
+returns-in-Err-clause-added g c =
+    let names = ItemNames (g.H.Host.world c.args.host.now) c.args.environ.now.pairs c.args.root.now in
+    added_refused names c.args.items.now c.items.item-index c.item-item.result c.args.found.now.items c.items.found.items c.add_item.new.found.items c.in-Err.error c.items-test.true c.item-item.is c.items.invariant.added
+    (subst (λ t. Adds (ItemNames t c.args.environ.now.pairs c.args.root.now c.item-item.result) c.items.found.items c.add_item.new.found.items (Err c.in-Err.error)) c.items.invariant.world c.in-Err.ensures.added)
+
+pub items-preserved : goal.items-preserved
+items-preserved g c =
+    let names = ItemNames (g.H.Host.world c.args.host.now) c.args.environ.now.pairs c.args.root.now in
+    record {
+      added = added_one names c.args.items.now c.items.item-index c.item-item.result c.args.found.now.items c.items.found.items c.add_item.new.found.items c.items-test.true c.item-item.is c.items.invariant.added
+          (subst (λ t. Adds (ItemNames t c.args.environ.now.pairs c.args.root.now c.item-item.result) c.items.found.items c.add_item.new.found.items (Ok tt)) c.items.invariant.world c.in-Ok.ensures.added);
+      gains = misses_then _ _ _ c.items.invariant.gains c.in-Ok.ensures.gains;
+      world = c.add_item.ensures.world ∙ c.items.invariant.world;
+      spare = c.add_item.ensures.spare ∙ c.items.invariant.spare;
+    }
+
+pub returns-clause-added : goal.returns-clause-added
+returns-clause-added g c =
+    let names = ItemNames (g.H.Host.world c.args.host.now) c.args.environ.now.pairs c.args.root.now in
+    added_all names c.args.items.now c.items.item-index c.args.found.now.items c.items.found.items c.items-test.false c.items.invariant.added

@@ -1,6 +1,0 @@
--- The law.
-use Rattle.just_sound.proofs.Projects as law
-use Rattle.just_sound.proofs.law.projects_are_sound.Goals as goal
-
-pub returns : goal.returns
-returns c = law.projects_are_sound

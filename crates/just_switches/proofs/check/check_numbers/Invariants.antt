@@ -1,8 +1,0 @@
--- The first refusal is among those that are left.
-use Rattle.std.proofs.Common.{◌≡◌, drop}
-use Rattle.just_switches.specs.Tests.{first_over, miscount}
-use Rattle.just_switches.proofs.check.check_numbers.Given as goal
-
-abbrev pub invariant-parameters : goal.invariant-parameters
-invariant-parameters l =
-    first_over (miscount l.recipe) (drop l.at l.recipe.parameters) (drop l.at l.given) ≡ first_over (miscount l.recipe) l.recipe.parameters l.given

@@ -1,9 +1,0 @@
--- What is known of what was taken behind a word.
-use Rattle.std.specs.Prelude.{Option, Some, None}
-use Rattle.just_switches.specs.declared.taken.Next.{Next}
-use Rattle.just_switches.specs.Switches.{Words, Step, awaited}
-
--- the step that a word made; none where it was left
-abbrev pub moved : Words → Option Next → Option Step
-moved t None = None
-moved t (Some n) = Some (t, awaited n)

@@ -1,4 +1,0 @@
--- The definitions of code blocks.
-pub mod Fences
-pub mod Tangles
-pub mod Running

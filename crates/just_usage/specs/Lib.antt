@@ -1,2 +1,0 @@
--- The definitions that the contracts of usages cite.
-pub mod Usages

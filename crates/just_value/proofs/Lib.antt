@@ -1,5 +1,0 @@
--- The lemmas of values.
-pub mod Exprs
-pub mod Bindings
-pub mod Nesting
-pub mod Each

@@ -1,9 +1,0 @@
--- The last pair of that name among those behind, else what was found, is the value.
-use Rattle.std.proofs.Common.{◌≡◌, drop}
-use Rattle.std.specs.Option.{option_copied}
-use Rattle.just_text.specs.Environ.{value_of, or_else}
-use Rattle.just_value.proofs.expression.last_value.Given as goal
-
-abbrev pub invariant-pairs : goal.invariant-pairs
-invariant-pairs l =
-    or_else (value_of l.name (drop l.pair-index l.pairs)) (option_copied l.found) ≡ value_of l.name l.pairs

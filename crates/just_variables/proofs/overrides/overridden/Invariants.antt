@@ -1,6 +1,0 @@
--- The variables of the overrides so far are in the set.
-use Rattle.just_variables.proofs.UnknownVariables.{AreOverriddenFrom}
-use Rattle.just_variables.proofs.overrides.overridden.Given as goal
-
-abbrev pub invariant-overrides : goal.invariant-overrides
-invariant-overrides l = AreOverriddenFrom l.overrides l.one-index l.set

@@ -1,6 +1,0 @@
--- The variables of the assignments so far are taken out.
-use Rattle.just_variables.proofs.UnknownVariables.{AreTakenFrom}
-use Rattle.just_variables.proofs.overrides.take_out.Given as goal
-
-abbrev pub invariant-assignments : goal.invariant-assignments
-invariant-assignments l = AreTakenFrom l.assignments l.path l.initial.left l.one-index l.left

@@ -1,2 +1,0 @@
--- The lemmas of looks for a program.
-pub mod Looks

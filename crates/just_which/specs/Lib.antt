@@ -1,2 +1,0 @@
--- The definitions of which program a name means.
-pub mod Programs

@@ -1,0 +1,39 @@
+//! Tests that need code: each public call once, over hosts.
+#![tactic(auto)]
+
+#[cfg(test)]
+mod body;
+#[cfg(test)]
+mod caches;
+#[cfg(test)]
+mod call_tests;
+#[cfg(test)]
+mod calls;
+#[cfg(test)]
+mod captures;
+#[cfg(test)]
+mod changes;
+#[cfg(test)]
+mod digests;
+#[cfg(test)]
+mod graphs;
+#[cfg(test)]
+mod hosts;
+#[cfg(test)]
+mod items;
+#[cfg(test)]
+mod key;
+#[cfg(test)]
+mod loading;
+#[cfg(test)]
+mod names;
+#[cfg(test)]
+mod owned;
+#[cfg(test)]
+mod printed;
+#[cfg(test)]
+mod real_files;
+#[cfg(test)]
+mod scanned;
+#[cfg(test)]
+mod sights;

@@ -1,0 +1,66 @@
+//! The texts that paths and errors print.
+
+use just_dotenv::DotenvError;
+use just_expand::{Expand, env};
+use just_path::{Utf8Component, Utf8Path, Utf8PathBuf};
+use just_path_text::{Environ, NoMemory, Seq};
+use std::alloc::{AllocError, Global};
+use std::test::Fail;
+
+/// A path and a component, shown for users, for developers, and filled up on the left.
+fn paths(alloc: Global, path: &Utf8PathBuf) -> Result<String, AllocError> {
+    let lent = path.as_path();
+    let up = Utf8Component::ParentDir;
+    format!(in alloc; "{path:?} {lent:?} {lent:>9} {up}")
+}
+
+/// The errors of strings of the system and of a path that are no texts.
+fn broken(alloc: Global) -> Result<String, AllocError> {
+    match (
+        Utf8Path::try_from_os_str(b"\xff"),
+        Utf8Path::try_from_path(b"\xff"),
+    ) {
+        (Err(string), Err(path)) => format!(in alloc; "{string}; {path}"),
+        _ => String::from_str(alloc, "no errors"),
+    }
+}
+
+/// The error of a name that isn't in the environment.
+fn absent(alloc: Global) -> Result<String, AllocError> {
+    let environ = Environ {
+        pairs: Seq::new(alloc),
+    };
+    match env(alloc, "$B", &environ) {
+        Err(Expand::Lookup(error)) => format!(in alloc; "{error}"),
+        Err(Expand::NoMemory) => String::from_str(alloc, "out of memory"),
+        Ok(_) => String::from_str(alloc, "no error"),
+    }
+}
+
+#[test]
+fn printed_paths(rt: HostRuntime) -> Result<(), Fail> {
+    let alloc = rt.alloc();
+    let path = Utf8PathBuf::from_str(alloc, "a\"/\t\u{e9}")?;
+    assert_eq!(rt;
+        paths(alloc, &path)?.as_str(),
+        "\"a\\\"/\\t\u{e9}\" \"a\\\"/\\t\u{e9}\"     a\"/\t\u{e9} .."
+    );
+    Ok(())
+}
+
+#[test]
+fn printed_errors(rt: HostRuntime) -> Result<(), Fail> {
+    let alloc = rt.alloc();
+    let (line, memory) = (DotenvError::Line(2), DotenvError::NoMemory);
+    let text = format!(in alloc; "{line}; {memory}; {NoMemory}")?;
+    assert_eq!(rt; text.as_str(), "line 2; out of memory; out of memory");
+    assert_eq!(rt;
+        broken(alloc)?.as_str(),
+        "OsStr contains invalid UTF-8; Path contains invalid UTF-8"
+    );
+    assert_eq!(rt;
+        absent(alloc)?.as_str(),
+        "error looking key 'B' up: environment variable not found"
+    );
+    Ok(())
+}

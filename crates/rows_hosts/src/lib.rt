@@ -1,0 +1,23 @@
+//! Tests of hosts: the system's, and one in memory beside it.
+#![tactic(auto)]
+
+#[cfg(test)]
+mod alike;
+#[cfg(test)]
+mod both;
+#[cfg(test)]
+mod children;
+#[cfg(test)]
+mod real;
+#[cfg(test)]
+mod real_edges;
+#[cfg(test)]
+mod scripts;
+#[cfg(test)]
+mod search;
+#[cfg(test)]
+mod shell;
+#[cfg(test)]
+mod stands;
+#[cfg(test)]
+mod trees;

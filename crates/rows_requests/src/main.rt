@@ -1,0 +1,51 @@
+//! Prints the help and the version, and compares what a request is made of with the rows of files, each named by an argument: the configuration of
+//! words, where a justfile is, the justfile in a markdown text, scripts and keys. The end of a file's name tells what its rows are.
+#![tactic(auto)]
+
+mod config_rows;
+mod config_shown;
+mod key;
+mod key_rows;
+mod location_rows;
+mod location_shown;
+mod script_rows;
+mod shebang_rows;
+mod tangled_rows;
+mod world;
+
+use just_config::{HELP, Version};
+use rows_common::{Compare, Wrong, compare_files};
+use std::alloc::Global;
+use std::io;
+use std::process::ExitCode;
+
+/// The rows.
+#[derive(Drop)]
+struct RequestRows;
+
+impl Compare for RequestRows {
+    fn agrees(&self, alloc: Global, file: &str, fields: &[&str]) -> Result<bool, Wrong> {
+        if file.ends_with("config.tsv") {
+            config_rows::agrees(alloc, fields)
+        } else if file.ends_with("shebangs.tsv") {
+            shebang_rows::agrees(alloc, fields)
+        } else if file.ends_with("scripts.tsv") {
+            script_rows::agrees(alloc, fields)
+        } else if file.ends_with("keys.tsv") {
+            key_rows::agrees(alloc, fields)
+        } else if file.ends_with("located.tsv") {
+            location_rows::agrees(alloc, fields)
+        } else if file.ends_with("tangled.tsv") {
+            tangled_rows::agrees(alloc, fields)
+        } else {
+            Err(Wrong::Form)
+        }
+    }
+}
+
+fn main(rt: HostRuntime) -> io::Result<ExitCode> {
+    print!(rt; "{HELP}")?;
+    let version = Version::current();
+    println!(rt; "{version}")?;
+    compare_files(&rt, &RequestRows)
+}

@@ -1,0 +1,72 @@
+//! Rows of whole runs over a host in memory: `rows_runs FILE ..` reads each file, one JSON object a line, runs what its
+//! words ask for, and compares what the run shows. It prints of each file how many rows agree, or of each row that
+//! doesn't its number and what differs.
+//!
+//! What a row gives: `files` (a text by its path; nothing else is there but the folders above), `current` (the current
+//! folder), `environ` (a value by its name), `words`, `endings` (for a child's word its status: a code, `"signal:N"` or
+//! `"unknown"`; and, where it changes files, the texts by their paths, or null where one goes; and what it prints, where that is captured), `answers` (the lines that a
+//! prompt reads), `input` (the text of standard input, empty where it is left out), and `fails` (the numbers of the calls of the host that fail). What it wants: `children` (`program`,
+//! `arguments`, `folder`, `script` of each), `prompts`, `stderr`, `code`, `history` (the events, as they are shown for
+//! developers), `after` (the files behind the run), `failed` (how many calls fail), `stdout`, and `changes` (of each child what
+//! changes in its environment, in order: `NAME=TEXT`, or `NAME` where it is taken out). `fails` and what stands
+//! from `history` on may be left out: without `after` the files are the same behind the run as before it, without `failed`
+//! as many calls fail as `fails` lists, and without `stdout` nothing is printed there.
+//!
+//! The functions here promise nothing beyond safety: what they answer is seen by comparing.
+#![tactic(auto)]
+
+mod given;
+mod row;
+mod shown;
+mod told;
+
+use row::difference;
+use rows_common::Wrong;
+use std::alloc::Global;
+use std::process::ExitCode;
+use std::rt::Runtime;
+use std::sync::Wait;
+use std::thread::Threads;
+use std::{env, fs, io};
+
+/// Compares the rows of a file, and prints how many agree, and what differs of each that doesn't.
+fn compare_rows<R: Runtime<A = Global> + Threads + Wait + Sync>(
+    rt: &R,
+    file: &str,
+    text: &str,
+) -> io::Result<bool> {
+    let mut count: u64 = 0;
+    let mut number: u64 = 0;
+    for row in text.lines() {
+        number = number.saturating_add(1);
+        match difference(rt, rt.alloc(), row) {
+            Ok(None) => count = count.saturating_add(1),
+            Ok(Some(difference)) => println!(rt; "{file}:{number}: {difference}")?,
+            Err(Wrong::Form) => println!(rt; "{file}:{number}: no such row")?,
+            Err(Wrong::NoMemory) => println!(rt; "{file}:{number}: out of memory")?,
+        }
+    }
+    println!(rt; "{file}: {count} agree")?;
+    Ok(count == number)
+}
+
+fn compare_files<R: Runtime<A = Global> + Threads + Wait + Sync>(rt: &R) -> io::Result<bool> {
+    let mut all = true;
+    let mut names = env::args(rt)?;
+    let _program = names.next();
+    for name in names {
+        let text = fs::read_to_string(rt, name.as_str())?;
+        if !compare_rows(rt, name.as_str(), text.as_str())? {
+            all = false;
+        }
+    }
+    Ok(all)
+}
+
+fn main(rt: HostRuntime) -> io::Result<ExitCode> {
+    Ok(if compare_files(&rt)? {
+        ExitCode::SUCCESS
+    } else {
+        ExitCode::FAILURE
+    })
+}
