@@ -8,7 +8,7 @@ use super::escape::piece;
 use super::{Cursor, QuoteMark, ReadError};
 
 /// The quotes of a string, by their characters.
-#[derive(Clone, Copy, Debug, PartialEq, Eq)]
+#[derive(Clone, Copy)]
 pub enum Quote {
     /// `'`
     Single,

@@ -1,5 +1,7 @@
 //! The tree of a justfile: one variant for each form of an item and of an expression, one field for each of its parts in
 //! their order. Lines and columns count from 1, columns in characters.
+ghost use Rattle.std.specs.Prelude.{◌≡◌};
+
 use just_lang_read::{Boxed, Quote};
 use just_path_text::{Seq, Text};
 
@@ -10,7 +12,6 @@ pub struct Ast {
 }
 
 /// An item of a justfile. A comment is one behind the item on its line, from its `#` on.
-#[derive(Drop)]
 pub enum AstItem {
     /// A line with nothing but blanks, outside bodies.
     Blank,
@@ -57,24 +58,89 @@ pub enum AstItem {
     Recipe(Boxed<AstRecipe>),
 }
 
+impl Drop for AstItem {
+    fn drop(self) {
+        match self {
+            AstItem::Blank => {}
+            AstItem::Recipe(_) => {}
+            AstItem::Comment(text) => drop(text),
+            AstItem::Alias {
+                name: _,
+                target: _,
+                comment,
+            } => drop(comment),
+            AstItem::Import {
+                optional: _,
+                path: _,
+                comment,
+            } => drop(comment),
+            AstItem::Module {
+                attributes: _,
+                optional: _,
+                name: _,
+                path,
+                comment,
+            } => {
+                drop(path);
+                drop(comment);
+            }
+            AstItem::Assignment {
+                export: _,
+                name: _,
+                value,
+                comment,
+            } => {
+                drop(value);
+                drop(comment);
+            }
+            AstItem::Unexport { name: _, comment } => drop(comment),
+            AstItem::Setting {
+                name: _,
+                value,
+                comment,
+            } => {
+                drop(value);
+                drop(comment);
+            }
+        }
+    }
+}
+
 /// A name, with its place.
-#[derive(Debug, Drop)]
 pub struct Name {
     pub text: Text,
     pub line: usize,
     pub column: usize,
 }
 
+impl Drop for Name {
+    fn drop(self) {
+        let Name {
+            text: _,
+            line: _,
+            column: _,
+        } = self;
+    }
+}
+
 /// What stands behind the `:=` of a setting.
-#[derive(Drop)]
 pub enum SettingValue {
     Bool(bool),
     Text(Expr),
     List(Seq<StringLiteral>),
 }
 
+impl Drop for SettingValue {
+    fn drop(self) {
+        match self {
+            SettingValue::Bool(_) => {}
+            SettingValue::List(_) => {}
+            SettingValue::Text(value) => drop(value),
+        }
+    }
+}
+
 /// A string as it is written, with the place of its first character.
-#[derive(Debug, Drop)]
 pub struct StringLiteral {
     /// Whether an `x` stands in front.
     pub expands: bool,
@@ -85,8 +151,20 @@ pub struct StringLiteral {
     pub column: usize,
 }
 
+impl Drop for StringLiteral {
+    fn drop(self) {
+        let StringLiteral {
+            expands: _,
+            quote: _,
+            raw: _,
+            line: _,
+            column: _,
+        } = self;
+    }
+}
+
 /// What a condition asks of two texts.
-#[derive(Clone, Copy, Debug, PartialEq, Eq)]
+#[derive(Clone, Copy)]
 pub enum Comparison {
     /// `==`
     Equal,
@@ -128,7 +206,6 @@ pub enum Expr {
 
 /// An attribute in brackets: `NAME`, `NAME: STRING` or `NAME(ARGUMENT, ..)`. The comment is the one behind its line's
 /// bracket, which the last attribute of the line has.
-#[derive(Drop)]
 pub struct Attribute {
     pub name: Name,
     /// Whether its one argument stands behind a colon.
@@ -137,8 +214,40 @@ pub struct Attribute {
     pub comment: Option<Text>,
 }
 
+impl Drop for Attribute {
+    fn drop(self) {
+        let Attribute {
+            name: _,
+            colon: _,
+            arguments: _,
+            comment,
+        } = self;
+        drop(comment);
+    }
+}
+
+impl Attribute {
+    /// The attribute with this comment in place of its own.
+    pub(crate) fn commented(self, comment: Option<Text>) -> Attribute
+        ensures { result ≡ record self { comment = comment } }
+    {
+        let Attribute {
+            name,
+            colon,
+            arguments,
+            comment: before,
+        } = self;
+        drop(before);
+        Attribute {
+            name,
+            colon,
+            arguments,
+            comment,
+        }
+    }
+}
+
 /// An argument of an attribute: `EXPR`, or `KEY=EXPR`; with the place of the expression.
-#[derive(Drop)]
 pub struct Argument {
     pub key: Option<Name>,
     pub line: usize,
@@ -146,8 +255,20 @@ pub struct Argument {
     pub value: Expr,
 }
 
+impl Drop for Argument {
+    fn drop(self) {
+        let Argument {
+            key,
+            line: _,
+            column: _,
+            value,
+        } = self;
+        drop(key);
+        drop(value);
+    }
+}
+
 /// A recipe as it is written. The comment is the one behind the recipe's line.
-#[derive(Drop)]
 pub struct AstRecipe {
     pub attributes: Seq<Attribute>,
     /// Whether an `@` stands before the name.
@@ -160,8 +281,52 @@ pub struct AstRecipe {
     pub body: Seq<Line>,
 }
 
+impl Drop for AstRecipe {
+    fn drop(self) {
+        let AstRecipe {
+            attributes: _,
+            quiet: _,
+            name: _,
+            parameters: _,
+            priors: _,
+            subsequents: _,
+            comment,
+            body: _,
+        } = self;
+        drop(comment);
+    }
+}
+
+impl AstRecipe {
+    /// The recipe with this body in place of its own.
+    pub(crate) fn with_lines(self, body: Seq<Line>) -> AstRecipe
+        ensures { result ≡ record self { body = body } }
+    {
+        let AstRecipe {
+            attributes,
+            quiet,
+            name,
+            parameters,
+            priors,
+            subsequents,
+            comment,
+            body: _,
+        } = self;
+        AstRecipe {
+            attributes,
+            quiet,
+            name,
+            parameters,
+            priors,
+            subsequents,
+            comment,
+            body,
+        }
+    }
+}
+
 /// How many values a parameter takes.
-#[derive(Clone, Copy, Debug, PartialEq, Eq)]
+#[derive(Clone, Copy, PartialEq, Eq)]
 pub enum ParameterKind {
     /// One.
     Singular,
@@ -172,7 +337,6 @@ pub enum ParameterKind {
 }
 
 /// A parameter of a recipe's line.
-#[derive(Drop)]
 pub struct AstParameter {
     pub kind: ParameterKind,
     /// Whether a `$` stands before the name.
@@ -181,8 +345,19 @@ pub struct AstParameter {
     pub default: Option<Expr>,
 }
 
+impl Drop for AstParameter {
+    fn drop(self) {
+        let AstParameter {
+            kind: _,
+            export: _,
+            name: _,
+            default,
+        } = self;
+        drop(default);
+    }
+}
+
 /// A recipe that another one depends on: a path, or a path with arguments in parentheses.
-#[derive(Drop)]
 pub struct AstDependency {
     pub path: Seq<Name>,
     /// Whether it stands in parentheses.
@@ -190,19 +365,45 @@ pub struct AstDependency {
     pub arguments: Seq<Expr>,
 }
 
+impl Drop for AstDependency {
+    fn drop(self) {
+        let AstDependency {
+            path: _,
+            grouped: _,
+            arguments: _,
+        } = self;
+    }
+}
+
 /// A line of a body, without the body's indentation; a blank one has no fragments.
-#[derive(Drop)]
 pub struct Line {
     /// The number of the line on which it begins.
     pub number: usize,
     pub fragments: Seq<Fragment>,
 }
 
+impl Drop for Line {
+    fn drop(self) {
+        let Line {
+            number: _,
+            fragments: _,
+        } = self;
+    }
+}
+
 /// A part of a body line.
-#[derive(Drop)]
 pub enum Fragment {
     /// A text, in which `{{{{` has become `{{`.
     Text(Text),
     /// `{{ EXPR }}`
     Value(Expr),
+}
+
+impl Drop for Fragment {
+    fn drop(self) {
+        match self {
+            Fragment::Text(text) => drop(text),
+            Fragment::Value(value) => drop(value),
+        }
+    }
 }

@@ -60,11 +60,13 @@ fn attribute_line(alloc: Global, cursor: &mut Cursor<'_>) -> Result<Vec<Attribut
 fn comment_last(found: &mut Vec<Attribute>, comment: Option<Text>) -> Result<(), AllocError>
     ensures { IfOk result (λ u. found.new.items ≡ with_comment comment found.old.items) }
 {
-    if let Some(mut last) = found.pop() {
-        last.comment = comment;
-        found.push(last)?;
+    match found.pop() {
+        Some(last) => Ok(found.push(last.commented(comment))?),
+        None => {
+            drop(comment);
+            Ok(())
+        }
     }
-    Ok(())
 }
 
 /// Attributes with commas between them, at least one.
@@ -278,13 +280,18 @@ fn plain(alloc: Global, cursor: &mut Cursor<'_>, key: Option<Name>) -> Result<Ar
 {
     let line = cursor.line();
     let column = cursor.column();
-    let value = expr(alloc, cursor, LEVELS)?;
-    Ok(Argument {
-        key,
-        line,
-        column,
-        value,
-    })
+    match expr(alloc, cursor, LEVELS) {
+        Ok(value) => Ok(Argument {
+            key,
+            line,
+            column,
+            value,
+        }),
+        Err(refused) => {
+            drop(key);
+            Err(refused)
+        }
+    }
 }
 
 /// Whether a key and its `=` stand here.
@@ -396,7 +403,9 @@ fn number(alloc: Global, cursor: &mut Cursor<'_>, key: Name) -> Result<Argument,
     let column = cursor.column();
     let value = string(alloc, cursor)?;
     let text = value.text(alloc)?;
-    if !is_decimal(text.as_str()) {
+    let fits = is_decimal(text.as_str());
+    drop(text);
+    if !fits {
         return Err(ReadError::Syntax);
     }
     Ok(Argument {

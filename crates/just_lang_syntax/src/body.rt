@@ -98,6 +98,7 @@ fn fragment(alloc: Global, cursor: &mut Cursor<'_>) -> Result<Fragment, ReadErro
     token(cursor, b"{{")?;
     let value = expr(alloc, cursor, LEVELS)?;
     if !cursor.begins(b"}}") {
+        drop(value);
         return Err(ReadError::Syntax);
     }
     cursor.pass_text(b"}}");

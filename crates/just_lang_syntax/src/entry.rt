@@ -27,7 +27,6 @@ pub enum Entry {
 }
 
 /// The body to which a line may belong.
-#[derive(Drop)]
 pub enum Body {
     /// None.
     Closed,
@@ -35,6 +34,15 @@ pub enum Body {
     Begins,
     /// The one with this indentation.
     Open(Seq<u8>),
+}
+
+impl Drop for Body {
+    fn drop(self) {
+        match self {
+            Body::Closed | Body::Begins => {}
+            Body::Open(_) => {}
+        }
+    }
 }
 
 impl Body {
@@ -188,8 +196,7 @@ fn with_body(
 ) -> Result<AstItem, NoMemory>
     ensures { IfOk result (λ x. x ≡ AstItem.Recipe (record recipe { body = reverse lines.items })) }
 {
-    let mut recipe = recipe.into_inner();
     lines.reverse();
-    recipe.body = list_of(lines);
-    Ok(AstItem::Recipe(Boxed::new(alloc, recipe)?))
+    let whole = recipe.into_inner().with_lines(list_of(lines));
+    Ok(AstItem::Recipe(Boxed::new(alloc, whole)?))
 }

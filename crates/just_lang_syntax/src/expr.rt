@@ -11,7 +11,7 @@ use just_lang_read::{
     Boxed, Cursor, NameStart, QuoteMark, ReadError, begins_string, behind_word, is_word, token,
     word,
 };
-use std::alloc::{AllocFailed, Global};
+use std::alloc::{AllocError, Global};
 
 /// How many levels may be open at a place of an expression.
 pub const LEVELS: usize = 256;
@@ -40,6 +40,13 @@ fn is_call(cursor: &Cursor<'_>) -> bool
     cursor.starts::<NameStart>() && behind_word(cursor).begins(b"(")
 }
 
+/// An expression on the heap, where its drop is one call.
+fn boxed(alloc: Global, inside: Expr) -> Result<Boxed<Expr>, AllocError>
+    ensures { IfOk result (λ x. x ≡ inside) }
+{
+    Ok(Boxed::new(alloc, inside)?)
+}
+
 /// An expression, as long as it goes.
 #[cycle(expr)]
 #[tactic(auto, unfolding(crate::specs::Readers::level))]
@@ -59,13 +66,14 @@ pub fn expr(alloc: Global, cursor: &mut Cursor<'_>, left: usize) -> Result<Expr,
 /// An expression a level further in.
 #[cycle(expr)]
 #[tactic(auto, using(crate::proofs::Levels::inner_none, crate::proofs::Levels::inner_more))]
-fn inner(alloc: Global, cursor: &mut Cursor<'_>, left: usize) -> Result<Expr, ReadError>
+fn inner(alloc: Global, cursor: &mut Cursor<'_>, left: usize) -> Result<Boxed<Expr>, ReadError>
     ensures { Reads (read.inner left cursor.old) result cursor.new }
 {
     if left == 0 {
         return Err(ReadError::Depth);
     }
-    expr(alloc, cursor, left - 1)
+    let inside = expr(alloc, cursor, left - 1)?;
+    Ok(boxed(alloc, inside)?)
 }
 
 /// `/ EXPR`
@@ -76,7 +84,7 @@ fn root(alloc: Global, cursor: &mut Cursor<'_>, left: usize) -> Result<Expr, Rea
 {
     token(cursor, b"/")?;
     let inside = inner(alloc, cursor, left)?;
-    Ok(Expr::Root(Boxed::new(alloc, inside)?))
+    Ok(Expr::Root(inside))
 }
 
 /// `if LEFT == RIGHT { CONSEQUENT } else ..`
@@ -90,7 +98,7 @@ fn conditional(alloc: Global, cursor: &mut Cursor<'_>, left: usize) -> Result<Ex
     let consequent = block(alloc, cursor, left)?;
     word(cursor, b"else")?;
     let alternative = otherwise(alloc, cursor, left)?;
-    Ok(join_if(alloc, condition, consequent, alternative)?)
+    Ok(join_if(condition, consequent, alternative))
 }
 
 /// `LEFT == RIGHT` or `LEFT != RIGHT`
@@ -100,7 +108,7 @@ fn condition(
     alloc: Global,
     cursor: &mut Cursor<'_>,
     left: usize,
-) -> Result<(Expr, Comparison, Expr), ReadError>
+) -> Result<(Boxed<Expr>, Comparison, Boxed<Expr>), ReadError>
     ensures { Reads (read.condition (read.inner left) cursor.old) result cursor.new }
 {
     let first = inner(alloc, cursor, left)?;
@@ -125,7 +133,7 @@ fn comparison(cursor: &mut Cursor<'_>) -> Result<Comparison, ReadError>
 /// `{ EXPR }`
 #[cycle(expr)]
 #[tactic(auto, unfolding(crate::specs::Readers::block))]
-fn block(alloc: Global, cursor: &mut Cursor<'_>, left: usize) -> Result<Expr, ReadError>
+fn block(alloc: Global, cursor: &mut Cursor<'_>, left: usize) -> Result<Boxed<Expr>, ReadError>
     ensures { Reads (read.block (read.inner left) cursor.old) result cursor.new }
 {
     token(cursor, b"{")?;
@@ -137,7 +145,11 @@ fn block(alloc: Global, cursor: &mut Cursor<'_>, left: usize) -> Result<Expr, Re
 /// What stands behind `else`: a further `if`, or a block.
 #[cycle(expr)]
 #[tactic(auto, unfolding(crate::specs::Readers::otherwise))]
-fn otherwise(alloc: Global, cursor: &mut Cursor<'_>, left: usize) -> Result<(bool, Expr), ReadError>
+fn otherwise(
+    alloc: Global,
+    cursor: &mut Cursor<'_>,
+    left: usize,
+) -> Result<(bool, Boxed<Expr>), ReadError>
     ensures { Reads (read.otherwise (read.inner left) cursor.old) result cursor.new }
 {
     if begins_condition(cursor) {
@@ -151,27 +163,23 @@ fn otherwise(alloc: Global, cursor: &mut Cursor<'_>, left: usize) -> Result<(boo
 
 /// The `if` of its parts.
 fn join_if(
-    alloc: Global,
-    condition: (Expr, Comparison, Expr),
-    consequent: Expr,
-    alternative: (bool, Expr),
-) -> Result<Expr, AllocFailed<Expr>>
-    ensures { IfOk result (λ x. x ≡ Expr.If condition.0 condition.1 condition.2 consequent alternative.0 alternative.1) }
+    condition: (Boxed<Expr>, Comparison, Boxed<Expr>),
+    consequent: Boxed<Expr>,
+    alternative: (bool, Boxed<Expr>),
+) -> Expr
+    ensures { result ≡ Expr.If condition.0 condition.1 condition.2
+        consequent alternative.0 alternative.1 }
 {
     let (left, comparison, right) = condition;
     let (chained, alternative) = alternative;
-    let left = Boxed::new(alloc, left)?;
-    let right = Boxed::new(alloc, right)?;
-    let consequent = Boxed::new(alloc, consequent)?;
-    let alternative = Boxed::new(alloc, alternative)?;
-    Ok(Expr::If {
+    Expr::If {
         left,
         comparison,
         right,
         consequent,
         chained,
         alternative,
-    })
+    }
 }
 
 /// A value: what an operator may join.
@@ -203,7 +211,7 @@ fn group(alloc: Global, cursor: &mut Cursor<'_>, left: usize) -> Result<Expr, Re
     token(cursor, b"(")?;
     let inside = inner(alloc, cursor, left)?;
     token(cursor, b")")?;
-    Ok(Expr::Group(Boxed::new(alloc, inside)?))
+    Ok(Expr::Group(inside))
 }
 
 /// `env(KEY)` or `env(KEY, DEFAULT)`
@@ -219,13 +227,22 @@ fn env(alloc: Global, cursor: &mut Cursor<'_>, left: usize) -> Result<Expr, Read
     let key = inner(alloc, cursor, left)?;
     let default = default(alloc, cursor, left)?;
     token(cursor, b")")?;
-    Ok(join_env(alloc, line, column, key, default)?)
+    Ok(Expr::Env {
+        line,
+        column,
+        key,
+        default,
+    })
 }
 
 /// What stands behind the comma of `env`, if there is one.
 #[cycle(expr)]
 #[tactic(auto, unfolding(crate::specs::Readers::default))]
-fn default(alloc: Global, cursor: &mut Cursor<'_>, left: usize) -> Result<Option<Expr>, ReadError>
+fn default(
+    alloc: Global,
+    cursor: &mut Cursor<'_>,
+    left: usize,
+) -> Result<Option<Boxed<Expr>>, ReadError>
     ensures { Reads (read.default (read.inner left) cursor.old) result cursor.new }
 {
     if !cursor.begins(b",") {
@@ -236,29 +253,6 @@ fn default(alloc: Global, cursor: &mut Cursor<'_>, left: usize) -> Result<Option
     Ok(Some(inside))
 }
 
-/// The call of its parts.
-fn join_env(
-    alloc: Global,
-    line: usize,
-    column: usize,
-    key: Expr,
-    default: Option<Expr>,
-) -> Result<Expr, AllocFailed<Expr>>
-    ensures { IfOk result (λ x. x ≡ Expr.Env line column key default) }
-{
-    let key = Boxed::new(alloc, key)?;
-    let default = match default {
-        Some(value) => Some(Boxed::new(alloc, value)?),
-        None => None,
-    };
-    Ok(Expr::Env {
-        line,
-        column,
-        key,
-        default,
-    })
-}
-
 /// What follows the first value of an expression.
 #[cycle(expr)]
 #[tactic(auto, unfolding(crate::specs::Readers::tail))]
@@ -266,32 +260,16 @@ fn tail(alloc: Global, cursor: &mut Cursor<'_>, left: usize, first: Expr) -> Res
     ensures { Reads (read.tail (read.inner left) first cursor.old) result cursor.new }
 {
     if cursor.begins(b"/") {
+        let first = boxed(alloc, first)?;
         token(cursor, b"/")?;
         let second = inner(alloc, cursor, left)?;
-        return Ok(join_slash(alloc, first, second)?);
+        return Ok(Expr::Join(first, second));
     }
     if cursor.begins(b"+") {
+        let first = boxed(alloc, first)?;
         token(cursor, b"+")?;
         let second = inner(alloc, cursor, left)?;
-        return Ok(join_plus(alloc, first, second)?);
+        return Ok(Expr::Concat(first, second));
     }
     Ok(first)
-}
-
-/// `FIRST / SECOND`
-fn join_slash(alloc: Global, first: Expr, second: Expr) -> Result<Expr, AllocFailed<Expr>>
-    ensures { IfOk result (λ x. x ≡ Expr.Join first second) }
-{
-    let first = Boxed::new(alloc, first)?;
-    let second = Boxed::new(alloc, second)?;
-    Ok(Expr::Join(first, second))
-}
-
-/// `FIRST + SECOND`
-fn join_plus(alloc: Global, first: Expr, second: Expr) -> Result<Expr, AllocFailed<Expr>>
-    ensures { IfOk result (λ x. x ≡ Expr.Concat first second) }
-{
-    let first = Boxed::new(alloc, first)?;
-    let second = Boxed::new(alloc, second)?;
-    Ok(Expr::Concat(first, second))
 }

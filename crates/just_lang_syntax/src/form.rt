@@ -1,9 +1,73 @@
 //! What the grammar asks of the attributes, settings and keys that it knows by name.
-ghost use Rattle.std.specs.Prelude.{◌≡◌};
+ghost use Rattle.std.specs.Prelude.{◌≡◌, map};
 ghost use Rattle.just_lang_syntax.specs.Forms.{form_of, is_one_of, bare_attributes, key_form, is_cache_key, sort_of, flags, is_left_out_setting, is_left_out_attribute};
 
+/// The names of the attributes that have nothing behind them.
+const BARE_ATTRIBUTES: [&str; 17] = [
+    "default",
+    "exit-message",
+    "no-cd",
+    "no-exit-message",
+    "no-quiet",
+    "parallel",
+    "positional-arguments",
+    "private",
+    "linux",
+    "unix",
+    "macos",
+    "windows",
+    "openbsd",
+    "freebsd",
+    "netbsd",
+    "dragonfly",
+    "android",
+];
+
+/// The names of the settings that are expressions.
+const TEXT_SETTINGS: [&str; 6] = [
+    "dotenv-command",
+    "dotenv-filename",
+    "dotenv-path",
+    "indentation",
+    "tempdir",
+    "working-directory",
+];
+
+/// The names of the settings that are flags.
+const FLAGS: [&str; 17] = [
+    "allow-duplicate-recipes",
+    "allow-duplicate-variables",
+    "default-list",
+    "dotenv-load",
+    "dotenv-override",
+    "dotenv-required",
+    "export",
+    "fallback",
+    "guards",
+    "ignore-comments",
+    "lists",
+    "no-cd",
+    "no-exit-message",
+    "positional-arguments",
+    "quiet",
+    "unstable",
+    "windows-powershell",
+];
+
+/// Whether a name is one of these.
+fn is_one_of(names: &[&str], name: &str) -> bool
+    ensures { result ≡ is_one_of (map (λ n. n.now) names.now) name.now }
+{
+    'names: for known in names {
+        if name == *known {
+            return true;
+        }
+    }
+    false
+}
+
 /// What may stand behind the name of an attribute.
-#[derive(Clone, Copy, Debug, PartialEq, Eq)]
+#[derive(Clone, Copy)]
 pub enum Form {
     /// Nothing.
     Bare,
@@ -49,19 +113,20 @@ impl Form {
 pub fn form_of(name: &str) -> Form
     ensures { result ≡ form_of name.now }
 {
-    match name {
-        "confirm" | "doc" => Form::MaybeText,
-        "extension" | "group" | "working-directory" => Form::Text,
-        "script" => Form::Texts,
-        "arg" => Form::Arg,
-        "cache" => Form::Cache,
-        _ => {
-            if is_bare(name) {
-                Form::Bare
-            } else {
-                Form::Open
-            }
-        }
+    if is_one_of(&["confirm", "doc"], name) {
+        Form::MaybeText
+    } else if is_one_of(&["extension", "group", "working-directory"], name) {
+        Form::Text
+    } else if name == "script" {
+        Form::Texts
+    } else if name == "arg" {
+        Form::Arg
+    } else if name == "cache" {
+        Form::Cache
+    } else if is_bare(name) {
+        Form::Bare
+    } else {
+        Form::Open
     }
 }
 
@@ -69,30 +134,11 @@ pub fn form_of(name: &str) -> Form
 fn is_bare(name: &str) -> bool
     ensures { result ≡ is_one_of bare_attributes name.now }
 {
-    matches!(
-        name,
-        "default"
-            | "exit-message"
-            | "no-cd"
-            | "no-exit-message"
-            | "no-quiet"
-            | "parallel"
-            | "positional-arguments"
-            | "private"
-            | "linux"
-            | "unix"
-            | "macos"
-            | "windows"
-            | "openbsd"
-            | "freebsd"
-            | "netbsd"
-            | "dragonfly"
-            | "android"
-    )
+    is_one_of(&BARE_ATTRIBUTES, name)
 }
 
 /// What may stand behind a key of `arg`.
-#[derive(Clone, Copy, Debug, PartialEq, Eq)]
+#[derive(Clone, Copy)]
 pub enum KeyForm {
     /// Nothing.
     Alone,
@@ -124,12 +170,16 @@ impl KeyForm {
 pub fn key_form(name: &str) -> KeyForm
     ensures { result ≡ key_form name.now }
 {
-    match name {
-        "flag" | "multiple" => KeyForm::Alone,
-        "long" => KeyForm::Either,
-        "short" | "value" | "help" | "pattern" => KeyForm::Value,
-        "min" | "max" => KeyForm::Number,
-        _ => KeyForm::Unknown,
+    if is_one_of(&["flag", "multiple"], name) {
+        KeyForm::Alone
+    } else if name == "long" {
+        KeyForm::Either
+    } else if is_one_of(&["short", "value", "help", "pattern"], name) {
+        KeyForm::Value
+    } else if is_one_of(&["min", "max"], name) {
+        KeyForm::Number
+    } else {
+        KeyForm::Unknown
     }
 }
 
@@ -137,11 +187,11 @@ pub fn key_form(name: &str) -> KeyForm
 pub fn is_cache_key(name: &str) -> bool
     ensures { result ≡ is_cache_key name.now }
 {
-    matches!(name, "inputs" | "outputs" | "extra")
+    is_one_of(&["inputs", "outputs", "extra"], name)
 }
 
 /// The sorts of settings.
-#[derive(Clone, Copy, Debug, PartialEq, Eq)]
+#[derive(Clone, Copy)]
 pub enum Sort {
     /// It is set, or `true` or `false`.
     Flag,
@@ -157,21 +207,14 @@ pub enum Sort {
 pub fn sort_of(name: &str) -> Sort
     ensures { result ≡ sort_of name.now }
 {
-    match name {
-        "dotenv-command"
-        | "dotenv-filename"
-        | "dotenv-path"
-        | "indentation"
-        | "tempdir"
-        | "working-directory" => Sort::Text,
-        "shell" | "script-interpreter" | "windows-shell" => Sort::List,
-        _ => {
-            if is_flag(name) {
-                Sort::Flag
-            } else {
-                Sort::Open
-            }
-        }
+    if is_one_of(&TEXT_SETTINGS, name) {
+        Sort::Text
+    } else if is_one_of(&["shell", "script-interpreter", "windows-shell"], name) {
+        Sort::List
+    } else if is_flag(name) {
+        Sort::Flag
+    } else {
+        Sort::Open
     }
 }
 
@@ -179,38 +222,19 @@ pub fn sort_of(name: &str) -> Sort
 fn is_flag(name: &str) -> bool
     ensures { result ≡ is_one_of flags name.now }
 {
-    matches!(
-        name,
-        "allow-duplicate-recipes"
-            | "allow-duplicate-variables"
-            | "default-list"
-            | "dotenv-load"
-            | "dotenv-override"
-            | "dotenv-required"
-            | "export"
-            | "fallback"
-            | "guards"
-            | "ignore-comments"
-            | "lists"
-            | "no-cd"
-            | "no-exit-message"
-            | "positional-arguments"
-            | "quiet"
-            | "unstable"
-            | "windows-powershell"
-    )
+    is_one_of(&FLAGS, name)
 }
 
 /// Whether the setting with that name is left out.
 pub fn is_left_out_setting(name: &str) -> bool
     ensures { result ≡ is_left_out_setting name.now }
 {
-    matches!(name, "lazy" | "minimum-version" | "default-script")
+    is_one_of(&["lazy", "minimum-version", "default-script"], name)
 }
 
 /// Whether the attribute with that name is left out.
 pub fn is_left_out_attribute(name: &str) -> bool
     ensures { result ≡ is_left_out_attribute name.now }
 {
-    matches!(name, "env" | "metadata" | "timestamp")
+    is_one_of(&["env", "metadata", "timestamp"], name)
 }

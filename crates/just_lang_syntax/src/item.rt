@@ -1,5 +1,8 @@
 //! Items: which one begins at a place, and the items that aren't recipes.
-ghost use Rattle.std.specs.Prelude.{◌≡◌, IfOk};
+ghost use Rattle.std.specs.Prelude.{◌≡◌, ◌&&◌, ◌||◌, IfOk, codes};
+ghost use Rattle.just_lang_read.specs.Place.{begins};
+ghost use Rattle.just_lang_read.specs.Quotes.{begins_string};
+ghost use Rattle.just_lang_read.specs.Lines.{is_word, behind_word};
 ghost use Rattle.just_lang_read.specs.Reader.{Reads};
 ghost use Rattle.just_lang_syntax.specs.Items.{is_assignment, is_last_name, is_module, opening_at, opens_module, goes_on};
 ghost use Rattle.just_lang_syntax.specs.ItemReaders as read;
@@ -18,10 +21,10 @@ use just_lang_read::{
     token, word,
 };
 use just_path_text::Seq;
-use std::alloc::{AllocFailed, Global};
+use std::alloc::{AllocError, Global};
 
 /// The items by what they begin with.
-#[derive(Clone, Copy, Debug, PartialEq, Eq)]
+#[derive(Clone, Copy)]
 pub enum Opening {
     Comment,
     Alias,
@@ -59,6 +62,51 @@ fn is_last_name(cursor: &Cursor<'_>) -> bool
     cursor.starts::<NameStart>() && is_rest(&behind_word(cursor))
 }
 
+/// Whether this word stands here, with an assignment behind it.
+fn opens_assignment(cursor: &Cursor<'_>, front: &[u8]) -> bool
+    ensures { result ≡ (is_word front.now cursor.now && is_assignment (behind_word cursor.now)) }
+{
+    is_word(cursor, front) && is_assignment(&behind_word(cursor))
+}
+
+/// Whether this word stands here, with a last name behind it.
+fn opens_last_name(cursor: &Cursor<'_>, front: &[u8]) -> bool
+    ensures { result ≡ (is_word front.now cursor.now && is_last_name (behind_word cursor.now)) }
+{
+    is_word(cursor, front) && is_last_name(&behind_word(cursor))
+}
+
+/// Whether `import` stands here, with a `?` or a string behind it.
+fn opens_import(cursor: &Cursor<'_>) -> bool
+    ensures { result ≡ (is_word (codes "import") cursor.now
+        && (begins (codes "?") (behind_word cursor.now) || begins_string (behind_word cursor.now))) }
+{
+    if !is_word(cursor, b"import") {
+        return false;
+    }
+    let ahead = behind_word(cursor);
+    ahead.begins(b"?") || begins_string(&ahead)
+}
+
+/// Whether `set` stands here, with an assignment or a last name behind it.
+fn opens_setting(cursor: &Cursor<'_>) -> bool
+    ensures { result ≡ (is_word (codes "set") cursor.now
+        && (is_assignment (behind_word cursor.now) || is_last_name (behind_word cursor.now))) }
+{
+    if !is_word(cursor, b"set") {
+        return false;
+    }
+    let ahead = behind_word(cursor);
+    is_assignment(&ahead) || is_last_name(&ahead)
+}
+
+/// Whether a module stands here, behind attributes; else it is a recipe.
+fn opens_module(cursor: &Cursor<'_>) -> bool
+    ensures { result ≡ opens_module cursor.now }
+{
+    is_word(cursor, b"mod") && is_module(&behind_word(cursor))
+}
+
 /// Which item begins here. No word is reserved: what follows it tells.
 pub fn opening_at(cursor: &Cursor<'_>) -> Opening
     ensures { result ≡ opening_at cursor.now }
@@ -69,33 +117,25 @@ pub fn opening_at(cursor: &Cursor<'_>) -> Opening
     if is_assignment(cursor) {
         return Opening::Assignment;
     }
-    let ahead = behind_word(cursor);
-    if is_word(cursor, b"alias") && is_assignment(&ahead) {
+    if opens_assignment(cursor, b"alias") {
         return Opening::Alias;
     }
-    if is_word(cursor, b"export") && is_assignment(&ahead) {
+    if opens_assignment(cursor, b"export") {
         return Opening::Export;
     }
-    if is_word(cursor, b"unexport") && is_last_name(&ahead) {
+    if opens_last_name(cursor, b"unexport") {
         return Opening::Unexport;
     }
-    if is_word(cursor, b"import") && (ahead.begins(b"?") || begins_string(&ahead)) {
+    if opens_import(cursor) {
         return Opening::Import;
     }
-    if is_word(cursor, b"mod") && is_module(&ahead) {
+    if opens_module(cursor) {
         return Opening::Module;
     }
-    if is_word(cursor, b"set") && (is_assignment(&ahead) || is_last_name(&ahead)) {
+    if opens_setting(cursor) {
         return Opening::Setting;
     }
     Opening::Recipe
-}
-
-/// Whether a module stands here, behind attributes; else it is a recipe.
-fn opens_module(cursor: &Cursor<'_>) -> bool
-    ensures { result ≡ opens_module cursor.now }
-{
-    is_word(cursor, b"mod") && is_module(&behind_word(cursor))
 }
 
 /// The item, or the line of a recipe, that stands here.
@@ -108,22 +148,22 @@ pub fn item(alloc: Global, cursor: &mut Cursor<'_>) -> Result<Entry, ReadError>
             let text = comment(alloc, cursor)?;
             Ok(entry_of(alloc, AstItem::Comment(text))?)
         }
-        Opening::Alias => Ok(entry_of(alloc, alias(alloc, cursor)?)?),
-        Opening::Import => Ok(entry_of(alloc, import(alloc, cursor)?)?),
-        Opening::Module => Ok(entry_of(alloc, module(alloc, cursor, Seq::new(alloc))?)?),
+        Opening::Alias => alias(alloc, cursor),
+        Opening::Import => import(alloc, cursor),
+        Opening::Module => module(alloc, cursor, Seq::new(alloc)),
         Opening::Export => {
             token(cursor, b"export")?;
-            Ok(entry_of(alloc, assignment(alloc, cursor, true)?)?)
+            assignment(alloc, cursor, true)
         }
-        Opening::Assignment => Ok(entry_of(alloc, assignment(alloc, cursor, false)?)?),
-        Opening::Unexport => Ok(entry_of(alloc, unexport(alloc, cursor)?)?),
-        Opening::Setting => Ok(entry_of(alloc, setting(alloc, cursor)?)?),
+        Opening::Assignment => assignment(alloc, cursor, false),
+        Opening::Unexport => unexport(alloc, cursor),
+        Opening::Setting => setting(alloc, cursor),
         Opening::Recipe => attributed(alloc, cursor),
     }
 }
 
 /// The entry of an item that isn't a recipe.
-fn entry_of(alloc: Global, item: AstItem) -> Result<Entry, AllocFailed<AstItem>>
+fn entry_of(alloc: Global, item: AstItem) -> Result<Entry, AllocError>
     ensures { IfOk result (λ x. x ≡ Entry.Item item) }
 {
     Ok(Entry::Item(Boxed::new(alloc, item)?))
@@ -136,41 +176,43 @@ fn attributed(alloc: Global, cursor: &mut Cursor<'_>) -> Result<Entry, ReadError
 {
     let attributes = attributes(alloc, cursor)?;
     if opens_module(cursor) {
-        return Ok(entry_of(alloc, module(alloc, cursor, attributes)?)?);
+        return module(alloc, cursor, attributes);
     }
     let recipe = recipe_line(alloc, cursor, attributes)?;
     Ok(Entry::Recipe(Boxed::new(alloc, recipe)?))
 }
 
 #[tactic(auto, unfolding(crate::specs::ItemReaders::alias))]
-fn alias(alloc: Global, cursor: &mut Cursor<'_>) -> Result<AstItem, ReadError>
-    ensures { Reads (read.alias cursor.old) result cursor.new }
+fn alias(alloc: Global, cursor: &mut Cursor<'_>) -> Result<Entry, ReadError>
+    ensures { Reads (read.as_item read.alias cursor.old) result cursor.new }
 {
     token(cursor, b"alias")?;
     let name = name(alloc, cursor)?;
     token(cursor, b":=")?;
     let target = path(alloc, cursor)?;
     let comment = rest(alloc, cursor)?;
-    Ok(AstItem::Alias {
+    let item = AstItem::Alias {
         name,
         target,
         comment,
-    })
+    };
+    Ok(entry_of(alloc, item)?)
 }
 
 #[tactic(auto, unfolding(crate::specs::ItemReaders::import))]
-fn import(alloc: Global, cursor: &mut Cursor<'_>) -> Result<AstItem, ReadError>
-    ensures { Reads (read.import cursor.old) result cursor.new }
+fn import(alloc: Global, cursor: &mut Cursor<'_>) -> Result<Entry, ReadError>
+    ensures { Reads (read.as_item read.import cursor.old) result cursor.new }
 {
     token(cursor, b"import")?;
     let optional = maybe(cursor, b"?")?;
     let path = string(alloc, cursor)?;
     let comment = rest(alloc, cursor)?;
-    Ok(AstItem::Import {
+    let item = AstItem::Import {
         optional,
         path,
         comment,
-    })
+    };
+    Ok(entry_of(alloc, item)?)
 }
 
 #[tactic(auto, unfolding(crate::specs::ItemReaders::module_item))]
@@ -178,21 +220,22 @@ fn module(
     alloc: Global,
     cursor: &mut Cursor<'_>,
     attributes: Seq<Attribute>,
-) -> Result<AstItem, ReadError>
-    ensures { Reads (read.module_item attributes cursor.old) result cursor.new }
+) -> Result<Entry, ReadError>
+    ensures { Reads (read.as_item (read.module_item attributes) cursor.old) result cursor.new }
 {
     token(cursor, b"mod")?;
     let optional = maybe(cursor, b"?")?;
     let name = name(alloc, cursor)?;
     let path = module_path(alloc, cursor)?;
     let comment = rest(alloc, cursor)?;
-    Ok(AstItem::Module {
+    let item = AstItem::Module {
         attributes,
         optional,
         name,
         path,
         comment,
-    })
+    };
+    Ok(entry_of(alloc, item)?)
 }
 
 /// The string behind a module's name, if there is one.
@@ -209,44 +252,53 @@ fn module_path(alloc: Global, cursor: &mut Cursor<'_>) -> Result<Option<StringLi
 }
 
 #[tactic(auto, unfolding(crate::specs::ItemReaders::assignment))]
-fn assignment(alloc: Global, cursor: &mut Cursor<'_>, export: bool) -> Result<AstItem, ReadError>
-    ensures { Reads (read.assignment export cursor.old) result cursor.new }
+fn assignment(alloc: Global, cursor: &mut Cursor<'_>, export: bool) -> Result<Entry, ReadError>
+    ensures { Reads (read.as_item (read.assignment export) cursor.old) result cursor.new }
 {
     let name = name(alloc, cursor)?;
     token(cursor, b":=")?;
     let value = expr(alloc, cursor, LEVELS)?;
-    let comment = rest(alloc, cursor)?;
-    Ok(AstItem::Assignment {
-        export,
-        name,
-        value,
-        comment,
-    })
+    match rest(alloc, cursor) {
+        Ok(comment) => {
+            let item = AstItem::Assignment {
+                export,
+                name,
+                value,
+                comment,
+            };
+            Ok(entry_of(alloc, item)?)
+        }
+        Err(refused) => {
+            drop(value);
+            Err(refused)
+        }
+    }
 }
 
 #[tactic(auto, unfolding(crate::specs::ItemReaders::unexport))]
-fn unexport(alloc: Global, cursor: &mut Cursor<'_>) -> Result<AstItem, ReadError>
-    ensures { Reads (read.unexport cursor.old) result cursor.new }
+fn unexport(alloc: Global, cursor: &mut Cursor<'_>) -> Result<Entry, ReadError>
+    ensures { Reads (read.as_item read.unexport cursor.old) result cursor.new }
 {
     token(cursor, b"unexport")?;
     let name = name(alloc, cursor)?;
     let comment = rest(alloc, cursor)?;
-    Ok(AstItem::Unexport { name, comment })
+    Ok(entry_of(alloc, AstItem::Unexport { name, comment })?)
 }
 
 #[tactic(auto, unfolding(crate::specs::ItemReaders::setting_item))]
-fn setting(alloc: Global, cursor: &mut Cursor<'_>) -> Result<AstItem, ReadError>
-    ensures { Reads (read.setting_item cursor.old) result cursor.new }
+fn setting(alloc: Global, cursor: &mut Cursor<'_>) -> Result<Entry, ReadError>
+    ensures { Reads (read.as_item read.setting_item cursor.old) result cursor.new }
 {
     token(cursor, b"set")?;
     let name = name(alloc, cursor)?;
     let value = setting_value(alloc, cursor, sort_of(name.text.as_str()))?;
     let comment = rest(alloc, cursor)?;
-    Ok(AstItem::Setting {
+    let item = AstItem::Setting {
         name,
         value,
         comment,
-    })
+    };
+    Ok(entry_of(alloc, item)?)
 }
 
 /// What stands behind the name of a setting of that sort.
