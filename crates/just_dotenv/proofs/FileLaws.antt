@@ -8,7 +8,7 @@ use Rattle.just_dotenv.specs.declared.error.DotenvError.{DotenvError}
 use Rattle.just_dotenv.specs.declared.error.DotenvError.TheVariants.{Line, NoMemory}
 use Rattle.just_dotenv.specs.Grammar.{Entry, IsLine}
 use Rattle.just_dotenv.specs.Meaning.{Pairs, pairs_from, entry_pair}
-use Rattle.just_dotenv.specs.File.{first_line, Gives, Stops}
+use Rattle.just_dotenv.specs.File.{first_line, Gives, Stops, IsRefusedFor}
 use Rattle.just_dotenv.specs.Readers as reader
 use Rattle.just_dotenv.proofs.LineLaws.{line_ok, line_again, line_goes_on, line_shorter}
 
@@ -134,6 +134,12 @@ pub none_given : (text : List ℕ) (environ pairs others : Pairs) (p q : Place) 
     → reader.ReadsLine (reader.as_line environ pairs reader.line p) p.line (Err e) q → Gives text environ others → e ≡ NoMemory
 none_given text environ pairs others p q (Line n) u g t gift = absurd (no_gift text p.line environ others (up_to_stop text environ pairs p t.1.0 u g t.1.1) gift)
 none_given text environ pairs others p q NoMemory u g t gift = refl
+
+-- and is refused for that line
+pub refused_for : (text : List ℕ) (environ pairs : Pairs) (p q : Place) (e : DotenvError) → UpTo text environ pairs p → is_end p ≡ false
+    → reader.ReadsLine (reader.as_line environ pairs reader.line p) p.line (Err e) q → IsRefusedFor text e
+refused_for text environ pairs p q (Line n) u g t = subst (λ (m : ℕ). Stops text m) (sym t.0) (up_to_stop text environ pairs p t.1.0 u g t.1.1)
+refused_for text environ pairs p q NoMemory u g t = tt
 
 -- at the end of the text, what was read is what it gives
 pub up_to_end : (text : List ℕ) (environ pairs : Pairs) (p : Place) → UpTo text environ pairs p → is_end p ≡ true → Gives text environ pairs

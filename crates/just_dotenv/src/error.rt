@@ -6,7 +6,7 @@ use std::error::Error;
 use std::fmt;
 
 /// Why a dotenv text gives no pairs. It prints as `line 2`, or as `out of memory`.
-#[derive(Clone, Copy, Debug, PartialEq, Eq, Hash)]
+#[derive(Clone, Copy, Debug)]
 pub enum DotenvError {
     /// The line, from 1, on which the first entry begins that can't be read. A quoted value may span lines, so what is wrong may
     /// stand on a later one.

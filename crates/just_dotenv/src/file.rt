@@ -24,7 +24,7 @@ use std::alloc::{AllocError, Global};
 /// // A is `1`, B is `/h 1`, and C is `$A`
 /// let refused = read(alloc, "A=1\n=2\n", &environ); // Err(DotenvError::Line(2))
 /// ```
-#[tactic(auto, using(crate::proofs::FileLaws::up_to_none, crate::proofs::FileLaws::up_to_more, crate::proofs::FileLaws::up_to_end, crate::proofs::FileLaws::turn_shorter, crate::proofs::FileLaws::up_to_stop, crate::proofs::FileLaws::one_gift, crate::proofs::FileLaws::none_given))]
+#[tactic(auto, using(crate::proofs::FileLaws::up_to_none))]
 pub fn read(alloc: Global, text: &str, environ: &Environ) -> Result<Seq<(Text, Text)>, DotenvError>
     // What is answered, the text gives in this environment.
     ensures given { IfOk result (Gives (chars text.now) environ.now.pairs) }

@@ -32,9 +32,20 @@ fn assignment(
     ensures { Reads (as_pair scope.now.environ.now.pairs scope.now.earlier.now (assignment name) cursor.old) result cursor.new }
 {
     cursor.pass::<Blank>();
-    cursor.expect('=')?;
-    let value = value(alloc, cursor, scope)?;
-    Ok((name, value))
+    match cursor.expect('=') {
+        Ok(()) => {}
+        Err(error) => {
+            drop(name);
+            return Err(error);
+        }
+    }
+    match value(alloc, cursor, scope) {
+        Ok(value) => Ok((name, value)),
+        Err(error) => {
+            drop(name);
+            Err(error)
+        }
+    }
 }
 
 /// A pair, from its name or from `export` on.
@@ -52,6 +63,7 @@ fn pair(
         ahead.pass::<Blank>();
         if ahead.starts::<NameStart>() {
             *cursor = ahead;
+            drop(first);
             let second = name(alloc, cursor)?;
             return assignment(alloc, cursor, second, scope);
         }
@@ -108,6 +120,11 @@ pub fn read_line(
     }
     *cursor = ahead;
     let pair = pair(alloc, cursor, scope)?;
-    rest(cursor, false)?;
-    Ok(Some(pair))
+    match rest(cursor, false) {
+        Ok(()) => Ok(Some(pair)),
+        Err(error) => {
+            drop(pair);
+            Err(error)
+        }
+    }
 }

@@ -12,7 +12,6 @@ use just_path_text::Text;
 use std::alloc::{AllocError, Global};
 
 /// One part of a double quoted or bare value, as it is written.
-#[derive(Drop)]
 pub enum Part {
     /// A character that stands for itself, or the one that an escape makes.
     Letter(char),
@@ -24,6 +23,15 @@ pub enum Part {
     Gap,
     /// A `$` before anything else.
     Sign,
+}
+
+impl Drop for Part {
+    fn drop(self) {
+        match self {
+            Part::Name(_) | Part::Braced(_) => {}
+            Part::Letter(_) | Part::Gap | Part::Sign => {}
+        }
+    }
 }
 
 impl Part {

@@ -69,8 +69,13 @@ fn double_quoted_value(
     ensures { Reads (as_text scope.now.environ.now.pairs scope.now.earlier.now double_quoted_value cursor.old) result cursor.new }
 {
     let text = parts(alloc, cursor, true, scope)?;
-    cursor.expect('"')?;
-    Ok(text)
+    match cursor.expect('"') {
+        Ok(()) => Ok(text),
+        Err(error) => {
+            drop(text);
+            Err(error)
+        }
+    }
 }
 
 /// The value behind an `=`, as its text: of `A=$HOME/bin`, where the home is `/h`, that is `/h/bin`. Where there is none, it is

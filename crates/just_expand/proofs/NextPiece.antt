@@ -1,16 +1,18 @@
 -- One more piece: behind those that became text stands the next, which becomes text by its answer.
-use Rattle.std.proofs.Common.{◌≡◌, ℕ, ◌++◌, List, [], ◌∷◌, Option, refl, sym, subst}
-use Rattle.std.specs.Prelude.{Some, None, Result, Ok}
+use Rattle.std.proofs.Common.{◌≡◌, ◌∙◌, ℕ, ◌<◌, ◌++◌, List, [], ◌∷◌, Option, length, length-append, refl, sym, ap, subst, arith}
+use Rattle.std.specs.Prelude.{Some, None, Result, Ok, Err, string_bytes}
 use Rattle.std.specs.Prelude.{String, Bool, true, false, not, IsTrue, ◌↔◌}
 use Rattle.std.specs.declared.alloc.Global.{Global}
 use Rattle.std.specs.Fn.{CalledAt, Mut}
 use denote.Ref.{Bor}
 use Rattle.just_path_text.specs.declared.memory.NoMemory.{NoMemory}
-use Rattle.just_expand.specs.Code.{AnswersWithMemory}
-use Rattle.just_expand.specs.Contexts.{reply_of}
+use Rattle.just_expand.specs.Code.{AnswersWithMemory, PutsOrFails, PutsPiece}
+use Rattle.just_expand.specs.Contexts.{reply_of, IsCause}
+use Rattle.just_expand.specs.declared.error.Expand.{Expand}
+use Rattle.just_expand.specs.declared.error.Expand.TheVariants as expand
 use Rattle.std.proofs.lemmas.Fn.{FoldsTo-push}
-use Rattle.just_expand.specs.Bytes.{close_brace}
-use Rattle.just_expand.specs.Pieces.{Piece, Begins, Cuts, Lacks, StandsBefore, unclosed, piece_text}
+use Rattle.just_expand.specs.Bytes.{dollar_sign, open_brace, close_brace, colon, minus_sign}
+use Rattle.just_expand.specs.Pieces.{Piece, plain, dollar, bare, braced, defaulted, unclosed, lone, Begins, Cuts, Lacks, StandsBefore, piece_text}
 use Rattle.just_expand.specs.Expansion.{Reply, question, own_text, outcome, Puts, PutsBy, Reaches}
 use Rattle.just_expand.proofs.Lists.{lacks_right}
 
@@ -52,3 +54,46 @@ pub puts_reply : {C E : Type 0} (g : Mut C (Bor (List ℕ) × Unit {0}) (Result 
 puts_reply {C} {E} g p n x u s s' s'' r out out' q call is became to eo =
     let at : CalledAt g s n (Ok x) s'' = subst (λ k. CalledAt g s n k s'') is (subst (CalledAt g s n r) (sym to) call) in
     puts_outcome (AnswersWithMemory g) p n (reply_of x) u s s'' out out' q (x, at, refl) became eo
+
+-- and one whose answer makes it an error tells that
+pub puts_piece : {C E : Type 0} (g : Mut C (Bor (List ℕ) × Unit {0}) (Result (Result (Option (String Global)) E) NoMemory)) (p : Piece) (n : List ℕ) (x : Result (Option (String Global)) E) (s s' : C) (r : Result (Result (Option (String Global)) E) NoMemory) (out out' : List ℕ) (result : Result (Unit {0}) (Expand E))
+    → question p ≡ Some n → CalledAt g s n r s' → r ≡ Ok x → PutsOrFails out out' n (outcome p (reply_of x)) result → PutsPiece (AnswersWithMemory g) s out p s' out' result
+puts_piece {C} {E} g p n x s s' r out out' (Ok u) q call is h = puts_reply g p n x h.0 s s' s' r out out' q call is h.1 refl h.2
+puts_piece {C} {E} g p n x s s' r out out' (Err (expand.Lookup l)) q call is h =
+    let at : CalledAt g s n (Ok x) s' = subst (λ k. CalledAt g s n k s') is call in
+    (reply_of x, q ∙ ap Some (sym h.1), (x, subst (λ m. CalledAt g s m (Ok x) s') (sym h.1) at, refl), h.0)
+puts_piece {C} {E} g p n x s s' r out out' (Err expand.NoMemory) q call is h = tt
+
+-- an error that is told behind pieces that became text is the cause of the refusal
+pub cause_of : {S E : Type 0} (asks : S → List ℕ → Reply E → S → Type 0) (s : S) (t rest out : List ℕ) (s' : S) (p : Piece) (behind : List ℕ) (s'' : S) (out' : List ℕ) (e : Expand E)
+    → Reaches asks s t rest out s' → Begins rest p behind → PutsPiece asks s' out p s'' out' (Err e) → IsCause asks s t e
+cause_of asks s t rest out s' p behind s'' out' (expand.Lookup l) h b k = record {
+  rest = rest;
+  out = out;
+  state = s';
+  reached = h;
+  piece = p;
+  behind = behind;
+  begins = b;
+  asking = k.1;
+  reply = k.0;
+  last = s'';
+  asked = k.2;
+  error = k.3;
+}
+cause_of asks s t rest out s' p behind s'' out' expand.NoMemory h b k = tt
+
+-- a text with something in front of another is longer
+longer : (x : ℕ) (u behind t : List ℕ) → t ≡ x ∷ (u ++ behind) → length behind < length t
+longer x u behind t e = let n : length t ≡ length (x ∷ (u ++ behind)) = ap length e in omega (arith, length-append u behind)
+
+-- what follows a piece is shorter
+pub shorter_behind : (t : List ℕ) (p : Piece) (behind : List ℕ) → Begins t p behind → length behind < length t
+shorter_behind t (plain []) behind b = absurd (b.1.0 refl)
+shorter_behind t (plain (x ∷ xs)) behind b = longer x xs behind t b.0
+shorter_behind t dollar behind b = longer dollar_sign (dollar_sign ∷ []) behind t b.0
+shorter_behind t (bare n) behind b = longer dollar_sign n behind t b.0
+shorter_behind t (braced n) behind b = longer dollar_sign (open_brace ∷ (n ++ (close_brace ∷ []))) behind t b.0
+shorter_behind t (defaulted n d) behind b = longer dollar_sign (open_brace ∷ (n ++ (colon ∷ minus_sign ∷ (d ++ (close_brace ∷ []))))) behind t b.0
+shorter_behind t unclosed behind b = longer dollar_sign (open_brace ∷ []) behind t b.0
+shorter_behind t lone behind b = longer dollar_sign [] behind t b.0

@@ -79,7 +79,7 @@ impl<E: fmt::Display> fmt::Display for Expand<E> {
 impl<E: Error> Error for Expand<E> {}
 
 /// The error of a name that the environment doesn't have. It prints as `environment variable not found`.
-#[derive(Clone, Copy, Debug, PartialEq, Eq, Hash)]
+#[derive(Clone, Copy, Debug, PartialEq, Eq)]
 pub struct NotPresent;
 
 impl fmt::Display for NotPresent {

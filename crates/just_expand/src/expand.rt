@@ -1,11 +1,11 @@
 //! The expansion of a text's variables: its pieces, put out one by one.
-ghost use Rattle.std.specs.Prelude.{◌≡◌, ◌++◌, ◌∷◌, [], List, ℕ, Ok, Err, MatchResult, IfOk, if◌then◌else◌, string_bytes};
+ghost use Rattle.std.specs.Prelude.{◌≡◌, ◌++◌, ◌∷◌, [], List, ℕ, Ok, Err, Some, MatchResult, IfOk, if◌then◌else◌, string_bytes};
 ghost use Rattle.std.specs.Cow.{IsBorrowedStr};
 ghost use Rattle.just_expand.specs.Bytes.{dollar_sign};
 ghost use Rattle.just_expand.specs.Pieces.{piece_text, Lacks};
-ghost use Rattle.just_expand.specs.Expansion.{own_text, text_without_value, outcome, MayAsk, ExpandsTo};
+ghost use Rattle.just_expand.specs.Expansion.{question, own_text, text_without_value, outcome, MayAsk, ExpandsTo};
 ghost use Rattle.std.specs.Fn.{TakesAt, CalledAt};
-ghost use Rattle.just_expand.specs.Code.{piece_of, AnswersWithMemory, PutsOrFails};
+ghost use Rattle.just_expand.specs.Code.{piece_of, AnswersWithMemory, PutsOrFails, PutsPiece};
 ghost use Rattle.just_expand.specs.Contexts.{reply_of, IsCause, IsExpansion};
 
 use crate::error::{Expand, LookupError};
@@ -14,6 +14,22 @@ use just_path_text::NoMemory;
 use std::alloc::{AllocError, Global};
 use std::borrow::CowStr;
 
+/// Puts two texts out, one behind the other.
+fn put_two(out: &mut String, first: &str, second: &str) -> Result<(), AllocError>
+    ensures { IfOk result (λ _. string_bytes out.new ≡ string_bytes out.old ++ (first.now ++ second.now)) }
+{
+    out.push_str(first)?;
+    out.push_str(second)
+}
+
+/// Puts three texts out, one behind the other.
+fn put_three(out: &mut String, first: &str, second: &str, third: &str) -> Result<(), AllocError>
+    ensures { IfOk result (λ _. string_bytes out.new ≡ string_bytes out.old ++ (first.now ++ (second.now ++ third.now))) }
+{
+    put_two(out, first, second)?;
+    out.push_str(third)
+}
+
 /// Puts a piece out as it is written.
 fn put_piece_text(out: &mut String, piece: Piece<'_>) -> Result<(), AllocError>
     ensures { IfOk result (λ _. string_bytes out.new ≡ string_bytes out.old ++ piece_text (piece_of piece.entry)) }
@@ -21,21 +37,11 @@ fn put_piece_text(out: &mut String, piece: Piece<'_>) -> Result<(), AllocError>
     match piece {
         Piece::Plain(text) => out.push_str(text),
         Piece::Dollar => out.push_str("$$"),
-        Piece::Bare(name) => {
-            out.push_str("$")?;
-            out.push_str(name)
-        }
-        Piece::Braced(name) => {
-            out.push_str("${")?;
-            out.push_str(name)?;
-            out.push_str("}")
-        }
+        Piece::Bare(name) => put_two(out, "$", name),
+        Piece::Braced(name) => put_three(out, "${", name, "}"),
         Piece::Defaulted(name, default) => {
-            out.push_str("${")?;
-            out.push_str(name)?;
-            out.push_str(":-")?;
-            out.push_str(default)?;
-            out.push_str("}")
+            put_three(out, "${", name, ":-")?;
+            put_two(out, default, "}")
         }
         Piece::Unclosed => out.push_str("${"),
         Piece::Lone => out.push_str("$"),
@@ -96,6 +102,28 @@ where
     context(name)
 }
 
+/// Puts a piece out as its own text, or as what the context's answer to its question makes of it.
+fn put_piece<C, E>(
+    alloc: Global,
+    out: &mut String,
+    context: &mut C,
+    piece: Piece<'_>,
+) -> Result<(), Expand<E>>
+where
+    C: FnMut(&str) -> Result<Result<Option<String>, E>, NoMemory>,
+    E: Drop,
+    requires { (n : List ℕ) → question (piece_of piece) ≡ Some n → TakesAt C.FnMut context.old n }
+    ensures { PutsPiece (AnswersWithMemory C.FnMut) context.old (string_bytes out.old) (piece_of piece.entry) context.new (string_bytes out.new) result }
+{
+    match piece.question() {
+        None => Ok(put_own_text(out, piece)?),
+        Some(name) => {
+            let reply = ask(context, name)?;
+            put_outcome(alloc, out, piece, name, reply)
+        }
+    }
+}
+
 /// Expands the text's variables. `context` answers the names; it may itself be out of memory.
 pub(crate) fn expand<C, E>(alloc: Global, input: &str, mut context: C) -> Result<String, Expand<E>>
 where
@@ -108,12 +136,9 @@ where
     let mut rest = input;
     let mut may_close = true;
     while let Some((piece, behind)) = split_piece(rest, may_close) {
-        match piece.question() {
-            None => put_own_text(&mut out, piece)?,
-            Some(name) => {
-                let reply = ask(&mut context, name)?;
-                put_outcome(alloc, &mut out, piece, name, reply)?;
-            }
+        match put_piece(alloc, &mut out, &mut context, piece) {
+            Ok(()) => {}
+            Err(error) => return Err(error),
         }
         may_close = may_close && !piece.is_unclosed();
         rest = behind;

@@ -102,6 +102,29 @@ where
     Ok(CowStr::Owned(out))
 }
 
+/// The expanded text with the environment's home folder in place of its leading tilde, unless the expansion of `input`
+/// brought that.
+fn put_known_home<'a>(
+    alloc: Global,
+    input: &str,
+    expanded: CowStr<'a, Global>,
+    environ: &Environ,
+) -> Result<CowStr<'a, Global>, NoMemory>
+    requires { Lacks dollar_sign input.now → cow_str_bytes expanded ≡ input.now }
+    ensures expanded { IfOk result (λ text. OwnTildeExpandsTo (IsHome (home_of environ.now.pairs)) input.now (cow_str_bytes expanded.entry) (cow_str_bytes text)) }
+    ensures brought { BeginsWithout tilde_sign input.now → result ≡ Ok expanded.entry }
+    ensures owned { IfOk result (λ text. IsBorrowedStr text → IsBorrowedStr expanded.entry) }
+{
+    let Some(behind) = behind_own_tilde(input, &expanded) else {
+        return Ok(expanded);
+    };
+    let Some(home) = environ.home() else {
+        return Ok(expanded);
+    };
+    let out = put_home(alloc, home, behind)?;
+    Ok(CowStr::Owned(out))
+}
+
 /// Expands the variables of a text by `context`, and then a leading tilde, unless a variable brought it to the front.
 ///
 /// Answers the text by all of the crate's rules: borrowed where it has no `$` and begins with no `~`, or with one that stays.
@@ -119,7 +142,6 @@ where
 /// let text = full_with_context(alloc, "~/$A", home, context)?; // "/h/x"
 /// let kept = full_with_context(alloc, "$TILDE/b", home, context)?; // "~/b"
 /// ```
-#[tactic(auto, using(crate::proofs::OneCut::one_cut, crate::proofs::WithoutDollar::asks_nothing))]
 pub fn full_with_context<'a, H, C, E>(
     alloc: Global,
     input: &'a str,
@@ -162,7 +184,6 @@ where
 /// let x = |_name: &str| String::from_str(alloc, "x").ok();
 /// let text = full_with_context_no_errors(alloc, "~/$A", home, x)?; // "/h/x"
 /// ```
-#[tactic(auto, using(crate::proofs::OneCut::one_cut, crate::proofs::WithoutDollar::asks_nothing))]
 pub fn full_with_context_no_errors<'a, H, C>(
     alloc: Global,
     input: &'a str,
@@ -200,7 +221,6 @@ where
 /// let text = full(alloc, "~/$A", &environ)?; // "/h/x"
 /// let kept = full(alloc, "${N:-~}/$A", &environ)?; // "~/x"
 /// ```
-#[tactic(auto, using(crate::proofs::OneCut::one_cut, crate::proofs::WithoutDollar::asks_nothing))]
 pub fn full<'a>(
     alloc: Global,
     input: &'a str,
@@ -217,12 +237,8 @@ pub fn full<'a>(
         Ok(expanded) => expanded,
         Err(error) => return Err(error),
     };
-    let Some(behind) = behind_own_tilde(input, &expanded) else {
-        return Ok(expanded);
-    };
-    let Some(home) = environ.home() else {
-        return Ok(expanded);
-    };
-    let out = put_home(alloc, home, behind)?;
-    Ok(CowStr::Owned(out))
+    match put_known_home(alloc, input, expanded, environ) {
+        Ok(text) => Ok(text),
+        Err(_) => Err(Expand::NoMemory),
+    }
 }

@@ -32,7 +32,7 @@ use std::borrow::CowStr;
 pub type Xstr<'a> = Utf8Path<'a>;
 
 /// An expanded path: the one that was given, or a new one.
-#[derive(Debug, Drop)]
+#[derive(Drop)]
 pub enum Expanded<'a> {
     /// The path that was given: its text needed no expansion.
     Borrowed(Utf8Path<'a>),
@@ -60,7 +60,6 @@ fn as_path<'a, X>(expanded: Result<CowStr<'a, Global>, X>) -> Result<Expanded<'a
 /// let x = |_name: &str| -> Result<Option<String>, NotPresent> { Ok(String::from_str(alloc, "x").ok()) };
 /// let path = path::env_with_context(alloc, Utf8Path::new("~/$A"), x)?; // "~/x"
 /// ```
-#[tactic(auto, using(crate::proofs::OneCut::one_cut, crate::proofs::WithoutDollar::asks_nothing))]
 pub fn env_with_context<'a, C, E>(
     alloc: Global,
     input: Utf8Path<'a>,
@@ -88,7 +87,6 @@ where
 /// let x = |_name: &str| String::from_str(alloc, "x").ok();
 /// let path = path::env_with_context_no_errors(alloc, Utf8Path::new("b/$A"), x)?; // "b/x"
 /// ```
-#[tactic(auto, using(crate::proofs::OneCut::one_cut, crate::proofs::WithoutDollar::asks_nothing))]
 pub fn env_with_context_no_errors<'a, C>(
     alloc: Global,
     input: Utf8Path<'a>,
@@ -115,7 +113,6 @@ where
 /// // in an environment where A is `x`
 /// let path = path::env(alloc, Utf8Path::new("b/$A"), &environ)?; // "b/x"
 /// ```
-#[tactic(auto, using(crate::proofs::OneCut::one_cut, crate::proofs::WithoutDollar::asks_nothing))]
 pub fn env<'a>(
     alloc: Global,
     input: Utf8Path<'a>,
@@ -187,7 +184,6 @@ pub fn tilde<'a>(
 /// let x = |_name: &str| -> Result<Option<String>, NotPresent> { Ok(String::from_str(alloc, "x").ok()) };
 /// let path = path::full_with_context(alloc, Utf8Path::new("~/$A"), home, x)?; // "/h/x"
 /// ```
-#[tactic(auto, using(crate::proofs::OneCut::one_cut, crate::proofs::WithoutDollar::asks_nothing))]
 pub fn full_with_context<'a, H, C, E>(
     alloc: Global,
     input: Utf8Path<'a>,
@@ -221,7 +217,6 @@ where
 /// let x = |_name: &str| String::from_str(alloc, "x").ok();
 /// let path = path::full_with_context_no_errors(alloc, Utf8Path::new("~/$A"), home, x)?; // "/h/x"
 /// ```
-#[tactic(auto, using(crate::proofs::OneCut::one_cut, crate::proofs::WithoutDollar::asks_nothing))]
 pub fn full_with_context_no_errors<'a, H, C>(
     alloc: Global,
     input: Utf8Path<'a>,
@@ -253,7 +248,6 @@ where
 /// // in an environment where A is `x` and HOME is `/h`
 /// let path = path::full(alloc, Utf8Path::new("~/$A"), &environ)?; // "/h/x"
 /// ```
-#[tactic(auto, using(crate::proofs::OneCut::one_cut, crate::proofs::WithoutDollar::asks_nothing))]
 pub fn full<'a>(
     alloc: Global,
     input: Utf8Path<'a>,

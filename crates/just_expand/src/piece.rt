@@ -9,7 +9,7 @@ ghost use Rattle.just_expand.specs.Code.{piece_of};
 use unicode::properties::{GeneralCategory, GeneralCategoryGroup, is_alphabetic};
 
 /// A piece of a text.
-#[derive(Clone, Copy, Debug, Drop)]
+#[derive(Clone, Copy, Drop)]
 pub(crate) enum Piece<'a> {
     /// Text without `$`.
     Plain(&'a str),

@@ -45,7 +45,6 @@ pub type WInput<'a> = &'a str;
 /// };
 /// let text = env_with_context(alloc, "$A-${N:-b}-$N", context)?; // "x-b-$N"
 /// ```
-#[tactic(auto, using(crate::proofs::OneCut::one_cut, crate::proofs::WithoutDollar::asks_nothing))]
 pub fn env_with_context<'a, C, E>(
     alloc: Global,
     input: &'a str,
@@ -82,7 +81,6 @@ where
 /// let x = |_name: &str| String::from_str(alloc, "x").ok();
 /// let text = env_with_context_no_errors(alloc, "a$B", x)?; // "ax"
 /// ```
-#[tactic(auto, using(crate::proofs::OneCut::one_cut, crate::proofs::WithoutDollar::asks_nothing))]
 pub fn env_with_context_no_errors<'a, C>(
     alloc: Global,
     input: &'a str,
@@ -140,7 +138,6 @@ fn look_up(
 /// let text = env(alloc, "$A-${N:-b}", &environ)?; // "x-b"
 /// let refused = env(alloc, "$A$N", &environ); // error looking key 'N' up: environment variable not found
 /// ```
-#[tactic(auto, using(crate::proofs::OneCut::one_cut, crate::proofs::WithoutDollar::asks_nothing))]
 pub fn env<'a>(
     alloc: Global,
     input: &'a str,

@@ -3,7 +3,7 @@ ghost use Rattle.std.specs.Prelude.{◌≡◌, MatchResult, IfErr, IfOk, IsUtf8}
 ghost use Rattle.std.specs.Fmt.{WritesOnOk};
 ghost use Rattle.std.specs.Str.Lossy.{utf8_lossy};
 ghost use Rattle.std.specs.Str.Chunks.{utf8_chunk_valid, utf8_chunk_invalid};
-ghost use Rattle.just_path.specs.Utf8.{Breaks, chunk_shown};
+ghost use Rattle.just_path.specs.Utf8.{Breaks, chunk_shown, shown_with};
 
 use std::str::Utf8Chunk;
 use std::{fmt, str};
@@ -56,4 +56,16 @@ pub(crate) fn write_lossy<W: fmt::Write>(bytes: &[u8], f: &mut fmt::Formatter<W>
         write_chunk(&chunk, f)?;
     }
     Ok(())
+}
+
+/// Writes a text, and behind it bytes with U+FFFD for each broken sequence.
+pub(crate) fn write_behind<W: fmt::Write>(
+    head: &str,
+    bytes: &[u8],
+    f: &mut fmt::Formatter<W>,
+) -> fmt::Result
+    ensures { WritesOnOk W.write_str_gives f.old result (shown_with head.now bytes.now) f.new }
+{
+    f.write_str(head)?;
+    write_lossy(bytes, f)
 }

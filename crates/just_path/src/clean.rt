@@ -42,11 +42,9 @@ fn made(alloc: Global, text: &str) -> Result<Utf8PathBuf, NoMemory>
     let kept = kept_of(alloc, Utf8Components::new(text))?;
     let components = kept.as_slice();
     if components.is_empty() {
-        let path = Utf8PathBuf::from_str(alloc, ".")?;
-        return Ok(path);
+        return Utf8PathBuf::from_str(alloc, ".");
     }
-    let path = path_of(alloc, components)?;
-    Ok(path)
+    path_of(alloc, components)
 }
 
 /// The components that stay.
@@ -73,10 +71,23 @@ fn put<'a>(kept: &mut Vec<Utf8Component<'a>>, component: Utf8Component<'a>) -> R
     match component {
         Utf8Component::CurDir => Ok(()),
         Utf8Component::ParentDir => put_parent(kept),
-        Utf8Component::Prefix(_) => Ok(kept.push(component)?),
-        Utf8Component::RootDir => Ok(kept.push(component)?),
-        Utf8Component::Normal(_) => Ok(kept.push(component)?),
+        Utf8Component::Prefix(_) => push_on(kept, component),
+        Utf8Component::RootDir => push_on(kept, component),
+        Utf8Component::Normal(_) => push_on(kept, component),
     }
+}
+
+/// Puts a component behind those that stay, where no rewrite begins.
+fn push_on<'a>(
+    kept: &mut Vec<Utf8Component<'a>>,
+    component: Utf8Component<'a>,
+) -> Result<(), NoMemory>
+    requires { is_reduced (comps_of kept.old.items ++ comp_of component ∷ []) ≡ true }
+    ensures reduced { OnOk result (is_reduced (comps_of kept.new.items) ≡ true) }
+    ensures same { OnOk result ((rest : List Comp) → normal_form (comps_of kept.new.items ++ rest) ≡ normal_form (comps_of kept.old.items ++ comp_of component.entry ∷ rest)) }
+{
+    kept.push(component)?;
+    Ok(())
 }
 
 /// Puts a `..` behind those that stay.
@@ -91,7 +102,7 @@ fn put_parent(kept: &mut Vec<Utf8Component<'_>>) -> Result<(), NoMemory>
     };
     match last {
         Utf8Component::Normal(_) => Ok(()),
-        Utf8Component::RootDir => Ok(kept.push(last)?),
+        Utf8Component::RootDir => push_on(kept, last),
         Utf8Component::Prefix(_) => put_back(kept, last),
         Utf8Component::CurDir => put_back(kept, last),
         Utf8Component::ParentDir => put_back(kept, last),

@@ -13,11 +13,20 @@ use std::alloc::Global;
 use std::iter::FusedIterator;
 
 /// An entry of a listed folder.
-#[derive(Debug, Drop)]
 pub struct Utf8DirEntry {
     path: Utf8PathBuf,
     name: Text,
     kind: Kind,
+}
+
+impl Drop for Utf8DirEntry {
+    fn drop(self) {
+        let Utf8DirEntry {
+            path: _,
+            name: _,
+            kind: _,
+        } = self;
+    }
 }
 
 impl Utf8DirEntry {
@@ -76,13 +85,17 @@ impl Utf8DirEntry {
     pub fn into_path(self) -> Utf8PathBuf
         ensures { result ≡ self.path }
     {
-        let Utf8DirEntry { path, .. } = self;
+        let Utf8DirEntry {
+            path,
+            name: _,
+            kind: _,
+        } = self;
         path
     }
 }
 
 /// The entries of a listed folder, in byte order of their names.
-#[derive(Debug, Drop)]
+#[derive(Drop)]
 pub struct ReadDirUtf8 {
     /// What is still to come, from the last on.
     rest: Vec<Utf8DirEntry>,
@@ -138,9 +151,17 @@ fn entries_of(
     let mut left = items;
     let mut entries = Vec::with_capacity(alloc, left.len())?;
     while let Some(item) = left.pop() {
-        let Item { name, kind } = item;
-        let path = folder.join(alloc, Utf8Path::new(name.as_str()))?;
-        entries.push(Utf8DirEntry { path, name, kind })?;
+        let entry = entry_of(alloc, folder, item)?;
+        entries.push_reserved(entry);
     }
     Ok(entries)
+}
+
+/// The entry of an item of a folder.
+fn entry_of(alloc: Global, folder: Utf8Path<'_>, item: Item) -> Result<Utf8DirEntry, NoMemory>
+    ensures { IfOk result (λ e. e ≡ entry_of (text_of folder.entry) item) }
+{
+    let path = folder.join(alloc, Utf8Path::new(item.name.as_str()))?;
+    let Item { name, kind } = item;
+    Ok(Utf8DirEntry { path, name, kind })
 }

@@ -42,6 +42,21 @@ fn truncate(text: &mut String, end: usize)
     text.truncate(end);
 }
 
+/// Puts two texts at the end, where there is room for both.
+fn put_both(text: &mut String, first: &str, second: &str)
+    requires { string_len text.old + (length first.now + length second.now) ≤ string_capacity text.old }
+    ensures { string_bytes text.new ≡ string_bytes text.old ++ (first.now ++ second.now) }
+{
+    match text.push_str(first) {
+        Ok(()) => {}
+        Err(_) => unreachable!(),
+    }
+    match text.push_str(second) {
+        Ok(()) => {}
+        Err(_) => unreachable!(),
+    }
+}
+
 /// The push rule; it is refused only where there is no room for the path and a slash.
 fn push(text: &mut String, path: &str) -> Result<(), NoMemory>
     ensures ok { OnOk result (string_bytes text.new ≡ pushed (string_bytes text.old) path.now) }
@@ -53,10 +68,14 @@ fn push(text: &mut String, path: &str) -> Result<(), NoMemory>
     text.reserve(added.len().saturating_add(1))?;
     if path.is_absolute() {
         text.clear();
-    } else if needs_slash(text.as_str()) {
-        text.push_str("/")?;
+        put_both(text, "", added);
+        return Ok(());
     }
-    text.push_str(added)?;
+    if needs_slash(text.as_str()) {
+        put_both(text, "/", added);
+        return Ok(());
+    }
+    put_both(text, "", added);
     Ok(())
 }
 
@@ -98,8 +117,7 @@ fn put_extension(text: &mut String, extension: &str) -> Result<(), NoMemory>
         return Ok(());
     }
     text.reserve(extension.len().saturating_add(1))?;
-    text.push_str(".")?;
-    text.push_str(extension)?;
+    put_both(text, ".", extension);
     Ok(())
 }
 

@@ -4,7 +4,7 @@ ghost use Rattle.just_path.specs.declared.broken.Broken.{Broken};
 ghost use Rattle.just_path.specs.Utf8.{shown_with};
 ghost use Rattle.just_path.specs.Errors.{path_place, os_str_place, path_buf_bytes, path_buf_place, os_string_bytes, os_string_place, boxed_path_bytes, boxed_path_place};
 
-use super::broken::{Broken, write_lossy};
+use super::broken::{Broken, write_behind};
 use super::{FromOsStrError, FromPathError, Miss, PathFault};
 use std::error::Error;
 use std::fmt;
@@ -58,8 +58,7 @@ impl fmt::Display for FromPathBufError {
     ghost output = { λ e. Some (shown_with (codes "PathBuf contains invalid UTF-8: ") (path_buf_bytes e).items) };
 
     fn fmt<W: fmt::Write>(&self, f: &mut fmt::Formatter<W>) -> fmt::Result {
-        f.write_str("PathBuf contains invalid UTF-8: ")?;
-        write_lossy(self.bytes.as_slice(), f)
+        write_behind("PathBuf contains invalid UTF-8: ", self.bytes.as_slice(), f)
     }
 }
 
@@ -114,8 +113,11 @@ impl fmt::Display for FromOsStringError {
     ghost output = { λ e. Some (shown_with (codes "OsString contains invalid UTF-8: ") (os_string_bytes e).items) };
 
     fn fmt<W: fmt::Write>(&self, f: &mut fmt::Formatter<W>) -> fmt::Result {
-        f.write_str("OsString contains invalid UTF-8: ")?;
-        write_lossy(self.bytes.as_slice(), f)
+        write_behind(
+            "OsString contains invalid UTF-8: ",
+            self.bytes.as_slice(),
+            f,
+        )
     }
 }
 
@@ -170,8 +172,11 @@ impl fmt::Display for FromBoxedPathError {
     ghost output = { λ e. Some (shown_with (codes "Box<Path> contains invalid UTF-8: ") (boxed_path_bytes e).items) };
 
     fn fmt<W: fmt::Write>(&self, f: &mut fmt::Formatter<W>) -> fmt::Result {
-        f.write_str("Box<Path> contains invalid UTF-8: ")?;
-        write_lossy(self.bytes.as_slice(), f)
+        write_behind(
+            "Box<Path> contains invalid UTF-8: ",
+            self.bytes.as_slice(),
+            f,
+        )
     }
 }
 

@@ -21,7 +21,7 @@ pub enum Miss {
 }
 
 /// Why a call of a `PathHost` has no answer.
-#[derive(Clone, Copy, Debug, PartialEq, Eq, Hash)]
+#[derive(Clone, Copy, Debug, PartialEq, Eq)]
 pub enum PathFault {
     Missed(Miss),
     Failed,
@@ -29,7 +29,7 @@ pub enum PathFault {
 }
 
 /// The calls of a `PathHost`.
-#[derive(Clone, Copy, Debug, PartialEq, Eq, Hash)]
+#[derive(Clone, Copy)]
 pub enum PathCall {
     Meta,
     List,
@@ -39,7 +39,7 @@ pub enum PathCall {
 }
 
 /// What one call of a `PathHost` leaves to be known: nothing, the miss of a path, or the call that failed.
-#[derive(Debug, Drop)]
+#[derive(Drop)]
 pub enum PathNote {
     Nothing,
     Missed(Utf8PathBuf, Miss),

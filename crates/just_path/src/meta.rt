@@ -2,7 +2,7 @@
 use just_path_text::{NoMemory, Text, TryClone};
 
 /// What stands at a path.
-#[derive(Clone, Copy, Debug, PartialEq, Eq, Hash)]
+#[derive(Clone, Copy, Debug, PartialEq, Eq)]
 pub enum Kind {
     File,
     Folder,
@@ -12,7 +12,7 @@ pub enum Kind {
 }
 
 /// What is known of what stands at a path.
-#[derive(Clone, Copy, Debug, PartialEq, Eq, Hash)]
+#[derive(Clone, Copy, Debug, PartialEq, Eq)]
 pub struct Meta {
     pub kind: Kind,
     /// The bytes of a file, or of a link's target.
@@ -22,7 +22,7 @@ pub struct Meta {
 }
 
 /// What stands in a listed folder under a name. A link is not followed.
-#[derive(Debug, Drop)]
+#[derive(Drop)]
 pub struct Item {
     pub name: Text,
     pub kind: Kind,

@@ -86,12 +86,9 @@ fn put_on(alloc: Global, base: &str, path: Utf8Path<'_>) -> Result<Utf8PathBuf, 
     if path.is_absolute() {
         return path.to_path_buf(alloc);
     }
-    let mut text = String::from_str(alloc, base)?;
-    if needs_slash(base) {
-        text.push_str("/")?;
-    }
-    text.push_str(path.text)?;
-    Ok(Utf8PathBuf::from(text))
+    let mut joined = Utf8PathBuf::from_str(alloc, base)?;
+    joined.push(path)?;
+    Ok(joined)
 }
 
 /// Whether a `/` goes between this text and what is pushed on it.

@@ -7,9 +7,14 @@ use just_path_text::{NoMemory, TryClone};
 use std::marker::Model;
 
 /// An owned path, which contracts see as the list of its text's bytes.
-#[derive(Drop)]
 pub struct Utf8PathBuf {
     pub(crate) text: String,
+}
+
+impl Drop for Utf8PathBuf {
+    fn drop(self) {
+        let Utf8PathBuf { text: _ } = self;
+    }
 }
 
 impl Model for Utf8PathBuf {

@@ -1,11 +1,12 @@
 //! Paths made of a path: with another name or extension; and its text as bytes.
-ghost use Rattle.std.specs.Prelude.{◌≡◌, not, IfOk, IsTrue};
+ghost use Rattle.std.specs.Prelude.{◌≡◌, ◌++◌, ◌∷◌, if◌then◌else◌, not, IfOk, IsTrue, OnOk};
 ghost use Rattle.just_path.specs.Path.{text_of, pushed, is_absolute};
 ghost use Rattle.just_path.specs.Names.{with_file_name, with_extension, with_added_extension, has_no_slash};
 
+use super::path::needs_slash;
 use super::{Utf8Path, Utf8PathBuf};
 use just_path_text::NoMemory;
-use std::alloc::Global;
+use std::alloc::{AllocError, Global};
 
 impl<'a> Utf8Path<'a> {
     /// The text's bytes.
@@ -111,10 +112,18 @@ impl<'a> Utf8Path<'a> {
             return Ok(Vec::from_slice(alloc, path)?);
         }
         let mut bytes = Vec::from_slice(alloc, self.as_os_str())?;
-        if super::path::needs_slash(self.as_str()) {
-            bytes.push(b'/')?;
-        }
-        bytes.extend_from_slice(path)?;
+        put_behind(&mut bytes, needs_slash(self.as_str()), path)?;
         Ok(bytes)
     }
+}
+
+/// Puts bytes on, behind a `/` where one is wanted.
+fn put_behind(bytes: &mut Vec<u8>, slash: bool, path: &[u8]) -> Result<(), AllocError>
+    ensures { OnOk result (bytes.new.items ≡ (if slash then bytes.old.items ++ (47 ∷ path.now) else bytes.old.items ++ path.now)) }
+{
+    if slash {
+        bytes.push(b'/')?;
+    }
+    bytes.extend_from_slice(path)?;
+    Ok(())
 }

@@ -2,8 +2,9 @@
 use Rattle.std.proofs.Common.{◌≡◌, true, false, chars, Some, None, Ok, Err, sym, ◌∙◌, subst, rules}
 use Rattle.just_lang_read.specs.Place.{is_end}
 use Rattle.just_dotenv.specs.Meaning.{Pairs}
+use Rattle.just_dotenv.specs.File.{Gives}
 use Rattle.just_dotenv.specs.Readers.{as_line, line, ReadsLine}
-use Rattle.just_dotenv.proofs.FileLaws.{UpTo, up_to_more, up_to_end, one_gift, none_given}
+use Rattle.just_dotenv.proofs.FileLaws.{UpTo, up_to_more, up_to_end, turn_shorter, one_gift, none_given, refused_for}
 use Rattle.just_dotenv.proofs.file.read.Goals as goal
 
 pub lines-preserved : goal.lines-preserved
@@ -33,3 +34,27 @@ returns-in-Err-clause-all c = λ pairs g.
     let goes_on : is_end c.lines.cursor ≡ false = search rules in
     none_given (chars c.args.text.now) c.args.environ.now.pairs c.lines.pairs.items pairs c.lines.cursor c.next_pair.new.cursor c.in-Err.refusal c.lines.invariant goes_on
     (subst (λ (l : Pairs). ReadsLine (as_line c.args.environ.now.pairs l line c.lines.cursor) c.lines.cursor.line (Err c.in-Err.refusal) c.next_pair.new.cursor) c.as_slice-in-lines.ensures.value c.in-Err.ensures) g
+
+pub lines-smaller : goal.lines-smaller
+lines-smaller c =
+    let goes_on : is_end c.lines.cursor ≡ false = search rules in
+    let read : as_line c.args.environ.now.pairs c.as_slice-in-lines.result.now line c.lines.cursor ≡ Ok (None, c.next_pair.new.cursor) = rw c.in-Ok-None.field-0-is at c.in-Ok-None.ensures in
+    turn_shorter c.args.environ.now.pairs c.as_slice-in-lines.result.now c.lines.cursor c.next_pair.new.cursor None goes_on read
+
+pub lines-smaller-in-Continue-branch-2 : goal.lines-smaller-in-Continue-branch-2
+lines-smaller-in-Continue-branch-2 c =
+    let goes_on : is_end c.lines.cursor ≡ false = search rules in
+    let read : as_line c.args.environ.now.pairs c.as_slice-in-lines.result.now line c.lines.cursor ≡ Ok (Some c.in-Ok-Some.pair, c.next_pair.new.cursor) = rw c.in-Ok-Some.field-0-is at c.in-Ok-Some.ensures in
+    turn_shorter c.args.environ.now.pairs c.as_slice-in-lines.result.now c.lines.cursor c.next_pair.new.cursor (Some c.in-Ok-Some.pair) goes_on read
+
+pub returns-clause-given : goal.returns-clause-given
+returns-clause-given c =
+    let e : is_end c.lines.cursor ≡ true = search rules in
+    subst (λ (l : Pairs). Gives (chars c.args.text.now) c.args.environ.now.pairs l) (sym c.from.ensures)
+    (up_to_end (chars c.args.text.now) c.args.environ.now.pairs c.lines.pairs.items c.lines.cursor c.lines.invariant e)
+
+pub returns-in-Err-clause-refused : goal.returns-in-Err-clause-refused
+returns-in-Err-clause-refused c =
+    let goes_on : is_end c.lines.cursor ≡ false = search rules in
+    refused_for (chars c.args.text.now) c.args.environ.now.pairs c.lines.pairs.items c.lines.cursor c.next_pair.new.cursor c.in-Err.refusal c.lines.invariant goes_on
+    (subst (λ (l : Pairs). ReadsLine (as_line c.args.environ.now.pairs l line c.lines.cursor) c.lines.cursor.line (Err c.in-Err.refusal) c.next_pair.new.cursor) c.as_slice-in-lines.ensures.value c.in-Err.ensures)

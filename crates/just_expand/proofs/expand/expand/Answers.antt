@@ -1,34 +1,35 @@
--- Each turn puts out one more piece, by its own text or by the answer to its question.
-use Rattle.std.proofs.Common.{rules, ◌∙◌, string_bytes, sym, ap}
-use Rattle.std.specs.Option.{option_copied}
+-- Each turn puts out one more piece; where no piece is left the whole is put out, and an error is the cause of the refusal.
+use Rattle.std.proofs.Common.{List, ℕ, rules, string_bytes, subst}
+use Rattle.just_expand.specs.Expansion.{Reaches}
 use Rattle.just_expand.specs.Code.{AnswersWithMemory}
-use Rattle.just_expand.proofs.NextPiece.{puts_own_text, puts_reply, reaches_more, lacks_behind, lacks_closing}
+use Rattle.just_expand.proofs.NextPiece.{reaches_more, lacks_behind, lacks_closing, cause_of, shorter_behind}
 use Rattle.just_expand.proofs.expand.expand.Goals as goal
-use Rattle.just_expand.proofs.expand.expand.Goals.{in-None+in_ok-put_own_text-in-None, in-Some-question+in_ok-reply-in-Some-question+in_ok-put_outcome-in-Some-question}
 
-pub ask-requires : goal.ask-requires
-ask-requires g c = c.requires _ _ _ _ _ _ c.loop-piece.invariant.reached c.in-Some.ensures (sym c.question.ensures ∙ ap option_copied c.in-Some-question.is)
+pub put_piece-requires : goal.put_piece-requires
+put_piece-requires g c = λ n q. c.requires _ _ _ _ _ n c.loop-piece.invariant.reached c.in-Some.ensures q
 
 pub loop-piece-preserved-then-may_close : goal.loop-piece-preserved-then-may_close
 loop-piece-preserved-then-may_close g c = record {
-  reached = reaches_more (AnswersWithMemory g.C.FnMut) _ _ _ _ _ _ _ _ _ c.loop-piece.invariant.reached c.in-Some.ensures (elim c.match-question.branch [
-    | in-None+in_ok-put_own_text-in-None w ↦ puts_own_text (AnswersWithMemory g.C.FnMut) _ _ _ _ _ (sym c.question.ensures ∙ ap option_copied w.in-None.is) w.context-is (ap string_bytes w.out-is ∙ w.in_ok-put_own_text-in-None.ensures)
-    | in-Some-question+in_ok-reply-in-Some-question+in_ok-put_outcome-in-Some-question w ↦
-        let put = w.in_ok-put_outcome-in-Some-question.ensures in
-        puts_reply g.C.FnMut _ _ w.in_ok-reply-in-Some-question.reply put.0 _ _ _ _ _ _ (sym c.question.ensures ∙ ap option_copied w.in-Some-question.is) w.ask.ensures w.in_ok-reply-in-Some-question.was put.1 w.context-is (ap string_bytes w.out-is ∙ put.2)
-  ]);
+  reached = reaches_more (AnswersWithMemory g.C.FnMut) _ _ _ _ _ _ _ _ _ c.loop-piece.invariant.reached c.in-Some.ensures c.in-Ok.ensures;
   closing = λ e. lacks_closing _ _ _ _ c.in-Some.ensures c.is_unclosed.ensures e;
   text = search rules;
 }
 
 pub loop-piece-preserved : goal.loop-piece-preserved
 loop-piece-preserved g c = record {
-  reached = reaches_more (AnswersWithMemory g.C.FnMut) _ _ _ _ _ _ _ _ _ c.loop-piece.invariant.reached c.in-Some.ensures (elim c.match-question.branch [
-    | in-None+in_ok-put_own_text-in-None w ↦ puts_own_text (AnswersWithMemory g.C.FnMut) _ _ _ _ _ (sym c.question.ensures ∙ ap option_copied w.in-None.is) w.context-is (ap string_bytes w.out-is ∙ w.in_ok-put_own_text-in-None.ensures)
-    | in-Some-question+in_ok-reply-in-Some-question+in_ok-put_outcome-in-Some-question w ↦
-        let put = w.in_ok-put_outcome-in-Some-question.ensures in
-        puts_reply g.C.FnMut _ _ w.in_ok-reply-in-Some-question.reply put.0 _ _ _ _ _ _ (sym c.question.ensures ∙ ap option_copied w.in-Some-question.is) w.ask.ensures w.in_ok-reply-in-Some-question.was put.1 w.context-is (ap string_bytes w.out-is ∙ put.2)
-  ]);
+  reached = reaches_more (AnswersWithMemory g.C.FnMut) _ _ _ _ _ _ _ _ _ c.loop-piece.invariant.reached c.in-Some.ensures c.in-Ok.ensures;
   closing = λ e. lacks_behind 125 _ _ _ c.in-Some.ensures (c.loop-piece.invariant.closing c.if-may_close.false);
   text = search rules;
 }
+
+pub loop-piece-smaller-then-may_close : goal.loop-piece-smaller-then-may_close
+loop-piece-smaller-then-may_close g c = shorter_behind _ _ _ c.in-Some.ensures
+
+pub loop-piece-smaller : goal.loop-piece-smaller
+loop-piece-smaller g c = shorter_behind _ _ _ c.in-Some.ensures
+
+pub returns-in-Err : goal.returns-in-Err
+returns-in-Err g c = cause_of (AnswersWithMemory g.C.FnMut) _ _ _ _ _ _ _ c.put_piece.new.context (string_bytes c.put_piece.new.out) c.in-Err.error c.loop-piece.invariant.reached c.in-Some.ensures c.in-Err.ensures
+
+pub returns : goal.returns
+returns g c = (c.loop-piece.context, subst (λ (r : List ℕ). Reaches (AnswersWithMemory g.C.FnMut) c.args.context c.args.input.now r (string_bytes c.loop-piece.out) c.loop-piece.context) c.in_default.ensures c.loop-piece.invariant.reached)

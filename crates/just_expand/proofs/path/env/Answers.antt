@@ -5,6 +5,8 @@ use Rattle.just_expand.specs.Bytes.{dollar_sign}
 use Rattle.just_expand.specs.Pieces.{Lacks}
 use Rattle.just_expand.specs.Contexts.{EnvironAnswers}
 use Rattle.just_expand.proofs.OverPaths.{expansion_over_path, same_path_over_path, borrowed_without_dollar}
+use Rattle.just_expand.proofs.OneCut.{one_cut}
+use Rattle.just_expand.proofs.WithoutDollar.{asks_nothing}
 use Rattle.just_expand.proofs.path.env.Goals as goal
 
 pub returns-clause-expanded : goal.returns-clause-expanded
@@ -15,3 +17,9 @@ returns-clause-borrowed c = λ h0. same_path_over_path c.as_str.result (text_of 
 
 pub returns-clause-owned : goal.returns-clause-owned
 returns-clause-owned c = borrowed_without_dollar c.as_str.result.now (text_of c.args.input) _ _ c.as_str.ensures c.as_path.ensures c.env.ensures.owned
+
+pub returns-clause-one_cut : goal.returns-clause-one_cut
+returns-clause-one_cut c = one_cut (text_of c.args.input)
+
+pub returns-clause-unasked : goal.returns-clause-unasked
+returns-clause-unasked c = λ lacks. asks_nothing EnvironAnswers c.args.environ.now.pairs (text_of c.args.input) lacks

@@ -7,6 +7,8 @@ use Rattle.just_expand.specs.Pieces.{Lacks}
 use Rattle.just_expand.specs.Expansion.{MayAsk}
 use Rattle.just_expand.specs.Contexts.{Answers}
 use Rattle.just_expand.proofs.OverPaths.{expansion_over_path, same_path_over_path, borrowed_without_dollar}
+use Rattle.just_expand.proofs.OneCut.{one_cut}
+use Rattle.just_expand.proofs.WithoutDollar.{asks_nothing}
 use Rattle.just_expand.proofs.path.env_with_context.Goals as goal
 
 pub env_with_context-requires : goal.env_with_context-requires
@@ -20,3 +22,9 @@ returns-clause-borrowed g c = λ h0. same_path_over_path c.as_str.result (text_o
 
 pub returns-clause-owned : goal.returns-clause-owned
 returns-clause-owned g c = borrowed_without_dollar c.as_str.result.now (text_of c.args.input) _ _ c.as_str.ensures c.as_path.ensures c.env_with_context.ensures.owned
+
+pub returns-clause-one_cut : goal.returns-clause-one_cut
+returns-clause-one_cut g c = one_cut (text_of c.args.input)
+
+pub returns-clause-unasked : goal.returns-clause-unasked
+returns-clause-unasked g c = λ lacks. asks_nothing (Answers g.C.FnMut) c.args.context (text_of c.args.input) lacks

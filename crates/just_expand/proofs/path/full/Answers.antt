@@ -7,6 +7,8 @@ use Rattle.just_expand.specs.Expansion.{ExpandsTo}
 use Rattle.just_expand.specs.Contexts.{EnvironAnswers, IsHome}
 use Rattle.just_path_text.specs.Environ.{home_of}
 use Rattle.just_expand.proofs.OverPaths.{sure_over_path, full_expansion_over_path, same_path_over_path, borrowed_without_dollar}
+use Rattle.just_expand.proofs.OneCut.{one_cut}
+use Rattle.just_expand.proofs.WithoutDollar.{asks_nothing}
 use Rattle.just_expand.proofs.path.full.Goals as goal
 
 pub returns-clause-expanded : goal.returns-clause-expanded
@@ -20,3 +22,9 @@ returns-clause-brought c = λ h0. sure_over_path (ExpandsTo EnvironAnswers c.arg
 
 pub returns-clause-owned : goal.returns-clause-owned
 returns-clause-owned c = borrowed_without_dollar c.as_str.result.now (text_of c.args.input) _ _ c.as_str.ensures c.as_path.ensures c.full.ensures.owned
+
+pub returns-clause-one_cut : goal.returns-clause-one_cut
+returns-clause-one_cut c = one_cut (text_of c.args.input)
+
+pub returns-clause-unasked : goal.returns-clause-unasked
+returns-clause-unasked c = λ lacks. asks_nothing EnvironAnswers c.args.environ.now.pairs (text_of c.args.input) lacks

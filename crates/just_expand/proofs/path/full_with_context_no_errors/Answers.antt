@@ -8,6 +8,8 @@ use Rattle.just_expand.specs.Expansion.{MayAsk, ExpandsTo}
 use Rattle.just_expand.specs.Tilde.{MayAskHome, FullyExpandsTo}
 use Rattle.just_expand.specs.Contexts.{AnswersWithoutError, GivesHome, MayCall}
 use Rattle.just_expand.proofs.OverPaths.{sure_over_path, same_path_over_path, borrowed_without_dollar}
+use Rattle.just_expand.proofs.OneCut.{one_cut}
+use Rattle.just_expand.proofs.WithoutDollar.{asks_nothing}
 use Rattle.just_expand.proofs.path.full_with_context_no_errors.Goals as goal
 
 pub full_with_context_no_errors-requires-clause-asked : goal.full_with_context_no_errors-requires-clause-asked
@@ -27,3 +29,9 @@ returns-clause-brought g c = λ h0. sure_over_path (ExpandsTo (AnswersWithoutErr
 
 pub returns-clause-owned : goal.returns-clause-owned
 returns-clause-owned g c = borrowed_without_dollar c.as_str.result.now (text_of c.args.input) _ _ c.as_str.ensures c.as_path.ensures c.full_with_context_no_errors.ensures.owned
+
+pub returns-clause-one_cut : goal.returns-clause-one_cut
+returns-clause-one_cut g c = one_cut (text_of c.args.input)
+
+pub returns-clause-unasked : goal.returns-clause-unasked
+returns-clause-unasked g c = λ lacks. asks_nothing (AnswersWithoutError g.C.FnMut) c.args.context (text_of c.args.input) lacks

@@ -3,6 +3,8 @@ use Rattle.std.proofs.Common.{subst, ◌∙◌, ap}
 use Rattle.std.specs.Fn.{CalledAt, TakesAt}
 use Rattle.just_expand.specs.Contexts.{AnswersWithoutError, reply_of}
 use Rattle.just_expand.proofs.Transfer.{expands_to, may_ask, call_answers}
+use Rattle.just_expand.proofs.OneCut.{one_cut}
+use Rattle.just_expand.proofs.WithoutDollar.{asks_nothing}
 use Rattle.just_expand.proofs.texts.env_with_context_no_errors.Goals as goal
 
 pub env_with_context-expanded-requires : goal.env_with_context-expanded-requires
@@ -18,3 +20,15 @@ returns-in-Ok-clause-expanded g c =
     let h = call_answers _ k.0 _ k.1.called.met.1 in
     (h.0, subst (λ m. CalledAt g.C.FnMut s.0.now m h.0 s'.0.now) k.1.shows h.1, k.2 ∙ ap reply_of h.2))
     _ _ _ c.in-Ok.ensures.expanded
+
+pub returns-in-Ok-clause-one_cut : goal.returns-in-Ok-clause-one_cut
+returns-in-Ok-clause-one_cut g c = one_cut c.args.input.now
+
+pub returns-in-Ok-clause-unasked : goal.returns-in-Ok-clause-unasked
+returns-in-Ok-clause-unasked g c = λ lacks. asks_nothing (AnswersWithoutError g.C.FnMut) c.args.context c.args.input.now lacks
+
+pub returns-in-Err-NoMemory-clause-one_cut : goal.returns-in-Err-NoMemory-clause-one_cut
+returns-in-Err-NoMemory-clause-one_cut g c = one_cut c.args.input.now
+
+pub returns-in-Err-NoMemory-clause-unasked : goal.returns-in-Err-NoMemory-clause-unasked
+returns-in-Err-NoMemory-clause-unasked g c = λ lacks. asks_nothing (AnswersWithoutError g.C.FnMut) c.args.context c.args.input.now lacks

@@ -1,6 +1,7 @@
 -- By the last component that stays.
 use Rattle.std.proofs.Common.{◌≡◌, ◌∙◌, sym, ap, refl, List, [], ◌∷◌, ◌++◌, false, append_assoc}
 use Rattle.std.proofs.lemmas.List.{map_push}
+use Rattle.std.proofs.lemmas.Result.{on_ok_weaker}
 use Rattle.just_path.specs.Comps.{Comp, parent, root, current, normal}
 use Rattle.just_path.specs.Component.{comp_of}
 use Rattle.just_path.specs.declared.component.Utf8Component.{Utf8Component}
@@ -24,14 +25,23 @@ returns-in-Normal-clause-same c = λ rest.
     sym (ap (λ cs. normal_form (cs ++ parent ∷ rest)) (t ∙ ap (λ x. ks ++ comp_of x ∷ []) c.in-Normal.is) ∙ ap normal_form (append_assoc ks (normal c.in-Normal.field-0.now ∷ []) (parent ∷ rest))
     ∙ drops_pair ks rest c.in-Normal.field-0.now)
 
-pub returns-in_ok-push-in-RootDir-clause-same : goal.returns-in_ok-push-in-RootDir-clause-same
-returns-in_ok-push-in-RootDir-clause-same c = λ rest.
-    let ks : List Comp = comps_of c.pop.new.self.items in
+pub push_on-requires : goal.push_on-requires
+push_on-requires c =
     let t = one_more c.pop.new.self.items c.args.kept.now.items c.in-Some.last c.in-Some.ensures.items in
-    let u = one_more c.pop.new.self.items c.push-in-RootDir.new.self.items c.in-Some.last c.in_ok-push-in-RootDir.ensures.items in
+    ap is_reduced (sym t) ∙ c.requires
+
+pub returns-in-RootDir-clause-same : goal.returns-in-RootDir-clause-same
+returns-in-RootDir-clause-same c =
+    let ks : List Comp = comps_of c.pop.new.self.items in
+    let new : List Comp = comps_of c.push_on.new.kept.items in
+    let t = one_more c.pop.new.self.items c.args.kept.now.items c.in-Some.last c.in-Some.ensures.items in
     let r : ks ++ comp_of c.in-Some.last ∷ [] ≡ ks ++ root ∷ [] = ap (λ x. ks ++ comp_of x ∷ []) c.in-RootDir.is in
-    ap (λ cs. normal_form (cs ++ rest)) (u ∙ r) ∙ ap normal_form (append_assoc ks (root ∷ []) rest) ∙ sym (drops_parent ks rest)
-    ∙ sym (ap (λ cs. normal_form (cs ++ parent ∷ rest)) (t ∙ r) ∙ ap normal_form (append_assoc ks (root ∷ []) (parent ∷ rest)))
+    let drops : (rest : List Comp) → normal_form (ks ++ comp_of c.in-Some.last ∷ rest) ≡ normal_form (comps_of c.args.kept.now.items ++ parent ∷ rest) =
+    λ rest. ap (λ x. normal_form (ks ++ comp_of x ∷ rest)) c.in-RootDir.is ∙ sym (drops_parent ks rest)
+    ∙ sym (ap (λ cs. normal_form (cs ++ parent ∷ rest)) (t ∙ r) ∙ ap normal_form (append_assoc ks (root ∷ []) (parent ∷ rest))) in
+    let more : ((rest : List Comp) → normal_form (new ++ rest) ≡ normal_form (ks ++ comp_of c.in-Some.last ∷ rest)) → (rest : List Comp) → normal_form (new ++ rest) ≡ normal_form (comps_of c.args.kept.now.items ++ parent ∷ rest) =
+    λ same rest. same rest ∙ drops rest in
+    on_ok_weaker c.push_on.result more c.push_on.ensures.same
 
 pub put_back-requires-in-CurDir-clause-fits : goal.put_back-requires-in-CurDir-clause-fits
 put_back-requires-in-CurDir-clause-fits c =
