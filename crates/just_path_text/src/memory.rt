@@ -6,7 +6,7 @@ use std::error::Error;
 use std::fmt;
 
 /// Memory was wanting: the one answer that may come in place of any other.
-#[derive(Clone, Copy, Debug, PartialEq, Eq, Hash)]
+#[derive(Clone, Copy, Debug, PartialEq, Eq)]
 pub struct NoMemory;
 
 impl From<AllocError> for NoMemory {

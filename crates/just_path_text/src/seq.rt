@@ -117,7 +117,7 @@ impl<T: TryClone> Seq<T> {
         let mut copies = Vec::with_capacity(*self.vec.allocator(), self.len())?;
         for item in self.as_slice() {
             let copy = item.try_clone()?;
-            copies.push(copy)?;
+            copies.push_reserved(copy);
         }
         Ok(Seq { vec: copies })
     }

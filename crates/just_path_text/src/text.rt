@@ -22,9 +22,15 @@ use std::marker::Model;
 /// let other = some.try_clone()?;
 /// assert!(some == other && some.as_str() == "a");
 /// ```
-#[derive(Debug, Drop)]
+#[derive(Debug)]
 pub struct Text {
     kept: Kept,
+}
+
+impl Drop for Text {
+    fn drop(self) {
+        let Text { kept: _ } = self;
+    }
 }
 
 /// How a text is kept: a short one in place, a longer one on the heap.
