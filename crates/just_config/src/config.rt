@@ -1,7 +1,7 @@
 //! The configuration that arguments give.
 ghost use Rattle.std.specs.Prelude.{◌≡◌, ◌++◌, IfOk, IfErr, None};
 ghost use Rattle.just_config.specs.Positional.{positional_of};
-ghost use Rattle.just_config.specs.Config.{pairs_of, by_justfile, search_config_of, verbosity_of, refusal, config_with, config_of, IsRefusedBy};
+ghost use Rattle.just_config.specs.Config.{pairs_of, named_values, overrides_of, by_justfile, search_config_of, verbosity_of, refusal, config_with, config_of, IsRefusedBy};
 
 use super::overrides::{add_named, add_pairs, overrides_of};
 use super::refusal::later_refusal;
@@ -235,6 +235,36 @@ fn whole(
     )
 }
 
+/// The arguments behind overrides and search folder, how the justfile is found, and the overrides; or the first refusal.
+fn judged(
+    alloc: Global,
+    arguments: &Arguments,
+) -> Result<(Seq<Text>, SearchConfig, Vec<Override>), ConfigError>
+    ensures sound { IfOk result
+        (λ f. (refusal arguments.now ≡ None)
+        × (f.0 ≡ (positional_of arguments.now.arguments).arguments)
+        × (f.1 ≡ search_config_of arguments.now
+        (positional_of arguments.now.arguments).search_directory)
+        × (f.2.items ≡ overrides_of (named_values arguments.now))) }
+    ensures refused { IfErr result (IsRefusedBy arguments.now) }
+{
+    let positional = Positional::from_values(alloc, arguments.arguments.as_slice())?;
+    let named = named_values(
+        alloc,
+        arguments.set.as_slice(),
+        positional.overrides.as_slice(),
+    )?;
+    let overrides = match overrides_of(alloc, named.as_slice())? {
+        Ok(overrides) => overrides,
+        Err(path) => return Err(ConfigError::OverridePath { path }),
+    };
+    if let Some(error) = later_refusal(alloc, arguments, &positional, overrides.as_slice())? {
+        return Err(error);
+    }
+    let search = search_config(alloc, arguments, &positional.search_directory)?;
+    Ok((positional.into_arguments(), search, overrides))
+}
+
 impl Config {
     /// The configuration of arguments; or the first refusal, in the order of the errors.
     ///
@@ -249,21 +279,11 @@ impl Config {
         ensures config { IfOk result (λ c. (refusal arguments ≡ None) × (c ≡ config_of arguments invocation_directory)) }
         ensures refused { IfErr result (IsRefusedBy arguments) }
     {
-        let positional = Positional::from_values(alloc, arguments.arguments.as_slice())?;
-        let named = named_values(
-            alloc,
-            arguments.set.as_slice(),
-            positional.overrides.as_slice(),
-        )?;
-        let overrides = match overrides_of(alloc, named.as_slice())? {
-            Ok(overrides) => overrides,
-            Err(path) => return Err(ConfigError::OverridePath { path }),
-        };
-        if let Some(error) = later_refusal(alloc, &arguments, &positional, overrides.as_slice())? {
-            return Err(error);
+        match judged(alloc, &arguments) {
+            Ok((words, search, overrides)) => {
+                Ok(whole(arguments, words, search, overrides, invocation_directory))
+            }
+            Err(error) => Err(error),
         }
-        let search = search_config(alloc, &arguments, &positional.search_directory)?;
-        let words = positional.arguments;
-        Ok(whole(arguments, words, search, overrides, invocation_directory))
     }
 }

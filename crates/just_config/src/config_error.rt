@@ -1,7 +1,7 @@
 //! Why arguments give no configuration.
 ghost use Rattle.std.specs.Prelude.{◌≡◌, ◌++◌, Some, codes, length};
 ghost use Rattle.std.specs.Fmt.{DisplaysOnOk};
-ghost use Rattle.just_print.specs.SmallTexts.{list_text, plural};
+ghost use Rattle.just_print.specs.SmallTexts.{list_text, plural, ticked};
 ghost use Rattle.just_config.specs.Texts.{error_text, internal_text, use_text, used_with};
 
 use just_path_text::{NoMemory, Seq, Text};
@@ -56,6 +56,22 @@ impl From<NoMemory> for ConfigError {
     fn from(_: NoMemory) -> ConfigError {
         ConfigError::NoMemory
     }
+}
+
+/// Writes that a name of an override is no path of a variable.
+fn write_override_path<W: fmt::Write>(path: &Text, f: &mut fmt::Formatter<W>) -> fmt::Result
+    ensures { DisplaysOnOk W.write_str_gives f.old result
+        (Some (codes "error: invalid override path " ++ ticked path.now)) f.new }
+{
+    write!(f, "error: invalid override path `{}`", path.as_str())
+}
+
+/// Writes that words are no module path.
+fn write_module_path<W: fmt::Write>(path: &Text, f: &mut fmt::Formatter<W>) -> fmt::Result
+    ensures { DisplaysOnOk W.write_str_gives f.old result
+        (Some (codes "error: invalid module path " ++ ticked path.now)) f.new }
+{
+    write!(f, "error: invalid module path `{}`", path.as_str())
 }
 
 /// Writes which command was used with something.
@@ -127,16 +143,12 @@ impl fmt::Display for ConfigError {
     /// One line without its end.
     fn fmt<W: fmt::Write>(&self, f: &mut fmt::Formatter<W>) -> fmt::Result {
         match self {
-            ConfigError::OverridePath { path } => {
-                write!(f, "error: invalid override path `{}`", path.as_str())
-            }
+            ConfigError::OverridePath { path } => write_override_path(path, f),
             ConfigError::Internal { message } => write_internal(message, f),
             ConfigError::SearchDirConflict => f.write_str(
                 "error: path-prefixed recipes may not be used with `--global-justfile`, `--working-directory`, or `--justfile`",
             ),
-            ConfigError::ModulePath { path } => {
-                write!(f, "error: invalid module path `{}`", path.as_str())
-            }
+            ConfigError::ModulePath { path } => write_module_path(path, f),
             ConfigError::RequestParse => {
                 f.write_str("error: failed to parse request: invalid JSON")
             }

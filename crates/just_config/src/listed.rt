@@ -54,6 +54,13 @@ fn entry_text(alloc: Global, variable: &Variable, value: &Text) -> Result<Text, 
     Ok(Text::from(text))
 }
 
+/// A variable with its value, which are let go.
+fn into_text(alloc: Global, variable: Variable, value: Text) -> Result<Text, NoMemory>
+    ensures { IfOk result (λ text. text ≡ entry_text (variable, value)) }
+{
+    entry_text(alloc, &variable, &value)
+}
+
 /// The variables with their values, in order.
 fn texts_of(alloc: Global, values: BTreeMap<Variable, Text>) -> Result<Seq<Text>, NoMemory>
     ensures { IfOk result (λ texts. texts ≡ map entry_text values.entries) }
@@ -61,7 +68,7 @@ fn texts_of(alloc: Global, values: BTreeMap<Variable, Text>) -> Result<Seq<Text>
     let mut rest = values;
     let mut texts = Vec::new(alloc);
     'entries: while let Some((variable, value)) = rest.pop_first() {
-        texts.push(entry_text(alloc, &variable, &value)?)?;
+        texts.push(into_text(alloc, variable, value)?)?;
     }
     Ok(Seq::from(texts))
 }

@@ -52,6 +52,14 @@ fn behind_colon(text: &str) -> Option<&str>
     if part.is_empty() { Some(next) } else { None }
 }
 
+/// Adds a copy of a name.
+fn add_name(alloc: Global, names: &mut Vec<Text>, name: &str) -> Result<(), NoMemory>
+    ensures { IfOk result (λ u. names.new.items ≡ names.old.items ++ name.now ∷ []) }
+{
+    names.push(Text::from_str(alloc, name)?)?;
+    Ok(())
+}
+
 /// What `::` joins in a word, which has no other colon.
 #[tactic(auto, using(crate::proofs::Joins::put_none, crate::proofs::Joins::joined_next, crate::proofs::Joins::joined_end, crate::proofs::Joins::joined_odd))]
 fn in_one_word(alloc: Global, word: &str) -> Result<Option<Seq<Text>>, NoMemory>
@@ -63,24 +71,32 @@ fn in_one_word(alloc: Global, word: &str) -> Result<Option<Seq<Text>>, NoMemory>
         let Some(next) = behind_colon(behind) else {
             return Ok(None);
         };
-        names.push(Text::from_str(alloc, name)?)?;
+        add_name(alloc, &mut names, name)?;
         rest = next;
     }
-    names.push(Text::from_str(alloc, rest)?)?;
+    add_name(alloc, &mut names, rest)?;
     Ok(Some(Seq::from(names)))
 }
 
-/// Adds what stands between the tabs of a text, but nothing that is empty.
+/// Adds a copy of a text, unless it is empty.
 #[tactic(auto, using(crate::proofs::LastNames::nothing_empty, crate::proofs::LastNames::one_full))]
+fn add_full(pieces: &mut Vec<Text>, part: &Text) -> Result<(), NoMemory>
+    ensures { IfOk result (λ u. pieces.new.items ≡ pieces.old.items ++ unless_empty part.now) }
+{
+    if !part.as_str().is_empty() {
+        pieces.push(part.try_clone()?)?;
+    }
+    Ok(())
+}
+
+/// Adds what stands between the tabs of a text, but nothing that is empty.
 fn add_pieces(alloc: Global, pieces: &mut Vec<Text>, text: &str) -> Result<(), NoMemory>
     ensures { IfOk result (λ u. pieces.new.items ≡ pieces.old.items ++ flat_map unless_empty (parts 9 text.now)) }
 {
     let mut parts = Vec::new(alloc);
     add_parts(alloc, &mut parts, text, '\t')?;
     'parts: for part in parts.as_slice() {
-        if !part.as_str().is_empty() {
-            pieces.push(part.try_clone()?)?;
-        }
+        add_full(pieces, part)?;
     }
     Ok(())
 }

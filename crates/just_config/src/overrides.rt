@@ -6,9 +6,21 @@ use super::module_path::module_path;
 use just_lang_types::{Modulepath, Override};
 use just_path_text::{NoMemory, Seq, Text};
 use std::alloc::Global;
+use std::slice;
 
 /// A name with its value.
 type Named = (Text, Text);
+
+/// Adds copies of a name and of its value.
+fn add_copy(pairs: &mut Vec<Named>, name: &Text, value: &Text) -> Result<(), NoMemory>
+    ensures { IfOk result
+        (λ u. pairs.new.items ≡ pairs.old.items ++ (name.now, value.now) ∷ []) }
+{
+    let first = name.try_clone()?;
+    let second = value.try_clone()?;
+    pairs.push((first, second))?;
+    Ok(())
+}
 
 /// Adds names and values that stand by turns, as pairs; a last name without a value gives none.
 #[tactic(auto, using(crate::proofs::ConfigSteps::pairs_short))]
@@ -17,7 +29,7 @@ pub(crate) fn add_pairs(pairs: &mut Vec<Named>, texts: &[Text]) -> Result<(), No
 {
     let mut rest = texts;
     'texts: while let [name, value, others @ ..] = rest {
-        pairs.push((name.try_clone()?, value.try_clone()?))?;
+        add_copy(pairs, name, value)?;
         rest = others;
     }
     Ok(())
@@ -28,7 +40,7 @@ pub(crate) fn add_named(pairs: &mut Vec<Named>, more: &[Named]) -> Result<(), No
     ensures { IfOk result (λ u. pairs.new.items ≡ pairs.old.items ++ more.now) }
 {
     'more: for pair in more {
-        pairs.push((pair.0.try_clone()?, pair.1.try_clone()?))?;
+        add_copy(pairs, &pair.0, &pair.1)?;
     }
     Ok(())
 }
@@ -55,16 +67,14 @@ fn as_override(alloc: Global, names: Seq<Text>, value: &Text) -> Result<Option<O
 fn override_of(alloc: Global, pair: &Named) -> Result<Option<Override>, NoMemory>
     ensures { IfOk result (λ o. o ≡ override_of pair.now) }
 {
-    let mut words = Vec::new(alloc);
-    words.push(pair.0.try_clone()?)?;
-    match module_path(alloc, words.as_slice())? {
+    match module_path(alloc, slice::from_ref(&pair.0))? {
         Some(names) => as_override(alloc, names, &pair.1),
         None => Ok(None),
     }
 }
 
 /// The overrides of names and values; or the first name that is no path.
-#[tactic(auto, using(crate::proofs::ConfigSteps::more_override, crate::proofs::ConfigSteps::more_ill, crate::proofs::ConfigSteps::ill_here))]
+#[tactic(auto, using(crate::proofs::ConfigSteps::ill_at))]
 pub(crate) fn overrides_of(
     alloc: Global,
     pairs: &[Named],

@@ -1,5 +1,5 @@
 //! What positional words are: overrides, then a search folder, then arguments.
-ghost use Rattle.std.specs.Prelude.{◌≡◌, ◌∷◌, IfOk};
+ghost use Rattle.std.specs.Prelude.{◌≡◌, ◌++◌, ◌∷◌, [], IfOk};
 ghost use Rattle.just_config.specs.Positional.{positional_of, is_dots, folder_of, argument_of, folder_in, arguments_in};
 
 use super::cut::cut_last;
@@ -9,7 +9,6 @@ use just_path_text::{NoMemory, Seq, Text};
 use std::alloc::Global;
 
 /// What positional words are.
-#[derive(Debug, Drop)]
 pub struct Positional {
     /// The names of variables with their values: words in front that hold `=`, parted at the first one.
     pub overrides: Seq<(Text, Text)>,
@@ -17,6 +16,32 @@ pub struct Positional {
     pub search_directory: Option<Text>,
     /// All else.
     pub arguments: Seq<Text>,
+}
+
+impl Drop for Positional {
+    fn drop(self) {
+        let Positional {
+            overrides: _,
+            search_directory: _,
+            arguments: _,
+        } = self;
+    }
+}
+
+/// Adds copies of a name and of its value.
+fn add_pair(
+    alloc: Global,
+    pairs: &mut Vec<(Text, Text)>,
+    name: &str,
+    value: &str,
+) -> Result<(), NoMemory>
+    ensures { IfOk result
+        (λ u. pairs.new.items ≡ pairs.old.items ++ (name.now, value.now) ∷ []) }
+{
+    let first = Text::from_str(alloc, name)?;
+    let second = Text::from_str(alloc, value)?;
+    pairs.push((first, second))?;
+    Ok(())
 }
 
 /// Whether a word is `.` or `..`.
@@ -77,7 +102,7 @@ impl Positional {
             let Some((name, value)) = cut(word.as_str(), '=') else {
                 return Positional::behind(alloc, overrides, word, behind);
             };
-            overrides.push((Text::from_str(alloc, name)?, Text::from_str(alloc, value)?))?;
+            add_pair(alloc, &mut overrides, name, value)?;
             rest = behind;
         }
         Ok(Positional {
@@ -85,6 +110,18 @@ impl Positional {
             search_directory: None,
             arguments: Seq::new(alloc),
         })
+    }
+
+    /// The arguments alone.
+    pub(crate) fn into_arguments(self) -> Seq<Text>
+        ensures { result ≡ self.arguments }
+    {
+        let Positional {
+            overrides: _,
+            search_directory: _,
+            arguments,
+        } = self;
+        arguments
     }
 
     /// What words are behind the overrides: the first of them, and the others.

@@ -3,7 +3,6 @@
 use just_path::Utf8PathBuf;
 
 /// How the justfile is found. The first two are searches: folder by folder upwards.
-#[derive(Drop)]
 pub enum SearchConfig {
     /// From the folder in which the program was called.
     FromInvocationDirectory,
@@ -17,4 +16,15 @@ pub enum SearchConfig {
     WithJustfile(Utf8PathBuf),
     /// This file, run in this folder.
     WithJustfileAndWorkingDirectory(Utf8PathBuf, Utf8PathBuf),
+}
+
+impl Drop for SearchConfig {
+    fn drop(self) {
+        match self {
+            SearchConfig::FromSearchDirectory(_) | SearchConfig::WithJustfile(_) => {}
+            SearchConfig::StandardInput(_) => {}
+            SearchConfig::WithJustfileAndWorkingDirectory(_, _) => {}
+            SearchConfig::FromInvocationDirectory | SearchConfig::GlobalJustfile => {}
+        }
+    }
 }

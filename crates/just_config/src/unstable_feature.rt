@@ -4,7 +4,7 @@ ghost use Rattle.std.specs.Prelude.{Some};
 use std::fmt;
 
 /// What may only be used where unstable features are.
-#[derive(Clone, Copy, Debug, PartialEq, Eq)]
+#[derive(Clone, Copy)]
 pub enum UnstableFeature {
     /// Recipes with `[cache(..)]`.
     CachedRecipes,

@@ -7,7 +7,7 @@ use just_config_words::decimal::decimal;
 use std::fmt;
 
 /// A version: three numbers of one to nine digits.
-#[derive(Clone, Copy, Debug, PartialEq, Eq)]
+#[derive(Clone, Copy)]
 pub struct Version {
     pub major: u64,
     pub minor: u64,
@@ -38,7 +38,7 @@ impl Version {
     /// The version of a text: three numbers of one to nine digits without zeros in front, joined by dots.
     ///
     /// ```
-    /// assert!(Version::from_str("1.58.0") == Ok(Version::current()) && Version::from_str("01.2.3").is_err());
+    /// assert!(matches!(Version::from_str("1.58.0"), Ok(version) if version.minor == 58) && Version::from_str("01.2.3").is_err());
     /// ```
     pub fn from_str(text: &str) -> Result<Version, &'static str>
         ensures read { IfOk result (λ v. version_of text.now ≡ Some v) }

@@ -11,6 +11,9 @@ use super::occurrence::{behind, is_given, value_in, values_in};
 use just_path_text::{NoMemory, Seq, Text};
 use std::alloc::Global;
 
+/// A copy of the value of an option, where there is one.
+type Copied = Option<Text>;
+
 /// How recipes are found and run.
 #[derive(Clone, Copy)]
 pub(crate) struct RunFlags {
@@ -88,6 +91,57 @@ fn value(alloc: Global, name: &str, filled: &[Occurrence]) -> Result<Option<Text
     }
 }
 
+/// Copies of the values of two options.
+fn two_values(
+    alloc: Global,
+    first: &str,
+    second: &str,
+    filled: &[Occurrence],
+) -> Result<(Copied, Copied), NoMemory>
+    ensures { IfOk result
+        (λ v. (v.0 ≡ value_in first.now filled.now) × (v.1 ≡ value_in second.now filled.now)) }
+{
+    let one = value(alloc, first, filled)?;
+    let other = value(alloc, second, filled)?;
+    Ok((one, other))
+}
+
+/// Copies of the values of four options.
+fn four_values(
+    alloc: Global,
+    first: &str,
+    second: &str,
+    third: &str,
+    fourth: &str,
+    filled: &[Occurrence],
+) -> Result<((Copied, Copied), (Copied, Copied)), NoMemory>
+    ensures { IfOk result
+        (λ v. (v.0.0 ≡ value_in first.now filled.now)
+        × (v.0.1 ≡ value_in second.now filled.now)
+        × (v.1.0 ≡ value_in third.now filled.now)
+        × (v.1.1 ≡ value_in fourth.now filled.now)) }
+{
+    let front = two_values(alloc, first, second, filled)?;
+    let back = two_values(alloc, third, fourth, filled)?;
+    Ok((front, back))
+}
+
+/// The values of all occurrences of two options.
+fn two_lists(
+    alloc: Global,
+    first: &str,
+    second: &str,
+    filled: &[Occurrence],
+) -> Result<(Seq<Text>, Seq<Text>), NoMemory>
+    ensures { IfOk result
+        (λ v. (v.0 ≡ values_in first.now filled.now)
+        × (v.1 ≡ values_in second.now filled.now)) }
+{
+    let one = values_in(alloc, first, filled)?;
+    let other = values_in(alloc, second, filled)?;
+    Ok((one, other))
+}
+
 /// The names under which a justfile is looked for.
 fn names(alloc: Global, filled: &[Occurrence]) -> Result<Seq<Text>, NoMemory>
     ensures { IfOk result (λ v. v ≡ flat_map (parts comma) (values_in (codes "justfile-name") filled.now)) }
@@ -142,14 +196,24 @@ impl Looks {
     pub(crate) fn new(alloc: Global, filled: &[Occurrence]) -> Result<Looks, NoMemory>
         ensures { IfOk result (AreLooks filled.now) }
     {
+        let chooser = value(alloc, "chooser", filled)?;
+        let (list_heading, list_prefix) = two_values(alloc, "list-heading", "list-prefix", filled)?;
+        let ((alias_style, dump_format), (evaluate_format, indentation)) = four_values(
+            alloc,
+            "alias-style",
+            "dump-format",
+            "evaluate-format",
+            "indentation",
+            filled,
+        )?;
         Ok(Looks {
-            alias_style: value(alloc, "alias-style", filled)?,
-            chooser: value(alloc, "chooser", filled)?,
-            dump_format: value(alloc, "dump-format", filled)?,
-            evaluate_format: value(alloc, "evaluate-format", filled)?,
-            indentation: value(alloc, "indentation", filled)?,
-            list_heading: value(alloc, "list-heading", filled)?,
-            list_prefix: value(alloc, "list-prefix", filled)?,
+            alias_style,
+            chooser,
+            dump_format,
+            evaluate_format,
+            indentation,
+            list_heading,
+            list_prefix,
         })
     }
 }
@@ -158,15 +222,26 @@ impl Places {
     pub(crate) fn new(alloc: Global, filled: &[Occurrence]) -> Result<Places, NoMemory>
         ensures { IfOk result (ArePlaces filled.now) }
     {
+        let ((ceiling, justfile), (shell, tempdir)) = four_values(
+            alloc, "ceiling", "justfile", "shell", "tempdir", filled,
+        )?;
+        let ((working_directory, color), (command_color, cygpath)) = four_values(
+            alloc,
+            "working-directory",
+            "color",
+            "command-color",
+            "cygpath",
+            filled,
+        )?;
         Ok(Places {
-            ceiling: value(alloc, "ceiling", filled)?,
-            justfile: value(alloc, "justfile", filled)?,
-            shell: value(alloc, "shell", filled)?,
-            tempdir: value(alloc, "tempdir", filled)?,
-            working_directory: value(alloc, "working-directory", filled)?,
-            color: value(alloc, "color", filled)?,
-            command_color: value(alloc, "command-color", filled)?,
-            cygpath: value(alloc, "cygpath", filled)?,
+            ceiling,
+            justfile,
+            shell,
+            tempdir,
+            working_directory,
+            color,
+            command_color,
+            cygpath,
         })
     }
 }
@@ -175,14 +250,24 @@ impl Lists {
     pub(crate) fn new(alloc: Global, filled: &[Occurrence]) -> Result<Lists, NoMemory>
         ensures { IfOk result (AreLists filled.now) }
     {
+        let justfile_name = names(alloc, filled)?;
+        let shell_arg = values_in(alloc, "shell-arg", behind("clear-shell-args", filled))?;
+        let (dotenv_command, dotenv_filename) = two_lists(
+            alloc,
+            "dotenv-command",
+            "dotenv-filename",
+            filled,
+        )?;
+        let (dotenv_path, group) = two_lists(alloc, "dotenv-path", "group", filled)?;
+        let set = values_in(alloc, "set", filled)?;
         Ok(Lists {
-            dotenv_command: values_in(alloc, "dotenv-command", filled)?,
-            dotenv_filename: values_in(alloc, "dotenv-filename", filled)?,
-            dotenv_path: values_in(alloc, "dotenv-path", filled)?,
-            group: values_in(alloc, "group", filled)?,
-            justfile_name: names(alloc, filled)?,
-            shell_arg: values_in(alloc, "shell-arg", behind("clear-shell-args", filled))?,
-            set: values_in(alloc, "set", filled)?,
+            dotenv_command,
+            dotenv_filename,
+            dotenv_path,
+            group,
+            justfile_name,
+            shell_arg,
+            set,
         })
     }
 }

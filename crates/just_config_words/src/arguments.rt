@@ -4,6 +4,7 @@ ghost use Rattle.std.specs.Option.{option_map};
 ghost use Rattle.std.specs.Int.NonZero.{non_zero_u64_get};
 ghost use Rattle.just_config_words.specs.Occurrences.{is_given, value_in, behind};
 ghost use Rattle.just_config_words.specs.Arguments.{AreArguments, verbosity, jobs_in};
+ghost use Rattle.just_config_words.specs.ArgumentParts.{AreLooks, ArePlaces, AreLists};
 
 use super::argument_parts::{CommandFlags, Lists, Looks, Places, RunFlags};
 use super::decimal::decimal;
@@ -141,6 +142,35 @@ fn jobs(filled: &[Occurrence]) -> Option<NonZeroU64>
     NonZeroU64::new(decimal(value_in("jobs", filled)?)?)
 }
 
+/// The looks and the places that options give.
+fn looks_and_places(alloc: Global, filled: &[Occurrence]) -> Result<(Looks, Places), NoMemory>
+    ensures { IfOk result (λ p. AreLooks filled.now p.0 × ArePlaces filled.now p.1) }
+{
+    let looks = Looks::new(alloc, filled)?;
+    match Places::new(alloc, filled) {
+        Ok(places) => Ok((looks, places)),
+        Err(refused) => {
+            drop(looks);
+            Err(refused)
+        }
+    }
+}
+
+/// The looks, the places and the lists that options give.
+fn values_of(alloc: Global, filled: &[Occurrence]) -> Result<((Looks, Places), Lists), NoMemory>
+    ensures { IfOk result
+        (λ p. AreLooks filled.now p.0.0 × ArePlaces filled.now p.0.1 × AreLists filled.now p.1) }
+{
+    let front = looks_and_places(alloc, filled)?;
+    match Lists::new(alloc, filled) {
+        Ok(lists) => Ok((front, lists)),
+        Err(refused) => {
+            drop(front);
+            Err(refused)
+        }
+    }
+}
+
 impl Arguments {
     /// What the options that are given or filled in say, with these positional words.
     pub(crate) fn new(
@@ -155,10 +185,9 @@ impl Arguments {
         let clears = clears_shell_args(filled);
         let verbose = verbosity(filled);
         let most = jobs(filled);
-        let looks = Looks::new(alloc, filled)?;
-        let places = Places::new(alloc, filled)?;
-        let lists = Lists::new(alloc, filled)?;
         let subcommand = subcommand_in(filled)?;
+        let values = values_of(alloc, filled)?;
+        let ((looks, places), lists) = values;
         Ok(Arguments {
             allow_missing: runs.allow_missing,
             check: commands.check,

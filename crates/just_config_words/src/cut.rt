@@ -21,6 +21,14 @@ pub fn cut(text: &str, sign: char) -> Option<(&str, &str)>
     text.split_once(sign)
 }
 
+/// Adds a copy of a text.
+pub(crate) fn add_text(alloc: Global, texts: &mut Vec<Text>, text: &str) -> Result<(), NoMemory>
+    ensures { IfOk result (λ u. texts.new.items ≡ texts.old.items ++ text.now ∷ []) }
+{
+    texts.push(Text::from_str(alloc, text)?)?;
+    Ok(())
+}
+
 /// Adds what stands between those characters of a text.
 pub fn add_parts(
     alloc: Global,
@@ -33,9 +41,9 @@ pub fn add_parts(
 {
     let mut rest = text;
     'parts: while let Some((part, behind)) = cut(rest, sign) {
-        texts.push(Text::from_str(alloc, part)?)?;
+        add_text(alloc, texts, part)?;
         rest = behind;
     }
-    texts.push(Text::from_str(alloc, rest)?)?;
+    add_text(alloc, texts, rest)?;
     Ok(())
 }

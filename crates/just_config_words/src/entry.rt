@@ -67,11 +67,21 @@ pub enum Form {
 }
 
 /// An option, as the table has it.
-#[derive(Drop)]
 pub struct Entry {
     /// Its first long name, without dashes.
     pub name: Text,
     pub kind: Kind,
     pub values: Values,
     pub form: Form,
+}
+
+impl Drop for Entry {
+    fn drop(self) {
+        let Entry {
+            name: _,
+            kind: _,
+            values: _,
+            form: _,
+        } = self;
+    }
 }

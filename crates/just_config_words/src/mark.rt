@@ -11,7 +11,6 @@ use just_path_text::{NoMemory, Seq, Text};
 use std::alloc::Global;
 
 /// What stands in the word of an option behind it.
-#[derive(Drop)]
 pub enum Attached {
     /// Nothing.
     Nothing,
@@ -21,8 +20,16 @@ pub enum Attached {
     Assigned(Text),
 }
 
+impl Drop for Attached {
+    fn drop(self) {
+        match self {
+            Attached::Joined(_) | Attached::Assigned(_) => {}
+            Attached::Nothing => {}
+        }
+    }
+}
+
 /// A long name or a letter of a word, as the option that it names, with its values.
-#[derive(Drop)]
 pub struct Mark {
     /// None where there is no such option.
     pub option: Option<Entry>,
@@ -31,6 +38,17 @@ pub struct Mark {
     pub values: Seq<Text>,
     /// How many of the words behind are values.
     pub taken: usize,
+}
+
+impl Drop for Mark {
+    fn drop(self) {
+        let Mark {
+            option: _,
+            attached: _,
+            values: _,
+            taken: _,
+        } = self;
+    }
 }
 
 impl Attached {
@@ -240,6 +258,30 @@ fn may_go_on(option: &Option<Entry>, attached: &Attached) -> bool
     }
 }
 
+/// Adds the option of a letter, with its values among the words behind; and tells whether further letters may follow.
+fn add_letter(
+    alloc: Global,
+    marks: &mut Vec<Mark>,
+    letter: char,
+    follows: &str,
+    behind: &[Text],
+) -> Result<bool, NoMemory>
+    requires { letter < 128 }
+    ensures { IfOk result
+        (λ goes_on. (goes_on
+        ≡ may_go_on (entry_lettered letter) (attached_to (entry_lettered letter) follows.now))
+        × (marks.new.items
+        ≡ marks.old.items
+        ++ mark (entry_lettered letter) (attached_to (entry_lettered letter) follows.now) behind.now
+        ∷ [])) }
+{
+    let option = entry_lettered(alloc, letter)?;
+    let attached = attached_to(alloc, &option, follows)?;
+    let goes_on = may_go_on(&option, &attached);
+    marks.push(with_values(alloc, option, attached, behind)?)?;
+    Ok(goes_on)
+}
+
 /// The options of the letters of a word.
 fn letters(alloc: Global, text: &str, behind: &[Text]) -> Result<Vec<Mark>, NoMemory>
     ensures { IfOk result (λ v. v.items ≡ letters text.now behind.now) }
@@ -247,11 +289,7 @@ fn letters(alloc: Global, text: &str, behind: &[Text]) -> Result<Vec<Mark>, NoMe
     let mut marks = Vec::new(alloc);
     let mut rest = text;
     'letters: while let Some((letter, follows)) = split_letter(rest) {
-        let option = entry_lettered(alloc, letter)?;
-        let attached = attached_to(alloc, &option, follows)?;
-        let goes_on = may_go_on(&option, &attached);
-        marks.push(with_values(alloc, option, attached, behind)?)?;
-        if !goes_on {
+        if !add_letter(alloc, &mut marks, letter, follows, behind)? {
             return Ok(marks);
         }
         rest = follows;

@@ -9,12 +9,21 @@ use just_path_text::{NoMemory, Seq, Text};
 use std::alloc::Global;
 
 /// An option that is given: by a word, with its values; or by a variable.
-#[derive(Drop)]
 pub struct Occurrence {
     pub option: Entry,
     /// The word that it stands in, or the name of the variable that gives it.
     pub word: Text,
     pub values: Seq<Text>,
+}
+
+impl Drop for Occurrence {
+    fn drop(self) {
+        let Occurrence {
+            option: _,
+            word: _,
+            values: _,
+        } = self;
+    }
 }
 
 impl Occurrence {

@@ -6,7 +6,6 @@ use super::Occurrence;
 use just_path_text::{NoMemory, Seq, Text};
 
 /// What is done in place of a run, with the words of the command.
-#[derive(Drop)]
 pub enum Subcommand {
     /// `--choose`.
     Choose(Seq<Text>),
@@ -38,6 +37,28 @@ pub enum Subcommand {
     Usage(Seq<Text>),
     /// `--variables`.
     Variables(Seq<Text>),
+}
+
+impl Drop for Subcommand {
+    fn drop(self) {
+        match self {
+            Subcommand::Choose(_)
+            | Subcommand::Clean(_)
+            | Subcommand::Command(_)
+            | Subcommand::Dump(_)
+            | Subcommand::Edit(_)
+            | Subcommand::Evaluate(_)
+            | Subcommand::Fmt(_)
+            | Subcommand::Groups(_)
+            | Subcommand::Init(_)
+            | Subcommand::List(_)
+            | Subcommand::Request(_)
+            | Subcommand::Show(_)
+            | Subcommand::Summary(_)
+            | Subcommand::Usage(_)
+            | Subcommand::Variables(_) => {}
+        }
+    }
 }
 
 /// The command of that name, with these words.

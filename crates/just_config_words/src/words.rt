@@ -4,6 +4,7 @@ ghost use Rattle.just_config_words.specs.Front.{AreSplit};
 ghost use Rattle.just_config_words.specs.Words.{Means, IsUsage, MeaningsAgree};
 ghost use Rattle.just_config_words.specs.Steps.{IsFront, IsJudged, IsOutcome};
 
+use super::cut::add_text;
 use super::front::{Front, read_front};
 use super::mark::add_copies;
 use super::rule::{conflict, missing};
@@ -29,7 +30,7 @@ fn texts(alloc: Global, words: &[&str]) -> Result<Vec<Text>, NoMemory>
 {
     let mut texts = Vec::new(alloc);
     'words: for word in words {
-        texts.push(Text::from_str(alloc, word)?)?;
+        add_text(alloc, &mut texts, word)?;
     }
     Ok(texts)
 }

@@ -2,7 +2,7 @@
 ghost use Rattle.std.specs.Prelude.{◌≡◌, ◌++◌, map, codes, IfOk, string_bytes};
 ghost use Rattle.just_print.specs.Printed.{led, printed_end, printed_key, printed_argument, printed_arguments, behind_attribute, printed_attribute, printed_attributes};
 
-use super::expr::push_expr;
+use super::expr::{push_expr, push_three, push_two};
 use just_lang_syntax::{Argument, Attribute, Name};
 use just_path_text::Text;
 use std::alloc::AllocError;
@@ -12,11 +12,7 @@ pub fn push_end(out: &mut String, comment: &Option<Text>) -> Result<(), AllocErr
     ensures { IfOk result (λ _. string_bytes out.new ≡ string_bytes out.old ++ printed_end comment.now) }
 {
     match comment {
-        Some(text) => {
-            out.push_str(" ")?;
-            out.push_str(text.as_str())?;
-            out.push_str("\n")
-        }
+        Some(text) => push_three(out, " ", text.as_str(), "\n"),
         None => out.push_str("\n"),
     }
 }
@@ -34,8 +30,7 @@ pub fn push_attributes(out: &mut String, attributes: &[Attribute]) -> Result<(),
 fn push_attribute(out: &mut String, attribute: &Attribute) -> Result<(), AllocError>
     ensures { IfOk result (λ _. string_bytes out.new ≡ string_bytes out.old ++ printed_attribute attribute.now) }
 {
-    out.push_str("[")?;
-    out.push_str(attribute.name.text.as_str())?;
+    push_two(out, "[", attribute.name.text.as_str())?;
     push_behind_name(out, attribute.colon, attribute.arguments.as_slice())?;
     out.push_str("]")?;
     push_end(out, &attribute.comment)
@@ -94,10 +89,7 @@ fn push_key(out: &mut String, key: &Option<Name>) -> Result<(), AllocError>
     ensures { IfOk result (λ _. string_bytes out.new ≡ string_bytes out.old ++ printed_key key.now) }
 {
     match key {
-        Some(name) => {
-            out.push_str(name.text.as_str())?;
-            out.push_str("=")
-        }
+        Some(name) => push_two(out, name.text.as_str(), "="),
         None => Ok(()),
     }
 }

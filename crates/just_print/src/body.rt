@@ -3,7 +3,7 @@ ghost use Rattle.std.specs.Prelude.{◌≡◌, ◌++◌, ◌&&◌, ◌==◌, not
 ghost use Rattle.std.specs.List.{flat_map};
 ghost use Rattle.just_print.specs.Printed.{doubled, printed_fragment, printed_fragments, printed_line};
 
-use super::expr::{push_expr, push_if};
+use super::expr::{push_between, push_if};
 use just_lang_syntax::{Fragment, Line};
 use std::alloc::{AllocError, Global};
 
@@ -70,11 +70,7 @@ fn push_fragment(alloc: Global, out: &mut String, fragment: &Fragment) -> Result
             let letters = characters(alloc, text.as_str())?;
             push_text(out, letters.as_slice())
         }
-        Fragment::Value(value) => {
-            out.push_str("{{ ")?;
-            push_expr(out, value)?;
-            out.push_str(" }}")
-        }
+        Fragment::Value(value) => push_between(out, "{{ ", value, " }}"),
     }
 }
 

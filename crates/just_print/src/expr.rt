@@ -27,14 +27,37 @@ pub fn push_if(out: &mut String, wanted: bool, text: &str) -> Result<(), AllocEr
     if wanted { out.push_str(text) } else { Ok(()) }
 }
 
+/// Adds a text, and another one behind it.
+pub fn push_two(out: &mut String, first: &str, second: &str) -> Result<(), AllocError>
+    ensures { IfOk result
+        (λ _. string_bytes out.new ≡ string_bytes out.old ++ (first.now ++ second.now)) }
+{
+    out.push_str(first)?;
+    out.push_str(second)
+}
+
+/// Adds three texts, one behind the other.
+pub fn push_three(
+    out: &mut String,
+    first: &str,
+    second: &str,
+    third: &str,
+) -> Result<(), AllocError>
+    ensures { IfOk result
+        (λ _. string_bytes out.new
+        ≡ string_bytes out.old ++ (first.now ++ (second.now ++ third.now))) }
+{
+    push_two(out, first, second)?;
+    out.push_str(third)
+}
+
 /// Adds a string as it was written.
 pub fn push_string(out: &mut String, string: &StringLiteral) -> Result<(), AllocError>
     ensures { IfOk result (λ _. string_bytes out.new ≡ string_bytes out.old ++ printed_string string.now) }
 {
     push_if(out, string.expands, "x")?;
-    out.push_str(mark_of(string.quote))?;
-    out.push_str(string.raw.as_str())?;
-    out.push_str(mark_of(string.quote))
+    let sign = mark_of(string.quote);
+    push_three(out, sign, string.raw.as_str(), sign)
 }
 
 /// Adds a path: its names with `::` between them.
@@ -55,8 +78,7 @@ fn push_further_names(out: &mut String, names: &[Name]) -> Result<(), AllocError
     ensures { IfOk result (λ _. string_bytes out.new ≡ string_bytes out.old ++ led (codes "::") (map printed_name names.now)) }
 {
     'names: for name in names {
-        out.push_str("::")?;
-        out.push_str(name.text.as_str())?;
+        push_two(out, "::", name.text.as_str())?;
     }
     Ok(())
 }
@@ -76,43 +98,55 @@ pub fn push_expr(out: &mut String, expr: &Expr) -> Result<(), AllocError>
             chained,
             alternative,
         } => {
-            out.push_str("if ")?;
-            push_expr(out, left.get())?;
-            out.push_str(sign_of(*comparison))?;
-            push_expr(out, right.get())?;
-            out.push_str(" { ")?;
-            push_expr(out, consequent.get())?;
-            out.push_str(" } else ")?;
+            push_behind(out, "if ", left.get())?;
+            push_behind(out, sign_of(*comparison), right.get())?;
+            push_between(out, " { ", consequent.get(), " } else ")?;
             push_otherwise(out, *chained, alternative.get())
         }
-        Expr::Root(inside) => {
-            out.push_str("/ ")?;
-            push_expr(out, inside.get())
-        }
+        Expr::Root(inside) => push_behind(out, "/ ", inside.get()),
         Expr::Join(first, second) => {
             push_expr(out, first.get())?;
-            out.push_str(" / ")?;
-            push_expr(out, second.get())
+            push_behind(out, " / ", second.get())
         }
         Expr::Concat(first, second) => {
             push_expr(out, first.get())?;
-            out.push_str(" + ")?;
-            push_expr(out, second.get())
+            push_behind(out, " + ", second.get())
         }
         Expr::Literal(string) => push_string(out, string),
         Expr::Variable(name) => out.push_str(name.text.as_str()),
-        Expr::Group(inside) => {
-            out.push_str("(")?;
-            push_expr(out, inside.get())?;
-            out.push_str(")")
-        }
+        Expr::Group(inside) => push_between(out, "(", inside.get(), ")"),
         Expr::Env { key, default, .. } => {
-            out.push_str("env(")?;
-            push_expr(out, key.get())?;
+            push_behind(out, "env(", key.get())?;
             push_second(out, default)?;
             out.push_str(")")
         }
     }
+}
+
+/// Adds an expression behind a text.
+#[cycle(print)]
+pub fn push_behind(out: &mut String, before: &str, expr: &Expr) -> Result<(), AllocError>
+    ensures { IfOk result
+        (λ _. string_bytes out.new ≡ (string_bytes out.old ++ before.now) ++ printed_expr expr.now) }
+{
+    out.push_str(before)?;
+    push_expr(out, expr)
+}
+
+/// Adds an expression between two texts.
+#[cycle(print)]
+pub fn push_between(
+    out: &mut String,
+    before: &str,
+    expr: &Expr,
+    behind: &str,
+) -> Result<(), AllocError>
+    ensures { IfOk result
+        (λ _. string_bytes out.new
+        ≡ ((string_bytes out.old ++ before.now) ++ printed_expr expr.now) ++ behind.now) }
+{
+    push_behind(out, before, expr)?;
+    out.push_str(behind)
 }
 
 /// Adds what follows an `else`.
@@ -123,9 +157,7 @@ fn push_otherwise(out: &mut String, chained: bool, expr: &Expr) -> Result<(), Al
     if chained {
         push_expr(out, expr)
     } else {
-        out.push_str("{ ")?;
-        push_expr(out, expr)?;
-        out.push_str(" }")
+        push_between(out, "{ ", expr, " }")
     }
 }
 
@@ -135,10 +167,7 @@ fn push_second(out: &mut String, default: &Option<Boxed<Expr>>) -> Result<(), Al
     ensures { IfOk result (λ _. string_bytes out.new ≡ string_bytes out.old ++ printed_second (option_map printed_expr default.now)) }
 {
     match default {
-        Some(inside) => {
-            out.push_str(", ")?;
-            push_expr(out, inside.get())
-        }
+        Some(inside) => push_behind(out, ", ", inside.get()),
         None => Ok(()),
     }
 }
@@ -158,8 +187,7 @@ pub fn push_values(out: &mut String, values: &[Expr]) -> Result<(), AllocError>
     ensures { IfOk result (λ _. string_bytes out.new ≡ string_bytes out.old ++ printed_values values.now) }
 {
     'values: for value in values {
-        out.push_str(" ")?;
-        push_expr(out, value)?;
+        push_behind(out, " ", value)?;
     }
     Ok(())
 }

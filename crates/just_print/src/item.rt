@@ -1,12 +1,13 @@
 //! Items as texts.
 ghost use Rattle.std.specs.Prelude.{◌≡◌, ◌++◌, map, codes, IfOk, string_bytes};
-ghost use Rattle.just_print.specs.Printed.{led, printed_string, printed_strings, printed_value, printed_setting, printed_word, printed_file, printed_recipe, printed_item};
+ghost use Rattle.just_print.specs.Printed.{led, only_if, printed_string, printed_strings, printed_expr, printed_value, printed_end, printed_attributes, printed_setting, printed_word, printed_file, printed_recipe, printed_item};
 
 use super::attribute::{push_attributes, push_end};
 use super::body::push_body;
-use super::expr::{push_expr, push_if, push_path, push_string};
+use super::expr::{push_expr, push_if, push_path, push_string, push_three, push_two};
 use super::recipe::push_recipe_line;
-use just_lang_syntax::{AstItem, AstRecipe, SettingValue, StringLiteral};
+use just_lang_syntax::{AstItem, AstRecipe, Attribute, Expr, Name, SettingValue, StringLiteral};
+use just_path_text::Text;
 use std::alloc::{AllocError, Global};
 
 /// Adds an item.
@@ -20,18 +21,13 @@ pub fn push_item(
 {
     match item {
         AstItem::Blank => out.push_str("\n"),
-        AstItem::Comment(text) => {
-            out.push_str(text.as_str())?;
-            out.push_str("\n")
-        }
+        AstItem::Comment(text) => push_two(out, text.as_str(), "\n"),
         AstItem::Alias {
             name,
             target,
             comment,
         } => {
-            out.push_str("alias ")?;
-            out.push_str(name.text.as_str())?;
-            out.push_str(" := ")?;
+            push_three(out, "alias ", name.text.as_str(), " := ")?;
             push_path(out, target.as_slice())?;
             push_end(out, comment)
         }
@@ -50,28 +46,15 @@ pub fn push_item(
             name,
             path,
             comment,
-        } => {
-            push_attributes(out, attributes.as_slice())?;
-            push_word(out, "mod", *optional)?;
-            out.push_str(name.text.as_str())?;
-            push_file(out, path)?;
-            push_end(out, comment)
-        }
+        } => push_module(out, attributes.as_slice(), *optional, name, path, comment),
         AstItem::Assignment {
             export,
             name,
             value,
             comment,
-        } => {
-            push_if(out, *export, "export ")?;
-            out.push_str(name.text.as_str())?;
-            out.push_str(" := ")?;
-            push_expr(out, value)?;
-            push_end(out, comment)
-        }
+        } => push_assignment(out, *export, name, value, comment),
         AstItem::Unexport { name, comment } => {
-            out.push_str("unexport ")?;
-            out.push_str(name.text.as_str())?;
+            push_two(out, "unexport ", name.text.as_str())?;
             push_end(out, comment)
         }
         AstItem::Setting {
@@ -79,13 +62,56 @@ pub fn push_item(
             value,
             comment,
         } => {
-            out.push_str("set ")?;
-            out.push_str(name.text.as_str())?;
+            push_two(out, "set ", name.text.as_str())?;
             push_setting(out, value)?;
             push_end(out, comment)
         }
         AstItem::Recipe(recipe) => push_recipe(alloc, out, recipe.get(), indentation),
     }
+}
+
+/// Adds a module, with its attributes and its file.
+fn push_module(
+    out: &mut String,
+    attributes: &[Attribute],
+    optional: bool,
+    name: &Name,
+    path: &Option<StringLiteral>,
+    comment: &Option<Text>,
+) -> Result<(), AllocError>
+    ensures { IfOk result
+        (λ _. string_bytes out.new
+        ≡ string_bytes out.old
+        ++ (printed_attributes attributes.now
+        ++ (printed_word (codes "mod") optional
+        ++ (name.now.text ++ (printed_file path.now ++ printed_end comment.now))))) }
+{
+    push_attributes(out, attributes)?;
+    push_word(out, "mod", optional)?;
+    out.push_str(name.text.as_str())?;
+    push_file(out, path)?;
+    push_end(out, comment)
+}
+
+/// Adds an assignment.
+fn push_assignment(
+    out: &mut String,
+    export: bool,
+    name: &Name,
+    value: &Expr,
+    comment: &Option<Text>,
+) -> Result<(), AllocError>
+    ensures { IfOk result
+        (λ _. string_bytes out.new
+        ≡ string_bytes out.old
+        ++ (only_if export (codes "export ")
+        ++ (name.now.text
+        ++ (codes " := " ++ (printed_expr value.now ++ printed_end comment.now))))) }
+{
+    push_if(out, export, "export ")?;
+    push_two(out, name.text.as_str(), " := ")?;
+    push_expr(out, value)?;
+    push_end(out, comment)
 }
 
 /// Adds a word, with a `?` where it is optional that the file is there.

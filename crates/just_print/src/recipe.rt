@@ -3,7 +3,7 @@ ghost use Rattle.std.specs.Prelude.{◌≡◌, ◌++◌, IfOk, string_bytes};
 ghost use Rattle.just_print.specs.Printed.{kind_sign, printed_default, printed_parameter, printed_parameters, printed_dependency, printed_dependencies, printed_subsequents, printed_signature, printed_recipe_line};
 
 use super::attribute::push_end;
-use super::expr::{push_expr, push_if, push_path, push_values};
+use super::expr::{push_behind, push_if, push_path, push_values};
 use just_lang_syntax::{AstDependency, AstParameter, AstRecipe, Expr, ParameterKind};
 use std::alloc::AllocError;
 
@@ -63,10 +63,7 @@ fn push_default(out: &mut String, default: &Option<Expr>) -> Result<(), AllocErr
     ensures { IfOk result (λ _. string_bytes out.new ≡ string_bytes out.old ++ printed_default default.now) }
 {
     match default {
-        Some(value) => {
-            out.push_str("=")?;
-            push_expr(out, value)
-        }
+        Some(value) => push_behind(out, "=", value),
         None => Ok(()),
     }
 }
