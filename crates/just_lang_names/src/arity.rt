@@ -15,7 +15,7 @@ use just_path_text::{NoMemory, Seq};
 use std::alloc::{AllocError, Global};
 
 /// How many arguments a recipe takes.
-#[derive(Clone, Copy, Debug)]
+#[derive(Clone, Copy)]
 pub struct Arity {
     /// How many of its positional parameters want an argument.
     pub wanted: usize,
@@ -153,7 +153,8 @@ fn arities_in<T: Texts>(
 {
     let mut arities = Vec::new(alloc);
     'recipes: for one in &names.recipes {
-        arities.push(arity_of_item(alloc, texts, one)?)?;
+        let arity = arity_of_item(alloc, texts, one)?;
+        arities.push(arity)?;
     }
     Ok(Seq::from(arities))
 }
@@ -168,7 +169,8 @@ pub fn arities_of<T: Texts>(
 {
     let mut modules = Vec::new(alloc);
     'modules: for of_module in &names.modules {
-        modules.push(arities_in(alloc, texts, of_module)?)?;
+        let arities = arities_in(alloc, texts, of_module)?;
+        modules.push(arities)?;
     }
     Ok(Arities { modules })
 }

@@ -1,7 +1,11 @@
 //! What the names of a project's modules mean, as tables.
-ghost use Rattle.std.specs.Prelude.{◌≡◌, IfOk};
+ghost use Rattle.std.specs.Prelude.{◌≡◌, filter, IfOk};
+ghost use Rattle.just_lang_spots.specs.Entries.{entries, IsIndex};
+ghost use Rattle.just_lang_spots.specs.Items.{item_name, is_recipe_here, is_assignment};
+ghost use Rattle.just_lang_spots.specs.Standing.{standing};
 ghost use Rattle.just_lang_spots.specs.Winners.{wins_in};
 ghost use Rattle.just_lang_names.specs.Names.{IsModuleNames, AreModuleNames, AreNames, layout_of, wins_of};
+ghost use Rattle.just_lang_names.specs.Standing.{absent_items};
 
 use super::children::{Children, children_of, own_numbers};
 use super::items::{items_at, items_of_module};
@@ -42,6 +46,42 @@ pub struct Names<'a> {
     pub children: Children<'a>,
 }
 
+/// The recipes among some items that stand.
+fn standing_recipes<'a>(
+    alloc: Global,
+    winners: &[Seq<usize>],
+    items: &[Entry<'a>],
+) -> Result<Vec<Entry<'a>>, NoMemory>
+    ensures { IfOk result (λ v. entries v.items ≡ standing item_name (wins_in winners.now) (filter is_recipe_here (entries items.now))) }
+{
+    let recipes = recipe_items(alloc, items)?;
+    standing(alloc, winners, recipes.as_slice())
+}
+
+/// The variables among some items that stand.
+fn standing_variables<'a>(
+    alloc: Global,
+    winners: &[Seq<usize>],
+    items: &[Entry<'a>],
+) -> Result<Vec<Entry<'a>>, NoMemory>
+    ensures { IfOk result (λ v. entries v.items ≡ standing item_name (wins_in winners.now) (filter is_assignment (entries items.now))) }
+{
+    let variables = variable_items(alloc, items)?;
+    standing(alloc, winners, variables.as_slice())
+}
+
+/// The places among the `mod`s of a module whose modules aren't there.
+fn absent_index<'a>(
+    alloc: Global,
+    files: &'a [File],
+    some_module: &Module,
+) -> Result<Index<'a>, NoMemory>
+    ensures { IfOk result (IsIndex (absent_items files.now some_module.now)) }
+{
+    let absent = items_at(alloc, files, some_module.absent.as_slice())?;
+    index_of(alloc, absent.as_slice())
+}
+
 fn module_names<'a>(
     alloc: Global,
     winners: &[Seq<usize>],
@@ -51,14 +91,11 @@ fn module_names<'a>(
     ensures { IfOk result (IsModuleNames (wins_in winners.now) files.now some_module.now) }
 {
     let items = items_of_module(alloc, files, some_module)?;
-    let recipes = recipe_items(alloc, items.as_slice())?;
-    let recipes = standing(alloc, winners, recipes.as_slice())?;
-    let recipe_places = marked_index_of(alloc, recipes.as_slice())?;
-    let variables = variable_items(alloc, items.as_slice())?;
-    let variables = standing(alloc, winners, variables.as_slice())?;
+    let recipes = standing_recipes(alloc, winners, items.as_slice())?;
+    let variables = standing_variables(alloc, winners, items.as_slice())?;
     let variable_places = index_of(alloc, variables.as_slice())?;
-    let absent = items_at(alloc, files, some_module.absent.as_slice())?;
-    let absent_places = index_of(alloc, absent.as_slice())?;
+    let absent_places = absent_index(alloc, files, some_module)?;
+    let recipe_places = marked_index_of(alloc, recipes.as_slice())?;
     Ok(ModuleNames {
         items,
         recipes,

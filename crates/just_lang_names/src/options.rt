@@ -29,8 +29,7 @@ fn option_of_arguments<T: Texts>(
             if !names_option(alloc, texts, keys)? {
                 return Ok(None);
             }
-            let text = const_text(alloc, texts, &first.value)?;
-            Ok(text)
+            const_text(alloc, texts, &first.value)
         }
     }
 }
@@ -46,8 +45,7 @@ fn option_of<T: Texts>(
     if attribute.name.text.as_str() != "arg" {
         return Ok(None);
     }
-    let text = option_of_arguments(alloc, texts, attribute.arguments.as_slice())?;
-    Ok(text)
+    option_of_arguments(alloc, texts, attribute.arguments.as_slice())
 }
 
 /// The names of the parameters that attributes make options.

@@ -31,7 +31,7 @@ pub enum Target<'a> {
 }
 
 /// Which names the last one of a path may be.
-#[derive(Clone, Copy, Debug)]
+#[derive(Clone, Copy)]
 pub enum PathKind {
     /// A recipe's.
     Dependency,

@@ -123,7 +123,7 @@ fn on_option<'a>(
 }
 
 /// The first places where dependencies break rules.
-#[derive(Clone, Copy, Debug)]
+#[derive(Clone, Copy)]
 pub struct DependencySpots {
     /// The first name in a path that isn't known.
     pub unknown: Option<Spot>,

@@ -9,3 +9,4 @@ pub mod FileSteps
 pub mod MeantLaws
 pub mod Orders
 pub mod Behinds
+pub mod ByErrors

@@ -6,7 +6,7 @@ use just_lang_spots::Spot;
 use just_lang_types::CompileKind;
 
 /// A rule that is broken, with its place.
-#[derive(Clone, Copy, Debug, PartialEq, Eq)]
+#[derive(Clone, Copy)]
 pub struct Broken {
     pub kind: CompileKind,
     pub spot: Spot,

@@ -96,7 +96,7 @@ impl Rule<AstItem> for GuardLines {
 
 /// The rule that no body line of a module that sets `guards` has both sigils `?` and `-`. Its place is the first column of the
 /// line.
-#[derive(Clone, Copy, Debug, Drop)]
+#[derive(Clone, Copy, Drop)]
 pub struct GuardAndInfallible;
 
 impl ModuleRule for GuardAndInfallible {

@@ -1,6 +1,6 @@
 //! The patterns of parameters.
-ghost use Rattle.std.specs.Prelude.{◌≡◌, ◌++◌, IfOk, OnOk, option_map, map};
-ghost use Rattle.std.specs.List.{flat_map};
+ghost use Rattle.std.specs.Prelude.{◌≡◌, ◌++◌, [], IfOk, OnOk, option_map, map, filter_map};
+ghost use Rattle.std.specs.List.{cons_option, flat_map};
 ghost use Rattle.just_lang_rulebook.specs.Patterns.{pattern_pair, pattern_text, patterns_of_attribute, patterns_of};
 
 use just_lang_rules::{Texts, const_text};
@@ -40,8 +40,37 @@ fn pattern_text<T: Texts>(
     }
 }
 
+/// Adds one, where there is one.
+fn push_some(list: &mut Vec<PatternText>, one: Option<PatternText>) -> Result<(), NoMemory>
+    ensures { OnOk result (list.new.items ≡ list.old.items ++ cons_option one []) }
+{
+    match one {
+        None => Ok(()),
+        Some(one) => {
+            list.push(one)?;
+            Ok(())
+        }
+    }
+}
+
+/// Adds the patterns among the arguments of an `arg`.
+fn push_of_arguments<T: Texts>(
+    alloc: Global,
+    texts: &T,
+    file: usize,
+    arguments: &[Argument],
+    found: &mut Vec<PatternText>,
+) -> Result<(), NoMemory>
+    ensures { OnOk result (map pattern_pair found.new.items ≡ map pattern_pair found.old.items ++ filter_map (pattern_text (T.text_of texts.now) file) arguments.now) }
+{
+    'arguments: for argument in arguments {
+        let pattern = pattern_text(alloc, texts, file, argument)?;
+        push_some(found, pattern)?;
+    }
+    Ok(())
+}
+
 /// Adds the patterns of an attribute.
-#[tactic(auto, using(crate::proofs::KeptPatterns::one_more))]
 fn push_of_attribute<T: Texts>(
     alloc: Global,
     texts: &T,
@@ -54,12 +83,7 @@ fn push_of_attribute<T: Texts>(
     if attribute.name.text.as_str() != "arg" {
         return Ok(());
     }
-    'arguments: for argument in attribute.arguments.as_slice() {
-        if let Some(pattern) = pattern_text(alloc, texts, file, argument)? {
-            found.push(pattern)?;
-        }
-    }
-    Ok(())
+    push_of_arguments(alloc, texts, file, attribute.arguments.as_slice(), found)
 }
 
 /// Adds the patterns of some attributes.

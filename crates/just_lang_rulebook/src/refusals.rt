@@ -7,7 +7,7 @@ use regex::{Error, Regex};
 use std::alloc::{AllocError, Global};
 
 /// Why a pattern is refused.
-#[derive(Clone, Copy, Debug, PartialEq, Eq)]
+#[derive(Clone, Copy)]
 pub enum Refusal {
     /// The grammar of regular expressions doesn't read it, or it nests too deep.
     Syntax,
@@ -26,14 +26,15 @@ fn whole_pattern(alloc: Global, text: &str) -> Result<String, AllocError>
 }
 
 /// Why a text isn't built, by the library's answer.
+#[tactic(auto, using(crate::proofs::ByErrors::by_none, crate::proofs::ByErrors::by_error))]
 fn refusal_by(built: Result<Regex, Error>) -> Result<Option<Refusal>, NoMemory>
     ensures { result ≡ refusal_by built }
 {
-    match built {
-        Ok(_) => Ok(None),
-        Err(Error::Syntax(_)) => Ok(Some(Refusal::Syntax)),
-        Err(Error::CompiledTooBig | Error::Internal) => Ok(Some(Refusal::Size)),
-        Err(Error::OutOfMemory) => Err(NoMemory),
+    match built.err() {
+        None => Ok(None),
+        Some(Error::Syntax(_)) => Ok(Some(Refusal::Syntax)),
+        Some(Error::CompiledTooBig | Error::Internal) => Ok(Some(Refusal::Size)),
+        Some(Error::OutOfMemory) => Err(NoMemory),
     }
 }
 

@@ -3,3 +3,5 @@ pub mod Parts
 pub mod Names
 pub mod Misplaced
 pub mod Folds
+pub mod Loops
+pub mod Choices

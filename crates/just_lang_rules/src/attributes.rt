@@ -4,43 +4,46 @@ ghost use Rattle.just_lang_syntax.specs.Forms.{is_one_of};
 ghost use Rattle.just_lang_rules.specs.Tables.{recipe_attributes, module_attributes};
 ghost use Rattle.just_lang_rules.specs.AttributeSpots.{is_called, begins_shebang, is_shebang, has_script, is_script};
 
+use super::listed::is_one_of;
 use just_lang_spots::{Rule, Spot, first_among, name_spot, spot_where};
 use just_lang_syntax::{AstItem, AstRecipe, Attribute, Fragment, Line};
 use just_path_text::NoMemory;
 use std::alloc::Global;
 
+/// The attributes of recipes.
+const RECIPE_ATTRIBUTES: [&str; 25] = [
+    "arg",
+    "cache",
+    "confirm",
+    "default",
+    "doc",
+    "exit-message",
+    "extension",
+    "group",
+    "no-cd",
+    "no-exit-message",
+    "no-quiet",
+    "parallel",
+    "positional-arguments",
+    "private",
+    "script",
+    "working-directory",
+    "linux",
+    "unix",
+    "macos",
+    "windows",
+    "openbsd",
+    "freebsd",
+    "netbsd",
+    "dragonfly",
+    "android",
+];
+
 /// Whether recipes have an attribute of that name.
 fn is_recipe_attribute(name: &str) -> bool
     ensures { result ≡ is_one_of recipe_attributes name.now }
 {
-    matches!(
-        name,
-        "arg"
-            | "cache"
-            | "confirm"
-            | "default"
-            | "doc"
-            | "exit-message"
-            | "extension"
-            | "group"
-            | "no-cd"
-            | "no-exit-message"
-            | "no-quiet"
-            | "parallel"
-            | "positional-arguments"
-            | "private"
-            | "script"
-            | "working-directory"
-            | "linux"
-            | "unix"
-            | "macos"
-            | "windows"
-            | "openbsd"
-            | "freebsd"
-            | "netbsd"
-            | "dragonfly"
-            | "android"
-    )
+    is_one_of(name, &RECIPE_ATTRIBUTES)
 }
 
 /// Whether modules have an attribute of that name.
@@ -99,7 +102,7 @@ impl Rule<Attribute> for UnknownModuleAttribute {
 }
 
 /// The rule that each attribute is one that there is. Its place is the attribute's name.
-#[derive(Clone, Copy, Debug, Drop)]
+#[derive(Clone, Copy, Drop)]
 pub struct UnknownAttribute;
 
 impl Rule<AstItem> for UnknownAttribute {
@@ -192,7 +195,7 @@ impl Rule<Attribute> for Conflict {
 
 /// The rule that the attributes of a recipe go with its body: `script` with one that has no shebang, `cache` with a script. Its
 /// place is the attribute's name.
-#[derive(Clone, Copy, Debug, Drop)]
+#[derive(Clone, Copy, Drop)]
 pub struct AttributeConflict;
 
 impl Rule<AstItem> for AttributeConflict {

@@ -167,7 +167,7 @@ fn variable_in_setting(file: usize, value: &Option<SettingValue>) -> Option<Spot
 }
 
 /// The rule that the texts of settings and of attributes are constant. Its place is the name that isn't a constant's, or `env`.
-#[derive(Clone, Copy, Debug, Drop)]
+#[derive(Clone, Copy, Drop)]
 pub struct NotConstant;
 
 impl Rule<AstItem> for NotConstant {

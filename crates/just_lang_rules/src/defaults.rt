@@ -49,7 +49,7 @@ fn spots_of(alloc: Global, items: &[Entry<'_>]) -> Result<Vec<Spot>, AllocError>
 
 /// The rule, asked of the recipes that stand in a module, that one at most has the attribute `default`. Its place is the second
 /// such attribute.
-#[derive(Clone, Copy, Debug, Drop)]
+#[derive(Clone, Copy, Drop)]
 pub struct DuplicateDefault;
 
 impl ModuleRule for DuplicateDefault {

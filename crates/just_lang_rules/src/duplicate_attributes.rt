@@ -1,5 +1,6 @@
 //! The rule that an attribute comes once.
-ghost use Rattle.std.specs.Prelude.{◌≡◌, IfOk, option_map, map, filter_map};
+ghost use Rattle.std.specs.Prelude.{◌≡◌, ◌++◌, [], IfOk, OnOk, option_map, map, filter_map};
+ghost use Rattle.std.specs.List.{cons_option};
 ghost use Rattle.just_lang_spots.specs.Spots.{first_spot};
 ghost use Rattle.just_lang_spots.specs.Repeated.{named};
 ghost use Rattle.just_lang_rules.specs.AttributeSpots.{arg_name, arg_pair, duplicate_among};
@@ -65,8 +66,20 @@ fn arg_name<T: Texts>(
     }
 }
 
+/// Adds one, where there is one.
+fn push_some(list: &mut Vec<ArgName>, one: Option<ArgName>) -> Result<(), NoMemory>
+    ensures { OnOk result (list.new.items ≡ list.old.items ++ cons_option one []) }
+{
+    match one {
+        None => Ok(()),
+        Some(one) => {
+            list.push(one)?;
+            Ok(())
+        }
+    }
+}
+
 /// The parameters that the attributes are for.
-#[tactic(auto, using(crate::proofs::Names::one_more_arg))]
 fn arg_names<T: Texts>(
     alloc: Global,
     texts: &T,
@@ -77,9 +90,8 @@ fn arg_names<T: Texts>(
 {
     let mut names = Vec::new(alloc);
     'attributes: for attribute in attributes {
-        if let Some(name) = arg_name(alloc, texts, file, attribute)? {
-            names.push(name)?;
-        }
+        let name = arg_name(alloc, texts, file, attribute)?;
+        push_some(&mut names, name)?;
     }
     Ok(names)
 }

@@ -1,6 +1,7 @@
 //! The texts of constant expressions.
-ghost use Rattle.std.specs.Prelude.{◌≡◌, ◌++◌, IfOk, Some};
-ghost use Rattle.just_lang_rules.specs.ConstantTexts.{is_comparison, chosen, with_slash, with_both, const_text};
+ghost use Rattle.std.specs.Prelude.{◌≡◌, ◌++◌, if◌then◌else◌, IfOk, Some};
+ghost use Rattle.std.specs.Option.{option_and_then};
+ghost use Rattle.just_lang_rules.specs.ConstantTexts.{is_comparison, with_slash, with_both, const_text};
 ghost use Rattle.just_lang_types.specs.Constants.{constant_of};
 
 use super::texts::Texts;
@@ -55,9 +56,10 @@ pub fn const_text<T: Texts>(alloc: Global, texts: &T, expr: &Expr) -> Result<Opt
         } => {
             let left = const_text(alloc, texts, left.get())?;
             let right = const_text(alloc, texts, right.get())?;
+            let test = compared(*comparison, left, right);
             let consequent = const_text(alloc, texts, consequent.get())?;
             let alternative = const_text(alloc, texts, alternative.get())?;
-            Ok(chosen(*comparison, left, right, consequent, alternative))
+            Ok(chosen(test, consequent, alternative))
         }
         Expr::Root(inside) => {
             let inside = const_text(alloc, texts, inside.get())?;
@@ -80,25 +82,27 @@ pub fn const_text<T: Texts>(alloc: Global, texts: &T, expr: &Expr) -> Result<Opt
     }
 }
 
-/// The one or the other text, by a condition on two texts.
-fn chosen(
-    comparison: Comparison,
-    left: Option<Text>,
-    right: Option<Text>,
-    consequent: Option<Text>,
-    alternative: Option<Text>,
-) -> Option<Text>
-    ensures { result ≡ chosen comparison left right consequent alternative }
+/// Whether a condition holds of two texts, where there are both.
+fn compared(comparison: Comparison, left: Option<Text>, right: Option<Text>) -> Option<bool>
+    ensures { result ≡ with_both (λ a b. Some (is_comparison comparison a b)) left right }
 {
-    match (left, right) {
-        (Some(left), Some(right)) => {
-            if holds(comparison, left.as_str(), right.as_str()) {
-                consequent
-            } else {
-                alternative
-            }
-        }
-        _ => None,
+    match left {
+        None => None,
+        Some(left) => match right {
+            None => None,
+            Some(right) => Some(holds(comparison, left.as_str(), right.as_str())),
+        },
+    }
+}
+
+/// The one or the other text, by what a condition came to.
+fn chosen(test: Option<bool>, consequent: Option<Text>, alternative: Option<Text>) -> Option<Text>
+    ensures { result ≡ option_and_then (λ b. if b then consequent else alternative) test }
+{
+    match test {
+        None => None,
+        Some(true) => consequent,
+        Some(false) => alternative,
     }
 }
 

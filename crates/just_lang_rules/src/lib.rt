@@ -9,6 +9,7 @@ mod duplicate_attributes;
 mod expansions;
 mod expr_text;
 mod faults;
+mod listed;
 mod options;
 mod parameters;
 mod required;

@@ -28,7 +28,7 @@ fn parameter_names(
 }
 
 /// The rule that the parameters of a recipe have different names. Its place is the name that comes again.
-#[derive(Clone, Copy, Debug, Drop)]
+#[derive(Clone, Copy, Drop)]
 pub struct DuplicateParameter;
 
 impl Rule<AstItem> for DuplicateParameter {

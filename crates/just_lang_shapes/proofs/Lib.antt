@@ -7,3 +7,4 @@ pub mod KeyTables
 pub mod Digits
 pub mod Fields
 pub mod Parameters
+pub mod ExpandedExprs

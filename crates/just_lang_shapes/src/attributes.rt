@@ -3,6 +3,7 @@ ghost use Rattle.std.specs.Prelude.{◌≡◌, IfOk};
 ghost use Rattle.std.specs.Option.{option_copied};
 ghost use Rattle.just_lang_shapes.specs.Attributes.{first_of, has_attribute, begins_underscore, is_private, first_text, text_behind, texts_behind, doc_of, groups_of};
 
+use super::steps::push_some;
 use just_lang_rules::{Texts, const_text};
 use just_lang_syntax::{Argument, Attribute};
 use just_path_text::{NoMemory, Seq, Text};
@@ -83,7 +84,6 @@ fn first_behind<T: Texts>(
 }
 
 /// The texts behind the attributes of that name, in their order.
-#[tactic(auto, using(crate::proofs::ListLaws::one_more))]
 fn texts_behind<T: Texts>(
     alloc: Global,
     texts: &T,
@@ -94,9 +94,8 @@ fn texts_behind<T: Texts>(
 {
     let mut all = Vec::new(alloc);
     'attributes: for attribute in attributes {
-        if let Some(text) = text_behind(alloc, texts, name, attribute)? {
-            all.push(text)?;
-        }
+        let text = text_behind(alloc, texts, name, attribute)?;
+        push_some(&mut all, text)?;
     }
     Ok(Seq::from(all))
 }

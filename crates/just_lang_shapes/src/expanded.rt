@@ -57,8 +57,8 @@ fn expanded_attribute<T: Texts>(
 ) -> Result<Attribute, NoMemory>
     ensures { IfOk result (λ x. x ≡ expanded_attribute (T.text_of texts.now) attribute.now) }
 {
-    let name = copy_of_name(&attribute.name)?;
     let arguments = expanded_arguments(alloc, texts, attribute.arguments.as_slice())?;
+    let name = copy_of_name(&attribute.name)?;
     let comment = attribute.comment.try_clone()?;
     Ok(Attribute {
         name,

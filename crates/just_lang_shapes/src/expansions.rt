@@ -68,13 +68,24 @@ fn expanded_literal<T: Texts>(
 fn boxed(alloc: Global, expr: Expr) -> Result<Boxed<Expr>, NoMemory>
     ensures { IfOk result (λ b. b ≡ expr) }
 {
-    match Boxed::new(alloc, expr) {
-        Ok(boxed) => Ok(boxed),
-        Err(_) => Err(NoMemory),
-    }
+    Ok(Boxed::new(alloc, expr)?)
+}
+
+/// An expression inside another, on the heap, with its strings expanded.
+#[cycle(expanding)]
+fn expanded_inside<T: Texts>(
+    alloc: Global,
+    texts: &T,
+    inside: &Boxed<Expr>,
+) -> Result<Boxed<Expr>, NoMemory>
+    ensures { IfOk result (λ b. b ≡ expanded_expr (T.text_of texts.now) inside.now) }
+{
+    let expanded = expanded_expr(alloc, texts, inside.get())?;
+    boxed(alloc, expanded)
 }
 
 /// An expression with its strings expanded.
+#[cycle(expanding)]
 pub fn expanded_expr<T: Texts>(alloc: Global, texts: &T, expr: &Expr) -> Result<Expr, NoMemory>
     ensures { IfOk result (λ x. x ≡ expanded_expr (T.text_of texts.now) expr.now) }
 {
@@ -87,10 +98,10 @@ pub fn expanded_expr<T: Texts>(alloc: Global, texts: &T, expr: &Expr) -> Result<
             chained,
             alternative,
         } => {
-            let left = boxed(alloc, expanded_expr(alloc, texts, left.get())?)?;
-            let right = boxed(alloc, expanded_expr(alloc, texts, right.get())?)?;
-            let consequent = boxed(alloc, expanded_expr(alloc, texts, consequent.get())?)?;
-            let alternative = boxed(alloc, expanded_expr(alloc, texts, alternative.get())?)?;
+            let left = expanded_inside(alloc, texts, left)?;
+            let right = expanded_inside(alloc, texts, right)?;
+            let consequent = expanded_inside(alloc, texts, consequent)?;
+            let alternative = expanded_inside(alloc, texts, alternative)?;
             Ok(Expr::If {
                 left,
                 comparison: *comparison,
@@ -100,33 +111,27 @@ pub fn expanded_expr<T: Texts>(alloc: Global, texts: &T, expr: &Expr) -> Result<
                 alternative,
             })
         }
-        Expr::Root(inside) => {
-            let inside = boxed(alloc, expanded_expr(alloc, texts, inside.get())?)?;
-            Ok(Expr::Root(inside))
-        }
+        Expr::Root(inside) => Ok(Expr::Root(expanded_inside(alloc, texts, inside)?)),
         Expr::Join(first, second) => {
-            let first = boxed(alloc, expanded_expr(alloc, texts, first.get())?)?;
-            let second = boxed(alloc, expanded_expr(alloc, texts, second.get())?)?;
+            let first = expanded_inside(alloc, texts, first)?;
+            let second = expanded_inside(alloc, texts, second)?;
             Ok(Expr::Join(first, second))
         }
         Expr::Concat(first, second) => {
-            let first = boxed(alloc, expanded_expr(alloc, texts, first.get())?)?;
-            let second = boxed(alloc, expanded_expr(alloc, texts, second.get())?)?;
+            let first = expanded_inside(alloc, texts, first)?;
+            let second = expanded_inside(alloc, texts, second)?;
             Ok(Expr::Concat(first, second))
         }
         Expr::Literal(literal) => Ok(Expr::Literal(expanded_literal(alloc, texts, literal)?)),
         Expr::Variable(name) => Ok(Expr::Variable(copy_of_name(name)?)),
-        Expr::Group(inside) => {
-            let inside = boxed(alloc, expanded_expr(alloc, texts, inside.get())?)?;
-            Ok(Expr::Group(inside))
-        }
+        Expr::Group(inside) => Ok(Expr::Group(expanded_inside(alloc, texts, inside)?)),
         Expr::Env {
             line,
             column,
             key,
             default,
         } => {
-            let key = boxed(alloc, expanded_expr(alloc, texts, key.get())?)?;
+            let key = expanded_inside(alloc, texts, key)?;
             match default {
                 None => Ok(Expr::Env {
                     line: *line,
@@ -135,7 +140,7 @@ pub fn expanded_expr<T: Texts>(alloc: Global, texts: &T, expr: &Expr) -> Result<
                     default: None,
                 }),
                 Some(default) => {
-                    let default = boxed(alloc, expanded_expr(alloc, texts, default.get())?)?;
+                    let default = expanded_inside(alloc, texts, default)?;
                     Ok(Expr::Env {
                         line: *line,
                         column: *column,

@@ -5,6 +5,7 @@ ghost use Rattle.just_lang_syntax.specs.Attributes.{is_key_or, has_key};
 ghost use Rattle.just_lang_shapes.specs.Attributes.{first_of};
 ghost use Rattle.just_lang_shapes.specs.Parameters.{is_alone, stands_alone, is_key, keys_behind, keys_for, or_earlier, found_at, keys_in, AreKeys, value_at, values_of, value_of};
 
+use super::steps::push_some;
 use just_lang_rules::{Texts, const_text};
 use just_lang_syntax::{Argument, Attribute, Expr, Name};
 use just_path_text::{NoMemory, Seq, Text};
@@ -155,7 +156,6 @@ fn value_at<T: Texts>(
 }
 
 /// The texts of that key, in their order.
-#[tactic(auto, using(crate::proofs::ListLaws::one_more))]
 pub fn values_of<T: Texts>(
     alloc: Global,
     texts: &T,
@@ -166,9 +166,8 @@ pub fn values_of<T: Texts>(
 {
     let mut all = Vec::new(alloc);
     'arguments: for argument in arguments {
-        if let Some(text) = value_at(alloc, texts, key, argument)? {
-            all.push(text)?;
-        }
+        let text = value_at(alloc, texts, key, argument)?;
+        push_some(&mut all, text)?;
     }
     Ok(Seq::from(all))
 }

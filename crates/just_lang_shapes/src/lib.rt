@@ -11,6 +11,7 @@ mod parameter;
 mod recipe;
 mod scope;
 mod settings;
+mod steps;
 
 pub use attributes::{doc_of, groups_of, is_private};
 pub use comments::{Comments, comments_of};

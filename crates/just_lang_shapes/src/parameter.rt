@@ -94,8 +94,8 @@ fn switches_of<T: Texts>(
     ensures short { IfOk result (λ s. s.short ≡ short_of (T.text_of texts.now) keys.now) }
     ensures value { IfOk result (λ s. s.value ≡ value_of (T.text_of texts.now) (codes "value") keys.now) }
 {
-    let long = long_of(alloc, texts, name, keys)?;
     let short = short_of(alloc, texts, keys)?;
+    let long = long_of(alloc, texts, name, keys)?;
     let value = value_of(alloc, texts, "value", keys)?;
     Ok(Switches { long, short, value })
 }
@@ -140,9 +140,9 @@ fn parameter_with<T: Texts>(
 {
     let called = parameter.name.text.as_str();
     let name = parameter.name.text.try_clone()?;
-    let default = expanded_default(alloc, texts, &parameter.default)?;
-    let switches = switches_of(alloc, texts, called, keys)?;
     let limits = limits_of(alloc, texts, keys)?;
+    let switches = switches_of(alloc, texts, called, keys)?;
+    let default = expanded_default(alloc, texts, &parameter.default)?;
     let flag = stands_alone("flag", keys);
     let multiple = stands_alone("multiple", keys);
     Ok(Parameter {

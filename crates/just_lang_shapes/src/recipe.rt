@@ -60,10 +60,10 @@ fn words_of<T: Texts>(
     ensures attributes { IfOk result (λ w. w.attributes ≡ expanded_attributes (T.text_of texts.now) recipe.now.attributes) }
     ensures body { IfOk result (λ w. w.body ≡ expanded_lines (T.text_of texts.now) recipe.now.body) }
 {
-    let name = recipe.name.text.try_clone()?;
     let path = path_within(alloc, parent, recipe.name.text.as_str())?;
     let attributes = expanded_attributes(alloc, texts, recipe.attributes.as_slice())?;
     let body = expanded_lines(alloc, texts, recipe.body.as_slice())?;
+    let name = recipe.name.text.try_clone()?;
     Ok(Words {
         name,
         path,

@@ -4,6 +4,7 @@ ghost use Rattle.just_lang_spots.specs.Entries.{entry, entries};
 ghost use Rattle.just_lang_shapes.specs.Scopes.{assignment_in, assignments_of, unexport_in, unexports_of};
 
 use super::expansions::expanded_expr;
+use super::steps::push_some;
 use just_lang_rules::Texts;
 use just_lang_spots::Entry;
 use just_lang_syntax::AstItem;
@@ -38,7 +39,6 @@ fn assignment_in<T: Texts>(
 }
 
 /// The assignments among some items, in their order.
-#[tactic(auto, using(crate::proofs::ListLaws::one_more))]
 pub fn assignments_of<T: Texts>(
     alloc: Global,
     texts: &T,
@@ -48,9 +48,8 @@ pub fn assignments_of<T: Texts>(
 {
     let mut all = Vec::new(alloc);
     'items: for one in items {
-        if let Some(assignment) = assignment_in(alloc, texts, one)? {
-            all.push(assignment)?;
-        }
+        let assignment = assignment_in(alloc, texts, one)?;
+        push_some(&mut all, assignment)?;
     }
     Ok(Seq::from(all))
 }
@@ -65,15 +64,13 @@ fn unexport_in(one: &Entry<'_>) -> Result<Option<Text>, NoMemory>
 }
 
 /// The names that some items take out of the environment, in their order.
-#[tactic(auto, using(crate::proofs::ListLaws::one_more))]
 pub fn unexports_of(alloc: Global, items: &[Entry<'_>]) -> Result<Seq<Text>, NoMemory>
     ensures { IfOk result (λ all. all ≡ unexports_of (entries items.now)) }
 {
     let mut all = Vec::new(alloc);
     'items: for one in items {
-        if let Some(name) = unexport_in(one)? {
-            all.push(name)?;
-        }
+        let name = unexport_in(one)?;
+        push_some(&mut all, name)?;
     }
     Ok(Seq::from(all))
 }

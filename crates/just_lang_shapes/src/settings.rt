@@ -5,6 +5,7 @@ ghost use Rattle.just_lang_spots.specs.Entries.{entry, entries};
 ghost use Rattle.just_lang_spots.specs.Items.{is_set};
 ghost use Rattle.just_lang_shapes.specs.Settings.{is_setting, value_in, setting_value, text_in, interpreter_of, interpreter_in, text_setting, list_setting, settings_with, settings_of};
 
+use super::steps::push_some;
 use just_lang_rules::{Texts, const_text};
 use just_lang_spots::{Entry, is_set};
 use just_lang_syntax::{AstItem, SettingValue, StringLiteral};
@@ -92,7 +93,6 @@ fn text_setting<T: Texts>(
 }
 
 /// The texts of some strings.
-#[tactic(auto, using(crate::proofs::ListLaws::one_more))]
 fn texts_of<T: Texts>(
     alloc: Global,
     texts: &T,
@@ -102,9 +102,8 @@ fn texts_of<T: Texts>(
 {
     let mut all = Vec::new(alloc);
     'literals: for literal in literals {
-        if let Some(text) = texts.text(alloc, literal)? {
-            all.push(text)?;
-        }
+        let text = texts.text(alloc, literal)?;
+        push_some(&mut all, text)?;
     }
     Ok(Seq::from(all))
 }
@@ -158,6 +157,25 @@ fn list_setting<T: Texts>(
     }
 }
 
+/// The texts of the settings of three names.
+fn three_texts<T: Texts>(
+    alloc: Global,
+    texts: &T,
+    items: &[Entry<'_>],
+    first: &str,
+    second: &str,
+    third: &str,
+) -> Result<(Option<Text>, Option<Text>, Option<Text>), NoMemory>
+    ensures first { IfOk result (λ t. t.0 ≡ text_setting (T.text_of texts.now) first.now (entries items.now)) }
+    ensures second { IfOk result (λ t. t.1 ≡ text_setting (T.text_of texts.now) second.now (entries items.now)) }
+    ensures third { IfOk result (λ t. t.2 ≡ text_setting (T.text_of texts.now) third.now (entries items.now)) }
+{
+    let first = text_setting(alloc, texts, first, items)?;
+    let second = text_setting(alloc, texts, second, items)?;
+    let third = text_setting(alloc, texts, third, items)?;
+    Ok((first, second, third))
+}
+
 /// The settings that are texts.
 #[derive(Drop)]
 struct TextSettings {
@@ -182,12 +200,22 @@ fn text_settings<T: Texts>(
     ensures tempdir { IfOk result (λ s. s.tempdir ≡ text_setting (T.text_of texts.now) (codes "tempdir") (entries items.now)) }
     ensures working_directory { IfOk result (λ s. s.working_directory ≡ text_setting (T.text_of texts.now) (codes "working-directory") (entries items.now)) }
 {
-    let dotenv_command = text_setting(alloc, texts, "dotenv-command", items)?;
-    let dotenv_filename = text_setting(alloc, texts, "dotenv-filename", items)?;
-    let dotenv_path = text_setting(alloc, texts, "dotenv-path", items)?;
-    let indentation = text_setting(alloc, texts, "indentation", items)?;
-    let tempdir = text_setting(alloc, texts, "tempdir", items)?;
-    let working_directory = text_setting(alloc, texts, "working-directory", items)?;
+    let (dotenv_command, dotenv_filename, dotenv_path) = three_texts(
+        alloc,
+        texts,
+        items,
+        "dotenv-command",
+        "dotenv-filename",
+        "dotenv-path",
+    )?;
+    let (indentation, tempdir, working_directory) = three_texts(
+        alloc,
+        texts,
+        items,
+        "indentation",
+        "tempdir",
+        "working-directory",
+    )?;
     Ok(TextSettings {
         dotenv_command,
         dotenv_filename,
@@ -332,8 +360,8 @@ fn settings_in<T: Texts>(
 ) -> Result<Settings, NoMemory>
     ensures { IfOk result (λ s. s ≡ settings_of (T.text_of texts.now) (entries items.now)) }
 {
-    let of_texts = text_settings(alloc, texts, items)?;
     let of_lists = list_settings(alloc, texts, items)?;
+    let of_texts = text_settings(alloc, texts, items)?;
     let of_flags = flag_settings(items);
     Ok(settings_with(&of_flags, of_texts, of_lists))
 }

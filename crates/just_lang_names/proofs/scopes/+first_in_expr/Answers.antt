@@ -16,10 +16,10 @@ use Rattle.just_lang_names.proofs.scopes.+first_in_expr.Goals as goal
 pub returns-in-If : goal.returns-in-If
 returns-in-If t c =
     let f : Name → List Spot = unknown_name (scope_of c.args.scope.now) c.args.file in
-    let a : c.first_in_expr-left.result ≡ first_spot (flat_map f (names_of_expr c.in-If.left)) = let g1 = c.get.ensures in let h1 = c.first_in_expr-left.ensures in cc in
-    let b : c.first_in_expr-right.result ≡ first_spot (flat_map f (names_of_expr c.in-If.right)) = let g1 = c.get-in-If.ensures in let h1 = c.first_in_expr-right.ensures in cc in
-    let d : c.first_in_expr-consequent.result ≡ first_spot (flat_map f (names_of_expr c.in-If.consequent)) = let g1 = c.get-in-If-2.ensures in let h1 = c.first_in_expr-consequent.ensures in cc in
-    let e : c.first_in_expr-alternative.result ≡ first_spot (flat_map f (names_of_expr c.in-If.alternative)) = let g1 = c.get-in-If-3.ensures in let h1 = c.first_in_expr-alternative.ensures in cc in
+    let a : c.first_in_expr-left.result ≡ first_spot (flat_map f (names_of_expr c.in-If.left)) = c.first_in_expr-left.ensures ∙ ap (λ (y : Expr). first_spot (flat_map f (names_of_expr y))) c.get.ensures in
+    let b : c.first_in_expr-right.result ≡ first_spot (flat_map f (names_of_expr c.in-If.right)) = c.first_in_expr-right.ensures ∙ ap (λ (y : Expr). first_spot (flat_map f (names_of_expr y))) c.get-in-If.ensures in
+    let d : c.first_in_expr-consequent.result ≡ first_spot (flat_map f (names_of_expr c.in-If.consequent)) = c.first_in_expr-consequent.ensures ∙ ap (λ (y : Expr). first_spot (flat_map f (names_of_expr y))) c.get-in-If-2.ensures in
+    let e : c.first_in_expr-alternative.result ≡ first_spot (flat_map f (names_of_expr c.in-If.alternative)) = c.first_in_expr-alternative.ensures ∙ ap (λ (y : Expr). first_spot (flat_map f (names_of_expr y))) c.get-in-If-3.ensures in
     given_four f (names_of_expr c.in-If.left) (names_of_expr c.in-If.right) (names_of_expr c.in-If.consequent) (names_of_expr c.in-If.alternative)
     c.first_in_expr-left.result c.first_in_expr-right.result c.first_in_expr-consequent.result c.first_in_expr-alternative.result c.earlier-blocks.result c.earlier-behind.result c.earlier.result
     c.earlier-blocks.ensures c.earlier-behind.ensures c.earlier.ensures a b d e
@@ -28,24 +28,24 @@ returns-in-If t c =
 pub returns-in-Join : goal.returns-in-Join
 returns-in-Join t c =
     let f : Name → List Spot = unknown_name (scope_of c.args.scope.now) c.args.file in
-    let a : c.first_in_expr-first.result ≡ first_spot (flat_map f (names_of_expr c.in-Join.first)) = let g1 = c.get-in-Join.ensures in let h1 = c.first_in_expr-first.ensures in cc in
-    let b : c.first_in_expr-second.result ≡ first_spot (flat_map f (names_of_expr c.in-Join.second)) = let g1 = c.get-in-Join-2.ensures in let h1 = c.first_in_expr-second.ensures in cc in
+    let a : c.first_in_expr-first.result ≡ first_spot (flat_map f (names_of_expr c.in-Join.first)) = c.first_in_expr-first.ensures ∙ ap (λ (y : Expr). first_spot (flat_map f (names_of_expr y))) c.get-in-Join.ensures in
+    let b : c.first_in_expr-second.result ≡ first_spot (flat_map f (names_of_expr c.in-Join.second)) = c.first_in_expr-second.ensures ∙ ap (λ (y : Expr). first_spot (flat_map f (names_of_expr y))) c.get-in-Join-2.ensures in
     given_two f (names_of_expr c.in-Join.first) (names_of_expr c.in-Join.second) c.first_in_expr-first.result c.first_in_expr-second.result c.earlier-in-Join.result c.earlier-in-Join.ensures a b
     ∙ ap (λ (xs : List Name). first_spot (flat_map f xs)) (sym (names_join c.in-Join.first c.in-Join.second)) ∙ ap (λ (x : Expr). first_spot (flat_map f (names_of_expr x))) (sym c.in-Join.is)
 
 pub returns-in-Concat : goal.returns-in-Concat
 returns-in-Concat t c =
     let f : Name → List Spot = unknown_name (scope_of c.args.scope.now) c.args.file in
-    let a : c.first_in_expr-first-in-Concat.result ≡ first_spot (flat_map f (names_of_expr c.in-Concat.first)) = let g1 = c.get-in-Concat.ensures in let h1 = c.first_in_expr-first-in-Concat.ensures in cc in
-    let b : c.first_in_expr-second-in-Concat.result ≡ first_spot (flat_map f (names_of_expr c.in-Concat.second)) = let g1 = c.get-in-Concat-2.ensures in let h1 = c.first_in_expr-second-in-Concat.ensures in cc in
+    let a : c.first_in_expr-first-in-Concat.result ≡ first_spot (flat_map f (names_of_expr c.in-Concat.first)) = c.first_in_expr-first-in-Concat.ensures ∙ ap (λ (y : Expr). first_spot (flat_map f (names_of_expr y))) c.get-in-Concat.ensures in
+    let b : c.first_in_expr-second-in-Concat.result ≡ first_spot (flat_map f (names_of_expr c.in-Concat.second)) = c.first_in_expr-second-in-Concat.ensures ∙ ap (λ (y : Expr). first_spot (flat_map f (names_of_expr y))) c.get-in-Concat-2.ensures in
     given_two f (names_of_expr c.in-Concat.first) (names_of_expr c.in-Concat.second) c.first_in_expr-first-in-Concat.result c.first_in_expr-second-in-Concat.result c.earlier-in-Concat.result c.earlier-in-Concat.ensures a b
     ∙ ap (λ (xs : List Name). first_spot (flat_map f xs)) (sym (names_concat c.in-Concat.first c.in-Concat.second)) ∙ ap (λ (x : Expr). first_spot (flat_map f (names_of_expr x))) (sym c.in-Concat.is)
 
 pub returns-in-Some : goal.returns-in-Some
 returns-in-Some t c =
     let f : Name → List Spot = unknown_name (scope_of c.args.scope.now) c.args.file in
-    let a : c.first_in_expr-key.result ≡ first_spot (flat_map f (names_of_expr c.in-Env.key)) = let g1 = c.get-in-Env.ensures in let h1 = c.first_in_expr-key.ensures in cc in
-    let b : c.first_in_expr-default.result ≡ first_spot (flat_map f (names_of_expr c.in-Some.default)) = let g1 = c.get-in-Some.ensures in let h1 = c.first_in_expr-default.ensures in cc in
+    let a : c.first_in_expr-key.result ≡ first_spot (flat_map f (names_of_expr c.in-Env.key)) = c.first_in_expr-key.ensures ∙ ap (λ (y : Expr). first_spot (flat_map f (names_of_expr y))) c.get-in-Env.ensures in
+    let b : c.first_in_expr-default.result ≡ first_spot (flat_map f (names_of_expr c.in-Some.default)) = c.first_in_expr-default.ensures ∙ ap (λ (y : Expr). first_spot (flat_map f (names_of_expr y))) c.get-in-Some.ensures in
     given_two f (names_of_expr c.in-Env.key) (names_of_expr c.in-Some.default) c.first_in_expr-key.result c.first_in_expr-default.result c.earlier-in-Some.result c.earlier-in-Some.ensures a b
     ∙ ap (λ (xs : List Name). first_spot (flat_map f xs)) (sym (names_env c.in-Env.line c.in-Env.column c.in-Env.key c.in-Some.default))
     ∙ ap (λ (x : Expr). first_spot (flat_map f (names_of_expr x))) (sym (c.in-Env.is ∙ ap (λ (o : Option Expr). v.Env c.in-Env.line c.in-Env.column c.in-Env.key o) c.in-Some.is))

@@ -10,10 +10,10 @@ use Rattle.just_lang_rules.proofs.constant_texts.+first_variable.Goals as goal
 pub returns-in-If : goal.returns-in-If
 returns-in-If t c =
     let f = c.args.file in
-    let a : c.first_variable-left.result ≡ first_spot (variables_of_expr f c.in-If.left) = let g = c.get.ensures in let h = c.first_variable-left.ensures in cc in
-    let b : c.first_variable-right.result ≡ first_spot (variables_of_expr f c.in-If.right) = let g = c.get-in-If.ensures in let h = c.first_variable-right.ensures in cc in
-    let d : c.first_variable-consequent.result ≡ first_spot (variables_of_expr f c.in-If.consequent) = let g = c.get-in-If-2.ensures in let h = c.first_variable-consequent.ensures in cc in
-    let e : c.first_variable-alternative.result ≡ first_spot (variables_of_expr f c.in-If.alternative) = let g = c.get-in-If-3.ensures in let h = c.first_variable-alternative.ensures in cc in
+    let a : c.first_variable-left.result ≡ first_spot (variables_of_expr f c.in-If.left) = c.first_variable-left.ensures ∙ ap (λ (y : Expr). first_spot (variables_of_expr f y)) c.get.ensures in
+    let b : c.first_variable-right.result ≡ first_spot (variables_of_expr f c.in-If.right) = c.first_variable-right.ensures ∙ ap (λ (y : Expr). first_spot (variables_of_expr f y)) c.get-in-If.ensures in
+    let d : c.first_variable-consequent.result ≡ first_spot (variables_of_expr f c.in-If.consequent) = c.first_variable-consequent.ensures ∙ ap (λ (y : Expr). first_spot (variables_of_expr f y)) c.get-in-If-2.ensures in
+    let e : c.first_variable-alternative.result ≡ first_spot (variables_of_expr f c.in-If.alternative) = c.first_variable-alternative.ensures ∙ ap (λ (y : Expr). first_spot (variables_of_expr f y)) c.get-in-If-3.ensures in
     joined_four (variables_of_expr f c.in-If.left) (variables_of_expr f c.in-If.right) (variables_of_expr f c.in-If.consequent) (variables_of_expr f c.in-If.alternative)
     c.first_variable-left.result c.first_variable-right.result c.first_variable-consequent.result c.first_variable-alternative.result c.earlier-blocks.result c.earlier-behind.result c.earlier.result
     c.earlier-blocks.ensures c.earlier-behind.ensures c.earlier.ensures a b d e
@@ -22,15 +22,15 @@ returns-in-If t c =
 pub returns-in-Join : goal.returns-in-Join
 returns-in-Join t c =
     let f = c.args.file in
-    let a : c.first_variable-first.result ≡ first_spot (variables_of_expr f c.in-Join.first) = let g = c.get-in-Join.ensures in let h = c.first_variable-first.ensures in cc in
-    let b : c.first_variable-second.result ≡ first_spot (variables_of_expr f c.in-Join.second) = let g = c.get-in-Join-2.ensures in let h = c.first_variable-second.ensures in cc in
+    let a : c.first_variable-first.result ≡ first_spot (variables_of_expr f c.in-Join.first) = c.first_variable-first.ensures ∙ ap (λ (y : Expr). first_spot (variables_of_expr f y)) c.get-in-Join.ensures in
+    let b : c.first_variable-second.result ≡ first_spot (variables_of_expr f c.in-Join.second) = c.first_variable-second.ensures ∙ ap (λ (y : Expr). first_spot (variables_of_expr f y)) c.get-in-Join-2.ensures in
     joined_two (variables_of_expr f c.in-Join.first) (variables_of_expr f c.in-Join.second) c.first_variable-first.result c.first_variable-second.result c.earlier-in-Join.result c.earlier-in-Join.ensures a b
     ∙ ap first_spot (sym (variables_join f c.in-Join.first c.in-Join.second)) ∙ ap (λ (x : Expr). first_spot (variables_of_expr f x)) (sym c.in-Join.is)
 
 pub returns-in-Concat : goal.returns-in-Concat
 returns-in-Concat t c =
     let f = c.args.file in
-    let a : c.first_variable-first-in-Concat.result ≡ first_spot (variables_of_expr f c.in-Concat.first) = let g = c.get-in-Concat.ensures in let h = c.first_variable-first-in-Concat.ensures in cc in
-    let b : c.first_variable-second-in-Concat.result ≡ first_spot (variables_of_expr f c.in-Concat.second) = let g = c.get-in-Concat-2.ensures in let h = c.first_variable-second-in-Concat.ensures in cc in
+    let a : c.first_variable-first-in-Concat.result ≡ first_spot (variables_of_expr f c.in-Concat.first) = c.first_variable-first-in-Concat.ensures ∙ ap (λ (y : Expr). first_spot (variables_of_expr f y)) c.get-in-Concat.ensures in
+    let b : c.first_variable-second-in-Concat.result ≡ first_spot (variables_of_expr f c.in-Concat.second) = c.first_variable-second-in-Concat.ensures ∙ ap (λ (y : Expr). first_spot (variables_of_expr f y)) c.get-in-Concat-2.ensures in
     joined_two (variables_of_expr f c.in-Concat.first) (variables_of_expr f c.in-Concat.second) c.first_variable-first-in-Concat.result c.first_variable-second-in-Concat.result c.earlier-in-Concat.result c.earlier-in-Concat.ensures a b
     ∙ ap first_spot (sym (variables_concat f c.in-Concat.first c.in-Concat.second)) ∙ ap (λ (x : Expr). first_spot (variables_of_expr f x)) (sym c.in-Concat.is)

@@ -16,10 +16,10 @@ use Rattle.just_lang_rules.proofs.expansions.+first_in_expr.Goals as goal
 pub returns-in_ok-alternative-in-If : goal.returns-in_ok-alternative-in-If
 returns-in_ok-alternative-in-If g t c =
     let f : StringLiteral → List Spot = λ x. spot_where (cannot_expand (g.T.Texts.text_of c.args.texts.now) x) (literal_spot c.args.file x) in
-    let a : c.in_ok-left-in-If.left ≡ first_spot (flat_map f (literals_of_expr c.in-If.left)) = let g1 = c.get.ensures in let h1 = c.in_ok-left-in-If.ensures in cc in
-    let b : c.in_ok-right-in-If.right ≡ first_spot (flat_map f (literals_of_expr c.in-If.right)) = let g1 = c.get-in-If.ensures in let h1 = c.in_ok-right-in-If.ensures in cc in
-    let d : c.in_ok-consequent-in-If.consequent ≡ first_spot (flat_map f (literals_of_expr c.in-If.consequent)) = let g1 = c.get-in-If-2.ensures in let h1 = c.in_ok-consequent-in-If.ensures in cc in
-    let e : c.in_ok-alternative-in-If.alternative ≡ first_spot (flat_map f (literals_of_expr c.in-If.alternative)) = let g1 = c.get-in-If-3.ensures in let h1 = c.in_ok-alternative-in-If.ensures in cc in
+    let a : c.in_ok-left-in-If.left ≡ first_spot (flat_map f (literals_of_expr c.in-If.left)) = c.in_ok-left-in-If.ensures ∙ ap (λ (y : Expr). first_spot (flat_map f (literals_of_expr y))) c.get.ensures in
+    let b : c.in_ok-right-in-If.right ≡ first_spot (flat_map f (literals_of_expr c.in-If.right)) = c.in_ok-right-in-If.ensures ∙ ap (λ (y : Expr). first_spot (flat_map f (literals_of_expr y))) c.get-in-If.ensures in
+    let d : c.in_ok-consequent-in-If.consequent ≡ first_spot (flat_map f (literals_of_expr c.in-If.consequent)) = c.in_ok-consequent-in-If.ensures ∙ ap (λ (y : Expr). first_spot (flat_map f (literals_of_expr y))) c.get-in-If-2.ensures in
+    let e : c.in_ok-alternative-in-If.alternative ≡ first_spot (flat_map f (literals_of_expr c.in-If.alternative)) = c.in_ok-alternative-in-If.ensures ∙ ap (λ (y : Expr). first_spot (flat_map f (literals_of_expr y))) c.get-in-If-3.ensures in
     given_four f (literals_of_expr c.in-If.left) (literals_of_expr c.in-If.right) (literals_of_expr c.in-If.consequent) (literals_of_expr c.in-If.alternative)
     c.in_ok-left-in-If.left c.in_ok-right-in-If.right c.in_ok-consequent-in-If.consequent c.in_ok-alternative-in-If.alternative c.earlier-blocks.result c.earlier-behind.result c.earlier.result
     c.earlier-blocks.ensures c.earlier-behind.ensures c.earlier.ensures a b d e
@@ -28,24 +28,24 @@ returns-in_ok-alternative-in-If g t c =
 pub returns-in_ok-second-in-Join : goal.returns-in_ok-second-in-Join
 returns-in_ok-second-in-Join g t c =
     let f : StringLiteral → List Spot = λ x. spot_where (cannot_expand (g.T.Texts.text_of c.args.texts.now) x) (literal_spot c.args.file x) in
-    let a : c.in_ok-first-in-Join.first ≡ first_spot (flat_map f (literals_of_expr c.in-Join.first)) = let g1 = c.get-in-Join.ensures in let h1 = c.in_ok-first-in-Join.ensures in cc in
-    let b : c.in_ok-second-in-Join.second ≡ first_spot (flat_map f (literals_of_expr c.in-Join.second)) = let g1 = c.get-in-Join-2.ensures in let h1 = c.in_ok-second-in-Join.ensures in cc in
+    let a : c.in_ok-first-in-Join.first ≡ first_spot (flat_map f (literals_of_expr c.in-Join.first)) = c.in_ok-first-in-Join.ensures ∙ ap (λ (y : Expr). first_spot (flat_map f (literals_of_expr y))) c.get-in-Join.ensures in
+    let b : c.in_ok-second-in-Join.second ≡ first_spot (flat_map f (literals_of_expr c.in-Join.second)) = c.in_ok-second-in-Join.ensures ∙ ap (λ (y : Expr). first_spot (flat_map f (literals_of_expr y))) c.get-in-Join-2.ensures in
     given_two f (literals_of_expr c.in-Join.first) (literals_of_expr c.in-Join.second) c.in_ok-first-in-Join.first c.in_ok-second-in-Join.second c.earlier-in-Join.result c.earlier-in-Join.ensures a b
     ∙ ap (λ (xs : List StringLiteral). first_spot (flat_map f xs)) (sym (literals_join c.in-Join.first c.in-Join.second)) ∙ ap (λ (x : Expr). first_spot (flat_map f (literals_of_expr x))) (sym c.in-Join.is)
 
 pub returns-in_ok-second-in-Concat : goal.returns-in_ok-second-in-Concat
 returns-in_ok-second-in-Concat g t c =
     let f : StringLiteral → List Spot = λ x. spot_where (cannot_expand (g.T.Texts.text_of c.args.texts.now) x) (literal_spot c.args.file x) in
-    let a : c.in_ok-first-in-Concat.first ≡ first_spot (flat_map f (literals_of_expr c.in-Concat.first)) = let g1 = c.get-in-Concat.ensures in let h1 = c.in_ok-first-in-Concat.ensures in cc in
-    let b : c.in_ok-second-in-Concat.second ≡ first_spot (flat_map f (literals_of_expr c.in-Concat.second)) = let g1 = c.get-in-Concat-2.ensures in let h1 = c.in_ok-second-in-Concat.ensures in cc in
+    let a : c.in_ok-first-in-Concat.first ≡ first_spot (flat_map f (literals_of_expr c.in-Concat.first)) = c.in_ok-first-in-Concat.ensures ∙ ap (λ (y : Expr). first_spot (flat_map f (literals_of_expr y))) c.get-in-Concat.ensures in
+    let b : c.in_ok-second-in-Concat.second ≡ first_spot (flat_map f (literals_of_expr c.in-Concat.second)) = c.in_ok-second-in-Concat.ensures ∙ ap (λ (y : Expr). first_spot (flat_map f (literals_of_expr y))) c.get-in-Concat-2.ensures in
     given_two f (literals_of_expr c.in-Concat.first) (literals_of_expr c.in-Concat.second) c.in_ok-first-in-Concat.first c.in_ok-second-in-Concat.second c.earlier-in-Concat.result c.earlier-in-Concat.ensures a b
     ∙ ap (λ (xs : List StringLiteral). first_spot (flat_map f xs)) (sym (literals_concat c.in-Concat.first c.in-Concat.second)) ∙ ap (λ (x : Expr). first_spot (flat_map f (literals_of_expr x))) (sym c.in-Concat.is)
 
 pub returns-in_ok-default-in-Some : goal.returns-in_ok-default-in-Some
 returns-in_ok-default-in-Some g t c =
     let f : StringLiteral → List Spot = λ x. spot_where (cannot_expand (g.T.Texts.text_of c.args.texts.now) x) (literal_spot c.args.file x) in
-    let a : c.in_ok-key-in-Env.key ≡ first_spot (flat_map f (literals_of_expr c.in-Env.key)) = let g1 = c.get-in-Env.ensures in let h1 = c.in_ok-key-in-Env.ensures in cc in
-    let b : c.in_ok-default-in-Some.default ≡ first_spot (flat_map f (literals_of_expr c.in-Some.default)) = let g1 = c.get-in-Some.ensures in let h1 = c.in_ok-default-in-Some.ensures in cc in
+    let a : c.in_ok-key-in-Env.key ≡ first_spot (flat_map f (literals_of_expr c.in-Env.key)) = c.in_ok-key-in-Env.ensures ∙ ap (λ (y : Expr). first_spot (flat_map f (literals_of_expr y))) c.get-in-Env.ensures in
+    let b : c.in_ok-default-in-Some.default ≡ first_spot (flat_map f (literals_of_expr c.in-Some.default)) = c.in_ok-default-in-Some.ensures ∙ ap (λ (y : Expr). first_spot (flat_map f (literals_of_expr y))) c.get-in-Some.ensures in
     given_two f (literals_of_expr c.in-Env.key) (literals_of_expr c.in-Some.default) c.in_ok-key-in-Env.key c.in_ok-default-in-Some.default c.earlier-in-Some.result c.earlier-in-Some.ensures a b
     ∙ ap (λ (xs : List StringLiteral). first_spot (flat_map f xs)) (sym (literals_env c.in-Env.line c.in-Env.column c.in-Env.key c.in-Some.default))
     ∙ ap (λ (x : Expr). first_spot (flat_map f (literals_of_expr x))) (sym (c.in-Env.is ∙ ap (λ (o : Option Expr). v.Env c.in-Env.line c.in-Env.column c.in-Env.key o) c.in-Some.is))

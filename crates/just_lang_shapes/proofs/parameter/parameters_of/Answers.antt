@@ -1,5 +1,5 @@
 -- One more parameter.
-use Rattle.std.proofs.Common.{◌≡◌, ◌∙◌, ◌++◌, ◌∷◌, [], ap, rules}
+use Rattle.std.proofs.Common.{◌≡◌, ◌∙◌, ap}
 use Rattle.just_lang_types.specs.declared.recipe.Parameter.{Parameter}
 use Rattle.just_lang_shapes.specs.Parameters.{keys_of, parameter_with}
 use Rattle.just_lang_shapes.proofs.Parameters.{parameters_step}
@@ -11,5 +11,4 @@ parameters-preserved g c =
     let p = c.parameter-item.result in
     let made : c.in_ok-made.made ≡ parameter_with text_of (keys_of text_of c.args.attributes.now p.name.text) p =
     c.in_ok-made.ensures ∙ ap (λ ks. parameter_with text_of ks p) (c.keys-of_parameter.ensures ∙ c.in_ok-keys.ensures p.name.text) in
-    let pushed : c.push.new.self.items ≡ c.parameters.all.items ++ c.in_ok-made.made ∷ [] = search rules in
-    parameters_step text_of c.args.attributes.now c.args.parameters.now c.parameters.parameter-index p c.parameters.all.items c.push.new.self.items c.in_ok-made.made c.parameters-test.true c.parameter-item.is made pushed c.parameters.invariant
+    parameters_step text_of c.args.attributes.now c.args.parameters.now c.parameters.parameter-index p c.parameters.all.items c.push.new.self.items c.in_ok-made.made c.parameters-test.true c.parameter-item.is made c.in_ok-push.ensures.items c.parameters.invariant

@@ -1,0 +1,13 @@
+-- One more, where there is one.
+use Rattle.std.proofs.Common.{◌+◌, ◌∙◌, drop}
+use Rattle.just_lang_spots.proofs.ListLaws.{drop_here}
+use Rattle.just_lang_shapes.proofs.ListLaws.{picked_step}
+use Rattle.just_lang_shapes.proofs.settings.texts_of.Goals as goal
+
+pub literals-preserved : goal.literals-preserved
+literals-preserved g c =
+    let xs = c.args.literals.now in
+    let i = c.literals.literal-index in
+    let x = c.literal-item.result in
+    picked_step (g.T.Texts.text_of c.args.texts.now) x (drop (i + 1) xs) (drop i xs) c.literals.all.items c.push_some.new.list.items c.in_ok-text.text
+    (drop_here xs i x c.literals-test.true c.literal-item.is) c.in_ok-text.ensures c.in_ok-push_some.ensures ∙ c.literals.invariant
