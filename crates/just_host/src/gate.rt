@@ -37,8 +37,13 @@ impl GateHost {
     pub fn new(mem: MemHost) -> Result<GateHost, NoMemory>
         ensures { IfOk result (λ h. h.mem ≡ mem) }
     {
-        let gate = Arc::new(mem.alloc, AtomicBool::new(false))?;
-        Ok(GateHost { mem, gate })
+        match Arc::new(mem.alloc, AtomicBool::new(false)) {
+            Ok(gate) => Ok(GateHost { mem, gate }),
+            Err(_) => {
+                drop(mem);
+                Err(NoMemory)
+            }
+        }
     }
 
     /// The record: what was asked of this host, and what it answered.

@@ -1,5 +1,6 @@
 //! A host in memory, which does what its plot says.
 ghost use Rattle.std.specs.Prelude.{◌≡◌, ◌+◌, drop, ◌<◌, ◌≤◌, ℕ, List, [], ◌∷◌, ◌++◌, Option, Some, Ok, refl, option_map, IfOk, IfSome, OnOk, OnErr, MatchResult, length, string_bytes};
+ghost use Rattle.std.specs.FinMap as map;
 ghost use Rattle.just_path.specs.Path.{text_of};
 ghost use Rattle.just_path.specs.Comps.{slash};
 ghost use Rattle.just_path.specs.Host.{note_of, note_of_fault};
@@ -7,17 +8,18 @@ ghost use Rattle.just_path.specs.View.{place_under, AreInOrder, AreNamesInOrder,
 ghost use Rattle.just_path.specs.declared.host.PathCall.{PathCall};
 ghost use Rattle.just_host_record.specs.declared.entry.Entry.{Entry};
 ghost use Rattle.just_host_record.specs.declared.entry.Status.{Status};
+ghost use Rattle.just_host_record.specs.declared.tree.Thing.{Thing};
 ghost use Rattle.just_host_record.specs.declared.outside.TheConstants.{MAX_BYTES};
 ghost use Rattle.just_host_record.specs.Record.{noted, gained, refused, IsOwn, NeverMissed, children, faults_of, misses_of, settled_entry, settled_answer, text_or_empty, script_folder, IsStartFault, IsCaptureFault};
-ghost use Rattle.just_host_record.specs.Logs.{entries_of, spare_of};
+ghost use Rattle.just_host_record.specs.Logs.{entries_of, spare_of, HasRoom};
 ghost use Rattle.just_host_record.specs.World.{view_of, ReadTells, Touched, Leaves};
 ghost use Rattle.just_host_record.specs.Changes.{place_written, written, with_cache_entry, IsOfEntry, Changes};
-ghost use Rattle.just_host_record.specs.Folders.{TempTells, Removes};
+ghost use Rattle.just_host_record.specs.Folders.{TempTells, Removes, IsFresh};
 ghost use Rattle.just_host_record.specs.NewFolders.{with_folder, IsOfFolder};
 ghost use Rattle.just_host_record.specs.Looks.{dash, TellsAnswer, told_input, told_sum, told_check, LookTells, ChecksTo};
-ghost use Rattle.just_host_memory.specs.Trees.{files_of};
+ghost use Rattle.just_host_memory.specs.Trees.{files_of, world_from};
 ghost use Rattle.just_host.specs.Mem.{record_of, world_of, Went, OnlyNotes, OnlyFiles, Answers, answer_in, Plays, Runs, IsFaultOf, IsHostFaultOf, IsFailureOf, is_struck, is_wait_struck, waited_for, FailsIf, PathFailsIf};
-ghost use Rattle.just_host_memory.specs.Playing.{next_call, word_of, ending_of, status_of, output_of};
+ghost use Rattle.just_host_memory.specs.Playing.{next_call, word_of, ending_of, status_of, output_of, others, tree_after};
 ghost use Rattle.just_host_record.proofs.Laws.{counts_noted};
 
 use just_host_files::{copied_bytes, copies_of, path_or_empty};
@@ -27,12 +29,13 @@ use just_host_memory::{
 use just_host_record::{
     Call, Entry, Host, HostFault, Log, Look, MAX_BYTES, Signal, Spec, Status, Stream, boxed_copy,
 };
+use just_lang_read::Boxed;
 use just_path::{Item, Meta, Miss, PathCall, PathFault, PathHost, Utf8Path, Utf8PathBuf};
 use just_path_text::{Environ, NoMemory, Seq, Text, TryClone};
 use std::alloc::Global;
 
 /// A host in memory, which does what its plot says. It tells its world.
-#[derive(Debug, Drop)]
+#[derive(Drop)]
 pub struct MemHost {
     pub(crate) alloc: Global,
     log: Log,
@@ -47,14 +50,14 @@ pub struct MemHost {
 }
 
 /// A child over a `MemHost`.
-#[derive(Debug, Drop)]
+#[derive(Drop)]
 pub struct MemChild {
     pub(crate) number: u32,
     status: Option<Status>,
 }
 
 /// A child over a `MemHost` that was waited for.
-#[derive(Debug, Drop)]
+#[derive(Drop)]
 pub struct MemDone {
     pub(crate) number: u32,
     pub(crate) status: Option<Status>,
@@ -179,6 +182,189 @@ fn use_answer(answers: &mut Vec<Text>)
 {
     if !answers.is_empty() {
         answers.remove(0);
+    }
+}
+
+/// Notes an answer to a prompt, where there is memory for it, and answers it.
+fn note_answer(log: &mut Log, alloc: Global, prompt: &str, line: &str) -> Result<String, NoMemory>
+    ensures entries { IfOk result (λ s. entries_of log.new
+        ≡ entries_of log.old ++ Entry.Asked prompt.now (string_bytes s) ∷ []) }
+    ensures answer { IfOk result (λ s. string_bytes s ≡ line.now) }
+    ensures err { OnErr result (entries_of log.new ≡ entries_of log.old) }
+    ensures spare { spare_of log.new ≡ spare_of log.old }
+{
+    let answer = String::from_str(alloc, line)?;
+    let prompt = Text::from_str(alloc, prompt)?;
+    let noted = Text::from_str(alloc, line)?;
+    log.note(Entry::Asked(prompt, noted))?;
+    Ok(answer)
+}
+
+/// Makes a fresh folder in another one and notes it, where there is memory for it.
+fn note_fresh(
+    log: &mut Log,
+    tree: &mut Tree,
+    alloc: Global,
+    folder: Place,
+    prefix: &str,
+) -> Result<Utf8PathBuf, NoMemory>
+    ensures entries { IfOk result
+        (λ p. entries_of log.new ≡ entries_of log.old ++ Entry.Made p ∷ []) }
+    ensures fresh { IfOk result
+        (λ p. IsFresh (world_from folder.path (files_of tree.old)) folder.path prefix.now p) }
+    ensures made { IfOk result
+        (λ p. files_of tree.new ≡ map.insert (files_of tree.old) p Thing.Folder) }
+    ensures err { OnErr result (entries_of log.new ≡ entries_of log.old) }
+    ensures kept { OnErr result (files_of tree.new ≡ files_of tree.old) }
+    ensures spare { spare_of log.new ≡ spare_of log.old }
+{
+    log.ready()?;
+    let (made, copy) = tree.make_fresh(alloc, &folder, prefix)?;
+    log.append(Entry::Made(copy));
+    Ok(made)
+}
+
+/// Makes sure of the memory for the entry of a save, and answers the path of it.
+fn ready_save(log: &mut Log, alloc: Global, entry: Utf8Path<'_>) -> Result<Utf8PathBuf, NoMemory>
+    ensures path { IfOk result (λ p. p ≡ text_of entry.entry) }
+    ensures room { OnOk result (HasRoom log.new) }
+    ensures entries { entries_of log.new ≡ entries_of log.old }
+    ensures spare { spare_of log.new ≡ spare_of log.old }
+{
+    log.ready()?;
+    entry.to_path_buf(alloc)
+}
+
+/// Makes sure of the memory for the entry of a probe, and answers the paths of it.
+fn ready_probe(
+    log: &mut Log,
+    alloc: Global,
+    entry: Utf8Path<'_>,
+    outputs: &[Utf8PathBuf],
+) -> Result<(Utf8PathBuf, Seq<Utf8PathBuf>), NoMemory>
+    ensures path { IfOk result (λ r. r.0 ≡ text_of entry.entry) }
+    ensures outputs { IfOk result (λ r. r.1 ≡ outputs.now) }
+    ensures room { OnOk result (HasRoom log.new) }
+    ensures entries { entries_of log.new ≡ entries_of log.old }
+    ensures spare { spare_of log.new ≡ spare_of log.old }
+{
+    log.ready()?;
+    let path = entry.to_path_buf(alloc)?;
+    let copies = copies_of(alloc, outputs)?;
+    Ok((path, copies))
+}
+
+/// Makes sure of the memory for the entry of a captured child, and answers what it is made of.
+fn ready_capture(
+    log: &mut Log,
+    alloc: Global,
+    spec: &Spec,
+    input: &[u8],
+    output: &[u8],
+) -> Result<(Boxed<Spec>, (Seq<u8>, Seq<u8>)), NoMemory>
+    ensures spec { IfOk result (λ r. r.0 ≡ spec.now) }
+    ensures input { IfOk result (λ r. r.1.0 ≡ input.now) }
+    ensures output { IfOk result (λ r. r.1.1 ≡ output.now) }
+    ensures room { OnOk result (HasRoom log.new) }
+    ensures entries { entries_of log.new ≡ entries_of log.old }
+    ensures spare { spare_of log.new ≡ spare_of log.old }
+{
+    log.ready()?;
+    let fed = copied_bytes(alloc, input)?;
+    let noted = copied_bytes(alloc, output)?;
+    let copy = boxed_copy(alloc, spec)?;
+    Ok((copy, (fed, noted)))
+}
+
+/// The word of a child, and what it prints.
+fn output_with_word(
+    alloc: Global,
+    endings: &[Ending],
+    spec: &Spec,
+) -> Result<(String, Vec<u8>), NoMemory>
+    ensures word { IfOk result (λ r. string_bytes r.0 ≡ word_of spec.now) }
+    ensures output { IfOk result
+        (λ r. r.1.items ≡ output_of (ending_of (word_of spec.now) endings.now)) }
+{
+    let word = word_of(alloc, spec)?;
+    let output = output_of(alloc, endings, word.as_str())?;
+    Ok((word, output))
+}
+
+/// Runs a child to its end and notes it, unless it prints too much or memory is wanting.
+fn captured(
+    log: &mut Log,
+    tree: &mut Tree,
+    endings: &mut Vec<Ending>,
+    alloc: Global,
+    folder: &Place,
+    spec: &Spec,
+    input: &[u8],
+) -> Result<(Status, Vec<u8>), TreeFault>
+    ensures entries { IfOk result (λ r. entries_of log.new
+        ≡ entries_of log.old ++ Entry.Captured spec.now input.now r.0 r.1.items ∷ []) }
+    ensures limit { IfOk result (λ r. length r.1.items ≤ MAX_BYTES) }
+    ensures status { IfOk result
+        (λ r. r.0 ≡ status_of (ending_of (word_of spec.now) endings.old.items)) }
+    ensures output { IfOk result
+        (λ r. r.1.items ≡ output_of (ending_of (word_of spec.now) endings.old.items)) }
+    ensures effects { OnOk result (files_of tree.new ≡ tree_after folder.now.path
+        (files_of tree.old) (ending_of (word_of spec.now) endings.old.items)) }
+    ensures used { OnOk result (endings.new.items ≡ others (word_of spec.now) endings.old.items) }
+    ensures err { OnErr result (entries_of log.new ≡ entries_of log.old) }
+    ensures files { OnErr result (files_of tree.new ≡ files_of tree.old) }
+    ensures kept { OnErr result (endings.new.items ≡ endings.old.items) }
+    ensures spare { spare_of log.new ≡ spare_of log.old }
+{
+    let Ok((word, output)) = output_with_word(alloc, endings.as_slice(), spec) else {
+        return Err(TreeFault::NoMemory);
+    };
+    if output.len() > MAX_BYTES {
+        return Err(TreeFault::Missed(Miss::TooLarge));
+    }
+    let Ok((copy, (fed, noted))) = ready_capture(log, alloc, spec, input, output.as_slice()) else {
+        return Err(TreeFault::NoMemory);
+    };
+    match tree.play(alloc, folder, endings, word.as_str()) {
+        Ok(status) => {
+            log.append(Entry::Captured(copy, fed, status, noted));
+            Ok((status, output))
+        }
+        Err(NoMemory) => Err(TreeFault::NoMemory),
+    }
+}
+
+/// Starts a child and notes it, where there is memory, and answers its number and how it ends.
+fn started(
+    log: &mut Log,
+    tree: &mut Tree,
+    endings: &mut Vec<Ending>,
+    alloc: Global,
+    folder: &Place,
+    spec: &Spec,
+) -> Result<(u32, Status), NoMemory>
+    ensures entries { IfOk result
+        (λ r. entries_of log.new ≡ entries_of log.old ++ Entry.Started r.0 spec.now ∷ []) }
+    ensures number { IfOk result (λ r. r.0 ≡ children (entries_of log.old)) }
+    ensures status { IfOk result
+        (λ r. r.1 ≡ status_of (ending_of (word_of spec.now) endings.old.items)) }
+    ensures effects { OnOk result (files_of tree.new ≡ tree_after folder.now.path
+        (files_of tree.old) (ending_of (word_of spec.now) endings.old.items)) }
+    ensures used { OnOk result (endings.new.items ≡ others (word_of spec.now) endings.old.items) }
+    ensures err { OnErr result (entries_of log.new ≡ entries_of log.old) }
+    ensures files { OnErr result (files_of tree.new ≡ files_of tree.old) }
+    ensures kept { OnErr result (endings.new.items ≡ endings.old.items) }
+    ensures spare { spare_of log.new ≡ spare_of log.old }
+{
+    if !log.can_number() {
+        return Err(NoMemory);
+    }
+    log.ready()?;
+    let word = word_of(alloc, spec)?;
+    let copy = boxed_copy(alloc, spec)?;
+    match tree.play(alloc, folder, endings, word.as_str()) {
+        Ok(status) => Ok((log.start(copy), status)),
+        Err(NoMemory) => Err(NoMemory),
     }
 }
 
@@ -321,16 +507,11 @@ impl Host for MemHost {
         ensures stays { OnlyNotes self.old self.new (next_call self.old.faults.calls) }
     {
         if self.faults.strike() {
-            self.log.failure(Call::Read)?;
-            return Err(HostFault::Failed(Call::Read));
+            return Err(fail(&mut self.log, Call::Read));
         }
         match self.tree.text(self.alloc, &self.folder, path) {
             Ok(text) => Ok(text),
-            Err(TreeFault::Missed(miss)) => {
-                self.log.miss(self.alloc, path, miss)?;
-                Err(HostFault::Missed(miss))
-            }
-            Err(TreeFault::NoMemory) => Err(HostFault::NoMemory),
+            Err(fault) => Err(refuse_call(&mut self.log, self.alloc, path, fault)),
         }
     }
 
@@ -376,10 +557,7 @@ impl Host for MemHost {
                 TreeFault::Missed(Miss::TooLarge),
             ));
         }
-        let noted = Text::from_str(self.alloc, line)?;
-        let answer = noted.to_string(self.alloc)?;
-        let prompt = Text::from_str(self.alloc, prompt)?;
-        self.log.note(Entry::Asked(prompt, noted))?;
+        let answer = note_answer(&mut self.log, self.alloc, prompt, line)?;
         use_answer(&mut self.answers);
         Ok(answer)
     }
@@ -395,8 +573,7 @@ impl Host for MemHost {
         ensures stays { OnlyNotes self.old self.new (next_call self.old.faults.calls) }
     {
         if self.faults.strike() {
-            self.log.failure(Call::Environ)?;
-            return Err(HostFault::Failed(Call::Environ));
+            return Err(fail(&mut self.log, Call::Environ));
         }
         let pairs = self.environ.pairs.try_clone()?;
         Ok(Environ { pairs })
@@ -453,10 +630,10 @@ impl Host for MemHost {
         }
         match self.tree.parent_place(self.alloc, &self.folder, parent) {
             Ok(folder) => {
-                self.log.ready()?;
-                let (made, copy) = self.tree.make_fresh(self.alloc, &folder, prefix)?;
-                self.log.append(Entry::Made(copy));
-                Ok(made)
+                match note_fresh(&mut self.log, &mut self.tree, self.alloc, folder, prefix) {
+                    Ok(made) => Ok(made),
+                    Err(NoMemory) => Err(HostFault::NoMemory),
+                }
             }
             Err(fault) => Err(refuse_call(&mut self.log, self.alloc, path_or_empty(parent), fault)),
         }
@@ -489,8 +666,7 @@ impl Host for MemHost {
         ensures stays { OnlyNotes self.old self.new (next_call self.old.faults.calls) }
     {
         if self.faults.strike() {
-            self.log.failure(Call::Print)?;
-            return Err(HostFault::Failed(Call::Print));
+            return Err(fail(&mut self.log, Call::Print));
         }
         let text = Text::from_str(self.alloc, text)?;
         self.log.note(Entry::Printed(stream, text))?;
@@ -531,10 +707,12 @@ impl Host for MemHost {
         if self.faults.strike() {
             return Err(fail(&mut self.log, Call::Probe));
         }
-        let path = entry.to_path_buf(self.alloc)?;
-        let copies = copies_of(self.alloc, outputs)?;
-        let look = self.tree.look(self.alloc, &self.folder, entry, outputs)?;
-        self.log.ready()?;
+        let Ok(look) = self.tree.look(self.alloc, &self.folder, entry, outputs) else {
+            return Err(HostFault::NoMemory);
+        };
+        let Ok((path, copies)) = ready_probe(&mut self.log, self.alloc, entry, outputs) else {
+            return Err(HostFault::NoMemory);
+        };
         match self.tree.make_entry(self.alloc, &self.folder, entry) {
             Ok(()) => {
                 self.log.append(Entry::Probed(path, copies, look));
@@ -583,8 +761,9 @@ impl Host for MemHost {
         if self.faults.strike() {
             return Err(fail(&mut self.log, Call::Save));
         }
-        let path = entry.to_path_buf(self.alloc)?;
-        self.log.ready()?;
+        let Ok(path) = ready_save(&mut self.log, self.alloc, entry) else {
+            return Err(HostFault::NoMemory);
+        };
         match self.tree.write(self.alloc, &self.folder, entry, bytes) {
             Ok(()) => {
                 self.log.append(Entry::Saved(path));
@@ -608,25 +787,19 @@ impl Host for MemHost {
         if self.faults.strike() {
             return Err(fail(&mut self.log, Call::Capture));
         }
-        let word = word_of(self.alloc, spec)?;
-        let output = output_of(self.alloc, self.endings.as_slice(), word.as_str())?;
-        if output.len() > MAX_BYTES {
-            return Err(refuse_call(
-                &mut self.log,
-                self.alloc,
-                Utf8Path::new(spec.program.as_str()),
-                TreeFault::Missed(Miss::TooLarge),
-            ));
+        let program = Utf8Path::new(spec.program.as_str());
+        match captured(
+            &mut self.log,
+            &mut self.tree,
+            &mut self.endings,
+            self.alloc,
+            &self.folder,
+            spec,
+            input,
+        ) {
+            Ok(end) => Ok(end),
+            Err(fault) => Err(refuse_call(&mut self.log, self.alloc, program, fault)),
         }
-        let copy = boxed_copy(self.alloc, spec)?;
-        let fed = copied_bytes(self.alloc, input)?;
-        let noted = copied_bytes(self.alloc, output.as_slice())?;
-        self.log.ready()?;
-        let status = self
-            .tree
-            .play(self.alloc, &self.folder, &mut self.endings, word.as_str())?;
-        self.log.append(Entry::Captured(copy, fed, status, noted));
-        Ok((status, output))
     }
 
     fn start(&mut self, spec: &Spec) -> Result<MemChild, HostFault>
@@ -642,19 +815,16 @@ impl Host for MemHost {
         ensures refused { OnErr result (OnlyNotes self.old self.new (next_call self.old.faults.calls)) }
     {
         if self.faults.strike() {
-            self.log.failure(Call::Start)?;
-            return Err(HostFault::Failed(Call::Start));
+            return Err(fail(&mut self.log, Call::Start));
         }
-        if !self.log.can_number() {
-            return Err(HostFault::NoMemory);
-        }
-        let copy = boxed_copy(self.alloc, spec)?;
-        let word = word_of(self.alloc, spec)?;
-        self.log.ready()?;
-        let status = self
-            .tree
-            .play(self.alloc, &self.folder, &mut self.endings, word.as_str())?;
-        let number = self.log.start(copy);
+        let (number, status) = started(
+            &mut self.log,
+            &mut self.tree,
+            &mut self.endings,
+            self.alloc,
+            &self.folder,
+            spec,
+        )?;
         let fails = self.faults.strike();
         let status = if fails { None } else { Some(status) };
         Ok(MemChild { number, status })

@@ -7,7 +7,7 @@ ghost use Rattle.just_path.specs.Comps.{slash};
 ghost use Rattle.just_path.specs.View.{HasCleanPlaces, place_under};
 ghost use Rattle.just_host_record.specs.Sights.{seen};
 ghost use Rattle.just_host_memory.specs.Files.{files_in};
-ghost use Rattle.just_host_memory.specs.Playing.{ArePlacesOf, ending_of, status_of, tree_after, after_changes, others};
+ghost use Rattle.just_host_memory.specs.Playing.{ArePlacesOf, ending_of, status_of, tree_after, changed, after_changes, others};
 
 use super::{Ending, Place};
 use just_host_record::{Status, Thing};
@@ -163,12 +163,24 @@ fn apply(things: &mut Vec<(Place, Thing)>, places: Vec<Place>, effects: Vec<(Tex
 {
     let mut changes = effects.into_iter();
     for place in places {
-        let Some((_, change)) = changes.next() else {
+        let Some(effect) = changes.next() else {
             return;
         };
-        match change {
-            Some(thing) => put(things, place, thing),
-            None => take_out(things, place.as_str()),
-        }
+        apply_one(things, place, effect);
+    }
+}
+
+/// Lets an effect happen at a place, where there is memory for it.
+fn apply_one(things: &mut Vec<(Place, Thing)>, place: Place, effect: (Text, Option<Thing>))
+    requires { vec_len things.old < vec_capacity things.old }
+    ensures tree { files_in things.new.items
+        ≡ changed (files_in things.old.items) place.path effect.1 }
+    ensures bound { vec_len things.new ≤ vec_len things.old + 1 }
+    ensures capacity { vec_capacity things.new ≡ vec_capacity things.old }
+{
+    let (_, change) = effect;
+    match change {
+        Some(thing) => put(things, place, thing),
+        None => take_out(things, place.as_str()),
     }
 }

@@ -10,7 +10,7 @@ use std::alloc::Global;
 
 /// How a child over a `MemHost` ends. It is used once, by the first child whose word equals `word`: the text of the
 /// child's script, else its arguments joined with one blank.
-#[derive(Debug, Drop)]
+#[derive(Drop)]
 pub struct Ending {
     pub word: Text,
     pub status: Status,
@@ -21,7 +21,7 @@ pub struct Ending {
 }
 
 /// What is to happen over a `MemHost`. A child without an ending ends with `Code(0)` and does nothing.
-#[derive(Debug, Drop)]
+#[derive(Drop)]
 pub struct Plot {
     pub endings: Vec<Ending>,
     /// The lines that are read when a prompt asks; behind the last is the end of input.
@@ -53,7 +53,7 @@ impl Plot {
 }
 
 /// Which calls fail: the numbers of those that do, and how many calls there were.
-#[derive(Debug, Drop)]
+#[derive(Drop)]
 pub struct Faults {
     /// The numbers, from 0 on, of the calls that fail.
     pub numbers: Seq<u32>,

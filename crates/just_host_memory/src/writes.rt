@@ -1,8 +1,9 @@
 //! What writing makes of a tree.
-ghost use Rattle.std.specs.Prelude.{◌≡◌, ◌+◌, ◌≤◌, IfOk, Ok, Err, OnOk, OnErr, if◌then◌else◌, is_none, vec_len, vec_capacity};
+ghost use Rattle.std.specs.Prelude.{◌≡◌, ◌+◌, ◌≤◌, IfOk, Ok, Err, OnOk, OnErr, [], false, if◌then◌else◌, is_none, vec_len, vec_capacity};
 ghost use Rattle.std.specs.FinMap as map;
 ghost use Rattle.just_path.specs.Path.{text_of};
 ghost use Rattle.just_path.specs.View.{place_under};
+ghost use Rattle.just_host_record.specs.declared.tree.Thing.{Thing};
 ghost use Rattle.just_host_record.specs.Changes.{folder_of, holds_folder, is_open_place, is_not_found, file_at, new_place, place_written, runs, written, with_entry, new_entry, with_cache_entry};
 ghost use Rattle.just_host_memory.specs.Trees.{files_of, world_from, ShowsPlace, ShowsTree};
 
@@ -166,18 +167,14 @@ impl Tree {
         ensures kept { OnErr result (files_of self.new ≡ files_of self.old) }
     {
         self.reserve(2)?;
-        let entry = Thing::File {
-            bytes: Seq::new(alloc),
-            executable: false,
-        };
         if self.is_open_place(alloc, &place)? {
-            put(&mut self.things, place, entry);
+            put(&mut self.things, place, empty_file(alloc));
             return Ok(());
         }
         let folder = folder_of(alloc, &place)?;
         if self.is_free(place.as_str()) && self.is_open_place(alloc, &folder)? {
             put(&mut self.things, folder, Thing::Folder);
-            put(&mut self.things, place, entry);
+            put(&mut self.things, place, empty_file(alloc));
             return Ok(());
         }
         let miss = self.absence(place.as_str().as_bytes());
@@ -231,5 +228,15 @@ impl Tree {
             Err(TreeFault::Missed(miss)) => self.entry_behind_miss(alloc, folder, path, miss),
             Err(TreeFault::NoMemory) => Err(TreeFault::NoMemory),
         }
+    }
+}
+
+/// A file with no byte, which may not be run.
+fn empty_file(alloc: Global) -> Thing
+    ensures { result ≡ Thing.File [] false }
+{
+    Thing::File {
+        bytes: Seq::new(alloc),
+        executable: false,
     }
 }

@@ -8,10 +8,10 @@ use std::alloc::Global;
 
 impl TryClone for Script {
     fn try_clone(&self) -> Result<Script, NoMemory> {
+        let after = self.after.try_clone()?;
+        let text = self.text.try_clone()?;
         let folder = self.folder.try_clone()?;
         let name = self.name.try_clone()?;
-        let text = self.text.try_clone()?;
-        let after = self.after.try_clone()?;
         Ok(Script {
             folder,
             name,
@@ -24,11 +24,11 @@ impl TryClone for Script {
 
 impl TryClone for Spec {
     fn try_clone(&self) -> Result<Spec, NoMemory> {
-        let program = self.program.try_clone()?;
         let arguments = self.arguments.try_clone()?;
-        let folder = self.folder.try_clone()?;
         let changes = self.changes.try_clone()?;
         let script = self.script.try_clone()?;
+        let folder = self.folder.try_clone()?;
+        let program = self.program.try_clone()?;
         Ok(Spec {
             program,
             arguments,

@@ -6,6 +6,7 @@ use super::{ScriptText, Signal};
 use just_lang_read::Boxed;
 use just_path::{Miss, Utf8PathBuf};
 use just_path_text::{NoMemory, Seq, Text};
+use std::fmt;
 
 /// The calls of a host that can fail.
 #[derive(Clone, Copy, Debug, PartialEq, Eq, Hash)]
@@ -34,7 +35,7 @@ pub enum Call {
 }
 
 /// Why a call of a host has no answer: the world doesn't hold what was asked, the call failed, or memory was wanting.
-#[derive(Clone, Copy, Debug, PartialEq, Eq, Hash)]
+#[derive(Clone, Copy, Debug, PartialEq)]
 pub enum HostFault {
     Missed(Miss),
     Failed(Call),
@@ -52,14 +53,14 @@ impl From<NoMemory> for HostFault {
 }
 
 /// Where a text is printed.
-#[derive(Clone, Copy, Debug, PartialEq, Eq, Hash)]
+#[derive(Clone, Copy, Debug)]
 pub enum Stream {
     Out,
     Err,
 }
 
 /// How a child ended. `Unknown`: neither a code nor a signal was told.
-#[derive(Clone, Copy, Debug, PartialEq, Eq, Hash)]
+#[derive(Clone, Copy, Debug, PartialEq)]
 pub enum Status {
     Code(i32),
     Signal(i32),
@@ -67,7 +68,7 @@ pub enum Status {
 }
 
 /// What a look at a cache entry and the outputs beside it shows.
-#[derive(Clone, Copy, Debug, PartialEq, Eq, Hash)]
+#[derive(Clone, Copy, Debug)]
 pub enum Look {
     Empty,
     /// The place of the first output that isn't there.
@@ -76,7 +77,7 @@ pub enum Look {
 }
 
 /// A script that a child runs: its text is written to a file called `name` in a fresh folder under `folder`.
-#[derive(Debug, Drop)]
+#[derive(Debug)]
 pub struct Script {
     pub folder: Option<Utf8PathBuf>,
     pub name: Text,
@@ -87,9 +88,21 @@ pub struct Script {
     pub after: Seq<Text>,
 }
 
+impl Drop for Script {
+    fn drop(self) {
+        let Script {
+            folder: _,
+            name: _,
+            text: _,
+            run: _,
+            after: _,
+        } = self;
+    }
+}
+
 /// A child as it is asked for: its program and words, its folder, and what changes in its environment
 /// (a name with no value is taken out).
-#[derive(Debug, Drop)]
+#[derive(Debug)]
 pub struct Spec {
     pub program: Text,
     pub arguments: Seq<Text>,
@@ -98,8 +111,20 @@ pub struct Spec {
     pub script: Option<Script>,
 }
 
+impl Drop for Spec {
+    fn drop(self) {
+        let Spec {
+            program: _,
+            arguments: _,
+            folder: _,
+            changes: _,
+            script: _,
+        } = self;
+    }
+}
+
 /// One entry of a host's record: what was asked of the world, and what it answered.
-#[derive(Debug, Drop)]
+#[derive(Drop)]
 pub enum Entry {
     /// A path that wasn't found as it was asked for.
     Missed(Utf8PathBuf, Miss),
@@ -121,4 +146,56 @@ pub enum Entry {
     Printed(Stream, Text),
     /// A temporary folder.
     Made(Utf8PathBuf),
+}
+
+impl fmt::Debug for Entry {
+    /// As it is derived for an enum, but by the number of its variants' fields.
+    fn fmt<W: fmt::Write>(&self, f: &mut fmt::Formatter<W>) -> fmt::Result {
+        match self {
+            Entry::Missed(path, miss) => show_two(f, "Missed", path, miss),
+            Entry::Failed(call) => show_one(f, "Failed", call),
+            Entry::Asked(prompt, answer) => show_two(f, "Asked", prompt, answer),
+            Entry::Summed(path, sum) => show_two(f, "Summed", path, sum),
+            Entry::Probed(path, outputs, look) => f
+                .debug_tuple("Probed")
+                .field(path)
+                .field(outputs)
+                .field(look)
+                .finish(),
+            Entry::Checked(outputs, first) => show_two(f, "Checked", outputs, first),
+            Entry::Saved(path) => show_one(f, "Saved", path),
+            Entry::Started(child, spec) => show_two(f, "Started", child, spec),
+            Entry::Ended(child, status) => show_two(f, "Ended", child, status),
+            Entry::Captured(spec, input, status, output) => f
+                .debug_tuple("Captured")
+                .field(spec)
+                .field(input)
+                .field(status)
+                .field(output)
+                .finish(),
+            Entry::Strayed(child, other) => show_two(f, "Strayed", child, other),
+            Entry::Signalled(signal) => show_one(f, "Signalled", signal),
+            Entry::Printed(stream, text) => show_two(f, "Printed", stream, text),
+            Entry::Made(path) => show_one(f, "Made", path),
+        }
+    }
+}
+
+/// Shows an entry with one field. No clause: nothing is claimed of what is shown for developers.
+fn show_one<A: fmt::Debug, W: fmt::Write>(
+    f: &mut fmt::Formatter<W>,
+    name: &str,
+    field: &A,
+) -> fmt::Result {
+    f.debug_tuple(name).field(field).finish()
+}
+
+/// Shows an entry with two fields. No clause: nothing is claimed of what is shown for developers.
+fn show_two<A: fmt::Debug, B: fmt::Debug, W: fmt::Write>(
+    f: &mut fmt::Formatter<W>,
+    name: &str,
+    first: &A,
+    second: &B,
+) -> fmt::Result {
+    f.debug_tuple(name).field(first).field(second).finish()
 }

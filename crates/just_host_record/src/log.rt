@@ -13,7 +13,7 @@ use just_path_text::NoMemory;
 use std::alloc::Global;
 
 /// The record of a host, with the memory that is kept for entries to come.
-#[derive(Debug, Drop)]
+#[derive(Drop)]
 pub struct Log {
     entries: Vec<Entry>,
     /// How many children were started.
@@ -90,9 +90,16 @@ impl Log {
         ensures err { OnErr result (entries_of self.new ≡ entries_of self.old) }
         ensures spare { spare_of self.new ≡ spare_of self.old }
     {
-        self.ready()?;
-        self.append(entry);
-        Ok(())
+        match self.ready() {
+            Ok(()) => {
+                self.append(entry);
+                Ok(())
+            }
+            Err(NoMemory) => {
+                drop(entry);
+                Err(NoMemory)
+            }
+        }
     }
 
     /// Appends the miss of a path.

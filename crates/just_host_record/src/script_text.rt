@@ -13,11 +13,21 @@ use std::marker::Model;
 /// let text = ScriptText::new(Text::from_str(alloc, "#!/bin/sh\n")?, 3, Text::from_str(alloc, "ls\n")?);
 /// assert!(text.to_string(alloc)?.as_str() == "#!/bin/sh\n\n\n\nls\n");
 /// ```
-#[derive(Debug, Drop)]
+#[derive(Debug)]
 pub struct ScriptText {
     front: Text,
     blank_lines: usize,
     rest: Text,
+}
+
+impl Drop for ScriptText {
+    fn drop(self) {
+        let ScriptText {
+            front: _,
+            blank_lines: _,
+            rest: _,
+        } = self;
+    }
 }
 
 impl Model for ScriptText {

@@ -14,7 +14,7 @@ use just_path::{Miss, Utf8Path};
 use std::alloc::Global;
 use std::fs::{self, File, Files};
 use std::io::{self, ErrorKind, Read};
-use std::process::{Child, Command, Processes, Stdio, SystemProcess};
+use std::process::{Child, Command, ExitStatus, Processes, Stdio, SystemProcess};
 use std::rt::Env;
 
 /// The failure of a call that the system refused.
@@ -105,7 +105,9 @@ fn begin<P: Processes<Started = SystemProcess>>(
     let mut command = command;
     command.stdin(input);
     command.stdout(Stdio::piped());
-    match command.spawn(processes) {
+    let told = command.spawn(processes);
+    drop(command);
+    match told {
         Ok(child) => Ok(child),
         Err(error) => Err(failure(Call::Start, &error)),
     }
@@ -137,6 +139,24 @@ fn bounded(told: io::Result<Vec<u8>>) -> Result<Vec<u8>, HostFault>
     }
 }
 
+/// Waits for a child.
+/// No clause: nothing is claimed of how a child ends.
+fn waited(child: Child<SystemProcess>) -> io::Result<ExitStatus> {
+    let mut child = child;
+    let told = child.wait();
+    drop(child);
+    told
+}
+
+/// Ends a child.
+/// No clause: nothing is claimed of how a child ends.
+fn end(child: Child<SystemProcess>) {
+    let mut child = child;
+    let _ = child.kill();
+    let _ = child.wait();
+    drop(child);
+}
+
 /// Reads what a child prints, and waits for it. One whose output can't be read or is too long is ended.
 fn finish(alloc: Global, child: Child<SystemProcess>) -> Result<(Status, Vec<u8>), HostFault>
     ensures fault { (input : List ℕ) → IsCaptureFault input result }
@@ -145,13 +165,12 @@ fn finish(alloc: Global, child: Child<SystemProcess>) -> Result<(Status, Vec<u8>
     let mut child = child;
     let told = output_of(alloc, &mut child);
     match bounded(told) {
-        Ok(bytes) => match child.wait() {
+        Ok(bytes) => match waited(child) {
             Ok(status) => Ok((status_of(&status), bytes)),
             Err(error) => Err(failure(Call::Capture, &error)),
         },
         Err(fault) => {
-            let _ = child.kill();
-            let _ = child.wait();
+            end(child);
             Err(fault)
         }
     }
@@ -168,7 +187,10 @@ fn capture_with<P: Processes<Started = SystemProcess>>(
     ensures fault { (input : List ℕ) → IsCaptureFault input result }
     ensures limit { IfOk result (λ r. length r.1.items ≤ MAX_BYTES) }
 {
-    let command = command_of(alloc, spec, path_of(file))?;
+    let Ok(command) = command_of(alloc, spec, path_of(file)) else {
+        drop(input);
+        return Err(HostFault::NoMemory);
+    };
     match begin(processes, command, input) {
         Ok(child) => finish(alloc, child),
         Err(fault) => Err(fault),
@@ -193,7 +215,10 @@ fn capture_fed<R: Files + Env + Processes<Started = SystemProcess>>(
             }
             told
         }
-        Err(fault) => Err(fault),
+        Err(fault) => {
+            drop(stream);
+            Err(fault)
+        }
     }
 }
 

@@ -1,7 +1,7 @@
 //! The command of a child, and what its end means.
-ghost use Rattle.std.specs.Prelude.{◌≡◌, ◌++◌, ℕ, List, Option, Some, true, false, if◌then◌else◌, IfOk, OnOk};
+ghost use Rattle.std.specs.Prelude.{◌≡◌, ◌++◌, ℕ, List, [], Option, Some, None, true, false, if◌then◌else◌, IfOk, OnOk};
 ghost use Rattle.std.specs.Str.{bytes_eq};
-ghost use Rattle.std.specs.Process.{command_program, command_args, command_dir, command_var, clears_env, exit_code, exit_signal};
+ghost use Rattle.std.specs.Process.{command_program, command_args, command_arg0, command_dir, command_var, clears_env, SameProgramAndArgs, SameEnv, SameDir, exit_code, exit_signal};
 ghost use Rattle.just_host_system.specs.Commands.{program_with, arguments_with, IsCommandWith, IsCommandOf, IsCommandAt, changes_path, names_shell, said_after, status_told};
 
 use just_host_record::{Spec, Status};
@@ -44,12 +44,30 @@ fn command_with(alloc: Global, program: &str, spec: &Spec, file: &str) -> Result
     ensures { IfOk result (IsCommandWith program.now file.now spec.now) }
 {
     let mut command = Command::new(alloc, program)?;
-    add_words(&mut command, file, spec)?;
-    add_changes(&mut command, spec.changes.as_slice())?;
+    match fill(&mut command, file, spec) {
+        Ok(()) => Ok(command),
+        Err(NoMemory) => {
+            drop(command);
+            Err(NoMemory)
+        }
+    }
+}
+
+/// Adds to a new command what a child is but for its program: its arguments, its changes and its folder.
+fn fill(command: &mut Command, file: &str, spec: &Spec) -> Result<(), NoMemory>
+    requires arguments { command_args command.old ≡ [] }
+    requires folder { command_dir command.old ≡ None }
+    requires vars { (name : List ℕ) → command_var command.old name ≡ None }
+    requires clears { clears_env command.old ≡ false }
+    ensures { OnOk result
+        (IsCommandWith (command_program command.old) file.now spec.now command.new) }
+{
+    add_words(command, file, spec)?;
+    add_changes(command, spec.changes.as_slice())?;
     if let Some(folder) = &spec.folder {
         command.current_dir(folder.as_str())?;
     }
-    Ok(command)
+    Ok(())
 }
 
 /// The command of a child whose script is in that file, if it has one. It inherits the streams of this process.
@@ -65,8 +83,24 @@ pub fn command_at(alloc: Global, path: &str, spec: &Spec, file: &str) -> Result<
     ensures { IfOk result (IsCommandAt path.now file.now spec.now) }
 {
     let mut command = command_with(alloc, path, spec, file)?;
-    command.arg0(program_with(file, spec))?;
-    Ok(command)
+    match call_by(&mut command, program_with(file, spec)) {
+        Ok(()) => Ok(command),
+        Err(NoMemory) => {
+            drop(command);
+            Err(NoMemory)
+        }
+    }
+}
+
+/// Lets a command tell its child that name.
+fn call_by(command: &mut Command, name: &str) -> Result<(), NoMemory>
+    ensures name { OnOk result (command_arg0 command.new ≡ Some name.now) }
+    ensures call { OnOk result (SameProgramAndArgs command.old command.new) }
+    ensures env { OnOk result (SameEnv command.old command.new) }
+    ensures dir { OnOk result (SameDir command.old command.new) }
+{
+    command.arg0(name)?;
+    Ok(())
 }
 
 /// Whether some change is one of `PATH`.

@@ -2,6 +2,7 @@
 //! what a host is in `just_host_record`.
 #![tactic(auto)]
 
+mod answers;
 mod capturing;
 mod child;
 mod command;

@@ -1,32 +1,32 @@
 //! The host of this process, over the system.
-ghost use Rattle.std.specs.Prelude.{◌≡◌, ◌⊎◌, ◌++◌, ◌<◌, [], ◌∷◌, Ok, None, IfOk, IfSome, OnOk, refl, length};
+ghost use Rattle.std.specs.Prelude.{◌≡◌, ◌++◌, ◌<◌, [], ◌∷◌, Ok, None, IfOk, IfSome, OnOk, refl, length};
 ghost use Rattle.just_path.specs.Path.{text_of};
-ghost use Rattle.just_path.specs.Host.{note_of, note_of_fault};
 ghost use Rattle.just_host_record.specs.declared.entry.Entry.{Entry};
-ghost use Rattle.just_host_record.specs.Record.{noted, gained, refused, IsOwn, IsOwnFault, NeverMissed, IsStartFault, script_folder, text_or_empty, children, faults_of, misses_of};
-ghost use Rattle.just_host_record.specs.Looks.{ChecksTo};
-ghost use Rattle.just_host_record.specs.declared.entry.HostFault.{HostFault};
+ghost use Rattle.just_host_record.specs.Record.{gained, IsStartFault, script_folder, text_or_empty, children, faults_of, misses_of};
 ghost use Rattle.just_host_record.specs.Logs.{entries_of, spare_of, started_of, HasRoom, LogWent};
 ghost use Rattle.just_host_record.proofs.Laws.{counts_noted};
 ghost use Rattle.just_host_system.specs.Commands.{IsCommandOf};
 ghost use Rattle.just_host_system.specs.Real.{record_of, path_of};
 
+use super::answers::{
+    answer, answer_ask, answer_check, answer_path, answer_print, answer_probe, answer_read,
+    answer_save, answer_sum, answer_temp, note_capture, ready_capture, ready_check, ready_path,
+    ready_probe, ready_start, ready_text, refuse, refuse_capture,
+};
 use super::capturing::capture;
 use super::child::{RealChild, RealDone};
 use super::command::{command_at, command_of, names_shell};
 use super::script::{ScriptFile, place, remove};
 use super::shell::Shell;
 use just_host_files::disk::{self, is_absent};
+use just_host_files::path_or_empty;
 use just_host_files::system::{
-    ask, canonical, here, list, look, miss_of, names, pairs, read, read_text, show, target,
+    ask, canonical, here, list, look, names, pairs, read, read_text, show, target,
 };
-use just_host_files::{copied_bytes, copies_of, path_or_empty};
-use just_host_record::{
-    Call, Entry, Host, HostFault, Log, Look, Script, Spec, Status, Stream, boxed_copy,
-};
+use just_host_record::{Call, Entry, Host, HostFault, Log, Look, Script, Spec, Status, Stream};
 use just_lang_read::Boxed;
-use just_path::{Item, Meta, Miss, PathCall, PathFault, PathHost, Utf8Path, Utf8PathBuf};
-use just_path_text::{Environ, NoMemory, Seq, Text, TryClone};
+use just_path::{Item, Meta, PathCall, PathFault, PathHost, Utf8Path, Utf8PathBuf};
+use just_path_text::{Environ, NoMemory, Seq, Text};
 use std::alloc::Global;
 use std::fs::File;
 use std::io::{self, ErrorKind, Input};
@@ -71,70 +71,6 @@ impl<R> RealHost<R> {
     }
 }
 
-/// Notes that the system refused a call on a path, and answers how.
-fn refuse(
-    log: &mut Log,
-    alloc: Global,
-    call: Call,
-    path: Utf8Path<'_>,
-    error: &io::Error,
-) -> HostFault
-    ensures entries { entries_of log.new ≡ entries_of log.old ++ refused (text_of path.entry) result }
-    ensures own { IsOwnFault call result }
-    ensures spare { spare_of log.new ≡ spare_of log.old }
-{
-    if error.kind() == ErrorKind::OutOfMemory {
-        return HostFault::NoMemory;
-    }
-    let Some(miss) = miss_of(error) else {
-        return match log.failure(call) {
-            Ok(()) => HostFault::Failed(call),
-            Err(NoMemory) => HostFault::NoMemory,
-        };
-    };
-    match log.miss(alloc, path, miss) {
-        Ok(()) => HostFault::Missed(miss),
-        Err(NoMemory) => HostFault::NoMemory,
-    }
-}
-
-/// Hands on what the system answered to a call, and notes a refusal.
-fn answer<T>(
-    log: &mut Log,
-    alloc: Global,
-    call: Call,
-    path: Utf8Path<'_>,
-    told: io::Result<T>,
-) -> Result<T, HostFault>
-    ensures entries { entries_of log.new ≡ entries_of log.old ++ gained (text_of path.entry) (λ _. []) result }
-    ensures same { OnOk result (log.new ≡ log.old) }
-    ensures own { IsOwn call result }
-    ensures answer { IfOk result (λ x. told ≡ Ok x) }
-    ensures spare { spare_of log.new ≡ spare_of log.old }
-{
-    match told {
-        Ok(answer) => Ok(answer),
-        Err(error) => Err(refuse(log, alloc, call, path, &error)),
-    }
-}
-
-/// Notes that a child wasn't captured, and answers why.
-fn refuse_capture(log: &mut Log, alloc: Global, program: &Text, fault: HostFault) -> HostFault
-    ensures entries { entries_of log.new ≡ entries_of log.old ++ refused program.now result }
-    ensures same { (result ≡ fault) ⊎ (result ≡ HostFault.NoMemory) }
-    ensures spare { spare_of log.new ≡ spare_of log.old }
-{
-    let noted = match fault {
-        HostFault::Missed(miss) => log.miss(alloc, Utf8Path::new(program.as_str()), miss),
-        HostFault::Failed(call) => log.failure(call),
-        HostFault::NoMemory => Err(NoMemory),
-    };
-    match noted {
-        Ok(()) => fault,
-        Err(NoMemory) => HostFault::NoMemory,
-    }
-}
-
 /// The number of the first output that isn't there, and the place of one that isn't found for another reason, with its error. Nothing
 /// is claimed of files.
 fn first_absent<F: Files>(
@@ -151,145 +87,6 @@ fn first_absent<F: Files>(
         }
     }
     Ok(None)
-}
-
-/// The same of a call of a path host.
-fn refuse_path(
-    log: &mut Log,
-    alloc: Global,
-    call: PathCall,
-    path: Utf8Path<'_>,
-    error: &io::Error,
-) -> PathFault
-    ensures entries { entries_of log.new ≡ entries_of log.old ++ noted (note_of_fault call (text_of path.entry) result) }
-    ensures spare { spare_of log.new ≡ spare_of log.old }
-{
-    if error.kind() == ErrorKind::OutOfMemory {
-        return PathFault::NoMemory;
-    }
-    match miss_of(error) {
-        Some(miss) => log.path_miss(alloc, path, miss),
-        None => log.path_failure(call),
-    }
-}
-
-/// Hands on what the system answered to a call of a path host, and notes a refusal.
-fn answer_path<T>(
-    log: &mut Log,
-    alloc: Global,
-    call: PathCall,
-    path: Utf8Path<'_>,
-    told: io::Result<T>,
-) -> Result<T, PathFault>
-    ensures went { LogWent log.old log.new (note_of call (text_of path.entry) result) }
-    ensures answer { IfOk result (λ x. told ≡ Ok x) }
-{
-    match told {
-        Ok(answer) => Ok(answer),
-        Err(error) => Err(refuse_path(log, alloc, call, path, &error)),
-    }
-}
-
-/// Hands on a text that was read, and notes a refusal.
-fn answer_read(
-    log: &mut Log,
-    alloc: Global,
-    call: Call,
-    path: Utf8Path<'_>,
-    told: io::Result<Result<String, Miss>>,
-) -> Result<String, HostFault>
-    ensures entries { entries_of log.new ≡ entries_of log.old ++ gained (text_of path.entry) (λ _. []) result }
-    ensures own { IsOwn call result }
-    ensures same { OnOk result (log.new ≡ log.old) }
-    ensures answer { IfOk result (λ s. told ≡ Ok (Ok s)) }
-    ensures spare { spare_of log.new ≡ spare_of log.old }
-{
-    match told {
-        Ok(Ok(text)) => Ok(text),
-        Ok(Err(miss)) => {
-            log.miss(alloc, path, miss)?;
-            Err(HostFault::Missed(miss))
-        }
-        Err(error) => Err(refuse(log, alloc, call, path, &error)),
-    }
-}
-
-/// Notes a check, or why it has no answer, where the log was made ready.
-fn answer_check(
-    log: &mut Log,
-    alloc: Global,
-    outputs: &[Utf8PathBuf],
-    copies: Seq<Utf8PathBuf>,
-    told: Result<Option<usize>, (usize, io::Error)>,
-) -> Result<Option<u32>, HostFault>
-    requires room { HasRoom log.old }
-    requires copies { copies ≡ outputs.now }
-    requires told { IfOk told (λ o. IfSome o (λ i. i < length outputs.now)) }
-    ensures within { IfOk result (λ o. IfSome o (λ i. i < length outputs.now)) }
-    ensures entries { ChecksTo (entries_of log.old) (entries_of log.new) outputs.now result }
-    ensures own { IsOwn Call.Check result }
-    ensures spare { spare_of log.new ≡ spare_of log.old }
-{
-    match told {
-        Ok(None) => {
-            log.append(Entry::Checked(copies, None));
-            Ok(None)
-        }
-        Ok(Some(at)) => {
-            let Ok(number) = u32::try_from(at) else {
-                return Err(HostFault::NoMemory);
-            };
-            log.append(Entry::Checked(copies, Some(number)));
-            Ok(Some(number))
-        }
-        Err((at, error)) => match outputs.get(at) {
-            Some(output) => Err(refuse(log, alloc, Call::Check, output.as_path(), &error)),
-            None => Err(HostFault::NoMemory),
-        },
-    }
-}
-
-/// Notes a print, or that it failed, where the log was made ready.
-fn answer_print(
-    log: &mut Log,
-    stream: Stream,
-    text: Text,
-    told: io::Result<()>,
-) -> Result<(), HostFault>
-    requires { HasRoom log.old }
-    ensures entries { entries_of log.new ≡ entries_of log.old ++ gained [] (λ _. Entry.Printed stream text ∷ []) result }
-    ensures own { IsOwn Call.Print result }
-    ensures never_missed { NeverMissed result }
-    ensures spare { spare_of log.new ≡ spare_of log.old }
-{
-    match told {
-        Ok(()) => {
-            log.append(Entry::Printed(stream, text));
-            Ok(())
-        }
-        Err(error) if error.kind() == ErrorKind::OutOfMemory => Err(HostFault::NoMemory),
-        Err(_) => {
-            log.append(Entry::Failed(Call::Print));
-            Err(HostFault::Failed(Call::Print))
-        }
-    }
-}
-
-/// Makes the log ready for the start of a child, and answers a copy of what it is started by.
-fn prepare(log: &mut Log, alloc: Global, spec: &Spec) -> Result<Boxed<Spec>, HostFault>
-    ensures room { OnOk result (HasRoom log.new) }
-    ensures number { OnOk result (started_of log.new < u32.MAX) }
-    ensures copy { IfOk result (λ p. p ≡ spec.now) }
-    ensures entries { entries_of log.new ≡ entries_of log.old ++ gained (script_folder spec.now) (λ _. []) result }
-    ensures fault { IsStartFault spec.now result }
-    ensures spare { spare_of log.new ≡ spare_of log.old }
-{
-    if !log.can_number() {
-        return Err(HostFault::NoMemory);
-    }
-    let copy = boxed_copy(alloc, spec)?;
-    log.ready()?;
-    Ok(copy)
 }
 
 /// The folder of a script, which is the path of a miss of its file.
@@ -347,7 +144,11 @@ fn begin<P: Processes<Started = SystemProcess>>(
     command: Result<Command, NoMemory>,
 ) -> io::Result<Child<SystemProcess>> {
     match command {
-        Ok(mut command) => command.spawn(processes),
+        Ok(mut command) => {
+            let told = command.spawn(processes);
+            drop(command);
+            told
+        }
         Err(NoMemory) => Err(io::Error::from(ErrorKind::OutOfMemory)),
     }
 }
@@ -514,19 +315,11 @@ impl<R: Runtime + Files<File = File> + Processes<Started = SystemProcess>> Host 
     }
 
     fn ask(&mut self, prompt: &str) -> Result<String, HostFault> {
-        let noted = Text::from_str(self.alloc, prompt)?;
-        self.log.ready()?;
+        let Ok(noted) = ready_text(&mut self.log, self.alloc, prompt) else {
+            return Err(HostFault::NoMemory);
+        };
         let told = ask(&self.rt, self.alloc, prompt);
-        let text = answer_read(
-            &mut self.log,
-            self.alloc,
-            Call::Ask,
-            Utf8Path::new("-"),
-            told,
-        )?;
-        let copy = Text::from_str(self.alloc, text.as_str())?;
-        self.log.append(Entry::Asked(noted, copy));
-        Ok(text)
+        answer_ask(&mut self.log, self.alloc, noted, told)
     }
 
     fn environ(&mut self) -> Result<Environ, HostFault> {
@@ -549,18 +342,11 @@ impl<R: Runtime + Files<File = File> + Processes<Started = SystemProcess>> Host 
         parent: Option<Utf8Path<'_>>,
         prefix: &str,
     ) -> Result<Utf8PathBuf, HostFault> {
-        self.log.ready()?;
+        let Ok(()) = self.log.ready() else {
+            return Err(HostFault::NoMemory);
+        };
         let told = disk::temp_folder(&self.rt, self.alloc, parent, prefix);
-        let made = answer(
-            &mut self.log,
-            self.alloc,
-            Call::Temp,
-            path_or_empty(parent),
-            told,
-        )?;
-        let copy = made.try_clone()?;
-        self.log.append(Entry::Made(copy));
-        Ok(made)
+        answer_temp(&mut self.log, self.alloc, path_or_empty(parent), told)
     }
 
     fn remove(&mut self, path: Utf8Path<'_>) -> Result<(), HostFault> {
@@ -569,71 +355,66 @@ impl<R: Runtime + Files<File = File> + Processes<Started = SystemProcess>> Host 
     }
 
     fn print(&mut self, stream: Stream, text: &str) -> Result<(), HostFault> {
-        let copy = Text::from_str(self.alloc, text)?;
-        self.log.ready()?;
+        let Ok(copy) = ready_text(&mut self.log, self.alloc, text) else {
+            return Err(HostFault::NoMemory);
+        };
         let told = show(&self.rt, stream, text);
         answer_print(&mut self.log, stream, copy, told)
     }
 
     fn sum(&mut self, path: Utf8Path<'_>) -> Result<[u8; 32], HostFault> {
-        let copy = path.to_path_buf(self.alloc)?;
-        self.log.ready()?;
+        let Ok(copy) = ready_path(&mut self.log, self.alloc, path) else {
+            return Err(HostFault::NoMemory);
+        };
         let told = disk::sum(&self.rt, self.alloc, path.as_str());
-        let sum = answer(&mut self.log, self.alloc, Call::Sum, path, told)?;
-        self.log.append(Entry::Summed(copy, sum));
-        Ok(sum)
+        answer_sum(&mut self.log, self.alloc, path, copy, told)
     }
 
     fn probe(&mut self, entry: Utf8Path<'_>, outputs: &[Utf8PathBuf]) -> Result<Look, HostFault> {
-        let copy = entry.to_path_buf(self.alloc)?;
-        let copies = copies_of(self.alloc, outputs)?;
-        self.log.ready()?;
+        let Ok((copy, copies)) = ready_probe(&mut self.log, self.alloc, entry, outputs) else {
+            return Err(HostFault::NoMemory);
+        };
         let told = disk::probe(&self.rt, entry, outputs);
-        let look = answer(&mut self.log, self.alloc, Call::Probe, entry, told)?;
-        self.log.append(Entry::Probed(copy, copies, look));
-        Ok(look)
+        answer_probe(&mut self.log, self.alloc, entry, copy, copies, told)
     }
 
     fn check(&mut self, outputs: &[Utf8PathBuf]) -> Result<Option<u32>, HostFault> {
-        let copies = copies_of(self.alloc, outputs)?;
-        self.log.ready()?;
-        answer_check(
-            &mut self.log,
-            self.alloc,
-            outputs,
-            copies,
-            first_absent(&self.rt, outputs),
-        )
+        let Ok(copies) = ready_check(&mut self.log, self.alloc, outputs) else {
+            return Err(HostFault::NoMemory);
+        };
+        let told = first_absent(&self.rt, outputs);
+        answer_check(&mut self.log, self.alloc, outputs, copies, told)
     }
 
     fn save(&mut self, entry: Utf8Path<'_>, bytes: &[u8]) -> Result<(), HostFault> {
-        let copy = entry.to_path_buf(self.alloc)?;
-        self.log.ready()?;
+        let Ok(copy) = ready_path(&mut self.log, self.alloc, entry) else {
+            return Err(HostFault::NoMemory);
+        };
         let told = disk::save(&self.rt, entry.as_str(), bytes);
-        answer(&mut self.log, self.alloc, Call::Save, entry, told)?;
-        self.log.append(Entry::Saved(copy));
-        Ok(())
+        answer_save(&mut self.log, self.alloc, entry, copy, told)
     }
 
     fn capture(&mut self, spec: &Spec, input: &[u8]) -> Result<(Status, Vec<u8>), HostFault> {
-        let copy = boxed_copy(self.alloc, spec)?;
-        let fed = copied_bytes(self.alloc, input)?;
-        self.log.ready()?;
+        let Ok((copy, fed)) = ready_capture(&mut self.log, self.alloc, spec, input) else {
+            return Err(HostFault::NoMemory);
+        };
         match capture(&self.rt, self.alloc, spec, input) {
-            Ok((status, output)) => {
-                let noted = copied_bytes(self.alloc, output.as_slice())?;
-                self.log.append(Entry::Captured(copy, fed, status, noted));
-                Ok((status, output))
-            }
+            Ok(end) => note_capture(&mut self.log, self.alloc, copy, fed, end),
             Err(fault) => Err(refuse_capture(&mut self.log, self.alloc, &spec.program, fault)),
         }
     }
 
     fn start(&mut self, spec: &Spec) -> Result<RealChild, HostFault> {
-        let copy = prepare(&mut self.log, self.alloc, spec)?;
-        let file = place_script(&self.rt, &mut self.log, self.alloc, spec)?;
-        let told = spawn(&self.rt, self.alloc, &mut self.shell, spec, &file);
-        answer_start(&mut self.log, copy, file, told)
+        let Ok(copy) = ready_start(&mut self.log, self.alloc, spec) else {
+            return Err(HostFault::NoMemory);
+        };
+        match place_script(&self.rt, &mut self.log, self.alloc, spec) {
+            Ok(file) => {
+                let told = spawn(&self.rt, self.alloc, &mut self.shell, spec, &file);
+                answer_start(&mut self.log, copy, file, told)
+            }
+            Err(fault) => Err(fault),
+        }
     }
 
     fn number(child: &RealChild) -> u32 {
@@ -646,7 +427,10 @@ impl<R: Runtime + Files<File = File> + Processes<Started = SystemProcess>> Host 
 
     fn settle(&mut self, child: u32, done: RealDone) -> Result<Status, HostFault> {
         clear(&self.rt, &done.script);
-        self.log.settle(child, done.number, done.status)
+        let number = done.number;
+        let status = done.status;
+        drop(done);
+        self.log.settle(child, number, status)
     }
 
     fn room(&mut self, n: usize) -> Result<(), NoMemory> {

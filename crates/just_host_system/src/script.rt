@@ -3,6 +3,7 @@
 ghost use Rattle.std.specs.Prelude.{◌≡◌, IfOk};
 ghost use Rattle.just_host_system.specs.ScriptFiles.{path_in};
 
+use just_host_files::system::here;
 use just_host_files::{fresh_folder, in_memory};
 use just_host_record::Script;
 use just_path::Utf8Path;
@@ -14,10 +15,15 @@ use std::rt::Env;
 use std::{env, io};
 
 /// The file of a script, and the folder that is made for it.
-#[derive(Drop)]
 pub(crate) struct ScriptFile {
     pub(crate) folder: Text,
     pub(crate) path: Text,
+}
+
+impl Drop for ScriptFile {
+    fn drop(self) {
+        let ScriptFile { folder: _, path: _ } = self;
+    }
 }
 
 /// The path of a name in a folder.
@@ -67,8 +73,12 @@ fn parent_of<R: Env>(rt: &R, alloc: Global, script: &Script) -> io::Result<Text>
     if asked.as_str().starts_with('/') {
         return Ok(asked);
     }
-    let current = env::current_dir(&(rt, alloc))?.into_string();
-    in_memory(path_in(alloc, current.as_str(), asked.as_str()))
+    let path = match here(rt, alloc) {
+        Ok(current) => in_memory(path_in(alloc, current.as_path().as_str(), asked.as_str())),
+        Err(error) => Err(error),
+    };
+    drop(asked);
+    path
 }
 
 /// Writes the text of a script to its file; one that runs itself may be run by this user.
@@ -91,7 +101,9 @@ pub(crate) fn place<R: Files + Env>(
     ensures { IfOk result (λ f. f.path ≡ path_in f.folder script.now.name) }
 {
     let parent = parent_of(rt, alloc, script)?;
-    let file = make_folder(rt, alloc, parent.as_str(), script.name.as_str())?;
+    let made = make_folder(rt, alloc, parent.as_str(), script.name.as_str());
+    drop(parent);
+    let file = made?;
     match write(rt, alloc, file.path.as_str(), script) {
         Ok(()) => Ok(file),
         Err(error) => {

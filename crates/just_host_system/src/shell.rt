@@ -45,12 +45,20 @@ fn found_in<F: Files>(files: &F, alloc: Global, folder: &str) -> Option<Shell> {
     let Ok(path) = path_in(alloc, folder, "sh") else {
         return Some(Shell::Sought);
     };
-    match look(files, path.as_str(), true) {
-        Ok(meta) if meta.executable => Some(Shell::At(path)),
-        Ok(_) => Some(Shell::Sought),
+    match runs_at(files, path.as_str()) {
+        Some(true) => Some(Shell::At(path)),
+        Some(false) => Some(Shell::Sought),
+        None => None,
+    }
+}
+
+/// Whether what stands at a path can be run; none where nothing stands there.
+fn runs_at<F: Files>(files: &F, path: &str) -> Option<bool> {
+    match look(files, path, true) {
+        Ok(meta) => Some(meta.executable),
         Err(error) => match error.kind() {
             ErrorKind::NotFound | ErrorKind::NotADirectory => None,
-            _ => Some(Shell::Sought),
+            _ => Some(false),
         },
     }
 }

@@ -8,5 +8,5 @@ use Rattle.just_host.proofs.memory.MemHostHost.capture.Goals as goal
 pub returns-then-strike-clause-leaves : goal.returns-then-strike-clause-leaves
 returns-then-strike-clause-leaves c = failed_leaves (world_of c.args.self.now) (world_of c.args.self.now) call.Capture c.fail.result c.fail.ensures.kind refl
 
-pub returns-clause-leaves : goal.returns-clause-leaves
-returns-clause-leaves c = (world_of c.args.self.now, refl, refl, refl, refl)
+pub returns-in-Ok-clause-leaves : goal.returns-in-Ok-clause-leaves
+returns-in-Ok-clause-leaves c = (world_of c.args.self.now, refl, refl, refl, refl)
