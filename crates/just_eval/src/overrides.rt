@@ -80,6 +80,7 @@ fn take_out(
     'assignments: for one in assignments {
         let variable = (path.try_clone()?, one.name.try_clone()?);
         left.remove(&variable);
+        drop(variable);
     }
     Ok(())
 }
@@ -135,7 +136,9 @@ fn variable_texts(alloc: Global, variables: BTreeSet<Variable>) -> Result<Seq<Te
     let mut rest = variables;
     let mut texts = Vec::new(alloc);
     'variables: while let Some(variable) = rest.pop_first() {
-        texts.push(variable_text(alloc, &variable)?)?;
+        let text = variable_text(alloc, &variable);
+        drop(variable);
+        texts.push(text?)?;
     }
     Ok(Seq::from(texts))
 }

@@ -51,7 +51,9 @@ fn push_part(
         }
         Part::Value(expr) => {
             let value = text_in_recipe(alloc, scopes, from, values, expr)?;
-            text.push_str(value.as_str())?;
+            let pushed = text.push_str(value.as_str());
+            drop(value);
+            pushed?;
             Ok(())
         }
     }

@@ -9,7 +9,7 @@ use Rattle.just_lang_syntax.specs.declared.ast.Expr.{Expr}
 use Rattle.just_lang_syntax.specs.declared.ast.Expr.TheOpen.{Expr-F}
 use Rattle.just_lang_syntax.specs.declared.ast.Expr.TheFolds.{fold-roll-Expr}
 use Rattle.just_lang_syntax.specs.declared.ast.Expr.TheVariants as e
-use Rattle.just_eval_closure.specs.Values.{Valued, with_text, literal_text, compares, compared_by, rooted_value, joined_value, env_value, value_step, value}
+use Rattle.just_eval_closure.specs.Values.{Valued, with_text, literal_text, compares, compared_by, rooted_value, joined_value, env_value, value_step, value, asked_value}
 use Rattle.just_eval_closure.specs.Asked.{AsksFor}
 use Rattle.just_eval_closure.specs.declared.expression.Asked.{Asked}
 use Rattle.just_eval_closure.specs.declared.expression.Asked.TheVariants.{Found, Absent, Refused}
@@ -124,21 +124,21 @@ module _ (names : List ℕ → Valued) (env : List ℕ → Option (List ℕ)) wh
   pub is_condition_refused : (a : Expr) (c : Comparison) (b d : Expr) (chained : Bool) (x : Expr) (n : List ℕ) → Err n ≡ compared_by c (value names env a) (value names env b) → Err n ≡ value names env (e.If a c b d chained x)
   is_condition_refused a c b d chained x n is = sym (opened_if a c b d chained x ∙ takes_none c (value names env a) (value names env b) (value names env d) (value names env x) n is)
 
-  -- what `env` gives, where the value of its key is known
-  asked_as : (d : Option Valued) (v k : Valued) → v ≡ k → asked v d ≡ asked k d
-  asked_as d v k is = ap (λ x. asked x d) is
+  pub is_env : (l c : ℕ) (a : Expr) (d : Option Expr) → asked_value names env (value names env a) d ≡ value names env (e.Env l c a d)
+  is_env l c a d = sym (opened_env l c a d)
 
-  pub is_env_found : (l c : ℕ) (a : Expr) (d : Option Expr) (t : List ℕ) → AsksFor env (value names env a) (Found t) → Ok t ≡ value names env (e.Env l c a d)
-  is_env_found l c a d t asks =
-      sym (opened_env l c a d ∙ asked_as (option_map (value names env) d) (value names env a) (Ok asks.0) asks.1 ∙ ap (λ o. env_value asks.0 o (option_map (value names env) d)) asks.2)
+  -- ---- what `env` gives
 
-  pub is_env_default : (l c : ℕ) (a d : Expr) (k : List ℕ) → AsksFor env (value names env a) (Absent k) → value names env d ≡ value names env (e.Env l c a (Some d))
-  is_env_default l c a d k asks =
-      sym (opened_env l c a (Some d) ∙ asked_as (Some (value names env d)) (value names env a) (Ok k) asks.0 ∙ ap (λ o. env_value k o (Some (value names env d))) asks.1)
+  pub asked_found : (v : Valued) (d : Option Expr) (t : List ℕ) → AsksFor env v (Found t) → Ok t ≡ asked_value names env v d
+  asked_found v d t asks =
+      sym (ap (λ x. asked_value names env x d) asks.1 ∙ ap (λ o. env_value asks.0 o (option_map (value names env) d)) asks.2)
 
-  pub is_env_absent : (l c : ℕ) (a : Expr) (k : List ℕ) → AsksFor env (value names env a) (Absent k) → Err k ≡ value names env (e.Env l c a None)
-  is_env_absent l c a k asks =
-      sym (opened_env l c a None ∙ asked_as None (value names env a) (Ok k) asks.0 ∙ ap (λ o. env_value k o None) asks.1)
+  pub asked_default : (v : Valued) (d : Expr) (k : List ℕ) → AsksFor env v (Absent k) → value names env d ≡ asked_value names env v (Some d)
+  asked_default v d k asks =
+      sym (ap (λ x. asked_value names env x (Some d)) asks.0 ∙ ap (λ o. env_value k o (Some (value names env d))) asks.1)
 
-  pub is_env_refused : (l c : ℕ) (a : Expr) (d : Option Expr) (n : List ℕ) → AsksFor env (value names env a) (Refused n) → Err n ≡ value names env (e.Env l c a d)
-  is_env_refused l c a d n asks = sym (opened_env l c a d ∙ asked_as (option_map (value names env) d) (value names env a) (Err n) asks)
+  pub asked_absent : (v : Valued) (k : List ℕ) → AsksFor env v (Absent k) → Err k ≡ asked_value names env v None
+  asked_absent v k asks = sym (ap (λ x. asked_value names env x None) asks.0 ∙ ap (λ o. env_value k o None) asks.1)
+
+  pub asked_refused : (v : Valued) (d : Option Expr) (n : List ℕ) → AsksFor env v (Refused n) → Err n ≡ asked_value names env v d
+  asked_refused v d n asks = sym (ap (λ x. asked_value names env x d) asks)

@@ -81,7 +81,12 @@ pub no_more : (list : List Place) (bs : List Beside) (nodes : List Node) (around
 no_more list bs nodes around beside are short =
     subst (λ n. n ≤ CLOSURE_LIMIT) (sym (ap (λ ns. length ns) (are ∙ ap (λ cs. nodes_beside list 0 list cs) beside) ∙ nodes_count around list 0 [] list)) short
 
--- the nodes of what a walk gave are in order
+-- the nodes of what a walk gave make the closure
+pub closure_by : (around : Key → Around) (keys copies : List Key) (list : List Place) (bs : List Beside) (nodes : List Node) (invocations : List ℕ) → copies ≡ keys → Visits around (Ok []) None copies (Ok list) → AreBeside around list bs → nodes ≡ nodes_beside list 0 list bs → invocations ≡ numbers_of list None keys → IsClosureOf around keys (record { nodes = nodes; invocations = invocations })
+closure_by around keys copies list bs nodes invocations same visits beside nodes_are invocations_are =
+    closure_is around keys list bs (record { nodes = nodes; invocations = invocations }) (subst (λ ks. Visits around (Ok []) None ks (Ok list)) same visits) beside nodes_are invocations_are
+
+-- and are in order
 pub order_by : (around : Key → Around) (keys copies : List Key) (list : List Place) (bs : List Beside) (nodes : List Node) (invocations : List ℕ) → copies ≡ keys → Visits around (Ok []) None copies (Ok list) → AreBeside around list bs → nodes ≡ nodes_beside list 0 list bs → invocations ≡ numbers_of list None keys → IsWellFormed nodes invocations
 order_by around keys copies list bs nodes invocations same visits beside nodes_are invocations_are =
-    in_order around keys (record { nodes = nodes; invocations = invocations }) (closure_is around keys list bs (record { nodes = nodes; invocations = invocations }) (subst (λ ks. Visits around (Ok []) None ks (Ok list)) same visits) beside nodes_are invocations_are)
+    in_order around keys (record { nodes = nodes; invocations = invocations }) (closure_by around keys copies list bs nodes invocations same visits beside nodes_are invocations_are)

@@ -58,6 +58,10 @@ module _ (names : List ℕ → Valued) (env : List ℕ → Option (List ℕ)) wh
   abbrev pub value : Expr → Valued
   value = fold-Expr Valued value_step
 
+  -- what `env` gives for the value of its key and its second argument
+  abbrev pub asked_value : Valued → Option Expr → Valued
+  asked_value key default = with_text key (λ name. env_value name (env name) (option_map value default))
+
 -- whether two values compare so, where there are both
 abbrev pub compared_by : Comparison → Valued → Valued → Result Bool (List ℕ)
 compared_by comparison (Err name) b = Err name

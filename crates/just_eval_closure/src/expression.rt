@@ -1,13 +1,13 @@
 //! The values of expressions.
 
-ghost use Rattle.std.specs.Prelude.{◌≡◌, ◌++◌, ℕ, List, IfOk};
+ghost use Rattle.std.specs.Prelude.{◌≡◌, ◌++◌, ℕ, List, Ok, IfOk};
 ghost use Rattle.std.specs.Option.{option_copied};
 ghost use Rattle.just_path_text.specs.Environ.{value_of};
 ghost use Rattle.just_eval_closure.specs.Scopes.{found_in};
-ghost use Rattle.just_eval_closure.specs.Values.{Valued, value, literal_text, compares, compared_by, rooted_value, joined_value};
+ghost use Rattle.just_eval_closure.specs.Values.{Valued, value, asked_value, literal_text, compares, compared_by, rooted_value, joined_value};
 ghost use Rattle.just_eval_closure.specs.Asked.{AsksFor};
 
-use just_lang_read::ReadError;
+use just_lang_read::{Boxed, ReadError};
 use just_lang_syntax::{Comparison, Expr, StringLiteral};
 use just_path_text::{Environ, NoMemory, Text};
 use std::alloc::Global;
@@ -55,7 +55,8 @@ fn last_value<'p>(pairs: &'p [(Text, Text)], name: &str) -> Option<&'p str>
 }
 
 /// The value of an expression: a text, or the first variable that it asks the environment for and that isn't there.
-#[tactic(auto, using(crate::proofs::Exprs::is_then, crate::proofs::Exprs::is_else, crate::proofs::Exprs::is_condition_refused, crate::proofs::Exprs::is_root, crate::proofs::Exprs::is_join, crate::proofs::Exprs::is_concat, crate::proofs::Exprs::is_literal, crate::proofs::Exprs::is_variable, crate::proofs::Exprs::is_group, crate::proofs::Exprs::is_env_found, crate::proofs::Exprs::is_env_default, crate::proofs::Exprs::is_env_absent, crate::proofs::Exprs::is_env_refused))]
+#[cycle(value)]
+#[tactic(auto, using(crate::proofs::Exprs::is_then, crate::proofs::Exprs::is_else, crate::proofs::Exprs::is_condition_refused, crate::proofs::Exprs::is_root, crate::proofs::Exprs::is_join, crate::proofs::Exprs::is_concat, crate::proofs::Exprs::is_literal, crate::proofs::Exprs::is_variable, crate::proofs::Exprs::is_group, crate::proofs::Exprs::is_env))]
 pub fn value<N: Names>(
     alloc: Global,
     names: &N,
@@ -90,20 +91,34 @@ pub fn value<N: Names>(
             let first = value(alloc, names, env, first.get())?;
             joined(alloc, first, "", value(alloc, names, env, second.get())?)
         }
-        Expr::Literal(string) => Ok(Ok(literal(alloc, string)?)),
+        Expr::Literal(string) => literal(alloc, string),
         Expr::Variable(name) => names.meaning(alloc, &name.text),
         Expr::Group(inside) => value(alloc, names, env, inside.get()),
         Expr::Env { key, default, .. } => {
-            match (
-                found(alloc, env, value(alloc, names, env, key.get())?)?,
-                default,
-            ) {
-                (Asked::Found(text), _) => Ok(Ok(text)),
-                (Asked::Refused(name), _) => Ok(Err(name)),
-                (Asked::Absent(_), Some(expr)) => value(alloc, names, env, expr.get()),
-                (Asked::Absent(name), None) => Ok(Err(name)),
-            }
+            let key = value(alloc, names, env, key.get())?;
+            asked_value(alloc, names, env, key, default)
         }
+    }
+}
+
+/// What `env` gives for the value of its key and its second argument, if there is one.
+#[cycle(value)]
+#[tactic(auto, using(crate::proofs::Exprs::asked_found, crate::proofs::Exprs::asked_default, crate::proofs::Exprs::asked_absent, crate::proofs::Exprs::asked_refused))]
+fn asked_value<N: Names>(
+    alloc: Global,
+    names: &N,
+    env: &Env<'_>,
+    key: Result<Text, Text>,
+    default: &Option<Boxed<Expr>>,
+) -> Result<Result<Text, Text>, NoMemory>
+    ensures { IfOk result (λ v. v ≡ asked_value (N.meaning names.now)
+        (found_in env.now.pairs.now env.now.environ.now.pairs) key default.now) }
+{
+    match (found(alloc, env, key)?, default) {
+        (Asked::Found(text), _) => Ok(Ok(text)),
+        (Asked::Refused(name), _) => Ok(Err(name)),
+        (Asked::Absent(_), Some(expr)) => value(alloc, names, env, expr.get()),
+        (Asked::Absent(name), None) => Ok(Err(name)),
     }
 }
 
@@ -198,12 +213,12 @@ fn concatenation(alloc: Global, first: &str, second: &str, third: &str) -> Resul
 }
 
 /// The text of a string; the empty text where it means none, which no string of a sound justfile does.
-fn literal(alloc: Global, string: &StringLiteral) -> Result<Text, NoMemory>
-    ensures { IfOk result (λ t. t ≡ literal_text string.now) }
+fn literal(alloc: Global, string: &StringLiteral) -> Result<Result<Text, Text>, NoMemory>
+    ensures { IfOk result (λ v. v ≡ Ok (literal_text string.now)) }
 {
     match string.text(alloc) {
-        Ok(text) => Ok(text),
+        Ok(text) => Ok(Ok(text)),
         Err(ReadError::NoMemory) => Err(NoMemory),
-        Err(ReadError::Syntax | ReadError::Depth) => Ok(Text::from(String::new(alloc))),
+        Err(ReadError::Syntax | ReadError::Depth) => Ok(Ok(Text::from(String::new(alloc)))),
     }
 }

@@ -18,7 +18,7 @@ use just_path_text::{NoMemory, Seq};
 use std::alloc::Global;
 
 /// The closure of some keys: a node for each key that they need, once in each round, in the order of a run on one thread.
-#[tactic(auto, using(crate::proofs::Nodes::closure_is, crate::proofs::Nodes::in_order, crate::proofs::Nodes::no_more, crate::proofs::Nodes::as_many))]
+#[tactic(auto, using(crate::proofs::Nodes::as_many))]
 pub fn closure_of<S: Surroundings>(
     alloc: Global,
     surroundings: &S,

@@ -6,7 +6,6 @@ ghost use Rattle.just_eval_closure.specs.Places.{is_listed, number_of, places_wi
 ghost use Rattle.just_eval_closure.specs.Ran.{places_of};
 
 use super::Ran;
-use super::copies::copy_of_key;
 use super::mark::place_mark;
 use super::ran::Numbers;
 use just_lang_types::{Key, Place};
@@ -116,7 +115,7 @@ impl Numbers {
         if self.firsts.contains_key(&mark) {
             let copy = Place {
                 round: place.round,
-                key: copy_of_key(*self.places.allocator(), &place.key)?,
+                key: place.key.try_clone()?,
             };
             self.others.insert(copy, number)?;
         } else {

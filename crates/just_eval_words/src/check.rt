@@ -32,9 +32,9 @@ fn check_count(alloc: Global, recipe: &Recipe, count: usize) -> Result<(), LangE
     let parameters = recipe.parameters.as_slice();
     if count < least_words(parameters) {
         return Err(LangError::PositionalArgumentCountMismatch {
-            recipe: recipe.name.try_clone()?,
-            path: recipe.path.try_clone()?,
             parameters: copy_parameters(alloc, parameters)?,
+            path: recipe.path.try_clone()?,
+            recipe: recipe.name.try_clone()?,
             found: count,
         });
     }
@@ -107,10 +107,10 @@ fn check_pattern(
     match first_mismatch(alloc, pattern, values)? {
         None => Ok(()),
         Some(argument) => Err(LangError::ArgumentPatternMismatch {
-            argument,
+            pattern: pattern.texts.try_clone()?,
             recipe: recipe.name.try_clone()?,
             parameter: parameter.name.try_clone()?,
-            pattern: pattern.texts.try_clone()?,
+            argument,
         }),
     }
 }

@@ -32,6 +32,7 @@ fn copy_string(string: &StringLiteral) -> Result<StringLiteral, NoMemory>
 }
 
 /// A copy of an expression.
+#[cycle(copy)]
 fn copy_expr(alloc: Global, expr: &Expr) -> Result<Expr, NoMemory>
     ensures { IfOk result (λ e. e ≡ expr.now) }
 {
@@ -44,10 +45,10 @@ fn copy_expr(alloc: Global, expr: &Expr) -> Result<Expr, NoMemory>
             chained,
             alternative,
         } => {
-            let left = Boxed::new(alloc, copy_expr(alloc, left.get())?)?;
-            let right = Boxed::new(alloc, copy_expr(alloc, right.get())?)?;
-            let consequent = Boxed::new(alloc, copy_expr(alloc, consequent.get())?)?;
-            let alternative = Boxed::new(alloc, copy_expr(alloc, alternative.get())?)?;
+            let left = copied(alloc, left.get())?;
+            let right = copied(alloc, right.get())?;
+            let consequent = copied(alloc, consequent.get())?;
+            let alternative = copied(alloc, alternative.get())?;
             Ok(Expr::If {
                 left,
                 comparison: *comparison,
@@ -58,23 +59,23 @@ fn copy_expr(alloc: Global, expr: &Expr) -> Result<Expr, NoMemory>
             })
         }
         Expr::Root(inside) => {
-            let inside = Boxed::new(alloc, copy_expr(alloc, inside.get())?)?;
+            let inside = copied(alloc, inside.get())?;
             Ok(Expr::Root(inside))
         }
         Expr::Join(first, second) => {
-            let first = Boxed::new(alloc, copy_expr(alloc, first.get())?)?;
-            let second = Boxed::new(alloc, copy_expr(alloc, second.get())?)?;
+            let first = copied(alloc, first.get())?;
+            let second = copied(alloc, second.get())?;
             Ok(Expr::Join(first, second))
         }
         Expr::Concat(first, second) => {
-            let first = Boxed::new(alloc, copy_expr(alloc, first.get())?)?;
-            let second = Boxed::new(alloc, copy_expr(alloc, second.get())?)?;
+            let first = copied(alloc, first.get())?;
+            let second = copied(alloc, second.get())?;
             Ok(Expr::Concat(first, second))
         }
         Expr::Literal(string) => Ok(Expr::Literal(copy_string(string)?)),
         Expr::Variable(name) => Ok(Expr::Variable(copy_name(name)?)),
         Expr::Group(inside) => {
-            let inside = Boxed::new(alloc, copy_expr(alloc, inside.get())?)?;
+            let inside = copied(alloc, inside.get())?;
             Ok(Expr::Group(inside))
         }
         Expr::Env {
@@ -83,11 +84,8 @@ fn copy_expr(alloc: Global, expr: &Expr) -> Result<Expr, NoMemory>
             key,
             default,
         } => {
-            let key = Boxed::new(alloc, copy_expr(alloc, key.get())?)?;
-            let default = match default {
-                None => None,
-                Some(inside) => Some(Boxed::new(alloc, copy_expr(alloc, inside.get())?)?),
-            };
+            let key = copied(alloc, key.get())?;
+            let default = copied_default(alloc, default)?;
             Ok(Expr::Env {
                 line: *line,
                 column: *column,
@@ -95,6 +93,29 @@ fn copy_expr(alloc: Global, expr: &Expr) -> Result<Expr, NoMemory>
                 default,
             })
         }
+    }
+}
+
+/// A copy of an expression, on the heap.
+#[cycle(copy)]
+fn copied(alloc: Global, expr: &Expr) -> Result<Boxed<Expr>, NoMemory>
+    ensures { IfOk result (λ b. b ≡ expr.now) }
+{
+    let copy = copy_expr(alloc, expr)?;
+    Ok(Boxed::new(alloc, copy)?)
+}
+
+/// A copy of the second argument of `env`, where there is one.
+#[cycle(copy)]
+fn copied_default(
+    alloc: Global,
+    default: &Option<Boxed<Expr>>,
+) -> Result<Option<Boxed<Expr>>, NoMemory>
+    ensures { IfOk result (λ d. d ≡ default.now) }
+{
+    match default {
+        None => Ok(None),
+        Some(inside) => Ok(Some(copied(alloc, inside.get())?)),
     }
 }
 
@@ -125,19 +146,19 @@ fn copy_parameter(alloc: Global, parameter: &Parameter) -> Result<Parameter, NoM
     ensures { IfOk result (λ p. p ≡ parameter.now) }
 {
     Ok(Parameter {
-        name: parameter.name.try_clone()?,
         kind: parameter.kind,
         export: parameter.export,
-        default: copy_default(alloc, &parameter.default)?,
-        long: parameter.long.try_clone()?,
         short: parameter.short,
-        value: parameter.value.try_clone()?,
         flag: parameter.flag,
         multiple: parameter.multiple,
-        help: parameter.help.try_clone()?,
-        pattern: copy_pattern(&parameter.pattern)?,
         min: parameter.min,
         max: parameter.max,
+        pattern: copy_pattern(&parameter.pattern)?,
+        name: parameter.name.try_clone()?,
+        long: parameter.long.try_clone()?,
+        value: parameter.value.try_clone()?,
+        help: parameter.help.try_clone()?,
+        default: copy_default(alloc, &parameter.default)?,
     })
 }
 

@@ -54,7 +54,9 @@ fn matches_built(alloc: Global, regex: &Option<Regex>, text: &str) -> Result<boo
         return Ok(false);
     };
     let mut matcher = regex.matcher(alloc)?;
-    Ok(matcher.is_match(text))
+    let found = matcher.is_match(text);
+    drop(matcher);
+    Ok(found)
 }
 
 /// Whether one of the patterns that were built matches a text.

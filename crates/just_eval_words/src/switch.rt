@@ -64,11 +64,15 @@ fn option_taken<'r>(
             switch,
         }),
         (Some(value), None) => {
-            taken.note(alloc, recipe, switch.as_str(), number, parameter, value)?;
+            let noted = taken.note(alloc, recipe, switch.as_str(), number, parameter, value);
+            drop(switch);
+            noted?;
             Ok(Next::Word(false))
         }
         (None, Some(value)) => {
-            taken.note(alloc, recipe, switch.as_str(), number, parameter, value)?;
+            let noted = taken.note(alloc, recipe, switch.as_str(), number, parameter, value);
+            drop(switch);
+            noted?;
             Ok(Next::Word(false))
         }
         (None, None) => Ok(Next::Value(switch, number, parameter)),
@@ -121,7 +125,9 @@ fn letter_valued<'r>(
     ensures refused { IfErr result (λ e. e ≢ error.NoMemory → letter_valued recipe.now switch last (words_of taken.old) number parameter.now (fixed_value parameter.now) ≡ Err e) }
 {
     if let Some(value) = fixed_value(parameter) {
-        taken.note(alloc, recipe, switch.as_str(), number, parameter, value)?;
+        let noted = taken.note(alloc, recipe, switch.as_str(), number, parameter, value);
+        drop(switch);
+        noted?;
         return Ok(Next::Word(false));
     }
     if last {
@@ -171,6 +177,7 @@ fn letters_taken<'r>(
 {
     let mut next = Next::Word(false);
     'letters: for at in 0..letters.len() {
+        drop(next);
         next = letter_taken(alloc, recipe, taken, letters[at], at + 1 == letters.len())?;
     }
     Ok(next)
@@ -246,7 +253,9 @@ pub(crate) fn word_taken<'r>(
 {
     match next {
         Next::Value(switch, number, parameter) => {
-            taken.note(alloc, recipe, switch.as_str(), number, parameter, word)?;
+            let noted = taken.note(alloc, recipe, switch.as_str(), number, parameter, word);
+            drop(switch);
+            noted?;
             Ok(Some(Next::Word(false)))
         }
         Next::Word(true) => {

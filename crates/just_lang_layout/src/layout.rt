@@ -16,7 +16,7 @@ pub struct File {
 }
 
 /// Where an item stands: the number of its file, and its number among that file's items, both from 0.
-#[derive(Clone, Copy, Debug, PartialEq, Eq)]
+#[derive(Clone, Copy)]
 pub struct Placed {
     pub file: usize,
     pub item: usize,

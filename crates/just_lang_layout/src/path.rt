@@ -50,7 +50,9 @@ fn text_meant(
         Err(ReadError::Syntax | ReadError::Depth) => return Ok(None),
     };
     if string.expands {
-        return expanded(alloc, environ, text.as_str());
+        let out = expanded(alloc, environ, text.as_str());
+        drop(text);
+        return out;
     }
     Ok(Some(text))
 }
@@ -121,7 +123,9 @@ pub fn path_under(
     let Some(text) = with_home(alloc, environ.home(), text)? else {
         return Ok(None);
     };
-    let path = root.as_path().join(alloc, Utf8Path::new(text.as_str()))?;
+    let path = root.as_path().join(alloc, Utf8Path::new(text.as_str()));
+    drop(text);
+    let path = path?;
     let path = path.as_path().clean(alloc)?;
     Ok(Some(path))
 }

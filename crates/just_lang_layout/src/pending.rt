@@ -15,7 +15,7 @@ use std::alloc::Global;
 use std::collections::BTreeSet;
 
 /// A `mod` among the items of a module.
-#[derive(Debug, Drop)]
+#[derive(Drop)]
 pub struct Declaration {
     pub place: Placed,
     pub name: Text,
@@ -24,7 +24,7 @@ pub struct Declaration {
 }
 
 /// A module that is still to be made.
-#[derive(Debug, Drop)]
+#[derive(Drop)]
 pub struct Pending {
     pub path: Seq<Text>,
     pub file: usize,

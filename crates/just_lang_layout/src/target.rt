@@ -14,7 +14,7 @@ use just_path_text::{Environ, NoMemory, Seq};
 use std::alloc::Global;
 
 /// What an item names. A file is told by its number.
-#[derive(Clone, Copy, Debug, PartialEq, Eq)]
+#[derive(Clone, Copy)]
 pub enum Target {
     /// No file: the item is no import and no module, or one whose file may be missing and is, or one with a string that
     /// means no path.
@@ -88,8 +88,9 @@ fn import_target(
     match meaning(alloc, environ, string)? {
         None => Ok(Target::Nothing),
         Some(text) => {
-            let path = path_under(alloc, environ, root, text.as_str())?;
-            Ok(import_at(paths, optional, path))
+            let path = path_under(alloc, environ, root, text.as_str());
+            drop(text);
+            Ok(import_at(paths, optional, path?))
         }
     }
 }
@@ -196,8 +197,9 @@ fn module_target(
     match meaning(alloc, environ, string)? {
         None => Ok(Target::Nothing),
         Some(text) => {
-            let path = path_under(alloc, environ, root, text.as_str())?;
-            Ok(module_at(paths, optional, path))
+            let path = path_under(alloc, environ, root, text.as_str());
+            drop(text);
+            Ok(module_at(paths, optional, path?))
         }
     }
 }

@@ -11,7 +11,7 @@ use just_path_text::{NoMemory, Seq};
 use std::alloc::{AllocError, Global};
 
 /// An item that the walk comes to.
-#[derive(Clone, Copy, Debug, PartialEq, Eq)]
+#[derive(Clone, Copy)]
 pub struct Visit {
     pub place: Placed,
     pub target: Target,
@@ -20,7 +20,7 @@ pub struct Visit {
 }
 
 /// A file on the way, and the number of its item that comes next.
-#[derive(Clone, Copy, Debug, PartialEq, Eq)]
+#[derive(Clone, Copy)]
 pub struct Frame {
     pub file: usize,
     pub next: usize,

@@ -1,19 +1,12 @@
 -- Lists of items, one more at a time.
 use Rattle.std.proofs.Common.{◌≡◌, ℕ, suc, ◌+◌, ◌<◌, Bool, true, false, List, [], ◌∷◌, ◌++◌, map, length, take, drop, get_or, ◌||◌, cond, refl, sym, ap, ◌∙◌, add-one, append_assoc}
+use Rattle.std.specs.Prelude.{filter}
 use Rattle.std.specs.List.{list_any}
 use Rattle.std.proofs.lemmas.List.{take_more}
 use Rattle.std.proofs.Math.Seq.{drop-cons}
 use Rattle.just_lang_syntax.specs.declared.ast.AstItem.{AstItem}
 use Rattle.just_lang_spots.specs.declared.entries.Entry.{Entry}
 use Rattle.just_lang_spots.specs.Entries.{entry, entries}
-
--- one more behind some, in front of others
-pub map_more : {A B : Type 0} (f : A → B) (xs : List A) (x : A) (ys : List B) → map f (xs ++ x ∷ []) ++ ys ≡ map f xs ++ (f x ∷ ys)
-map_more f [] x ys = refl
-map_more f (y ∷ xs) x ys = ap (λ k. f y ∷ k) (map_more f xs x ys)
-
-pub entries_more : (xs : List Entry) (x : Entry) (ys : List (ℕ × AstItem)) → entries (xs ++ x ∷ []) ++ ys ≡ entries xs ++ (entry x ∷ ys)
-entries_more xs x ys = map_more entry xs x ys
 
 -- the one at a place stands in front of those behind it
 pub drop_here : {A : Type 0} (xs : List A) (i : ℕ) (x : A) → i < length xs → x ≡ get_or xs i x → drop i xs ≡ x ∷ drop (i + 1) xs
@@ -47,6 +40,13 @@ pub kept_step : (test : Bool) (old new : List Entry) (x : Entry) (rest more : Li
     → more ≡ cond test (entry x ∷ rest) rest → entries new ++ rest ≡ entries old ++ more
 kept_step test old new x rest more h e =
     ap (λ ys. ys ++ rest) h ∙ append_assoc (entries old) (cond test (entry x ∷ []) []) rest ∙ ap (λ ys. entries old ++ ys) (if_front test (entry x) rest ∙ sym e)
+
+-- the same by what the test told of the one there
+pub kept_where : (p : ℕ × AstItem → Bool) (items : List Entry) (i : ℕ) (x : Entry) (test : Bool) (old new : List Entry) (all : List (ℕ × AstItem)) → i < length items → x ≡ get_or items i x
+    → test ≡ p (entry x) → entries new ≡ entries old ++ cond test (entry x ∷ []) [] → entries old ++ filter p (entries (drop i items)) ≡ all → entries new ++ filter p (entries (drop (i + 1) items)) ≡ all
+kept_where p items i x test old new all lt is told more same =
+    let rest = filter p (entries (drop (i + 1) items)) in
+    kept_step test old new x rest (filter p (entries (drop i items))) more (ap (filter p) (entries_drop items i x lt is) ∙ ap (λ b. cond b (entry x ∷ rest) rest) (sym told)) ∙ same
 
 -- a test of one at least from a place on
 pub any_here : {A : Type 0} (f : A → Bool) (xs : List A) (i : ℕ) (d : A) → i < length xs → list_any f (drop i xs) ≡ (f (get_or xs i d) || list_any f (drop (i + 1) xs))

@@ -1,5 +1,5 @@
 //! The items of a module, each with the number of its file.
-ghost use Rattle.std.specs.Prelude.{◌≡◌, map, filter, IfOk, codes};
+ghost use Rattle.std.specs.Prelude.{◌≡◌, ◌++◌, [], ◌∷◌, if◌then◌else◌, map, filter, IfOk, OnOk, codes};
 ghost use Rattle.std.specs.List.{list_any};
 ghost use Rattle.just_lang_syntax.specs.Forms.{is_one_of};
 ghost use Rattle.just_lang_spots.specs.Entries.{entry, entries};
@@ -7,7 +7,7 @@ ghost use Rattle.just_lang_spots.specs.Items.{item_name, these_platforms, other_
 
 use just_lang_syntax::{AstItem, Attribute, SettingValue};
 use just_path_text::NoMemory;
-use std::alloc::Global;
+use std::alloc::{AllocError, Global};
 
 /// An item, with the number of its file.
 #[derive(Clone, Copy)]
@@ -90,30 +90,41 @@ fn is_assignment(one: &Entry<'_>) -> bool
     matches!(one.item, AstItem::Assignment { .. })
 }
 
+/// Adds the item, where the test holds.
+#[tactic(auto, using(crate::proofs::ListLaws::entries_end))]
+pub(crate) fn keep_where<'a>(
+    kept: &mut Vec<Entry<'a>>,
+    test: bool,
+    one: Entry<'a>,
+) -> Result<(), AllocError>
+    ensures { OnOk result (entries kept.new.items ≡ entries kept.old.items ++ (if test then entry one.entry ∷ [] else [])) }
+{
+    if test {
+        kept.push(one)?;
+    }
+    Ok(())
+}
+
 /// The recipes among some items that this platform has.
-#[tactic(auto, using(crate::proofs::ListLaws::entries_more))]
 pub fn recipe_items<'a>(alloc: Global, items: &[Entry<'a>]) -> Result<Vec<Entry<'a>>, NoMemory>
     ensures { IfOk result (λ v. entries v.items ≡ filter is_recipe_here (entries items.now)) }
 {
     let mut kept = Vec::new(alloc);
     'items: for one in items {
-        if is_recipe_here(one) {
-            kept.push(*one)?;
-        }
+        let is_recipe = is_recipe_here(one);
+        keep_where(&mut kept, is_recipe, *one)?;
     }
     Ok(kept)
 }
 
 /// The assignments among some items.
-#[tactic(auto, using(crate::proofs::ListLaws::entries_more))]
 pub fn variable_items<'a>(alloc: Global, items: &[Entry<'a>]) -> Result<Vec<Entry<'a>>, NoMemory>
     ensures { IfOk result (λ v. entries v.items ≡ filter is_assignment (entries items.now)) }
 {
     let mut kept = Vec::new(alloc);
     'items: for one in items {
-        if is_assignment(one) {
-            kept.push(*one)?;
-        }
+        let is_variable = is_assignment(one);
+        keep_where(&mut kept, is_variable, *one)?;
     }
     Ok(kept)
 }

@@ -1,14 +1,14 @@
 //! Which of a module's recipes and variables stand.
-ghost use Rattle.std.specs.Prelude.{◌≡◌, ◌++◌, [], ◌∷◌, if◌then◌else◌, IfOk, OnOk};
+ghost use Rattle.std.specs.Prelude.{◌≡◌, IfOk};
 ghost use Rattle.std.specs.List.{list_any};
 ghost use Rattle.just_lang_spots.specs.Entries.{entry, entries};
 ghost use Rattle.just_lang_spots.specs.Items.{item_name};
 ghost use Rattle.just_lang_spots.specs.Standing.{unbeaten, last_of_each, standing};
 ghost use Rattle.just_lang_spots.specs.Winners.{is_imported, wins_in, has_pair, ArePairs, is_beaten_by};
 
-use super::entries::{Entry, item_name};
+use super::entries::{Entry, item_name, keep_where};
 use just_path_text::{NoMemory, Seq};
-use std::alloc::{AllocError, Global};
+use std::alloc::Global;
 use std::collections::{BTreeSet, HashSet};
 
 /// The names that the files of some items give.
@@ -56,17 +56,6 @@ fn is_beaten<'a>(winners: &[Seq<usize>], pairs: &Pairs<'a>, one: &Entry<'a>) -> 
         None => false,
         Some(files) => has_any(pairs, files.as_slice(), name),
     }
-}
-
-/// Adds the item, where the test holds.
-#[tactic(auto, using(crate::proofs::ListLaws::entries_end))]
-fn keep_where<'a>(kept: &mut Vec<Entry<'a>>, test: bool, one: Entry<'a>) -> Result<(), AllocError>
-    ensures { OnOk result (entries kept.new.items ≡ entries kept.old.items ++ (if test then entry one.entry ∷ [] else [])) }
-{
-    if test {
-        kept.push(one)?;
-    }
-    Ok(())
 }
 
 fn is_imported(files: &Seq<usize>) -> bool

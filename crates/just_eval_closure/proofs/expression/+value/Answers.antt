@@ -5,8 +5,8 @@ use Rattle.just_eval_closure.specs.Values.{value, compared_by}
 use Rattle.just_eval_closure.proofs.Exprs.{compared_text, is_then, is_else, if_ok}
 use Rattle.just_eval_closure.proofs.expression.+value.Goals as goal
 
-pub returns-in-Ok-true : goal.returns-in-Ok-true
-returns-in-Ok-true g n c =
+pub value-returns-in-Ok-true : goal.value-returns-in-Ok-true
+value-returns-in-Ok-true g n c =
     let names = g.N.Names.meaning c.args.names.now in
     let env = found_in c.args.env.now.pairs.now c.args.env.now.environ.now.pairs in
     let told : compared_text true ≡ c.holds.result = search rules in
@@ -17,8 +17,8 @@ returns-in-Ok-true g n c =
     let is = is_then names env c.in-If.left c.in-If.comparison c.in-If.right c.in-If.consequent c.in-If.chained c.in-If.alternative taken in
     if_ok (λ v. v ≡ value names env c.get-in-Ok-true.result.now) (λ v. v ≡ value names env c.args.expr.now) c.value-in-Ok-true.result (λ v h. h ∙ ap (λ x. value names env x) c.get-in-Ok-true.ensures ∙ is ∙ ap (λ x. value names env x) (sym c.in-If.is)) c.value-in-Ok-true.ensures
 
-pub returns-in-Ok-false : goal.returns-in-Ok-false
-returns-in-Ok-false g n c =
+pub value-returns-in-Ok-false : goal.value-returns-in-Ok-false
+value-returns-in-Ok-false g n c =
     let names = g.N.Names.meaning c.args.names.now in
     let env = found_in c.args.env.now.pairs.now c.args.env.now.environ.now.pairs in
     let told : compared_text false ≡ c.holds.result = search rules in

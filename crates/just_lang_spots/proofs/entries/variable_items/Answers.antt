@@ -1,0 +1,11 @@
+-- One more item is an assignment or isn't.
+use Rattle.std.specs.Prelude.{filter}
+use Rattle.just_lang_spots.specs.Entries.{entries}
+use Rattle.just_lang_spots.specs.Items.{is_assignment}
+use Rattle.just_lang_spots.proofs.ListLaws.{kept_where}
+use Rattle.just_lang_spots.proofs.entries.variable_items.Goals as goal
+
+pub items-preserved : goal.items-preserved
+items-preserved c =
+    kept_where is_assignment c.args.items.now c.items.one-index c.one-item.result c.is_assignment-is_variable.result c.items.kept.items c.keep_where.new.kept.items (filter is_assignment (entries c.args.items.now)) c.items-test.true c.one-item.is
+    c.is_assignment-is_variable.ensures c.in_ok-keep_where.ensures c.items.invariant
