@@ -11,7 +11,7 @@ use just_path_text::NoMemory;
 use std::alloc::Global;
 
 /// A cache: the folder that its entries stand in. The folder is made with the first entry.
-#[derive(Debug, Drop)]
+#[derive(Drop)]
 pub struct Cache {
     pub(crate) folder: Utf8PathBuf,
 }

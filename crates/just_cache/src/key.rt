@@ -17,7 +17,6 @@ pub enum KeyExecutor {
 }
 
 /// All that the body of a cached recipe depends on.
-#[derive(Drop)]
 pub struct CacheKey {
     /// The lines with their values.
     pub body: Seq<Text>,
@@ -35,4 +34,20 @@ pub struct CacheKey {
     pub recipe: Modulepath,
     /// The folder in which the body runs, where the recipe names one.
     pub working_directory: Option<Utf8PathBuf>,
+}
+
+impl Drop for CacheKey {
+    fn drop(self) {
+        let CacheKey {
+            body: _,
+            environment: _,
+            executor: _,
+            extension: _,
+            extra: _,
+            inputs: _,
+            positional: _,
+            recipe: _,
+            working_directory: _,
+        } = self;
+    }
 }

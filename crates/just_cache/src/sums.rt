@@ -65,9 +65,9 @@ fn add_sum<H: Host>(
     ensures world { H.world host.new ≡ H.world host.old }
     ensures spare { H.spare host.new ≡ H.spare host.old }
 {
-    let path = folder.join(alloc, Utf8Path::new(name.as_str()))?;
-    let copy = name.try_clone()?;
     given.reserve(1)?;
+    let copy = name.try_clone()?;
+    let path = folder.join(alloc, Utf8Path::new(name.as_str()))?;
     let sum = match sum_of(alloc, host, path.as_path()) {
         Ok(sum) => sum,
         Err(refused) => return Err(refused),

@@ -21,7 +21,7 @@ use std::alloc::Global;
 pub type Inputs = Option<Seq<(Text, Text)>>;
 
 /// Adds what stands before a value, and the value as JSON in its shortest form.
-fn push_value(alloc: Global, text: &mut String, front: &str, value: &Value) -> Result<(), NoMemory>
+fn push_lent(alloc: Global, text: &mut String, front: &str, value: &Value) -> Result<(), NoMemory>
     requires { has_float (view value.now) ≡ false }
     ensures { OnOk result (string_bytes text.new ≡ string_bytes text.old ++ (front.now ++ compact_text (view value.now))) }
 {
@@ -33,14 +33,25 @@ fn push_value(alloc: Global, text: &mut String, front: &str, value: &Value) -> R
     Ok(())
 }
 
+/// The same of a value that isn't used any more.
+fn push_value(alloc: Global, text: &mut String, front: &str, value: Value) -> Result<(), NoMemory>
+    requires { has_float (view value) ≡ false }
+    ensures { OnOk result (string_bytes text.new ≡
+        string_bytes text.old ++ (front.now ++ compact_text (view value))) }
+{
+    let pushed = push_lent(alloc, text, front, &value);
+    drop(value);
+    pushed
+}
+
 /// Adds the member of a command that runs the script, with its arguments.
 fn push_command(alloc: Global, text: &mut String, interpreter: &Interpreter) -> Result<(), NoMemory>
     ensures { OnOk result (string_bytes text.new ≡ string_bytes text.old ++ (codes ",\"executor\":" ++ compact_text (command_data interpreter.now))) }
 {
     let arguments = texts_value(alloc, interpreter.arguments.as_slice())?;
-    push_value(alloc, text, ",\"executor\":{\"arguments\":", &arguments)?;
+    push_value(alloc, text, ",\"executor\":{\"arguments\":", arguments)?;
     let command = text_value(alloc, interpreter.command.as_str())?;
-    push_value(alloc, text, ",\"command\":", &command)?;
+    push_value(alloc, text, ",\"command\":", command)?;
     text.push_str(",\"type\":\"command\"}")?;
     Ok(())
 }
@@ -55,9 +66,9 @@ fn push_shebang(
     ensures { OnOk result (string_bytes text.new ≡ string_bytes text.old ++ (codes ",\"executor\":" ++ compact_text (shebang_data argument.now interpreter.now))) }
 {
     let argument = text_or_null(alloc, argument)?;
-    push_value(alloc, text, ",\"executor\":{\"argument\":", &argument)?;
+    push_value(alloc, text, ",\"executor\":{\"argument\":", argument)?;
     let interpreter = text_value(alloc, interpreter.as_str())?;
-    push_value(alloc, text, ",\"interpreter\":", &interpreter)?;
+    push_value(alloc, text, ",\"interpreter\":", interpreter)?;
     text.push_str(",\"type\":\"shebang\"}")?;
     Ok(())
 }
@@ -80,14 +91,14 @@ fn push_before(alloc: Global, text: &mut String, key: &CacheKey) -> Result<(), N
     ensures { OnOk result ((following : Members) → string_bytes text.new ++ members_text true following ≡ string_bytes text.old ++ compact_text (object (before_inputs key.now following))) }
 {
     let body = texts_value(alloc, key.body.as_slice())?;
-    push_value(alloc, text, "{\"body\":", &body)?;
+    push_value(alloc, text, "{\"body\":", body)?;
     let environment = environment_value(alloc, key.environment.as_slice())?;
-    push_value(alloc, text, ",\"environment\":", &environment)?;
+    push_value(alloc, text, ",\"environment\":", environment)?;
     push_executor(alloc, text, &key.executor)?;
     let extension = text_or_null(alloc, &key.extension)?;
-    push_value(alloc, text, ",\"extension\":", &extension)?;
+    push_value(alloc, text, ",\"extension\":", extension)?;
     let extra = text_or_null(alloc, &key.extra)?;
-    push_value(alloc, text, ",\"extra\":", &extra)?;
+    push_value(alloc, text, ",\"extra\":", extra)?;
     Ok(())
 }
 
@@ -96,11 +107,11 @@ fn push_behind(alloc: Global, text: &mut String, key: &CacheKey) -> Result<(), N
     ensures { OnOk result (string_bytes text.new ≡ string_bytes text.old ++ members_text true (behind_inputs key.now)) }
 {
     let positional = texts_or_null(alloc, &key.positional)?;
-    push_value(alloc, text, ",\"positional\":", &positional)?;
+    push_value(alloc, text, ",\"positional\":", positional)?;
     let recipe = path_value(alloc, key.recipe.components.as_slice())?;
-    push_value(alloc, text, ",\"recipe\":", &recipe)?;
+    push_value(alloc, text, ",\"recipe\":", recipe)?;
     let folder = folder_or_null(alloc, &key.working_directory)?;
-    push_value(alloc, text, ",\"working_directory\":", &folder)?;
+    push_value(alloc, text, ",\"working_directory\":", folder)?;
     text.push_str("}")?;
     Ok(())
 }

@@ -1,11 +1,11 @@
 //! The caches of recipes.
 
-ghost use Rattle.std.specs.Prelude.{◌≡◌, IfOk, map, option_map};
+ghost use Rattle.std.specs.Prelude.{◌≡◌, IfOk, map, option_map, codes};
 ghost use Rattle.just_path.specs.Path.{text_of};
 ghost use Rattle.just_eval_closure.specs.Answers.{Gives};
 ghost use Rattle.just_exec_work.specs.Works.{run_of};
 ghost use Rattle.just_eval_closure.specs.Entries.{located_of, Sees};
-ghost use Rattle.just_exec.specs.Caches.{cache_attribute, key_text_of, keyed_text, keyed_texts, texts_under, path_in, cache_of, script_child, recipe_cache};
+ghost use Rattle.just_exec.specs.Caches.{cache_attribute, key_text_of, keyed_text, keyed_texts, texts_under, first_of, path_in, cache_of, script_child, recipe_cache};
 
 use super::NodeCache;
 use super::keys::{first_of, key_of};
@@ -121,6 +121,31 @@ fn paths_in(
     Ok(Seq::from(paths))
 }
 
+/// The text of `extra`, if these texts have one.
+fn extra_of(alloc: Global, texts: &[(Text, Text)]) -> Result<Option<Text>, NoMemory>
+    ensures { IfOk result (λ t. t ≡ first_of (texts_under (codes "extra") texts.now)) }
+{
+    let extras = texts_under(alloc, "extra", texts)?;
+    let extra = first_of(extras.as_slice());
+    drop(extras);
+    extra
+}
+
+/// The paths of the outputs that these texts name, of a body that runs in that folder.
+fn outputs_of(
+    alloc: Global,
+    folder: &Option<Utf8PathBuf>,
+    texts: &[(Text, Text)],
+) -> Result<Seq<Utf8PathBuf>, NoMemory>
+    ensures { IfOk result (λ ps. ps ≡
+        map (path_in folder.now) (texts_under (codes "outputs") texts.now)) }
+{
+    let outputs = texts_under(alloc, "outputs", texts)?;
+    let paths = paths_in(alloc, folder, outputs.as_slice());
+    drop(outputs);
+    paths
+}
+
 /// The cache of a body with these lines that is run as that script by that child, whose `cache` has these texts.
 fn cache_of(
     alloc: Global,
@@ -133,17 +158,17 @@ fn cache_of(
 ) -> Result<NodeCache, NoMemory>
     ensures { IfOk result (λ c. c ≡ cache_of (run_of run.now) (text_of folder.entry) lines.now spec.now script.now texts.now) }
 {
-    let extras = texts_under(alloc, "extra", texts)?;
-    let extra = first_of(extras.as_slice())?;
     let inputs = texts_under(alloc, "inputs", texts)?;
     let paths = paths_in(alloc, &spec.folder, inputs.as_slice())?;
-    let outputs = texts_under(alloc, "outputs", texts)?;
+    let outputs = outputs_of(alloc, &spec.folder, texts)?;
+    let folder = folder.to_path_buf(alloc)?;
+    let extra = extra_of(alloc, texts)?;
     Ok(NodeCache {
         key: key_of(alloc, run, lines, spec, script, extra)?,
-        folder: folder.to_path_buf(alloc)?,
+        folder,
         inputs,
         paths,
-        outputs: paths_in(alloc, &spec.folder, outputs.as_slice())?,
+        outputs,
     })
 }
 

@@ -1,13 +1,15 @@
 //! The keys of cached bodies.
 
-ghost use Rattle.std.specs.Prelude.{◌≡◌, IfOk, map};
+ghost use Rattle.std.specs.Prelude.{◌≡◌, IfOk, map, codes};
+ghost use Rattle.just_exec_work.specs.Attributes.{attribute_text};
 ghost use Rattle.just_exec_work.specs.Works.{run_of};
 ghost use Rattle.just_exec.specs.Caches.{first_of, executor_of, positional_of, key_of};
 
 use just_cache::{CacheKey, KeyExecutor};
 use just_exec_work::{Running, attribute_text, has_attribute};
 use just_host_record::{Script, Spec};
-use just_lang_types::{BodyLine, Interpreter};
+use just_lang_types::{BodyLine, Interpreter, Modulepath};
+use just_path::Utf8PathBuf;
 use just_path_text::{NoMemory, Seq, Text, TryClone};
 use std::alloc::Global;
 
@@ -60,6 +62,60 @@ fn positional_of(run: &Running<'_>, script: &Script) -> Result<Option<Seq<Text>>
     Ok(None)
 }
 
+/// What each key has: the texts of the lines, what changes in the environment, and the recipe.
+#[derive(Drop)]
+struct Fixed {
+    body: Seq<Text>,
+    environment: Seq<(Text, Option<Text>)>,
+    recipe: Modulepath,
+}
+
+/// What each key has of a body with these lines that is run by that child.
+fn fixed_of(
+    alloc: Global,
+    run: &Running<'_>,
+    lines: &[BodyLine],
+    spec: &Spec,
+) -> Result<Fixed, NoMemory>
+    ensures body { IfOk result (λ f. f.body ≡ map (λ l. l.text) lines.now) }
+    ensures environment { IfOk result (λ f. f.environment ≡ spec.now.changes) }
+    ensures recipe { IfOk result (λ f. f.recipe ≡ (run_of run.now).recipe.path) }
+{
+    Ok(Fixed {
+        body: line_texts(alloc, lines)?,
+        environment: spec.changes.try_clone()?,
+        recipe: run.recipe.path.try_clone()?,
+    })
+}
+
+/// What a key may have: the extension, the words, and the folder.
+#[derive(Drop)]
+struct Choices {
+    extension: Option<Text>,
+    positional: Option<Seq<Text>>,
+    folder: Option<Utf8PathBuf>,
+}
+
+/// What the key may have of a body that is run as that script by that child.
+fn choices_of(
+    alloc: Global,
+    run: &Running<'_>,
+    spec: &Spec,
+    script: &Script,
+) -> Result<Choices, NoMemory>
+    ensures extension { IfOk result (λ c. c.extension ≡
+        attribute_text (run_of run.now).recipe.attributes (codes "extension")) }
+    ensures positional { IfOk result (λ c. c.positional ≡
+        positional_of (run_of run.now) script.now) }
+    ensures folder { IfOk result (λ c. c.folder ≡ spec.now.folder) }
+{
+    Ok(Choices {
+        extension: attribute_text(alloc, run.recipe.attributes.as_slice(), "extension")?,
+        positional: positional_of(run, script)?,
+        folder: spec.folder.try_clone()?,
+    })
+}
+
 /// The key of a body with these lines that is run as that script by that child, without the digests of its inputs.
 pub(crate) fn key_of(
     alloc: Global,
@@ -71,15 +127,25 @@ pub(crate) fn key_of(
 ) -> Result<CacheKey, NoMemory>
     ensures { IfOk result (λ k. k ≡ key_of (run_of run.now) lines.now spec.now script.now extra) }
 {
+    let Fixed {
+        body,
+        environment,
+        recipe,
+    } = fixed_of(alloc, run, lines, spec)?;
+    let Choices {
+        extension,
+        positional,
+        folder,
+    } = choices_of(alloc, run, spec, script)?;
     Ok(CacheKey {
-        body: line_texts(alloc, lines)?,
-        environment: spec.changes.try_clone()?,
+        body,
+        environment,
         executor: executor_of(spec, script)?,
-        extension: attribute_text(alloc, run.recipe.attributes.as_slice(), "extension")?,
+        extension,
         extra,
         inputs: None,
-        positional: positional_of(run, script)?,
-        recipe: run.recipe.path.try_clone()?,
-        working_directory: spec.folder.try_clone()?,
+        positional,
+        recipe,
+        working_directory: folder,
     })
 }

@@ -5,8 +5,10 @@ ghost use Rattle.just_path.specs.Path.{text_of};
 ghost use Rattle.just_exec_work.specs.Works.{run_of};
 ghost use Rattle.just_eval_closure.specs.Entries.{located_of, Sees};
 ghost use Rattle.just_eval_closure.specs.Requests.{IsIndexed};
+ghost use Rattle.just_exec.specs.Banners.{banner};
 ghost use Rattle.just_exec.specs.Caches.{IsPaired};
 ghost use Rattle.just_exec.specs.Plans.{GivesPlan, folder_in, running, node_plan, no_plan, run_plan, key_plan};
+ghost use Rattle.just_exec.specs.Prompts.{prompt};
 
 use super::asked::{is_parallel, prompt};
 use super::caches::recipe_cache;
@@ -15,7 +17,7 @@ use super::{Bodies, NodeCache, NodePlan, PlanError};
 use just_eval_closure::{Entry, Request};
 use just_exec_work::{RunFlags, Running, Work, module_folder, recipe_work};
 use just_lang_types::project::Justfile;
-use just_lang_types::{BodyLine, Key, Scopes, Value};
+use just_lang_types::{BodyLine, Key, Recipe, Scopes, Value};
 use just_path::Utf8Path;
 use just_path_text::{NoMemory, Text};
 use std::alloc::Global;
@@ -33,23 +35,40 @@ fn no_plan(alloc: Global) -> NodePlan
     }
 }
 
-/// The plan of a recipe that has this to run, and that cache.
-fn node_plan(
+/// What is asked before a recipe is run, and what is printed when its body is begun.
+fn texts_of(
     alloc: Global,
     flags: &RunFlags,
+    recipe: &Recipe,
+) -> Result<(Option<Text>, Text), NoMemory>
+    ensures asked { IfOk result (λ t. t.0 ≡ prompt flags.now recipe.now) }
+    ensures told { IfOk result (λ t. t.1 ≡ banner flags.now recipe.now) }
+{
+    let told = banner(alloc, flags, recipe)?;
+    Ok((prompt(alloc, flags, recipe)?, told))
+}
+
+/// The plan of a recipe that has this to run, and that cache, with what is asked and what is printed.
+fn node_plan(
+    flags: &RunFlags,
     from: &Entry<'_>,
+    texts: (Option<Text>, Text),
     work: Work,
     cache: Option<NodeCache>,
-) -> Result<NodePlan, NoMemory>
-    ensures { IfOk result (λ p. p ≡ node_plan flags.now (located_of from.now) work cache) }
+) -> NodePlan
+    requires asked { texts.0 ≡ prompt flags.now from.now.recipe.now }
+    requires told { texts.1 ≡ banner flags.now from.now.recipe.now }
+    ensures { result ≡ node_plan flags.now (located_of from.now) work cache }
 {
-    Ok(NodePlan {
-        prompt: prompt(alloc, flags, from.recipe)?,
+    let _quiet = flags.quiet;
+    let (prompt, banner) = texts;
+    NodePlan {
+        prompt,
         parallel: is_parallel(from.recipe),
         work,
-        banner: banner(alloc, flags, from.recipe)?,
+        banner,
         cache,
-    })
+    }
 }
 
 /// The folder of a module.
@@ -93,9 +112,10 @@ fn run_plan(
     requires { Sees scopes.now from.now }
     ensures { GivesPlan (run_plan scopes.now (located_of from.now) (run_of run.now) (text_of folder.entry) lines.now) result }
 {
+    let texts = texts_of(alloc, run.flags, from.recipe)?;
     let work = recipe_work(alloc, run, lines)?;
     let cache = recipe_cache(alloc, scopes, from, run, folder, lines, &work)?;
-    Ok(node_plan(alloc, run.flags, from, work, cache)?)
+    Ok(node_plan(run.flags, from, texts, work, cache))
 }
 
 /// What the plan of a run says of a node of that key: what is asked before it, what its body has to run, what is printed when it is

@@ -110,227 +110,388 @@ fn tell_command<W: fmt::Write>(
     tell_output(error, f)
 }
 
+/// What is told before a justfile is read; no other error is told here.
+fn tell_start<W: fmt::Write>(error: &Error, f: &mut fmt::Formatter<W>) -> fmt::Result
+    ensures { WritesOnOk W.write_str_gives f.old result (error_text error.now) f.new }
+{
+    match error {
+        Error::Usage(usage) => tell_usage(usage, f),
+        Error::NotBuilt { word } => tell_naming("usage: NotBuilt ", word.as_str(), "", f),
+        Error::Config(error) => write!(f, "{error}"),
+        Error::CurrentDir { io } => tell_fault("failed to get current directory: ", *io, f),
+        Error::Search(error) => tell_search(error, f),
+        Error::NoMemory => f.write_str("error: out of memory"),
+        _ => Err(fmt::Error),
+    }
+}
+
+/// What is told of files and of the standard streams; no other error is told here.
+fn tell_access<W: fmt::Write>(error: &Error, f: &mut fmt::Formatter<W>) -> fmt::Result
+    ensures { WritesOnOk W.write_str_gives f.old result (error_text error.now) f.new }
+{
+    match error {
+        Error::Load { path, io } => {
+            tell_at("failed to read justfile at ", path.as_str(), *io, f)
+        }
+        Error::FilesystemIo { path, io } => tell_at("I/O error at ", path.as_str(), *io, f),
+        Error::StdoutIo { io } => tell_fault("I/O error writing to stdout: ", *io, f),
+        Error::GetConfirmation { io } => {
+            tell_fault("failed to read confirmation from stdin: ", *io, f)
+        }
+        Error::InitExists { justfile } => {
+            tell_naming("justfile ", justfile.as_str(), " already exists", f)
+        }
+        Error::WriteJustfile { justfile, io } => {
+            tell_at("failed to write justfile to ", justfile.as_str(), *io, f)
+        }
+        _ => Err(fmt::Error),
+    }
+}
+
+/// What is told of the sources of a justfile; no other error is told here.
+fn tell_source<W: fmt::Write>(error: &Error, f: &mut fmt::Formatter<W>) -> fmt::Result
+    ensures { WritesOnOk W.write_str_gives f.old result (error_text error.now) f.new }
+{
+    match error {
+        Error::MissingImportFile => { f.write_str("error: could not find source file for import") }
+        Error::CircularImport { current, import } => {
+            tell_circular(current.as_str(), import.as_str(), f)
+        }
+        Error::MissingModuleFile { module } => tell_naming(
+            "could not find source file for module ",
+            module.as_str(),
+            "",
+            f,
+        ),
+        Error::AmbiguousModuleFile { module, found } => tell_list(
+            "found multiple source files for module ",
+            module.as_str(),
+            found.as_slice(),
+            f,
+        ),
+        Error::Homedir => f.write_str("error: failed to get homedir"),
+        Error::Compile(error) => {
+            let kind = kind_text(error.kind);
+            tell_place(kind, error.path.as_str(), error.line, error.column, f)
+        }
+        Error::Const { path, line, column } => {
+            tell_place("not constant", path.as_str(), *line, *column, f)
+        }
+        _ => Err(fmt::Error),
+    }
+}
+
+/// What is told of features, dotenv files and variables; no other error is told here.
+fn tell_variables<W: fmt::Write>(error: &Error, f: &mut fmt::Formatter<W>) -> fmt::Result
+    ensures { WritesOnOk W.write_str_gives f.old result (error_text error.now) f.new }
+{
+    match error {
+        Error::UnstableFeature(feature) => tell_unstable(feature, f),
+        Error::DotenvRequired => f.write_str("error: dotenv file not found"),
+        Error::Dotenv { path, line } => tell_dotenv(path.as_str(), *line, f),
+        Error::DotenvArgumentsRequireLists => f.write_str(
+            "error: multiple `--dotenv-filename` or `--dotenv-path` arguments require `set lists`",
+        ),
+        Error::DotenvCommand {
+            command,
+            output_error,
+        } => tell_command(command.as_str(), *output_error, f),
+        Error::UnknownOverrides { overrides } => tell_overrides(overrides.as_slice(), f),
+        Error::FunctionCall { name } => tell_naming(
+            "call to function `env` failed: environment variable ",
+            name.as_str(),
+            " not present",
+            f,
+        ),
+        _ => Err(fmt::Error),
+    }
+}
+
+/// What is told of a request as a whole; no other error is told here.
+fn tell_request<W: fmt::Write>(error: &Error, f: &mut fmt::Formatter<W>) -> fmt::Result
+    ensures { WritesOnOk W.write_str_gives f.old result (error_text error.now) f.new }
+{
+    match error {
+        Error::NoRecipes => f.write_str("error: justfile contains no recipes"),
+        Error::NoDefaultRecipe => f.write_str("error: justfile contains no default recipe"),
+        Error::DefaultRecipeRequiresArguments {
+            recipe,
+            min_arguments,
+        } => tell_default(recipe, *min_arguments, f),
+        Error::ExcessInvocations { invocations } => write!(
+            f,
+            "error: expected 1 command-line recipe invocation but found {invocations}"
+        ),
+        Error::ClosureLimit => f.write_str("error: request needs more than 1000000 recipes"),
+        _ => Err(fmt::Error),
+    }
+}
+
+/// What is told of a name that a request asks for; no other error is told here.
+fn tell_name<W: fmt::Write>(error: &Error, f: &mut fmt::Formatter<W>) -> fmt::Result
+    ensures { WritesOnOk W.write_str_gives f.old result (error_text error.now) f.new }
+{
+    match error {
+        Error::UnknownRecipe { recipe } => {
+            tell_naming("justfile does not contain recipe ", recipe.as_str(), "", f)
+        }
+        Error::UnknownSubmodule { path } => {
+            tell_naming("justfile does not contain submodule ", path.as_str(), "", f)
+        }
+        Error::ModuleAbsent { module } => {
+            tell_naming("optional module ", module.as_str(), " is absent", f)
+        }
+        Error::RecipeDisabled { recipe, modules } => {
+            tell_absent("recipe ", recipe.as_str(), modules.as_slice(), f)
+        }
+        Error::AliasDisabled { alias, modules } => {
+            tell_absent("alias ", alias.as_str(), modules.as_slice(), f)
+        }
+        Error::ExpectedSubmoduleButFoundRecipe { path } => tell_naming(
+            "expected submodule at ",
+            path.as_str(),
+            " but found recipe",
+            f,
+        ),
+        _ => Err(fmt::Error),
+    }
+}
+
+/// What is told of the options of a recipe; no other error is told here.
+fn tell_option<W: fmt::Write>(error: &Error, f: &mut fmt::Formatter<W>) -> fmt::Result
+    ensures { WritesOnOk W.write_str_gives f.old result (error_text error.now) f.new }
+{
+    match error {
+        Error::UnknownOption { recipe, switch } => {
+            tell_switch(recipe, " does not have option ", switch, "", f)
+        }
+        Error::InvalidOption { argument } => {
+            tell_naming("argument ", argument.as_str(), " is not a valid option", f)
+        }
+        Error::FlagWithValue { recipe, switch } => {
+            tell_switch(recipe, " flag ", switch, " does not take value", f)
+        }
+        Error::NonFinalOptionWithValue { recipe, switch } => tell_switch(
+            recipe,
+            " option ",
+            switch,
+            " takes a value and so must be last when combined with other options",
+            f,
+        ),
+        Error::OptionMissingValue { recipe, switch } => {
+            tell_switch(recipe, " option ", switch, " missing value", f)
+        }
+        Error::DuplicateOption { recipe, switch } => tell_switch(
+            recipe,
+            " option ",
+            switch,
+            " cannot be passed more than once",
+            f,
+        ),
+        Error::MissingOption { recipe, switch } => {
+            tell_switch(recipe, " requires option ", switch, "", f)
+        }
+        _ => Err(fmt::Error),
+    }
+}
+
+/// What is told of the other arguments of a recipe; no other error is told here.
+fn tell_argument<W: fmt::Write>(error: &Error, f: &mut fmt::Formatter<W>) -> fmt::Result
+    ensures { WritesOnOk W.write_str_gives f.old result (error_text error.now) f.new }
+{
+    match error {
+        Error::PositionalArgumentCountMismatch {
+            recipe,
+            path,
+            parameters,
+            found,
+        } => tell_count(recipe, path, parameters.as_slice(), *found, f),
+        Error::ArgumentTooFewValues {
+            recipe,
+            parameter,
+            found,
+            min,
+        } => tell_values(recipe, parameter, *found, "least", *min, f),
+        Error::ArgumentTooManyValues {
+            recipe,
+            parameter,
+            found,
+            max,
+        } => tell_values(recipe, parameter, *found, "most", *max, f),
+        Error::ArgumentPatternMismatch {
+            argument,
+            recipe,
+            parameter,
+            pattern,
+        } => tell_pattern(
+            argument.as_str(),
+            recipe.as_str(),
+            parameter.as_str(),
+            pattern.as_slice(),
+            f,
+        ),
+        Error::EmptyListArgument { recipe, parameter } => tell_switch(
+            recipe,
+            " parameter ",
+            parameter,
+            " requires at least one element but received empty list",
+            f,
+        ),
+        _ => Err(fmt::Error),
+    }
+}
+
+/// What is told of how a recipe ended; no other error is told here.
+fn tell_end<W: fmt::Write>(error: &Error, f: &mut fmt::Formatter<W>) -> fmt::Result
+    ensures { WritesOnOk W.write_str_gives f.old result (error_text error.now) f.new }
+{
+    match error {
+        Error::Code {
+            recipe,
+            line,
+            code,
+            ..
+        } => {
+            tell_failed(recipe, line, f)?;
+            tell_code(code, f)
+        }
+        Error::GuardCode { recipe, line, code } => tell_guard(recipe, *line, code, f),
+        Error::Signal {
+            recipe,
+            line,
+            signal,
+        } => {
+            tell_terminated(recipe, line, f)?;
+            tell_signal(signal, f)
+        }
+        Error::Unknown { recipe, line } => {
+            tell_failed(recipe, line, f)?;
+            f.write_str(" for an unknown reason")
+        }
+        Error::NotConfirmed { recipe } => {
+            tell_naming("recipe ", recipe.as_str(), " was not confirmed", f)
+        }
+        Error::Interrupted(signal) => write!(f, "error: interrupted by {signal}"),
+        _ => Err(fmt::Error),
+    }
+}
+
+/// What is told of a child that wasn't run; no other error is told here.
+fn tell_child<W: fmt::Write>(error: &Error, f: &mut fmt::Formatter<W>) -> fmt::Result
+    ensures { WritesOnOk W.write_str_gives f.old result (error_text error.now) f.new }
+{
+    match error {
+        Error::InvalidShebang { recipe, shebang } => {
+            tell_switch(recipe, " has invalid shebang ", shebang, "", f)
+        }
+        Error::ShellIo { recipe, shell, io } => tell_shell(recipe, shell, *io, f),
+        Error::Script {
+            recipe,
+            command,
+            io,
+        } => tell_script(recipe, command, *io, f),
+        Error::Shebang {
+            recipe,
+            command,
+            argument,
+            io,
+        } => tell_shebang(recipe, command.as_str(), argument, *io, f),
+        Error::TempdirIo { recipe, io } => tell_folder(recipe, *io, f),
+        _ => Err(fmt::Error),
+    }
+}
+
+/// What is told of a recipe's cache; no other error is told here.
+fn tell_cache<W: fmt::Write>(error: &Error, f: &mut fmt::Formatter<W>) -> fmt::Result
+    ensures { WritesOnOk W.write_str_gives f.old result (error_text error.now) f.new }
+{
+    match error {
+        Error::CacheInputMissing { path } => {
+            tell_naming("cache input does not exist: ", path.as_str(), "", f)
+        }
+        Error::CacheInputDirectory { path } => {
+            tell_naming("cache input is directory: ", path.as_str(), "", f)
+        }
+        Error::CacheOutputMissing { recipe, output } => {
+            tell_switch(recipe, " failed to create cache output ", output, "", f)
+        }
+        Error::CacheEntryWrite { path, io } => {
+            tell_at("failed to write cache entry at ", path.as_str(), *io, f)
+        }
+        _ => Err(fmt::Error),
+    }
+}
+
 impl fmt::Display for Error {
     ghost output = { λ e. Some (error_text e) };
 
     /// The error as it is told, without a newline at its end; a count of arguments has the usage of its recipe on further lines.
     fn fmt<W: fmt::Write>(&self, f: &mut fmt::Formatter<W>) -> fmt::Result {
         match self {
-            Error::Usage(usage) => tell_usage(usage, f),
-            Error::NotBuilt { word } => tell_naming("usage: NotBuilt ", word.as_str(), "", f),
-            Error::Config(error) => write!(f, "{error}"),
-            Error::CurrentDir { io } => tell_fault("failed to get current directory: ", *io, f),
-            Error::Search(error) => tell_search(error, f),
-            Error::Load { path, io } => {
-                tell_at("failed to read justfile at ", path.as_str(), *io, f)
-            }
-            Error::FilesystemIo { path, io } => tell_at("I/O error at ", path.as_str(), *io, f),
-            Error::MissingImportFile => {
-                f.write_str("error: could not find source file for import")
-            }
-            Error::CircularImport { current, import } => {
-                tell_circular(current.as_str(), import.as_str(), f)
-            }
-            Error::MissingModuleFile { module } => tell_naming(
-                "could not find source file for module ",
-                module.as_str(),
-                "",
-                f,
-            ),
-            Error::AmbiguousModuleFile { module, found } => tell_list(
-                "found multiple source files for module ",
-                module.as_str(),
-                found.as_slice(),
-                f,
-            ),
-            Error::Homedir => f.write_str("error: failed to get homedir"),
-            Error::Compile(error) => {
-                let kind = kind_text(error.kind);
-                tell_place(kind, error.path.as_str(), error.line, error.column, f)
-            }
-            Error::Const { path, line, column } => {
-                tell_place("not constant", path.as_str(), *line, *column, f)
-            }
-            Error::UnstableFeature(feature) => tell_unstable(feature, f),
-            Error::DotenvRequired => f.write_str("error: dotenv file not found"),
-            Error::Dotenv { path, line } => tell_dotenv(path.as_str(), *line, f),
-            Error::DotenvArgumentsRequireLists => f.write_str(
-                "error: multiple `--dotenv-filename` or `--dotenv-path` arguments require `set lists`",
-            ),
-            Error::DotenvCommand {
-                command,
-                output_error,
-            } => tell_command(command.as_str(), *output_error, f),
-            Error::UnknownOverrides { overrides } => tell_overrides(overrides.as_slice(), f),
-            Error::FunctionCall { name } => tell_naming(
-                "call to function `env` failed: environment variable ",
-                name.as_str(),
-                " not present",
-                f,
-            ),
-            Error::NoRecipes => f.write_str("error: justfile contains no recipes"),
-            Error::NoDefaultRecipe => f.write_str("error: justfile contains no default recipe"),
-            Error::DefaultRecipeRequiresArguments {
-                recipe,
-                min_arguments,
-            } => tell_default(recipe, *min_arguments, f),
-            Error::UnknownRecipe { recipe } => {
-                tell_naming("justfile does not contain recipe ", recipe.as_str(), "", f)
-            }
-            Error::UnknownSubmodule { path } => {
-                tell_naming("justfile does not contain submodule ", path.as_str(), "", f)
-            }
-            Error::ModuleAbsent { module } => {
-                tell_naming("optional module ", module.as_str(), " is absent", f)
-            }
-            Error::RecipeDisabled { recipe, modules } => {
-                tell_absent("recipe ", recipe.as_str(), modules.as_slice(), f)
-            }
-            Error::AliasDisabled { alias, modules } => {
-                tell_absent("alias ", alias.as_str(), modules.as_slice(), f)
-            }
-            Error::ExpectedSubmoduleButFoundRecipe { path } => tell_naming(
-                "expected submodule at ",
-                path.as_str(),
-                " but found recipe",
-                f,
-            ),
-            Error::UnknownOption { recipe, switch } => {
-                tell_switch(recipe, " does not have option ", switch, "", f)
-            }
-            Error::InvalidOption { argument } => {
-                tell_naming("argument ", argument.as_str(), " is not a valid option", f)
-            }
-            Error::FlagWithValue { recipe, switch } => {
-                tell_switch(recipe, " flag ", switch, " does not take value", f)
-            }
-            Error::NonFinalOptionWithValue { recipe, switch } => tell_switch(
-                recipe,
-                " option ",
-                switch,
-                " takes a value and so must be last when combined with other options",
-                f,
-            ),
-            Error::OptionMissingValue { recipe, switch } => {
-                tell_switch(recipe, " option ", switch, " missing value", f)
-            }
-            Error::DuplicateOption { recipe, switch } => tell_switch(
-                recipe,
-                " option ",
-                switch,
-                " cannot be passed more than once",
-                f,
-            ),
-            Error::PositionalArgumentCountMismatch {
-                recipe,
-                path,
-                parameters,
-                found,
-            } => tell_count(recipe, path, parameters.as_slice(), *found, f),
-            Error::MissingOption { recipe, switch } => {
-                tell_switch(recipe, " requires option ", switch, "", f)
-            }
-            Error::ArgumentTooFewValues {
-                recipe,
-                parameter,
-                found,
-                min,
-            } => tell_values(recipe, parameter, *found, "least", *min, f),
-            Error::ArgumentTooManyValues {
-                recipe,
-                parameter,
-                found,
-                max,
-            } => tell_values(recipe, parameter, *found, "most", *max, f),
-            Error::ArgumentPatternMismatch {
-                argument,
-                recipe,
-                parameter,
-                pattern,
-            } => tell_pattern(
-                argument.as_str(),
-                recipe.as_str(),
-                parameter.as_str(),
-                pattern.as_slice(),
-                f,
-            ),
-            Error::EmptyListArgument { recipe, parameter } => tell_switch(
-                recipe,
-                " parameter ",
-                parameter,
-                " requires at least one element but received empty list",
-                f,
-            ),
-            Error::ExcessInvocations { invocations } => write!(
-                f,
-                "error: expected 1 command-line recipe invocation but found {invocations}"
-            ),
-            Error::ClosureLimit => f.write_str("error: request needs more than 1000000 recipes"),
-            Error::InvalidShebang { recipe, shebang } => {
-                tell_switch(recipe, " has invalid shebang ", shebang, "", f)
-            }
-            Error::Code {
-                recipe,
-                line,
-                code,
-                ..
-            } => {
-                tell_failed(recipe, line, f)?;
-                tell_code(code, f)
-            }
-            Error::GuardCode { recipe, line, code } => tell_guard(recipe, *line, code, f),
-            Error::Signal {
-                recipe,
-                line,
-                signal,
-            } => {
-                tell_terminated(recipe, line, f)?;
-                tell_signal(signal, f)
-            }
-            Error::Unknown { recipe, line } => {
-                tell_failed(recipe, line, f)?;
-                f.write_str(" for an unknown reason")
-            }
-            Error::ShellIo { recipe, shell, io } => tell_shell(recipe, shell, *io, f),
-            Error::Script {
-                recipe,
-                command,
-                io,
-            } => tell_script(recipe, command, *io, f),
-            Error::Shebang {
-                recipe,
-                command,
-                argument,
-                io,
-            } => tell_shebang(recipe, command.as_str(), argument, *io, f),
-            Error::TempdirIo { recipe, io } => tell_folder(recipe, *io, f),
-            Error::CacheInputMissing { path } => {
-                tell_naming("cache input does not exist: ", path.as_str(), "", f)
-            }
-            Error::CacheInputDirectory { path } => {
-                tell_naming("cache input is directory: ", path.as_str(), "", f)
-            }
-            Error::CacheOutputMissing { recipe, output } => {
-                tell_switch(recipe, " failed to create cache output ", output, "", f)
-            }
-            Error::CacheEntryWrite { path, io } => {
-                tell_at("failed to write cache entry at ", path.as_str(), *io, f)
-            }
-            Error::NotConfirmed { recipe } => {
-                tell_naming("recipe ", recipe.as_str(), " was not confirmed", f)
-            }
-            Error::GetConfirmation { io } => {
-                tell_fault("failed to read confirmation from stdin: ", *io, f)
-            }
-            Error::StdoutIo { io } => tell_fault("I/O error writing to stdout: ", *io, f),
-            Error::InitExists { justfile } => {
-                tell_naming("justfile ", justfile.as_str(), " already exists", f)
-            }
-            Error::WriteJustfile { justfile, io } => {
-                tell_at("failed to write justfile to ", justfile.as_str(), *io, f)
-            }
-            Error::Interrupted(signal) => write!(f, "error: interrupted by {signal}"),
-            Error::NoMemory => f.write_str("error: out of memory"),
+            Error::Usage(_)
+            | Error::NotBuilt { .. }
+            | Error::Config(_)
+            | Error::CurrentDir { .. }
+            | Error::Search(_)
+            | Error::NoMemory => tell_start(self, f),
+            Error::Load { .. }
+            | Error::FilesystemIo { .. }
+            | Error::StdoutIo { .. }
+            | Error::GetConfirmation { .. }
+            | Error::InitExists { .. }
+            | Error::WriteJustfile { .. } => tell_access(self, f),
+            Error::MissingImportFile
+            | Error::CircularImport { .. }
+            | Error::MissingModuleFile { .. }
+            | Error::AmbiguousModuleFile { .. }
+            | Error::Homedir
+            | Error::Compile(_)
+            | Error::Const { .. } => tell_source(self, f),
+            Error::UnstableFeature(_)
+            | Error::DotenvRequired
+            | Error::Dotenv { .. }
+            | Error::DotenvArgumentsRequireLists
+            | Error::DotenvCommand { .. }
+            | Error::UnknownOverrides { .. }
+            | Error::FunctionCall { .. } => tell_variables(self, f),
+            Error::NoRecipes
+            | Error::NoDefaultRecipe
+            | Error::DefaultRecipeRequiresArguments { .. }
+            | Error::ExcessInvocations { .. }
+            | Error::ClosureLimit => tell_request(self, f),
+            Error::UnknownRecipe { .. }
+            | Error::UnknownSubmodule { .. }
+            | Error::ModuleAbsent { .. }
+            | Error::RecipeDisabled { .. }
+            | Error::AliasDisabled { .. }
+            | Error::ExpectedSubmoduleButFoundRecipe { .. } => tell_name(self, f),
+            Error::UnknownOption { .. }
+            | Error::InvalidOption { .. }
+            | Error::FlagWithValue { .. }
+            | Error::NonFinalOptionWithValue { .. }
+            | Error::OptionMissingValue { .. }
+            | Error::DuplicateOption { .. }
+            | Error::MissingOption { .. } => tell_option(self, f),
+            Error::PositionalArgumentCountMismatch { .. }
+            | Error::ArgumentTooFewValues { .. }
+            | Error::ArgumentTooManyValues { .. }
+            | Error::ArgumentPatternMismatch { .. }
+            | Error::EmptyListArgument { .. } => tell_argument(self, f),
+            Error::Code { .. }
+            | Error::GuardCode { .. }
+            | Error::Signal { .. }
+            | Error::Unknown { .. }
+            | Error::NotConfirmed { .. }
+            | Error::Interrupted(_) => tell_end(self, f),
+            Error::InvalidShebang { .. }
+            | Error::ShellIo { .. }
+            | Error::Script { .. }
+            | Error::Shebang { .. }
+            | Error::TempdirIo { .. } => tell_child(self, f),
+            Error::CacheInputMissing { .. }
+            | Error::CacheInputDirectory { .. }
+            | Error::CacheOutputMissing { .. }
+            | Error::CacheEntryWrite { .. } => tell_cache(self, f),
         }
     }
 }

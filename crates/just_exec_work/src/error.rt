@@ -7,7 +7,7 @@ use just_path_text::{NoMemory, Text};
 use std::alloc::{AllocError, AllocFailed};
 
 /// Why a body can't be run.
-#[derive(Debug, Drop)]
+#[derive(Drop)]
 pub enum CommandError {
     /// The first line begins with `#!` and names no interpreter.
     InvalidShebang {

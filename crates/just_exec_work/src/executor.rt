@@ -17,7 +17,7 @@ use std::alloc::Global;
 
 /// What runs a script: a command, which takes the script's path behind its arguments, or the script itself, whose first line
 /// names the interpreter.
-#[derive(Debug, Drop)]
+#[derive(Drop)]
 pub enum Executor<'l> {
     Command(Interpreter),
     Shebang(Shebang<'l>),

@@ -7,7 +7,7 @@ ghost use Rattle.just_exec_work.specs.Kinds.{kind_of, extension_of, takes_shell_
 use super::cut::last_piece;
 
 /// What a shell is, as far as its scripts and arguments go.
-#[derive(Clone, Copy, Debug, PartialEq, Eq)]
+#[derive(Clone, Copy, PartialEq, Eq)]
 pub enum ShellKind {
     /// The command prompt of Windows.
     Cmd,

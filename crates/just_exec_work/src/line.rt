@@ -43,11 +43,13 @@ fn line_arguments(
 ) -> Result<Seq<Text>, NoMemory>
     ensures { IfOk result (λ ts. ts ≡ shell.now.arguments ++ (line.now ∷ words_of_line (run_of run.now) shell.now (positional_words (run_of run.now) attributes.now))) }
 {
-    let texts = positional_words(alloc, run, attributes)?;
     let mut words = Vec::new(alloc);
     push_texts(&mut words, shell.arguments.as_slice())?;
     words.push(Text::from_str(alloc, line)?)?;
-    push_words(&mut words, run, shell, &texts)?;
+    let texts = positional_words(alloc, run, attributes)?;
+    let pushed = push_words(&mut words, run, shell, &texts);
+    drop(texts);
+    pushed?;
     Ok(Seq::from(words))
 }
 
@@ -60,13 +62,15 @@ fn line_child(
 ) -> Result<Spec, NoMemory>
     ensures { IfOk result (λ s. s ≡ line_child (run_of run.now) attributes.now line.now) }
 {
+    let changes = copied_changes(alloc, run.changes)?;
+    let folder = recipe_folder(alloc, run.settings, attributes, run.folder)?;
     let shell = shell(alloc, run.flags, run.settings)?;
     let arguments = line_arguments(alloc, run, attributes, &shell, line)?;
     Ok(Spec {
         program: shell.command,
         arguments,
-        folder: recipe_folder(alloc, run.settings, attributes, run.folder)?,
-        changes: copied_changes(alloc, run.changes)?,
+        folder,
+        changes,
         script: None,
     })
 }
@@ -88,9 +92,10 @@ fn line_command(
         run.recipe.quiet,
         line.quiet,
     );
+    let echo = line_echo(alloc, shown, text)?;
     Ok(Command {
         spec: line_child(alloc, run, attributes, text)?,
-        echo: line_echo(alloc, shown, text)?,
+        echo,
         line: Some(line.number),
         forgiving: line.forgiving,
         guard: line.guard,

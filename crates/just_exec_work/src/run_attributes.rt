@@ -3,7 +3,7 @@
 use just_path_text::{Seq, Text};
 
 /// How the attributes of a recipe ask it to be run.
-#[derive(Debug, Drop)]
+#[derive(Drop)]
 pub struct RunAttributes {
     /// The texts of `script`, where it is there: a command and its arguments, or none.
     pub script: Option<Seq<Text>>,

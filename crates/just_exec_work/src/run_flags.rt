@@ -4,7 +4,7 @@ use just_path::Utf8PathBuf;
 use just_path_text::{Seq, Text};
 
 /// What the words of a run say of its commands.
-#[derive(Debug, Drop)]
+#[derive(Drop)]
 pub struct RunFlags {
     pub shell: Option<Text>,
     pub shell_args: Option<Seq<Text>>,

@@ -83,15 +83,39 @@ fn script_of(
 ) -> Result<Script, NoMemory>
     ensures { IfOk result (λ s. s ≡ script_of (run_of run.now) attributes.now (runner_of executor.now) lines.now) }
 {
+    let after = script_words(alloc, run, attributes)?;
     let extension = borrowed(&attributes.extension);
     let name = executor.script_filename(alloc, run.recipe.name.as_str(), extension)?;
-    let text = executor.script_text(alloc, lines)?;
+    let folder = script_folder(alloc, run.flags, run.settings)?;
     Ok(Script {
-        folder: script_folder(alloc, run.flags, run.settings)?,
+        folder,
         name: Text::from(name),
-        text,
+        text: executor.script_text(alloc, lines)?,
         run: runs_itself(executor),
-        after: script_words(alloc, run, attributes)?,
+        after,
+    })
+}
+
+/// The child that runs a script.
+fn script_child(
+    alloc: Global,
+    run: &Running<'_>,
+    attributes: &RunAttributes,
+    executor: &Executor<'_>,
+    lines: &[BodyLine],
+) -> Result<Spec, NoMemory>
+    ensures { IfOk result (λ s. s ≡
+        (script_command (run_of run.now) attributes.now (runner_of executor.now) lines.now).spec) }
+{
+    let program = program(alloc, executor)?;
+    let arguments = arguments(alloc, executor)?;
+    let changes = copied_changes(alloc, run.changes)?;
+    Ok(Spec {
+        program,
+        arguments,
+        folder: recipe_folder(alloc, run.settings, attributes, run.folder)?,
+        changes,
+        script: Some(script_of(alloc, run, attributes, executor, lines)?),
     })
 }
 
@@ -105,17 +129,11 @@ pub(crate) fn script_command(
 ) -> Result<Command, NoMemory>
     ensures { IfOk result (λ c. c ≡ script_command (run_of run.now) attributes.now (runner_of executor.now) lines.now) }
 {
-    let spec = Spec {
-        program: program(alloc, executor)?,
-        arguments: arguments(alloc, executor)?,
-        folder: recipe_folder(alloc, run.settings, attributes, run.folder)?,
-        changes: copied_changes(alloc, run.changes)?,
-        script: Some(script_of(alloc, run, attributes, executor, lines)?),
-    };
     let shown = shows_script(run.flags, run.recipe.quiet);
+    let echo = script_echo(alloc, shown, lines)?;
     Ok(Command {
-        spec,
-        echo: script_echo(alloc, shown, lines)?,
+        spec: script_child(alloc, run, attributes, executor, lines)?,
+        echo,
         line: None,
         forgiving: false,
         guard: false,

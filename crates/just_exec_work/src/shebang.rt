@@ -13,7 +13,7 @@ use super::cut::{first_line, last_piece, split_at_blank};
 /// let shebang = Shebang::new("#!/usr/bin/env python3");
 /// // the interpreter is `/usr/bin/env`, the argument `python3`
 /// ```
-#[derive(Clone, Copy, Debug, PartialEq, Eq, Drop)]
+#[derive(Clone, Copy, Drop)]
 pub struct Shebang<'l> {
     /// All that is behind the first blank behind the interpreter: it is handed on as one argument.
     pub argument: Option<&'l str>,

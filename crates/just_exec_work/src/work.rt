@@ -5,7 +5,7 @@ use just_lang_read::Boxed;
 use just_path_text::{Seq, Text};
 
 /// What a body has to run.
-#[derive(Debug, Drop)]
+#[derive(Drop)]
 pub enum Work {
     /// One child for each line.
     Lines(Seq<Command>),
@@ -15,7 +15,7 @@ pub enum Work {
 }
 
 /// One command of a body.
-#[derive(Debug, Drop)]
+#[derive(Drop)]
 pub struct Command {
     /// Of a script that is run by itself the program and its arguments are the interpreter and the argument that its first line names.
     pub spec: Spec,
@@ -30,7 +30,7 @@ pub struct Command {
 }
 
 /// What a body does next.
-#[derive(Clone, Copy, Debug, PartialEq, Eq, Hash)]
+#[derive(Clone, Copy)]
 pub enum Step {
     /// It starts the command at this place.
     Start(usize),

@@ -28,14 +28,14 @@ pub enum Event {
 }
 
 /// How a node's body came to its end.
-#[derive(Clone, Copy, Debug, PartialEq, Eq, Hash)]
+#[derive(Clone, Copy, Debug, PartialEq, Eq)]
 pub enum Outcome {
     Well,
     Failed(Reason),
 }
 
 /// Why a node's body failed.
-#[derive(Clone, Copy, Debug, PartialEq, Eq, Hash)]
+#[derive(Clone, Copy, Debug, PartialEq, Eq)]
 pub enum Reason {
     /// A command's status.
     Status,
@@ -53,7 +53,7 @@ pub enum Reason {
 }
 
 /// Why there is nothing to do now.
-#[derive(Clone, Copy, Debug, PartialEq, Eq, Hash)]
+#[derive(Clone, Copy)]
 pub enum Idle {
     /// No node is ready or to be asked.
     Nothing,
@@ -66,7 +66,7 @@ pub enum Idle {
 }
 
 /// How a run went.
-#[derive(Clone, Copy, Debug, PartialEq, Eq, Hash)]
+#[derive(Clone, Copy, Debug, PartialEq, Eq)]
 pub enum Verdict {
     Well,
     /// The node of least number that failed.

@@ -6,7 +6,7 @@ ghost use Rattle.just_sched_history.specs.Nodes.{priors_at, prompt_at};
 ghost use Rattle.just_sched_history.specs.Tables.{flag, FlagsAre};
 ghost use Rattle.just_sched_history.specs.State.{is_over_well, is_confirmed, names};
 ghost use Rattle.just_sched_history.specs.Covered.{AreCoveredBy};
-ghost use Rattle.just_sched_history.specs.Led.{IsRaised, AllFinished, AllConfirmed, AllWanted};
+ghost use Rattle.just_sched_history.specs.Led.{IsRaised, AllFinished, AllConfirmed, AllWanted, place_of};
 ghost use Rattle.just_sched_history.specs.Progress.{IsPlaced, IsClosedBut, IsTold};
 
 use super::Plan;
@@ -16,6 +16,22 @@ use super::spread::{lead, want_all};
 use crate::NumberSet;
 use just_path_text::NoMemory;
 use std::alloc::Global;
+
+/// So many flags, of which none is up.
+fn down_flags(alloc: Global, count: usize) -> Result<Vec<bool>, NoMemory>
+    ensures len { IfOk result (λ v. vec_len v ≡ count) }
+    ensures down { IfOk result (λ v. FlagsAre v.items (λ _. false)) }
+{
+    Ok(vec![in alloc; false; count]?)
+}
+
+/// So many places, each of which is the first.
+fn first_places(alloc: Global, count: usize) -> Result<Vec<usize>, NoMemory>
+    ensures len { IfOk result (λ v. vec_len v ≡ count) }
+    ensures first { IfOk result (λ v. (m : ℕ) → place_of v.items m ≡ 0) }
+{
+    Ok(vec![in alloc; 0; count]?)
+}
 
 /// So many empty lists.
 fn empty_lists(alloc: Global, count: usize) -> Result<Vec<Vec<u32>>, NoMemory>
@@ -241,12 +257,12 @@ impl Progress {
         ensures none { IfOk result (λ p. p.pending.items ≡ []) }
     {
         let count = plan.nodes.len();
-        let over = vec![in alloc; false; count]?;
-        let finished = vec![in alloc; false; count]?;
+        let over = down_flags(alloc, count)?;
+        let finished = down_flags(alloc, count)?;
         let confirmed = unprompted(alloc, plan)?;
-        let wanted = vec![in alloc; false; count]?;
-        let priors = vec![in alloc; 0; count]?;
-        let subsequents = vec![in alloc; 0; count]?;
+        let wanted = down_flags(alloc, count)?;
+        let priors = first_places(alloc, count)?;
+        let subsequents = first_places(alloc, count)?;
         let pending = Vec::with_capacity(alloc, count)?;
         let dependents = dependents_of(alloc, plan)?;
         Ok(Progress {

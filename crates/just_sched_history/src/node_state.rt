@@ -1,7 +1,7 @@
 //! The state of a node, as a book tells it.
 
 /// The state of a node: the first of these that holds.
-#[derive(Clone, Copy, Debug, PartialEq, Eq, Hash)]
+#[derive(Clone, Copy, Debug)]
 pub enum NodeState {
     /// Its body failed.
     Failed,

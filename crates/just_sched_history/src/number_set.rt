@@ -13,7 +13,6 @@ const BLOCK: usize = 64;
 const TOP: usize = 4096;
 
 /// A set of numbers below a bound. Its members are looked for block by block: a block without one is passed in one step.
-#[derive(Debug, Drop)]
 pub struct NumberSet {
     pub flags: Vec<bool>,
     /// For each block whether one of its numbers may be a member.
@@ -29,6 +28,18 @@ pub struct NumberSet {
     pub ghost noted: { IsNoted flags.items blocks.items },
     pub ghost topped: { IsNoted blocks.items tops.items },
     pub ghost none_below: { (n : ℕ) → n < least → is_member flags.items n ≡ false },
+}
+
+impl Drop for NumberSet {
+    fn drop(self) {
+        let NumberSet {
+            flags: _,
+            blocks: _,
+            tops: _,
+            least: _,
+            size: _,
+        } = self;
+    }
 }
 
 /// Whether none of the flags from a place on is up, up to another place.

@@ -8,7 +8,6 @@ use super::descent::{descend, spread};
 use super::spread::{lead, lead_all};
 
 /// What is kept of a run's progress.
-#[derive(Debug, Drop)]
 pub struct Progress {
     pub over: Vec<bool>,
     pub finished: Vec<bool>,
@@ -33,4 +32,21 @@ pub struct Progress {
     pub ghost priors_sized: { vec_len priors ≡ size },
     pub ghost subsequents_sized: { vec_len subsequents ≡ size },
     pub ghost dependents_sized: { vec_len dependents ≡ size },
+}
+
+impl Drop for Progress {
+    fn drop(self) {
+        let Progress {
+            over: _,
+            finished: _,
+            confirmed: _,
+            wanted: _,
+            priors: _,
+            subsequents: _,
+            invocations: _,
+            dependents: _,
+            pending: _,
+            size: _,
+        } = self;
+    }
 }

@@ -11,7 +11,7 @@ use super::{Event, Outcome, Reason};
 use just_host_record::{Look, Status};
 
 /// What the events so far say of one node.
-#[derive(Clone, Copy, Debug)]
+#[derive(Clone, Copy)]
 pub struct Row {
     pub taken: bool,
     pub given: bool,

@@ -7,7 +7,6 @@ use super::row::Row;
 use crate::NumberSet;
 
 /// What is noted of each node of a plan.
-#[derive(Debug, Drop)]
 pub struct Tables {
     pub rows: Vec<Row>,
     pub progress: Progress,
@@ -28,4 +27,19 @@ pub struct Tables {
     pub ghost prompted_sized: { prompted.size ≡ size },
     pub ghost classes_sized: { vec_len classes ≡ size },
     pub ghost opened_sized: { vec_len opened ≡ size },
+}
+
+impl Drop for Tables {
+    fn drop(self) {
+        let Tables {
+            rows: _,
+            progress: _,
+            due: _,
+            prompted: _,
+            classes: _,
+            opened: _,
+            left: _,
+            size: _,
+        } = self;
+    }
 }

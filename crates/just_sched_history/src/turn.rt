@@ -1,7 +1,7 @@
 //! What a book may do next.
 
 /// How a node stands, for the next move.
-#[derive(Clone, Copy, Debug, PartialEq, Eq)]
+#[derive(Clone, Copy)]
 pub(crate) enum Stand {
     ToAsk,
     /// It is ready, and no open body is of its class.
@@ -13,7 +13,7 @@ pub(crate) enum Stand {
 }
 
 /// The next move.
-#[derive(Clone, Copy, Debug, PartialEq, Eq)]
+#[derive(Clone, Copy)]
 pub enum Turn {
     /// Of the nodes that are to be asked or free, that of least number is to be asked.
     Ask(u32),

@@ -4,10 +4,11 @@ use Rattle.std.proofs.lemmas.List.{with_items_is}
 use Rattle.std.proofs.Math.ListN.{length-set}
 use Rattle.std.specs.Prelude.{Contains}
 use Rattle.std.specs.Vec.{with_items}
-use Rattle.just_sched_history.specs.Nodes.{subsequents_at, parallel_at}
+use Rattle.just_sched_history.specs.Nodes.{priors_at, subsequents_at, parallel_at}
 use Rattle.just_sched_history.specs.Tables.{flag, InRange}
-use Rattle.just_sched_history.specs.Led.{IsRaised, IsLed}
+use Rattle.just_sched_history.specs.Led.{IsRaised, IsLed, place_of}
 use Rattle.just_sched_history.proofs.Entering.{entered, told_entered, led_all}
+use Rattle.just_sched_history.proofs.Placing.{before_both, placed_on}
 use Rattle.just_sched_history.proofs.PlanLaws.{subsequents_read}
 use Rattle.just_sched_history.proofs.WantedLaws.{subsequents_within, parallel_read}
 use Rattle.just_sched_history.proofs.progress.Progress.enter.Goals as goal
@@ -41,6 +42,21 @@ raised_is : (c : After-want_all) → IsRaised c.args.self.now.wanted.items (with
 raised_is c =
     subst (λ (w : List Bool). IsRaised c.args.self.now.wanted.items w c.args.self.now.pending.items c.want_all.new.pending.items) (wanted_are c)
     (subst (λ (w : List Bool). IsRaised w c.want_all.new.wanted c.args.self.now.pending.items c.want_all.new.pending.items) c.as_mut_slice-wanted.ensures.value c.want_all.ensures.raised)
+
+pub returns-clause-raised : goal.returns-clause-raised
+returns-clause-raised c = raised_is (goal.at.returns-clause-raised c).After-want_all
+
+pub returns-clause-placed : goal.returns-clause-placed
+returns-clause-placed c =
+    let plan = c.args.plan.now in
+    let self = c.args.self.now in
+    let w = (with_items self.wanted c.want_all.new.wanted).items in
+    let raised = raised_is (goal.at.returns-clause-placed c).After-want_all in
+    placed_on plan.nodes plan.invocations self _ refl c.want_all.ensures.capacity raised
+    (before_both self.finished.items self.finished.items self.wanted.items w plan.invocations self.invocations (λ k up. up) raised.keeps c.requires.placed.invoked)
+    (λ m. before_both self.finished.items self.finished.items self.wanted.items w (priors_at plan.nodes m) (place_of self.priors.items m) (λ k up. up) raised.keeps (c.requires.placed.priors m))
+    (λ m. before_both self.finished.items self.finished.items self.wanted.items w (subsequents_at plan.nodes m) (place_of self.subsequents.items m) (λ k up. up) raised.keeps (c.requires.placed.subsequents m))
+    c.requires.placed
 
 pub returns-clause-closed : goal.returns-clause-closed
 returns-clause-closed c =

@@ -63,6 +63,12 @@ only_is c same =
     (subst (λ (f : List Bool). (k : ℕ) → flag c.lead-place.new.wanted k ≡ true → (flag c.args.self.now.wanted.items k ≡ true) ⊎ MayFollow f false c.as_slice-list.result.now k) c.as_slice-finished.ensures.value
     (subst (λ (w : List Bool). (k : ℕ) → flag c.lead-place.new.wanted k ≡ true → (flag w k ≡ true) ⊎ MayFollow c.as_slice-finished.result.now false c.as_slice-list.result.now k) c.as_mut_slice-wanted.ensures.value c.lead-place.ensures.only))
 
+pub returns-clause-raised : goal.returns-clause-raised
+returns-clause-raised c =
+    let self = c.args.self.now in
+    let here = (goal.at.returns-clause-raised c).After-lead-place in
+    subst (λ (w : List Bool). IsRaised self.wanted.items w self.pending.items c.lead-place.new.pending.items) (sym (with_items_is self.wanted c.lead-place.new.wanted (wanted_are here))) (raised_is here)
+
 pub returns-clause-placed : goal.returns-clause-placed
 returns-clause-placed c =
     let plan = c.args.plan.now in

@@ -34,6 +34,9 @@ raised_is c =
     subst (λ (w : List Bool). IsRaised c.args.self.now.wanted.items w c.args.self.now.pending.items c.lead-place.new.pending.items) (wanted_are c)
     (subst (λ (w : List Bool). IsRaised w c.lead-place.new.wanted c.args.self.now.pending.items c.lead-place.new.pending.items) c.as_mut_slice-wanted.ensures.value c.lead-place.ensures.raised)
 
+pub returns-clause-raised : goal.returns-clause-raised
+returns-clause-raised c = raised_is (goal.at.returns-clause-raised c).After-lead-place
+
 pub returns-clause-placed : goal.returns-clause-placed
 returns-clause-placed c =
     let plan = c.args.plan.now in
