@@ -4,86 +4,99 @@
 //! (`find`, `search`), of what is tried behind it (`find_fallback`, `search_parent_directory`), of a justfile in markdown (`materialize`), of one that
 //! is to be written and of the program of a name are made by `rows_requests`.
 
-use crate::changes::changes_agree;
+use crate::agree::agree;
+use crate::changes::changed;
 use crate::hosts::memory;
 use crate::loading::loaded;
 use just_host::{Host, HostFault};
 use just_lang_types::{Ast, AstItem, FileRef, Source, parse, references};
-use just_path::Utf8Path;
-use just_path_text::{NoMemory, Seq, Text};
-use std::alloc::Global;
+use just_path::Utf8PathBuf;
+use just_path_text::{NoMemory, Text};
+use std::alloc::{AllocError, Global};
 use std::test::Fail;
 
+/// The source of a text, at a path in the folder `/p`.
 fn source(alloc: Global, text: &str) -> Result<Source, NoMemory> {
-    Ok(Source {
-        path: Utf8Path::new("/p/justfile").to_path_buf(alloc)?,
-        root: Utf8Path::new("/p").to_path_buf(alloc)?,
-        text: Text::from_str(alloc, text)?,
-    })
+    let path = Utf8PathBuf::from_str(alloc, "/p/justfile")?;
+    let root = Utf8PathBuf::from_str(alloc, "/p")?;
+    let text = Text::from_str(alloc, text)?;
+    Ok(Source { path, root, text })
 }
 
 /// The tree of a text that fits the grammar; where it doesn't, memory is told to be wanting, so that the test fails.
 fn tree(alloc: Global, text: &str) -> Result<Ast, NoMemory> {
-    match parse(alloc, &source(alloc, text)?) {
-        Ok(ast) => Ok(ast),
-        Err(_) => Err(NoMemory),
+    let source = source(alloc, text)?;
+    parse(alloc, &source).ok().ok_or(NoMemory)
+}
+
+/// Adds the line in which a recipe begins; nothing of another item.
+fn push_line(all: &mut String, item: &AstItem) -> Result<(), AllocError> {
+    match item {
+        AstItem::Recipe(recipe) => write!(all, " {}", recipe.get().name.line),
+        _ => Ok(()),
     }
 }
 
-/// How many items a text has, and the lines in which its recipes begin, one behind the other.
-fn items(alloc: Global, text: &str) -> Result<(usize, Vec<usize>), NoMemory> {
+/// How many items there are, and the lines in which the recipes among them begin, one behind the other.
+fn shown_items(alloc: Global, items: &[AstItem]) -> Result<String, AllocError> {
+    let mut all = format!(in alloc; "{} items, recipes in", items.len())?;
+    for item in items {
+        push_line(&mut all, item)?;
+    }
+    Ok(all)
+}
+
+/// The same of the items of a text.
+fn items(alloc: Global, text: &str) -> Result<String, NoMemory> {
     let ast = tree(alloc, text)?;
-    let mut lines = Vec::new(alloc);
-    for item in ast.items.as_slice() {
-        if let AstItem::Recipe(recipe) = item {
-            lines.push(recipe.get().name.line)?;
+    Ok(shown_items(alloc, ast.items.as_slice())?)
+}
+
+/// How many files there are, and the path of each, empty where it has none.
+fn shown_files(alloc: Global, files: &[FileRef]) -> Result<String, AllocError> {
+    let mut all = format!(in alloc; "{} files", files.len())?;
+    for file in files {
+        match &file.path {
+            Some(path) => write!(all, " [{}]", path.as_str())?,
+            None => all.push_str(" []")?,
         }
     }
-    Ok((ast.items.len(), lines))
+    Ok(all)
 }
 
-/// The files that a text names.
-fn files(alloc: Global, text: &str) -> Result<Seq<FileRef>, NoMemory> {
+/// The same of the files that a text names.
+fn files(alloc: Global, text: &str) -> Result<String, NoMemory> {
     let ast = tree(alloc, text)?;
-    references(alloc, &ast)
+    let files = references(alloc, &ast)?;
+    Ok(shown_files(alloc, files.as_slice())?)
 }
 
-/// The path of the file of that number, empty where it has none.
-fn path_of(files: &[FileRef], number: usize) -> &str {
-    match files.get(number) {
-        Some(
-            FileRef {
-                path: Some(path),
-                ..
-            },
-        ) => path.as_str(),
-        _ => "",
-    }
-}
-
-/// The home folder of a host's environment.
-fn home(alloc: Global) -> Result<String, HostFault> {
-    let mut host = memory(alloc, "")?;
+/// The home folder of a host's environment, empty where there is none.
+fn home_of<H: Host + Drop>(alloc: Global, host: H) -> Result<String, HostFault> {
+    let mut host = host;
     let environ = host.environ()?;
-    let home = environ.home().unwrap_or("");
-    match String::from_str(alloc, home) {
+    match String::from_str(alloc, environ.home().unwrap_or("")) {
         Ok(home) => Ok(home),
         Err(_) => Err(HostFault::NoMemory),
     }
 }
 
+/// The home folder of the environment of a host in memory.
+fn home(alloc: Global) -> Result<String, HostFault> {
+    let host = memory(alloc, "")?;
+    home_of(alloc, host)
+}
+
 #[test]
 fn every_call_answers(rt: HostRuntime) -> Result<(), Fail> {
     let alloc = rt.alloc();
-    let (count, lines) = items(alloc, "b: a\n  one\n\n   two\n\n# c\r\na:")?;
-    assert_eq!(rt; count, 4);
-    assert_eq!(rt; lines.as_slice(), [1usize, 7].as_slice());
-    let files = files(alloc, "import 'a'\nmod? b\nmod c \"\\u{64}\"\n")?;
-    assert_eq!(rt; files.len(), 3);
-    assert_eq!(rt; path_of(files.as_slice(), 0), "a");
-    assert_eq!(rt; path_of(files.as_slice(), 2), "d");
-    assert_eq!(rt; home(alloc)?.as_str(), "/h");
-    assert!(rt; matches!(loaded(alloc, "import 'link'\na:\n"), Ok((2, 0))));
-    assert!(rt; changes_agree(alloc)?);
-    Ok(())
+    let items = items(alloc, "b: a\n  one\n\n   two\n\n# c\r\na:");
+    agree(&rt, items, "4 items, recipes in 1 7")?;
+    let files = files(alloc, "import 'a'\nmod? b\nmod c \"\\u{64}\"\n");
+    agree(&rt, files, "3 files [a] [] [d]")?;
+    agree(&rt, home(alloc), "/h")?;
+    let loaded = loaded(alloc, "import 'link'\na:\n");
+    agree(&rt, loaded, "2 sources, root Some(0)")?;
+    agree(&rt, changed(alloc, false), "A=y B- C=file E=x G=z ")?;
+    agree(&rt, changed(alloc, true), "A=y B- C=file D=x E=x G=z ")
 }

@@ -1,93 +1,137 @@
 //! Children that are fed and whose output is read, answers to prompts, and standard input.
 
-use super::calls::in_memory;
+use crate::shown::says;
+use crate::told::told_in_memory;
 use just_host::{Ending, Host, HostFault, MAX_BYTES, Plot, RealHost, Spec, Status};
+use just_lang_read::Boxed;
 use just_path::Miss;
 use just_path_text::{NoMemory, Seq, Text};
-use std::alloc::Global;
+use std::alloc::{AllocError, Global};
 use std::test::Fail;
 
-/// `sh -c LINE`.
-fn shell(alloc: Global, line: &str) -> Result<Spec, NoMemory> {
+/// How a child ended, and how many bytes it printed.
+type Outcome = Result<(Status, usize), HostFault>;
+
+/// The arguments `-c LINE`.
+fn arguments(alloc: Global, line: &str) -> Result<Seq<Text>, NoMemory> {
     let mut arguments = Vec::new(alloc);
     arguments.push(Text::from_str(alloc, "-c")?)?;
     arguments.push(Text::from_str(alloc, line)?)?;
-    Ok(Spec {
-        program: Text::from_str(alloc, "sh")?,
-        arguments: Seq::from(arguments),
+    Ok(Seq::from(arguments))
+}
+
+/// `sh -c LINE`.
+fn shell(alloc: Global, line: &str) -> Result<Boxed<Spec>, NoMemory> {
+    let arguments = arguments(alloc, line)?;
+    let program = Text::from_str(alloc, "sh")?;
+    let spec = Spec {
+        program,
+        arguments,
         folder: None,
         changes: Seq::new(alloc),
         script: None,
-    })
+    };
+    Ok(Boxed::new(alloc, spec)?)
 }
 
 /// How a child ended, and how many bytes it printed.
-fn captured<H: Host>(
-    alloc: Global,
-    host: &mut H,
-    line: &str,
-    input: &[u8],
-) -> Result<(Status, usize), HostFault> {
+pub(crate) fn captured<H: Host>(alloc: Global, host: &mut H, line: &str, input: &[u8]) -> Outcome {
     let spec = shell(alloc, line)?;
-    match host.capture(&spec, input) {
+    match host.capture(spec.get(), input) {
         Ok((status, output)) => Ok((status, output.len())),
         Err(fault) => Err(fault),
     }
 }
 
+/// What comes back of the most bytes that may: all of it, nothing where it isn't read, nothing where nothing is fed, and
+/// no answer where it is too much.
+fn fed<H: Host + Drop>(alloc: Global, host: H, most: Vec<u8>) -> [Outcome; 4] {
+    let mut host = host;
+    let most = most.as_slice();
+    [
+        captured(alloc, &mut host, "cat", most),
+        captured(alloc, &mut host, "exit 3", most),
+        captured(alloc, &mut host, "cat", b""),
+        captured(alloc, &mut host, "cat; echo", most),
+    ]
+}
+
+/// The most bytes that may come back.
+fn most(alloc: Global) -> Result<Vec<u8>, AllocError> {
+    let mut most = Vec::new(alloc);
+    most.resize(MAX_BYTES, b'a')?;
+    Ok(most)
+}
+
 #[test]
 fn what_is_fed_comes_back(rt: HostRuntime) -> Result<(), Fail> {
     let alloc = rt.alloc();
-    let mut host = RealHost::new(&rt, alloc)?;
-    let mut most = Vec::new(alloc);
-    most.resize(MAX_BYTES, b'a')?;
-    let most = most.as_slice();
-    let well = Status::Code(0);
-    assert!(rt;
-        captured(alloc, &mut host, "cat", most) == Ok((well, MAX_BYTES)),
-        "all of it"
+    let most = most(alloc)?;
+    let host = RealHost::new(&rt, alloc)?;
+    assert_eq!(rt;
+        fed(alloc, host, most),
+        [
+            Ok((Status::Code(0), MAX_BYTES)),
+            Ok((Status::Code(3), 0)),
+            Ok((Status::Code(0), 0)),
+            Err(HostFault::Missed(Miss::TooLarge)),
+        ]
     );
-    assert!(rt;
-        captured(alloc, &mut host, "exit 3", most) == Ok((Status::Code(3), 0)),
-        "not read"
-    );
-    assert!(rt;
-        captured(alloc, &mut host, "cat", b"") == Ok((well, 0)),
-        "nothing"
-    );
-    let much = captured(alloc, &mut host, "cat; echo", most);
-    assert!(rt; much == Err(HostFault::Missed(Miss::TooLarge)), "too much");
     Ok(())
+}
+
+/// A child that is given `-c cat` prints `out`.
+fn ending(alloc: Global) -> Result<Ending, NoMemory> {
+    let output = Seq::from(Vec::from_slice(alloc, b"out")?);
+    let word = Text::from_str(alloc, "-c cat")?;
+    Ok(Ending {
+        word,
+        status: Status::Code(7),
+        output,
+        effects: Vec::new(alloc),
+    })
+}
+
+/// The one ending.
+fn endings(alloc: Global) -> Result<Vec<Ending>, NoMemory> {
+    let mut endings = Vec::new(alloc);
+    endings.push(ending(alloc)?)?;
+    Ok(endings)
+}
+
+/// The one answer.
+fn answers(alloc: Global) -> Result<Seq<Text>, NoMemory> {
+    let mut answers = Vec::new(alloc);
+    answers.push(Text::from_str(alloc, "yes")?)?;
+    Ok(Seq::from(answers))
 }
 
 /// A plot in which a child prints `out`, a prompt is answered once, and standard input is `in`.
 fn plot(alloc: Global) -> Result<Plot, NoMemory> {
-    let mut endings = Vec::new(alloc);
-    endings.push(Ending {
-        word: Text::from_str(alloc, "-c cat")?,
-        status: Status::Code(7),
-        output: Seq::from(Vec::from_slice(alloc, b"out")?),
-        effects: Vec::new(alloc),
-    })?;
-    let mut answers = Vec::new(alloc);
-    answers.push(Text::from_str(alloc, "yes")?)?;
-    let mut plot = Plot::new(alloc);
-    plot.endings = endings;
-    plot.answers = Seq::from(answers);
-    plot.input = Seq::from(Vec::from_slice(alloc, b"in")?);
-    Ok(plot)
+    let input = Seq::from(Vec::from_slice(alloc, b"in")?);
+    let answers = answers(alloc)?;
+    let endings = endings(alloc)?;
+    Ok(Plot {
+        endings,
+        answers,
+        input,
+        fails: Seq::new(alloc),
+        signals: Seq::new(alloc),
+    })
 }
+
+/// The ending is used up by the first child, and the answer by the first prompt.
+const PLAYED: &str = r#"capture cat = Ok((Code(7), 3))
+capture cat = Ok((Code(0), 0))
+ask sure?  = Ok("yes")
+ask sure?  = Ok("")
+input = Ok("in")
+"#;
 
 #[test]
 fn the_plot_is_played(rt: HostRuntime) -> Result<(), Fail> {
     let alloc = rt.alloc();
-    let mut host = in_memory(alloc, plot(alloc)?)?;
-    let out = captured(alloc, &mut host, "cat", b"x");
-    assert!(rt; out == Ok((Status::Code(7), 3)), "the ending");
-    let out = captured(alloc, &mut host, "cat", b"x");
-    assert!(rt; out == Ok((Status::Code(0), 0)), "used up");
-    assert!(rt; host.ask("sure? ")?.as_str() == "yes", "the answer");
-    assert!(rt; host.ask("sure? ")?.as_str() == "", "behind the last");
-    assert!(rt; host.input()?.as_str() == "in", "standard input");
+    let plot = plot(alloc)?;
+    says(&rt, told_in_memory(alloc, plot, PLAYED), PLAYED);
     Ok(())
 }

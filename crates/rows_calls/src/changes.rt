@@ -3,14 +3,28 @@
 use just_env::Environment;
 use just_lang_types::{Binding, Level, Scope, Settings, Value};
 use just_path_text::{NoMemory, Seq, Text};
-use std::alloc::Global;
+use std::alloc::{AllocError, Global};
+
+/// A variable: its name, its text, and whether it is exported.
+type Variable = (&'static str, &'static str, bool);
+
+/// Those texts, in that order.
+fn texts(alloc: Global, words: &[&str]) -> Result<Vec<Text>, NoMemory> {
+    let mut texts = Vec::new(alloc);
+    for word in words {
+        texts.push(Text::from_str(alloc, word)?)?;
+    }
+    Ok(texts)
+}
 
 /// A variable with a text; with a value without elements, where the text is empty.
-fn binding(alloc: Global, name: &str, text: &str, export: bool) -> Result<Binding, NoMemory> {
-    let mut elements = Vec::new(alloc);
-    if !text.is_empty() {
-        elements.push(Text::from_str(alloc, text)?)?;
-    }
+fn binding(alloc: Global, variable: &Variable) -> Result<Binding, NoMemory> {
+    let (name, text, export) = *variable;
+    let elements = if text.is_empty() {
+        Vec::new(alloc)
+    } else {
+        texts(alloc, &[text])?
+    };
     Ok(Binding {
         name: Text::from_str(alloc, name)?,
         value: Value {
@@ -20,24 +34,29 @@ fn binding(alloc: Global, name: &str, text: &str, export: bool) -> Result<Bindin
     })
 }
 
-/// A level of variables: of each its name, its text, and whether it is exported.
-fn level(
+/// Adds a level of those variables.
+fn push_level(
     alloc: Global,
+    levels: &mut Vec<Level>,
     prelude: bool,
-    variables: &[(&str, &str, bool)],
-) -> Result<Level, NoMemory> {
+    variables: &[Variable],
+) -> Result<(), NoMemory> {
     let mut bindings = Vec::new(alloc);
     for variable in variables {
-        bindings.push(binding(alloc, variable.0, variable.1, variable.2)?)?;
+        bindings.push(binding(alloc, variable)?)?;
     }
-    Ok(Level {
+    levels.push(Level {
         bindings: Seq::from(bindings),
         prelude,
-    })
+    })?;
+    Ok(())
 }
 
+/// The constants.
+const CONSTANTS: [Variable; 1] = [("HEX", "0", false)];
+
 /// The variables of the outer module.
-const OUTER: [(&str, &str, bool); 4] = [
+const OUTER: [Variable; 4] = [
     ("A", "x", true),
     ("B", "x", true),
     ("D", "x", false),
@@ -45,15 +64,18 @@ const OUTER: [(&str, &str, bool); 4] = [
 ];
 
 /// The variables of the inner module.
-const INNER: [(&str, &str, bool); 3] = [("A", "y", true), ("E", "", true), ("G", "z", true)];
+const INNER: [Variable; 3] = [("A", "y", true), ("E", "", true), ("G", "z", true)];
+
+/// The parameters.
+const PARAMETERS: [Variable; 1] = [("F", "x", true)];
 
 /// Constants, the variables of two modules, one in the other, and parameters.
 fn scope(alloc: Global) -> Result<Scope, NoMemory> {
     let mut levels = Vec::new(alloc);
-    levels.push(level(alloc, true, &[("HEX", "0", false)])?)?;
-    levels.push(level(alloc, false, &OUTER)?)?;
-    levels.push(level(alloc, false, &INNER)?)?;
-    levels.push(level(alloc, false, &[("F", "x", true)])?)?;
+    push_level(alloc, &mut levels, true, &CONSTANTS)?;
+    push_level(alloc, &mut levels, false, &OUTER)?;
+    push_level(alloc, &mut levels, false, &INNER)?;
+    push_level(alloc, &mut levels, false, &PARAMETERS)?;
     Ok(Scope {
         levels: Seq::from(levels),
     })
@@ -91,48 +113,60 @@ fn settings(export: bool) -> Settings {
     }
 }
 
+/// The pair of a name and the text `file`.
+fn pair(alloc: Global, name: &str) -> Result<(Text, Text), NoMemory> {
+    let name = Text::from_str(alloc, name)?;
+    Ok((name, Text::from_str(alloc, "file")?))
+}
+
 /// The dotenv pairs.
 fn pairs(alloc: Global) -> Result<Vec<(Text, Text)>, NoMemory> {
     let mut pairs = Vec::new(alloc);
     for name in ["C", "B", "A"] {
-        pairs.push((Text::from_str(alloc, name)?, Text::from_str(alloc, "file")?))?;
+        pairs.push(pair(alloc, name)?)?;
     }
     Ok(pairs)
 }
 
-/// Changes as a text: each name with what it gets, or with `-` where it is taken out.
-fn shown(alloc: Global, changes: &[(Text, Option<Text>)]) -> Result<String, NoMemory> {
+/// Adds a change: the name with what it gets, or with `-` where it is taken out.
+fn push_change(all: &mut String, change: &(Text, Option<Text>)) -> Result<(), AllocError> {
+    let name = change.0.as_str();
+    match &change.1 {
+        Some(text) => write!(all, "{name}={} ", text.as_str()),
+        None => write!(all, "{name}- "),
+    }
+}
+
+/// Changes as a text.
+fn shown(alloc: Global, changes: &[(Text, Option<Text>)]) -> Result<String, AllocError> {
     let mut all = String::new(alloc);
     for change in changes {
-        all.push_str(change.0.as_str())?;
-        match &change.1 {
-            Some(text) => {
-                all.push_str("=")?;
-                all.push_str(text.as_str())?;
-            }
-            None => all.push_str("-")?,
-        }
-        all.push_str(" ")?;
+        push_change(&mut all, change)?;
     }
     Ok(all)
 }
 
-/// What changes over those pairs and in that scope, where `B` and `G` are taken out.
-fn changed(alloc: Global, export: bool) -> Result<String, NoMemory> {
-    let mut unexports = Vec::new(alloc);
-    unexports.push(Text::from_str(alloc, "B")?)?;
-    unexports.push(Text::from_str(alloc, "G")?)?;
-    let pairs = pairs(alloc)?;
-    let scope = scope(alloc)?;
-    let settings = settings(export);
-    let (pairs, unexports) = (pairs.as_slice(), unexports.as_slice());
-    let environment = Environment::new(alloc, pairs, &scope, &settings, unexports)?;
-    shown(alloc, environment.changes())
+/// What changes over those pairs, in that scope and under those settings, where some names are taken out.
+fn changed_in(
+    alloc: Global,
+    pairs: &[(Text, Text)],
+    scope: &Scope,
+    settings: &Settings,
+    unexports: &[Text],
+) -> Result<String, NoMemory> {
+    let environment = Environment::new(alloc, pairs, scope, settings, unexports)?;
+    Ok(shown(alloc, environment.changes())?)
 }
 
-/// Whether the changes are those that the levels ask for, without and with `set export`. It promises nothing beyond safety.
-pub(crate) fn changes_agree(alloc: Global) -> Result<bool, NoMemory> {
-    let some = changed(alloc, false)?;
-    let all = changed(alloc, true)?;
-    Ok(some.as_str() == "A=y B- C=file E=x G=z " && all.as_str() == "A=y B- C=file D=x E=x G=z ")
+/// What changes without or with `set export`, where `B` and `G` are taken out.
+/// No clause: it serves tests alone.
+pub fn changed(alloc: Global, export: bool) -> Result<String, NoMemory> {
+    let unexports = texts(alloc, &["B", "G"])?;
+    let pairs = pairs(alloc)?;
+    let scope = scope(alloc)?;
+    let (pairs, unexports) = (pairs.as_slice(), unexports.as_slice());
+    let settings = settings(export);
+    let changed = changed_in(alloc, pairs, &scope, &settings, unexports);
+    drop(settings);
+    changed
 }

@@ -34,8 +34,9 @@ fn cycle(alloc: Global) -> Result<[Seq<usize>; 3], NoMemory>
 fn targets_stand_first(rt: HostRuntime) -> Result<(), NoMemory> {
     let alloc = rt.alloc();
     let edges = chain(alloc)?;
-    assert_eq!(rt; order(alloc, &edges)?.as_slice(), [2, 1, 0].as_slice());
-    assert_eq!(rt; first_on_cycle(alloc, &edges, &[0, 1, 2])?, None);
+    assert_eq!(rt; first_on_cycle(alloc, &edges, &[0, 1, 2]), Ok(None));
+    let order = order(alloc, &edges)?;
+    assert_eq!(rt; order.as_slice(), [2, 1, 0].as_slice());
     Ok(())
 }
 
@@ -43,7 +44,7 @@ fn targets_stand_first(rt: HostRuntime) -> Result<(), NoMemory> {
 fn a_node_that_leads_to_a_cycle_is_not_on_it(rt: HostRuntime) -> Result<(), NoMemory> {
     let alloc = rt.alloc();
     let edges = cycle(alloc)?;
-    assert_eq!(rt; first_on_cycle(alloc, &edges, &[0, 2, 1])?, Some(2));
+    assert_eq!(rt; first_on_cycle(alloc, &edges, &[0, 2, 1]), Ok(Some(2)));
     Ok(())
 }
 

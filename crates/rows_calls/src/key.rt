@@ -1,6 +1,7 @@
 //! The key of a body, and texts.
 
 use just_cache::{CacheKey, KeyExecutor};
+use just_lang_read::Boxed;
 use just_lang_types::{Interpreter, Modulepath};
 use just_path_text::{NoMemory, Seq, Text};
 use std::alloc::Global;
@@ -14,23 +15,35 @@ pub(crate) fn texts(alloc: Global, words: &str) -> Result<Vec<Text>, NoMemory> {
     Ok(texts)
 }
 
-/// The key of the recipe `m`, whose script is `touch out`.
-pub(crate) fn key(alloc: Global) -> Result<CacheKey, NoMemory> {
-    let interpreter = Interpreter {
-        command: Text::from_str(alloc, "sh")?,
-        arguments: Seq::from(texts(alloc, "-eu")?),
-    };
-    Ok(CacheKey {
-        body: Seq::from(texts(alloc, "touch")?),
+/// A list of one word.
+fn single(alloc: Global, word: &str) -> Result<Seq<Text>, NoMemory> {
+    let mut texts = Vec::new(alloc);
+    texts.push(Text::from_str(alloc, word)?)?;
+    Ok(Seq::from(texts))
+}
+
+/// What runs the script: `sh -eu`.
+fn executor(alloc: Global) -> Result<KeyExecutor, NoMemory> {
+    let arguments = single(alloc, "-eu")?;
+    let command = Text::from_str(alloc, "sh")?;
+    Ok(KeyExecutor::Command(Interpreter { command, arguments }))
+}
+
+/// The key of the recipe `m`, whose script is `touch`.
+pub(crate) fn key(alloc: Global) -> Result<Boxed<CacheKey>, NoMemory> {
+    let body = single(alloc, "touch")?;
+    let components = single(alloc, "m")?;
+    let executor = executor(alloc)?;
+    let key = CacheKey {
+        body,
         environment: Seq::new(alloc),
-        executor: KeyExecutor::Command(interpreter),
+        executor,
         extension: None,
         extra: None,
         inputs: None,
         positional: None,
-        recipe: Modulepath {
-            components: Seq::from(texts(alloc, "m")?),
-        },
+        recipe: Modulepath { components },
         working_directory: None,
-    })
+    };
+    Ok(Boxed::new(alloc, key)?)
 }

@@ -2,6 +2,8 @@
 #![tactic(auto)]
 
 #[cfg(test)]
+mod agree;
+#[cfg(test)]
 mod body;
 #[cfg(test)]
 mod caches;
@@ -36,4 +38,8 @@ mod real_files;
 #[cfg(test)]
 mod scanned;
 #[cfg(test)]
+mod shown;
+#[cfg(test)]
 mod sights;
+#[cfg(test)]
+mod told;

@@ -14,6 +14,14 @@ fn spot(file: usize, line: usize) -> Spot {
     }
 }
 
+/// A name in that line of the first file.
+fn named(name: &str, line: usize) -> Named<'_> {
+    Named {
+        name,
+        spot: spot(0, line),
+    }
+}
+
 /// The item `unexport NAME` in that line.
 fn unexport(alloc: Global, text: &str, line: usize) -> Result<AstItem, NoMemory> {
     let text = Text::from_str(alloc, text)?;
@@ -28,12 +36,35 @@ fn unexport(alloc: Global, text: &str, line: usize) -> Result<AstItem, NoMemory>
     })
 }
 
-/// For two files, the second of which the first imports, those that import each.
-fn importers(alloc: Global) -> Result<Vec<Seq<usize>>, NoMemory> {
-    let mut winners = Vec::new(alloc);
-    winners.push(Seq::new(alloc))?;
-    winners.push(Seq::from(vec![in alloc; 0; 1]?))?;
-    Ok(winners)
+/// The item `unexport a` in each of these lines.
+fn unexports(alloc: Global, lines: &[usize]) -> Result<Vec<AstItem>, NoMemory> {
+    let mut items = Vec::new(alloc);
+    for line in lines {
+        items.push(unexport(alloc, "a", *line)?)?;
+    }
+    Ok(items)
+}
+
+/// The file of the one item that stands, where one alone does.
+fn only_file(kept: &[Entry<'_>]) -> Option<usize> {
+    match kept {
+        [one] => Some(one.file),
+        _ => None,
+    }
+}
+
+/// For two files, the second of which the first imports, the file of the one item that stands.
+fn file_that_stands(alloc: Global, items: &[Entry<'_>]) -> Result<Option<usize>, NoMemory> {
+    let importer = Seq::from(vec![in alloc; 0; 1]?);
+    let importers = [Seq::new(alloc), importer];
+    let kept = standing(alloc, &importers, items)?;
+    Ok(only_file(kept.as_slice()))
+}
+
+/// The place of the last item of the name `a`.
+fn last_place(alloc: Global, items: &[Entry<'_>]) -> Result<Option<usize>, NoMemory> {
+    let index = index_of(alloc, items)?;
+    Ok(index.place("a"))
 }
 
 #[test]
@@ -43,45 +74,31 @@ fn first_of_three_places(rt: HostRuntime) {
 }
 
 #[test]
-fn second_of_two_equal_names(rt: HostRuntime) -> Result<(), NoMemory> {
-    let names = [
-        Named {
-            name: "a",
-            spot: spot(0, 1),
+fn second_of_two_equal_names(rt: HostRuntime) {
+    let names = [named("a", 1), named("b", 2), named("a", 3)];
+    assert_eq!(rt; first_repeated(rt.alloc(), &names), Ok(Some(spot(0, 3))));
+}
+
+/// The file of the item that stands and the last place of its name, where the first item is of the importing file and the
+/// second of the imported one.
+fn stands(alloc: Global, items: &[AstItem]) -> [Result<Option<usize>, NoMemory>; 2] {
+    let [near, far] = items else {
+        return [Ok(None), Ok(None)];
+    };
+    let items = [
+        Entry {
+            file: 0,
+            item: near,
         },
-        Named {
-            name: "b",
-            spot: spot(0, 2),
-        },
-        Named {
-            name: "a",
-            spot: spot(0, 3),
-        },
+        Entry { file: 1, item: far },
     ];
-    assert_eq!(rt; first_repeated(rt.alloc(), &names)?, Some(spot(0, 3)));
-    Ok(())
+    [file_that_stands(alloc, &items), last_place(alloc, &items)]
 }
 
 #[test]
 fn item_of_the_importing_file_stands(rt: HostRuntime) -> Result<(), NoMemory> {
     let alloc = rt.alloc();
-    let near = unexport(alloc, "a", 2)?;
-    let far = unexport(alloc, "a", 1)?;
-    let items = [
-        Entry {
-            file: 0,
-            item: &near,
-        },
-        Entry {
-            file: 1,
-            item: &far,
-        },
-    ];
-    let winners = importers(alloc)?;
-    let kept = standing(alloc, winners.as_slice(), &items)?;
-    assert_eq!(rt; kept.len(), 1);
-    assert_eq!(rt; kept[0].file, 0);
-    let index = index_of(alloc, &items)?;
-    assert_eq!(rt; index.place("a"), Some(1));
+    let items = unexports(alloc, &[2, 1])?;
+    assert_eq!(rt; stands(alloc, items.as_slice()), [Ok(Some(0)), Ok(Some(1))]);
     Ok(())
 }

@@ -1,17 +1,29 @@
 //! The texts that paths and errors print.
 
+use crate::shown::says;
 use just_dotenv::DotenvError;
 use just_expand::{Expand, env};
 use just_path::{Utf8Component, Utf8Path, Utf8PathBuf};
 use just_path_text::{Environ, NoMemory, Seq};
 use std::alloc::{AllocError, Global};
-use std::test::Fail;
 
 /// A path and a component, shown for users, for developers, and filled up on the left.
 fn paths(alloc: Global, path: &Utf8PathBuf) -> Result<String, AllocError> {
     let lent = path.as_path();
     let up = Utf8Component::ParentDir;
     format!(in alloc; "{path:?} {lent:?} {lent:>9} {up}")
+}
+
+/// The same of a path with a quotation mark, a tab and a letter beyond ASCII.
+fn escaped(alloc: Global) -> Result<String, NoMemory> {
+    let path = Utf8PathBuf::from_str(alloc, "a\"/\t\u{e9}")?;
+    Ok(paths(alloc, &path)?)
+}
+
+/// The errors of a line of an environment file, and of memory.
+fn wanting(alloc: Global) -> Result<String, AllocError> {
+    let (line, memory) = (DotenvError::Line(2), DotenvError::NoMemory);
+    format!(in alloc; "{line}; {memory}; {NoMemory}")
 }
 
 /// The errors of strings of the system and of a path that are no texts.
@@ -38,29 +50,26 @@ fn absent(alloc: Global) -> Result<String, AllocError> {
 }
 
 #[test]
-fn printed_paths(rt: HostRuntime) -> Result<(), Fail> {
-    let alloc = rt.alloc();
-    let path = Utf8PathBuf::from_str(alloc, "a\"/\t\u{e9}")?;
-    assert_eq!(rt;
-        paths(alloc, &path)?.as_str(),
-        "\"a\\\"/\\t\u{e9}\" \"a\\\"/\\t\u{e9}\"     a\"/\t\u{e9} .."
+fn printed_paths(rt: HostRuntime) {
+    says(
+        &rt,
+        escaped(rt.alloc()),
+        "\"a\\\"/\\t\u{e9}\" \"a\\\"/\\t\u{e9}\"     a\"/\t\u{e9} ..",
     );
-    Ok(())
 }
 
 #[test]
-fn printed_errors(rt: HostRuntime) -> Result<(), Fail> {
+fn printed_errors(rt: HostRuntime) {
     let alloc = rt.alloc();
-    let (line, memory) = (DotenvError::Line(2), DotenvError::NoMemory);
-    let text = format!(in alloc; "{line}; {memory}; {NoMemory}")?;
-    assert_eq!(rt; text.as_str(), "line 2; out of memory; out of memory");
-    assert_eq!(rt;
-        broken(alloc)?.as_str(),
-        "OsStr contains invalid UTF-8; Path contains invalid UTF-8"
+    says(&rt, wanting(alloc), "line 2; out of memory; out of memory");
+    says(
+        &rt,
+        broken(alloc),
+        "OsStr contains invalid UTF-8; Path contains invalid UTF-8",
     );
-    assert_eq!(rt;
-        absent(alloc)?.as_str(),
-        "error looking key 'B' up: environment variable not found"
+    says(
+        &rt,
+        absent(alloc),
+        "error looking key 'B' up: environment variable not found",
     );
-    Ok(())
 }

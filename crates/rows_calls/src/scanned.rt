@@ -1,9 +1,9 @@
 //! What a cursor meets in a text, and boxes of one kind in another.
 
+use crate::shown::says;
 use just_lang_read::{Boxed, Class, Cursor, ReadError};
 use just_path_text::NoMemory;
 use std::alloc::Global;
-use std::test::Fail;
 
 struct Digit;
 
@@ -34,24 +34,31 @@ fn linked(alloc: Global, number: u8) -> Result<u8, NoMemory> {
     })
 }
 
-/// The digits in front, and whether an `=` stands two lines down behind one character.
-fn read(alloc: Global, text: &[char]) -> Result<(String, bool), ReadError> {
-    let mut cursor = Cursor::new(text);
-    let digits = cursor.take::<Digit>(alloc)?;
-    let is_placed = cursor.peek() == Some('\n') && cursor.column() == 3;
-    cursor.step();
+/// What follows behind one character: whether it is an `=`, and whether the text ends there.
+fn follows(cursor: &Cursor<'_>) -> (bool, bool) {
     let mut ahead = cursor.copied();
     ahead.step();
-    let is_ahead = ahead.expect('=').is_ok() && ahead.is_at_end();
-    let is_kept = cursor.sees('é') && cursor.line() == 2 && cursor.column() == 1;
-    Ok((digits, is_placed && is_ahead && is_kept))
+    (ahead.expect('=').is_ok(), ahead.is_at_end())
+}
+
+/// The digits in front with the character and the column behind them; and of the next line whether an `é` stands first, the line
+/// and the column, and what follows.
+fn read(alloc: Global, text: &[char]) -> Result<String, ReadError> {
+    let mut cursor = Cursor::new(text);
+    let digits = cursor.take::<Digit>(alloc)?;
+    let behind = (cursor.peek(), cursor.column());
+    cursor.step();
+    let ahead = follows(&cursor);
+    let kept = (cursor.sees('é'), cursor.line(), cursor.column());
+    Ok(format!(in alloc; "{digits} {behind:?} {kept:?} {ahead:?}")?)
 }
 
 #[test]
-fn scanned_text(rt: HostRuntime) -> Result<(), Fail> {
-    let (digits, is_as_written) = read(rt.alloc(), &['1', '2', '\n', 'é', '='])?;
-    assert_eq!(rt; digits.as_str(), "12");
-    assert!(rt; is_as_written);
-    assert_eq!(rt; linked(rt.alloc(), 7)?, 7);
-    Ok(())
+fn scanned_text(rt: HostRuntime) {
+    says(
+        &rt,
+        read(rt.alloc(), &['1', '2', '\n', 'é', '=']),
+        "12 (Some('\\n'), 3) (true, 2, 1) (true, true)",
+    );
+    assert_eq!(rt; linked(rt.alloc(), 7), Ok(7));
 }

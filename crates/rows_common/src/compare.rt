@@ -12,20 +12,54 @@ pub trait Compare {
     fn agrees(&self, alloc: Global, file: &str, fields: &[&str]) -> Result<bool, Wrong>;
 }
 
-/// What a row gives, in the words that are printed; none where it agrees.
-fn verdict<C: Compare>(
+/// Whether a row agrees.
+fn row_agrees<C: Compare>(
     compare: &C,
     alloc: Global,
     file: &str,
     row: &str,
-) -> Result<Option<&'static str>, Wrong> {
+) -> Result<bool, Wrong> {
     let fields: Vec<&str> = row.split('\t').collect(alloc)?;
-    match compare.agrees(alloc, file, fields.as_slice()) {
-        Ok(true) => Ok(None),
-        Ok(false) => Ok(Some("differs")),
-        Err(Wrong::Form) => Ok(Some("no such row")),
-        Err(Wrong::NoMemory) => Err(Wrong::NoMemory),
+    compare.agrees(alloc, file, fields.as_slice())
+}
+
+/// Prints a row that doesn't agree.
+fn print_row<R: Runtime<A = Global>>(
+    rt: &R,
+    file: &str,
+    verdict: &str,
+    row: &str,
+) -> io::Result<bool> {
+    println!(rt; "{file}: {verdict}: {row}")?;
+    Ok(false)
+}
+
+/// Compares a row, and prints it where it doesn't agree.
+fn compare_row<R: Runtime<A = Global>, C: Compare>(
+    rt: &R,
+    compare: &C,
+    file: &str,
+    row: &str,
+) -> io::Result<bool> {
+    match row_agrees(compare, rt.alloc(), file, row) {
+        Ok(true) => Ok(true),
+        Ok(false) => print_row(rt, file, "differs", row),
+        Err(Wrong::Form) => print_row(rt, file, "no such row", row),
+        Err(Wrong::NoMemory) => print_row(rt, file, "out of memory", row),
     }
+}
+
+/// Prints how many rows of a file agree, where all do.
+fn print_count<R: Runtime<A = Global>>(
+    rt: &R,
+    file: &str,
+    count: u64,
+    all: bool,
+) -> io::Result<bool> {
+    if all {
+        println!(rt; "{file}: {count} agree")?;
+    }
+    Ok(all)
 }
 
 /// Compares the rows of a file, and prints how many agree, or those that don't.
@@ -41,18 +75,23 @@ fn compare_rows<R: Runtime<A = Global>, C: Compare>(
         if row.starts_with('#') {
             continue;
         }
-        match verdict(compare, rt.alloc(), file, row).unwrap_or(Some("out of memory")) {
-            None => count = count.saturating_add(1),
-            Some(verdict) => {
-                all = false;
-                println!(rt; "{file}: {verdict}: {row}")?;
-            }
+        if compare_row(rt, compare, file, row)? {
+            count = count.saturating_add(1);
+        } else {
+            all = false;
         }
     }
-    if all {
-        println!(rt; "{file}: {count} agree")?;
-    }
-    Ok(all)
+    print_count(rt, file, count, all)
+}
+
+/// Compares the rows of the file with that name.
+fn compare_file<R: Runtime<A = Global>, C: Compare>(
+    rt: &R,
+    compare: &C,
+    file: String,
+) -> io::Result<bool> {
+    let text = fs::read_to_string(rt, file.as_str())?;
+    compare_rows(rt, compare, file.as_str(), text.as_str())
 }
 
 /// Compares the rows of each file that an argument of the program names, and prints of each how many agree, or the rows
@@ -61,18 +100,13 @@ pub fn compare_files<R: Runtime<A = Global>, C: Compare>(
     rt: &R,
     compare: &C,
 ) -> io::Result<ExitCode> {
-    let mut all = true;
+    let mut code = ExitCode::SUCCESS;
     let mut names = env::args(rt)?;
-    let _program = names.next();
+    drop(names.next());
     for name in names {
-        let text = fs::read_to_string(rt, name.as_str())?;
-        if !compare_rows(rt, compare, name.as_str(), text.as_str())? {
-            all = false;
+        if !compare_file(rt, compare, name)? {
+            code = ExitCode::FAILURE;
         }
     }
-    Ok(if all {
-        ExitCode::SUCCESS
-    } else {
-        ExitCode::FAILURE
-    })
+    Ok(code)
 }

@@ -16,10 +16,20 @@ fn digit(byte: u8) -> Option<u8>
 }
 
 /// The byte of two hexadecimal digits.
-fn hex(high: u8, low: u8) -> Result<u8, Wrong> {
-    match (digit(high), digit(low)) {
-        (Some(high), Some(low)) => Ok(high * 16 + low),
-        _ => Err(Wrong::Form),
+fn hex(high: Option<&u8>, low: Option<&u8>) -> Option<u8> {
+    match (digit(*high?), digit(*low?)) {
+        (Some(high), Some(low)) => Some(high * 16 + low),
+        _ => None,
+    }
+}
+
+/// The byte that a byte behind a backslash stands for.
+fn escaped(byte: u8) -> Option<u8> {
+    match byte {
+        b't' => Some(b'\t'),
+        b'n' => Some(b'\n'),
+        b'\\' => Some(b'\\'),
+        _ => None,
     }
 }
 
@@ -28,21 +38,18 @@ pub fn unescaped(alloc: Global, field: &str) -> Result<Vec<u8>, Wrong> {
     let mut found = Vec::new(alloc);
     let mut bytes = field.as_bytes().iter();
     while let Some(byte) = bytes.next() {
-        if *byte != b'\\' {
-            found.push(*byte)?;
-            continue;
-        }
-        let escaped = match bytes.next() {
-            Some(b't') => b'\t',
-            Some(b'n') => b'\n',
-            Some(b'\\') => b'\\',
-            Some(b'x') => match (bytes.next(), bytes.next()) {
-                (Some(high), Some(low)) => hex(*high, *low)?,
-                _ => return Err(Wrong::Form),
+        let meant = match byte {
+            b'\\' => match bytes.next() {
+                Some(b'x') => hex(bytes.next(), bytes.next()),
+                Some(byte) => escaped(*byte),
+                None => None,
             },
-            _ => return Err(Wrong::Form),
+            _ => Some(*byte),
         };
-        found.push(escaped)?;
+        match meant {
+            Some(byte) => found.push(byte)?,
+            None => return Err(Wrong::Form),
+        }
     }
     Ok(found)
 }

@@ -29,6 +29,11 @@ pub fn text(alloc: Global, fields: &[&str], number: usize) -> Result<String, Wro
     unescaped_text(alloc, held(fields, number)?)
 }
 
+/// Whether a field holds those bytes.
+fn holds(alloc: Global, fields: &[&str], number: usize, answer: &[u8]) -> Result<bool, Wrong> {
+    Ok(bytes(alloc, fields, number)?.as_slice() == answer)
+}
+
 /// Whether a field says that answer: `-` for none, else `=` and the escaped bytes. It promises nothing beyond safety.
 pub fn says(
     alloc: Global,
@@ -36,19 +41,16 @@ pub fn says(
     number: usize,
     answer: Option<&[u8]>,
 ) -> Result<bool, Wrong> {
+    let is_none = at(fields, number)? == "-";
     match answer {
-        None => Ok(at(fields, number)? == "-"),
-        Some(answer) => {
-            if at(fields, number)? == "-" {
-                return Ok(false);
-            }
-            let wanted = bytes(alloc, fields, number)?;
-            Ok(wanted.as_slice() == answer)
-        }
+        None => Ok(is_none),
+        Some(_) if is_none => Ok(false),
+        Some(answer) => holds(alloc, fields, number, answer),
     }
 }
 
 /// Whether a flag says that answer. It promises nothing beyond safety.
 pub fn is_flag(fields: &[&str], number: usize, answer: bool) -> Result<bool, Wrong> {
-    Ok(at(fields, number)? == if answer { "1" } else { "0" })
+    let flag = if answer { "1" } else { "0" };
+    Ok(at(fields, number)? == flag)
 }

@@ -1,6 +1,7 @@
 //! Trees that stand in memory and under a folder of the system.
 ghost use Rattle.std.specs.Prelude.{◌<◌};
 
+use super::forms::filled;
 use super::stands::{PLACES, Random, Stand, is_before_links, is_link};
 use just_host::{Thing, Tree};
 use just_path::Utf8Path;
@@ -28,26 +29,20 @@ fn target(
     let up = UPS.get(place).copied().unwrap_or("");
     let path = PLACES.get(other).copied().unwrap_or("");
     if is_link(all[other]) || !is_before_links(all, other) {
-        return Ok(format!(in alloc; "{up}none")?);
+        return filled(alloc, "Unone", &[('U', up)]);
     }
-    target_form(alloc, root, up, path, random.next() % 4)
+    let parts = [('U', up), ('R', root), ('P', path)];
+    filled(alloc, target_form(random.next() % 4), &parts)
 }
 
-/// The text of a link to a path in a form of that number.
-fn target_form(
-    alloc: Global,
-    root: &str,
-    up: &str,
-    path: &str,
-    form: u8,
-) -> Result<String, NoMemory> {
-    let text = match form {
-        0 => format!(in alloc; "{up}{path}"),
-        1 => format!(in alloc; ".//{up}/{path}"),
-        2 => format!(in alloc; "{root}/{path}"),
-        _ => format!(in alloc; "{up}{path}/"),
-    }?;
-    Ok(text)
+/// The form of a link's text of that number: `U` the way up to the root, `R` the root, `P` the path.
+fn target_form(number: u8) -> &'static str {
+    match number {
+        0 => "UP",
+        1 => ".//U/P",
+        2 => "R/P",
+        _ => "UP/",
+    }
 }
 
 /// The name of a place in its folder.

@@ -2,11 +2,15 @@
 #![tactic(auto)]
 
 #[cfg(test)]
+mod agree;
+#[cfg(test)]
 mod alike;
 #[cfg(test)]
 mod both;
 #[cfg(test)]
 mod children;
+#[cfg(test)]
+mod forms;
 #[cfg(test)]
 mod real;
 #[cfg(test)]

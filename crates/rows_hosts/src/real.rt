@@ -1,89 +1,150 @@
 //! The real host: how children end, how files are read or missed, and how folders are made; the signals.
 
-use super::children::{end_of, shell};
-use just_host::{Host, HostFault, RealHost, Signal, Status};
-use just_path::{Miss, Utf8Path};
+use super::agree::{agree, push_read};
+use super::children::{A_IS_1, end_of_line};
+use just_host::{Host, RealHost, Signal};
+use just_path::Utf8Path;
+use std::alloc::{AllocError, Global};
 use std::fs;
 use std::os::unix::fs::symlink;
 use std::test::Fail;
 
-#[test]
-fn real_start(rt: HostRuntime) -> Result<(), Fail> {
-    let mut host = RealHost::new(&rt, rt.alloc())?;
-    for (line, want) in [
-        ("exit 3", Status::Code(3)),
-        ("exit $A", Status::Code(1)),
-        ("kill -TERM $$", Status::Signal(15)),
-    ] {
-        let spec = shell(rt.alloc(), None, line)?;
-        let found = end_of(&mut host, &spec);
-        assert!(rt; found == Ok(want), "{line}");
+/// How the child of each line ends, a line each.
+fn ends<H: Host + Drop>(alloc: Global, host: H) -> Result<String, AllocError> {
+    let mut host = host;
+    let mut all = String::new(alloc);
+    for line in ["exit 3", "exit $A", "kill -TERM $$"] {
+        let end = end_of_line(alloc, &mut host, None, A_IS_1, line);
+        writeln!(all, "{line}: {end:?}")?;
     }
-    Ok(())
+    Ok(all)
 }
 
-/// How a file is missed; none where its text is `a:`.
-fn miss_of<H: Host>(host: &mut H, path: &str) -> Option<HostFault> {
-    match host.read(Utf8Path::new(path)) {
-        Ok(text) if text.as_str() == "a:\n" => None,
-        Ok(_) => Some(HostFault::NoMemory),
-        Err(fault) => Some(fault),
-    }
+/// The wanted ends.
+const ENDS: &str = "\
+exit 3: Ok(Code(3))
+exit $A: Ok(Code(1))
+kill -TERM $$: Ok(Signal(15))
+";
+
+#[test]
+fn real_start(rt: HostRuntime) -> Result<(), Fail> {
+    let host = RealHost::new(&rt, rt.alloc())?;
+    agree(&rt, ends(rt.alloc(), host), ENDS)
 }
+
+/// What is read at each path, a line each.
+fn reads<H: Host + Drop>(alloc: Global, host: H) -> Result<String, AllocError> {
+    let mut host = host;
+    let mut all = String::new(alloc);
+    for path in ["read.txt", "bad.txt", "none.txt", "read.txt/x", ".", "a\0b"] {
+        push_read(&mut all, &mut host, path)?;
+    }
+    Ok(all)
+}
+
+/// What is to be read.
+const READS: &str = r#""read.txt": Ok("a:\n")
+"bad.txt": Err(Missed(NotUtf8))
+"none.txt": Err(Missed(NotFound))
+"read.txt/x": Err(Missed(NotFolder))
+".": Err(Missed(IsFolder))
+"a\0b": Err(Missed(NotFound))
+"#;
 
 #[test]
 fn real_read(rt: HostRuntime) -> Result<(), Fail> {
-    let mut host = RealHost::new(&rt, rt.alloc())?;
     fs::write(&rt, "read.txt", "a:\n")?;
     fs::write(&rt, "bad.txt", &[0xff])?;
-    for (path, want) in [
-        ("read.txt", None),
-        ("bad.txt", Some(Miss::NotUtf8)),
-        ("none.txt", Some(Miss::NotFound)),
-        ("read.txt/x", Some(Miss::NotFolder)),
-        (".", Some(Miss::IsFolder)),
-        ("a\0b", Some(Miss::NotFound)),
-    ] {
-        let found = miss_of(&mut host, path);
-        assert!(rt; found == want.map(HostFault::Missed), "{path:?}");
-    }
-    Ok(())
+    let host = RealHost::new(&rt, rt.alloc())?;
+    agree(&rt, reads(rt.alloc(), host), READS)
 }
+
+/// Whether a folder stands at a path.
+fn is_folder(rt: &HostRuntime, path: &str) -> bool {
+    match fs::metadata(rt, path) {
+        Ok(meta) => meta.is_dir(),
+        Err(_) => false,
+    }
+}
+
+/// How each folder is made, and whether those of the first and of the third path stand there behind all, a line each.
+fn folders<H: Host + Drop>(rt: &HostRuntime, host: H) -> Result<String, AllocError> {
+    let mut host = host;
+    let mut all = String::new(rt.alloc());
+    for path in [
+        "made/two/three",
+        "made/two",
+        "made/two/four/",
+        "a_file",
+        "a_file/x",
+        "a_link",
+        "",
+    ] {
+        let made = host.make_folder(Utf8Path::new(path));
+        writeln!(all, "{path:?}: {made:?}")?;
+    }
+    for path in ["made/two/three", "made/two/four"] {
+        writeln!(all, "{path}: {}", is_folder(rt, path))?;
+    }
+    Ok(all)
+}
+
+/// The wanted answers and folders.
+const FOLDERS: &str = r#""made/two/three": Ok(())
+"made/two": Ok(())
+"made/two/four/": Ok(())
+"a_file": Err(Missed(NotFolder))
+"a_file/x": Err(Missed(NotFolder))
+"a_link": Err(Missed(NotFound))
+"": Err(Missed(NotFound))
+made/two/three: true
+made/two/four: true
+"#;
 
 #[test]
 fn real_folders(rt: HostRuntime) -> Result<(), Fail> {
-    let mut host = RealHost::new(&rt, rt.alloc())?;
     fs::write(&rt, "a_file", "")?;
     symlink(&rt, "none", "a_link")?;
-    for (path, want) in [
-        ("made/two/three", None),
-        ("made/two", None),
-        ("made/two/four/", None),
-        ("a_file", Some(Miss::NotFolder)),
-        ("a_file/x", Some(Miss::NotFolder)),
-        ("a_link", Some(Miss::NotFound)),
-        ("", Some(Miss::NotFound)),
-    ] {
-        let found = host.make_folder(Utf8Path::new(path)).err();
-        assert!(rt; found == want.map(HostFault::Missed), "{path:?}");
-    }
-    assert!(rt; fs::metadata(&rt, "made/two/three")?.is_dir());
-    assert!(rt; fs::metadata(&rt, "made/two/four")?.is_dir());
-    Ok(())
+    let host = RealHost::new(&rt, rt.alloc())?;
+    agree(&rt, folders(&rt, host), FOLDERS)
 }
 
-#[test]
-fn signals(rt: HostRuntime) -> Result<(), Fail> {
+/// Adds the signal of a number: its name, its code, whether it is fatal, and whether it is asked for by that name.
+fn push_signal(all: &mut String, name: &str, number: u8) -> Result<(), AllocError> {
+    let is_named = Signal::from_name(name).is_some();
+    match Signal::try_from(number) {
+        Ok(signal) => {
+            let (code, is_fatal) = (signal.code(), signal.is_fatal());
+            writeln!(all, "{name}: {signal} {code} {is_fatal} {is_named}")
+        }
+        Err(number) => writeln!(all, "{name}: {number} is none"),
+    }
+}
+
+/// Each signal, a line each.
+fn each_signal(alloc: Global) -> Result<String, AllocError> {
+    let mut all = String::new(alloc);
     for (name, number) in [
         ("SIGHUP", 1),
         ("SIGINT", 2),
         ("SIGQUIT", 3),
         ("SIGTERM", 15),
     ] {
-        let signal = Signal::try_from(number)?;
-        assert!(rt; i32::from(number) + 128 == signal.code() && signal.is_fatal());
-        assert!(rt; Signal::from_name(name).is_some() == (number != 15));
-        assert_eq!(rt; format!(in rt.alloc(); "{signal}")?.as_str(), name);
+        push_signal(&mut all, name, number)?;
     }
-    Ok(())
+    Ok(all)
+}
+
+/// The wanted signals.
+const SIGNALS: &str = "\
+SIGHUP: SIGHUP 129 true true
+SIGINT: SIGINT 130 true true
+SIGQUIT: SIGQUIT 131 true true
+SIGTERM: SIGTERM 143 true false
+";
+
+#[test]
+fn signals(rt: HostRuntime) -> Result<(), Fail> {
+    agree(&rt, each_signal(rt.alloc()), SIGNALS)
 }

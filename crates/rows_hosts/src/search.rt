@@ -1,6 +1,6 @@
 //! The search for a justfile over two hosts.
 
-use just_config::{Config, Read, read_words};
+use just_config::{Config, ConfigError, Read, read_words};
 use just_env::SearchError;
 use just_host::Host;
 use just_path::Utf8PathBuf;
@@ -9,7 +9,6 @@ use just_search::{Location, Origin, find};
 use std::alloc::Global;
 
 /// A search from a folder upwards.
-#[derive(Drop)]
 pub(crate) struct Asked {
     /// The folder in which the program is called.
     pub(crate) called: String,
@@ -18,39 +17,70 @@ pub(crate) struct Asked {
     /// The last folder that is searched.
     pub(crate) ceiling: String,
     /// Names that are looked for, with commas between; empty where the usual ones are.
-    pub(crate) names: String,
+    pub(crate) names: &'static str,
 }
 
-/// The configuration of a search.
-fn searching(alloc: Global, asked: &Asked) -> Result<Config, NoMemory> {
-    let (ceiling, names) = (asked.ceiling.as_str(), asked.names.as_str());
-    let (prefix, called) = (asked.prefix.as_str(), asked.called.as_str());
-    match (names.is_empty(), prefix.is_empty()) {
-        (true, true) => configured(alloc, &["--ceiling", ceiling], called),
-        (true, false) => configured(alloc, &["--ceiling", ceiling, prefix], called),
-        (false, true) => {
-            let words = ["--ceiling", ceiling, "--justfile-name", names];
-            configured(alloc, &words, called)
-        }
-        (false, false) => {
-            let words = ["--ceiling", ceiling, "--justfile-name", names, prefix];
-            configured(alloc, &words, called)
-        }
+impl Drop for Asked {
+    fn drop(self) {
+        let Asked {
+            called: _,
+            prefix: _,
+            ceiling: _,
+            names: _,
+        } = self;
     }
 }
 
+/// What words give as a configuration.
+struct Configured {
+    answer: Result<Config, ConfigError>,
+}
+
+impl Drop for Configured {
+    fn drop(self) {
+        let Configured { answer: _ } = self;
+    }
+}
+
+/// How a search ended.
+struct Ended {
+    answer: Result<Location, SearchError>,
+}
+
+impl Drop for Ended {
+    fn drop(self) {
+        let Ended { answer: _ } = self;
+    }
+}
+
+/// The configuration of a search.
+fn searching(alloc: Global, asked: &Asked) -> Result<Configured, NoMemory> {
+    let (ceiling, prefix) = (asked.ceiling.as_str(), asked.prefix.as_str());
+    let usual = ["--ceiling", ceiling, prefix];
+    let named = ["--ceiling", ceiling, "--justfile-name", asked.names, prefix];
+    let words: &[&str] = if asked.names.is_empty() {
+        &usual
+    } else {
+        &named
+    };
+    let words = match words.split_last() {
+        Some((last, front)) if last.is_empty() => front,
+        _ => words,
+    };
+    let folder = Utf8PathBuf::from_str(alloc, asked.called.as_str())?;
+    of_words(alloc, words, folder)
+}
+
 /// The configuration of words in a folder; where they have none, memory is told to be wanting, so that the test fails.
-fn configured(alloc: Global, words: &[&str], folder: &str) -> Result<Config, NoMemory> {
+fn of_words(alloc: Global, words: &[&str], folder: Utf8PathBuf) -> Result<Configured, NoMemory> {
     let environ = Environ {
         pairs: Seq::new(alloc),
     };
     let Ok(Read::Go(arguments)) = read_words(alloc, words, &environ) else {
         return Err(NoMemory);
     };
-    match Config::from_arguments(alloc, arguments, Utf8PathBuf::from_str(alloc, folder)?) {
-        Ok(config) => Ok(config),
-        Err(_) => Err(NoMemory),
-    }
+    let answer = Config::from_arguments(alloc, arguments, folder);
+    Ok(Configured { answer })
 }
 
 /// Whether two searches found the same file.
@@ -87,8 +117,8 @@ fn same_refusals(a: &SearchError, b: &SearchError) -> bool {
 }
 
 /// Whether two searches ended alike.
-fn same_ends(a: &Result<Location, SearchError>, b: &Result<Location, SearchError>) -> bool {
-    match (a, b) {
+fn same_ends(a: &Ended, b: &Ended) -> bool {
+    match (&a.answer, &b.answer) {
         (Ok(a), Ok(b)) => same_places(a, b),
         (Err(a), Err(b)) => same_refusals(a, b),
         _ => false,
@@ -96,13 +126,16 @@ fn same_ends(a: &Result<Location, SearchError>, b: &Result<Location, SearchError
 }
 
 /// How a search ends over a host.
-fn end_of<H: Host>(alloc: Global, config: &Config, host: &mut H) -> Result<Location, SearchError> {
-    find(alloc, config, host)
+fn end_of<H: Host>(alloc: Global, config: &Config, host: &mut H) -> Ended {
+    let answer = find(alloc, config, host);
+    Ended { answer }
 }
 
 /// Whether a search of a configuration ends alike over two hosts.
 fn same_over<A: Host, B: Host>(alloc: Global, config: &Config, one: &mut A, other: &mut B) -> bool {
-    same_ends(&end_of(alloc, config, one), &end_of(alloc, config, other))
+    let first = end_of(alloc, config, one);
+    let second = end_of(alloc, config, other);
+    same_ends(&first, &second)
 }
 
 /// Whether a search ends alike over two hosts.
@@ -112,6 +145,9 @@ pub(crate) fn search_alike<A: Host, B: Host>(
     other: &mut B,
     asked: &Asked,
 ) -> Result<bool, NoMemory> {
-    let config = searching(alloc, asked)?;
-    Ok(same_over(alloc, &config, one, other))
+    let configured = searching(alloc, asked)?;
+    match &configured.answer {
+        Ok(config) => Ok(same_over(alloc, config, one, other)),
+        Err(_) => Err(NoMemory),
+    }
 }

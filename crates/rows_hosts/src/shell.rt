@@ -1,51 +1,48 @@
 //! The shell of the real host: it is told its name, and what is asked for decides where it is looked for, however often it was started before.
 
-use super::children::{end_of, shell};
-use just_host::{Call, HostFault, RealHost, Spec, Status};
-use just_path::Utf8Path;
-use just_path_text::{NoMemory, Seq, Text};
-use std::alloc::Global;
+use super::agree::agree;
+use super::children::{A_IS_1, end_of_line};
+use just_host::{Host, RealHost};
+use std::alloc::{AllocError, Global};
 use std::test::Fail;
 
-/// `sh -cu true` with a `PATH` of that folder.
-fn shell_under(alloc: Global, folder: &str) -> Result<Spec, NoMemory> {
-    let name = Text::from_str(alloc, "PATH")?;
-    let value = Text::from_str(alloc, folder)?;
-    let mut changes = Vec::new(alloc);
-    changes.push((name, Some(value)))?;
-    let mut spec = shell(alloc, None, "true")?;
-    spec.changes = Seq::from(changes);
-    Ok(spec)
+/// How three shells end that ask for their name, a line each.
+fn told_names<H: Host + Drop>(alloc: Global, host: H) -> Result<String, AllocError> {
+    let mut host = host;
+    let mut all = String::new(alloc);
+    for turn in 0..3 {
+        let end = end_of_line(alloc, &mut host, None, A_IS_1, "test \"$0\" = sh");
+        writeln!(all, "start {turn}: {end:?}")?;
+    }
+    Ok(all)
 }
+
+/// The wanted ends.
+const TOLD: &str = "\
+start 0: Ok(Code(0))
+start 1: Ok(Code(0))
+start 2: Ok(Code(0))
+";
 
 #[test]
 fn a_shell_is_told_its_name_at_each_start(rt: HostRuntime) -> Result<(), Fail> {
-    let alloc = rt.alloc();
-    let mut host = RealHost::new(&rt, alloc)?;
-    let named = shell(alloc, None, "test \"$0\" = sh")?;
-    for turn in 0..3 {
-        let found = end_of(&mut host, &named);
-        assert!(rt; found == Ok(Status::Code(0)), "start {turn}");
-    }
-    Ok(())
+    let host = RealHost::new(&rt, rt.alloc())?;
+    agree(&rt, told_names(rt.alloc(), host), TOLD)
+}
+
+/// How a shell ends, then one whose `PATH` names no folder, and one whose folder isn't there.
+fn out_of_reach<H: Host + Drop>(alloc: Global, host: H) -> Result<String, AllocError> {
+    let mut host = host;
+    let plain = end_of_line(alloc, &mut host, None, A_IS_1, "true");
+    let hidden = end_of_line(alloc, &mut host, None, ("PATH", "/dev/null"), "true");
+    let nowhere = end_of_line(alloc, &mut host, Some("/dev/null"), A_IS_1, "true");
+    format!(in alloc; "{plain:?}, PATH {hidden:?}, folder {nowhere:?}")
 }
 
 #[test]
 fn a_shell_that_was_started_can_be_out_of_reach(rt: HostRuntime) -> Result<(), Fail> {
-    let alloc = rt.alloc();
-    let mut host = RealHost::new(&rt, alloc)?;
-    let plain = shell(alloc, None, "true")?;
-    let hidden = shell_under(alloc, "/dev/null")?;
-    let folder = Utf8Path::new("/dev/null").to_path_buf(alloc)?;
-    let nowhere = shell(alloc, Some(folder), "true")?;
-    assert!(rt; end_of(&mut host, &plain) == Ok(Status::Code(0)));
-    assert!(rt;
-        end_of(&mut host, &hidden) == Err(HostFault::Failed(Call::Start)),
-        "PATH"
-    );
-    assert!(rt;
-        end_of(&mut host, &nowhere) == Err(HostFault::Failed(Call::Start)),
-        "folder"
-    );
-    Ok(())
+    let host = RealHost::new(&rt, rt.alloc())?;
+    let shown = out_of_reach(rt.alloc(), host);
+    let wanted = "Ok(Code(0)), PATH Err(Failed(Start)), folder Err(Failed(Start))";
+    agree(&rt, shown, wanted)
 }

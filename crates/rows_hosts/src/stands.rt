@@ -19,6 +19,7 @@ pub(crate) const PLACES: [&str; 14] = [
     "a b/JUSTFILE/c",
 ];
 
+/// What may stand at a place.
 #[derive(Clone, Copy, PartialEq, Eq)]
 pub(crate) enum Stand {
     Nothing,
@@ -37,6 +38,7 @@ pub(crate) struct Random {
 }
 
 impl Random {
+    /// The next number.
     pub(crate) fn next(&mut self) -> u8 {
         self.state = self
             .state

@@ -3,43 +3,57 @@
 
 use super::alike::{answer_alike, refuse_alike};
 use super::both::grow;
+use super::forms::filled;
 use super::search::{Asked, search_alike};
 use super::stands::{PLACES, Random, Stand, grown, is_before_links};
 use just_host::{Host, MemHost, Plot, RealHost, Tree};
-use just_path::{PathHost, Utf8Path};
+use just_path::{PathHost, Utf8Path, Utf8PathBuf};
 use just_path_text::{Environ, NoMemory, Seq};
 use std::alloc::Global;
 use std::fs;
 use std::test::Fail;
+
+/// Forms of paths to a place: `C` is the current folder, `T` the folder of the trees in it, `N` the number of a tree, `P` the place.
+const FORMS: [&str; 8] = [
+    "T/N/P",
+    "C/T/N/P",
+    ".//T/./N//P",
+    "T/N/../N/P",
+    "T/N/P/",
+    "T/N/P/.",
+    "T/N/P/y",
+    "",
+];
 
 /// Where a tree stands: the current folder, and under it the root.
 #[derive(Clone, Copy)]
 struct Root<'a> {
     current: &'a str,
     trees: &'a str,
-    number: u32,
+    number: &'a str,
 }
 
-/// The path of a root.
-fn folder_of(alloc: Global, root: Root<'_>) -> Result<String, NoMemory> {
-    let (current, trees, number) = (root.current, root.trees, root.number);
-    Ok(format!(in alloc; "{current}/{trees}/{number}")?)
+/// The two hosts over a tree.
+struct Hosts {
+    real: RealHost<HostRuntime>,
+    memory: MemHost,
 }
 
-/// A path to a place in a form of that number.
-fn form(alloc: Global, root: Root<'_>, place: &str, form: u8) -> Result<String, NoMemory> {
-    let (current, trees, number) = (root.current, root.trees, root.number);
-    let text = match form {
-        0 => format!(in alloc; "{trees}/{number}/{place}"),
-        1 => format!(in alloc; "{current}/{trees}/{number}/{place}"),
-        2 => format!(in alloc; ".//{trees}/./{number}//{place}"),
-        3 => format!(in alloc; "{trees}/{number}/../{number}/{place}"),
-        4 => format!(in alloc; "{trees}/{number}/{place}/"),
-        5 => format!(in alloc; "{trees}/{number}/{place}/."),
-        6 => format!(in alloc; "{trees}/{number}/{place}/y"),
-        _ => Ok(String::new(alloc)),
-    }?;
-    Ok(text)
+impl Drop for Hosts {
+    fn drop(self) {
+        let Hosts { real: _, memory: _ } = self;
+    }
+}
+
+/// A path to a place of a tree in a form.
+fn path_in(alloc: Global, root: Root<'_>, place: &str, form: &str) -> Result<String, NoMemory> {
+    let parts = [
+        ('C', root.current),
+        ('T', root.trees),
+        ('N', root.number),
+        ('P', place),
+    ];
+    filled(alloc, form, &parts)
 }
 
 /// Whether two hosts answer alike of the place of a thing.
@@ -62,9 +76,10 @@ fn difference<A: Host, B: Host>(
 ) -> Result<Option<String>, NoMemory> {
     for n in 0..14usize {
         let place = PLACES.get(n).copied().unwrap_or("");
-        let which = random.next() % 8;
+        let which = random.next() as usize % 8;
+        let form = FORMS.get(which).copied().unwrap_or("");
         let behind = which == 6 && all[n] == Stand::Link;
-        let path = form(alloc, root, place, which)?;
+        let path = path_in(alloc, root, place, form)?;
         if is_before_links(all, n) && !behind && !alike(one, other, path.as_str(), all[n]) {
             return Ok(Some(path));
         }
@@ -93,30 +108,27 @@ fn any_ceiling(
         1 if place >= 2 => place / 2 - 1,
         _ => PLACES.len(),
     };
-    let text = match PLACES.get(last) {
-        Some(last) => format!(in alloc; "{root}/{last}"),
-        None => String::from_str(alloc, root),
-    }?;
-    Ok(text)
+    let (form, last) = match PLACES.get(last).copied() {
+        Some(last) => ("R/P", last),
+        None => ("R", ""),
+    };
+    filled(alloc, form, &[('R', root), ('P', last)])
 }
 
 /// The path in front of the words of a search from a place, in a form of that number; empty where the program is called at the place.
 fn prefix_of(alloc: Global, root: &str, name: &str, form: u8) -> Result<String, NoMemory> {
-    let text = match form {
-        0 => Ok(String::new(alloc)),
-        1 => format!(in alloc; "{name}/"),
-        _ => format!(in alloc; "{root}//{name}/"),
-    }?;
-    Ok(text)
+    let form = match form {
+        0 => "",
+        1 => "P/",
+        _ => "R//P/",
+    };
+    filled(alloc, form, &[('R', root), ('P', name)])
 }
 
 /// The folder in which the program is called, for a form of words of that number.
 fn called_in(alloc: Global, root: &str, name: &str, form: u8) -> Result<String, NoMemory> {
-    let text = match form {
-        0 => format!(in alloc; "{root}/{name}"),
-        _ => String::from_str(alloc, root),
-    }?;
-    Ok(text)
+    let form = if form == 0 { "R/P" } else { "R" };
+    filled(alloc, form, &[('R', root), ('P', name)])
 }
 
 /// A search from a place upwards.
@@ -130,11 +142,13 @@ fn any_search(
     let ceiling = any_ceiling(alloc, random, root, place)?;
     let form = random.next() % 3;
     let names = any_names(random);
+    let called = called_in(alloc, root, name, form)?;
+    let prefix = prefix_of(alloc, root, name, form)?;
     Ok(Asked {
-        called: called_in(alloc, root, name, form)?,
-        prefix: prefix_of(alloc, root, name, form)?,
+        called,
+        prefix,
         ceiling,
-        names: String::from_str(alloc, names)?,
+        names,
     })
 }
 
@@ -164,7 +178,8 @@ fn search_difference<A: Host, B: Host>(
         let from = is_before_links(all, n) && all[n] != Stand::Nothing && all[n] != Stand::Loop;
         if from && !search_agrees(alloc, random, one, other, root, n)? {
             let place = PLACES.get(n).copied().unwrap_or("");
-            return Ok(Some(format!(in alloc; "search from {root}/{place}")?));
+            let parts = [('R', root), ('P', place)];
+            return Ok(Some(filled(alloc, "search from R/P", &parts)?));
         }
     }
     Ok(None)
@@ -179,7 +194,45 @@ fn memory(alloc: Global, tree: Tree, folder: &str) -> Result<MemHost, NoMemory> 
     MemHost::new(alloc, tree, current, environ, Plot::new(alloc))
 }
 
+/// The two hosts over a tree that grows, in that folder.
+fn hosts_over(
+    rt: &HostRuntime,
+    random: &mut Random,
+    current: &str,
+    root: &str,
+    all: &[Stand; 14],
+) -> Result<Hosts, Fail> {
+    let alloc = rt.alloc();
+    let tree = grow(rt, alloc, random, root, all)?;
+    let real = RealHost::new(rt, alloc)?;
+    let memory = memory(alloc, tree, current)?;
+    Ok(Hosts { real, memory })
+}
+
 /// In what the two hosts differ over a tree, if they do.
+fn difference_over(
+    alloc: Global,
+    random: &mut Random,
+    hosts: &mut Hosts,
+    root: Root<'_>,
+    folder: &str,
+    all: &[Stand; 14],
+) -> Result<Option<String>, NoMemory> {
+    let found = difference(alloc, random, &mut hosts.real, &mut hosts.memory, root, all)?;
+    if found.is_some() {
+        return Ok(found);
+    }
+    search_difference(
+        alloc,
+        random,
+        &mut hosts.real,
+        &mut hosts.memory,
+        folder,
+        all,
+    )
+}
+
+/// In what the two hosts differ over the tree of a root, if they do.
 fn difference_of(
     rt: &HostRuntime,
     random: &mut Random,
@@ -187,42 +240,52 @@ fn difference_of(
 ) -> Result<Option<String>, Fail> {
     let alloc = rt.alloc();
     let all = grown(random);
-    let folder = folder_of(alloc, root)?;
-    let tree = grow(rt, alloc, random, folder.as_str(), &all)?;
-    let mut memory = memory(alloc, tree, root.current)?;
-    let mut real = RealHost::new(rt, alloc)?;
-    let path = difference(alloc, random, &mut real, &mut memory, root, &all)?;
-    if path.is_some() {
-        return Ok(path);
-    }
-    let folder = folder.as_str();
-    let place = search_difference(alloc, random, &mut real, &mut memory, folder, &all)?;
-    Ok(place)
+    let folder = path_in(alloc, root, "", "C/T/N")?;
+    let mut hosts = hosts_over(rt, random, root.current, folder.as_str(), &all)?;
+    let found = difference_over(alloc, random, &mut hosts, root, folder.as_str(), &all)?;
+    Ok(found)
+}
+
+/// In what the two hosts differ over the tree of that number, if they do.
+fn difference_at(
+    rt: &HostRuntime,
+    random: &mut Random,
+    current: &str,
+    trees: &str,
+    number: u32,
+) -> Result<Option<String>, Fail> {
+    let number = format!(in rt.alloc(); "{number}")?;
+    let root = Root {
+        current,
+        trees,
+        number: number.as_str(),
+    };
+    difference_of(rt, random, root)
 }
 
 /// In what the two hosts differ over the first tree over which they do.
 fn first_difference(rt: &HostRuntime, current: &str, trees: &str) -> Result<Option<String>, Fail> {
     let mut random = Random { state: 21 };
     for number in 0..500u32 {
-        let root = Root {
-            current,
-            trees,
-            number,
-        };
-        let found = difference_of(rt, &mut random, root)?;
-        if found.is_some() {
-            return Ok(found);
+        if let Some(found) = difference_at(rt, &mut random, current, trees, number)? {
+            return Ok(Some(found));
         }
     }
     Ok(None)
 }
 
-#[test]
-fn five_hundred_trees(rt: HostRuntime) -> Result<(), Fail> {
-    let alloc = rt.alloc();
-    let mut host = RealHost::new(&rt, alloc)?;
+/// The current folder, and a new one in it.
+fn folders(rt: &HostRuntime) -> Result<(Utf8PathBuf, Utf8PathBuf), Fail> {
+    let mut host = RealHost::new(rt, rt.alloc())?;
     let current = host.current()?;
     let folder = host.temp_folder(Some(current.as_path()), "trees-")?;
+    Ok((current, folder))
+}
+
+/// The two hosts differ over none of the trees.
+#[test]
+fn five_hundred_trees(rt: HostRuntime) -> Result<(), Fail> {
+    let (current, folder) = folders(&rt)?;
     let trees = folder.as_path().file_name().unwrap_or("");
     let found = first_difference(&rt, current.as_str(), trees);
     let removed = fs::remove_dir_all(&rt, folder.as_str());

@@ -1,94 +1,73 @@
 //! Lines that tell parts of a justfile.
 
+use super::page::Page;
 use just_lang_types::{Expr, Modulepath};
 use just_path_text::Text;
-use just_print::push_expr;
-use rows_common::Wrong;
-use std::alloc::Global;
+
+/// What a line tells a field of: what has that path, or a part of it.
+#[derive(Clone, Copy)]
+pub(crate) struct Thing<'a> {
+    pub(crate) path: &'a Modulepath,
+    /// The name of the part; empty, where it is the whole.
+    pub(crate) part: &'a str,
+}
+
+/// Begins the line that tells a field of a thing: all that stands before its value.
+pub(crate) fn begin_line(page: &mut Page, thing: Thing<'_>, field: &str) {
+    page.push_path(thing.path);
+    page.push(".");
+    if !thing.part.is_empty() {
+        page.push(thing.part);
+        page.push(".");
+    }
+    page.push(field);
+    page.push(" = ");
+}
 
 /// Adds the line that tells a field of a thing.
-pub(crate) fn push_line(
-    out: &mut String,
-    thing: &str,
-    field: &str,
-    value: &str,
-) -> Result<(), Wrong> {
-    for text in [thing, field, " = ", value, "\n"] {
-        out.push_str(text)?;
-    }
-    Ok(())
+pub(crate) fn push_line(page: &mut Page, thing: Thing<'_>, field: &str, value: &str) {
+    begin_line(page, thing, field);
+    page.push(value);
+    page.push("\n");
 }
 
 /// Adds the line of a field that is true or false.
-pub(crate) fn push_flag(
-    out: &mut String,
-    thing: &str,
-    field: &str,
-    value: bool,
-) -> Result<(), Wrong> {
-    push_line(out, thing, field, if value { "true" } else { "false" })
+pub(crate) fn push_flag(page: &mut Page, thing: Thing<'_>, field: &str, value: bool) {
+    push_line(page, thing, field, if value { "true" } else { "false" });
 }
 
 /// Adds the line of a field that may have a text.
-pub(crate) fn push_text(
-    out: &mut String,
-    thing: &str,
-    field: &str,
-    value: &Option<Text>,
-) -> Result<(), Wrong> {
-    match value {
-        None => push_line(out, thing, field, "-"),
-        Some(text) => push_line(out, thing, field, text.as_str()),
-    }
-}
-
-/// Adds a comma and a blank, unless nothing stands before.
-pub(crate) fn push_comma(list: &mut String) -> Result<(), Wrong> {
-    if !list.is_empty() {
-        list.push_str(", ")?;
-    }
-    Ok(())
+pub(crate) fn push_text(page: &mut Page, thing: Thing<'_>, field: &str, value: &Option<Text>) {
+    let value = match value {
+        None => "-",
+        Some(text) => text.as_str(),
+    };
+    push_line(page, thing, field, value);
 }
 
 /// Adds the line of a field that has texts.
-pub(crate) fn push_list(
-    alloc: Global,
-    out: &mut String,
-    thing: &str,
-    field: &str,
-    texts: &[Text],
-) -> Result<(), Wrong> {
-    let mut list = String::new(alloc);
+pub(crate) fn push_list(page: &mut Page, thing: Thing<'_>, field: &str, texts: &[Text]) {
+    begin_line(page, thing, field);
+    let mut between = "";
     for text in texts {
-        push_comma(&mut list)?;
-        list.push_str(text.as_str())?;
+        page.push(between);
+        page.push(text.as_str());
+        between = ", ";
     }
-    push_line(out, thing, field, list.as_str())
+    page.push("\n");
 }
 
 /// Adds the line of a field that may have an expression.
 pub(crate) fn push_expression(
-    alloc: Global,
-    out: &mut String,
-    thing: &str,
+    page: &mut Page,
+    thing: Thing<'_>,
     field: &str,
     value: Option<&Expr>,
-) -> Result<(), Wrong> {
-    let mut text = String::new(alloc);
+) {
+    begin_line(page, thing, field);
     match value {
-        None => text.push_str("-")?,
-        Some(value) => push_expr(&mut text, value)?,
+        None => page.push("-"),
+        Some(value) => page.push_expr(value),
     }
-    push_line(out, thing, field, text.as_str())
-}
-
-/// Adds a path, with `::` between its names.
-pub(crate) fn push_path(out: &mut String, path: &Modulepath) -> Result<(), Wrong> {
-    for (number, name) in path.components.as_slice().iter().enumerate() {
-        if number > 0 {
-            out.push_str("::")?;
-        }
-        out.push_str(name.as_str())?;
-    }
-    Ok(())
+    page.push("\n");
 }

@@ -9,6 +9,7 @@
 mod lines;
 mod message;
 mod module;
+mod page;
 mod parameter;
 mod recipe;
 mod rule_rows;
@@ -34,11 +35,13 @@ impl Compare for LanguageRows {
             return shape_rows::agrees(alloc, fields);
         }
         let row = value_of(alloc, at(fields, 0)?)?;
-        if file.ends_with("rules.jsonl") {
+        let agrees = if file.ends_with("rules.jsonl") {
             rule_rows::agrees(alloc, &row)
         } else {
             text_rows::agrees(alloc, &row)
-        }
+        };
+        drop(row);
+        agrees
     }
 }
 

@@ -1,46 +1,77 @@
 //! The messages of broken rules.
 
+use super::page::Page;
 use just_lang_types::project::LangError;
-use just_path::Utf8PathBuf;
 use just_path_text::Text;
 use rows_common::Wrong;
 use std::alloc::Global;
 
-/// The paths of a module's files as a message lists them.
-fn listed(alloc: Global, found: &[Text]) -> Result<String, Wrong> {
-    let mut text = String::new(alloc);
+/// Adds the paths of a module's files as a message lists them.
+fn push_listed(page: &mut Page, found: &[Text]) {
     for (number, path) in found.iter().enumerate() {
         if number > 0 {
-            text.push_str(if number + 1 == found.len() {
+            page.push(if number + 1 == found.len() {
                 " and "
             } else {
                 ", "
-            })?;
+            });
         }
-        text.push_str("`")?;
-        text.push_str(path.as_str())?;
-        text.push_str("`")?;
+        page.push("`");
+        page.push(path.as_str());
+        page.push("`");
     }
-    Ok(text)
 }
 
-/// A place as a message tells it.
-fn place(alloc: Global, path: &Utf8PathBuf, line: usize, column: usize) -> Result<String, Wrong> {
-    let path = path.as_str();
-    Ok(format!(in alloc; "{path}:{line}:{column}")?)
+/// Adds a place as a message tells it.
+fn push_place(page: &mut Page, path: &str, line: usize, column: usize) {
+    page.push(" at ");
+    page.push(path);
+    page.push(":");
+    page.push_number(line as u64);
+    page.push(":");
+    page.push_number(column as u64);
 }
 
-/// The message of a rule on texts.
-fn message_on_texts(alloc: Global, error: &LangError) -> Result<String, Wrong> {
+/// Adds the message of a rule on the files that others name; whether it is of such a rule.
+fn push_of_files(page: &mut Page, error: &LangError) -> bool {
+    match error {
+        LangError::MissingImportFile => page.push("could not find source file for import"),
+        LangError::CircularImport { current, import } => {
+            page.push("import `");
+            page.push(import.as_str());
+            page.push("` in `");
+            page.push(current.as_str());
+            page.push("` is circular");
+        }
+        LangError::MissingModuleFile { module } => {
+            page.push("could not find source file for module `");
+            page.push(module.as_str());
+            page.push("`");
+        }
+        LangError::AmbiguousModuleFile { module, found } => {
+            page.push("found multiple source files for module `");
+            page.push(module.as_str());
+            page.push("`: ");
+            push_listed(page, found.as_slice());
+        }
+        LangError::Homedir => page.push("failed to get homedir"),
+        _ => return false,
+    }
+    true
+}
+
+/// Adds the message of a rule on texts.
+fn push_of_texts(page: &mut Page, error: &LangError) -> Result<(), Wrong> {
     match error {
         LangError::Compile(error) => {
-            let place = place(alloc, &error.path, error.line, error.column)?;
-            let kind = error.kind;
-            Ok(format!(in alloc; "error: {kind:?} at {place}")?)
+            page.push_kind(error.kind);
+            push_place(page, error.path.as_str(), error.line, error.column);
+            Ok(())
         }
         LangError::Const { path, line, column } => {
-            let place = place(alloc, path, *line, *column)?;
-            Ok(format!(in alloc; "error: not constant at {place}")?)
+            page.push("not constant");
+            push_place(page, path.as_str(), *line, *column);
+            Ok(())
         }
         LangError::NoMemory => Err(Wrong::NoMemory),
         _ => Err(Wrong::Form),
@@ -49,28 +80,10 @@ fn message_on_texts(alloc: Global, error: &LangError) -> Result<String, Wrong> {
 
 /// The message of a rule.
 pub(crate) fn message(alloc: Global, error: &LangError) -> Result<String, Wrong> {
-    match error {
-        LangError::MissingImportFile => Ok(String::from_str(
-            alloc,
-            "error: could not find source file for import",
-        )?),
-        LangError::CircularImport { current, import } => {
-            let current = current.as_str();
-            let import = import.as_str();
-            Ok(format!(in alloc; "error: import `{import}` in `{current}` is circular")?)
-        }
-        LangError::MissingModuleFile { module } => {
-            let module = module.as_str();
-            Ok(format!(in alloc; "error: could not find source file for module `{module}`")?)
-        }
-        LangError::AmbiguousModuleFile { module, found } => {
-            let module = module.as_str();
-            let list = listed(alloc, found.as_slice())?;
-            Ok(format!(in alloc;
-                "error: found multiple source files for module `{module}`: {list}"
-            )?)
-        }
-        LangError::Homedir => Ok(String::from_str(alloc, "error: failed to get homedir")?),
-        other => message_on_texts(alloc, other),
+    let mut page = Page::new(alloc);
+    page.push("error: ");
+    if !push_of_files(&mut page, error) {
+        push_of_texts(&mut page, error)?;
     }
+    page.finished()
 }

@@ -1,118 +1,100 @@
 //! The recipes of a module.
 
-use super::lines::{push_comma, push_flag, push_line, push_path, push_text};
+use super::lines::{Thing, begin_line, push_flag, push_text};
+use super::page::Page;
 use super::parameter::push_parameter;
-use just_lang_types::{Dependency, Expr, Fragment, Line, Recipe};
-use just_print::push_expr;
-use rows_common::Wrong;
-use std::alloc::Global;
-
-/// Adds expressions, each behind a blank.
-fn push_values(out: &mut String, values: &[Expr]) -> Result<(), Wrong> {
-    for value in values {
-        out.push_str(" ")?;
-        push_expr(out, value)?;
-    }
-    Ok(())
-}
+use just_lang_types::{Attribute, Dependency, Fragment, Line, Recipe};
 
 /// Adds what a part of a body line says.
-fn push_fragment(out: &mut String, fragment: &Fragment) -> Result<(), Wrong> {
+fn push_fragment(page: &mut Page, fragment: &Fragment) {
     match fragment {
-        Fragment::Text(text) => out.push_str(text.as_str())?,
+        Fragment::Text(text) => page.push(text.as_str()),
         Fragment::Value(value) => {
-            out.push_str("{{ ")?;
-            push_expr(out, value)?;
-            out.push_str(" }}")?;
+            page.push("{{ ");
+            page.push_expr(value);
+            page.push(" }}");
         }
     }
-    Ok(())
 }
 
-/// Adds the line of what a recipe depends on: each path with the arguments behind it.
-fn push_dependencies(
-    alloc: Global,
-    out: &mut String,
-    thing: &str,
-    field: &str,
-    dependencies: &[Dependency],
-) -> Result<(), Wrong> {
-    let mut list = String::new(alloc);
-    for dependency in dependencies {
-        push_comma(&mut list)?;
-        push_path(&mut list, &dependency.path)?;
-        push_values(&mut list, dependency.arguments.as_slice())?;
+/// Adds what a recipe depends on: the path with the arguments behind it.
+fn push_dependency(page: &mut Page, dependency: &Dependency) {
+    page.push_path(&dependency.path);
+    for value in dependency.arguments.as_slice() {
+        page.push(" ");
+        page.push_expr(value);
     }
-    push_line(out, thing, field, list.as_str())
+}
+
+/// Adds the line of what a recipe depends on.
+fn push_dependencies(page: &mut Page, recipe: Thing<'_>, field: &str, dependencies: &[Dependency]) {
+    begin_line(page, recipe, field);
+    let mut between = "";
+    for dependency in dependencies {
+        page.push(between);
+        push_dependency(page, dependency);
+        between = ", ";
+    }
+    page.push("\n");
 }
 
 /// Adds the line of the names of a recipe's attributes.
-fn push_names(alloc: Global, out: &mut String, thing: &str, recipe: &Recipe) -> Result<(), Wrong> {
-    let mut list = String::new(alloc);
-    for attribute in recipe.attributes.as_slice() {
-        push_comma(&mut list)?;
-        list.push_str(attribute.name.text.as_str())?;
+fn push_names(page: &mut Page, recipe: Thing<'_>, attributes: &[Attribute]) {
+    begin_line(page, recipe, "attributes");
+    let mut between = "";
+    for attribute in attributes {
+        page.push(between);
+        page.push(attribute.name.text.as_str());
+        between = ", ";
     }
-    push_line(out, thing, "attributes", list.as_str())
+    page.push("\n");
 }
 
-/// Adds the lines of a body: of each its number and what it says.
-fn push_lines(alloc: Global, out: &mut String, thing: &str, body: &[Line]) -> Result<(), Wrong> {
-    for line in body {
-        let number = line.number;
-        let field = format!(in alloc; "body.{number}")?;
-        let mut says = String::new(alloc);
-        for fragment in line.fragments.as_slice() {
-            push_fragment(&mut says, fragment)?;
-        }
-        push_line(out, thing, field.as_str(), says.as_str())?;
+/// Adds a line of a body: its number and what it says.
+fn push_body_line(page: &mut Page, recipe: Thing<'_>, line: &Line) {
+    page.push_path(recipe.path);
+    page.push(".body.");
+    page.push_number(line.number as u64);
+    page.push(" = ");
+    for fragment in line.fragments.as_slice() {
+        push_fragment(page, fragment);
     }
-    Ok(())
+    page.push("\n");
 }
 
 /// Adds the lines of the parameters.
-fn push_parameters(
-    alloc: Global,
-    out: &mut String,
-    thing: &str,
-    recipe: &Recipe,
-) -> Result<(), Wrong> {
-    let mut list = String::new(alloc);
+fn push_parameters(page: &mut Page, thing: Thing<'_>, recipe: &Recipe) {
+    begin_line(page, thing, "parameters");
+    let mut between = "";
     for parameter in recipe.parameters.as_slice() {
-        push_comma(&mut list)?;
-        list.push_str(parameter.name.as_str())?;
-        push_parameter(alloc, out, thing, parameter)?;
+        page.push(between);
+        page.push(parameter.name.as_str());
+        between = ", ";
     }
-    push_line(out, thing, "parameters", list.as_str())
-}
-
-/// Adds the lines of what else stands in a recipe's head.
-fn push_head(alloc: Global, out: &mut String, thing: &str, recipe: &Recipe) -> Result<(), Wrong> {
-    let line = recipe.line;
-    let line = format!(in alloc; "{line}")?;
-    push_line(out, thing, "line", line.as_str())?;
-    push_text(out, thing, "doc", &recipe.doc)?;
-    push_flag(out, thing, "quiet", recipe.quiet)?;
-    push_flag(out, thing, "private", recipe.private)?;
-    push_flag(out, thing, "script", recipe.script)
+    page.push("\n");
+    for parameter in recipe.parameters.as_slice() {
+        push_parameter(page, &recipe.path, parameter);
+    }
 }
 
 /// Adds the lines of a recipe.
-pub(crate) fn push_recipe(alloc: Global, out: &mut String, recipe: &Recipe) -> Result<(), Wrong> {
-    let mut thing = String::new(alloc);
-    push_path(&mut thing, &recipe.path)?;
-    thing.push_str(".")?;
-    let thing = thing.as_str();
-    push_head(alloc, out, thing, recipe)?;
-    push_names(alloc, out, thing, recipe)?;
-    push_parameters(alloc, out, thing, recipe)?;
-    push_dependencies(alloc, out, thing, "priors", recipe.priors.as_slice())?;
-    push_dependencies(
-        alloc,
-        out,
-        thing,
-        "subsequents",
-        recipe.subsequents.as_slice(),
-    )?;
-    push_lines(alloc, out, thing, recipe.body.as_slice())
+pub(crate) fn push_recipe(page: &mut Page, recipe: &Recipe) {
+    let thing = Thing {
+        path: &recipe.path,
+        part: "",
+    };
+    begin_line(page, thing, "line");
+    page.push_number(recipe.line as u64);
+    page.push("\n");
+    push_text(page, thing, "doc", &recipe.doc);
+    push_flag(page, thing, "quiet", recipe.quiet);
+    push_flag(page, thing, "private", recipe.private);
+    push_flag(page, thing, "script", recipe.script);
+    push_names(page, thing, recipe.attributes.as_slice());
+    push_parameters(page, thing, recipe);
+    push_dependencies(page, thing, "priors", recipe.priors.as_slice());
+    push_dependencies(page, thing, "subsequents", recipe.subsequents.as_slice());
+    for line in recipe.body.as_slice() {
+        push_body_line(page, thing, line);
+    }
 }

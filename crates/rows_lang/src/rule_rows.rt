@@ -5,54 +5,69 @@
 //! `error` is the message of the first rule that is broken; a row without it breaks none. The environment is empty.
 
 use super::message::message;
-use super::sources::source;
+use super::sources::push_source;
 use just_lang::first_broken;
 use just_lang_types::Source;
-use just_path_text::{Environ, Seq, Text};
+use just_lang_types::project::LangError;
+use just_path_text::{Environ, Seq};
 use rows_common::Wrong;
 use serde_json::Value;
 use std::alloc::Global;
 
-/// The source of a file with that text.
-fn text_source(alloc: Global, path: &str, text: &Value) -> Result<Source, Wrong> {
-    match text.as_str() {
-        Some(text) => source(alloc, path, Text::from_str(alloc, text)?),
-        None => Err(Wrong::Form),
+/// The root's file.
+const ROOT: &str = "/p/justfile";
+
+/// Adds the source of a file with that text.
+fn push_file(
+    alloc: Global,
+    sources: &mut Vec<Source>,
+    path: &str,
+    text: Option<&Value>,
+) -> Result<(), Wrong> {
+    match text {
+        Some(Value::String(text)) => push_source(alloc, sources, path, text.as_str()),
+        _ => Err(Wrong::Form),
     }
 }
 
-/// The sources of the files that a row says are loaded, in their order.
-fn loaded_sources(alloc: Global, files: &Value, loaded: &[Value]) -> Result<Vec<Source>, Wrong> {
-    let mut sources = Vec::new(alloc);
+/// Adds the sources of the files that a row says are loaded, in their order.
+fn push_loaded(
+    alloc: Global,
+    sources: &mut Vec<Source>,
+    files: &Value,
+    loaded: &[Value],
+) -> Result<(), Wrong> {
     for path in loaded {
         let Some(path) = path.as_str() else {
             return Err(Wrong::Form);
         };
-        let Some(text) = files.get(path) else {
-            return Err(Wrong::Form);
-        };
-        sources.push(text_source(alloc, path, text)?)?;
+        push_file(alloc, sources, path, files.get(path))?;
     }
-    Ok(sources)
+    Ok(())
 }
 
-/// The sources of all files of a row, the root first.
-fn all_sources(alloc: Global, files: &Value) -> Result<Vec<Source>, Wrong> {
-    let mut sources = Vec::new(alloc);
+/// Adds the source of a row's root, or those of its other files.
+fn push_files(
+    alloc: Global,
+    sources: &mut Vec<Source>,
+    files: &Value,
+    is_root: bool,
+) -> Result<(), Wrong> {
     let Value::Object(files) = files else {
         return Err(Wrong::Form);
     };
     for (path, text) in files {
-        if path.as_str() == "/p/justfile" {
-            sources.push(text_source(alloc, path.as_str(), text)?)?;
+        if (path.as_str() == ROOT) == is_root {
+            push_file(alloc, sources, path.as_str(), Some(text))?;
         }
     }
-    for (path, text) in files {
-        if path.as_str() != "/p/justfile" {
-            sources.push(text_source(alloc, path.as_str(), text)?)?;
-        }
-    }
-    Ok(sources)
+    Ok(())
+}
+
+/// Adds the sources of all files of a row, the root first.
+fn push_all(alloc: Global, sources: &mut Vec<Source>, files: &Value) -> Result<(), Wrong> {
+    push_files(alloc, sources, files, true)?;
+    push_files(alloc, sources, files, false)
 }
 
 /// The sources of a row.
@@ -60,11 +75,20 @@ fn sources(alloc: Global, row: &Value) -> Result<Vec<Source>, Wrong> {
     let Some(files) = row.get("files") else {
         return Err(Wrong::Form);
     };
+    let mut sources = Vec::new(alloc);
     match row.get("loaded") {
-        None => all_sources(alloc, files),
-        Some(Value::Array(loaded)) => loaded_sources(alloc, files, loaded.as_slice()),
-        Some(_) => Err(Wrong::Form),
+        None => push_all(alloc, &mut sources, files)?,
+        Some(Value::Array(loaded)) => push_loaded(alloc, &mut sources, files, loaded.as_slice())?,
+        Some(_) => return Err(Wrong::Form),
     }
+    Ok(sources)
+}
+
+/// The message of a rule that is broken. The call of `drop` stands in place of a walk through all variants at the scope's end.
+fn message_of(alloc: Global, error: LangError) -> Result<Option<String>, Wrong> {
+    let message = message(alloc, &error);
+    drop(error);
+    Ok(Some(message?))
 }
 
 /// The message of the first rule that sources break; none, where they break none.
@@ -74,7 +98,7 @@ fn found(alloc: Global, sources: &[Source]) -> Result<Option<String>, Wrong> {
     };
     match first_broken(alloc, sources, &environ) {
         Ok(()) => Ok(None),
-        Err(error) => Ok(Some(message(alloc, &error)?)),
+        Err(error) => message_of(alloc, error),
     }
 }
 

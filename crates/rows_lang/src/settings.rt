@@ -1,42 +1,36 @@
 //! The settings of a module.
 
-use super::lines::{push_flag, push_line, push_text};
+use super::lines::{Thing, begin_line, push_flag, push_line, push_text};
+use super::page::Page;
 use just_lang_types::{Interpreter, Settings};
-use rows_common::Wrong;
-use std::alloc::Global;
-
-/// Adds the lines of flags.
-fn push_flags(out: &mut String, thing: &str, flags: &[(&str, bool)]) -> Result<(), Wrong> {
-    for flag in flags {
-        push_flag(out, thing, flag.0, flag.1)?;
-    }
-    Ok(())
-}
 
 /// Adds the line of a program with its arguments.
-fn push_interpreter(
-    alloc: Global,
-    out: &mut String,
-    thing: &str,
-    field: &str,
-    value: &Option<Interpreter>,
-) -> Result<(), Wrong> {
+fn push_interpreter(page: &mut Page, module: Thing<'_>, field: &str, value: &Option<Interpreter>) {
     let Some(interpreter) = value else {
-        return push_line(out, thing, field, "-");
+        push_line(page, module, field, "-");
+        return;
     };
-    let mut text = String::from_str(alloc, interpreter.command.as_str())?;
+    begin_line(page, module, field);
+    page.push(interpreter.command.as_str());
     for argument in interpreter.arguments.as_slice() {
-        text.push_str(" ")?;
-        text.push_str(argument.as_str())?;
+        page.push(" ");
+        page.push(argument.as_str());
     }
-    push_line(out, thing, field, text.as_str())
+    page.push("\n");
+}
+
+/// Adds the lines of flags.
+fn push_flags(page: &mut Page, module: Thing<'_>, flags: &[(&str, bool)]) {
+    for flag in flags {
+        push_flag(page, module, flag.0, flag.1);
+    }
 }
 
 /// Adds the lines of the flags of settings.
-fn push_own_flags(out: &mut String, thing: &str, settings: &Settings) -> Result<(), Wrong> {
+fn push_own_flags(page: &mut Page, module: Thing<'_>, settings: &Settings) {
     push_flags(
-        out,
-        thing,
+        page,
+        module,
         &[
             ("allow-duplicate-recipes", settings.allow_duplicate_recipes),
             (
@@ -58,24 +52,20 @@ fn push_own_flags(out: &mut String, thing: &str, settings: &Settings) -> Result<
             ("quiet", settings.quiet),
             ("unstable", settings.unstable),
         ],
-    )
+    );
 }
 
 /// Adds the lines of settings.
-pub(crate) fn push_settings(
-    alloc: Global,
-    out: &mut String,
-    thing: &str,
-    settings: &Settings,
-) -> Result<(), Wrong> {
-    push_own_flags(out, thing, settings)?;
-    push_text(out, thing, "dotenv-command", &settings.dotenv_command)?;
-    push_text(out, thing, "dotenv-filename", &settings.dotenv_filename)?;
-    push_text(out, thing, "dotenv-path", &settings.dotenv_path)?;
-    push_text(out, thing, "indentation", &settings.indentation)?;
-    push_text(out, thing, "tempdir", &settings.tempdir)?;
-    push_text(out, thing, "working-directory", &settings.working_directory)?;
-    push_interpreter(alloc, out, thing, "shell", &settings.shell)?;
+pub(crate) fn push_settings(page: &mut Page, module: Thing<'_>, settings: &Settings) {
+    push_own_flags(page, module, settings);
+    push_text(page, module, "dotenv-command", &settings.dotenv_command);
+    push_text(page, module, "dotenv-filename", &settings.dotenv_filename);
+    push_text(page, module, "dotenv-path", &settings.dotenv_path);
+    push_text(page, module, "indentation", &settings.indentation);
+    push_text(page, module, "tempdir", &settings.tempdir);
+    let folder = &settings.working_directory;
+    push_text(page, module, "working-directory", folder);
+    push_interpreter(page, module, "shell", &settings.shell);
     let interpreter = &settings.script_interpreter;
-    push_interpreter(alloc, out, thing, "script-interpreter", interpreter)
+    push_interpreter(page, module, "script-interpreter", interpreter);
 }

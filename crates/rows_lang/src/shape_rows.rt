@@ -5,69 +5,85 @@
 //! that isn't there is `-` and a list has `, ` between its items. The environment has `HOME`, which is `/home/u`.
 
 use super::module::push_module;
-use super::sources::source;
+use super::page::Page;
+use super::sources::push_source;
 use just_eval_closure::all_modules;
 use just_lang::assemble;
 use just_lang_types::Source;
 use just_lang_types::project::{Justfile, LangError};
-use just_path_text::{Environ, Seq, Text};
-use rows_common::{Wrong, at, unescaped_text};
+use rows_common::{Wrong, at, environment, unescaped_text};
 use std::alloc::Global;
 
 /// Whether the lines of a row are among those that tell its justfile. It promises nothing beyond safety.
 pub(crate) fn agrees(alloc: Global, fields: &[&str]) -> Result<bool, Wrong> {
-    let sources = sources(alloc, fields)?;
-    let justfile = justfile(alloc, sources.as_slice())?;
-    let told = told(alloc, &justfile)?;
-    let wanted = unescaped_text(alloc, at(fields, 1)?)?;
+    let wanted = at(fields, 1)?;
+    let told = told_of_row(alloc, fields)?;
+    let wanted = unescaped_text(alloc, wanted)?;
     Ok(has_all(told.as_str(), wanted.as_str()))
 }
 
-/// The source of a file with that text.
-fn field_source(alloc: Global, path: &str, text: &str) -> Result<Source, Wrong> {
-    source(alloc, path, Text::from(unescaped_text(alloc, text)?))
+/// Adds the source of a file with that text.
+fn push_field(
+    alloc: Global,
+    sources: &mut Vec<Source>,
+    path: &str,
+    text: &str,
+) -> Result<(), Wrong> {
+    let text = unescaped_text(alloc, text)?;
+    push_source(alloc, sources, path, text.as_str())
 }
 
 /// The sources of a row: the root, and at most three others.
 fn sources(alloc: Global, fields: &[&str]) -> Result<Vec<Source>, Wrong> {
+    let root = at(fields, 0)?;
     let mut sources = Vec::new(alloc);
-    sources.push(field_source(alloc, "/p/justfile", at(fields, 0)?)?)?;
+    push_field(alloc, &mut sources, "/p/justfile", root)?;
     for number in [2, 4, 6] {
         if let (Some(path), Some(text)) = (fields.get(number), fields.get(number + 1)) {
-            sources.push(field_source(alloc, path, text)?)?;
+            push_field(alloc, &mut sources, path, text)?;
         }
     }
     Ok(sources)
 }
 
-/// The environment of all rows.
-fn environ(alloc: Global) -> Result<Environ, Wrong> {
-    let mut pairs = Vec::new(alloc);
-    let name = Text::from_str(alloc, "HOME")?;
-    let value = Text::from_str(alloc, "/home/u")?;
-    pairs.push((name, value))?;
-    Ok(Environ {
-        pairs: Seq::from(pairs),
-    })
+/// Why a row's justfile isn't made.
+fn wrong_of(error: &LangError) -> Wrong {
+    match error {
+        LangError::NoMemory => Wrong::NoMemory,
+        _ => Wrong::Form,
+    }
 }
 
-/// The justfile of sources.
+/// The justfile of sources. The call of `drop` stands in place of a walk through all variants of the error at the scope's end.
 fn justfile(alloc: Global, sources: &[Source]) -> Result<Justfile, Wrong> {
-    let environ = environ(alloc)?;
+    let environ = environment(alloc, "HOME=/home/u")?;
     match assemble(alloc, sources, &environ) {
         Ok(justfile) => Ok(justfile),
-        Err(LangError::NoMemory) => Err(Wrong::NoMemory),
-        Err(_) => Err(Wrong::Form),
+        Err(error) => {
+            let wrong = wrong_of(&error);
+            drop(error);
+            Err(wrong)
+        }
     }
 }
 
 /// The lines that tell a justfile.
 fn told(alloc: Global, justfile: &Justfile) -> Result<String, Wrong> {
-    let mut out = String::new(alloc);
-    for module in all_modules(alloc, justfile)?.as_slice() {
-        push_module(alloc, &mut out, module)?;
+    let modules = all_modules(alloc, justfile)?;
+    let mut page = Page::new(alloc);
+    for module in modules.as_slice() {
+        push_module(&mut page, module);
     }
-    Ok(out)
+    page.finished()
+}
+
+/// The lines that tell a row's justfile. The call of `drop` stands in place of a walk through all its fields.
+fn told_of_row(alloc: Global, fields: &[&str]) -> Result<String, Wrong> {
+    let sources = sources(alloc, fields)?;
+    let justfile = justfile(alloc, sources.as_slice())?;
+    let told = told(alloc, &justfile);
+    drop(justfile);
+    told
 }
 
 /// Whether a line is among those of a text.

@@ -6,16 +6,18 @@ use just_path_text::Text;
 use rows_common::Wrong;
 use std::alloc::Global;
 
-/// The source of a file with that text. It promises nothing beyond safety.
-pub(crate) fn source(alloc: Global, path: &str, text: Text) -> Result<Source, Wrong> {
+/// Adds the source of a file with that text. It promises nothing beyond safety.
+pub(crate) fn push_source(
+    alloc: Global,
+    sources: &mut Vec<Source>,
+    path: &str,
+    text: &str,
+) -> Result<(), Wrong> {
     let path = Utf8Path::new(path);
-    let root = match path.parent() {
-        Some(parent) => parent.to_path_buf(alloc)?,
-        None => path.to_path_buf(alloc)?,
-    };
-    Ok(Source {
+    let source = Source {
         path: path.to_path_buf(alloc)?,
-        root,
-        text,
-    })
+        root: path.parent().unwrap_or(path).to_path_buf(alloc)?,
+        text: Text::from_str(alloc, text)?,
+    };
+    Ok(sources.push(source)?)
 }

@@ -1,7 +1,7 @@
 //! Rows of texts.
 
 use super::texts::{agrees_display, agrees_prefixes, agrees_unindent};
-use just_lang_syntax::{Fault, FaultKind, ParseError, parse};
+use just_lang_syntax::{Ast, Fault, ParseError, parse};
 use just_print::print;
 use rows_common::Wrong;
 use serde_json::Value;
@@ -10,11 +10,8 @@ use std::alloc::Global;
 /// The text of a field. No clause, as of the other functions here: no theorem stands on what they answer.
 pub fn text_of<'a>(row: &'a Value, field: &str) -> Result<&'a str, Wrong> {
     match row.get(field) {
-        Some(value) => match value.as_str() {
-            Some(text) => Ok(text),
-            None => Err(Wrong::Form),
-        },
-        None => Err(Wrong::Form),
+        Some(Value::String(text)) => Ok(text.as_str()),
+        _ => Err(Wrong::Form),
     }
 }
 
@@ -29,13 +26,11 @@ pub fn number_of(row: &Value, field: &str) -> Result<u64, Wrong> {
     }
 }
 
+/// Whether a row says that its text is one of the language.
 fn is_ok(row: &Value) -> Result<bool, Wrong> {
     match row.get("ok") {
-        Some(value) => match value.as_bool() {
-            Some(flag) => Ok(flag),
-            None => Err(Wrong::Form),
-        },
-        None => Err(Wrong::Form),
+        Some(Value::Bool(flag)) => Ok(*flag),
+        _ => Err(Wrong::Form),
     }
 }
 
@@ -54,31 +49,42 @@ pub fn agrees(alloc: Global, row: &Value) -> Result<bool, Wrong> {
     agrees_parse(alloc, row)
 }
 
-/// Whether a row of `parse` agrees.
-fn agrees_parse(alloc: Global, row: &Value) -> Result<bool, Wrong> {
-    let text = text_of(row, "text")?;
-    let wanted = is_ok(row)?;
+/// What is shown of a text that is read: its printed tree, on the lines behind the first.
+fn shown_tree(alloc: Global, ast: &Ast) -> Result<String, Wrong> {
+    let printed = print(alloc, ast, "    ")?;
+    Ok(format!(in alloc; "ok\n{printed}")?)
+}
+
+/// What is shown of a text that is refused: the fault, on one line.
+fn shown_fault(alloc: Global, fault: Fault) -> Result<String, Wrong> {
+    let Fault { kind, line, column } = fault;
+    Ok(format!(in alloc; "{kind:?} {line} {column}")?)
+}
+
+/// What the crates answer to a text.
+fn shown(alloc: Global, text: &str) -> Result<String, Wrong> {
     match parse(alloc, text) {
-        Ok(ast) => {
-            if !wanted {
-                return Ok(false);
-            }
-            let printed = print(alloc, &ast, "    ")?;
-            Ok(printed.as_str() == text_of(row, "print")?)
-        }
+        Ok(ast) => shown_tree(alloc, &ast),
+        Err(ParseError::Fault(fault)) => shown_fault(alloc, fault),
         Err(ParseError::NoMemory) => Err(Wrong::NoMemory),
-        Err(ParseError::Fault(fault)) => Ok(!wanted && is_fault(row, fault)?),
     }
 }
 
-/// Whether a row tells this fault.
-fn is_fault(row: &Value, fault: Fault) -> Result<bool, Wrong> {
-    let kind = match fault.kind {
-        FaultKind::Syntax => "Syntax",
-        FaultKind::Unsupported => "Unsupported",
-        FaultKind::Depth => "Depth",
-    };
+/// What a row says that is answered, in the same form.
+fn wanted(alloc: Global, row: &Value) -> Result<String, Wrong> {
+    if is_ok(row)? {
+        let printed = text_of(row, "print")?;
+        return Ok(format!(in alloc; "ok\n{printed}")?);
+    }
+    let kind = text_of(row, "kind")?;
     let line = number_of(row, "line")?;
     let column = number_of(row, "column")?;
-    Ok(text_of(row, "kind")? == kind && line == fault.line as u64 && column == fault.column as u64)
+    Ok(format!(in alloc; "{kind} {line} {column}")?)
+}
+
+/// Whether a row of `parse` agrees.
+fn agrees_parse(alloc: Global, row: &Value) -> Result<bool, Wrong> {
+    let shown = shown(alloc, text_of(row, "text")?)?;
+    let wanted = wanted(alloc, row)?;
+    Ok(shown.as_str() == wanted.as_str())
 }

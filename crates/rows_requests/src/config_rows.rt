@@ -5,25 +5,20 @@
 //! the overrides and the arguments.
 
 use super::config_shown::config_shown;
-use just_config::{Config, Read, read_words};
-use just_path::Utf8PathBuf;
-use rows_common::{Wrong, at, environment, unescaped_text, words};
+use super::configured::Configured;
+use super::said::is_text;
+use rows_common::{Wrong, at, environment};
 use std::alloc::Global;
 
 /// Whether a row says the configuration of its words. It promises nothing beyond safety.
 pub(crate) fn agrees(alloc: Global, fields: &[&str]) -> Result<bool, Wrong> {
-    let environ = environment(alloc, at(fields, 0)?)?;
-    let texts = words(alloc, at(fields, 1)?)?;
-    let mut words = Vec::new(alloc);
-    for text in texts.as_slice() {
-        words.push(text.as_str())?;
-    }
-    let Ok(Read::Go(arguments)) = read_words(alloc, words.as_slice(), &environ) else {
-        return Err(Wrong::Form);
-    };
-    let folder = Utf8PathBuf::from_str(alloc, "/p")?;
-    let config = Config::from_arguments(alloc, arguments, folder);
-    let answer = config_shown(alloc, config)?;
-    let wanted = unescaped_text(alloc, at(fields, 2)?)?;
-    Ok(answer.as_str() == wanted.as_str())
+    let answer = answer(alloc, at(fields, 0)?, at(fields, 1)?)?;
+    is_text(alloc, fields, 2, answer.as_str())
+}
+
+/// What words give over an environment, as a text.
+fn answer(alloc: Global, pairs: &str, words: &str) -> Result<String, Wrong> {
+    let environ = environment(alloc, pairs)?;
+    let configured = Configured::new(alloc, words, &environ, "/p")?;
+    Ok(config_shown(alloc, &configured.answer)?)
 }

@@ -4,10 +4,13 @@
 
 mod config_rows;
 mod config_shown;
+mod configured;
+mod found;
 mod key;
 mod key_rows;
 mod location_rows;
-mod location_shown;
+mod pieces;
+mod said;
 mod script_rows;
 mod shebang_rows;
 mod tangled_rows;

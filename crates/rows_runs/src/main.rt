@@ -16,6 +16,7 @@
 #![tactic(auto)]
 
 mod given;
+mod parts;
 mod row;
 mod shown;
 mod told;
@@ -29,36 +30,49 @@ use std::sync::Wait;
 use std::thread::Threads;
 use std::{env, fs, io};
 
-/// Compares the rows of a file, and prints how many agree, and what differs of each that doesn't.
-fn compare_rows<R: Runtime<A = Global> + Threads + Wait + Sync>(
+/// Prints what differs in a row, or why it wasn't compared. It answers whether the row agrees.
+fn print_row<R: Print>(
     rt: &R,
     file: &str,
-    text: &str,
+    number: u64,
+    answer: Result<Option<String>, Wrong>,
 ) -> io::Result<bool> {
+    let verdict = match &answer {
+        Ok(None) => return Ok(true),
+        Ok(Some(difference)) => difference.as_str(),
+        Err(Wrong::Form) => "no such row",
+        Err(Wrong::NoMemory) => "out of memory",
+    };
+    println!(rt; "{file}:{number}: {verdict}")?;
+    Ok(false)
+}
+
+/// Compares the rows of a file, and prints how many agree, and what differs of each that doesn't.
+fn compare_file<R: Runtime<A = Global> + Threads + Wait + Sync>(
+    rt: &R,
+    file: &str,
+) -> io::Result<bool> {
+    let text = fs::read_to_string(rt, file)?;
     let mut count: u64 = 0;
     let mut number: u64 = 0;
-    for row in text.lines() {
+    for row in text.as_str().lines() {
         number = number.saturating_add(1);
-        match difference(rt, rt.alloc(), row) {
-            Ok(None) => count = count.saturating_add(1),
-            Ok(Some(difference)) => println!(rt; "{file}:{number}: {difference}")?,
-            Err(Wrong::Form) => println!(rt; "{file}:{number}: no such row")?,
-            Err(Wrong::NoMemory) => println!(rt; "{file}:{number}: out of memory")?,
+        let answer = difference(rt, rt.alloc(), row);
+        if print_row(rt, file, number, answer)? {
+            count = count.saturating_add(1);
         }
     }
     println!(rt; "{file}: {count} agree")?;
     Ok(count == number)
 }
 
+/// Compares the rows of each file that an argument of the program names. It answers whether all agree.
 fn compare_files<R: Runtime<A = Global> + Threads + Wait + Sync>(rt: &R) -> io::Result<bool> {
     let mut all = true;
     let mut names = env::args(rt)?;
     let _program = names.next();
     for name in names {
-        let text = fs::read_to_string(rt, name.as_str())?;
-        if !compare_rows(rt, name.as_str(), text.as_str())? {
-            all = false;
-        }
+        all = compare_file(rt, name.as_str())? && all;
     }
     Ok(all)
 }

@@ -3,63 +3,56 @@
 ghost use Rattle.std.specs.Prelude.{◌≡◌, ◌+◌, ◌<◌, option_map};
 ghost use Rattle.std.specs.Int.NonZero.{non_zero_u64_get};
 
-use super::plans::{left, memory, plan_of};
-use super::runs::{ONE_CLASS, host};
-use just_host::{Ending, Host, MemHost, Plot, Status};
-use just_path::Utf8Path;
-use just_path_text::{NoMemory, Seq, Text};
+use super::hosts::{failing, memory, touching, with_input};
+use super::plans::plan_of;
+use super::runs::ONE_CLASS;
+use super::workers::{left, tells};
+use just_host::{Host, HostFault, MemHost};
+use just_path_text::NoMemory;
 use just_sched::{
-    Book, Desk, Driven, Idle, Named, Naming, Next, OpenBody, Plan, Seat, Verdict, last_status,
+    Book, Desk, Driven, Idle, Named, Naming, Next, OpenBody, Plan, Seat, last_status,
 };
-use std::alloc::Global;
+use std::alloc::{AllocError, Global};
 use std::marker::Brand;
 use std::num::NonZeroU64;
 use std::process::Abort;
 use std::sync::ledger::Blank;
-use std::test::Fail;
 
-/// The body that a move opens.
-fn open_one<H: Host + Drop, P: Naming>(
+/// Adds a line: what was done, how many bodies are open now, and the states of the nodes.
+fn add_states<H: Host + Drop, P: Naming>(
+    told: &mut String,
+    done: &str,
+    desk: &Desk<H, P>,
+) -> Result<(), AllocError> {
+    let bodies = desk.book.open_bodies();
+    write!(told, "{done} {bodies}:")?;
+    for node in 0..desk.book.plan.nodes.len() {
+        let state = desk.book.state(node as u32);
+        write!(told, " {state:?}")?;
+    }
+    told.push_str("\n")
+}
+
+/// Tells what was done, and how the book stands then.
+fn tell<H: Host + Drop, P: Naming>(
     rt: &impl Abort,
-    desk: &mut Desk<H, P>,
-    seat: &mut Seat<P>,
-) -> OpenBody<H>
-    ensures parts { seat.new.share.parts ≡ seat.old.share.parts }
-    ensures units { seat.new.share.amount ≡ seat.old.share.amount + 1 }
-{
-    match desk.next(seat) {
-        Next::Body(body) => body,
-        Next::Moved => panic!(rt; "moved"),
-        Next::Idle(_) => panic!(rt; "idle"),
+    told: &mut String,
+    done: &str,
+    desk: &Desk<H, P>,
+) {
+    match add_states(told, done, desk) {
+        Ok(()) => {}
+        Err(_) => panic!(rt; "no memory"),
     }
 }
 
-/// No body can be opened now, and that is why.
-fn is_idle<H: Host + Drop, P: Naming>(
-    rt: &impl Abort,
-    desk: &mut Desk<H, P>,
-    seat: &mut Seat<P>,
-    want: Idle,
-)
-    ensures parts { seat.new.share.parts ≡ seat.old.share.parts }
-    ensures units { seat.new.share.amount ≡ seat.old.share.amount }
-{
-    match desk.next(seat) {
-        Next::Body(_body) => panic!(rt; "a body"),
-        Next::Moved => panic!(rt; "moved"),
-        Next::Idle(idle) => assert_eq!(rt; idle, want),
-    }
-}
-
-/// A move opens no body.
-fn moves<H: Host + Drop, P: Naming>(rt: &impl Abort, desk: &mut Desk<H, P>, seat: &mut Seat<P>)
-    ensures parts { seat.new.share.parts ≡ seat.old.share.parts }
-    ensures units { seat.new.share.amount ≡ seat.old.share.amount }
-{
-    match desk.next(seat) {
-        Next::Body(_body) => panic!(rt; "a body"),
-        Next::Moved => {}
-        Next::Idle(_) => panic!(rt; "idle"),
+/// A word for why there is nothing to do now.
+fn idle_word(idle: Idle) -> &'static str {
+    match idle {
+        Idle::Nothing => "nothing",
+        Idle::Jobs => "jobs",
+        Idle::Class => "class",
+        Idle::Signal => "signal",
     }
 }
 
@@ -80,104 +73,85 @@ fn finish<H: Host + Drop, P: Naming>(
     }
 }
 
-/// Adds the states of the nodes, in a line.
-fn tell<H: Host + Drop, P: Naming>(rt: &impl Abort, told: &mut String, desk: &Desk<H, P>) {
-    for node in 0..desk.book.plan.nodes.len() {
-        let state = desk.book.state(node as u32);
-        if write!(told, "{state:?} ").is_err() {
-            panic!(rt; "no memory");
-        }
-    }
-    if told.push_str("\n").is_err() {
-        panic!(rt; "no memory");
-    }
-}
-
-/// One body is opened, and no second one while it is open.
-fn one<H: Host + Drop, P: Naming>(rt: &impl Abort, desk: &mut Desk<H, P>, seat: &mut Seat<P>)
-    ensures parts { seat.new.share.parts ≡ seat.old.share.parts }
-    ensures units { seat.new.share.amount ≡ seat.old.share.amount }
-{
-    let body = open_one(rt, desk, seat);
-    assert_eq!(rt; desk.book.open_bodies(), 1);
-    is_idle(rt, desk, seat, Idle::Jobs);
-    finish(rt, desk, seat, body);
-}
-
-/// Two bodies are opened, and no third one while both are open, for that reason; the second one ends first.
-fn two<H: Host + Drop, P: Naming>(
+/// Makes a move that opens no body, and tells what it comes to.
+fn make_last_move<H: Host + Drop, P: Naming>(
     rt: &impl Abort,
     desk: &mut Desk<H, P>,
     seat: &mut Seat<P>,
     told: &mut String,
-    want: Idle,
 )
     ensures parts { seat.new.share.parts ≡ seat.old.share.parts }
     ensures units { seat.new.share.amount ≡ seat.old.share.amount }
 {
-    let first = open_one(rt, desk, seat);
-    let second = open_one(rt, desk, seat);
-    assert_eq!(rt; desk.book.open_bodies(), 2);
-    tell(rt, told, desk);
-    is_idle(rt, desk, seat, want);
-    finish(rt, desk, seat, second);
-    tell(rt, told, desk);
-    finish(rt, desk, seat, first);
-    tell(rt, told, desk);
+    match desk.next(seat) {
+        Next::Body(_body) => panic!(rt; "a third body"),
+        Next::Moved => tell(rt, told, "moved", desk),
+        Next::Idle(idle) => tell(rt, told, idle_word(idle), desk),
+    }
 }
 
-/// While the first body is open, the second waits for it; then it is skipped, and the third, which is empty, ends.
-fn one_class<H: Host + Drop, P: Naming>(rt: &impl Abort, desk: &mut Desk<H, P>, seat: &mut Seat<P>)
-    ensures parts { seat.new.share.parts ≡ seat.old.share.parts }
-    ensures units { seat.new.share.amount ≡ seat.old.share.amount }
-{
-    let body = open_one(rt, desk, seat);
-    is_idle(rt, desk, seat, Idle::Class);
-    finish(rt, desk, seat, body);
-    moves(rt, desk, seat);
-    moves(rt, desk, seat);
-    is_idle(rt, desk, seat, Idle::Nothing);
-}
-
-/// What is done with a book.
-enum Course {
-    /// One body is opened and finished.
-    One,
-    /// Two bodies are opened and finished.
-    Two,
-    /// One body is opened and finished, and then two.
-    OneAndTwo,
-    /// One body is opened and finished, for which another one of its class waits.
-    Class,
-}
-
-/// Does that with a book.
-fn go<H: Host + Drop, P: Naming>(
+/// Makes a move, and tells what it comes to. Where it opens a body, one more move is made before that body is finished.
+fn make_second_move<H: Host + Drop, P: Naming>(
     rt: &impl Abort,
     desk: &mut Desk<H, P>,
     seat: &mut Seat<P>,
     told: &mut String,
-    course: Course,
 )
     ensures parts { seat.new.share.parts ≡ seat.old.share.parts }
     ensures units { seat.new.share.amount ≡ seat.old.share.amount }
 {
-    match course {
-        Course::One => one(rt, desk, seat),
-        Course::Two => two(rt, desk, seat, told, Idle::Jobs),
-        Course::OneAndTwo => {
-            tell(rt, told, desk);
-            let body = open_one(rt, desk, seat);
-            tell(rt, told, desk);
+    match desk.next(seat) {
+        Next::Body(body) => {
+            tell(rt, told, "opened", desk);
+            make_last_move(rt, desk, seat, told);
             finish(rt, desk, seat, body);
-            tell(rt, told, desk);
-            two(rt, desk, seat, told, Idle::Nothing);
+            tell(rt, told, "finished", desk);
         }
-        Course::Class => one_class(rt, desk, seat),
+        Next::Moved => tell(rt, told, "moved", desk),
+        Next::Idle(idle) => tell(rt, told, idle_word(idle), desk),
     }
 }
 
-/// Opens a book, does that with it, and closes it.
+/// Makes a move while no body is open, and tells what it comes to. Where it opens a body, one more move is made before that
+/// body is finished, and where that one opens a body too, a third one.
+fn make_first_move<H: Host + Drop, P: Naming>(
+    rt: &impl Abort,
+    desk: &mut Desk<H, P>,
+    seat: &mut Seat<P>,
+    told: &mut String,
+)
+    ensures parts { seat.new.share.parts ≡ seat.old.share.parts }
+    ensures units { seat.new.share.amount ≡ seat.old.share.amount }
+{
+    match desk.next(seat) {
+        Next::Body(body) => {
+            tell(rt, told, "opened", desk);
+            make_second_move(rt, desk, seat, told);
+            finish(rt, desk, seat, body);
+            tell(rt, told, "finished", desk);
+        }
+        Next::Moved => tell(rt, told, "moved", desk),
+        Next::Idle(idle) => tell(rt, told, idle_word(idle), desk),
+    }
+}
+
+/// Makes so many moves while no body is open, each with those that it leads to.
+fn make_moves<H: Host + Drop, P: Naming>(
+    rt: &impl Abort,
+    desk: &mut Desk<H, P>,
+    seat: &mut Seat<P>,
+    told: &mut String,
+    count: u32,
+)
+    ensures parts { seat.new.share.parts ≡ seat.old.share.parts }
+    ensures units { seat.new.share.amount ≡ seat.old.share.amount }
+{
+    'moves: for _ in 0..count {
+        make_first_move(rt, desk, seat, told);
+    }
+}
+
+/// Opens a book, makes so many moves while no body is open, and closes it.
 fn play<H: Host + Drop, P: Naming>(
     rt: &impl Abort,
     alloc: Global,
@@ -186,7 +160,7 @@ fn play<H: Host + Drop, P: Naming>(
     host: H,
     jobs: Option<NonZeroU64>,
     told: &mut String,
-    course: Course,
+    count: u32,
 ) -> Driven<H>
     requires plan { plan ≡ P.start.plan }
     requires ledger { (blank.name ≡ P.name) × (blank.parts ≡ P.parts) }
@@ -201,7 +175,8 @@ fn play<H: Host + Drop, P: Naming>(
     };
     let mut seat = seat;
     let mut desk = Desk::new(book);
-    go(rt, &mut desk, &mut seat, told, course);
+    tell(rt, told, "begun", &desk);
+    make_moves(rt, &mut desk, &mut seat, told, count);
     desk.audit(&mut seat);
     desk.into_book().close()
 }
@@ -214,105 +189,96 @@ fn played<H: Host + Drop>(
     host: H,
     jobs: u64,
     told: &mut String,
-    course: Course,
+    count: u32,
 ) -> Driven<H> {
     let jobs = NonZeroU64::new(jobs);
-    play::<H, Brand>(rt, alloc, plan, Blank::new(65), host, jobs, told, course)
+    play::<H, Brand>(rt, alloc, plan, Blank::new(65), host, jobs, told, count)
 }
 
-/// The end of a child that runs that line, by that code.
-fn ending(alloc: Global, word: &str, code: i32) -> Result<Ending, NoMemory> {
-    Ok(Ending {
-        word: Text::from_str(alloc, word)?,
-        status: Status::Code(code),
-        output: Seq::new(alloc),
-        effects: Vec::new(alloc),
-    })
+/// Adds a line: how many events there were, how the last children of the first two nodes ended, and how the run went.
+fn add_end<H: Host + Drop>(told: &mut String, driven: Driven<H>) -> Result<(), AllocError> {
+    let (_, _, history, verdict) = left(driven);
+    let count = history.len();
+    let first = last_status(history.as_slice(), 0);
+    let second = last_status(history.as_slice(), 1);
+    write!(told, "{count} {first:?} {second:?} {verdict:?}\n")
 }
 
-/// A host in memory over which the line `exit 3` ends with code 3, and `exit 4` with code 4.
-fn failing(alloc: Global) -> Result<MemHost, NoMemory> {
-    let mut plot = Plot::new(alloc);
-    plot.endings.push(ending(alloc, "-cu exit 3", 3)?)?;
-    plot.endings.push(ending(alloc, "-cu exit 4", 4)?)?;
-    memory(alloc, plot)
+/// So many moves over a book of that recipe and so many jobs come to that.
+fn plays<H: Host + Drop>(
+    rt: &impl Abort,
+    alloc: Global,
+    (text, name): (&str, &str),
+    host: H,
+    jobs: u64,
+    count: u32,
+    want: &str,
+) -> Result<(), NoMemory> {
+    let plan = plan_of(rt, alloc, text, name)?;
+    let mut told = String::new(alloc);
+    let driven = played(rt, alloc, plan, host, jobs, &mut told, count);
+    add_end(&mut told, driven)?;
+    tells(rt, told.as_str(), want);
+    Ok(())
 }
 
 /// Three priors, each of which runs one child.
 const THREE: &str = "all: a b c\na:\n\techo a\nb:\n\techo b\nc:\n\techo c\n";
 
+/// Two bodies are opened, and no third one while both are open; the second one ends first.
 #[test]
-fn two_jobs_bound_open_bodies(rt: HostRuntime) -> Result<(), Fail> {
+fn two_jobs_bound_open_bodies(rt: HostRuntime) -> Result<(), NoMemory> {
     let alloc = rt.alloc();
-    let plan = plan_of(alloc, THREE, "all")?;
-    let host = memory(alloc, Plot::new(alloc))?;
-    let mut told = String::new(alloc);
-    let driven = played(&rt, alloc, plan, host, 2, &mut told, Course::Two);
-    let (_, _, history, verdict) = left(driven);
-    assert_eq!(rt; history.len(), 12);
-    assert_eq!(rt; verdict, Verdict::Well);
-    Ok(())
+    let want =
+        "begun 0: Ready Ready Ready Waiting\nopened 1: Open Ready Ready Waiting\nopened 2: Open Open Ready Waiting\njobs 2: Open Open Ready Waiting\nfinished 1: Open Finished Ready Waiting\nfinished 0: Finished Finished Ready Waiting\n12 Some(Code(0)) Some(Code(0)) Well\n";
+    plays(&rt, alloc, (THREE, "all"), memory(alloc)?, 2, 1, want)
 }
 
+/// One body is opened, and no second one while it is open.
 #[test]
-fn one_job_bounds_open_bodies(rt: HostRuntime) -> Result<(), Fail> {
+fn one_job_bounds_open_bodies(rt: HostRuntime) -> Result<(), NoMemory> {
     let alloc = rt.alloc();
-    let plan = plan_of(alloc, THREE, "all")?;
-    let host = memory(alloc, Plot::new(alloc))?;
-    let mut told = String::new(alloc);
-    let driven = played(&rt, alloc, plan, host, 1, &mut told, Course::One);
-    let (_, _, history, _) = left(driven);
-    assert_eq!(rt; history.len(), 6);
-    Ok(())
+    let want =
+        "begun 0: Ready Ready Ready Waiting\nopened 1: Open Ready Ready Waiting\njobs 1: Open Ready Ready Waiting\nfinished 0: Finished Ready Ready Waiting\n6 Some(Code(0)) None Well\n";
+    plays(&rt, alloc, (THREE, "all"), memory(alloc)?, 1, 1, want)
 }
+
+/// Three priors, the first two of which fail.
+const TWO_FAIL: &str = "p: a b c\na:\n\texit 3\nb:\n\texit 4\nc:\n\techo c\n";
 
 /// Both of two priors fail, the second one first: the run fails by the first.
 #[test]
-fn row_least_failed_node(rt: HostRuntime) -> Result<(), Fail> {
+fn row_least_failed_node(rt: HostRuntime) -> Result<(), NoMemory> {
     let alloc = rt.alloc();
-    let text = "p: a b c\na:\n\texit 3\nb:\n\texit 4\nc:\n\techo c\n";
-    let plan = plan_of(alloc, text, "p")?;
-    let host = failing(alloc)?;
-    let mut told = String::new(alloc);
-    let driven = played(&rt, alloc, plan, host, 2, &mut told, Course::Two);
-    let (_, _, history, verdict) = left(driven);
-    let history = history.as_slice();
-    assert!(rt; last_status(history, 0) == Some(Status::Code(3)));
-    assert!(rt; last_status(history, 1) == Some(Status::Code(4)));
-    assert_eq!(rt; verdict, Verdict::Failed(0));
-    Ok(())
+    let want =
+        "begun 0: Ready Ready Ready Waiting\nopened 1: Open Ready Ready Waiting\nopened 2: Open Open Ready Waiting\njobs 2: Open Open Ready Waiting\nfinished 1: Open Failed Ready Waiting\nfinished 0: Failed Failed Ready Waiting\n12 Some(Code(3)) Some(Code(4)) Failed(0)\n";
+    plays(&rt, alloc, (TWO_FAIL, "p"), failing(alloc)?, 2, 1, want)
 }
 
 /// A diamond: the lowest node, the two above it, and the highest one.
 const DIAMOND: &str = "p: a b\n\techo p\na: c\n\texit 3\nb: c\n\techo b\nc:\n\techo c\n";
 
 /// The states of the diamond's nodes at each step, where one of the two in the middle fails.
-const STATES: &str =
-    "Ready Waiting Waiting Waiting \nOpen Waiting Waiting Waiting \nFinished Ready Ready Waiting \nFinished Open Open Waiting \nFinished Open Finished Waiting \nFinished Failed Finished Waiting \n";
-
 #[test]
-fn states_of_a_diamond(rt: HostRuntime) -> Result<(), Fail> {
+fn states_of_a_diamond(rt: HostRuntime) -> Result<(), NoMemory> {
     let alloc = rt.alloc();
-    let plan = plan_of(alloc, DIAMOND, "p")?;
-    let host = failing(alloc)?;
-    let mut told = String::new(alloc);
-    let driven = played(&rt, alloc, plan, host, 2, &mut told, Course::OneAndTwo);
-    let (_, _, _, verdict) = left(driven);
-    assert_eq!(rt; told.as_str(), STATES);
-    assert_eq!(rt; verdict, Verdict::Failed(1));
-    Ok(())
+    let want =
+        "begun 0: Ready Waiting Waiting Waiting\nopened 1: Open Waiting Waiting Waiting\nnothing 1: Open Waiting Waiting Waiting\nfinished 0: Finished Ready Ready Waiting\nopened 1: Finished Open Ready Waiting\nopened 2: Finished Open Open Waiting\nnothing 2: Finished Open Open Waiting\nfinished 1: Finished Open Finished Waiting\nfinished 0: Finished Failed Finished Waiting\n18 Some(Code(0)) Some(Code(3)) Failed(1)\n";
+    plays(&rt, alloc, (DIAMOND, "p"), failing(alloc)?, 2, 2, want)
 }
 
+/// The host of two bodies of one class: the file `in` is there.
+fn class_host(alloc: Global) -> Result<MemHost, HostFault> {
+    let host = touching(alloc, &[0])?;
+    with_input(host, "abc")
+}
+
+/// While the first body is open, the second waits for it; then it is skipped, and the third, which is empty, ends.
 #[test]
-fn second_of_a_class_waits(rt: HostRuntime) -> Result<(), Fail> {
+fn second_of_a_class_waits(rt: HostRuntime) -> Result<(), HostFault> {
     let alloc = rt.alloc();
-    let plan = plan_of(alloc, ONE_CLASS, "all")?;
-    let mut host = host(alloc, &[0])?;
-    host.write(Utf8Path::new("/in"), "abc".as_bytes())?;
-    let mut told = String::new(alloc);
-    let driven = played(&rt, alloc, plan, host, 2, &mut told, Course::Class);
-    let (_, _, history, verdict) = left(driven);
-    assert_eq!(rt; history.len(), 16);
-    assert_eq!(rt; verdict, Verdict::Well);
-    Ok(())
+    let host = class_host(alloc)?;
+    let want =
+        "begun 0: Ready Ready Waiting\nopened 1: Open Ready Waiting\nclass 1: Open Ready Waiting\nfinished 0: Finished Ready Waiting\nmoved 0: Finished Finished Ready\nmoved 0: Finished Finished Finished\nnothing 0: Finished Finished Finished\n16 Some(Code(0)) None Well\n";
+    Ok(plays(&rt, alloc, (ONE_CLASS, "all"), host, 2, 4, want)?)
 }

@@ -7,7 +7,7 @@ use just_sched::{Event, Outcome, PlanNode, Work};
 use std::alloc::Global;
 
 /// How far a node has come.
-#[derive(Clone, Copy, PartialEq, Eq)]
+#[derive(Clone, Copy, PartialEq)]
 enum Phase {
     Waiting,
     Taken,
@@ -141,6 +141,37 @@ fn are_given(phases: &[Phase]) -> bool {
     true
 }
 
+/// Whether an event may come under that limit of jobs, behind so many started children; its node's phase is that behind it
+/// then.
+fn sees(
+    nodes: &[PlanNode],
+    phases: &mut [Phase],
+    jobs: usize,
+    children: u32,
+    event: &Event,
+) -> bool {
+    match node_of(event) {
+        Some(node) => {
+            has_job(nodes, phases, jobs, event) && sees_of(nodes, phases, node, children, event)
+        }
+        None => false,
+    }
+}
+
+/// Whether each event may come in its turn under that limit of jobs; the phases are those behind them then.
+fn see_all(nodes: &[PlanNode], phases: &mut [Phase], jobs: usize, history: &[Event]) -> bool {
+    let mut children: u32 = 0;
+    for event in history {
+        if !sees(nodes, phases, jobs, children, event) {
+            return false;
+        }
+        if let Event::Started(_, _, _) = event {
+            children = children.saturating_add(1);
+        }
+    }
+    true
+}
+
 /// Whether each event may come in its turn under that limit of jobs, and each node's job was given back.
 /// No clause: it serves tests alone.
 pub fn is_legal(
@@ -150,19 +181,6 @@ pub fn is_legal(
     history: &[Event],
 ) -> Result<bool, NoMemory> {
     let mut phases = vec![in alloc; Phase::Waiting; nodes.len()]?;
-    let mut children: u32 = 0;
-    for event in history {
-        let Some(node) = node_of(event) else {
-            return Ok(false);
-        };
-        if !has_job(nodes, phases.as_slice(), jobs, event)
-            || !sees_of(nodes, phases.as_mut_slice(), node, children, event)
-        {
-            return Ok(false);
-        }
-        if let Event::Started(_, _, _) = event {
-            children = children.saturating_add(1);
-        }
-    }
-    Ok(are_given(phases.as_slice()))
+    let seen = see_all(nodes, phases.as_mut_slice(), jobs, history);
+    Ok(seen && are_given(phases.as_slice()))
 }

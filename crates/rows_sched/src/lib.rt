@@ -6,6 +6,8 @@ mod books;
 #[cfg(test)]
 mod histories;
 #[cfg(test)]
+mod hosts;
+#[cfg(test)]
 mod lattice;
 #[cfg(test)]
 mod plans;

@@ -1,17 +1,17 @@
-//! Plans whose priors run side by side, and hosts to run them over.
+//! Plans whose priors run side by side.
 
 ghost use Rattle.std.specs.Prelude.{◌≡◌, map, IfOk};
 ghost use Rattle.rows_sched.specs.Beside.{beside_of};
 
+use super::hosts::{no_environ, one_text};
 use just_cli_plan::{DotenvAsk, Wanted, plan_of_project, project_of_sources};
-use just_exec::Error;
 use just_exec_work::RunFlags;
-use just_host::{Host, MemHost, Plot, Tree};
 use just_lang_types::Source;
 use just_path::Utf8Path;
 use just_path_text::{Environ, NoMemory, Seq, Text};
-use just_sched::{Driven, Event, Plan, PlanNode, Verdict};
+use just_sched::{Plan, PlanNode};
 use std::alloc::Global;
+use std::process::Abort;
 
 /// The nodes, each with its priors side by side.
 fn nodes_beside(alloc: Global, nodes: Vec<PlanNode>) -> Result<Vec<PlanNode>, NoMemory>
@@ -78,84 +78,76 @@ fn no_dotenv(alloc: Global) -> DotenvAsk {
 
 /// That one recipe.
 fn wanted(alloc: Global, name: &str) -> Result<Wanted, NoMemory> {
-    let mut words = Vec::new(alloc);
-    words.push(Text::from_str(alloc, name)?)?;
+    let words = one_text(alloc, name)?;
+    let cache_folder = Utf8Path::new("/.justcache").to_path_buf(alloc)?;
+    let flags = plain_flags(alloc)?;
     Ok(Wanted {
-        words: Seq::from(words),
+        words,
         overrides: Seq::new(alloc),
         one: false,
         no_deps: false,
         dotenv: no_dotenv(alloc),
         unstable: false,
         jobs: None,
-        cache_folder: Utf8Path::new("/.justcache").to_path_buf(alloc)?,
-        flags: plain_flags(alloc)?,
+        cache_folder,
+        flags,
     })
 }
 
-/// Why there is no plan of a recipe.
-#[derive(Clone, Copy, Debug, PartialEq, Eq)]
-pub enum NotPlanned {
-    /// The text or the name is refused.
-    Refused,
-    NoMemory,
+/// The justfile of that text, in the root folder.
+fn source(alloc: Global, text: &str) -> Result<Source, NoMemory> {
+    Ok(Source {
+        path: Utf8Path::new("/justfile").to_path_buf(alloc)?,
+        root: Utf8Path::new("/").to_path_buf(alloc)?,
+        text: Text::from_str(alloc, text)?,
+    })
+}
+
+/// What a plan is made of.
+struct Request {
+    sources: [Source; 1],
+    environ: Environ,
+    wanted: Wanted,
+}
+
+impl Drop for Request {
+    fn drop(self) {
+        let Request {
+            sources: _,
+            environ: _,
+            wanted: _,
+        } = self;
+    }
+}
+
+/// What a plan of that recipe of that justfile is made of.
+fn request_of(alloc: Global, text: &str, name: &str) -> Result<Request, NoMemory> {
+    let source = source(alloc, text)?;
+    let wanted = wanted(alloc, name)?;
+    Ok(Request {
+        sources: [source],
+        environ: no_environ(alloc),
+        wanted,
+    })
+}
+
+/// The plan that is asked for, which isn't refused.
+fn planned(rt: &impl Abort, alloc: Global, request: &Request) -> Plan {
+    let environ = &request.environ;
+    let wanted = &request.wanted;
+    let justfile = match project_of_sources(alloc, &request.sources, environ, wanted) {
+        Ok(justfile) => justfile,
+        Err(_) => panic!(rt; "no project"),
+    };
+    match plan_of_project(alloc, &justfile, &[], environ, wanted) {
+        Ok((plan, _)) => plan,
+        Err(_) => panic!(rt; "no plan"),
+    }
 }
 
 /// The plan of a recipe of that justfile, with each node's priors side by side.
 /// No clause: it serves tests alone.
-pub fn plan_of(alloc: Global, text: &str, name: &str) -> Result<Plan, NotPlanned> {
-    match planned(alloc, text, name) {
-        Ok(plan) => Ok(plan),
-        Err(error) => {
-            let reason = reason_of(&error);
-            drop(error);
-            Err(reason)
-        }
-    }
-}
-
-/// Why that error leaves no plan.
-fn reason_of(error: &Error) -> NotPlanned {
-    match error {
-        Error::NoMemory => NotPlanned::NoMemory,
-        _ => NotPlanned::Refused,
-    }
-}
-
-/// The same, with why it is refused.
-fn planned(alloc: Global, text: &str, name: &str) -> Result<Plan, Error> {
-    let sources = [Source {
-        path: Utf8Path::new("/justfile").to_path_buf(alloc)?,
-        root: Utf8Path::new("/").to_path_buf(alloc)?,
-        text: Text::from_str(alloc, text)?,
-    }];
-    let environ = Environ {
-        pairs: Seq::new(alloc),
-    };
-    let wanted = wanted(alloc, name)?;
-    let justfile = project_of_sources(alloc, &sources, &environ, &wanted)?;
-    let (plan, _) = plan_of_project(alloc, &justfile, &[], &environ, &wanted)?;
-    Ok(beside(alloc, plan)?)
-}
-
-/// A host with no files, over which that happens.
-/// No clause: it serves tests alone.
-pub fn memory(alloc: Global, plot: Plot) -> Result<MemHost, NoMemory> {
-    let environ = Environ {
-        pairs: Seq::new(alloc),
-    };
-    let current = Utf8Path::new("/").to_path_buf(alloc)?;
-    MemHost::new(alloc, Tree::new(alloc), current, environ, plot)
-}
-
-/// What a run left, taken apart.
-/// No clause: it serves tests alone.
-pub fn left<H: Host>(driven: Driven<H>) -> (H, Plan, Seq<Event>, Verdict) {
-    let Driven {
-        host,
-        plan,
-        history,
-        verdict,
-    } = driven;
-    (host, plan, history, verdict)
+pub fn plan_of(rt: &impl Abort, alloc: Global, text: &str, name: &str) -> Result<Plan, NoMemory> {
+    let request = request_of(alloc, text, name)?;
+    beside(alloc, planned(rt, alloc, &request))
 }

@@ -1,15 +1,16 @@
 //! Runs over a host in memory, one after the other: what their histories tell of caches and of prompts.
 
-use super::plans::{left, plan_of};
-use just_host::{Ending, Host, Look, MemHost, Plot, Status, Thing, Tree};
-use just_path::{Utf8Path, Utf8PathBuf};
-use just_path_text::{Environ, NoMemory, Seq, Text};
-use just_sched::{Event, Outcome, Reason, Verdict, drive};
-use std::alloc::Global;
+use super::hosts::{answering, touching};
+use super::plans::plan_of;
+use super::workers::{run_of, tells};
+use just_host::{Host, HostFault, Look};
+use just_path::Utf8Path;
+use just_path_text::NoMemory;
+use just_sched::{Event, Outcome, Reason, Verdict};
+use std::alloc::{AllocError, Global};
 use std::num::NonZeroU64;
 use std::process::Abort;
 use std::sync::Wait;
-use std::test::Fail;
 use std::thread::Threads;
 
 /// A body that makes the file `out`.
@@ -27,201 +28,228 @@ const TWO_ROUNDS: &str =
 pub(crate) const ONE_CLASS: &str =
     "set unstable\n\n[script]\n[cache(inputs='in', outputs='out')]\nm f:\n\ttouch out\n\nall: (m 'a') (m 'b')\n";
 
-/// A child of these bodies, which ends with that code; the file `out` is there behind it.
-fn touch(alloc: Global, code: i32) -> Result<Ending, NoMemory> {
-    let mut effects = Vec::new(alloc);
-    let made = Thing::File {
-        bytes: Seq::new(alloc),
-        executable: false,
-    };
-    effects.push((Text::from_str(alloc, "/out")?, Some(made)))?;
-    Ok(Ending {
-        word: Text::from_str(alloc, "\n\n\n\n\ntouch out\n")?,
-        status: Status::Code(code),
-        output: Seq::new(alloc),
-        effects,
-    })
-}
-
-/// A host in memory over which that happens; nothing stands there but the folder `/`.
-fn host_of(alloc: Global, plot: Plot) -> Result<MemHost, NoMemory> {
-    let mut tree = Tree::new(alloc);
-    tree.insert(alloc, "/", Thing::Folder)?;
-    let environ = Environ {
-        pairs: Seq::new(alloc),
-    };
-    MemHost::new(
-        alloc,
-        tree,
-        Utf8PathBuf::from_str(alloc, "/")?,
-        environ,
-        plot,
-    )
-}
-
-/// A host in memory over which the bodies that make `out` end with these codes, in their order.
-pub(crate) fn host(alloc: Global, codes: &[i32]) -> Result<MemHost, NoMemory> {
-    let mut plot = Plot::new(alloc);
-    for code in codes {
-        plot.endings.push(touch(alloc, *code)?)?;
-    }
-    host_of(alloc, plot)
-}
-
-/// A host in memory over which a prompt is answered by that line.
-fn host_that_answers(alloc: Global, answer: &str) -> Result<MemHost, NoMemory> {
-    let mut plot = Plot::new(alloc);
-    let mut answers = Vec::new(alloc);
-    answers.push(Text::from_str(alloc, answer)?)?;
-    plot.answers = Seq::from(answers);
-    host_of(alloc, plot)
-}
+/// A body that asks before it runs.
+const CONFIRM: &str = "[confirm]\nc:\n\techo c\n";
 
 /// A letter for why a body failed.
-fn failure_letter(reason: Reason) -> &'static str {
+fn failure_letter(reason: Reason) -> char {
     match reason {
-        Reason::Status => "!",
-        Reason::NotConfirmed => "?",
-        Reason::Input(_, _) => "i",
-        Reason::Output(_) => "u",
-        _ => "-",
+        Reason::Status => '!',
+        Reason::NotConfirmed => '?',
+        Reason::Input(_, _) => 'i',
+        Reason::Output(_) => 'u',
+        _ => '-',
+    }
+}
+
+/// A letter for how a body came to its end.
+fn outcome_letter(outcome: Outcome) -> char {
+    match outcome {
+        Outcome::Well => 'd',
+        Outcome::Failed(reason) => failure_letter(reason),
+    }
+}
+
+/// A letter for what a look at the cache showed.
+fn look_letter(look: Look) -> char {
+    match look {
+        Look::Empty => 'e',
+        Look::OutputMissing(_) => 'o',
+        Look::Full => 'f',
     }
 }
 
 /// A letter for an event.
-fn letter(event: &Event) -> &'static str {
+fn letter(event: &Event) -> char {
     match event {
-        Event::Asked(_, true) => "y",
-        Event::Asked(_, false) => "n",
-        Event::Took(_) => "t",
-        Event::Looked(_, _, Look::Empty) => "e",
-        Event::Looked(_, _, Look::OutputMissing(_)) => "o",
-        Event::Looked(_, _, Look::Full) => "f",
-        Event::Skipped(_) => "s",
-        Event::Begun(_) => "b",
-        Event::Started(_, _, _) => "c",
-        Event::Ended(_, _, _, _) => "x",
-        Event::Saved(_) => "w",
-        Event::Done(_, Outcome::Well) => "d",
-        Event::Done(_, Outcome::Failed(reason)) => failure_letter(*reason),
-        Event::Gave(_) => "g",
-        Event::Caught(_) => "k",
+        Event::Asked(_, yes) => { if *yes { 'y' } else { 'n' } }
+        Event::Took(_) => 't',
+        Event::Looked(_, _, look) => look_letter(*look),
+        Event::Skipped(_) => 's',
+        Event::Begun(_) => 'b',
+        Event::Started(_, _, _) => 'c',
+        Event::Ended(_, _, _, _) => 'x',
+        Event::Saved(_) => 'w',
+        Event::Done(_, outcome) => outcome_letter(*outcome),
+        Event::Gave(_) => 'g',
+        Event::Caught(_) => 'k',
     }
 }
 
-/// The letters of a history.
-fn letters(alloc: Global, history: &[Event]) -> Result<String, NoMemory> {
-    let mut letters = String::new(alloc);
+/// Tells the letters of a history, and how the run went, in a line.
+fn tell(told: &mut String, history: &[Event], verdict: Verdict) -> Result<(), AllocError> {
     for event in history {
-        letters.push_str(letter(event))?;
+        told.push(letter(event))?;
     }
-    Ok(letters)
+    write!(told, " {verdict:?}\n")
 }
 
-/// The run of a recipe over a host has that history and that end.
-fn runs<R: Threads + Wait + Sync + Abort>(
+/// Runs a recipe over a host, and tells of that.
+fn run<R: Threads + Wait + Sync + Abort, H: Host + Send + Drop>(
     rt: &R,
     alloc: Global,
-    host: MemHost,
+    host: H,
     text: &str,
     name: &str,
-    want: &str,
-    end: Verdict,
-) -> Result<MemHost, Fail> {
-    let plan = plan_of(alloc, text, name)?;
-    let (host, _, history, verdict) = match drive(rt, alloc, plan, host, NonZeroU64::new(2)) {
-        Ok(driven) => left(driven),
-        Err(_) => panic!(rt; "no memory"),
-    };
-    let told = letters(alloc, history.as_slice())?;
-    assert_eq!(rt; told.as_str(), want);
-    assert_eq!(rt; verdict, end);
+    told: &mut String,
+) -> Result<H, NoMemory> {
+    let plan = plan_of(rt, alloc, text, name)?;
+    let (host, _, history, verdict) = run_of(rt, alloc, plan, host, NonZeroU64::new(2));
+    tell(told, history.as_slice(), verdict)?;
     Ok(host)
+}
+
+/// What happens to a host.
+#[derive(Clone, Copy)]
+enum Act {
+    /// That recipe of that justfile is run.
+    Run(&'static str, &'static str),
+    /// That text is written to that file.
+    Write(&'static str, &'static str),
+    /// That file is removed.
+    Remove(&'static str),
+    /// The entry is looked at.
+    Probe,
+    /// The entry becomes that text.
+    Save(&'static str),
+}
+
+/// Does that to a host, but for a run.
+fn change<H: Host>(host: &mut H, act: Act) -> Result<(), HostFault> {
+    match act {
+        Act::Run(_, _) => Ok(()),
+        Act::Write(path, text) => host.write(Utf8Path::new(path), text.as_bytes()),
+        Act::Remove(path) => host.remove(Utf8Path::new(path)),
+        Act::Probe => match host.probe(Utf8Path::new(ENTRY), &[]) {
+            Ok(_) => Ok(()),
+            Err(fault) => Err(fault),
+        },
+        Act::Save(text) => host.save(Utf8Path::new(ENTRY), text.as_bytes()),
+    }
+}
+
+/// Does that to a host; what a run comes to is told.
+fn act_on<R: Threads + Wait + Sync + Abort, H: Host + Send + Drop>(
+    rt: &R,
+    alloc: Global,
+    host: H,
+    act: Act,
+    told: &mut String,
+) -> Result<H, HostFault> {
+    let mut host = host;
+    change(&mut host, act)?;
+    if let Act::Run(text, name) = act {
+        host = run(rt, alloc, host, text, name, told)?;
+    }
+    Ok(host)
+}
+
+/// These acts on a host, one after the other, come to that.
+fn come_to<R: Threads + Wait + Sync + Abort, H: Host + Send + Drop>(
+    rt: &R,
+    alloc: Global,
+    host: H,
+    acts: &[Act],
+    want: &str,
+) -> Result<(), HostFault> {
+    let mut told = String::new(alloc);
+    let mut host = host;
+    for act in acts {
+        host = act_on(rt, alloc, host, *act, &mut told)?;
+    }
+    tells(rt, told.as_str(), want);
+    Ok(())
+}
+
+/// Over a host, on which the bodies that make `out` end with these codes, these acts come to that.
+fn touches<R: Threads + Wait + Sync + Abort>(
+    rt: &R,
+    alloc: Global,
+    codes: &[i32],
+    acts: &[Act],
+    want: &str,
+) -> Result<(), HostFault> {
+    let host = touching(alloc, codes)?;
+    come_to(rt, alloc, host, acts, want)
 }
 
 /// A body is saved and skipped behind that; without its output it runs again, and where it fails then its entry stays.
 #[test]
-fn row_cached_script(rt: HostRuntime) -> Result<(), Fail> {
-    let alloc = rt.alloc();
-    let host = host(alloc, &[0, 1])?;
-    let host = runs(&rt, alloc, host, CACHED, "m", "tebcxwdg", Verdict::Well)?;
-    let mut host = runs(&rt, alloc, host, CACHED, "m", "tfsg", Verdict::Well)?;
-    host.remove(Utf8Path::new("/out"))?;
-    let host = runs(&rt, alloc, host, CACHED, "m", "tobcx!g", Verdict::Failed(0))?;
-    let _ = runs(&rt, alloc, host, CACHED, "m", "tfsg", Verdict::Well)?;
-    Ok(())
+fn row_cached_script(rt: HostRuntime) -> Result<(), HostFault> {
+    let acts = [
+        Act::Run(CACHED, "m"),
+        Act::Run(CACHED, "m"),
+        Act::Remove("/out"),
+        Act::Run(CACHED, "m"),
+        Act::Run(CACHED, "m"),
+    ];
+    let want = "tebcxwdg Well\ntfsg Well\ntobcx!g Failed(0)\ntfsg Well\n";
+    touches(&rt, rt.alloc(), &[0, 1], &acts, want)
 }
 
+/// A body is saved in its first round, and skipped in its second one.
 #[test]
-fn row_cached_in_two_rounds(rt: HostRuntime) -> Result<(), Fail> {
-    let alloc = rt.alloc();
-    let host = host(alloc, &[0])?;
-    let want = "tebcxwdgtbcxdgtfsg";
-    let _ = runs(&rt, alloc, host, TWO_ROUNDS, "x", want, Verdict::Well)?;
-    Ok(())
+fn row_cached_in_two_rounds(rt: HostRuntime) -> Result<(), HostFault> {
+    let acts = [Act::Run(TWO_ROUNDS, "x")];
+    touches(&rt, rt.alloc(), &[0], &acts, "tebcxwdgtbcxdgtfsg Well\n")
 }
 
 /// An entry of any bytes counts, and an empty one doesn't.
 #[test]
-fn entry_of_any_bytes(rt: HostRuntime) -> Result<(), Fail> {
-    let alloc = rt.alloc();
-    let mut host = host(alloc, &[])?;
-    host.write(Utf8Path::new("/out"), "".as_bytes())?;
-    host.probe(Utf8Path::new(ENTRY), &[])?;
-    host.save(Utf8Path::new(ENTRY), "{".as_bytes())?;
-    let mut host = runs(&rt, alloc, host, CACHED, "m", "tfsg", Verdict::Well)?;
-    host.save(Utf8Path::new(ENTRY), "".as_bytes())?;
-    let _ = runs(&rt, alloc, host, CACHED, "m", "tebcxwdg", Verdict::Well)?;
-    Ok(())
+fn entry_of_any_bytes(rt: HostRuntime) -> Result<(), HostFault> {
+    let acts = [
+        Act::Write("/out", ""),
+        Act::Probe,
+        Act::Save("{"),
+        Act::Run(CACHED, "m"),
+        Act::Save(""),
+        Act::Run(CACHED, "m"),
+    ];
+    touches(&rt, rt.alloc(), &[], &acts, "tfsg Well\ntebcxwdg Well\n")
 }
 
 /// Of two bodies of one class the second waits for the first, and is skipped; another input is another key.
 #[test]
-fn second_of_a_class_is_skipped(rt: HostRuntime) -> Result<(), Fail> {
-    let alloc = rt.alloc();
-    let mut host = host(alloc, &[0])?;
-    let want = "tebcxwdgtfsgtbdg";
-    host.write(Utf8Path::new("/in"), "abc".as_bytes())?;
-    let mut host = runs(&rt, alloc, host, ONE_CLASS, "all", want, Verdict::Well)?;
-    host.write(Utf8Path::new("/in"), "abd".as_bytes())?;
-    let _ = runs(&rt, alloc, host, ONE_CLASS, "all", want, Verdict::Well)?;
-    Ok(())
+fn second_of_a_class_is_skipped(rt: HostRuntime) -> Result<(), HostFault> {
+    let acts = [
+        Act::Write("/in", "abc"),
+        Act::Run(ONE_CLASS, "all"),
+        Act::Write("/in", "abd"),
+        Act::Run(ONE_CLASS, "all"),
+    ];
+    let want = "tebcxwdgtfsgtbdg Well\ntebcxwdgtfsgtbdg Well\n";
+    touches(&rt, rt.alloc(), &[0], &acts, want)
 }
 
 /// Without its input a body fails before it begins.
 #[test]
-fn input_that_is_gone(rt: HostRuntime) -> Result<(), Fail> {
-    let alloc = rt.alloc();
-    let host = host(alloc, &[])?;
-    let _ = runs(
-        &rt,
-        alloc,
-        host,
-        ONE_CLASS,
-        "all",
-        "tigtig",
-        Verdict::Failed(0),
-    )?;
-    Ok(())
+fn input_that_is_gone(rt: HostRuntime) -> Result<(), HostFault> {
+    let acts = [Act::Run(ONE_CLASS, "all")];
+    touches(&rt, rt.alloc(), &[], &acts, "tigtig Failed(0)\n")
 }
 
 /// A body that ends well without its output fails by that, and isn't saved.
 #[test]
-fn output_that_is_not_made(rt: HostRuntime) -> Result<(), Fail> {
-    let alloc = rt.alloc();
-    let host = host(alloc, &[])?;
-    let host = runs(&rt, alloc, host, CACHED, "m", "tebcxug", Verdict::Failed(0))?;
-    let _ = runs(&rt, alloc, host, CACHED, "m", "tebcxug", Verdict::Failed(0))?;
-    Ok(())
+fn output_that_is_not_made(rt: HostRuntime) -> Result<(), HostFault> {
+    let acts = [Act::Run(CACHED, "m"), Act::Run(CACHED, "m")];
+    let want = "tebcxug Failed(0)\ntebcxug Failed(0)\n";
+    touches(&rt, rt.alloc(), &[], &acts, want)
 }
 
+/// A run whose prompt is answered by that line comes to that.
+fn answers<R: Threads + Wait + Sync + Abort>(
+    rt: &R,
+    alloc: Global,
+    answer: &str,
+    want: &str,
+) -> Result<(), HostFault> {
+    let host = answering(alloc, answer)?;
+    come_to(rt, alloc, host, &[Act::Run(CONFIRM, "c")], want)
+}
+
+/// A no to a prompt fails the run, and a yes lets the body run.
 #[test]
-fn row_confirm(rt: HostRuntime) -> Result<(), Fail> {
-    let alloc = rt.alloc();
-    let text = "[confirm]\nc:\n\techo c\n";
-    let host = host_that_answers(alloc, "No")?;
-    let _ = runs(&rt, alloc, host, text, "c", "n?", Verdict::Failed(0))?;
-    let host = host_that_answers(alloc, " YES ")?;
-    let _ = runs(&rt, alloc, host, text, "c", "ytbcxdg", Verdict::Well)?;
-    Ok(())
+fn row_confirm(rt: HostRuntime) -> Result<(), HostFault> {
+    answers(&rt, rt.alloc(), "No", "n? Failed(0)\n")?;
+    answers(&rt, rt.alloc(), " YES ", "ytbcxdg Well\n")
 }

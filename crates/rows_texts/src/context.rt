@@ -1,6 +1,5 @@
 //! The environment of the rows, and the contexts over it.
 
-use just_path_text::{Environ, NoMemory, Seq, Text};
 use std::alloc::Global;
 
 /// The home folder of the rows.
@@ -9,21 +8,12 @@ const HOME: &str = "/h";
 /// The names that have a value. Beside them `ERR` is refused.
 const KNOWN: [(&str, &str); 4] = [("A", "x"), ("B", ""), ("HOMEY", "~"), ("LONG_1", "v/w")];
 
+/// The environment with these names and the home folder, as a row's field.
+pub(crate) const ENVIRONMENT: &str = "HOME=/h|A=x|B=|HOMEY=~|LONG_1=v/w";
+
 /// The answer of a context that refuses a name.
 #[derive(Clone, Copy, Debug, PartialEq, Eq)]
 pub(crate) struct Refused;
-
-/// The environment with the names that have a value and the home folder. It promises nothing beyond safety.
-pub(crate) fn environment(alloc: Global) -> Result<Environ, NoMemory> {
-    let mut pairs = Vec::new(alloc);
-    pairs.push((Text::from_str(alloc, "HOME")?, Text::from_str(alloc, HOME)?))?;
-    for (name, value) in KNOWN {
-        pairs.push((Text::from_str(alloc, name)?, Text::from_str(alloc, value)?))?;
-    }
-    Ok(Environ {
-        pairs: Seq::from(pairs),
-    })
-}
 
 /// The home folder; none where memory is wanting, which no row calls for. It promises nothing beyond safety.
 pub(crate) fn home(alloc: Global) -> Option<String> {

@@ -3,58 +3,53 @@
 //! A row is a text, the line of its refusal and its pairs. Pairs are `NAME=VALUE` with `|` between. `-` stands where
 //! there is no line or no pair.
 
+use crate::row::Row;
 use just_dotenv::{DotenvError, read};
-use just_path_text::{Environ, NoMemory, Seq, Text};
-use rows_common::{Wrong, at, text, unescaped_text};
+use just_path_text::{Environ, Text};
+use rows_common::{Wrong, text, unescaped_text};
 use std::alloc::Global;
 
-/// The environment in which the rows are read. It promises nothing beyond safety.
-pub(crate) fn environment(alloc: Global) -> Result<Environ, NoMemory> {
-    let variables = [
-        ("E", "ev"),
-        ("M", ""),
-        ("P_1", "/bin:/x y"),
-        ("Q", "it's $E"),
-    ];
-    let mut pairs = Vec::new(alloc);
-    for (name, value) in variables {
-        pairs.push((Text::from_str(alloc, name)?, Text::from_str(alloc, value)?))?;
-    }
-    Ok(Environ {
-        pairs: Seq::from(pairs),
-    })
-}
+/// The environment in which the rows are read, as a row's field.
+pub(crate) const ENVIRONMENT: &str = "E=ev|M=|P_1=/bin:/x y|Q=it's $E";
 
 /// Whether a row says what is read of its text over that environment. It promises nothing beyond safety.
 pub(crate) fn agrees(alloc: Global, environ: &Environ, fields: &[&str]) -> Result<bool, Wrong> {
     let text = text(alloc, fields, 0)?;
-    let (line, pairs) = (at(fields, 1)?, at(fields, 2)?);
+    let mut row = Row::new(alloc, fields);
     match read(alloc, text.as_str(), environ) {
-        Ok(found) => Ok(line == "-" && are(alloc, found.as_slice(), pairs)?),
-        Err(DotenvError::Line(number)) => {
-            let number = format!(in alloc; "{number}")?;
-            Ok(line == number.as_str() && pairs == "-")
+        Ok(found) => {
+            row.says(1, None);
+            compare_pairs(&mut row, found.as_slice());
         }
-        Err(DotenvError::NoMemory) => Err(Wrong::NoMemory),
+        Err(DotenvError::Line(number)) => {
+            row.is_written(1, format!(in alloc; "{number}"));
+            row.says(2, None);
+        }
+        Err(DotenvError::NoMemory) => row.lacks_memory(),
     }
+    row.agrees()
 }
 
-/// Whether these are the pairs of the row's field.
-fn are(alloc: Global, found: &[(Text, Text)], field: &str) -> Result<bool, Wrong> {
-    if field == "-" {
-        return Ok(found.is_empty());
-    }
+/// Compares the pairs of a row with these.
+fn compare_pairs(row: &mut Row<'_>, found: &[(Text, Text)]) {
+    let alloc = row.alloc;
     let mut found = found.iter();
-    for item in field.split('|') {
-        let wanted = unescaped_text(alloc, item)?;
-        let Some(pair) = found.next() else {
-            return Ok(false);
-        };
-        let (name, value) = (pair.0.as_str(), pair.1.as_str());
-        let shown = format!(in alloc; "{name}={value}")?;
-        if shown.as_str() != wanted.as_str() {
-            return Ok(false);
+    let list = row.field(2);
+    if list != "-" {
+        for item in list.split('|') {
+            row.note(is_pair(alloc, item, found.next()));
         }
     }
-    Ok(found.next().is_none())
+    row.holds(found.next().is_none());
+}
+
+/// Whether an item of a row is that pair.
+fn is_pair(alloc: Global, item: &str, pair: Option<&(Text, Text)>) -> Result<bool, Wrong> {
+    let Some(pair) = pair else {
+        return Ok(false);
+    };
+    let (name, value) = (pair.0.as_str(), pair.1.as_str());
+    let shown = format!(in alloc; "{name}={value}")?;
+    let wanted = unescaped_text(alloc, item)?;
+    Ok(shown.as_str() == wanted.as_str())
 }

@@ -8,15 +8,15 @@ mod context;
 mod dotenv_rows;
 mod expansion_rows;
 mod json;
-mod over_paths;
-mod over_texts;
 mod pairs;
 mod paths;
+mod row;
 mod shown;
 mod word_rows;
+mod words_shown;
 
-use just_path_text::{Environ, NoMemory};
-use rows_common::{Compare, Wrong, compare_files};
+use just_path_text::Environ;
+use rows_common::{Compare, Wrong, compare_files, environment};
 use std::alloc::Global;
 use std::io;
 use std::process::ExitCode;
@@ -49,11 +49,10 @@ impl Compare for TextRows {
 }
 
 /// The rows, with their environments.
-fn rows(alloc: Global) -> Result<TextRows, NoMemory> {
-    Ok(TextRows {
-        expansions: context::environment(alloc)?,
-        dotenv: dotenv_rows::environment(alloc)?,
-    })
+fn rows(alloc: Global) -> Result<TextRows, Wrong> {
+    let expansions = environment(alloc, context::ENVIRONMENT)?;
+    let dotenv = environment(alloc, dotenv_rows::ENVIRONMENT)?;
+    Ok(TextRows { expansions, dotenv })
 }
 
 fn main(rt: HostRuntime) -> io::Result<ExitCode> {

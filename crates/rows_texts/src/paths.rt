@@ -1,41 +1,49 @@
 //! Rows of one path.
 
+use crate::row::Row;
 use just_path::{Utf8Component, Utf8Path};
-use rows_common::{Wrong, at, is_flag, says, text, unescaped};
+use rows_common::{Wrong, text, unescaped};
 use std::alloc::Global;
 
 /// Whether the row of a path says what the crate answers. It promises nothing beyond safety.
 pub(crate) fn agrees(alloc: Global, fields: &[&str]) -> Result<bool, Wrong> {
     let text = text(alloc, fields, 0)?;
     let path = Utf8Path::new(text.as_str());
-    Ok(
-        components_agree(alloc, path, at(fields, 1)?)?
-            && is_flag(fields, 2, path.is_absolute())?
-            && parts_agree(alloc, path, fields)?,
-    )
+    let mut row = Row::new(alloc, fields);
+    compare_components(&mut row, path);
+    row.is_flag(2, path.is_absolute());
+    compare_parent(&mut row, path);
+    compare_parts(&mut row, path);
+    row.agrees()
 }
 
-/// Whether its parent, its names and its clean form do.
-fn parts_agree(alloc: Global, path: Utf8Path<'_>, fields: &[&str]) -> Result<bool, Wrong> {
+/// Compares its parent, which is also what is left of it behind `pop`.
+fn compare_parent(row: &mut Row<'_>, path: Utf8Path<'_>) {
     let parent = match path.parent() {
         Some(parent) => Some(parent.as_os_str()),
         None => None,
     };
-    let clean = path.clean(alloc)?;
-    let mut cut = path.to_path_buf(alloc)?;
-    let has_parent = cut.pop();
-    Ok(
-        says(alloc, fields, 3, parent)?
-            && has_parent == parent.is_some()
-            && parent.unwrap_or(path.as_os_str()) == cut.as_str().as_bytes()
-            && says(alloc, fields, 4, as_bytes(path.file_name()))?
-            && says(alloc, fields, 5, as_bytes(path.file_stem()))?
-            && says(alloc, fields, 6, as_bytes(path.file_prefix()))?
-            && says(alloc, fields, 7, as_bytes(path.extension()))?
-            && says(alloc, fields, 8, Some(clean.as_str().as_bytes()))?,
-    )
+    row.says(3, parent);
+    match path.to_path_buf(row.alloc) {
+        Ok(mut cut) => {
+            row.holds(cut.pop() == parent.is_some());
+            row.holds(parent.unwrap_or(path.as_os_str()) == cut.as_str().as_bytes());
+        }
+        Err(_) => row.lacks_memory(),
+    }
 }
 
+/// Compares its names and its clean form.
+fn compare_parts(row: &mut Row<'_>, path: Utf8Path<'_>) {
+    let clean = path.clean(row.alloc);
+    row.says(4, as_bytes(path.file_name()));
+    row.says(5, as_bytes(path.file_stem()));
+    row.says(6, as_bytes(path.file_prefix()));
+    row.says(7, as_bytes(path.extension()));
+    row.is_path(8, clean);
+}
+
+/// The bytes of a text, where there is one.
 fn as_bytes(text: Option<&str>) -> Option<&[u8]> {
     match text {
         Some(text) => Some(text.as_bytes()),
@@ -43,37 +51,42 @@ fn as_bytes(text: Option<&str>) -> Option<&[u8]> {
     }
 }
 
-/// Whether its components do: a list of a kind's letter and a text each, or `-`.
-fn components_agree(alloc: Global, path: Utf8Path<'_>, list: &str) -> Result<bool, Wrong> {
+/// Compares its components: a list of a kind's letter and a text each, or `-`.
+fn compare_components(row: &mut Row<'_>, path: Utf8Path<'_>) {
+    let alloc = row.alloc;
     let mut left = path.components();
-    if list == "-" {
-        return Ok(left.next().is_none());
-    }
-    for item in list.split('|') {
-        let wanted = unescaped(alloc, item)?;
-        match left.next() {
-            None => return Ok(false),
-            Some(component) => {
-                if !is_component(wanted.as_slice(), component) {
-                    return Ok(false);
-                }
-            }
+    let list = row.field(1);
+    if list != "-" {
+        for item in list.split('|') {
+            row.note(is_component(alloc, item, left.next()));
         }
     }
-    Ok(left.next().is_none())
+    row.holds(left.next().is_none());
 }
 
-/// Whether the bytes are the letter of the component's kind and its text.
-fn is_component(wanted: &[u8], component: Utf8Component<'_>) -> bool {
-    let letter = match component {
+/// Whether an item is the letter of the component's kind and its text.
+fn is_component(
+    alloc: Global,
+    item: &str,
+    component: Option<Utf8Component<'_>>,
+) -> Result<bool, Wrong> {
+    let Some(component) = component else {
+        return Ok(false);
+    };
+    let wanted = unescaped(alloc, item)?;
+    match wanted.as_slice().split_first() {
+        Some((first, text)) => Ok(*first == letter(component) && text == component.as_os_str()),
+        None => Ok(false),
+    }
+}
+
+/// The letter of a component's kind.
+fn letter(component: Utf8Component<'_>) -> u8 {
+    match component {
         Utf8Component::Prefix(_) => b'X',
         Utf8Component::RootDir => b'R',
         Utf8Component::CurDir => b'C',
         Utf8Component::ParentDir => b'P',
         Utf8Component::Normal(_) => b'N',
-    };
-    match wanted.split_first() {
-        Some((first, text)) => *first == letter && text == component.as_os_str(),
-        None => false,
     }
 }

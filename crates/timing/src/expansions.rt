@@ -1,7 +1,7 @@
 //! One text, expanded many times: what bench/expand times. Every tenth word of the text is `$A`, whose value is `x`. With the count 0 all but
 //! the expansions is done, so the difference of two runs is their time alone.
 
-use super::{bad_words, out_of_memory};
+use super::{number, out_of_memory};
 use just_expand::env_with_context;
 use std::alloc::{AllocError, Global};
 use std::borrow::CowStr;
@@ -36,17 +36,22 @@ fn expanded_bytes(alloc: Global, text: &str) -> io::Result<u64> {
     }
 }
 
-/// Expands a text of so many bytes so often, and prints the bytes of the text and of all expansions together.
-pub(crate) fn make(rt: &HostRuntime, size: u64, count: u64) -> io::Result<()> {
-    let Ok(size) = usize::try_from(size) else {
-        return Err(bad_words());
-    };
-    let alloc = rt.alloc();
-    let text = text_of(alloc, size)?;
+/// The bytes of so many expansions of a text together.
+fn all_expanded_bytes(alloc: Global, text: &str, count: u64) -> io::Result<u64> {
     let mut bytes: u64 = 0;
     for _ in 0..count {
-        bytes = bytes.saturating_add(expanded_bytes(alloc, text.as_str())?);
+        bytes = bytes.saturating_add(expanded_bytes(alloc, text)?);
     }
+    Ok(bytes)
+}
+
+/// Expands a text of so many bytes so often, and prints the bytes of the text and of all expansions together.
+pub(crate) fn make(rt: &HostRuntime, words: (&str, &str, &str)) -> io::Result<()> {
+    let (size, count, _) = words;
+    let size = number(size)? as usize;
+    let count = number(count)?;
+    let text = text_of(rt.alloc(), size)?;
+    let bytes = all_expanded_bytes(rt.alloc(), text.as_str(), count)?;
     let length = text.len();
     println!(rt; "{length} bytes, {bytes} bytes expanded")
 }

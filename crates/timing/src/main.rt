@@ -32,15 +32,18 @@ fn number(word: &str) -> io::Result<u64> {
 }
 
 /// Makes what a name and three words ask for, and prints what it was.
-fn make(rt: &HostRuntime, name: &str, words: (&str, &str, &str)) -> io::Result<()> {
-    let (first, second, third) = words;
-    match name {
-        "paths" => paths::make(rt, first, number(second)?, third),
-        "expand" => expansions::make(rt, number(first)?, number(second)?),
-        "parse" => trees::make(rt, first, number(second)?, number(third)?),
-        "assemble" => projects::make(rt, first, number(second)?, number(third)?),
-        "listings" => listings::make(rt, number(first)?),
-        "closure" => projects::make_closures(rt, first, number(second)?, number(third)?),
+fn make(rt: &HostRuntime, words: &[String]) -> io::Result<()> {
+    let [name, first, second, third] = words else {
+        return Err(bad_words());
+    };
+    let words = (first.as_str(), second.as_str(), third.as_str());
+    match name.as_str() {
+        "paths" => paths::make(rt, words),
+        "expand" => expansions::make(rt, words),
+        "parse" => trees::make(rt, words),
+        "assemble" => projects::make(rt, words),
+        "listings" => listings::make(rt, words),
+        "closure" => projects::make_closures(rt, words),
         _ => Err(bad_words()),
     }
 }
@@ -50,14 +53,7 @@ fn main(rt: HostRuntime) -> io::Result<()> {
     let _program = words.next();
     let words: Vec<String> = words.collect(rt.alloc())?;
     for four in words.as_slice().chunks(4) {
-        let [name, first, second, third] = four else {
-            return Err(bad_words());
-        };
-        make(
-            &rt,
-            name.as_str(),
-            (first.as_str(), second.as_str(), third.as_str()),
-        )?;
+        make(&rt, four)?;
     }
     Ok(())
 }

@@ -1,6 +1,6 @@
 //! One call of `just_path` over texts again and again: what bench/paths times. The texts stand in a file with U+001F between them.
 
-use super::{bad_words, out_of_memory};
+use super::{bad_words, number, out_of_memory};
 use just_path::Utf8Path;
 use just_path_text::NoMemory;
 use std::alloc::Global;
@@ -17,6 +17,7 @@ enum Call {
     Cmp,
 }
 
+/// The call with that name.
 fn call_of(name: &str) -> Option<Call> {
     match name {
         "components" => Some(Call::Components),
@@ -28,6 +29,15 @@ fn call_of(name: &str) -> Option<Call> {
     }
 }
 
+/// The bytes of a path's components.
+fn components_size(path: Utf8Path<'_>) -> usize {
+    let mut size: usize = 0;
+    for component in path.components() {
+        size = size.wrapping_add(component.as_str().len());
+    }
+    size
+}
+
 /// The size of the call's answer: the bytes of its texts, or the order's number.
 fn size(
     alloc: Global,
@@ -36,24 +46,18 @@ fn size(
     other: Utf8Path<'_>,
 ) -> Result<usize, NoMemory> {
     match call {
-        Call::Components => {
-            let mut size: usize = 0;
-            for component in path.components() {
-                size = size.wrapping_add(component.as_str().len());
-            }
-            Ok(size)
-        }
+        Call::Components => Ok(components_size(path)),
         Call::Join => Ok(path.join(alloc, other)?.as_str().len()),
         Call::Parent => match path.parent() {
             Some(parent) => Ok(parent.as_str().len()),
             None => Ok(0),
         },
         Call::Clean => Ok(path.clean(alloc)?.as_str().len()),
-        Call::Cmp => match path.cmp(&other) {
-            Ordering::Less => Ok(0),
-            Ordering::Equal => Ok(1),
-            Ordering::Greater => Ok(2),
-        },
+        Call::Cmp => Ok(match path.cmp(&other) {
+            Ordering::Less => 0,
+            Ordering::Equal => 1,
+            Ordering::Greater => 2,
+        }),
     }
 }
 
@@ -78,18 +82,23 @@ fn sum(alloc: Global, call: Call, rounds: u64, texts: &[&str]) -> Result<usize, 
     Ok(sum)
 }
 
+/// The sum of that many rounds over the texts that stand in a file.
+fn sum_of_file(alloc: Global, call: Call, rounds: u64, file: &str) -> io::Result<usize> {
+    let texts: Vec<&str> = file.split('\u{1F}').collect(alloc)?;
+    match sum(alloc, call, rounds, texts.as_slice()) {
+        Ok(sum) => Ok(sum),
+        Err(NoMemory) => Err(out_of_memory()),
+    }
+}
+
 /// Makes a call so many rounds over the texts of a file, and prints the sum of its answers' sizes.
-pub(crate) fn make(rt: &HostRuntime, call: &str, rounds: u64, path: &str) -> io::Result<()> {
+pub(crate) fn make(rt: &HostRuntime, words: (&str, &str, &str)) -> io::Result<()> {
+    let (call, rounds, path) = words;
+    let rounds = number(rounds)?;
     let Some(call) = call_of(call) else {
         return Err(bad_words());
     };
     let file = fs::read_to_string(rt, path)?;
-    let mut texts = Vec::new(rt.alloc());
-    for text in file.as_str().split('\u{1F}') {
-        texts.push(text)?;
-    }
-    match sum(rt.alloc(), call, rounds, texts.as_slice()) {
-        Ok(sum) => println!(rt; "{sum}"),
-        Err(NoMemory) => Err(out_of_memory()),
-    }
+    let sum = sum_of_file(rt.alloc(), call, rounds, file.as_str())?;
+    println!(rt; "{sum}")
 }

@@ -7,7 +7,7 @@ ghost use Rattle.just_eval_closure.specs.Modules.{AreModules};
 ghost use Rattle.just_eval_closure.specs.Ends.{AreEnding};
 
 use super::recipes::recipes;
-use super::{bad_words, out_of_memory};
+use super::{bad_words, number, out_of_memory};
 use just_cli_plan::projects_end;
 use just_eval_closure::closure;
 use just_lang::assemble;
@@ -42,7 +42,8 @@ fn no_environ(alloc: Global) -> Environ {
     }
 }
 
-/// The justfile of sources that break no rule: no chain of its dependencies is without an end.
+/// The justfile of sources that break no rule: no chain of its dependencies is without an end. The call of `drop` stands in
+/// place of a walk through all variants of the error at the scope's end.
 #[tactic(auto, using(crate::proofs::Ends::dependencies_end))]
 fn justfile(alloc: Global, sources: &[Source]) -> io::Result<Justfile>
     ensures { IfOk result (λ j. (modules : List Justfile) → AreModules (j ∷ []) modules → AreEnding modules) }
@@ -53,19 +54,37 @@ fn justfile(alloc: Global, sources: &[Source]) -> io::Result<Justfile>
             projects_end();
             Ok(justfile)
         }
-        Err(_) => Err(bad_words()),
+        Err(error) => {
+            drop(error);
+            Err(bad_words())
+        }
     }
 }
 
-/// Makes the justfile of those recipes so often, and prints how many recipes all of them have together.
-pub(crate) fn make(rt: &HostRuntime, shape: &str, count: u64, times: u64) -> io::Result<()> {
-    let alloc = rt.alloc();
-    let sources = [source_of(alloc, shape, count)?];
+/// Makes the justfile of sources, and tells how many recipes it has.
+fn recipe_count(alloc: Global, sources: &[Source]) -> io::Result<u64> {
+    let justfile = justfile(alloc, sources)?;
+    let count = justfile.recipes.len() as u64;
+    drop(justfile);
+    Ok(count)
+}
+
+/// How many recipes that many justfiles of sources have together.
+fn recipe_counts(alloc: Global, sources: &[Source], times: u64) -> io::Result<u64> {
     let mut made: u64 = 0;
     for _ in 0..times {
-        let justfile = justfile(alloc, &sources)?;
-        made = made.saturating_add(justfile.recipes.len() as u64);
+        made = made.saturating_add(recipe_count(alloc, sources)?);
     }
+    Ok(made)
+}
+
+/// Makes the justfile of those recipes so often, and prints how many recipes all of them have together.
+pub(crate) fn make(rt: &HostRuntime, words: (&str, &str, &str)) -> io::Result<()> {
+    let (shape, count, times) = words;
+    let count = number(count)?;
+    let times = number(times)?;
+    let sources = [source_of(rt.alloc(), shape, count)?];
+    let made = recipe_counts(rt.alloc(), &sources, times)?;
     println!(rt; "{made} recipes")
 }
 
@@ -90,8 +109,21 @@ fn no_scopes(alloc: Global) -> Scopes {
     }
 }
 
+/// The nodes of the closure of a justfile's keys.
+fn node_count(alloc: Global, justfile: &Justfile, scopes: &Scopes, keys: &[Key]) -> io::Result<u64>
+    requires ends { (modules : List Justfile) → AreModules (justfile.now ∷ []) modules → AreEnding modules }
+{
+    match closure(alloc, justfile, scopes, keys, false) {
+        Ok(closure) => Ok(closure.nodes.len() as u64),
+        Err(error) => {
+            drop(error);
+            Err(out_of_memory())
+        }
+    }
+}
+
 /// The nodes of so many closures of a justfile's first recipe.
-fn node_count(alloc: Global, justfile: &Justfile, times: u64) -> io::Result<u64>
+fn node_counts(alloc: Global, justfile: &Justfile, times: u64) -> io::Result<u64>
     requires ends { (modules : List Justfile) → AreModules (justfile.now ∷ []) modules → AreEnding modules }
 {
     let Ok(key) = first_key(alloc) else {
@@ -101,24 +133,25 @@ fn node_count(alloc: Global, justfile: &Justfile, times: u64) -> io::Result<u64>
     let scopes = no_scopes(alloc);
     let mut nodes: u64 = 0;
     for _ in 0..times {
-        let Ok(closure) = closure(alloc, justfile, &scopes, &keys, false) else {
-            return Err(out_of_memory());
-        };
-        nodes = nodes.saturating_add(closure.nodes.len() as u64);
+        nodes = nodes.saturating_add(node_count(alloc, justfile, &scopes, &keys)?);
     }
     Ok(nodes)
 }
 
+/// The nodes of so many closures of the first recipe of sources.
+fn node_counts_of(alloc: Global, sources: &[Source], times: u64) -> io::Result<u64> {
+    let justfile = justfile(alloc, sources)?;
+    let nodes = node_counts(alloc, &justfile, times);
+    drop(justfile);
+    nodes
+}
+
 /// Makes the same justfile once, and so often the closure of its first recipe.
-pub(crate) fn make_closures(
-    rt: &HostRuntime,
-    shape: &str,
-    count: u64,
-    times: u64,
-) -> io::Result<()> {
-    let alloc = rt.alloc();
-    let sources = [source_of(alloc, shape, count)?];
-    let justfile = justfile(alloc, &sources)?;
-    let nodes = node_count(alloc, &justfile, times)?;
+pub(crate) fn make_closures(rt: &HostRuntime, words: (&str, &str, &str)) -> io::Result<()> {
+    let (shape, count, times) = words;
+    let count = number(count)?;
+    let times = number(times)?;
+    let sources = [source_of(rt.alloc(), shape, count)?];
+    let nodes = node_counts_of(rt.alloc(), &sources, times)?;
     println!(rt; "{nodes} nodes")
 }

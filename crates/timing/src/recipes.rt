@@ -4,13 +4,7 @@ use std::alloc::{AllocError, Global};
 
 /// Adds the recipe of a number and what it depends on: in a `tree` those of twice the number and of one more, in a
 /// `ladder` the next two, else the next one.
-fn recipe(
-    alloc: Global,
-    text: &mut String,
-    shape: &str,
-    count: u64,
-    number: u64,
-) -> Result<(), AllocError> {
+fn push_recipe(text: &mut String, shape: &str, count: u64, number: u64) -> Result<(), AllocError> {
     let (first, second) = if shape == "tree" {
         (
             number.saturating_mul(2),
@@ -21,12 +15,12 @@ fn recipe(
     } else {
         (number.saturating_add(1), count)
     };
-    text.push_str(format!(in alloc; "r{number}:")?.as_str())?;
+    write!(text, "r{number}:")?;
     if first < count {
-        text.push_str(format!(in alloc; " r{first}")?.as_str())?;
+        write!(text, " r{first}")?;
     }
     if second < count {
-        text.push_str(format!(in alloc; " r{second}")?.as_str())?;
+        write!(text, " r{second}")?;
     }
     text.push_str("\n\techo\n")
 }
@@ -35,7 +29,7 @@ fn recipe(
 pub(crate) fn recipes(alloc: Global, shape: &str, count: u64) -> Result<String, AllocError> {
     let mut text = String::new(alloc);
     for number in 1..count {
-        recipe(alloc, &mut text, shape, count, number)?;
+        push_recipe(&mut text, shape, count, number)?;
     }
     Ok(text)
 }

@@ -1,0 +1,120 @@
+//! Hosts in memory to run plans over.
+
+use just_host::{Ending, Host, HostFault, MemHost, Plot, Status, Thing, Tree};
+use just_path::Utf8Path;
+use just_path_text::{Environ, NoMemory, Seq, Text};
+use std::alloc::Global;
+
+/// No variables.
+pub fn no_environ(alloc: Global) -> Environ {
+    Environ {
+        pairs: Seq::new(alloc),
+    }
+}
+
+/// That one text.
+pub fn one_text(alloc: Global, text: &str) -> Result<Seq<Text>, NoMemory> {
+    let mut texts = Vec::new(alloc);
+    texts.push(Text::from_str(alloc, text)?)?;
+    Ok(Seq::from(texts))
+}
+
+/// A host of these files in the folder `/`, over which that happens.
+fn host_of(alloc: Global, tree: Tree, plot: Plot) -> Result<MemHost, NoMemory> {
+    let current = Utf8Path::new("/").to_path_buf(alloc)?;
+    MemHost::new(alloc, tree, current, no_environ(alloc), plot)
+}
+
+/// A host with no files, over which that happens.
+fn bare(alloc: Global, plot: Plot) -> Result<MemHost, NoMemory> {
+    host_of(alloc, Tree::new(alloc), plot)
+}
+
+/// A host over which that happens; nothing stands there but the folder `/`.
+fn rooted(alloc: Global, plot: Plot) -> Result<MemHost, NoMemory> {
+    let mut tree = Tree::new(alloc);
+    tree.insert(alloc, "/", Thing::Folder)?;
+    host_of(alloc, tree, plot)
+}
+
+/// A host with no files, over which nothing happens.
+/// No clause: it serves tests alone.
+pub fn memory(alloc: Global) -> Result<MemHost, NoMemory> {
+    bare(alloc, Plot::new(alloc))
+}
+
+/// The child of that word ends with that code, and has these effects.
+fn add_ending(
+    alloc: Global,
+    plot: &mut Plot,
+    word: &str,
+    code: i32,
+    effects: Vec<(Text, Option<Thing>)>,
+) -> Result<(), NoMemory> {
+    let ending = Ending {
+        word: Text::from_str(alloc, word)?,
+        status: Status::Code(code),
+        output: Seq::new(alloc),
+        effects,
+    };
+    plot.endings.push(ending)?;
+    Ok(())
+}
+
+/// The lines that fail, with their codes.
+const FAILURES: [(&str, i32); 2] = [("-cu exit 3", 3), ("-cu exit 4", 4)];
+
+/// A host in memory over which the line `exit 3` ends with code 3, and `exit 4` with code 4.
+/// No clause: it serves tests alone.
+pub fn failing(alloc: Global) -> Result<MemHost, NoMemory> {
+    let mut plot = Plot::new(alloc);
+    for (word, code) in FAILURES {
+        add_ending(alloc, &mut plot, word, code, Vec::new(alloc))?;
+    }
+    bare(alloc, plot)
+}
+
+/// The file `out` stands there.
+fn makes_out(alloc: Global) -> Result<Vec<(Text, Option<Thing>)>, NoMemory> {
+    let path = Text::from_str(alloc, "/out")?;
+    let made = Thing::File {
+        bytes: Seq::new(alloc),
+        executable: false,
+    };
+    let mut effects = Vec::new(alloc);
+    effects.push((path, Some(made)))?;
+    Ok(effects)
+}
+
+/// A child that touches `out` ends with that code; the file `out` is there behind it.
+fn add_touch(alloc: Global, plot: &mut Plot, code: i32) -> Result<(), NoMemory> {
+    let effects = makes_out(alloc)?;
+    add_ending(alloc, plot, "\n\n\n\n\ntouch out\n", code, effects)
+}
+
+/// A host in memory over which the bodies that make `out` end with these codes, in their order.
+/// No clause: it serves tests alone.
+pub fn touching(alloc: Global, codes: &[i32]) -> Result<MemHost, NoMemory> {
+    let mut plot = Plot::new(alloc);
+    for code in codes {
+        add_touch(alloc, &mut plot, *code)?;
+    }
+    rooted(alloc, plot)
+}
+
+/// A host in memory over which a prompt is answered by that line.
+/// No clause: it serves tests alone.
+pub fn answering(alloc: Global, answer: &str) -> Result<MemHost, NoMemory> {
+    let answers = one_text(alloc, answer)?;
+    let mut plot = Plot::new(alloc);
+    plot.answers = answers;
+    rooted(alloc, plot)
+}
+
+/// The host, once that text stands in the file `in`.
+/// No clause: it serves tests alone.
+pub fn with_input<H: Host + Drop>(host: H, text: &str) -> Result<H, HostFault> {
+    let mut host = host;
+    host.write(Utf8Path::new("/in"), text.as_bytes())?;
+    Ok(host)
+}
