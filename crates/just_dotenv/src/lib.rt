@@ -18,6 +18,8 @@
 //!
 //! Anything else can't be read, and the whole text is refused with the line where it begins. specs/Grammar.antt has the grammar,
 //! specs/Meaning.antt what a value means, and specs/File.antt what `read` says of a text.
+//!
+//! [`Environ`], [`Seq`], [`Text`] and [`NoMemory`] are those of the crate `just_path_text`.
 #![tactic(auto)]
 
 mod characters;
@@ -30,3 +32,4 @@ mod value;
 
 pub use error::DotenvError;
 pub use file::read;
+pub use just_path_text::{Environ, NoMemory, Seq, Text};
