@@ -1,4 +1,4 @@
-//! The language of justfiles: its tree, the tree of a text, and the texts that its strings mean.
+//! The room of the language: its tree, the tree of a text, and the texts that its strings mean.
 #![tactic(auto)]
 
 mod ast;
