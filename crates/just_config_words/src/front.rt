@@ -47,35 +47,6 @@ pub(crate) enum Front<'a> {
     Version,
 }
 
-impl Mark {
-    ghost use Rattle.just_config_words.specs.Faults.{occurrence_in};
-
-    /// Adds the option of the mark, which stands in this word.
-    fn add_to(self, given: &mut Vec<Occurrence>, word: &Text) -> Result<(), NoMemory>
-        ensures { IfOk result
-            (λ u. given.new.items ≡ given.old.items ++ occurrence_in word.now self) }
-    {
-        let Mark {
-            option,
-            attached: _,
-            values,
-            taken: _,
-        } = self;
-        match option {
-            Some(option) => {
-                let word = word.try_clone()?;
-                given.push(Occurrence {
-                    option,
-                    word,
-                    values,
-                })?;
-                Ok(())
-            }
-            None => Ok(()),
-        }
-    }
-}
-
 /// Adds the options of a word.
 #[tactic(auto, using(crate::proofs::Added::occurrences_more))]
 fn add_occurrences(

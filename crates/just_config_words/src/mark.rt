@@ -6,7 +6,7 @@ ghost use Rattle.just_config_words.specs.Letters.{begins_with_letter};
 
 use super::cut::{cut, strip};
 use super::table::{entry_lettered, entry_named};
-use super::{Entry, Values};
+use super::{Entry, Occurrence, Values};
 use just_path_text::{NoMemory, Seq, Text};
 use std::alloc::Global;
 
@@ -48,6 +48,35 @@ impl Drop for Mark {
             values: _,
             taken: _,
         } = self;
+    }
+}
+
+impl Mark {
+    ghost use Rattle.just_config_words.specs.Faults.{occurrence_in};
+
+    /// Adds the option of the mark, which stands in this word.
+    pub(crate) fn add_to(self, given: &mut Vec<Occurrence>, word: &Text) -> Result<(), NoMemory>
+        ensures { IfOk result
+            (λ u. given.new.items ≡ given.old.items ++ occurrence_in word.now self) }
+    {
+        let Mark {
+            option,
+            attached: _,
+            values,
+            taken: _,
+        } = self;
+        match option {
+            Some(option) => {
+                let word = word.try_clone()?;
+                given.push(Occurrence {
+                    option,
+                    word,
+                    values,
+                })?;
+                Ok(())
+            }
+            None => Ok(()),
+        }
     }
 }
 
