@@ -1,31 +1,50 @@
-#!/usr/bin/env bash
+#!/bin/sh
 # Runs the program with the caller's words in the caller's folder: the shipped one (dist/just) where it was made from these
-# sources, else one that is built here. Which of them it is, is decided once and remembered until a source changes.
-set -u
-top=$(cd "$(dirname "$(readlink -f "${BASH_SOURCE[0]}")")" && pwd)
-out=$top/crates/just/out
-choice=$out/choice # the program that was chosen, and newer than all that it was chosen for
+# sources, else one that is built here. Which of them it is, is decided once and remembered until a source changes: in
+# crates/just/out, or, in a checkout that can't be written to, in the caller's cache folder.
+self=$0
+[ ! -L "$self" ] || self=$(readlink -f "$self")
+case $self in */*) top=${self%/*} ;; *) top=. ;; esac
 
-if [ -s "$choice" ] && [ -z "$(find "$top/crates.txt" "$top/dist" "$top"/crates/*/src -newer "$choice" -print -quit)" ]; then
-  program=$(<"$choice")
-  [ -x "$program" ] && exec "$program" "$@"
+# runs the remembered program, where it is newer than all that it was chosen for
+# call: remembered FILE WORD..
+remembered() {
+  choice=$1
+  shift
+  [ -s "$choice" ] || return 0
+  read -r program < "$choice"
+  [ -x "$top/$program" ] || return 0
+  [ -z "$(find "$top/crates.txt" "$top/dist" "$top"/crates/just*/src -newer "$choice" -print -quit)" ] || return 0
+  exec "$top/$program" "$@"
+}
+
+remembered "$top/crates/just/out/choice" "$@"
+out=$top/crates/just/out
+mkdir -p "$out" 2>/dev/null
+if ! { [ -d "$out" ] && [ -w "$out" ]; }; then
+  place=$(cd "$top" && pwd -P) || exit 1
+  out=${XDG_CACHE_HOME:-${HOME:-/nonexistent}/.cache}/pomelosail$place
+  remembered "$out/choice" "$@"
+  mkdir -p "$out" 2>/dev/null
 fi
 # The choice is as old as the look at the sources, so that one that changes meanwhile is seen at the next call.
-mkdir -p "$out" 2>/dev/null && : 2>/dev/null > "$choice.new"
+new=$out/choice.$$
+(: > "$new") 2>/dev/null
 digest=$("$top/dist/digest") || exit 1
-program=$top/dist/just
+program=dist/just
 if [ "$digest" != "$(cat "$top/dist/just.sources" 2>/dev/null)" ]; then
-  program=$out/just
-  if [ ! -x "$program" ] || [ "$digest" != "$(cat "$out/just.sources" 2>/dev/null)" ]; then
-    rm -f "$choice"
+  program=crates/just/out/just
+  if [ ! -x "$top/$program" ] || [ "$digest" != "$(cat "$top/crates/just/out/just.sources" 2>/dev/null)" ]; then
+    rm -f "$out/choice" "$new"
     "$top/dist/build" || exit 1
+    (: > "$new") 2>/dev/null
   fi
 fi
-if [ -e "$choice.new" ]; then
-  touch -r "$choice.new" "$choice.time"
-  printf '%s\n' "$program" > "$choice.new"
-  touch -r "$choice.time" "$choice.new"
-  rm -f "$choice.time"
-  mv "$choice.new" "$choice"
+if [ -e "$new" ]; then
+  touch -r "$new" "$new.time"
+  printf '%s\n' "$program" > "$new"
+  touch -r "$new.time" "$new"
+  rm -f "$new.time"
+  mv "$new" "$out/choice"
 fi
-exec "$program" "$@"
+exec "$top/$program" "$@"
