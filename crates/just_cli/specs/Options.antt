@@ -12,7 +12,7 @@ use Rattle.just_cli_plan.specs.Request.{Outline}
 use Rattle.just_exec_work.specs.declared.run_flags.RunFlags.{RunFlags}
 use Rattle.just_env.specs.declared.ask.DotenvAsk.{DotenvAsk}
 use Rattle.just_cache.specs.Places.{cache_folder}
-use Rattle.just_search.specs.Finding.{folder_of}
+use Rattle.just_search.specs.Finding.{folder_of, given_path}
 use Rattle.just_cli_plan.specs.Forms.{word_if}
 use Rattle.just_cli_plan.specs.declared.wanted.Wanted.{Wanted}
 
@@ -61,7 +61,7 @@ not_built c = or_else (flag_not_built c) (command_not_built c.subcommand)
 abbrev pub shell_args_of : Config → Option (List (List ℕ))
 shell_args_of c = if c.clear_shell_args || is_any c.shell_arg then Some c.shell_arg else None
 
--- how recipes are run, in that working folder
+-- how recipes are run, in that working folder. The folder of the words for temporary ones is under that of the call, and clean
 abbrev pub flags_of : Config → List ℕ → RunFlags
 flags_of c folder =
     record {
@@ -73,7 +73,7 @@ flags_of c folder =
       no_cache = c.no_cache;
       yes = c.yes;
       explain = c.explain;
-      tempdir = c.tempdir;
+      tempdir = option_map (given_path c) c.tempdir;
       folder = folder;
     }
 

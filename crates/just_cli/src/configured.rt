@@ -1,12 +1,13 @@
 //! From the words to their configuration, and to what is asked of a justfile.
 
-ghost use Rattle.std.specs.Prelude.{◌≡◌, ◌||◌, if◌then◌else◌, Some, None, map, IfOk, IfErr, Ok, Err};
+ghost use Rattle.std.specs.Prelude.{◌≡◌, ◌||◌, if◌then◌else◌, Some, None, map, option_map, IfOk, IfErr, Ok, Err};
 ghost use Rattle.just_path_text.specs.declared.environ.Environ.{Environ};
 ghost use Rattle.just_config_words.specs.Words.{Means};
 ghost use Rattle.just_config.specs.Config.{refusal, config_of};
 ghost use Rattle.just_exec.specs.declared.error.Error.TheVariants as error;
 ghost use Rattle.just_cli_plan.specs.Own.{OrMemory};
 ghost use Rattle.just_path.specs.Path.{text_of};
+ghost use Rattle.just_search.specs.Finding.{given_path};
 ghost use Rattle.just_cli.specs.Options.{is_any, dotenv_of, flags_of, cache_beside, wanted_of};
 ghost use Rattle.just_cli.specs.Words.{ReadsWords, IsBuilt, Configures};
 
@@ -20,6 +21,7 @@ use just_exec_work::RunFlags;
 use just_lang_types::Override;
 use just_path::{Utf8Path, Utf8PathBuf};
 use just_path_text::{Environ, NoMemory, Seq, Text, TryClone};
+use just_search::given_path;
 use std::alloc::Global;
 
 /// What the words ask for, with the variables of the environment.
@@ -45,12 +47,15 @@ fn shell_args(clear: bool, given: Seq<Text>) -> Option<Seq<Text>>
     }
 }
 
-/// The path that a text is, where there is one.
-fn path_of(alloc: Global, text: &Option<Text>) -> Result<Option<Utf8PathBuf>, NoMemory>
-    ensures { IfOk result (λ p. p ≡ text.now) }
+/// The folder that the words give for temporary ones: under the folder in which the program was called, and clean.
+fn tempdir_of(alloc: Global, config: &Config) -> Result<Option<Utf8PathBuf>, NoMemory>
+    ensures { IfOk result (λ p. p ≡ option_map (given_path config.now) config.now.tempdir) }
 {
-    match text {
-        Some(text) => Ok(Some(Utf8Path::new(text.as_str()).to_path_buf(alloc)?)),
+    match &config.tempdir {
+        Some(folder) => {
+            let folder = Utf8PathBuf::from_str(alloc, folder.as_str())?;
+            Ok(Some(given_path(alloc, config, &folder)?))
+        }
         None => Ok(None),
     }
 }
@@ -77,7 +82,7 @@ fn run_flags(alloc: Global, config: &Config, folder: &Utf8PathBuf) -> Result<Run
 {
     let shell = config.shell.try_clone()?;
     let arguments = config.shell_arg.try_clone()?;
-    let tempdir = path_of(alloc, &config.tempdir)?;
+    let tempdir = tempdir_of(alloc, config)?;
     let folder = folder.try_clone()?;
     Ok(RunFlags {
         shell,
