@@ -3,7 +3,7 @@
 use just_path::Utf8PathBuf;
 
 /// The rule that a justfile breaks.
-#[derive(Clone, Copy, Debug, PartialEq, Eq, Hash)]
+#[derive(Clone, Copy, Debug)]
 pub enum CompileKind {
     /// The text doesn't fit the grammar.
     Syntax,
@@ -47,7 +47,7 @@ pub enum CompileKind {
 }
 
 /// The first rule that a justfile breaks, with its place: line and column count from 1, columns in characters.
-#[derive(Debug, Drop)]
+#[derive(Drop)]
 pub struct CompileError {
     pub kind: CompileKind,
     pub path: Utf8PathBuf,

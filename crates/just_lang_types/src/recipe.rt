@@ -26,7 +26,7 @@ pub struct Recipe {
 }
 
 /// A recipe's name with the modules that lead to it.
-#[derive(Debug, Drop, PartialEq, Eq, PartialOrd, Ord)]
+#[derive(Drop)]
 pub struct Modulepath {
     pub components: Seq<Text>,
 }
@@ -63,7 +63,7 @@ pub struct Parameter {
 }
 
 /// The patterns of a parameter: each value must match one of them.
-#[derive(Debug, Drop)]
+#[derive(Drop)]
 pub struct Pattern {
     pub texts: Seq<Text>,
 }

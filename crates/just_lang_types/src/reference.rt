@@ -10,14 +10,14 @@ use just_path_text::{NoMemory, Seq, Text};
 use std::alloc::Global;
 
 /// What a file is to the one that names it.
-#[derive(Clone, Copy, Debug, PartialEq, Eq)]
+#[derive(Clone, Copy)]
 pub enum FileKind {
     Import,
     Module,
 }
 
 /// A file that a justfile names.
-#[derive(Debug, Drop)]
+#[derive(Drop)]
 pub struct FileRef {
     pub kind: FileKind,
     /// The module's name.

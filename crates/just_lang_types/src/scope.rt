@@ -14,21 +14,21 @@ pub struct Assignment {
 }
 
 /// A further name of a recipe or a module.
-#[derive(Debug, Drop)]
+#[derive(Drop)]
 pub struct Alias {
     pub name: Text,
     pub target: Modulepath,
 }
 
 /// What can't be run, and the absent modules for which it can't.
-#[derive(Debug, Drop)]
+#[derive(Drop)]
 pub struct Disabled {
     pub name: Text,
     pub modules: Seq<Text>,
 }
 
 /// A variable with its value.
-#[derive(Debug, Drop)]
+#[derive(Drop)]
 pub struct Binding {
     pub name: Text,
     pub value: Value,
@@ -37,7 +37,7 @@ pub struct Binding {
 }
 
 /// Variables that hide those of the level above.
-#[derive(Debug, Drop)]
+#[derive(Drop)]
 pub struct Level {
     pub bindings: Seq<Binding>,
     /// Whether it is the level of the constants.
@@ -45,20 +45,20 @@ pub struct Level {
 }
 
 /// The variables that are seen at some point, from the outermost level on.
-#[derive(Debug, Drop)]
+#[derive(Drop)]
 pub struct Scope {
     pub levels: Seq<Level>,
 }
 
 /// The pairs of a module's dotenv file.
-#[derive(Debug, Drop)]
+#[derive(Drop)]
 pub struct DotenvOf {
     pub module: Modulepath,
     pub pairs: Seq<(Text, Text)>,
 }
 
 /// A value that the command line gives to a variable.
-#[derive(Debug, Drop)]
+#[derive(Drop)]
 pub struct Override {
     pub module: Modulepath,
     pub name: Text,
@@ -66,7 +66,7 @@ pub struct Override {
 }
 
 /// The scope of each module, and the dotenv pairs and the environment that `env` asks.
-#[derive(Debug, Drop)]
+#[derive(Drop)]
 pub struct Scopes {
     pub scopes: Seq<(Modulepath, Scope)>,
     pub dotenv: Seq<DotenvOf>,

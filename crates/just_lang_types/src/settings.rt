@@ -3,14 +3,21 @@
 use just_path_text::{Seq, Text};
 
 /// A program and the arguments that stand before those of a call.
-#[derive(Debug, Drop)]
 pub struct Interpreter {
     pub command: Text,
     pub arguments: Seq<Text>,
 }
 
+impl Drop for Interpreter {
+    fn drop(self) {
+        let Interpreter {
+            command: _,
+            arguments: _,
+        } = self;
+    }
+}
+
 /// The settings of a justfile, one field for each, with `_` for `-`.
-#[derive(Debug, Drop)]
 pub struct Settings {
     pub allow_duplicate_recipes: bool,
     pub allow_duplicate_variables: bool,
@@ -38,4 +45,37 @@ pub struct Settings {
     pub shell: Option<Interpreter>,
     pub script_interpreter: Option<Interpreter>,
     pub windows_shell: Option<Interpreter>,
+}
+
+impl Drop for Settings {
+    fn drop(self) {
+        let Settings {
+            allow_duplicate_recipes: _,
+            allow_duplicate_variables: _,
+            default_list: _,
+            dotenv_load: _,
+            dotenv_override: _,
+            dotenv_required: _,
+            export: _,
+            fallback: _,
+            guards: _,
+            ignore_comments: _,
+            lists: _,
+            no_cd: _,
+            no_exit_message: _,
+            positional_arguments: _,
+            quiet: _,
+            unstable: _,
+            windows_powershell: _,
+            dotenv_command: _,
+            dotenv_filename: _,
+            dotenv_path: _,
+            indentation: _,
+            tempdir: _,
+            working_directory: _,
+            shell: _,
+            script_interpreter: _,
+            windows_shell: _,
+        } = self;
+    }
 }

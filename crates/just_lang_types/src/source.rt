@@ -13,7 +13,7 @@ use std::alloc::Global;
 
 /// The text of a justfile, with the path that it was read from and that path's parent (the path itself where it has
 /// none).
-#[derive(Debug, Drop)]
+#[derive(Drop)]
 pub struct Source {
     pub path: Utf8PathBuf,
     pub root: Utf8PathBuf,
