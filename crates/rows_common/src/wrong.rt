@@ -4,7 +4,7 @@ use just_path_text::NoMemory;
 use std::alloc::{AllocError, AllocFailed};
 
 /// Why a row wasn't compared.
-#[derive(Clone, Copy, Debug, PartialEq, Eq)]
+#[derive(Clone, Copy)]
 pub enum Wrong {
     /// It isn't of the form of its kind.
     Form,
