@@ -26,7 +26,7 @@ pub struct Recipe {
 }
 
 /// A recipe's name with the modules that lead to it.
-#[derive(Drop)]
+#[derive(Drop, PartialEq, Eq, PartialOrd, Ord)]
 pub struct Modulepath {
     pub components: Seq<Text>,
 }
