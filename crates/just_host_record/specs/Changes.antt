@@ -44,7 +44,11 @@ new_place tree path place =
 
 abbrev pub is_not_found : Miss → Bool
 is_not_found miss.NotFound = true
-is_not_found _ = false
+is_not_found miss.NotFolder = false
+is_not_found miss.IsFolder = false
+is_not_found miss.NotUtf8 = false
+is_not_found miss.NotEmpty = false
+is_not_found miss.TooLarge = false
 
 abbrev pub place_found : World → List ℕ → Result (List ℕ) Miss → Result (List ℕ) Miss
 place_found w path (Ok place) = file_at place (map.get w.tree place)
@@ -56,7 +60,9 @@ place_written w path = place_found w path (canonical_told path (view_of w))
 
 abbrev pub runs : Option Thing → Bool
 runs (Some (thing.File bytes executable)) = executable
-runs _ = false
+runs (Some thing.Folder) = false
+runs (Some (thing.Link target)) = false
+runs None = false
 
 -- a tree in which the file at a place holds these bytes. It may be run if it might before
 abbrev pub put_bytes : Tree → List ℕ → List ℕ → Tree

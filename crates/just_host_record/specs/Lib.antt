@@ -8,3 +8,4 @@ pub mod Changes
 pub mod Looks
 pub mod Folders
 pub mod NewFolders
+pub mod Scripts

@@ -76,7 +76,9 @@ look_at v outputs bytes = if is_empty bytes then look.Empty else missing_look (f
 
 abbrev pub bytes_of_thing : Option Thing → List ℕ
 bytes_of_thing (Some (thing.File bytes executable)) = bytes
-bytes_of_thing _ = []
+bytes_of_thing (Some thing.Folder) = []
+bytes_of_thing (Some (thing.Link target)) = []
+bytes_of_thing None = []
 
 abbrev pub bytes_at : Tree → Result (List ℕ) Miss → List ℕ
 bytes_at tree (Ok place) = bytes_of_thing (map.get tree place)

@@ -3,6 +3,7 @@ use Rattle.std.specs.Prelude.{ℕ, ◌≡◌, ◌≢◌, ◌==◌, ◌⊎◌, Bo
 use Rattle.just_path.specs.declared.host.PathCall.{PathCall}
 use Rattle.just_path.specs.declared.host.PathCall.TheVariants as path_call
 use Rattle.just_path.specs.declared.host.Miss.{Miss}
+use Rattle.just_path.specs.declared.host.Miss.TheVariants as miss
 use Rattle.just_path.specs.declared.host.PathFault.{PathFault}
 use Rattle.just_path.specs.declared.host.PathFault.TheVariants as path_fault
 use Rattle.just_path.specs.declared.host.PathNote.{PathNote}
@@ -75,17 +76,52 @@ IsMissOf m path_fault.Failed = ⊥
 IsMissOf m path_fault.NoMemory = Unit {0}
 
 abbrev pub is_failed : Entry → Bool
+is_failed (entry.Missed p m) = false
 is_failed (entry.Failed c) = true
+is_failed (entry.Asked prompt answer) = false
+is_failed (entry.Summed p sum) = false
+is_failed (entry.Probed p outputs l) = false
+is_failed (entry.Checked outputs first) = false
+is_failed (entry.Saved p) = false
+is_failed (entry.Started c spec) = false
+is_failed (entry.Ended c status) = false
+is_failed (entry.Captured spec input status output) = false
 is_failed (entry.Strayed a b) = true
-is_failed _ = false
+is_failed (entry.Signalled signal) = false
+is_failed (entry.Printed stream text) = false
+is_failed (entry.Made p) = false
 
 abbrev pub is_missed : Entry → Bool
 is_missed (entry.Missed p m) = true
-is_missed _ = false
+is_missed (entry.Failed c) = false
+is_missed (entry.Asked prompt answer) = false
+is_missed (entry.Summed p sum) = false
+is_missed (entry.Probed p outputs l) = false
+is_missed (entry.Checked outputs first) = false
+is_missed (entry.Saved p) = false
+is_missed (entry.Started c spec) = false
+is_missed (entry.Ended c status) = false
+is_missed (entry.Captured spec input status output) = false
+is_missed (entry.Strayed a b) = false
+is_missed (entry.Signalled signal) = false
+is_missed (entry.Printed stream text) = false
+is_missed (entry.Made p) = false
 
 abbrev pub is_started : Entry → Bool
-is_started (entry.Started c s) = true
-is_started _ = false
+is_started (entry.Missed p m) = false
+is_started (entry.Failed c) = false
+is_started (entry.Asked prompt answer) = false
+is_started (entry.Summed p sum) = false
+is_started (entry.Probed p outputs l) = false
+is_started (entry.Checked outputs first) = false
+is_started (entry.Saved p) = false
+is_started (entry.Started c spec) = true
+is_started (entry.Ended c status) = false
+is_started (entry.Captured spec input status output) = false
+is_started (entry.Strayed a b) = false
+is_started (entry.Signalled signal) = false
+is_started (entry.Printed stream text) = false
+is_started (entry.Made p) = false
 
 -- the number of failures in a record; an end that was handed in for another child is one
 abbrev pub faults_of : List Entry → ℕ
@@ -144,11 +180,11 @@ IsStartFault spec (Ok x) = Unit {0}
 IsStartFault spec (Err e) = IsStartRefusal spec e
 
 abbrev pub IsCaptureRefusal : List ℕ → HostFault → Type 0
-IsCaptureRefusal input (fault.Missed m) = Unit {0}
+IsCaptureRefusal input (fault.Missed m) = m ≡ miss.TooLarge
 IsCaptureRefusal input (fault.Failed c) = (c ≡ call.Start) ⊎ ((c ≡ call.Capture) ⊎ ((c ≡ call.Write) × (input ≢ [])))
 IsCaptureRefusal input fault.NoMemory = Unit {0}
 
--- a capture fails as its start or as itself; where there is something to feed, as its writing too
+-- a capture fails as its start or as itself; where there is something to feed, as its writing too. It misses where its output is too large
 abbrev pub IsCaptureFault : {A : Type 0} → List ℕ → Result A HostFault → Type 0
 IsCaptureFault input (Ok x) = Unit {0}
 IsCaptureFault input (Err e) = IsCaptureRefusal input e

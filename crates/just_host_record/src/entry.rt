@@ -9,7 +9,7 @@ use just_path_text::{NoMemory, Seq, Text};
 use std::fmt;
 
 /// The calls of a host that can fail.
-#[derive(Clone, Copy, Debug, PartialEq, Eq, Hash)]
+#[derive(Clone, Copy, Debug, PartialEq, Eq)]
 pub enum Call {
     Meta,
     List,
@@ -35,7 +35,7 @@ pub enum Call {
 }
 
 /// Why a call of a host has no answer: the world doesn't hold what was asked, the call failed, or memory was wanting.
-#[derive(Clone, Copy, Debug, PartialEq)]
+#[derive(Clone, Copy, Debug, PartialEq, Eq)]
 pub enum HostFault {
     Missed(Miss),
     Failed(Call),

@@ -1,4 +1,4 @@
-//! What a run touches of the outside: the trait `Host`, the entries of its record, and the log that a host keeps them in.
+//! The room of hosts: what a run touches of the outside, the trait `Host`, with the entries of its record and the log that a host keeps them in.
 #![tactic(auto)]
 
 mod copies;

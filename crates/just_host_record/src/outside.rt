@@ -10,6 +10,7 @@ ghost use Rattle.just_host_record.specs.World.{World, view_of, ReadTells, Touche
 ghost use Rattle.just_host_record.specs.Changes.{place_written, written, with_cache_entry, IsOfEntry, Changes};
 ghost use Rattle.just_host_record.specs.Folders.{TempTells, Removes};
 ghost use Rattle.just_host_record.specs.NewFolders.{with_folder, IsOfFolder};
+ghost use Rattle.just_host_record.specs.Scripts.{StartTells};
 ghost use Rattle.just_host_record.specs.Looks.{dash, TellsAnswer, told_input, told_sum, told_check, LookTells, ChecksTo};
 
 use super::{Call, Entry, HostFault, Look, Spec, Status, Stream};
@@ -163,11 +164,12 @@ pub trait Host: PathHost {
         ensures leaves { Leaves (world self.old) (world self.new) result }
         ensures spare { spare self.new ≡ spare self.old };
 
-    /// Starts a child. Its number is the number of children that were started before.
+    /// Starts a child. Its number is the number of children that were started before. A miss is that of the folder or the file of its script.
     fn start(&mut self, spec: &Spec) -> Result<Self::Child, HostFault>
         ensures entries { entries self.new ≡ entries self.old ++ gained (script_folder spec.now) (λ c. Entry.Started (child_number c) spec.now ∷ []) result }
         ensures number { IfOk result (λ c. child_number c ≡ children (entries self.old)) }
         ensures fault { IsStartFault spec.now result }
+        ensures shown { StartTells (world self.old) spec.now result }
         ensures leaves { Leaves (world self.old) (world self.new) result }
         ensures spare { spare self.new ≡ spare self.old };
 

@@ -6,7 +6,7 @@ ghost use Rattle.just_host_record.specs.Signals.{number_of, name_of, all, named,
 use std::fmt;
 
 /// A signal that ends a run.
-#[derive(Clone, Copy, Debug, PartialEq, Eq, Hash)]
+#[derive(Clone, Copy, Debug, PartialEq, Eq)]
 pub enum Signal {
     Hangup,
     Interrupt,
