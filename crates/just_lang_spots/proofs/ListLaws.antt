@@ -8,6 +8,14 @@ use Rattle.just_lang_syntax.specs.declared.ast.AstItem.{AstItem}
 use Rattle.just_lang_spots.specs.declared.entries.Entry.{Entry}
 use Rattle.just_lang_spots.specs.Entries.{entry, entries}
 
+-- one more behind some, in front of others
+pub map_more : {A B : Type 0} (f : A → B) (xs : List A) (x : A) (ys : List B) → map f (xs ++ x ∷ []) ++ ys ≡ map f xs ++ (f x ∷ ys)
+map_more f [] x ys = refl
+map_more f (y ∷ xs) x ys = ap (λ k. f y ∷ k) (map_more f xs x ys)
+
+pub entries_more : (xs : List Entry) (x : Entry) (ys : List (ℕ × AstItem)) → entries (xs ++ x ∷ []) ++ ys ≡ entries xs ++ (entry x ∷ ys)
+entries_more xs x ys = map_more entry xs x ys
+
 -- the one at a place stands in front of those behind it
 pub drop_here : {A : Type 0} (xs : List A) (i : ℕ) (x : A) → i < length xs → x ≡ get_or xs i x → drop i xs ≡ x ∷ drop (i + 1) xs
 drop_here xs i x h e = rw add-one (drop-cons xs i x h ∙ ap (λ y. y ∷ drop (suc i) xs) (sym e))

@@ -1,5 +1,4 @@
-//! Places in the files of a project and the first that breaks a rule, tables of names, graphs, and which files import
-//! which.
+//! The room of the language: places in files and the first that breaks a rule, tables of names, graphs, and imports.
 #![tactic(auto)]
 
 mod entries;
