@@ -1,5 +1,5 @@
-//! The cache of bodies that ended well: the key of a body, the sums of its inputs, whether it may be skipped, and what
-//! is saved of one.
+//! The room of the cache of bodies that ended well: the key of a body, the sums of its inputs, whether it may be skipped, and
+//! what is saved of one.
 //!
 //! The key of a cached recipe: all that its body depends on, as one text, and the digest that names its entry.
 //!
@@ -11,8 +11,6 @@
 //! // {"body":["touch out"],"environment":{},"executor":{"arguments":["-eu"],"command":"sh","type":"command"},
 //! //  "extension":null,"extra":null,"inputs":null,"positional":null,"recipe":"m","working_directory":"/p"}
 //! ```
-//!
-//! The cache of bodies that ended well: the sums of their inputs, whether a body may be skipped, and what is saved of one.
 //!
 //! An entry is a file in the cache's folder, named by the digest of the body's key. A body is skipped where its entry isn't empty
 //! and each of its outputs is there.
@@ -38,6 +36,10 @@ pub use class::ClassText;
 pub use digests::digest;
 pub use entry::CacheEntry;
 pub use input::inputs;
+pub use just_host_record::{Host, HostFault};
+pub use just_lang_types::{Interpreter, Modulepath};
+pub use just_path::{Miss, Utf8Path, Utf8PathBuf};
+pub use just_path_text::{NoMemory, Seq, Text, TryClone};
 pub use key::{CacheKey, KeyExecutor};
 pub use lock::CacheLock;
 pub use status::CacheStatus;
