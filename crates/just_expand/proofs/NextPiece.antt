@@ -1,6 +1,6 @@
 -- One more piece: behind those that became text stands the next, which becomes text by its answer.
 use Rattle.std.proofs.Common.{◌≡◌, ◌∙◌, ℕ, ◌<◌, ◌++◌, List, [], ◌∷◌, Option, length, length-append, refl, sym, ap, subst, arith}
-use Rattle.std.specs.Prelude.{Some, None, Result, Ok, Err, string_bytes}
+use Rattle.std.specs.Prelude.{Some, None, Result, Ok, Err}
 use Rattle.std.specs.Prelude.{String, Bool, true, false, not, IsTrue, ◌↔◌}
 use Rattle.std.specs.declared.alloc.Global.{Global}
 use Rattle.std.specs.Fn.{CalledAt, Mut}

@@ -1,5 +1,5 @@
 -- A piece is put out by its own text, or by the answer to its question.
-use Rattle.std.proofs.Common.{◌∙◌, refl, sym, ap, string_bytes}
+use Rattle.std.proofs.Common.{◌∙◌, refl, sym, ap}
 use Rattle.std.specs.Option.{option_copied}
 use Rattle.just_expand.specs.Code.{AnswersWithMemory}
 use Rattle.just_expand.proofs.NextPiece.{puts_own_text, puts_piece}

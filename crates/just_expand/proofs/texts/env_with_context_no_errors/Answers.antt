@@ -27,8 +27,8 @@ returns-in-Ok-clause-one_cut g c = one_cut c.args.input.now
 pub returns-in-Ok-clause-unasked : goal.returns-in-Ok-clause-unasked
 returns-in-Ok-clause-unasked g c = λ lacks. asks_nothing (AnswersWithoutError g.C.FnMut) c.args.context c.args.input.now lacks
 
-pub returns-in-Err-NoMemory-clause-one_cut : goal.returns-in-Err-NoMemory-clause-one_cut
-returns-in-Err-NoMemory-clause-one_cut g c = one_cut c.args.input.now
+pub returns-clause-one_cut : goal.returns-clause-one_cut
+returns-clause-one_cut g c = one_cut c.args.input.now
 
-pub returns-in-Err-NoMemory-clause-unasked : goal.returns-in-Err-NoMemory-clause-unasked
-returns-in-Err-NoMemory-clause-unasked g c = λ lacks. asks_nothing (AnswersWithoutError g.C.FnMut) c.args.context c.args.input.now lacks
+pub returns-clause-unasked : goal.returns-clause-unasked
+returns-clause-unasked g c = λ lacks. asks_nothing (AnswersWithoutError g.C.FnMut) c.args.context c.args.input.now lacks
