@@ -1,4 +1,4 @@
-//! Trees of justfiles as texts, how a recipe is used, and the small texts that other texts are made of.
+//! The room of printing: trees of justfiles as texts, how a recipe is used, and the small texts that other texts are made of.
 #![tactic(auto)]
 
 mod attribute;
@@ -18,6 +18,9 @@ mod whole;
 pub use count::Count;
 pub use enclosure::Enclosure;
 pub use expr::push_expr;
+pub use just_lang_syntax::Ast;
+pub use just_lang_types::{Modulepath, Parameter};
+pub use just_path_text::{NoMemory, Text};
 pub use list::List;
 pub use ordinals::ordinal;
 pub use range::{DisplayRange, display};
