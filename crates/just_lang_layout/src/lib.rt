@@ -1,4 +1,4 @@
-//! The files of a project and how they stand in its modules.
+//! The room of the language: the files of a project, and how they stand in its modules.
 #![tactic(auto)]
 
 mod error;
