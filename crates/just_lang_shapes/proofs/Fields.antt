@@ -13,7 +13,7 @@ use Rattle.just_lang_types.specs.declared.recipe.Modulepath.{Modulepath}
 use Rattle.just_lang_types.specs.declared.recipe.Parameter.{Parameter}
 use Rattle.just_lang_types.specs.declared.recipe.Pattern.{Pattern}
 use Rattle.just_lang_types.specs.declared.recipe.Recipe.{Recipe}
-use Rattle.just_lang_rules.specs.AttributeSpots.{is_script}
+use Rattle.just_lang_types.specs.Attributes.{is_script}
 use Rattle.just_lang_shapes.specs.Attributes.{doc_of, is_private}
 use Rattle.just_lang_shapes.specs.Expansions.{expanded_attributes, expanded_default, expanded_lines}
 use Rattle.just_lang_shapes.specs.Parameters.{stands_alone, long_of, short_of, value_of, values_of, pattern_of, number_at, parameter_with, parameters_of}

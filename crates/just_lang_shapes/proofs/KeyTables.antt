@@ -10,8 +10,8 @@ use Rattle.std.proofs.lemmas.Map.Text.{is_eq-slice_cmp}
 use Rattle.just_lang_syntax.specs.declared.ast.Argument.{Argument}
 use Rattle.just_lang_syntax.specs.declared.ast.Attribute.{Attribute}
 use Rattle.just_lang_syntax.specs.declared.ast.StringLiteral.{StringLiteral}
-use Rattle.just_lang_rules.specs.ConstantTexts.{const_text}
-use Rattle.just_lang_rules.specs.Options.{is_text}
+use Rattle.just_lang_types.specs.ConstantTexts.{const_text}
+use Rattle.just_lang_types.specs.Options.{is_text}
 use Rattle.just_lang_spots.proofs.ListLaws.{take_here}
 use Rattle.just_lang_shapes.specs.Parameters.{keys_behind, keys_for, last_keys, or_earlier, found_at}
 

@@ -4,8 +4,8 @@ use Rattle.std.specs.List.{list_any}
 use Rattle.just_lang_syntax.specs.declared.ast.Argument.{Argument}
 use Rattle.just_lang_syntax.specs.declared.ast.Attribute.{Attribute}
 use Rattle.just_lang_syntax.specs.declared.ast.StringLiteral.{StringLiteral}
-use Rattle.just_lang_rules.specs.AttributeSpots.{is_called}
-use Rattle.just_lang_rules.specs.ConstantTexts.{const_text}
+use Rattle.just_lang_types.specs.Attributes.{is_called}
+use Rattle.just_lang_types.specs.ConstantTexts.{const_text}
 
 -- the first of a list
 abbrev pub first_of : {A : Type 0} → List A → Option A

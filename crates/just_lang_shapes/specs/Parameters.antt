@@ -14,9 +14,9 @@ use Rattle.just_lang_syntax.specs.declared.ast.StringLiteral.{StringLiteral}
 use Rattle.just_lang_syntax.specs.Attributes.{is_named, has_key}
 use Rattle.just_lang_types.specs.declared.recipe.Parameter.{Parameter}
 use Rattle.just_lang_types.specs.declared.recipe.Pattern.{Pattern}
-use Rattle.just_lang_rules.specs.AttributeSpots.{is_called}
-use Rattle.just_lang_rules.specs.ConstantTexts.{const_text}
-use Rattle.just_lang_rules.specs.Options.{is_text}
+use Rattle.just_lang_types.specs.Attributes.{is_called}
+use Rattle.just_lang_types.specs.ConstantTexts.{const_text}
+use Rattle.just_lang_types.specs.Options.{is_text}
 use Rattle.just_lang_shapes.specs.declared.keys.Keys.{Keys}
 use Rattle.just_lang_shapes.specs.Attributes.{first_of}
 use Rattle.just_lang_shapes.specs.Expansions.{expanded_default}

@@ -5,7 +5,7 @@ use Rattle.just_lang_syntax.specs.declared.ast.StringLiteral.{StringLiteral}
 use Rattle.just_lang_types.specs.declared.recipe.Dependency.{Dependency}
 use Rattle.just_lang_types.specs.declared.recipe.Modulepath.{Modulepath}
 use Rattle.just_lang_types.specs.declared.recipe.Recipe.{Recipe}
-use Rattle.just_lang_rules.specs.AttributeSpots.{is_script}
+use Rattle.just_lang_types.specs.Attributes.{is_script}
 use Rattle.just_lang_shapes.specs.Attributes.{doc_of, is_private}
 use Rattle.just_lang_shapes.specs.Expansions.{expanded_attributes, expanded_lines}
 use Rattle.just_lang_shapes.specs.Parameters.{parameters_of}

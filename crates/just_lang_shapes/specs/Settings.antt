@@ -8,7 +8,7 @@ use Rattle.just_lang_syntax.specs.declared.ast.SettingValue.TheVariants as setti
 use Rattle.just_lang_syntax.specs.declared.ast.StringLiteral.{StringLiteral}
 use Rattle.just_lang_types.specs.declared.settings.Interpreter.{Interpreter}
 use Rattle.just_lang_types.specs.declared.settings.Settings.{Settings}
-use Rattle.just_lang_rules.specs.ConstantTexts.{const_text}
+use Rattle.just_lang_types.specs.ConstantTexts.{const_text}
 use Rattle.just_lang_spots.specs.Items.{is_set}
 use Rattle.just_lang_shapes.specs.declared.settings.FlagSettings.{FlagSettings}
 use Rattle.just_lang_shapes.specs.declared.settings.TextSettings.{TextSettings}

@@ -4,8 +4,8 @@ ghost use Rattle.std.specs.Option.{option_copied};
 ghost use Rattle.just_lang_shapes.specs.Attributes.{first_of, has_attribute, begins_underscore, is_private, first_text, text_behind, texts_behind, doc_of, groups_of};
 
 use super::steps::push_some;
-use just_lang_rules::{Texts, const_text};
 use just_lang_syntax::{Argument, Attribute};
+use just_lang_types::{Texts, const_text};
 use just_path_text::{NoMemory, Seq, Text};
 use std::alloc::Global;
 

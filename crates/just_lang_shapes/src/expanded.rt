@@ -3,8 +3,8 @@ ghost use Rattle.std.specs.Prelude.{◌≡◌, IfOk};
 ghost use Rattle.just_lang_shapes.specs.Expansions.{expanded_argument, expanded_arguments, expanded_attribute, expanded_attributes, expanded_fragment, expanded_fragments, expanded_line, expanded_lines};
 
 use super::expansions::{copy_of_name, expanded_expr};
-use just_lang_rules::Texts;
 use just_lang_syntax::{Argument, Attribute, Fragment, Line, Name};
+use just_lang_types::Texts;
 use just_path_text::{NoMemory, Seq, TryClone};
 use std::alloc::Global;
 

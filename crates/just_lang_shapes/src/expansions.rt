@@ -3,8 +3,8 @@ ghost use Rattle.std.specs.Prelude.{◌≡◌, IfOk};
 ghost use Rattle.just_lang_shapes.specs.Expansions.{literal_with, expanded_literal, expanded_expr, expanded_exprs, expanded_default};
 
 use just_lang_read::Boxed;
-use just_lang_rules::Texts;
 use just_lang_syntax::{Expr, Name, Quote, StringLiteral};
+use just_lang_types::Texts;
 use just_path_text::{NoMemory, Seq, Text, TryClone};
 use std::alloc::Global;
 

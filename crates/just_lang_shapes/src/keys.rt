@@ -6,8 +6,8 @@ ghost use Rattle.just_lang_shapes.specs.Attributes.{first_of};
 ghost use Rattle.just_lang_shapes.specs.Parameters.{is_alone, stands_alone, is_key, keys_behind, keys_for, or_earlier, found_at, keys_in, AreKeys, value_at, values_of, value_of};
 
 use super::steps::push_some;
-use just_lang_rules::{Texts, const_text};
 use just_lang_syntax::{Argument, Attribute, Expr, Name};
+use just_lang_types::{Texts, const_text};
 use just_path_text::{NoMemory, Seq, Text};
 use std::alloc::Global;
 use std::collections::BTreeMap;

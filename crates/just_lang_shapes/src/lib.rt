@@ -1,4 +1,4 @@
-//! The shapes of a justfile that single items make: recipes, parameters, settings, and what listings say.
+//! The room of the language: the shapes that single items make, such as recipes, parameters and settings.
 #![tactic(auto)]
 
 mod attributes;

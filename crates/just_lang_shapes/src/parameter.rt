@@ -5,9 +5,8 @@ ghost use Rattle.just_lang_shapes.specs.Parameters.{value_of, values_of, pattern
 use super::expansions::expanded_default;
 use super::keys::{has_key, keys_of, stands_alone, value_of, values_of};
 use super::number::number_of;
-use just_lang_rules::Texts;
 use just_lang_syntax::{Argument, AstParameter, Attribute};
-use just_lang_types::{Parameter, Pattern};
+use just_lang_types::{Parameter, Pattern, Texts};
 use just_path_text::{NoMemory, Seq, Text, TryClone};
 use std::alloc::Global;
 

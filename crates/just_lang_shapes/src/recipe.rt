@@ -9,9 +9,8 @@ ghost use Rattle.just_lang_shapes.specs.Recipes.{path_within, recipe_of};
 use super::attributes::{doc_of, is_private};
 use super::expanded::{expanded_attributes, expanded_lines};
 use super::parameter::parameters_of;
-use just_lang_rules::{Texts, is_script};
 use just_lang_syntax::{AstRecipe, Attribute, Line};
-use just_lang_types::{Dependency, Modulepath, Parameter, Recipe};
+use just_lang_types::{Dependency, Modulepath, Parameter, Recipe, Texts, is_script};
 use just_path_text::{NoMemory, Seq, Text, TryClone};
 use std::alloc::Global;
 

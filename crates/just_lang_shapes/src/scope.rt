@@ -5,10 +5,9 @@ ghost use Rattle.just_lang_shapes.specs.Scopes.{assignment_in, assignments_of, u
 
 use super::expansions::expanded_expr;
 use super::steps::push_some;
-use just_lang_rules::Texts;
 use just_lang_spots::Entry;
 use just_lang_syntax::AstItem;
-use just_lang_types::Assignment;
+use just_lang_types::{Assignment, Texts};
 use just_path_text::{NoMemory, Seq, Text, TryClone};
 use std::alloc::Global;
 
