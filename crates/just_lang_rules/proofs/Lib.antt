@@ -4,4 +4,3 @@ pub mod Names
 pub mod Misplaced
 pub mod Folds
 pub mod Loops
-pub mod Choices

@@ -1,14 +1,10 @@
 -- The rules on attributes.
-use Rattle.std.specs.Prelude.{ℕ, Bool, false, not, ◌&&◌, ◌||◌, ◌==◌, if◌then◌else◌, List, [], ◌∷◌, ◌++◌, map, filter_map, Option, Some, None, option_map, bytes_eq, codes, slice_get}
-use Rattle.std.specs.List.{flat_map, list_any}
+use Rattle.std.specs.Prelude.{ℕ, Bool, false, not, ◌&&◌, ◌||◌, if◌then◌else◌, List, [], ◌++◌, map, filter_map, Option, Some, None, option_map, codes, slice_get}
+use Rattle.std.specs.List.{flat_map}
 use Rattle.just_lang_syntax.specs.Forms.{is_one_of}
 use Rattle.just_lang_syntax.specs.declared.ast.StringLiteral.{StringLiteral}
 use Rattle.just_lang_syntax.specs.declared.ast.Argument.{Argument}
 use Rattle.just_lang_syntax.specs.declared.ast.Attribute.{Attribute}
-use Rattle.just_lang_syntax.specs.declared.ast.AstRecipe.{AstRecipe}
-use Rattle.just_lang_syntax.specs.declared.ast.Fragment.{Fragment}
-use Rattle.just_lang_syntax.specs.declared.ast.Fragment.TheVariants as fragment
-use Rattle.just_lang_syntax.specs.declared.ast.Line.{Line}
 use Rattle.just_lang_syntax.specs.declared.ast.AstItem.{AstItem}
 use Rattle.just_lang_syntax.specs.declared.ast.AstItem.TheVariants as item
 use Rattle.just_lang_spots.specs.declared.spot.Spot.{Spot}
@@ -17,7 +13,8 @@ use Rattle.just_lang_spots.specs.Spots.{spot_where}
 use Rattle.just_lang_spots.specs.Places.{name_spot, argument_spot}
 use Rattle.just_lang_rules.specs.Tables.{recipe_attributes, module_attributes}
 use Rattle.just_lang_spots.specs.Repeated.{repeated, is_among}
-use Rattle.just_lang_rules.specs.ConstantTexts.{const_text}
+use Rattle.just_lang_types.specs.Attributes.{is_called, is_shebang, is_script}
+use Rattle.just_lang_types.specs.ConstantTexts.{const_text}
 
 -- ---- attributes that there aren't
 
@@ -36,9 +33,6 @@ unknown_attribute_of file (item.Setting name value comment) = []
 unknown_attribute_of file (item.Recipe r) = unknown_among recipe_attributes file r.attributes
 
 -- ---- attributes that come twice
-
-abbrev pub is_called : List ℕ → Attribute → Bool
-is_called name a = bytes_eq a.name.text name
 
 -- an attribute that may come once, with its place: all but `group` and `arg`
 abbrev pub single_name : ℕ → Attribute → Option (List ℕ × Spot)
@@ -101,29 +95,6 @@ module _ (text_of : StringLiteral → Option (List ℕ)) where
   unknown_args_of file (item.Recipe r) = flat_map (unknown_arg_of file (map (λ p. p.name.text) r.parameters)) r.attributes
 
 -- ---- attributes that don't go with the body
-
--- whether a text begins with `#!`
-abbrev pub begins_shebang : List ℕ → Bool
-begins_shebang [] = false
-begins_shebang (a ∷ []) = false
-begins_shebang (a ∷ b ∷ rest) = a == 35 && b == 33
-
-abbrev pub fragments_begin_shebang : List Fragment → Bool
-fragments_begin_shebang [] = false
-fragments_begin_shebang (fragment.Text text ∷ rest) = begins_shebang text
-fragments_begin_shebang (fragment.Value x ∷ rest) = false
-
--- whether the first line of a body begins with `#!`
-abbrev pub is_shebang : List Line → Bool
-is_shebang [] = false
-is_shebang (line ∷ lines) = fragments_begin_shebang line.fragments
-
-abbrev pub has_script : List Attribute → Bool
-has_script attributes = list_any (is_called (codes "script")) attributes
-
--- whether a body is one script: it has a shebang, or the recipe the attribute `script`
-abbrev pub is_script : AstRecipe → Bool
-is_script r = is_shebang r.body || has_script r.attributes
 
 -- `script` over a body with a shebang, and `cache` over one that is run line by line
 abbrev pub conflicts : Bool → Bool → Attribute → Bool

@@ -6,7 +6,7 @@ use Rattle.just_lang_syntax.specs.declared.ast.AstItem.{AstItem}
 use Rattle.just_lang_syntax.specs.declared.ast.AstItem.TheVariants as item
 use Rattle.just_lang_spots.specs.declared.spot.Spot.{Spot}
 use Rattle.just_lang_spots.specs.Places.{name_spot}
-use Rattle.just_lang_rules.specs.AttributeSpots.{is_called}
+use Rattle.just_lang_types.specs.Attributes.{is_called}
 
 -- the places of the attribute `default` among some
 abbrev pub default_attributes : ℕ → List Attribute → List Spot

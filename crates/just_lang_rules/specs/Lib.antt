@@ -6,6 +6,5 @@ pub mod Expansions
 pub mod FaultSpots
 pub mod SettingSpots
 pub mod AttributeSpots
-pub mod Options
 pub mod ParameterSpots
 pub mod DefaultSpots

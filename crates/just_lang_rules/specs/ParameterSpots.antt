@@ -10,7 +10,7 @@ use Rattle.just_lang_syntax.specs.declared.ast.AstItem.TheVariants as item
 use Rattle.just_lang_spots.specs.declared.spot.Spot.{Spot}
 use Rattle.just_lang_spots.specs.Spots.{spot_where}
 use Rattle.just_lang_spots.specs.Places.{name_spot}
-use Rattle.just_lang_rules.specs.Options.{is_option}
+use Rattle.just_lang_types.specs.Options.{is_option}
 
 -- the parameters of an item that is a recipe
 abbrev pub parameters_of : AstItem → List AstParameter

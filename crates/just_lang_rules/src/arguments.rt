@@ -3,10 +3,9 @@ ghost use Rattle.std.specs.Prelude.{◌≡◌, map};
 ghost use Rattle.just_lang_spots.specs.Repeated.{is_among};
 ghost use Rattle.just_lang_rules.specs.AttributeSpots.{is_stranger};
 
-use super::expr_text::const_text;
-use super::texts::Texts;
 use just_lang_spots::{Rule, Spot, argument_spot, first_among, spot_where};
 use just_lang_syntax::{AstItem, AstParameter, Attribute};
+use just_lang_types::{Texts, const_text};
 use just_path_text::{NoMemory, Text};
 use std::alloc::Global;
 

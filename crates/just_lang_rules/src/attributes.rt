@@ -2,11 +2,11 @@
 ghost use Rattle.std.specs.Prelude.{◌≡◌, codes};
 ghost use Rattle.just_lang_syntax.specs.Forms.{is_one_of};
 ghost use Rattle.just_lang_rules.specs.Tables.{recipe_attributes, module_attributes};
-ghost use Rattle.just_lang_rules.specs.AttributeSpots.{is_called, begins_shebang, is_shebang, has_script, is_script};
 
 use super::listed::is_one_of;
 use just_lang_spots::{Rule, Spot, first_among, name_spot, spot_where};
-use just_lang_syntax::{AstItem, AstRecipe, Attribute, Fragment, Line};
+use just_lang_syntax::{AstItem, Attribute};
+use just_lang_types::{is_script, is_shebang};
 use just_path_text::NoMemory;
 use std::alloc::Global;
 
@@ -122,48 +122,6 @@ impl Rule<AstItem> for UnknownAttribute {
             _ => Ok(None),
         }
     }
-}
-
-/// Whether the text begins with `#!`.
-fn begins_shebang(text: &str) -> bool
-    ensures { result ≡ begins_shebang text.now }
-{
-    match text.as_bytes() {
-        [first, second, ..] => *first == b'#' && *second == b'!',
-        _ => false,
-    }
-}
-
-/// Whether the first line of a body begins with `#!`.
-fn is_shebang(body: &[Line]) -> bool
-    ensures { result ≡ is_shebang body.now }
-{
-    match body {
-        [] => false,
-        [line, ..] => match line.fragments.as_slice() {
-            [Fragment::Text(text), ..] => begins_shebang(text.as_str()),
-            _ => false,
-        },
-    }
-}
-
-/// Whether one of the attributes is `script`.
-fn has_script(attributes: &[Attribute]) -> bool
-    ensures { result ≡ has_script attributes.now }
-{
-    'attributes: for attribute in attributes {
-        if attribute.name.text.as_str() == "script" {
-            return true;
-        }
-    }
-    false
-}
-
-/// Whether the body of a recipe is one script.
-pub fn is_script(recipe: &AstRecipe) -> bool
-    ensures { result ≡ is_script recipe.now }
-{
-    is_shebang(recipe.body.as_slice()) || has_script(recipe.attributes.as_slice())
 }
 
 /// The rule that an attribute goes with the body that has this form.

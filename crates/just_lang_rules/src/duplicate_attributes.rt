@@ -5,12 +5,11 @@ ghost use Rattle.just_lang_spots.specs.Spots.{first_spot};
 ghost use Rattle.just_lang_spots.specs.Repeated.{named};
 ghost use Rattle.just_lang_rules.specs.AttributeSpots.{arg_name, arg_pair, duplicate_among};
 
-use super::expr_text::const_text;
-use super::texts::Texts;
 use just_lang_spots::{
     Named, Naming, Rule, Spot, earlier, first_repeated, first_repeated_among, name_spot,
 };
 use just_lang_syntax::{AstItem, Attribute};
+use just_lang_types::{Texts, const_text};
 use just_path_text::{NoMemory, Text};
 use std::alloc::{AllocError, Global};
 

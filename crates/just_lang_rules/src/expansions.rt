@@ -4,12 +4,12 @@ ghost use Rattle.just_lang_rules.specs.Expansions.{cannot_expand, expansion_spot
 ghost use Rattle.just_lang_rules.specs.Literals.{literals_of_expr, literals_behind_colon, literals_of_recipe, literals_of_setting, literals_of_path};
 ghost use Rattle.just_lang_spots.specs.Spots.{first_spot};
 
-use super::texts::Texts;
 use just_lang_spots::{Rule, Spot, earlier, first_among, literal_spot, spot_where};
 use just_lang_syntax::{
     Argument, AstDependency, AstItem, AstParameter, AstRecipe, Attribute, Expr, Fragment, Line,
     SettingValue, StringLiteral,
 };
+use just_lang_types::Texts;
 use just_path_text::NoMemory;
 use std::alloc::Global;
 

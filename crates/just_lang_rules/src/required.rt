@@ -3,10 +3,9 @@ ghost use Rattle.std.specs.Prelude.{◌≡◌, ◌||◌, IfOk, false, is_some};
 ghost use Rattle.just_lang_spots.specs.Spots.{first_spot};
 ghost use Rattle.just_lang_rules.specs.ParameterSpots.{wants_value, is_misplaced, misplaced, required_behind};
 
-use super::options::is_option;
-use super::texts::Texts;
 use just_lang_spots::{Rule, Spot, earlier, name_spot, spot_where};
 use just_lang_syntax::{AstItem, AstParameter, Attribute, ParameterKind};
+use just_lang_types::{Texts, is_option};
 use just_path_text::NoMemory;
 use std::alloc::Global;
 
