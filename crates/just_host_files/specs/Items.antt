@@ -1,5 +1,7 @@
 -- Items of things, and the place of a name among items by rising names.
-use Rattle.std.specs.Prelude.{ℕ, ◌≡◌, ◌<◌, ◌≤◌, true, false, if◌then◌else◌, List, [], ◌∷◌, ◌++◌, length, slice_index_or, Option, None, option_map}
+use Rattle.std.specs.Prelude.{ℕ, ◌≡◌, ◌<◌, ◌≤◌, true, false, if◌then◌else◌, List, [], ◌∷◌, ◌++◌, length, map, slice_index_or, Option, None, option_map, IsPermutation}
+use Rattle.std.specs.List.{IsDistinct}
+use Rattle.std.specs.Str.{bytes_eq}
 use Rattle.std.specs.FinMap.{find}
 use Rattle.std.specs.FinMap.Entries.{put}
 use Rattle.std.specs.Ordering.{nat_cmp, is_gt}
@@ -20,6 +22,14 @@ pub record IsPlaceOf (name : List ℕ) (at : ℕ) (es : List (List ℕ × Kind))
 abbrev pub put_in : List (List ℕ × Kind) → List Item → List (List ℕ × Kind)
 put_in kinds [] = kinds
 put_in kinds (x ∷ xs) = put_in (put (slice_cmp nat_cmp) x.name x.kind kinds) xs
+
+-- no two items have one name
+abbrev pub NamesDiffer : List Item → Type 0
+NamesDiffer items = IsDistinct bytes_eq (map (λ (i : Item). i.name) items)
+
+-- the items are those that were found, each once, where no two have one name
+abbrev pub AreThoseFound : List Item → List Item → Type 0
+AreThoseFound found items = NamesDiffer found → IsPermutation (named found) (named items)
 
 -- the kind of the first thing whose path is that front with the name behind it
 abbrev pub kind_behind : List ℕ → List (List ℕ × Thing) → List ℕ → Option Kind

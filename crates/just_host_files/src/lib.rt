@@ -1,5 +1,4 @@
-//! The system's files and environment, as the host of this process asks for them; and what hosts have in common: items by their names, texts that bytes are,
-//! and copies. What a host is stands in `just_host_record`.
+//! The room of hosts: the system's files and environment, as the host of this process asks for them, with what hosts have in common.
 #![tactic(auto)]
 
 mod copies;

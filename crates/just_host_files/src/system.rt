@@ -6,6 +6,7 @@ ghost use Rattle.std.specs.Path.{path_buf_bytes};
 ghost use Rattle.just_path.specs.View.{AreInOrder, AreNamesInOrder};
 ghost use Rattle.just_host_record.specs.declared.outside.TheConstants.{MAX_BYTES};
 ghost use Rattle.just_host_record.specs.World.{text_in};
+ghost use Rattle.just_host_files.specs.Items.{AreThoseFound};
 ghost use Rattle.just_host_files.specs.Texts.{Tells, pairs_in};
 
 use super::items::{in_order, names_of};
@@ -94,7 +95,8 @@ pub fn names<F: Files>(files: &F, alloc: Global, path: &str) -> io::Result<Seq<T
 
 /// The items by rising names.
 fn sorted(alloc: Global, found: Vec<Item>) -> io::Result<Vec<Item>>
-    ensures { IfOk result (λ v. AreInOrder v.items) }
+    ensures order { IfOk result (λ v. AreInOrder v.items) }
+    ensures all { IfOk result (λ v. AreThoseFound found.items v.items) }
 {
     let mut items = found;
     // sorted, so that each goes to the end of those before it
