@@ -5,7 +5,7 @@ use Rattle.just_lang_syntax.specs.declared.ast.Argument.{Argument}
 use Rattle.just_lang_syntax.specs.declared.ast.Attribute.{Attribute}
 use Rattle.just_lang_syntax.specs.Meanings.{text_of}
 use Rattle.just_lang_types.specs.declared.settings.Settings.{Settings}
-use Rattle.just_lang_rules.specs.ConstantTexts.{const_text}
+use Rattle.just_lang_types.specs.ConstantTexts.{const_text}
 use Rattle.just_exec_work.specs.declared.run_attributes.RunAttributes.{RunAttributes}
 
 -- the attribute of that name: the first

@@ -5,9 +5,8 @@ ghost use Rattle.just_exec_work.specs.Attributes.{attribute_named, has_attribute
 
 use super::RunAttributes;
 use just_lang_read::ReadError;
-use just_lang_rules::{Texts, const_text};
 use just_lang_syntax::{Argument, Attribute, StringLiteral};
-use just_lang_types::{Recipe, Settings};
+use just_lang_types::{Recipe, Settings, Texts, const_text};
 use just_path_text::{NoMemory, Seq, Text};
 use std::alloc::Global;
 

@@ -1,16 +1,12 @@
-//! What the body of a recipe has to run: scripts with their shebangs and interpreters, and the children of its lines.
-//!
-//! Scripts: what runs the script of a recipe, and the script's name and text.
+//! The room of execution: what the body of a recipe has to run, the children of its lines or the one of its script.
 //!
 //! A body that begins with `#!` is a script that its first line's program runs; that of a recipe with `[script]` is run by
 //! a command, which takes the script's path as an argument. A line of the script stands at the number that it has in the
 //! justfile, so that what the program says of a line is true of the justfile's.
 //!
-//! What the body of a recipe has to run: the children of its lines, or the one of its script, with their programs, arguments,
-//! folders, and what is printed in front of them.
-//!
-//! What it is made of is known: the recipe with the values of its parameters, the lines of its body with their values, the
-//! settings and the folder of its module, and the changes of the environment.
+//! A child comes with its program, arguments and folder, and with what is printed in front of it. What it is made of is
+//! known: the recipe with the values of its parameters, the lines of its body with their values, the settings and the folder
+//! of its module, and the changes of the environment.
 #![tactic(auto)]
 
 mod attribute;

@@ -14,6 +14,7 @@ use just_host_record::Spec;
 use just_lang_types::{BodyLine, Interpreter};
 use just_path_text::{NoMemory, Seq, Text};
 use std::alloc::Global;
+use std::mem;
 
 /// Adds the words behind a line.
 fn push_words(
@@ -64,10 +65,10 @@ fn line_child(
 {
     let changes = copied_changes(alloc, run.changes)?;
     let folder = recipe_folder(alloc, run.settings, attributes, run.folder)?;
-    let shell = shell(alloc, run.flags, run.settings)?;
+    let mut shell = shell(alloc, run.flags, run.settings)?;
     let arguments = line_arguments(alloc, run, attributes, &shell, line)?;
     Ok(Spec {
-        program: shell.command,
+        program: mem::replace(&mut shell.command, Text::from(String::new(alloc))),
         arguments,
         folder,
         changes,
