@@ -15,7 +15,7 @@ use Rattle.just_eval_closure.specs.Answers.{Answer, and_then, each}
 use Rattle.just_eval_closure.specs.AskedClosures.{around_of}
 use Rattle.just_eval_closure.specs.Dependencies.{argument, shares, values_given, key_to, key_of, keys_of}
 use Rattle.just_eval_closure.specs.Ends.{dependencies_of, ends_within, AreEnding, longest_within, longest}
-use Rattle.just_eval_closure.specs.Modules.{Located, located, recipe_at}
+use Rattle.just_lang_types.specs.Modules.{Located, located, recipe_at}
 
 -- ---- tests
 

@@ -20,7 +20,7 @@ use Rattle.just_eval_closure.proofs.Numbered.{path_tie}
 use Rattle.just_eval_closure.specs.declared.entry.Entry.{Entry}
 use Rattle.just_eval_closure.specs.declared.entry.Index.{Index}
 use Rattle.just_eval_closure.specs.Entries.{located_of, Sees, IsFound, first_or, indexed, AreEntries, Enters, AreFirst}
-use Rattle.just_eval_closure.specs.Modules.{recipes_of, Located, located, located_at}
+use Rattle.just_lang_types.specs.Modules.{recipes_of, Located, located, located_at}
 
 -- whether an entry's recipe has that path
 abbrev has_path : Modulepath → Entry → Bool

@@ -7,7 +7,7 @@ use Rattle.just_lang_types.specs.declared.scope.Scopes.{Scopes}
 use Rattle.just_lang_types.specs.declared.project.LangError.{LangError}
 use Rattle.just_eval_closure.specs.Answers.{and_then}
 use Rattle.just_eval_closure.specs.Dependencies.{value_from, values_behind}
-use Rattle.just_eval_closure.specs.Modules.{Located}
+use Rattle.just_lang_types.specs.Modules.{Located}
 
 abbrev Share : Type 0
 Share = Option (List (List ℕ))

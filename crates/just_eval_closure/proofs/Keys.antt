@@ -7,7 +7,7 @@ use Rattle.just_lang_types.specs.declared.scope.Scopes.{Scopes}
 use Rattle.just_lang_types.specs.declared.project.Justfile.{Justfile}
 use Rattle.just_lang_types.specs.declared.project.LangError.{LangError}
 use Rattle.just_eval_closure.specs.Answers.{Answer, and_then, each}
-use Rattle.just_eval_closure.specs.Modules.{Located, recipe_at}
+use Rattle.just_lang_types.specs.Modules.{Located, recipe_at}
 use Rattle.just_eval_closure.specs.declared.entry.Entry.{Entry}
 use Rattle.just_eval_closure.specs.Dependencies.{argument, shares, values_given, key_to, key_of, keys_of, deps}
 use Rattle.just_eval_closure.specs.Entries.{located_of, IsFound}

@@ -12,7 +12,6 @@ pub mod Popped
 pub mod Tasks
 pub mod Exprs
 pub mod Bindings
-pub mod Nesting
 pub mod Each
 pub mod Shares
 pub mod GivenValues

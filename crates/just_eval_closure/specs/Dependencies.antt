@@ -18,7 +18,7 @@ use Rattle.just_lang_types.specs.declared.project.LangError.TheVariants as error
 use Rattle.just_eval_closure.specs.Scopes.{text_of_value, value_of_text, value_among, meaning_in, levels_within, pairs_for, found_in, scope_of}
 use Rattle.just_eval_closure.specs.Values.{value}
 use Rattle.just_eval_closure.specs.Answers.{Answer, and_then, each, told}
-use Rattle.just_eval_closure.specs.Modules.{path_of, Located, recipe_at}
+use Rattle.just_lang_types.specs.Modules.{path_of, Located, recipe_at}
 
 -- ---- scopes of recipes
 

@@ -4,7 +4,7 @@ use Rattle.std.specs.List.{list_all}
 use Rattle.just_lang_types.specs.declared.recipe.Dependency.{Dependency}
 use Rattle.just_lang_types.specs.declared.recipe.Modulepath.{Modulepath}
 use Rattle.just_lang_types.specs.declared.project.Justfile.{Justfile}
-use Rattle.just_eval_closure.specs.Modules.{Located, located, recipe_at}
+use Rattle.just_lang_types.specs.Modules.{Located, located, recipe_at}
 
 -- what the recipe of a path depends on
 abbrev pub dependencies_of : Option Located → List Dependency

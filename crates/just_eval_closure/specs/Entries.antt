@@ -10,7 +10,7 @@ use Rattle.just_eval_closure.specs.Marks.{path_mark}
 use Rattle.just_eval_closure.specs.Numbers.{path_cmp}
 use Rattle.just_eval_closure.specs.Scopes.{pairs_for, scope_of}
 use Rattle.just_eval_closure.specs.Dependencies.{levels_in}
-use Rattle.just_eval_closure.specs.Modules.{path_of, Located, located_at}
+use Rattle.just_lang_types.specs.Modules.{path_of, Located, located_at}
 use Rattle.just_eval_closure.specs.declared.entry.Entry.{Entry}
 use Rattle.just_eval_closure.specs.declared.entry.Index.{Index}
 

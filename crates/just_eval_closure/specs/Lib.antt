@@ -10,7 +10,6 @@ pub mod Closures
 pub mod Values
 pub mod Asked
 pub mod Scopes
-pub mod Modules
 pub mod Answers
 pub mod Dependencies
 pub mod Entries

@@ -1,6 +1,6 @@
 -- What a request knows of its project.
 use Rattle.std.specs.Prelude.{map}
-use Rattle.just_eval_closure.specs.Modules.{located}
+use Rattle.just_lang_types.specs.Modules.{located}
 use Rattle.just_eval_closure.specs.declared.request.Request.{Request}
 use Rattle.just_eval_closure.specs.Entries.{AreEntries}
 

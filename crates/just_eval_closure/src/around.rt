@@ -4,7 +4,7 @@ ghost use Rattle.std.specs.Prelude.{[], ◌∷◌, List};
 ghost use Rattle.just_lang_types.specs.declared.project.Justfile.{Justfile};
 ghost use Rattle.just_eval_closure.specs.Answers.{Gives};
 ghost use Rattle.just_eval_closure.specs.Dependencies.{deps};
-ghost use Rattle.just_eval_closure.specs.Modules.{AreModules};
+ghost use Rattle.just_lang_types.specs.Modules.{AreModules};
 
 use super::request::Request;
 use just_lang_types::project::{Justfile, LangError};
@@ -13,7 +13,7 @@ use just_path_text::Seq;
 use std::alloc::Global;
 
 /// The keys that a key depends on: those that come before it, and those that come behind it.
-#[tactic(auto, using(crate::proofs::Nesting::same_modules))]
+#[tactic(auto, using(just_lang_types::proofs::Nesting::same_modules))]
 pub fn dependencies(
     alloc: Global,
     justfile: &Justfile,

@@ -9,7 +9,7 @@ ghost use Rattle.just_eval_closure.specs.WellFormed.{IsWellFormed};
 ghost use Rattle.just_eval_closure.specs.AskedClosures.{around_of};
 ghost use Rattle.just_eval_closure.specs.Ends.{AreEnding, longest};
 ghost use Rattle.just_eval_closure.specs.Requests.{IsIndexed};
-ghost use Rattle.just_eval_closure.specs.Modules.{AreModules};
+ghost use Rattle.just_lang_types.specs.Modules.{AreModules};
 
 use super::request::Request;
 use crate::{CLOSURE_LIMIT, Surroundings, closure_of};
@@ -61,7 +61,7 @@ pub fn closure_within(
 
 /// The closure of some keys: a node for each key that they need, once in each round, in the order of a run on one thread.
 /// Without dependencies each key needs itself alone.
-#[tactic(auto, using(crate::proofs::Nesting::same_modules))]
+#[tactic(auto, using(just_lang_types::proofs::Nesting::same_modules))]
 pub fn closure(
     alloc: Global,
     justfile: &Justfile,

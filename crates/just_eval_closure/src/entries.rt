@@ -4,7 +4,7 @@ ghost use Rattle.std.specs.Prelude.{◌≡◌, ◌++◌, map, All, IfOk, OnOk};
 ghost use Rattle.just_eval_closure.specs.Scopes.{scope_of};
 ghost use Rattle.just_eval_closure.specs.Dependencies.{levels_in};
 ghost use Rattle.just_eval_closure.specs.Entries.{located_of, Sees};
-ghost use Rattle.just_eval_closure.specs.Modules.{recipes_of, located};
+ghost use Rattle.just_lang_types.specs.Modules.{recipes_of, located};
 
 use super::entry::Entry;
 use crate::pairs_for;

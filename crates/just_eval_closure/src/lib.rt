@@ -1,4 +1,4 @@
-//! The values of expressions, what a request asks of a project, and the closure of its keys.
+//! The room of values: the values of expressions, what a request asks of a project, and the closure of its keys.
 #![tactic(auto)]
 
 mod argument;
@@ -12,7 +12,6 @@ mod given;
 mod index;
 mod key_closure;
 mod mark;
-mod modules;
 mod number;
 mod ran;
 mod register;
@@ -29,7 +28,6 @@ pub use entry::{Entry, Index};
 pub use expression::{Env, Names, value};
 pub use key_closure::closure_of;
 pub use mark::path_mark;
-pub use modules::all_modules;
 pub use ran::Ran;
 pub use request::Request;
 pub use scope::{View, pairs_for, text_of};

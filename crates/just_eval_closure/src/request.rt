@@ -5,16 +5,16 @@ ghost use Rattle.just_eval_closure.specs.Answers.{Gives, each};
 ghost use Rattle.just_eval_closure.specs.Dependencies.{key_of, deps};
 ghost use Rattle.just_eval_closure.specs.Entries.{located_of, Sees, IsFound};
 ghost use Rattle.just_eval_closure.specs.Requests.{IsIndexed};
-ghost use Rattle.just_eval_closure.specs.Modules.{recipe_at, AreModules};
+ghost use Rattle.just_lang_types.specs.Modules.{recipe_at, AreModules};
 
 use super::argument::{arguments, shares};
 use super::entries::entries;
 use super::entry::{Entry, Index};
 use super::given::values_given;
 use super::index::index_of;
-use crate::{all_modules, copy_of_path};
+use crate::copy_of_path;
 use just_lang_types::project::{Justfile, LangError};
-use just_lang_types::{Dependency, Key, Modulepath, Scopes, Value};
+use just_lang_types::{Dependency, Key, Modulepath, Scopes, Value, all_modules};
 use just_path_text::{NoMemory, Seq};
 use std::alloc::Global;
 

@@ -5,9 +5,9 @@ use Rattle.just_lang_types.specs.declared.project.LangError.TheVariants.{NoMemor
 use Rattle.just_eval_closure.specs.Closures.{IsClosureOf}
 use Rattle.just_eval_closure.specs.Visits.{Visits}
 use Rattle.just_eval_closure.proofs.Tasks.{if_err}
-use Rattle.just_eval_closure.specs.Modules.{AreModules}
+use Rattle.just_lang_types.specs.Modules.{AreModules}
 use Rattle.just_eval_closure.proofs.Exprs.{if_ok}
-use Rattle.just_eval_closure.proofs.Nesting.{same_modules}
+use Rattle.just_lang_types.proofs.Nesting.{same_modules}
 use Rattle.just_eval_closure.specs.AskedClosures.{around_of}
 use Rattle.just_eval_closure.proofs.closing.closure.Goals as goal
 

@@ -2,7 +2,7 @@
 use Rattle.std.proofs.Common.{◌≡◌, ◌++◌, drop, map}
 use Rattle.std.specs.List.{All}
 use Rattle.just_eval_closure.specs.Entries.{located_of, Sees}
-use Rattle.just_eval_closure.specs.Modules.{recipes_of}
+use Rattle.just_lang_types.specs.Modules.{recipes_of}
 use Rattle.just_eval_closure.proofs.entries.push_entries.Given as goal
 
 abbrev pub invariant-recipes : goal.invariant-recipes

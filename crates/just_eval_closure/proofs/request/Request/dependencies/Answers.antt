@@ -2,7 +2,7 @@
 use Rattle.std.proofs.Common.{rules, ◌≡◌, ◌≢◌, map, Some, Ok, Err, sym, ap, ◌∙◌}
 use Rattle.just_lang_types.specs.declared.project.LangError.TheVariants.{NoMemory}
 use Rattle.just_eval_closure.specs.Answers.{each}
-use Rattle.just_eval_closure.specs.Modules.{recipe_at}
+use Rattle.just_lang_types.specs.Modules.{recipe_at}
 use Rattle.just_eval_closure.specs.Dependencies.{key_of, deps}
 use Rattle.just_eval_closure.specs.Entries.{located_of, IsFound}
 use Rattle.just_eval_closure.proofs.Keys.{deps_subsequents_refused}

@@ -1,6 +1,6 @@
 -- The index finds each recipe.
 use Rattle.std.proofs.Common.{map, ap, ◌∙◌, subst}
-use Rattle.just_eval_closure.specs.Modules.{located}
+use Rattle.just_lang_types.specs.Modules.{located}
 use Rattle.just_eval_closure.specs.Entries.{AreFirst}
 use Rattle.just_eval_closure.proofs.EntryLists.{entries_found}
 use Rattle.just_eval_closure.proofs.request.Request.new.Goals as goal
