@@ -43,7 +43,7 @@ fn work_by(
     lines: &[BodyLine],
 ) -> Result<Work, NoMemory>
     ensures { IfOk result (λ w. w ≡ ScriptWork
-        (script_command (run_of run.now) attributes.now (runner_of executor) lines.now)) }
+        (script_command (run_of run.now) attributes.now (runner_of executor.entry) lines.now)) }
 {
     let command = script_command(alloc, run, attributes, &executor, lines)?;
     drop(executor);
