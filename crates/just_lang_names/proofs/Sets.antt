@@ -15,7 +15,7 @@ use Rattle.just_lang_syntax.specs.declared.ast.StringLiteral.{StringLiteral}
 use Rattle.just_lang_spots.proofs.ListLaws.{take_here}
 use Rattle.just_lang_spots.proofs.Seen.{text_cmp}
 use Rattle.just_lang_spots.proofs.Tables.{query}
-use Rattle.just_lang_rules.specs.Options.{is_text, is_option_by}
+use Rattle.just_lang_types.specs.Options.{is_text, is_option_by}
 use Rattle.just_lang_names.specs.Arities.{option_of}
 use Rattle.just_lang_names.specs.ScopeSpots.{has_parameter}
 use Rattle.just_lang_names.proofs.ArityLaws.{option_is}

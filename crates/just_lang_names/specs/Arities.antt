@@ -13,9 +13,9 @@ use Rattle.just_lang_syntax.specs.declared.ast.AstRecipe.{AstRecipe}
 use Rattle.just_lang_syntax.specs.declared.ast.Attribute.{Attribute}
 use Rattle.just_lang_syntax.specs.declared.ast.StringLiteral.{StringLiteral}
 use Rattle.just_lang_spots.specs.Entries.{entries}
-use Rattle.just_lang_rules.specs.AttributeSpots.{is_called}
-use Rattle.just_lang_rules.specs.ConstantTexts.{const_text}
-use Rattle.just_lang_rules.specs.Options.{names_option, is_option_by}
+use Rattle.just_lang_types.specs.Attributes.{is_called}
+use Rattle.just_lang_types.specs.ConstantTexts.{const_text}
+use Rattle.just_lang_types.specs.Options.{names_option, is_option_by}
 use Rattle.just_lang_rules.specs.ParameterSpots.{wants_value}
 use Rattle.just_lang_names.specs.declared.arity.Arities.{Arities}
 use Rattle.just_lang_names.specs.declared.arity.Arity.{Arity}

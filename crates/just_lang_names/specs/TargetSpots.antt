@@ -17,7 +17,7 @@ use Rattle.just_lang_spots.specs.declared.spot.Spot.{Spot}
 use Rattle.just_lang_spots.specs.Places.{name_spot}
 use Rattle.just_lang_spots.specs.Spots.{spot_where}
 use Rattle.just_lang_spots.specs.Standing.{Wins}
-use Rattle.just_lang_rules.specs.Options.{is_option}
+use Rattle.just_lang_types.specs.Options.{is_option}
 use Rattle.just_lang_rules.specs.ParameterSpots.{wants_value}
 use Rattle.just_lang_names.specs.Lookup.{Target, Found_recipe, Found_module, Found_absent, Found_nothing, dependency_target, alias_target}
 use Rattle.just_lang_names.specs.Standing.{standing_recipe_items}

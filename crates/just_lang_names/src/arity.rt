@@ -8,9 +8,9 @@ ghost use Rattle.just_lang_names.specs.TargetSpots.{is_variadic};
 
 use super::names::{ModuleNames, Names};
 use super::options::{Options, options_of};
-use just_lang_rules::Texts;
 use just_lang_spots::Entry;
 use just_lang_syntax::{AstItem, AstParameter, AstRecipe, ParameterKind};
+use just_lang_types::Texts;
 use just_path_text::{NoMemory, Seq};
 use std::alloc::{AllocError, Global};
 

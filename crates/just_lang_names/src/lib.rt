@@ -1,4 +1,4 @@
-//! Names: what they stand for in the scopes of a project, and what the paths of aliases and dependencies come to.
+//! The room of the language: what names stand for in scopes, and what the paths of aliases and dependencies come to.
 #![tactic(auto)]
 
 mod arity;

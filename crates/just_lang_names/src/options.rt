@@ -1,10 +1,10 @@
 //! The parameters of a recipe that are options, as a set.
 ghost use Rattle.std.specs.Prelude.{◌≡◌, ◌||◌, ℕ, List, IfOk, OnOk};
-ghost use Rattle.just_lang_rules.specs.Options.{is_text};
+ghost use Rattle.just_lang_types.specs.Options.{is_text};
 ghost use Rattle.just_lang_names.specs.Arities.{option_of_arguments, option_of, has_option_name, AreOptions};
 
-use just_lang_rules::{Texts, const_text, names_option};
 use just_lang_syntax::{Argument, Attribute};
+use just_lang_types::{Texts, const_text, names_option};
 use just_path_text::{NoMemory, Text};
 use std::alloc::Global;
 use std::collections::BTreeSet;

@@ -1,7 +1,7 @@
 -- The names of the options so far.
 use Rattle.std.proofs.Common.{◌≡◌, ℕ, List, take}
 use Rattle.std.specs.List.{list_any}
-use Rattle.just_lang_rules.specs.Options.{is_option_by}
+use Rattle.just_lang_types.specs.Options.{is_option_by}
 use Rattle.just_lang_names.specs.Arities.{has_option_name}
 use Rattle.just_lang_names.proofs.options.options_of.Given as goal
 

@@ -1,7 +1,7 @@
 -- The set has one more name.
 use Rattle.std.proofs.Common.{◌∙◌, ap, sym}
 use Rattle.std.specs.Prelude.{◌||◌}
-use Rattle.just_lang_rules.specs.Options.{is_text}
+use Rattle.just_lang_types.specs.Options.{is_text}
 use Rattle.just_lang_names.specs.Arities.{has_option_name}
 use Rattle.just_lang_names.proofs.Sets.{option_insert}
 use Rattle.just_lang_names.proofs.options.Options.add.Goals as goal
