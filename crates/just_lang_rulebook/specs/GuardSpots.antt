@@ -7,7 +7,7 @@ use Rattle.just_lang_syntax.specs.declared.ast.AstItem.TheVariants as item
 use Rattle.just_lang_spots.specs.declared.spot.Spot.{Spot}
 use Rattle.just_lang_spots.specs.Spots.{spot_where}
 use Rattle.just_lang_spots.specs.Items.{is_set}
-use Rattle.just_lang_rules.specs.AttributeSpots.{is_script}
+use Rattle.just_lang_types.specs.Attributes.{is_script}
 use Rattle.just_lang_rulebook.specs.Front.{goes_on, front}
 use Rattle.just_lang_rulebook.specs.Sigils.{is_guard_and_infallible}
 

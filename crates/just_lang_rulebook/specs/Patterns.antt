@@ -17,8 +17,8 @@ use Rattle.just_lang_syntax.specs.declared.ast.AstItem.TheVariants as item
 use Rattle.just_lang_spots.specs.declared.spot.Spot.{Spot}
 use Rattle.just_lang_spots.specs.Spots.{spot_where, earlier}
 use Rattle.just_lang_spots.specs.Places.{argument_spot}
-use Rattle.just_lang_rules.specs.AttributeSpots.{is_called}
-use Rattle.just_lang_rules.specs.ConstantTexts.{const_text}
+use Rattle.just_lang_types.specs.Attributes.{is_called}
+use Rattle.just_lang_types.specs.ConstantTexts.{const_text}
 use Rattle.just_lang_rulebook.specs.declared.refusals.Refusal.{Refusal}
 use Rattle.just_lang_rulebook.specs.declared.refusals.Refusal.TheVariants.{Syntax, Size}
 use Rattle.just_lang_rulebook.specs.declared.patterns.PatternText.{PatternText}

@@ -7,9 +7,9 @@ ghost use Rattle.just_lang_rulebook.specs.GuardSpots.{guard_spot, guard_spots_of
 use super::items::first_in_items;
 use super::line_front::{front, goes_on};
 use super::sigils::is_guard_and_infallible;
-use just_lang_rules::is_script;
 use just_lang_spots::{Entry, ModuleRule, Rule, Spot, earlier, is_set, spot_where};
 use just_lang_syntax::{AstItem, Line};
+use just_lang_types::is_script;
 use just_path_text::NoMemory;
 use std::alloc::Global;
 

@@ -1,4 +1,4 @@
-//! The rules on single items and on the items of a module, and the first place of a project that breaks one.
+//! The room of the language: the rules over a whole layout, and the first place of a project that breaks one.
 #![tactic(auto)]
 
 mod argument_kinds;

@@ -4,8 +4,8 @@ ghost use Rattle.just_lang_layout.specs.Paths.{Means};
 ghost use Rattle.just_lang_rulebook.specs.Meant.{meant};
 
 use just_lang_layout::meaning;
-use just_lang_rules::Texts;
 use just_lang_syntax::StringLiteral;
+use just_lang_types::Texts;
 use just_path_text::{Environ, NoMemory, Text};
 use std::alloc::Global;
 

@@ -7,9 +7,9 @@ ghost use Rattle.just_lang_rulebook.specs.Patterns.{is_pattern, pattern_pair, pa
 
 use super::patterns::{PatternText, patterns_of, push_of_item};
 use super::refusals::{Refusal, own_refusal, pattern_refusal};
-use just_lang_rules::Texts;
 use just_lang_spots::{Entry, Rule, Spot, earlier, spot_where};
 use just_lang_syntax::AstItem;
+use just_lang_types::Texts;
 use just_path_text::NoMemory;
 use std::alloc::Global;
 

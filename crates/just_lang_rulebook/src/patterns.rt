@@ -3,9 +3,9 @@ ghost use Rattle.std.specs.Prelude.{◌≡◌, ◌++◌, [], IfOk, OnOk, option_
 ghost use Rattle.std.specs.List.{cons_option, flat_map};
 ghost use Rattle.just_lang_rulebook.specs.Patterns.{pattern_pair, pattern_text, patterns_of_attribute, patterns_of};
 
-use just_lang_rules::{Texts, const_text};
 use just_lang_spots::{Spot, argument_spot};
 use just_lang_syntax::{Argument, AstItem, Attribute};
+use just_lang_types::{Texts, const_text};
 use just_path_text::{NoMemory, Text};
 use std::alloc::Global;
 
