@@ -3,8 +3,6 @@ use Rattle.std.specs.Prelude.{ℕ, ◌++◌, List, length, codes}
 use Rattle.just_print.specs.SmallTexts.{ticked, plural, list_text}
 use Rattle.just_config.specs.declared.config_error.ConfigError.{ConfigError}
 use Rattle.just_config.specs.declared.config_error.ConfigError.TheVariants as error
-use Rattle.just_config.specs.declared.unstable_feature.UnstableFeature.{UnstableFeature}
-use Rattle.just_config.specs.declared.unstable_feature.UnstableFeature.TheVariants as feature
 
 -- which command was used with something that it doesn't take
 abbrev pub use_text : List ℕ → List ℕ
@@ -28,8 +26,3 @@ error_text (error.SubcommandArguments subcommand arguments) = used_with subcomma
 error_text (error.SubcommandOverrides subcommand overrides) = used_with subcommand (codes "overrides") overrides
 error_text (error.SubcommandOverridesAndArguments subcommand overrides arguments) = used_with subcommand (codes "overrides") overrides ++ (codes "; and arguments: " ++ list_text (codes "and") arguments)
 error_text error.NoMemory = codes "error: out of memory"
-
--- that something is unstable
-abbrev pub feature_text : UnstableFeature → List ℕ
-feature_text feature.CachedRecipes = codes "cached recipes are currently unstable"
-feature_text feature.ListsSetting = codes "the `lists` setting is currently unstable"

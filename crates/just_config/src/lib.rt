@@ -1,4 +1,6 @@
-//! The configuration that the words of the command line give.
+//! The room of the command line: what its words mean, and the configuration that they give.
+//!
+//! [`read_words`] reads the words, by the crate `just_config_words`, and [`Config::from_arguments`] judges what they ask for.
 #![tactic(auto)]
 
 mod command;
@@ -13,7 +15,6 @@ mod positional;
 mod refusal;
 mod request;
 mod search_config;
-mod unstable_feature;
 mod verbosity;
 mod version;
 
@@ -21,9 +22,10 @@ pub use config::Config;
 pub use config_error::ConfigError;
 pub use help::HELP;
 pub use just_config_words::{Arguments, Read, Subcommand, Usage, UsageKind, read_words};
+pub use just_lang_types::{Modulepath, Override, UnstableFeature};
+pub use just_path::{Environ, NoMemory, Seq, Text, Utf8PathBuf};
 pub use positional::Positional;
 pub use request::{Request, Response};
 pub use search_config::SearchConfig;
-pub use unstable_feature::UnstableFeature;
 pub use verbosity::Verbosity;
 pub use version::Version;
