@@ -9,8 +9,8 @@ use Rattle.just_lang_layout.specs.declared.layout.Layout.{Layout}
 use Rattle.just_lang_layout.specs.declared.layout.Module.{Module}
 use Rattle.just_lang_layout.specs.Items.{items_of_module}
 use Rattle.just_lang_spots.specs.Standing.{Wins}
-use Rattle.just_eval_closure.specs.Modules.{Located, AreModules, located, recipes_of}
-use Rattle.just_eval_closure.proofs.Nesting.{same_modules}
+use Rattle.just_lang_types.specs.Modules.{Located, AreModules, located, recipes_of}
+use Rattle.just_lang_types.proofs.Nesting.{same_modules}
 use Rattle.just_lang_justfile.specs.Links.{Links}
 use Rattle.just_lang_justfile.specs.Recipes as made
 use Rattle.just_lang_justfile.specs.Standing.{standing_recipes}

@@ -1,25 +1,31 @@
 //! The aliases of a module: of recipes, of modules, and those that can't be run.
-ghost use Rattle.std.specs.Prelude.{◌≡◌, IfOk};
+ghost use Rattle.std.specs.Prelude.{◌≡◌, Some, IfOk};
 ghost use Rattle.just_lang_spots.specs.Entries.{entry, entries};
 ghost use Rattle.just_lang_justfile.specs.Aliases.{recipe_alias, module_alias, target_of, alias_by, recipe_aliases_of, module_aliases_of, disabled_alias, disabled_aliases_of};
 
 use super::linker::{AliasTarget, Linker};
 use super::recipes::disabled_for;
+use super::steps::push_some;
 use just_lang_spots::Entry;
 use just_lang_syntax::{AstItem, Name};
-use just_lang_types::{Alias, Disabled};
+use just_lang_types::{Alias, Disabled, Modulepath};
 use just_path_text::{NoMemory, Seq, Text};
 use std::alloc::Global;
+
+/// The alias of that name, with that target.
+fn alias_to(alloc: Global, name: &Name, target: Modulepath) -> Result<Option<Alias>, NoMemory>
+    ensures { IfOk result (λ a. a ≡ Some (record { name = name.now.text; target = target })) }
+{
+    let name = Text::from_str(alloc, name.text.as_str())?;
+    Ok(Some(Alias { name, target }))
+}
 
 /// The alias of that name, where its target is a recipe.
 fn recipe_alias(alloc: Global, name: &Name, target: AliasTarget) -> Result<Option<Alias>, NoMemory>
     ensures { IfOk result (λ a. a ≡ recipe_alias name.now.text target) }
 {
     match target {
-        AliasTarget::Recipe(path) => Ok(Some(Alias {
-            name: Text::from_str(alloc, name.text.as_str())?,
-            target: path,
-        })),
+        AliasTarget::Recipe(path) => alias_to(alloc, name, path),
         AliasTarget::Module(_) | AliasTarget::Nothing => Ok(None),
     }
 }
@@ -29,10 +35,7 @@ fn module_alias(alloc: Global, name: &Name, target: AliasTarget) -> Result<Optio
     ensures { IfOk result (λ a. a ≡ module_alias name.now.text target) }
 {
     match target {
-        AliasTarget::Module(path) => Ok(Some(Alias {
-            name: Text::from_str(alloc, name.text.as_str())?,
-            target: path,
-        })),
+        AliasTarget::Module(path) => alias_to(alloc, name, path),
         AliasTarget::Recipe(_) | AliasTarget::Nothing => Ok(None),
     }
 }
@@ -98,7 +101,6 @@ fn module_alias_in<'a, L: Linker<'a>>(
 }
 
 /// The aliases of recipes in the module of that number that can be run.
-#[tactic(auto, using(crate::proofs::ListLaws::one_more))]
 pub(crate) fn recipe_aliases_of<'a, L: Linker<'a>>(
     alloc: Global,
     links: &L,
@@ -110,15 +112,13 @@ pub(crate) fn recipe_aliases_of<'a, L: Linker<'a>>(
 {
     let mut all = Vec::new(alloc);
     'items: for one in items {
-        if let Some(alias) = recipe_alias_in(alloc, links, number, one)? {
-            all.push(alias)?;
-        }
+        let alias = recipe_alias_in(alloc, links, number, one)?;
+        push_some(&mut all, alias)?;
     }
     Ok(Seq::from(all))
 }
 
 /// The aliases of modules in the module of that number that can be run.
-#[tactic(auto, using(crate::proofs::ListLaws::one_more))]
 pub(crate) fn module_aliases_of<'a, L: Linker<'a>>(
     alloc: Global,
     links: &L,
@@ -130,9 +130,8 @@ pub(crate) fn module_aliases_of<'a, L: Linker<'a>>(
 {
     let mut all = Vec::new(alloc);
     'items: for one in items {
-        if let Some(alias) = module_alias_in(alloc, links, number, one)? {
-            all.push(alias)?;
-        }
+        let alias = module_alias_in(alloc, links, number, one)?;
+        push_some(&mut all, alias)?;
     }
     Ok(Seq::from(all))
 }
@@ -157,7 +156,6 @@ fn disabled_alias<'a, L: Linker<'a>>(
 }
 
 /// The aliases in the module of that number that can't be run.
-#[tactic(auto, using(crate::proofs::ListLaws::one_more))]
 pub(crate) fn disabled_aliases_of<'a, L: Linker<'a>>(
     alloc: Global,
     links: &L,
@@ -169,9 +167,8 @@ pub(crate) fn disabled_aliases_of<'a, L: Linker<'a>>(
 {
     let mut all = Vec::new(alloc);
     'items: for one in items {
-        if let Some(disabled) = disabled_alias(alloc, links, number, one)? {
-            all.push(disabled)?;
-        }
+        let disabled = disabled_alias(alloc, links, number, one)?;
+        push_some(&mut all, disabled)?;
     }
     Ok(Seq::from(all))
 }

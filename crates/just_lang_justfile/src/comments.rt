@@ -3,6 +3,7 @@ ghost use Rattle.std.specs.Prelude.{◌≡◌, IfOk};
 ghost use Rattle.std.specs.Option.{option_copied};
 ghost use Rattle.just_lang_justfile.specs.Comments.{above_at, AreCommentsOf};
 
+use super::steps::push_one;
 use just_lang_layout::File;
 use just_lang_shapes::{Comments, comments_of};
 use just_lang_syntax::Name;
@@ -20,7 +21,7 @@ pub(crate) fn comments_of_files<'a>(
     let mut all = Vec::new(alloc);
     'files: for file in files {
         let comments = comments_of(alloc, file.items.as_slice())?;
-        all.push(comments)?;
+        push_one(&mut all, comments)?;
     }
     Ok(all)
 }

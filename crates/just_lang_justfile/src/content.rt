@@ -4,7 +4,7 @@ ghost use Rattle.just_lang_types.specs.declared.project.Justfile.{out-Justfile};
 ghost use Rattle.just_lang_layout.specs.Items.{items_of_module};
 ghost use Rattle.just_lang_spots.specs.Entries.{entries};
 ghost use Rattle.just_lang_spots.specs.Winners.{wins_in};
-ghost use Rattle.just_eval_closure.specs.Modules.{modules_of};
+ghost use Rattle.just_lang_types.specs.Modules.{modules_of};
 ghost use Rattle.just_lang_shapes.specs.Scopes.{assignments_of, unexports_of};
 ghost use Rattle.just_lang_shapes.specs.Settings.{settings_of};
 ghost use Rattle.just_lang_justfile.specs.Aliases.{recipe_aliases_of, module_aliases_of, disabled_aliases_of};
@@ -21,11 +21,10 @@ use super::linker::Linker;
 use super::project::Project;
 use super::recipes::{Parent, disabled_recipes_of, recipes_of};
 use just_lang_layout::{File, Module};
-use just_lang_rules::Texts;
 use just_lang_shapes::{Comments, assignments_of, settings_of, unexports_of};
 use just_lang_spots::Entry;
 use just_lang_types::project::Justfile;
-use just_lang_types::{Alias, Assignment, Disabled, Modulepath, Recipe, Settings};
+use just_lang_types::{Alias, Assignment, Disabled, Modulepath, Recipe, Settings, Texts};
 use just_path::Utf8PathBuf;
 use just_path_text::{NoMemory, Seq, Text, TryClone};
 use std::alloc::Global;
@@ -48,6 +47,20 @@ struct Standing {
     disabled_recipes: Seq<Disabled>,
 }
 
+/// The variables that stand among the items of a module.
+fn standing_assignments<T: Texts>(
+    alloc: Global,
+    texts: &T,
+    winners: &[Seq<usize>],
+    items: &[Entry<'_>],
+) -> Result<Seq<Assignment>, NoMemory>
+    ensures { IfOk result (λ all. all
+        ≡ assignments_of (T.text_of texts.now) (standing_variables (wins_in winners.now) (entries items.now))) }
+{
+    let variables = standing_variables(alloc, winners, items)?;
+    assignments_of(alloc, texts, variables.as_slice())
+}
+
 /// What stands among the items of a module.
 fn standing_of<'a, T: Texts, L: Linker<'a>>(
     alloc: Global,
@@ -62,8 +75,7 @@ fn standing_of<'a, T: Texts, L: Linker<'a>>(
     ensures recipes { IfOk result (λ s. s.recipes ≡ recipes_of (L.links project.now.links.now) parent.entry.number (T.text_of project.now.texts.now) project.now.layout.now.files parent.entry.path.now (standing_recipes (wins_in project.now.winners.now) (entries items.now))) }
     ensures disabled_recipes { IfOk result (λ s. s.disabled_recipes ≡ disabled_recipes_of (L.links project.now.links.now) parent.entry.number (standing_recipes (wins_in project.now.winners.now) (entries items.now))) }
 {
-    let variables = standing_variables(alloc, project.winners, items)?;
-    let assignments = assignments_of(alloc, project.texts, variables.as_slice())?;
+    let assignments = standing_assignments(alloc, project.texts, project.winners, items)?;
     let standing = standing_recipes(alloc, project.winners, items)?;
     let recipes = recipes_of(alloc, project, comments, parent, standing.as_slice())?;
     let disabled_recipes = disabled_recipes_of(
@@ -174,8 +186,8 @@ fn module_settings<T: Texts>(
     ensures settings { IfOk result (λ s. s.settings ≡ settings_of (T.text_of texts.now) (entries items.now)) }
     ensures unexports { IfOk result (λ s. s.unexports ≡ unexports_of (entries items.now)) }
 {
-    let settings = settings_of(alloc, texts, items)?;
     let unexports = unexports_of(alloc, items)?;
+    let settings = settings_of(alloc, texts, items)?;
     Ok(ModuleSettings {
         settings,
         unexports,
@@ -248,7 +260,7 @@ pub(crate) fn module_of<'a, T: Texts, L: Linker<'a>>(
     let standing = standing_of(alloc, project, comments, parent, items)?;
     let aliases = aliases_of(alloc, project.links, number, items)?;
     let declared = declared_of(alloc, project, comments, some_module)?;
-    let own = module_settings(alloc, project.texts, items)?;
     let location = location_of(alloc, files, some_module)?;
+    let own = module_settings(alloc, project.texts, items)?;
     Ok(justfile_with(location, own, standing, aliases, declared, modules))
 }

@@ -8,10 +8,10 @@ ghost use Rattle.just_lang_justfile.specs.Declarations.{declaration_of, doc_by, 
 use super::comments::above_in;
 use super::items::item_at;
 use just_lang_layout::{File, Module};
-use just_lang_rules::Texts;
 use just_lang_shapes::{Comments, doc_of, groups_of};
 use just_lang_spots::Entry;
 use just_lang_syntax::AstItem;
+use just_lang_types::Texts;
 use just_path_text::{NoMemory, Seq, Text};
 use std::alloc::Global;
 

@@ -3,10 +3,10 @@ ghost use Rattle.std.specs.Prelude.{◌≡◌, IfOk};
 ghost use Rattle.just_lang_justfile.specs.Recipes.{dependency_of, dependencies_of};
 
 use super::linker::Linker;
-use just_lang_rules::Texts;
+use super::steps::push_some;
 use just_lang_shapes::expanded_exprs;
 use just_lang_syntax::AstDependency;
-use just_lang_types::Dependency;
+use just_lang_types::{Dependency, Texts};
 use just_path_text::{NoMemory, Seq};
 use std::alloc::Global;
 
@@ -31,7 +31,6 @@ fn dependency_of<'a, T: Texts, L: Linker<'a>>(
 }
 
 /// The dependencies of a recipe in the module of that number.
-#[tactic(auto, using(crate::proofs::ListLaws::one_more))]
 pub(crate) fn dependencies_of<'a, T: Texts, L: Linker<'a>>(
     alloc: Global,
     texts: &T,
@@ -44,9 +43,8 @@ pub(crate) fn dependencies_of<'a, T: Texts, L: Linker<'a>>(
 {
     let mut all = Vec::with_capacity(alloc, dependencies.len())?;
     'dependencies: for dependency in dependencies {
-        if let Some(made) = dependency_of(alloc, texts, links, number, dependency)? {
-            all.push(made)?;
-        }
+        let made = dependency_of(alloc, texts, links, number, dependency)?;
+        push_some(&mut all, made)?;
     }
     Ok(Seq::from(all))
 }

@@ -1,4 +1,4 @@
-//! The justfile that the files of a project make.
+//! The room of the language: the justfile that the files of a project make.
 #![tactic(auto)]
 
 mod aliases;
@@ -10,6 +10,7 @@ mod items;
 mod linker;
 mod project;
 mod recipes;
+mod steps;
 mod tree;
 
 pub use linker::{AliasTarget, Linker};

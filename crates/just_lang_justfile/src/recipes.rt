@@ -8,11 +8,11 @@ use super::comments::above_in;
 use super::dependencies::dependencies_of;
 use super::linker::Linker;
 use super::project::Project;
-use just_lang_rules::Texts;
+use super::steps::push_some;
 use just_lang_shapes::{Comments, Surroundings, recipe_of};
 use just_lang_spots::Entry;
 use just_lang_syntax::{AstItem, AstRecipe};
-use just_lang_types::{Disabled, Modulepath, Recipe};
+use just_lang_types::{Disabled, Modulepath, Recipe, Texts};
 use just_path_text::{NoMemory, Seq, Text};
 use std::alloc::Global;
 
@@ -98,7 +98,6 @@ fn recipe_at<'a, T: Texts, L: Linker<'a>>(
 }
 
 /// The recipes that stand in a module.
-#[tactic(auto, using(crate::proofs::ListLaws::one_more))]
 pub(crate) fn recipes_of<'a, T: Texts, L: Linker<'a>>(
     alloc: Global,
     project: &Project<'_, 'a, T, L>,
@@ -112,9 +111,8 @@ pub(crate) fn recipes_of<'a, T: Texts, L: Linker<'a>>(
 {
     let mut all = Vec::with_capacity(alloc, standing.len())?;
     'standing: for one in standing {
-        if let Some(recipe) = recipe_at(alloc, project, comments, parent, one)? {
-            all.push(recipe)?;
-        }
+        let recipe = recipe_at(alloc, project, comments, parent, one)?;
+        push_some(&mut all, recipe)?;
     }
     Ok(Seq::from(all))
 }
@@ -140,7 +138,6 @@ fn disabled_at<'a, L: Linker<'a>>(
 }
 
 /// Those of the recipes that stand in the module of that number that can't be run.
-#[tactic(auto, using(crate::proofs::ListLaws::one_more, crate::proofs::ListLaws::places_here))]
 pub(crate) fn disabled_recipes_of<'a, L: Linker<'a>>(
     alloc: Global,
     links: &L,
@@ -152,9 +149,8 @@ pub(crate) fn disabled_recipes_of<'a, L: Linker<'a>>(
 {
     let mut all = Vec::new(alloc);
     'standing: for (at, one) in standing.iter().enumerate() {
-        if let Some(disabled) = disabled_at(alloc, links, number, at, one)? {
-            all.push(disabled)?;
-        }
+        let disabled = disabled_at(alloc, links, number, at, one)?;
+        push_some(&mut all, disabled)?;
     }
     Ok(Seq::from(all))
 }

@@ -1,7 +1,7 @@
 //! The justfile of a layout: a tree of modules.
 ghost use Rattle.std.specs.Prelude.{◌≡◌, ◌++◌, [], ◌∷◌, true, reverse, All, IfOk};
 ghost use Rattle.just_lang_spots.specs.Winners.{wins_in};
-ghost use Rattle.just_eval_closure.specs.Modules.{path_of};
+ghost use Rattle.just_lang_types.specs.Modules.{path_of};
 ghost use Rattle.just_lang_justfile.specs.Comments.{AreCommentsOf};
 ghost use Rattle.just_lang_justfile.specs.Trees.{is_within, is_first_within, behind_those_within, outermost, paths_of, IsJustfileOf};
 
@@ -9,7 +9,8 @@ use super::comments::comments_of_files;
 use super::content::module_of;
 use super::linker::Linker;
 use super::project::Project;
-use just_lang_rules::Texts;
+use super::steps::push_one;
+use just_lang_types::Texts;
 use just_lang_types::project::Justfile;
 use just_path_text::{NoMemory, Seq, Text};
 use std::alloc::Global;
@@ -51,7 +52,7 @@ fn take_within(
     'modules: while is_last_within(modules.as_slice(), path) {
         match modules.pop() {
             None => unreachable!(),
-            Some(module) => inner.push(module)?,
+            Some(module) => push_one(&mut inner, module)?,
         }
     }
     Ok(inner)
@@ -84,7 +85,7 @@ pub fn justfile_of<'a, T: Texts, L: Linker<'a>>(
             some_module,
             Seq::from(inner),
         )?;
-        outer.push(made)?;
+        push_one(&mut outer, made)?;
     }
     match outer.pop() {
         None => unreachable!(),

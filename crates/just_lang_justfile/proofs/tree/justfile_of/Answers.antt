@@ -3,7 +3,7 @@ use Rattle.std.proofs.Common.{rules, ◌≡◌, ◌<◌, ◌+◌, ◌-◌, ◌++
 use Rattle.std.specs.Prelude.{All}
 use Rattle.just_lang_types.specs.declared.project.Justfile.{Justfile}
 use Rattle.just_lang_spots.specs.Winners.{wins_in}
-use Rattle.just_eval_closure.specs.Modules.{path_of, modules_of}
+use Rattle.just_lang_types.specs.Modules.{path_of, modules_of}
 use Rattle.just_lang_justfile.specs.Trees.{is_within, behind_those_within, paths_of}
 use Rattle.just_lang_justfile.proofs.Nested.{Made, made_step, whole}
 use Rattle.just_lang_justfile.proofs.tree.justfile_of.Goals as goal
@@ -29,9 +29,8 @@ modules-preserved g c =
     let others = subst (λ (p : List (List ℕ)). paths_of (reverse rest) ≡ behind_those_within p (paths_of (reverse c.modules.outer.items))) path_is c.in_ok-inner.ensures.others in
     let said = c.in_ok-made.ensures.said in
     let inner_is : modules_of j ≡ inner = search rules in
-    let pushed : c.push.new.self.items ≡ rest ++ j ∷ [] = search rules in
     record {
-      made = made_step (g.T.Texts.text_of project.texts.now) (g.L.Linker.links project.links.now) (wins_in project.winners.now) project.layout.now n m c.modules.outer.items rest inner c.push.new.self.items j old lt is parts within others said inner_is pushed;
+      made = made_step (g.T.Texts.text_of project.texts.now) (g.L.Linker.links project.links.now) (wins_in project.winners.now) project.layout.now n m c.modules.outer.items rest inner c.push_one.new.list.items j old lt is parts within others said inner_is c.in_ok-push_one.ensures;
       within = omega arith;
     }
 

@@ -2,7 +2,7 @@
 use Rattle.std.proofs.Common.{◌≡◌, ◌++◌, true, length, reverse}
 use Rattle.std.specs.Prelude.{All}
 use Rattle.just_lang_types.specs.declared.project.Justfile.{Justfile}
-use Rattle.just_eval_closure.specs.Modules.{path_of}
+use Rattle.just_lang_types.specs.Modules.{path_of}
 use Rattle.just_lang_justfile.specs.Trees.{is_within, behind_those_within, paths_of}
 use Rattle.just_lang_justfile.proofs.tree.take_within.Given as goal
 

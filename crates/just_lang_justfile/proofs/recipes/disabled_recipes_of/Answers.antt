@@ -1,0 +1,15 @@
+-- One more, where there is one.
+use Rattle.std.proofs.Common.{◌+◌, ◌∙◌, drop}
+use Rattle.std.specs.List.{enumerate_from}
+use Rattle.just_lang_spots.specs.Entries.{entry, entries}
+use Rattle.just_lang_justfile.specs.Recipes.{disabled_at}
+use Rattle.just_lang_justfile.proofs.ListLaws.{picked_step, places_here}
+use Rattle.just_lang_justfile.proofs.recipes.disabled_recipes_of.Goals as goal
+
+pub standing-preserved : goal.standing-preserved
+standing-preserved g c =
+    let xs = c.args.standing.now in
+    let i = c.standing.at in
+    let x = c.one-item.result in
+    picked_step (disabled_at (g.L.Linker.links c.args.links.now) c.args.number) (i, entry x) (enumerate_from (i + 1) (entries (drop (i + 1) xs))) (enumerate_from i (entries (drop i xs))) c.standing.all.items c.push_some.new.list.items c.in_ok-disabled.disabled
+    (places_here xs i x c.standing-test.true c.one-item.is) c.in_ok-disabled.ensures c.in_ok-push_some.ensures ∙ c.standing.invariant
