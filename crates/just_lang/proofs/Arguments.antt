@@ -12,9 +12,10 @@ use Rattle.just_lang_spots.specs.declared.spot.Spot.{Spot}
 use Rattle.just_lang_spots.specs.Places.{name_spot}
 use Rattle.just_lang_spots.specs.Repeated.{is_among, repeated, repeated_behind}
 use Rattle.just_lang_spots.specs.Spots.{spot_where}
-use Rattle.just_lang_rules.specs.AttributeSpots.{is_called, parameter_named, arg_name}
-use Rattle.just_lang_rules.specs.ConstantTexts.{const_text}
-use Rattle.just_lang_rules.specs.Options as tree
+use Rattle.just_lang_rules.specs.AttributeSpots.{parameter_named, arg_name}
+use Rattle.just_lang_types.specs.Attributes.{is_called}
+use Rattle.just_lang_types.specs.ConstantTexts.{const_text}
+use Rattle.just_lang_types.specs.Options as tree
 use Rattle.just_lang_shapes.specs.Parameters.{keys_behind, keys_for, last_keys, or_earlier}
 use Rattle.just_lang.proofs.Known.{any_append}
 use Rattle.just_lang.proofs.Lists.{none_left, none_right}

@@ -22,7 +22,7 @@ use Rattle.just_lang_names.specs.TargetSpots.{dependency_in, last_spot, last_spo
 use Rattle.just_lang_shapes.specs.Expansions.{expanded_expr, expanded_exprs}
 use Rattle.just_lang_shapes.specs.Parameters.{parameters_of}
 use Rattle.just_lang_shapes.specs.Recipes.{path_within}
-use Rattle.just_eval_closure.specs.Modules.{Located, path_of, recipe_at}
+use Rattle.just_lang_types.specs.Modules.{Located, path_of, recipe_at}
 use Rattle.just_lang_justfile.specs.declared.linker.AliasTarget.{AliasTarget}
 use Rattle.just_lang_justfile.specs.declared.linker.AliasTarget.TheVariants as target
 use Rattle.just_lang_justfile.specs.Aliases.{recipe_alias, module_alias, recipe_aliases_of, module_aliases_of}

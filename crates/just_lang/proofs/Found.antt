@@ -22,7 +22,7 @@ use Rattle.just_lang_spots.specs.Items.{item_name, is_recipe_here}
 use Rattle.just_lang_spots.specs.Standing.{Wins, has_name, last_of_each, unbeaten, standing}
 use Rattle.just_lang_shapes.specs.Parameters.{parameters_of}
 use Rattle.just_lang_shapes.specs.Recipes.{path_within, recipe_of}
-use Rattle.just_eval_closure.specs.Modules.{Located, located, path_of, recipe_at, recipes_of}
+use Rattle.just_lang_types.specs.Modules.{Located, located, path_of, recipe_at, recipes_of}
 use Rattle.just_lang_justfile.specs.Links.{Links}
 use Rattle.just_lang_justfile.specs.Recipes as made
 use Rattle.just_lang_justfile.specs.Standing.{standing_recipes, names_of}

@@ -30,7 +30,7 @@ use Rattle.just_lang_shapes.specs.Expansions.{expanded_attributes, expanded_line
 use Rattle.just_lang_shapes.specs.Parameters.{parameters_of}
 use Rattle.just_lang_shapes.specs.Recipes.{path_within, recipe_of}
 use Rattle.just_lang_shapes.specs.Scopes.{assignments_of}
-use Rattle.just_eval_closure.specs.Modules as parts
+use Rattle.just_lang_types.specs.Modules as parts
 use Rattle.just_lang_justfile.specs.Links.{Links}
 use Rattle.just_lang_justfile.specs.Modules.{IsModuleOf}
 use Rattle.just_lang_justfile.specs.Recipes as made

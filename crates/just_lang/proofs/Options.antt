@@ -13,9 +13,9 @@ use Rattle.just_lang_syntax.specs.declared.ast.StringLiteral.{StringLiteral}
 use Rattle.just_lang_syntax.specs.Attributes.{has_key}
 use Rattle.just_lang_types.specs.declared.recipe.Parameter.{Parameter}
 use Rattle.just_lang_types.specs.declared.recipe.Recipe.{Recipe}
-use Rattle.just_lang_rules.specs.AttributeSpots.{is_called}
-use Rattle.just_lang_rules.specs.ConstantTexts.{const_text}
-use Rattle.just_lang_rules.specs.Options as tree
+use Rattle.just_lang_types.specs.Attributes.{is_called}
+use Rattle.just_lang_types.specs.ConstantTexts.{const_text}
+use Rattle.just_lang_types.specs.Options as tree
 use Rattle.just_lang_rules.specs.ParameterSpots as rule
 use Rattle.just_lang_names.specs.TargetSpots.{is_variadic, has_option, positional, takes_count}
 use Rattle.just_lang_shapes.specs.Attributes.{first_of}

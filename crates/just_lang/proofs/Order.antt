@@ -8,7 +8,7 @@ use Rattle.just_lang_syntax.specs.declared.ast.Attribute.{Attribute}
 use Rattle.just_lang_syntax.specs.declared.ast.StringLiteral.{StringLiteral}
 use Rattle.just_lang_types.specs.declared.recipe.Parameter.{Parameter}
 use Rattle.just_lang_spots.specs.Places.{name_spot}
-use Rattle.just_lang_rules.specs.Options as tree
+use Rattle.just_lang_types.specs.Options as tree
 use Rattle.just_lang_rules.specs.ParameterSpots as rule
 use Rattle.just_lang_shapes.specs.Parameters.{parameter_of, parameters_of}
 use Rattle.just_lang.specs.Sound.{is_option, wants_value, AreInOrder}

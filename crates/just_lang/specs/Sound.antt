@@ -21,7 +21,7 @@ use Rattle.just_lang_rules.specs.ParameterSpots.{is_star}
 use Rattle.just_lang_names.specs.NamesUsed.{names_of_expr}
 use Rattle.just_lang_names.specs.TargetSpots.{is_variadic}
 use Rattle.just_lang_shapes.specs.Recipes.{path_within}
-use Rattle.just_eval_closure.specs.Modules.{Located, AreModules, path_of, recipes_of, assignments_of, recipe_at}
+use Rattle.just_lang_types.specs.Modules.{Located, AreModules, path_of, recipes_of, assignments_of, recipe_at}
 
 abbrev pub AreDistinct : List (List ℕ) → Type 0
 AreDistinct [] = Unit {0}

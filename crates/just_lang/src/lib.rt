@@ -1,4 +1,4 @@
-//! The justfile of a project's sources, or the first rule that they break; when it is sound.
+//! The door of the room of the language: the justfile of a project's sources, or the first rule that they break.
 #![tactic(auto)]
 
 mod before;
@@ -17,10 +17,21 @@ mod steps;
 mod tables;
 mod variable;
 
-pub use disabled::{Disabling, causes, modules_of_alias, modules_of_recipe};
-pub use errors::{check_rules, error_of_files};
+use disabled::{Disabling, causes, modules_of_alias, modules_of_recipe};
+use errors::{check_rules, error_of_files};
+pub use just_lang_syntax::unindent;
+pub use just_lang_types::{
+    Alias, Argument, Assignment, Ast, AstDependency, AstItem, AstParameter, AstRecipe, Attribute,
+    Binding, BodyLine, Closure, Comparison, CompileError, CompileKind, Dependency, Disabled,
+    DotenvOf, Expr, FileKind, FileRef, Fragment, Interpreter, Justfile, Key, LangError, Level,
+    Line, Modulepath, Name, Node, Override, Parameter, ParameterKind, Pattern, Quote, Recipe,
+    Scope, Scopes, SettingValue, Settings, Source, StringLiteral, UnstableFeature, Value, constant,
+    parse, references,
+};
+pub use just_path::{Utf8Path, Utf8PathBuf};
+pub use just_path_text::{Environ, NoMemory, Seq, Text};
 pub use law::projects_are_sound;
 pub use project::first_broken;
-pub use recipe::{Recipes, StandingRecipe, circular_recipe, standing_recipes};
+use recipe::{Recipes, circular_recipe, standing_recipes};
 pub use sources::assemble;
-pub use variable::circular_variable;
+use variable::circular_variable;
