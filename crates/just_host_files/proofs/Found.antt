@@ -17,15 +17,15 @@ use Rattle.just_path.specs.declared.meta.Kind.{Kind}
 use Rattle.just_host_files.specs.Items.{put_in, NamesDiffer}
 
 -- an item by its name
-by_name : Item → List ℕ × Kind
+abbrev by_name : Item → List ℕ × Kind
 by_name i = (i.name, i.kind)
 
 -- the entries with that of an item
-with_item : List (List ℕ × Kind) → Item → List (List ℕ × Kind)
+abbrev with_item : List (List ℕ × Kind) → Item → List (List ℕ × Kind)
 with_item es x = put (slice_cmp nat_cmp) x.name x.kind es
 
 -- the names of entries
-keyed : List (List ℕ × Kind) → List (List ℕ)
+abbrev keyed : List (List ℕ × Kind) → List (List ℕ)
 keyed es = map (λ (e : List ℕ × Kind). e.0) es
 
 -- an entry whose name no other has is put in beside them
