@@ -1,5 +1,4 @@
-//! The tree of files that a host in memory has: what its paths show, and what is written to it and removed from it; and the plot of such a host, by which
-//! children end and change the files. What a host is stands in `just_host_record`.
+//! The room of hosts: the tree of files that a host in memory has, and the plot by which its children end.
 #![tactic(auto)]
 
 mod files;
