@@ -1,5 +1,5 @@
-//! Prints the help and the version, and compares what a request is made of with the rows of files, each named by an argument: the configuration of
-//! words, where a justfile is, the justfile in a markdown text, scripts and keys. The end of a file's name tells what its rows are.
+//! Compares what a request is made of with the rows of files, each named by an argument: the configuration of words, where a justfile is, the
+//! justfile in a markdown text, scripts and keys. The end of a file's name tells what its rows are.
 #![tactic(auto)]
 
 mod config_rows;
@@ -16,7 +16,6 @@ mod shebang_rows;
 mod tangled_rows;
 mod world;
 
-use just_config::{HELP, Version};
 use rows_common::{Compare, Wrong, compare_files};
 use std::alloc::Global;
 use std::io;
@@ -47,8 +46,5 @@ impl Compare for RequestRows {
 }
 
 fn main(rt: HostRuntime) -> io::Result<ExitCode> {
-    print!(rt; "{HELP}")?;
-    let version = Version::current();
-    println!(rt; "{version}")?;
     compare_files(&rt, &RequestRows)
 }
