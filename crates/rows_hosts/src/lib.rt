@@ -8,19 +8,11 @@ mod alike;
 #[cfg(test)]
 mod both;
 #[cfg(test)]
-mod children;
-#[cfg(test)]
 mod forms;
 #[cfg(test)]
 mod real;
 #[cfg(test)]
-mod real_edges;
-#[cfg(test)]
-mod scripts;
-#[cfg(test)]
 mod search;
-#[cfg(test)]
-mod shell;
 #[cfg(test)]
 mod stands;
 #[cfg(test)]

@@ -1,64 +1,12 @@
-//! The real host: how children end, how files are read or missed, and how folders are made; the signals.
+//! How the real host makes folders; the signals. What it does with files, children and scripts is shown by cases over the built program.
 
-use super::agree::{agree, push_read};
-use super::children::{A_IS_1, end_of_line};
+use super::agree::agree;
 use just_host::{Host, RealHost, Signal};
 use just_path::Utf8Path;
 use std::alloc::{AllocError, Global};
 use std::fs;
 use std::os::unix::fs::symlink;
 use std::test::Fail;
-
-/// How the child of each line ends, a line each.
-fn ends<H: Host + Drop>(alloc: Global, host: H) -> Result<String, AllocError> {
-    let mut host = host;
-    let mut all = String::new(alloc);
-    for line in ["exit 3", "exit $A", "kill -TERM $$"] {
-        let end = end_of_line(alloc, &mut host, None, A_IS_1, line);
-        writeln!(all, "{line}: {end:?}")?;
-    }
-    Ok(all)
-}
-
-/// The wanted ends.
-const ENDS: &str = "\
-exit 3: Ok(Code(3))
-exit $A: Ok(Code(1))
-kill -TERM $$: Ok(Signal(15))
-";
-
-#[test]
-fn real_start(rt: HostRuntime) -> Result<(), Fail> {
-    let host = RealHost::new(&rt, rt.alloc())?;
-    agree(&rt, ends(rt.alloc(), host), ENDS)
-}
-
-/// What is read at each path, a line each.
-fn reads<H: Host + Drop>(alloc: Global, host: H) -> Result<String, AllocError> {
-    let mut host = host;
-    let mut all = String::new(alloc);
-    for path in ["read.txt", "bad.txt", "none.txt", "read.txt/x", ".", "a\0b"] {
-        push_read(&mut all, &mut host, path)?;
-    }
-    Ok(all)
-}
-
-/// What is to be read.
-const READS: &str = r#""read.txt": Ok("a:\n")
-"bad.txt": Err(Missed(NotUtf8))
-"none.txt": Err(Missed(NotFound))
-"read.txt/x": Err(Missed(NotFolder))
-".": Err(Missed(IsFolder))
-"a\0b": Err(Missed(NotFound))
-"#;
-
-#[test]
-fn real_read(rt: HostRuntime) -> Result<(), Fail> {
-    fs::write(&rt, "read.txt", "a:\n")?;
-    fs::write(&rt, "bad.txt", &[0xff])?;
-    let host = RealHost::new(&rt, rt.alloc())?;
-    agree(&rt, reads(rt.alloc(), host), READS)
-}
 
 /// Whether a folder stands at a path.
 fn is_folder(rt: &HostRuntime, path: &str) -> bool {
