@@ -3,11 +3,10 @@
 ghost use Rattle.std.specs.Prelude.{◌≡◌, ◌+◌, ◌<◌, option_map};
 ghost use Rattle.std.specs.Int.NonZero.{non_zero_u64_get};
 
-use super::hosts::{failing, memory, touching, with_input};
+use super::hosts::{failing, memory, touching};
 use super::plans::plan_of;
-use super::runs::ONE_CLASS;
 use super::workers::{left, tells};
-use just_host::{Host, HostFault, MemHost};
+use just_host::Host;
 use just_path_text::NoMemory;
 use just_sched::{
     Book, Desk, Driven, Idle, Named, Naming, Next, OpenBody, Plan, Seat, last_status,
@@ -267,18 +266,16 @@ fn states_of_a_diamond(rt: HostRuntime) -> Result<(), NoMemory> {
     plays(&rt, alloc, (DIAMOND, "p"), failing(alloc)?, 2, 2, want)
 }
 
-/// The host of two bodies of one class: the file `in` is there.
-fn class_host(alloc: Global) -> Result<MemHost, HostFault> {
-    let host = touching(alloc, &[0])?;
-    with_input(host, "abc")
-}
+/// Two bodies of one class, which read the file `in` and make the file `out`.
+const ONE_CLASS: &str =
+    "set unstable\n\n[script]\n[cache(inputs='in', outputs='out')]\nm f:\n\ttouch out\n\nall: (m 'a') (m 'b')\n";
 
 /// While the first body is open, the second waits for it; then it is skipped, and the third, which is empty, ends.
 #[test]
-fn second_of_a_class_waits(rt: HostRuntime) -> Result<(), HostFault> {
+fn second_of_a_class_waits(rt: HostRuntime) -> Result<(), NoMemory> {
     let alloc = rt.alloc();
-    let host = class_host(alloc)?;
+    let host = touching(alloc)?;
     let want =
         "begun 0: Ready Ready Waiting\nopened 1: Open Ready Waiting\nclass 1: Open Ready Waiting\nfinished 0: Finished Ready Waiting\nmoved 0: Finished Finished Ready\nmoved 0: Finished Finished Finished\nnothing 0: Finished Finished Finished\n16 Some(Code(0)) None Well\n";
-    Ok(plays(&rt, alloc, (ONE_CLASS, "all"), host, 2, 4, want)?)
+    plays(&rt, alloc, (ONE_CLASS, "all"), host, 2, 4, want)
 }

@@ -1,6 +1,6 @@
 //! Hosts in memory to run plans over.
 
-use just_host::{Ending, Host, HostFault, MemHost, Plot, Status, Thing, Tree};
+use just_host::{Ending, MemHost, Plot, Status, Thing, Tree};
 use just_path::Utf8Path;
 use just_path_text::{Environ, NoMemory, Seq, Text};
 use std::alloc::Global;
@@ -28,13 +28,6 @@ fn host_of(alloc: Global, tree: Tree, plot: Plot) -> Result<MemHost, NoMemory> {
 /// A host with no files, over which that happens.
 fn bare(alloc: Global, plot: Plot) -> Result<MemHost, NoMemory> {
     host_of(alloc, Tree::new(alloc), plot)
-}
-
-/// A host over which that happens; nothing stands there but the folder `/`.
-fn rooted(alloc: Global, plot: Plot) -> Result<MemHost, NoMemory> {
-    let mut tree = Tree::new(alloc);
-    tree.insert(alloc, "/", Thing::Folder)?;
-    host_of(alloc, tree, plot)
 }
 
 /// A host with no files, over which nothing happens.
@@ -74,47 +67,36 @@ pub fn failing(alloc: Global) -> Result<MemHost, NoMemory> {
     bare(alloc, plot)
 }
 
+/// An empty file.
+fn empty(alloc: Global) -> Thing {
+    Thing::File {
+        bytes: Seq::new(alloc),
+        executable: false,
+    }
+}
+
 /// The file `out` stands there.
 fn makes_out(alloc: Global) -> Result<Vec<(Text, Option<Thing>)>, NoMemory> {
     let path = Text::from_str(alloc, "/out")?;
-    let made = Thing::File {
-        bytes: Seq::new(alloc),
-        executable: false,
-    };
     let mut effects = Vec::new(alloc);
-    effects.push((path, Some(made)))?;
+    effects.push((path, Some(empty(alloc))))?;
     Ok(effects)
 }
 
-/// A child that touches `out` ends with that code; the file `out` is there behind it.
-fn add_touch(alloc: Global, plot: &mut Plot, code: i32) -> Result<(), NoMemory> {
+/// The folder `/` with the file `in`.
+fn with_input(alloc: Global) -> Result<Tree, NoMemory> {
+    let mut tree = Tree::new(alloc);
+    tree.insert(alloc, "/", Thing::Folder)?;
+    tree.insert(alloc, "/in", empty(alloc))?;
+    Ok(tree)
+}
+
+/// A host in memory with the file `in`, over which the first body that makes `out` ends well.
+/// No clause: it serves tests alone.
+pub fn touching(alloc: Global) -> Result<MemHost, NoMemory> {
     let effects = makes_out(alloc)?;
-    add_ending(alloc, plot, "\n\n\n\n\ntouch out\n", code, effects)
-}
-
-/// A host in memory over which the bodies that make `out` end with these codes, in their order.
-/// No clause: it serves tests alone.
-pub fn touching(alloc: Global, codes: &[i32]) -> Result<MemHost, NoMemory> {
+    let tree = with_input(alloc)?;
     let mut plot = Plot::new(alloc);
-    for code in codes {
-        add_touch(alloc, &mut plot, *code)?;
-    }
-    rooted(alloc, plot)
-}
-
-/// A host in memory over which a prompt is answered by that line.
-/// No clause: it serves tests alone.
-pub fn answering(alloc: Global, answer: &str) -> Result<MemHost, NoMemory> {
-    let answers = one_text(alloc, answer)?;
-    let mut plot = Plot::new(alloc);
-    plot.answers = answers;
-    rooted(alloc, plot)
-}
-
-/// The host, once that text stands in the file `in`.
-/// No clause: it serves tests alone.
-pub fn with_input<H: Host + Drop>(host: H, text: &str) -> Result<H, HostFault> {
-    let mut host = host;
-    host.write(Utf8Path::new("/in"), text.as_bytes())?;
-    Ok(host)
+    add_ending(alloc, &mut plot, "\n\n\n\n\ntouch out\n", 0, effects)?;
+    host_of(alloc, tree, plot)
 }

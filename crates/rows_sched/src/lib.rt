@@ -1,4 +1,4 @@
-//! Tests of runs: a book by itself, workers side by side, guards, bodies that have a cache, and recipes that are asked for.
+//! Tests of runs: a book by itself, workers side by side, and guards.
 #![tactic(auto)]
 
 #[cfg(test)]
@@ -11,8 +11,6 @@ mod hosts;
 mod lattice;
 #[cfg(test)]
 mod plans;
-#[cfg(test)]
-mod runs;
 #[cfg(test)]
 mod semaphores;
 #[cfg(test)]
