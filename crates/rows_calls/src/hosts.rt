@@ -15,8 +15,7 @@ fn file(alloc: Global, text: &str) -> Result<Thing, NoMemory> {
 }
 
 /// Puts a file into a tree.
-/// No clause: it serves tests alone.
-pub fn put_file(alloc: Global, tree: &mut Tree, path: &str, text: &str) -> Result<(), NoMemory> {
+fn put_file(alloc: Global, tree: &mut Tree, path: &str, text: &str) -> Result<(), NoMemory> {
     let file = file(alloc, text)?;
     tree.insert(alloc, path, file)
 }

@@ -22,8 +22,6 @@ mod graphs;
 #[cfg(test)]
 mod hosts;
 #[cfg(test)]
-mod items;
-#[cfg(test)]
 mod key;
 #[cfg(test)]
 mod loading;
@@ -33,8 +31,6 @@ mod names;
 mod owned;
 #[cfg(test)]
 mod printed;
-#[cfg(test)]
-mod real_files;
 #[cfg(test)]
 mod scanned;
 #[cfg(test)]

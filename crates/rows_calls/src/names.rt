@@ -1,7 +1,8 @@
 //! Places, names that come again, and which of them stand.
 
+use just_lang_rules::{fault_spot, source_limit_spot};
 use just_lang_spots::{Entry, Named, Spot, first_of, first_repeated, index_of, standing};
-use just_lang_syntax::{AstItem, Name};
+use just_lang_syntax::{AstItem, FaultKind, Name};
 use just_path_text::{NoMemory, Seq, Text};
 use std::alloc::Global;
 
@@ -68,9 +69,14 @@ fn last_place(alloc: Global, items: &[Entry<'_>]) -> Result<Option<usize>, NoMem
 }
 
 #[test]
-fn first_of_three_places(rt: HostRuntime) {
+fn first_of_three_places_and_of_none(rt: HostRuntime) {
     let spots = [spot(1, 1), spot(0, 7), spot(0, 9)];
-    assert_eq!(rt; first_of(&spots), Some(spot(0, 7)));
+    let found = [
+        first_of(&spots),
+        fault_spot(FaultKind::Syntax, 0, &None),
+        source_limit_spot(4096),
+    ];
+    assert_eq!(rt; found, [Some(spot(0, 7)), None, None]);
 }
 
 #[test]

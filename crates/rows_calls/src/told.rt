@@ -6,7 +6,7 @@ use crate::digests::digests;
 use crate::shown::shown;
 use just_host::{Host, HostFault, Look, MemHost, Plot, Thing, Tree};
 use just_path::{Utf8Path, Utf8PathBuf};
-use just_path_text::{Environ, NoMemory, Seq};
+use just_path_text::{Environ, NoMemory, Seq, Text};
 use std::alloc::{AllocError, Global};
 use std::fmt::Write;
 
@@ -34,6 +34,23 @@ fn check<H: Host>(
 ) -> Result<Option<u32>, HostFault> {
     let outputs = [output.to_path_buf(alloc)?];
     host.check(&outputs)
+}
+
+/// The names in a folder, one behind the other.
+fn names<H: Host>(alloc: Global, host: &mut H, folder: Utf8Path<'_>) -> Result<String, AllocError> {
+    match host.names(folder) {
+        Ok(names) => in_brackets(alloc, names.as_slice()),
+        Err(fault) => format!(in alloc; "Err({fault:?})"),
+    }
+}
+
+/// Some texts, each in brackets.
+fn in_brackets(alloc: Global, texts: &[Text]) -> Result<String, AllocError> {
+    let mut all = String::new(alloc);
+    for text in texts {
+        write!(all, "[{}]", text.as_str())?;
+    }
+    Ok(all)
 }
 
 /// Whether the name of a fresh folder begins as it was asked for, and the answers as that folder is removed twice.
@@ -86,7 +103,7 @@ fn answer_of_folder<H: Host>(
 ) -> Result<String, AllocError> {
     let place = Utf8Path::new(words);
     match call {
-        "names" => shown(alloc, host.names(place)),
+        "names" => names(alloc, host, place),
         "make_folder" => shown(alloc, host.make_folder(place)),
         "temp_folder_in" => shown(alloc, temp_folder(host, Some(place))),
         "temp_folder" => shown(alloc, temp_folder(host, None)),
