@@ -13,7 +13,7 @@ use Rattle.just_env.proofs.Stopped.{one_stop}
 use Rattle.just_lang_types.specs.declared.project.Justfile.{Justfile}
 use Rattle.just_lang_types.specs.declared.scope.DotenvOf.{DotenvOf}
 use Rattle.just_lang_types.specs.declared.settings.Settings.{Settings}
-use Rattle.just_eval_closure.specs.Modules.{settings_of, modules_of}
+use Rattle.just_lang_types.specs.Modules.{settings_of, modules_of}
 use Rattle.just_lang_types.specs.declared.settings.Interpreter.{Interpreter}
 use Rattle.just_host_record.specs.declared.entry.Status.{Status}
 use Rattle.just_exec_work.specs.declared.run_flags.RunFlags.{RunFlags}

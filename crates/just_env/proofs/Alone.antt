@@ -12,7 +12,7 @@ use Rattle.just_lang_types.specs.declared.project.Justfile.{Justfile}
 use Rattle.just_lang_types.specs.declared.scope.DotenvOf.{DotenvOf}
 use Rattle.just_lang_types.specs.declared.settings.Interpreter.{Interpreter}
 use Rattle.just_lang_types.specs.declared.settings.Settings.{Settings}
-use Rattle.just_eval_closure.specs.Modules.{settings_of, modules_of}
+use Rattle.just_lang_types.specs.Modules.{settings_of, modules_of}
 use Rattle.just_exec_work.specs.declared.run_flags.RunFlags.{RunFlags}
 use Rattle.just_exec_work.specs.Shells.{shell}
 use Rattle.just_env.specs.declared.ask.DotenvAsk.{DotenvAsk}

@@ -7,8 +7,8 @@ use Rattle.just_host_record.specs.World.{World}
 use Rattle.just_dotenv.specs.Meaning.{Pairs}
 use Rattle.just_lang_types.specs.declared.project.Justfile.{Justfile}
 use Rattle.just_lang_types.specs.declared.scope.DotenvOf.{DotenvOf}
-use Rattle.just_eval_closure.specs.Modules.{modules_of}
-use Rattle.just_eval_closure.proofs.Nesting.{weights, fewer}
+use Rattle.just_lang_types.specs.Modules.{modules_of}
+use Rattle.just_lang_types.proofs.Nesting.{weights, fewer}
 use Rattle.just_exec_work.specs.declared.run_flags.RunFlags.{RunFlags}
 use Rattle.just_env.specs.declared.ask.DotenvAsk.{DotenvAsk}
 use Rattle.just_env.specs.declared.env_error.EnvError.{EnvError}

@@ -22,12 +22,27 @@ is_failure fault.NoMemory = false
 abbrev pub tells_failure : EnvError → Bool
 tells_failure (error.Io io path) = is_failure io
 tells_failure (error.DotenvCommand command (output.Io io)) = true
-tells_failure _ = false
+tells_failure error.DotenvRequired = false
+tells_failure (error.Dotenv path line) = false
+tells_failure error.DotenvArgumentsRequireLists = false
+tells_failure (error.DotenvCommand command (output.Code code)) = false
+tells_failure (error.DotenvCommand command (output.Signal number)) = false
+tells_failure (error.DotenvCommand command output.Unknown) = false
+tells_failure (error.DotenvCommand command output.Utf8) = false
+tells_failure error.NoMemory = false
 
 -- the refusal tells that a child wasn't run to its end
 abbrev pub tells_uncaptured : EnvError → Bool
 tells_uncaptured (error.DotenvCommand command (output.Io io)) = true
-tells_uncaptured _ = false
+tells_uncaptured (error.Io io path) = false
+tells_uncaptured error.DotenvRequired = false
+tells_uncaptured (error.Dotenv path line) = false
+tells_uncaptured error.DotenvArgumentsRequireLists = false
+tells_uncaptured (error.DotenvCommand command (output.Code code)) = false
+tells_uncaptured (error.DotenvCommand command (output.Signal number)) = false
+tells_uncaptured (error.DotenvCommand command output.Unknown) = false
+tells_uncaptured (error.DotenvCommand command output.Utf8) = false
+tells_uncaptured error.NoMemory = false
 
 -- an answer that the world determines: no failure of the host
 abbrev pub IsOwn : {A : Type 0} → Result A EnvError → Type 0

@@ -2,7 +2,7 @@
 use Rattle.std.specs.Prelude.{ℕ, not, ◌&&◌, ◌||◌, ◌==◌, Bool, true, false, if◌then◌else◌, List, [], ◌∷◌, length, Option, Some, None, codes, Result, Ok, Err}
 use Rattle.just_lang_types.specs.declared.project.Justfile.{Justfile}
 use Rattle.just_lang_types.specs.declared.settings.Settings.{Settings}
-use Rattle.just_eval_closure.specs.Modules.{path_of, settings_of}
+use Rattle.just_lang_types.specs.Modules.{path_of, settings_of}
 use Rattle.just_env.specs.declared.ask.DotenvAsk.{DotenvAsk}
 use Rattle.just_env.specs.declared.ask.Sources.{Sources}
 use Rattle.just_env.specs.declared.ask.Sources.TheVariants as sources

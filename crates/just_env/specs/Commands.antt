@@ -3,6 +3,7 @@ use Rattle.std.specs.Prelude.{ℕ, ◌≡◌, true, false, if◌then◌else◌, 
 use Rattle.std.specs.Ordering.{int_eq}
 use Rattle.std.specs.Str.{is_utf8}
 use Rattle.just_lang_types.specs.declared.settings.Interpreter.{Interpreter}
+use Rattle.just_path.specs.declared.host.Miss.TheVariants as miss
 use Rattle.just_host_record.specs.declared.entry.HostFault.{HostFault}
 use Rattle.just_host_record.specs.declared.entry.HostFault.TheVariants as fault
 use Rattle.just_host_record.specs.declared.entry.Spec.{Spec}
@@ -37,9 +38,9 @@ pub data GivesPairs (environ : Pairs) (folder command : List ℕ) (ending : Stat
   no_text : ending_error ending ≡ None → is_utf8 printed ≡ false → GivesPairs environ folder command ending printed (Err (error.DotenvCommand command output.Utf8))
   ended : (e : OutputError) → ending_error ending ≡ Some e → GivesPairs environ folder command ending printed (Err (error.DotenvCommand command e))
 
--- a capture without input is refused; want of memory is no refusal
+-- a capture without input is refused: it failed, or what the child printed is too large; want of memory is no refusal
 abbrev pub IsUncaptured : HostFault → Type 0
-IsUncaptured (fault.Missed m) = Unit {0}
+IsUncaptured (fault.Missed m) = m ≡ miss.TooLarge
 IsUncaptured (fault.Failed c) = IsCaptureRefusal [] (fault.Failed c)
 IsUncaptured fault.NoMemory = ⊥
 

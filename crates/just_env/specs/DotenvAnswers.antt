@@ -18,7 +18,14 @@ Answers P (Err e) = (e ≡ error.NoMemory) ⊎ P (Err e)
 abbrev pub entries_of : List ℕ → EnvError → List Entry
 entries_of program (error.Io io path) = refused path io
 entries_of program (error.DotenvCommand command (output.Io io)) = refused program io
-entries_of program _ = []
+entries_of program error.DotenvRequired = []
+entries_of program (error.Dotenv path line) = []
+entries_of program error.DotenvArgumentsRequireLists = []
+entries_of program (error.DotenvCommand command (output.Code code)) = []
+entries_of program (error.DotenvCommand command (output.Signal number)) = []
+entries_of program (error.DotenvCommand command output.Unknown) = []
+entries_of program (error.DotenvCommand command output.Utf8) = []
+entries_of program error.NoMemory = []
 
 -- a record gains misses, and behind them the entry of the call for which an error came
 abbrev pub Gains : {A : Type 0} → List Entry → List Entry → Result A EnvError → Type 0
@@ -37,7 +44,15 @@ GainsAll cs old new (Err e) = (middle : List Entry) × (program : List ℕ) × G
 -- the world that is told behind an answer is that behind the last child. One that couldn't be run to its end may have touched the files
 abbrev pub ErrorLeaves : Option World → Option World → EnvError → Type 0
 ErrorLeaves old new (error.DotenvCommand command (output.Io io)) = FaultLeaves old new io
-ErrorLeaves old new _ = new ≡ old
+ErrorLeaves old new (error.Io io path) = new ≡ old
+ErrorLeaves old new error.DotenvRequired = new ≡ old
+ErrorLeaves old new (error.Dotenv path line) = new ≡ old
+ErrorLeaves old new error.DotenvArgumentsRequireLists = new ≡ old
+ErrorLeaves old new (error.DotenvCommand command (output.Code code)) = new ≡ old
+ErrorLeaves old new (error.DotenvCommand command (output.Signal number)) = new ≡ old
+ErrorLeaves old new (error.DotenvCommand command output.Unknown) = new ≡ old
+ErrorLeaves old new (error.DotenvCommand command output.Utf8) = new ≡ old
+ErrorLeaves old new error.NoMemory = new ≡ old
 
 abbrev pub Leaves : {A : Type 0} → Option World → List Capture → Option World → Result A EnvError → Type 0
 Leaves old cs new (Ok x) = new ≡ told_behind old cs

@@ -20,7 +20,9 @@ abbrev pub is_absence : Miss → Bool
 is_absence miss.NotFound = true
 is_absence miss.NotFolder = true
 is_absence miss.IsFolder = true
-is_absence _ = false
+is_absence miss.NotUtf8 = false
+is_absence miss.NotEmpty = false
+is_absence miss.TooLarge = false
 
 -- a read is refused: it failed, or what is there can't be read as a text, as the world shows where one is told
 abbrev pub RefusesRead : Option World → List ℕ → HostFault → Type 0

@@ -7,7 +7,7 @@ use Rattle.just_dotenv.specs.Meaning.{Pairs}
 use Rattle.just_lang_types.specs.declared.project.Justfile.{Justfile, out-Justfile}
 use Rattle.just_lang_types.specs.declared.scope.DotenvOf.{DotenvOf}
 use Rattle.just_lang_types.specs.declared.settings.Settings.{Settings}
-use Rattle.just_eval_closure.specs.Modules.{path_of, settings_of, modules_of}
+use Rattle.just_lang_types.specs.Modules.{path_of, settings_of, modules_of}
 use Rattle.just_exec_work.specs.declared.run_flags.RunFlags.{RunFlags}
 use Rattle.just_exec_work.specs.Folders.{module_folder}
 use Rattle.just_exec_work.specs.Shells.{shell}

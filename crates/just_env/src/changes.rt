@@ -15,7 +15,7 @@ use std::collections::BTreeMap;
 ///
 /// The dotenv pairs come first. Then each level from the outermost on, the scope's own left out, takes the unexported names out and gives those
 /// that it exports their texts. A value without elements isn't exported; under `set export` all variables and parameters are.
-#[derive(Debug, Drop)]
+#[derive(Drop)]
 pub struct Environment {
     pub(crate) inside: Seq<(Text, Option<Text>)>,
 }

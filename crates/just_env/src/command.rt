@@ -1,6 +1,6 @@
 //! The pairs that commands print.
 
-ghost use Rattle.std.specs.Prelude.{◌≡◌, [], None, IfOk, IfErr};
+ghost use Rattle.std.specs.Prelude.{◌≡◌, ◌++◌, ◌∷◌, [], None, IfOk, IfErr};
 ghost use Rattle.just_path.specs.Path.{text_of};
 ghost use Rattle.just_env.specs.DotenvAnswers.{Answers, Runs, entries_of};
 ghost use Rattle.just_env.specs.Commands.{command_spec, ending_error, GivesPairs, RunsCommand, RunsCommands};
@@ -14,6 +14,15 @@ use just_path::Utf8Path;
 use just_path_text::{Environ, NoMemory, Seq, Text};
 use std::alloc::Global;
 
+/// The arguments of the child of a command: those of the shell, and the command behind them.
+fn command_arguments(shell: &Interpreter, command: &Text) -> Result<Seq<Text>, NoMemory>
+    ensures { IfOk result (λ texts. texts ≡ shell.now.arguments ++ command.now ∷ []) }
+{
+    let mut arguments = shell.arguments.try_clone()?.into_vec();
+    arguments.push(command.try_clone()?)?;
+    Ok(Seq::from(arguments))
+}
+
 /// The child of a command.
 fn command_spec(
     alloc: Global,
@@ -23,12 +32,13 @@ fn command_spec(
 ) -> Result<Spec, NoMemory>
     ensures { IfOk result (λ spec. spec ≡ command_spec shell.now (text_of folder.entry) command.now) }
 {
-    let mut arguments = shell.arguments.try_clone()?.into_vec();
-    arguments.push(command.try_clone()?)?;
+    let folder = folder.to_path_buf(alloc)?;
+    let program = shell.command.try_clone()?;
+    let arguments = command_arguments(shell, command)?;
     Ok(Spec {
-        program: shell.command.try_clone()?,
-        arguments: Seq::from(arguments),
-        folder: Some(folder.to_path_buf(alloc)?),
+        program,
+        arguments,
+        folder: Some(folder),
         changes: Seq::new(alloc),
         script: None,
     })

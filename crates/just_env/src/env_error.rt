@@ -9,7 +9,7 @@ use just_path_text::{NoMemory, Text};
 use std::alloc::{AllocError, AllocFailed};
 
 /// Why the output of a command isn't read.
-#[derive(Clone, Copy, Debug, PartialEq, Eq)]
+#[derive(Clone, Copy)]
 pub enum OutputError {
     /// The command ended with this code, which isn't 0.
     Code(i32),

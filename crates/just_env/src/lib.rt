@@ -1,5 +1,5 @@
-//! What surrounds a justfile: why it can't be found or loaded, the dotenv pairs of its modules, and what changes in the
-//! environment of a recipe's children.
+//! The room of environments, and its door: why a justfile can't be found or loaded, the dotenv pairs of its modules, and
+//! what changes in the environment of a recipe's children.
 #![tactic(auto)]
 
 mod ask;
@@ -22,6 +22,13 @@ pub use ask::{DotenvAsk, Sources};
 pub use changes::Environment;
 pub use env_error::{EnvError, OutputError};
 pub use environs::environment;
+pub use just_eval_closure::View;
+pub use just_exec_work::RunFlags;
+pub use just_host_record::{Host, HostFault};
+pub use just_lang_types::project::{Justfile, LangError};
+pub use just_lang_types::{Binding, DotenvOf, Level, Parameter, Scope, Settings, Value};
+pub use just_path::{Utf8Path, Utf8PathBuf};
+pub use just_path_text::{Environ, NoMemory, Seq, Text};
 pub use law::dotenv_agrees;
 pub use module::load_dotenv;
 pub use modules::load_modules;

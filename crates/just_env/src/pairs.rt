@@ -27,10 +27,12 @@ pub(crate) fn behind(first: Pairs, more: Pairs) -> Result<Pairs, NoMemory>
 pub(crate) fn join(first: Option<Pairs>, more: Option<Pairs>) -> Result<Option<Pairs>, NoMemory>
     ensures { IfOk result (λ pairs. pairs ≡ join first more) }
 {
-    match (first, more) {
-        (None, found) => Ok(found),
-        (Some(pairs), None) => Ok(Some(pairs)),
-        (Some(pairs), Some(more)) => Ok(Some(behind(pairs, more)?)),
+    match first {
+        None => Ok(more),
+        Some(pairs) => match more {
+            None => Ok(Some(pairs)),
+            Some(more) => Ok(Some(behind(pairs, more)?)),
+        },
     }
 }
 

@@ -50,4 +50,4 @@ returns-clause-ran g c =
     let leaves : FaultLeaves (g.H.Host.world c.args.host.now) (g.H.Host.world c.capture.new.self) (fault.Missed c.in-Err-Missed.miss) = search rules in
     let entries : g.H.Host.entries c.capture.new.self ≡ g.H.Host.entries c.args.host.now ++ refused c.in_ok-spec.spec.program (fault.Missed c.in-Err-Missed.miss) = search rules in
     ran_none c.args.environ.now.pairs c.args.shell.now (text_of c.args.folder) (g.H.Host.world c.args.host.now) (g.H.Host.world c.capture.new.self) c.args.command.now (fault.Missed c.in-Err-Missed.miss) c.in_ok-named.named _
-    c.in_ok-spec.spec.program (g.H.Host.entries c.args.host.now) (g.H.Host.entries c.capture.new.self) (search rules) (search rules) tt leaves entries
+    c.in_ok-spec.spec.program (g.H.Host.entries c.args.host.now) (g.H.Host.entries c.capture.new.self) (search rules) (search rules) (search rules) leaves entries

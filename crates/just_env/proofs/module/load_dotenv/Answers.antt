@@ -3,7 +3,7 @@ use Rattle.std.proofs.Common.{rules, ◌≡◌, Ok, Err, refl, inr}
 use Rattle.std.specs.Prelude.{Result}
 use Rattle.just_path.specs.Path.{text_of}
 use Rattle.just_env.proofs.Laws.{gains_none}
-use Rattle.just_eval_closure.specs.Modules.{settings_of}
+use Rattle.just_lang_types.specs.Modules.{settings_of}
 use Rattle.just_env.specs.declared.ask.Sources.{Sources}
 use Rattle.just_env.specs.declared.ask.Sources.TheVariants as sources
 use Rattle.just_env.specs.declared.env_error.EnvError.{EnvError}

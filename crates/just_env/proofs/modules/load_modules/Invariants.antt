@@ -1,6 +1,6 @@
 -- Children were run for what is loaded, whatever the modules on the stack come to.
 use Rattle.std.proofs.Common.{◌≡◌}
-use Rattle.just_eval_closure.proofs.Nesting.{weights}
+use Rattle.just_lang_types.proofs.Nesting.{weights}
 use Rattle.just_env.specs.Turns.{seen}
 use Rattle.just_env.proofs.Turning.{LoadedOn, modules_in}
 use Rattle.just_env.proofs.modules.load_modules.Given as goal

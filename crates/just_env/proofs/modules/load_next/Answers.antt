@@ -1,6 +1,6 @@
 -- A module's own pairs are loaded, or refused; or memory is wanting behind them.
 use Rattle.std.proofs.Common.{rules, ◌≡◌, ◌++◌, reverse}
-use Rattle.just_eval_closure.specs.Modules.{modules_of}
+use Rattle.just_lang_types.specs.Modules.{modules_of}
 use Rattle.just_env.specs.Loads.{LoadsOwn, following, folder_of}
 use Rattle.just_env.specs.Turns.{LoadsNext, seen}
 use Rattle.just_env.proofs.Running.{run_ok, run_refused, run_short}
