@@ -7,7 +7,7 @@ use Rattle.just_lang_types.specs.declared.recipe.Parameter.{Parameter}
 use Rattle.just_lang_types.specs.declared.scope.Scopes.{Scopes}
 use Rattle.just_lang_types.specs.declared.project.LangError.{LangError}
 use Rattle.just_eval_closure.specs.Answers.{Answer, and_then}
-use Rattle.just_eval_closure.specs.Modules.{Located}
+use Rattle.just_lang_types.specs.Modules.{Located}
 use Rattle.just_eval_closure.specs.Dependencies.{default_value, value_from, values_behind}
 use Rattle.just_eval_words.specs.Paths.{Word}
 use Rattle.just_eval_words.specs.Invocations.{as_given}

@@ -6,8 +6,8 @@ use Rattle.just_lang_types.specs.declared.scope.Scopes.{Scopes}
 use Rattle.just_lang_types.specs.declared.project.Justfile.{Justfile}
 use Rattle.just_lang_types.specs.declared.project.LangError.{LangError}
 use Rattle.just_eval_closure.specs.Answers.{Answer, and_then}
-use Rattle.just_eval_closure.specs.Modules.{AreModules}
-use Rattle.just_eval_closure.proofs.Nesting.{same_modules}
+use Rattle.just_lang_types.specs.Modules.{AreModules}
+use Rattle.just_lang_types.proofs.Nesting.{same_modules}
 use Rattle.just_eval_words.specs.Paths.{Word}
 use Rattle.just_eval_words.specs.Invocations.{first_key, Invokes}
 use Rattle.just_eval_words.proofs.Keys.{drop_further}

@@ -5,7 +5,7 @@ use Rattle.just_path_text.specs.Environ.{or_else}
 use Rattle.just_lang_types.specs.declared.recipe.Modulepath.{Modulepath}
 use Rattle.just_lang_types.specs.declared.project.Justfile.{Justfile}
 use Rattle.just_lang_types.specs.Keys.{same_path}
-use Rattle.just_eval_closure.specs.Modules.{recipes_of, Located, located, located_at}
+use Rattle.just_lang_types.specs.Modules.{recipes_of, Located, located, located_at}
 
 abbrev pub seen : List (Bor Justfile) → List Justfile
 seen ms = map (λ m. m.now) ms

@@ -6,7 +6,7 @@ use Rattle.just_lang_types.specs.declared.recipe.Recipe.{Recipe}
 use Rattle.just_lang_types.specs.declared.scope.Alias.{Alias}
 use Rattle.just_lang_types.specs.declared.project.Justfile.{Justfile, out-Justfile}
 use Rattle.just_lang_types.specs.declared.project.LangError.TheVariants as error
-use Rattle.just_eval_closure.specs.Modules.{path_of, recipes_of, Located, recipe_at}
+use Rattle.just_lang_types.specs.Modules.{path_of, recipes_of, Located, recipe_at}
 use Rattle.just_eval_words.specs.Paths.{joined_path}
 use Rattle.just_eval_words.specs.Names.{is_named, has_name, submodule, alias_at, is_absent, names_recipe, module_at, aliased_module, module_named, aliased_recipe, no_module}
 use Rattle.just_eval_words.specs.Targets.{is_default, first_of, default_in}

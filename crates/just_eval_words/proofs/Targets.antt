@@ -8,7 +8,7 @@ use Rattle.just_lang_types.specs.declared.project.Justfile.{Justfile, out-Justfi
 use Rattle.just_lang_types.specs.declared.project.LangError.{LangError}
 use Rattle.just_lang_types.specs.declared.project.LangError.TheVariants as error
 use Rattle.just_eval_closure.specs.Answers.{Answer, and_then}
-use Rattle.just_eval_closure.specs.Modules.{Located}
+use Rattle.just_lang_types.specs.Modules.{Located}
 use Rattle.just_eval_words.specs.Parameters.{least_words}
 use Rattle.just_eval_words.specs.Paths.{Word, parts}
 use Rattle.just_eval_words.specs.Names.{Target, disabled_at, alias_at, recipe_in, in_module, is_absent, module_named, aliased_recipe, target_among, last_target, no_module, within, target_of}

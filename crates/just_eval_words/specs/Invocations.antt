@@ -6,7 +6,7 @@ use Rattle.just_lang_types.specs.declared.project.Justfile.{Justfile}
 use Rattle.just_lang_types.specs.declared.project.LangError.{LangError}
 use Rattle.just_lang_types.specs.declared.project.LangError.TheVariants as error
 use Rattle.just_eval_closure.specs.Answers.{Answer, and_then}
-use Rattle.just_eval_closure.specs.Modules.{Located, located}
+use Rattle.just_lang_types.specs.Modules.{Located, located}
 use Rattle.just_eval_closure.specs.Dependencies.{values_given}
 use Rattle.just_eval_words.specs.Given.{words_given}
 use Rattle.just_eval_words.specs.Paths.{Word}

@@ -12,7 +12,7 @@ use Rattle.just_lang_types.specs.declared.project.LangError.{LangError}
 use Rattle.just_lang_types.specs.declared.project.LangError.TheVariants as error
 use Rattle.just_lang_types.specs.Keys.{same_path}
 use Rattle.just_eval_closure.specs.Answers.{Answer}
-use Rattle.just_eval_closure.specs.Modules.{path_of, recipes_of, modules_of, Located, recipe_at}
+use Rattle.just_lang_types.specs.Modules.{path_of, recipes_of, modules_of, Located, recipe_at}
 use Rattle.just_eval_words.specs.Paths.{Word, joined_path}
 
 -- what a name comes to

@@ -2,7 +2,7 @@
 use Rattle.std.specs.Prelude.{◌≡◌}
 use Rattle.just_lang_types.specs.declared.scope.Scopes.{Scopes}
 use Rattle.just_eval_closure.specs.Scopes.{pairs_for, scope_of}
-use Rattle.just_eval_closure.specs.Modules.{path_of, Located}
+use Rattle.just_lang_types.specs.Modules.{path_of, Located}
 use Rattle.just_eval_closure.specs.Dependencies.{levels_in}
 use Rattle.just_eval_words.specs.declared.found.Found.{Found}
 use Rattle.just_eval_words.specs.declared.found.Target.{Target}

@@ -7,7 +7,7 @@ use Rattle.just_lang_types.specs.declared.scope.Disabled.{Disabled}
 use Rattle.just_lang_types.specs.declared.project.Justfile.{Justfile, out-Justfile}
 use Rattle.just_lang_types.specs.declared.project.LangError.TheVariants as error
 use Rattle.just_eval_closure.specs.Answers.{Answer, and_then}
-use Rattle.just_eval_closure.specs.Modules.{recipes_of, Located}
+use Rattle.just_lang_types.specs.Modules.{recipes_of, Located}
 use Rattle.just_eval_words.specs.Parameters.{least_words}
 use Rattle.just_eval_words.specs.Paths.{Word, parts}
 use Rattle.just_eval_words.specs.Names.{Target, disabled_at, target_of}

@@ -3,7 +3,7 @@
 ghost use Rattle.std.specs.Prelude.{◌≡◌, ◌≢◌, ◌≤◌, ◌<◌, ◌∷◌, [], Ok, Err, IfOk, IfErr, List, All, length, drop, map};
 ghost use Rattle.just_lang_types.specs.declared.project.Justfile.{Justfile};
 ghost use Rattle.just_lang_types.specs.declared.project.LangError.TheVariants as error;
-ghost use Rattle.just_eval_closure.specs.Modules.{AreModules};
+ghost use Rattle.just_lang_types.specs.Modules.{AreModules};
 ghost use Rattle.just_eval_words.specs.Invocations.{key_behind, first_key, Invokes, NamesRecipe, within_one, InvocationsAgree};
 ghost use Rattle.just_eval_words.specs.Sights.{located_of};
 
@@ -12,9 +12,8 @@ use super::sight::sight_of;
 use super::target::chosen;
 use super::value::values_given;
 use crate::words_given;
-use just_eval_closure::all_modules;
 use just_lang_types::project::{Justfile, LangError};
-use just_lang_types::{Key, Scopes};
+use just_lang_types::{Key, Scopes, all_modules};
 use just_path_text::{Seq, Text, TryClone};
 use std::alloc::Global;
 

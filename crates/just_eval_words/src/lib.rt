@@ -1,4 +1,4 @@
-//! What words give to the parameters of recipes, and the keys that the words of a request ask for.
+//! The room of values: what words give to the parameters of recipes, and the keys that the words of a request ask for.
 #![tactic(auto)]
 
 mod check;

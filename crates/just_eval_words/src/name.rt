@@ -3,7 +3,7 @@
 ghost use Rattle.std.specs.Prelude.{◌≡◌, ◌-◌, length, map, slice_get};
 ghost use Rattle.std.specs.Option.{option_copied, option_map};
 ghost use Rattle.just_lang_types.specs.declared.project.Justfile.{out-Justfile};
-ghost use Rattle.just_eval_closure.specs.Modules.{recipes_of, recipe_at, located_at};
+ghost use Rattle.just_lang_types.specs.Modules.{recipes_of, recipe_at, located_at};
 ghost use Rattle.just_eval_words.specs.Names.{has_name, submodule, alias_at, disabled_at, recipe_in, is_absent, names_recipe, module_at, aliased_module, module_named, aliased_recipe};
 ghost use Rattle.just_eval_words.specs.Sights.{located_of};
 

@@ -3,7 +3,7 @@
 ghost use Rattle.std.specs.Prelude.{◌≡◌, ◌≢◌, ◌∷◌, [], Ok, Err, IfOk, IfErr, map};
 ghost use Rattle.just_lang_types.specs.declared.project.LangError.TheVariants as error;
 ghost use Rattle.just_eval_closure.specs.Answers.{Gives};
-ghost use Rattle.just_eval_closure.specs.Modules.{path_of};
+ghost use Rattle.just_lang_types.specs.Modules.{path_of};
 ghost use Rattle.just_eval_closure.specs.Scopes.{value_of_text};
 ghost use Rattle.just_eval_closure.specs.Dependencies.{scope_within, value_within, default_value, value_from, values_given};
 ghost use Rattle.just_eval_words.specs.Invocations.{as_given};

@@ -1,7 +1,7 @@
 -- It is among those that are left.
 use Rattle.std.proofs.Common.{◌≡◌, drop, find, map}
 use Rattle.just_lang_types.specs.Keys.{same_path}
-use Rattle.just_eval_closure.specs.Modules.{path_of}
+use Rattle.just_lang_types.specs.Modules.{path_of}
 use Rattle.just_eval_words.proofs.name.module_at.Given as goal
 
 abbrev pub invariant-modules : goal.invariant-modules

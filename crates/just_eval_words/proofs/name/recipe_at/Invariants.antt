@@ -1,6 +1,6 @@
 -- It is in the modules that are left.
 use Rattle.std.proofs.Common.{◌≡◌, drop, map}
-use Rattle.just_eval_closure.specs.Modules.{recipe_at}
+use Rattle.just_lang_types.specs.Modules.{recipe_at}
 use Rattle.just_eval_words.proofs.name.recipe_at.Given as goal
 
 abbrev pub invariant-modules : goal.invariant-modules

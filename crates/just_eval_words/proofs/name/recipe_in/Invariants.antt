@@ -1,7 +1,7 @@
 -- It is among those that are left.
 use Rattle.std.proofs.Common.{◌≡◌, drop, find}
 use Rattle.std.specs.Str.{bytes_eq}
-use Rattle.just_eval_closure.specs.Modules.{recipes_of}
+use Rattle.just_lang_types.specs.Modules.{recipes_of}
 use Rattle.just_eval_words.proofs.name.recipe_in.Given as goal
 
 abbrev pub invariant-recipes : goal.invariant-recipes

@@ -1,6 +1,6 @@
 -- It is among those that are left.
 use Rattle.std.proofs.Common.{◌≡◌, drop, map}
-use Rattle.just_eval_closure.specs.Modules.{recipes_of, located_at}
+use Rattle.just_lang_types.specs.Modules.{recipes_of, located_at}
 use Rattle.just_eval_words.proofs.name.recipe_of.Given as goal
 
 abbrev pub invariant-recipes : goal.invariant-recipes

@@ -1,6 +1,6 @@
 -- It is among those that are left.
 use Rattle.std.proofs.Common.{◌≡◌, drop, find}
-use Rattle.just_eval_closure.specs.Modules.{modules_of}
+use Rattle.just_lang_types.specs.Modules.{modules_of}
 use Rattle.just_eval_words.specs.Names.{has_name}
 use Rattle.just_eval_words.proofs.name.submodule.Given as goal
 
