@@ -8,8 +8,8 @@ use Rattle.just_lang_types.specs.declared.scope.Scope.{Scope}
 use Rattle.just_lang_types.specs.declared.project.Justfile.{Justfile}
 use Rattle.just_lang_types.specs.declared.project.LangError.{LangError}
 use Rattle.just_lang_types.specs.declared.project.LangError.TheVariants as error
-use Rattle.just_eval_closure.specs.Modules.{AreModules}
-use Rattle.just_eval_closure.proofs.Nesting.{same_modules}
+use Rattle.just_lang_types.specs.Modules.{AreModules}
+use Rattle.just_lang_types.proofs.Nesting.{same_modules}
 use Rattle.just_eval.specs.Evaluations.{Evaluates, IsEvaluation}
 use Rattle.just_eval.specs.Overrides.{Variable, AreUnknown, variable_text}
 

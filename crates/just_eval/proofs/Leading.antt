@@ -8,8 +8,8 @@ use Rattle.just_lang_types.specs.declared.scope.Assignment.{Assignment}
 use Rattle.just_lang_types.specs.declared.project.Justfile.{Justfile}
 use Rattle.just_eval_closure.proofs.Items.{In, contains_in}
 use Rattle.just_lang_spots.specs.Graph.{targets, Reaches, IsOnCycle, IsAcyclic, IsFirst}
-use Rattle.just_eval_closure.specs.Modules.{AreModules, assignments_of}
-use Rattle.just_eval_closure.proofs.Nesting.{same_modules}
+use Rattle.just_lang_types.specs.Modules.{AreModules, assignments_of}
+use Rattle.just_lang_types.proofs.Nesting.{same_modules}
 use Rattle.just_eval.specs.Uses.{uses, AreEnding}
 use Rattle.just_eval.proofs.Told.{ending_at}
 

@@ -12,7 +12,7 @@ use Rattle.just_lang_types.specs.declared.project.LangError.{LangError}
 use Rattle.just_lang_types.specs.declared.project.LangError.TheVariants as error
 use Rattle.just_eval_closure.proofs.Items.{In, contains_in, in_contains}
 use Rattle.just_eval_closure.specs.Answers.{Answer, and_then}
-use Rattle.just_eval_closure.specs.Modules.{path_of, assignments_of}
+use Rattle.just_lang_types.specs.Modules.{path_of, assignments_of}
 use Rattle.just_eval_closure.specs.Values.{Valued}
 use Rattle.just_eval_closure.proofs.Each.{behind}
 use Rattle.just_eval.specs.Evaluations.{scope_told, IsScope, Evaluates, IsEvaluation}

@@ -7,7 +7,7 @@ use Rattle.just_lang_types.specs.declared.key.Value.{Value}
 use Rattle.just_lang_types.specs.declared.scope.Scopes.{Scopes}
 use Rattle.just_lang_types.specs.declared.project.Justfile.{Justfile}
 use Rattle.just_eval_closure.specs.Answers.{each}
-use Rattle.just_eval_closure.specs.Modules.{Located, recipe_at}
+use Rattle.just_lang_types.specs.Modules.{Located, recipe_at}
 use Rattle.just_eval_closure.specs.declared.entry.Entry.{Entry}
 use Rattle.just_eval_closure.specs.Entries.{located_of, IsFound}
 use Rattle.just_eval.specs.Bodies.{joined, script_line, command_line, is_run, lines_of_recipe, lines_in, body_lines}

@@ -6,7 +6,7 @@ use Rattle.just_lang_types.specs.declared.key.Value.{Value}
 use Rattle.just_lang_types.specs.declared.scope.Scopes.{Scopes}
 use Rattle.just_lang_types.specs.declared.project.LangError.{LangError}
 use Rattle.just_eval_closure.specs.Answers.{Answer, and_then}
-use Rattle.just_eval_closure.specs.Modules.{Located}
+use Rattle.just_lang_types.specs.Modules.{Located}
 use Rattle.just_eval.specs.declared.part.Part.{Part}
 use Rattle.just_eval.specs.Bodies.{fragment_text, text_of_fragments}
 use Rattle.just_eval.specs.Parts.{fragment_of, fragments_of, put_behind}

@@ -13,7 +13,7 @@ use Rattle.just_lang_types.specs.declared.project.Justfile.{Justfile}
 use Rattle.just_lang_types.specs.declared.project.LangError.{LangError}
 use Rattle.just_lang_types.specs.declared.project.LangError.TheVariants as error
 use Rattle.just_eval_closure.specs.Answers.{Answer, and_then, each, told, Gives}
-use Rattle.just_eval_closure.specs.Modules.{path_of, assignments_of}
+use Rattle.just_lang_types.specs.Modules.{path_of, assignments_of}
 use Rattle.just_eval_closure.specs.Scopes.{value_of_text}
 use Rattle.just_eval_closure.specs.Values.{Valued}
 use Rattle.just_eval_closure.proofs.Each.{behind}

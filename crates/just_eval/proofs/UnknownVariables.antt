@@ -16,7 +16,7 @@ use Rattle.just_eval_closure.specs.Numbers.{text_cmp, path_cmp}
 use Rattle.just_eval_closure.proofs.Equal.{and_both, both_and, bytes_is, bytes_self, same_path_is, same_path_self}
 use Rattle.just_eval_closure.proofs.Items.{In, contains_in, in_contains}
 use Rattle.just_eval_closure.proofs.Numbered.{path_tie, text_tie}
-use Rattle.just_eval_closure.specs.Modules.{path_of, assignments_of}
+use Rattle.just_lang_types.specs.Modules.{path_of, assignments_of}
 use Rattle.just_eval.specs.Overrides.{Variable, is_overridden, assigns, is_assigned, variable_cmp, AreUnknown, variable_text}
 
 -- ---- one variable and another

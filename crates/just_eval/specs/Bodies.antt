@@ -10,7 +10,7 @@ use Rattle.just_lang_types.specs.declared.node.BodyLine.{BodyLine}
 use Rattle.just_lang_types.specs.declared.scope.Scopes.{Scopes}
 use Rattle.just_lang_types.specs.declared.project.Justfile.{Justfile}
 use Rattle.just_eval_closure.specs.Answers.{Answer, and_then, each}
-use Rattle.just_eval_closure.specs.Modules.{settings_of, Located, recipe_at}
+use Rattle.just_lang_types.specs.Modules.{settings_of, Located, recipe_at}
 use Rattle.just_eval_closure.specs.Dependencies.{text_in_recipe}
 use Rattle.just_eval.specs.declared.sigils.Sigils.{Sigils}
 

@@ -6,7 +6,7 @@ use Rattle.just_lang_types.specs.declared.scope.DotenvOf.{DotenvOf}
 use Rattle.just_lang_types.specs.declared.scope.Override.{Override}
 use Rattle.just_lang_types.specs.declared.project.Justfile.{Justfile}
 use Rattle.just_lang_types.specs.Constants.{constant_of}
-use Rattle.just_eval_closure.specs.Modules.{path_of, assignments_of}
+use Rattle.just_lang_types.specs.Modules.{path_of, assignments_of}
 use Rattle.just_eval_closure.specs.Scopes.{pairs_for, found_in}
 use Rattle.just_eval_closure.specs.Values.{Valued, value}
 use Rattle.just_eval.specs.Overrides.{override_of}

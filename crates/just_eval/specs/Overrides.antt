@@ -12,7 +12,7 @@ use Rattle.just_lang_types.specs.declared.scope.Override.{Override}
 use Rattle.just_lang_types.specs.declared.project.Justfile.{Justfile}
 use Rattle.just_lang_types.specs.Keys.{same_path}
 use Rattle.just_eval_closure.specs.Numbers.{text_cmp, path_cmp}
-use Rattle.just_eval_closure.specs.Modules.{path_of, assignments_of}
+use Rattle.just_lang_types.specs.Modules.{path_of, assignments_of}
 
 -- a variable of a project: the path of its module, and its name
 abbrev pub Variable : Type 0

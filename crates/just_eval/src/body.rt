@@ -3,7 +3,7 @@
 ghost use Rattle.std.specs.Prelude.{[], ◌∷◌, List, map};
 ghost use Rattle.just_lang_types.specs.declared.project.Justfile.{Justfile};
 ghost use Rattle.just_eval_closure.specs.Answers.{Gives};
-ghost use Rattle.just_eval_closure.specs.Modules.{AreModules};
+ghost use Rattle.just_lang_types.specs.Modules.{AreModules};
 ghost use Rattle.just_eval_closure.specs.Entries.{located_of, Sees};
 ghost use Rattle.just_eval_closure.specs.Requests.{IsIndexed};
 ghost use Rattle.just_eval.specs.Bodies.{lines_of_recipe, body_lines};
@@ -50,7 +50,7 @@ pub fn lines_of(alloc: Global, request: &Request<'_>, key: &Key) -> Result<Seq<B
 
 /// The lines of the body of the recipe that a key names, as they are run. Many keys of one project are asked of a
 /// [`Request`] with [`lines_of`]: this looks through the whole project.
-#[tactic(auto, using(just_eval_closure::proofs::Nesting::same_modules))]
+#[tactic(auto, using(just_lang_types::proofs::Nesting::same_modules))]
 pub fn body_lines(
     alloc: Global,
     justfile: &Justfile,

@@ -2,14 +2,13 @@
 
 ghost use Rattle.std.specs.Prelude.{ℕ, ◌≡◌, ◌<◌, ◌↔◌, [], ◌∷◌, List, map, All, Contains, IfOk, IsTrue};
 ghost use Rattle.just_lang_types.specs.declared.project.Justfile.{Justfile};
-ghost use Rattle.just_eval_closure.specs.Modules.{AreModules, assignments_of};
+ghost use Rattle.just_lang_types.specs.Modules.{AreModules, assignments_of};
 ghost use Rattle.just_eval.specs.Uses.{AreEnding};
 
 use super::names::{edges, numbers};
-use just_eval_closure::all_modules;
 use just_lang_spots::first_on_cycle;
-use just_lang_types::Assignment;
 use just_lang_types::project::Justfile;
+use just_lang_types::{Assignment, all_modules};
 use just_path_text::NoMemory;
 use std::alloc::Global;
 

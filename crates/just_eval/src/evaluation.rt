@@ -5,15 +5,14 @@ ghost use Rattle.just_lang_types.specs.declared.project.Justfile.{Justfile};
 ghost use Rattle.just_lang_types.specs.declared.project.LangError.{LangError};
 ghost use Rattle.just_lang_types.specs.declared.scope.Scopes.{Scopes};
 ghost use Rattle.just_eval_closure.specs.Answers.{Answer, Gives};
-ghost use Rattle.just_eval_closure.specs.Modules.{AreModules, assignments_of};
+ghost use Rattle.just_lang_types.specs.Modules.{AreModules, assignments_of};
 ghost use Rattle.just_eval.specs.Evaluations.{IsEvaluation};
 ghost use Rattle.just_eval.specs.Uses.{AreEnding};
 
 use super::overrides::unknown_texts;
 use super::scopes::scopes;
-use just_eval_closure::all_modules;
 use just_lang_types::project::{Justfile, LangError};
-use just_lang_types::{DotenvOf, Override, Scopes};
+use just_lang_types::{DotenvOf, Override, Scopes, all_modules};
 use just_path_text::{Environ, NoMemory, Seq, TryClone};
 use std::alloc::Global;
 

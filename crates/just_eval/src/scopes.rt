@@ -5,7 +5,7 @@ ghost use Rattle.just_lang_types.specs.declared.project.LangError.{LangError};
 ghost use Rattle.just_lang_types.specs.declared.recipe.Modulepath.{Modulepath};
 ghost use Rattle.just_lang_types.specs.declared.scope.Scope.{Scope};
 ghost use Rattle.just_eval_closure.specs.Answers.{Answer, told, Gives};
-ghost use Rattle.just_eval_closure.specs.Modules.{assignments_of};
+ghost use Rattle.just_lang_types.specs.Modules.{assignments_of};
 ghost use Rattle.just_eval_closure.specs.Scopes.{value_of_text};
 ghost use Rattle.just_eval.specs.Evaluations.{bindings_told, scope_with, IsScope, Evaluates};
 ghost use Rattle.just_eval.specs.Partial.{outcome_there, outcomes_there};

@@ -5,7 +5,7 @@ ghost use Rattle.std.specs.BTreeMap.{get};
 ghost use Rattle.std.specs.Option.{option_copied};
 ghost use Rattle.just_eval_closure.specs.Numbers.{text_cmp};
 ghost use Rattle.just_lang_spots.specs.Graph.{IsOrder};
-ghost use Rattle.just_eval_closure.specs.Modules.{assignments_of};
+ghost use Rattle.just_lang_types.specs.Modules.{assignments_of};
 ghost use Rattle.just_eval_closure.specs.Scopes.{found_in};
 ghost use Rattle.just_eval_closure.specs.Values.{Valued, value};
 ghost use Rattle.just_eval.specs.Numbers.{AreNumbers};

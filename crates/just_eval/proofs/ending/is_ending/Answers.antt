@@ -1,7 +1,7 @@
 -- What holds of the modules that were found holds of the modules.
 use Rattle.std.proofs.Common.{[], ◌∷◌, map, sym, subst}
 use Rattle.std.proofs.lemmas.Result.{IfOk-weaker}
-use Rattle.just_eval_closure.specs.Modules.{AreModules}
+use Rattle.just_lang_types.specs.Modules.{AreModules}
 use Rattle.just_eval.proofs.Leading.{of_all, to_all}
 use Rattle.just_eval.proofs.ending.is_ending.Goals as goal
 

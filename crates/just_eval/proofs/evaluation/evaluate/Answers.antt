@@ -10,8 +10,8 @@ use Rattle.just_lang_types.specs.declared.scope.Scope.{Scope}
 use Rattle.just_lang_types.specs.declared.scope.Scopes.{Scopes}
 use Rattle.just_path_text.specs.declared.environ.Environ.{Environ}
 use Rattle.just_eval_closure.specs.Answers.{Answer}
-use Rattle.just_eval_closure.specs.Modules.{AreModules, assignments_of}
-use Rattle.just_eval_closure.proofs.Nesting.{same_modules}
+use Rattle.just_lang_types.specs.Modules.{AreModules, assignments_of}
+use Rattle.just_lang_types.proofs.Nesting.{same_modules}
 use Rattle.just_eval.specs.Evaluations.{Evaluates, IsEvaluation}
 use Rattle.just_eval.specs.Overrides.{AreUnknown}
 use Rattle.just_eval.specs.Uses.{AreEnding}

@@ -3,7 +3,7 @@ use Rattle.std.proofs.Common.{rules, ◌≡◌, ◌≢◌, length, Ok, Err, sym,
 use Rattle.just_lang_types.specs.declared.project.LangError.TheVariants.{NoMemory}
 use Rattle.just_lang_types.specs.declared.scope.Scope.{Scope}
 use Rattle.just_eval_closure.specs.Answers.{Answer, and_then}
-use Rattle.just_eval_closure.specs.Modules.{assignments_of}
+use Rattle.just_lang_types.specs.Modules.{assignments_of}
 use Rattle.just_eval.specs.Evaluations.{bindings_told, scope_with, scope_told, IsScope}
 use Rattle.just_eval.specs.Partial.{outcomes_there}
 use Rattle.just_eval.proofs.Only.{scope_only}

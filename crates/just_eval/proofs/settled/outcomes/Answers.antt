@@ -3,7 +3,7 @@ use Rattle.std.proofs.Common.{◌≡◌, ℕ, List, Option, sym, subst}
 use Rattle.std.specs.BTreeMap.{get}
 use Rattle.just_lang_types.specs.declared.scope.Assignment.{Assignment}
 use Rattle.just_eval_closure.specs.Numbers.{text_cmp}
-use Rattle.just_eval_closure.specs.Modules.{path_of, assignments_of}
+use Rattle.just_lang_types.specs.Modules.{path_of, assignments_of}
 use Rattle.just_eval_closure.specs.Scopes.{pairs_for, found_in}
 use Rattle.just_eval_closure.specs.Values.{Valued}
 use Rattle.just_eval.specs.Outcomes.{AreOutcomesOf}
