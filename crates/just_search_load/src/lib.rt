@@ -1,4 +1,4 @@
-//! The files of a project, loaded one after the other; and a justfile that stands in a markdown text.
+//! The room of the search: the files of a project, loaded one after the other; a justfile that stands in a markdown text.
 #![tactic(auto)]
 
 mod fence;
