@@ -64,6 +64,7 @@ pub fn find_fallback<H: Host>(
         Ok(location) => Ok(if_higher(folder, location)),
         Err(error) => {
             if is_not_found(&error) {
+                drop(error);
                 Ok(None)
             } else {
                 Err(error)

@@ -106,14 +106,24 @@ fn path_at(alloc: Global, place: &Place, names: &[Text]) -> Result<Option<Utf8Pa
     }
 }
 
+/// Want of memory, where that is why a folder can't be listed.
+fn unless_short(refusal: &SearchError) -> Result<(), NoMemory>
+    ensures { IfOk result (λ _. refusal.now ≢ SearchError.NoMemory) }
+{
+    match refusal {
+        SearchError::NoMemory => Err(NoMemory),
+        _ => Ok(()),
+    }
+}
+
 /// What is found in a folder that can't be listed: nothing, but where memory was wanting.
 fn unlisted(refusal: SearchError) -> Result<Option<Utf8PathBuf>, NoMemory>
     ensures { IfOk result (λ path. (path ≡ None) × (refusal ≢ SearchError.NoMemory)) }
 {
-    match refusal {
-        SearchError::NoMemory => Err(NoMemory),
-        _ => Ok(None),
-    }
+    let wanting = unless_short(&refusal);
+    drop(refusal);
+    wanting?;
+    Ok(None)
 }
 
 /// Looks for a justfile at a place. A folder that can't be listed has none.
