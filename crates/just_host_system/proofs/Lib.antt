@@ -1,1 +1,2 @@
 -- Proofs of the host of this process.
+pub mod Ends

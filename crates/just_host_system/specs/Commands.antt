@@ -1,5 +1,5 @@
 -- What a child's command is to say, and what its end is to mean.
-use Rattle.std.specs.Prelude.{ℕ, ◌≡◌, if◌then◌else◌, Bool, false, not, ◌&&◌, List, [], ◌∷◌, ◌++◌, Option, Some, None, option_map, ℤ, codes}
+use Rattle.std.specs.Prelude.{ℕ, ◌≡◌, if◌then◌else◌, Bool, false, not, ◌&&◌, List, [], ◌∷◌, ◌++◌, Option, Some, None, Result, Ok, Err, option_map, ℤ, codes}
 use Rattle.std.specs.List.{list_any}
 use Rattle.std.specs.Str.{bytes_eq}
 use Rattle.std.specs.Process.{command_program, command_args, command_arg0, command_dir, command_var, clears_env, exit_code, exit_signal}
@@ -57,6 +57,11 @@ abbrev pub status_told : Option ℤ → Option ℤ → Status
 status_told (Some code) signal = Code code
 status_told None (Some signal) = Signal signal
 status_told None None = Unknown
+
+-- a child's end as waiting for it told; none where that failed
+abbrev pub status_waited : {E : Type 0} → Result ExitStatus E → Option Status
+status_waited (Ok e) = Some (status_told (exit_code e) (exit_signal e))
+status_waited (Err x) = None
 
 -- it is the end that the system told of a child
 abbrev pub IsToldOf : Option ExitStatus → Status → Type 0

@@ -10,6 +10,7 @@ ghost use Rattle.just_host_record.specs.Record.{noted, gained, refused, IsOwn, I
 ghost use Rattle.just_host_record.specs.Looks.{ChecksTo, dash};
 ghost use Rattle.just_host_record.specs.Logs.{entries_of, spare_of, started_of, HasRoom, LogWent};
 
+use super::child::Captured;
 use just_host_files::system::miss_of;
 use just_host_files::{copied_bytes, copies_of};
 use just_host_record::{Call, Entry, HostFault, Log, Look, Spec, Status, Stream, boxed_copy};
@@ -377,6 +378,7 @@ pub(crate) fn answer_check(
     requires copies { copies ≡ outputs.now }
     requires told { IfOk told (λ o. IfSome o (λ i. i < length outputs.now)) }
     ensures within { IfOk result (λ o. IfSome o (λ i. i < length outputs.now)) }
+    ensures answer { IfOk result (λ o. told ≡ Ok o) }
     ensures entries { ChecksTo (entries_of log.old) (entries_of log.new) outputs.now result }
     ensures own { IsOwn Call.Check result }
     ensures spare { spare_of log.new ≡ spare_of log.old }
@@ -450,23 +452,25 @@ pub(crate) fn answer_print(
     }
 }
 
-/// Notes how a captured child ended and what it printed, where the log was made ready. A copy of that takes memory.
+/// Notes how a captured child ended and what it printed, where the log was made ready, and answers it. A copy of that takes memory.
 pub(crate) fn note_capture(
     log: &mut Log,
     alloc: Global,
     spec: Boxed<Spec>,
     input: Seq<u8>,
-    end: (Status, Vec<u8>),
+    end: Captured,
 ) -> Result<(Status, Vec<u8>), HostFault>
     requires room { HasRoom log.old }
-    requires limit { length end.1.items ≤ MAX_BYTES }
+    requires limit { length end.output.items ≤ MAX_BYTES }
     ensures entries { entries_of log.new ≡ entries_of log.old
         ++ gained spec.program (λ r. Entry.Captured spec input r.0 r.1.items ∷ []) result }
     ensures limit { IfOk result (λ r. length r.1.items ≤ MAX_BYTES) }
+    ensures status { IfOk result (λ r. r.0 ≡ end.status) }
+    ensures output { IfOk result (λ r. r.1 ≡ end.output) }
     ensures fault { IfErr result (λ f. f ≡ HostFault.NoMemory) }
     ensures spare { spare_of log.new ≡ spare_of log.old }
 {
-    let (status, output) = end;
+    let (status, output) = end.into_parts();
     match copied_bytes(alloc, output.as_slice()) {
         Ok(noted) => {
             log.append(Entry::Captured(spec, input, status, noted));

@@ -1,20 +1,21 @@
 //! Children that are run to their end. What a child is to read stands in a file that has no name any more, so that feeding it and reading its
 //! output never wait for each other. Nothing is claimed of what the system does; clauses say how a refusal is told.
-ghost use Rattle.std.specs.Prelude.{◌≡◌, ◌⊎◌, ◌≤◌, ℕ, List, IfOk, length};
+ghost use Rattle.std.specs.Prelude.{◌≡◌, ◌⊎◌, ◌≤◌, ℕ, List, Ok, IfOk, length};
 ghost use Rattle.just_host_record.specs.declared.outside.TheConstants.{MAX_BYTES};
 ghost use Rattle.just_host_record.specs.declared.entry.HostFault.{HostFault};
 ghost use Rattle.just_host_record.specs.Record.{IsCaptureFault};
 
-use super::command::{command_of, status_of};
+use super::child::Captured;
+use super::command::command_of;
 use super::script::{ScriptFile, place, remove};
 use just_host_files::disk::temp_folder;
 use just_host_files::in_memory;
-use just_host_record::{Call, HostFault, MAX_BYTES, Spec, Status};
+use just_host_record::{Call, HostFault, MAX_BYTES, Spec};
 use just_path::{Miss, Utf8Path};
 use std::alloc::Global;
 use std::fs::{self, File, Files};
 use std::io::{self, ErrorKind, Read};
-use std::process::{Child, Command, ExitStatus, Processes, Stdio, SystemProcess};
+use std::process::{Child, Command, Processes, Stdio, SystemProcess};
 use std::rt::Env;
 
 /// The failure of a call that the system refused.
@@ -127,6 +128,7 @@ fn output_of(alloc: Global, child: &mut Child<SystemProcess>) -> io::Result<Vec<
 fn bounded(told: io::Result<Vec<u8>>) -> Result<Vec<u8>, HostFault>
     ensures fault { (input : List ℕ) → IsCaptureFault input result }
     ensures limit { IfOk result (λ v. length v.items ≤ MAX_BYTES) }
+    ensures told { IfOk result (λ v. told ≡ Ok v) }
 {
     match told {
         Ok(bytes) => {
@@ -139,13 +141,15 @@ fn bounded(told: io::Result<Vec<u8>>) -> Result<Vec<u8>, HostFault>
     }
 }
 
-/// Waits for a child.
-/// No clause: nothing is claimed of how a child ends.
-fn waited(child: Child<SystemProcess>) -> io::Result<ExitStatus> {
-    let mut child = child;
-    let told = child.wait();
-    drop(child);
-    told
+/// Waits for a child that printed this.
+fn waited(child: Child<SystemProcess>, output: Vec<u8>) -> Result<Captured, HostFault>
+    ensures fault { (input : List ℕ) → IsCaptureFault input result }
+    ensures output { IfOk result (λ e. e.output ≡ output) }
+{
+    match Captured::after(child, output) {
+        Ok(end) => Ok(end),
+        Err(error) => Err(failure(Call::Capture, &error)),
+    }
 }
 
 /// Ends a child.
@@ -158,17 +162,14 @@ fn end(child: Child<SystemProcess>) {
 }
 
 /// Reads what a child prints, and waits for it. One whose output can't be read or is too long is ended.
-fn finish(alloc: Global, child: Child<SystemProcess>) -> Result<(Status, Vec<u8>), HostFault>
+fn finish(alloc: Global, child: Child<SystemProcess>) -> Result<Captured, HostFault>
     ensures fault { (input : List ℕ) → IsCaptureFault input result }
-    ensures limit { IfOk result (λ r. length r.1.items ≤ MAX_BYTES) }
+    ensures limit { IfOk result (λ e. length e.output.items ≤ MAX_BYTES) }
 {
     let mut child = child;
     let told = output_of(alloc, &mut child);
     match bounded(told) {
-        Ok(bytes) => match waited(child) {
-            Ok(status) => Ok((status_of(&status), bytes)),
-            Err(error) => Err(failure(Call::Capture, &error)),
-        },
+        Ok(bytes) => waited(child, bytes),
         Err(fault) => {
             end(child);
             Err(fault)
@@ -183,9 +184,9 @@ fn capture_with<P: Processes<Started = SystemProcess>>(
     spec: &Spec,
     file: &Option<ScriptFile>,
     input: Stdio,
-) -> Result<(Status, Vec<u8>), HostFault>
+) -> Result<Captured, HostFault>
     ensures fault { (input : List ℕ) → IsCaptureFault input result }
-    ensures limit { IfOk result (λ r. length r.1.items ≤ MAX_BYTES) }
+    ensures limit { IfOk result (λ e. length e.output.items ≤ MAX_BYTES) }
 {
     let Ok(command) = command_of(alloc, spec, path_of(file)) else {
         drop(input);
@@ -203,9 +204,9 @@ fn capture_fed<R: Files + Env + Processes<Started = SystemProcess>>(
     alloc: Global,
     spec: &Spec,
     stream: Stdio,
-) -> Result<(Status, Vec<u8>), HostFault>
+) -> Result<Captured, HostFault>
     ensures fault { (input : List ℕ) → IsCaptureFault input result }
-    ensures limit { IfOk result (λ r. length r.1.items ≤ MAX_BYTES) }
+    ensures limit { IfOk result (λ e. length e.output.items ≤ MAX_BYTES) }
 {
     match script_file(rt, alloc, spec) {
         Ok(file) => {
@@ -228,9 +229,9 @@ pub(crate) fn capture<R: Files<File = File> + Env + Processes<Started = SystemPr
     alloc: Global,
     spec: &Spec,
     input: &[u8],
-) -> Result<(Status, Vec<u8>), HostFault>
+) -> Result<Captured, HostFault>
     ensures fault { IsCaptureFault input.now result }
-    ensures limit { IfOk result (λ r. length r.1.items ≤ MAX_BYTES) }
+    ensures limit { IfOk result (λ e. length e.output.items ≤ MAX_BYTES) }
 {
     match fed(rt, alloc, input) {
         Ok(stream) => capture_fed(rt, alloc, spec, stream),

@@ -1,13 +1,14 @@
 //! Children of this process.
-ghost use Rattle.std.specs.Prelude.{◌≡◌};
+ghost use Rattle.std.specs.Prelude.{◌≡◌, IfOk};
 ghost use Rattle.std.specs.Option.{ForSome};
 ghost use Rattle.std.specs.Process.{child_status};
-ghost use Rattle.just_host_system.specs.Commands.{IsToldOf};
+ghost use Rattle.just_host_system.specs.Commands.{IsToldOf, status_waited};
 
 use super::command::status_of;
 use super::script::ScriptFile;
 use just_host_record::Status;
-use std::process::{Child, SystemProcess};
+use std::io;
+use std::process::{Child, ExitStatus, SystemProcess};
 
 /// A child of this process.
 #[derive(Drop)]
@@ -39,7 +40,7 @@ impl RealDone {
             mut process,
             script,
         } = child;
-        let status = ending(&mut process);
+        let status = ending(&process.wait());
         RealDone {
             number,
             process,
@@ -49,12 +50,67 @@ impl RealDone {
     }
 }
 
-/// Waits for a child, and tells how it ended, where waiting didn't fail.
-fn ending(process: &mut Child<SystemProcess>) -> Option<Status>
-    ensures { ForSome result (λ s. ∥ IsToldOf (child_status process.new) s ∥₁) }
+/// A child that was captured: the process itself, the status that the system told of it, and what it printed.
+pub(crate) struct Captured {
+    process: Child<SystemProcess>,
+    pub(crate) status: Status,
+    pub(crate) output: Vec<u8>,
+    ghost told: { ∥ IsToldOf (child_status process) status ∥₁ },
+}
+
+impl Drop for Captured {
+    fn drop(self) {
+        let Captured {
+            process: _,
+            status: _,
+            output: _,
+        } = self;
+    }
+}
+
+impl Captured {
+    /// Waits for a child that printed this.
+    pub(crate) fn after(child: Child<SystemProcess>, output: Vec<u8>) -> io::Result<Captured>
+        ensures { IfOk result (λ e. e.output ≡ output) }
+    {
+        let mut process = child;
+        match process.wait() {
+            Ok(status) => {
+                let status = status_of(&status);
+                Ok(Captured {
+                    process,
+                    status,
+                    output,
+                })
+            }
+            Err(error) => {
+                drop(process);
+                Err(error)
+            }
+        }
+    }
+
+    /// Its status, and what it printed.
+    pub(crate) fn into_parts(self) -> (Status, Vec<u8>)
+        ensures status { result.0 ≡ self.status }
+        ensures output { result.1 ≡ self.output }
+    {
+        let Captured {
+            process,
+            status,
+            output,
+        } = self;
+        drop(process);
+        (status, output)
+    }
+}
+
+/// How a child ended of which waiting told this; none where waiting failed.
+fn ending(told: &io::Result<ExitStatus>) -> Option<Status>
+    ensures { result ≡ status_waited told.now }
 {
-    match process.wait() {
-        Ok(status) => Some(status_of(&status)),
+    match told {
+        Ok(status) => Some(status_of(status)),
         Err(_) => None,
     }
 }

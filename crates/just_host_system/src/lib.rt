@@ -1,5 +1,4 @@
-//! The host of this process over the system, `RealHost`, with its children and their scripts. What it asks of the system's files stands in `just_host_files`,
-//! what a host is in `just_host_record`.
+//! The room of hosts: the host of this process over the system, with its children and their scripts.
 #![tactic(auto)]
 
 mod answers;
