@@ -10,6 +10,6 @@ pub standing-preserved : goal.standing-preserved
 standing-preserved g c =
     let xs = c.args.standing.now in
     let i = c.standing.at in
-    let x = c.one-item.result in
+    let x = c.index-standing-at.result in
     picked_step (disabled_at (g.L.Linker.links c.args.links.now) c.args.number) (i, entry x) (enumerate_from (i + 1) (entries (drop (i + 1) xs))) (enumerate_from i (entries (drop i xs))) c.standing.all.items c.push_some.new.list.items c.in_ok-disabled.disabled
-    (places_here xs i x c.standing-test.true c.one-item.is) c.in_ok-disabled.ensures c.in_ok-push_some.ensures ∙ c.standing.invariant
+    (places_here xs i x c.standing-test.true c.index-standing-at.is) c.in_ok-disabled.ensures c.in_ok-push_some.ensures ∙ c.standing.invariant
