@@ -1,4 +1,4 @@
-//! The plan of a run and its history: the states of its nodes, legal histories, and the tables that are kept of one.
+//! The room of runs: the plan of a run and its history, that is the states of its nodes, legal histories, and the tables that are kept of one.
 #![tactic(auto)]
 
 mod cache_plan;
