@@ -5,7 +5,8 @@ ghost use Rattle.just_lang.specs.CycleTables.{AreRecipes};
 ghost use Rattle.just_lang.specs.Rules.{IsFirstCircular};
 
 use super::names::broken_at;
-use crate::{Recipes, circular_recipe, circular_variable};
+use super::recipe::{Recipes, circular_recipe};
+use super::variable::circular_variable;
 use just_lang_rulebook::Broken;
 use just_lang_types::CompileKind;
 use just_path_text::NoMemory;

@@ -6,8 +6,8 @@ ghost use Rattle.just_lang_names.specs.Names.{layout_of, wins_of};
 ghost use Rattle.just_lang.specs.CycleTables.{AreRecipes};
 ghost use Rattle.just_lang.specs.Errors.{error_of_files, error_of_rule, error_of_constant, BreaksNone, IsErrorIn};
 
+use super::recipe::Recipes;
 use super::rule::first_rule;
-use crate::Recipes;
 use just_lang_layout::{File, Layout, LayoutError};
 use just_lang_rulebook::{Broken, first_not_constant};
 use just_lang_spots::Spot;

@@ -17,8 +17,6 @@ mod steps;
 mod tables;
 mod variable;
 
-use disabled::{Disabling, causes, modules_of_alias, modules_of_recipe};
-use errors::{check_rules, error_of_files};
 pub use just_lang_syntax::unindent;
 pub use just_lang_types::{
     Alias, Argument, Assignment, Ast, AstDependency, AstItem, AstParameter, AstRecipe, Attribute,
@@ -32,6 +30,4 @@ pub use just_path::{Utf8Path, Utf8PathBuf};
 pub use just_path_text::{Environ, NoMemory, Seq, Text};
 pub use law::projects_are_sound;
 pub use project::first_broken;
-use recipe::{Recipes, circular_recipe, standing_recipes};
 pub use sources::assemble;
-use variable::circular_variable;

@@ -7,7 +7,7 @@ ghost use Rattle.just_lang.specs.Errors.{BreaksNone, IsErrorIn};
 ghost use Rattle.just_lang.specs.Projects.{HasNone, HasError, AreWell, IsFirstError};
 
 use super::errors::{check_rules, error_of_files};
-use crate::standing_recipes;
+use super::recipe::standing_recipes;
 use just_lang_layout::{Layout, lay};
 use just_lang_names::{Names, names_of};
 use just_lang_spots::winners_of;

@@ -1,5 +1,5 @@
 //! Recipes with those that they depend on, and the first that depends on itself.
-ghost use Rattle.std.specs.Prelude.{◌≡◌, ◌++◌, ◌+◌, map, filter_map, IfOk, OnOk};
+ghost use Rattle.std.specs.Prelude.{◌≡◌, ◌++◌, map, filter_map, IfOk, OnOk};
 ghost use Rattle.std.specs.Option.{option_map};
 ghost use Rattle.just_lang_spots.specs.Entries.{entry, entries};
 ghost use Rattle.just_lang_names.specs.Names.{AreNames, layout_of, wins_of};
@@ -7,6 +7,7 @@ ghost use Rattle.just_lang_names.specs.Targets.{target, IsPlaced};
 ghost use Rattle.just_lang.specs.Cycles.{IsFirstSpot, IsCircularRecipe, place_of_target, recipe_spot, recipes_needed};
 ghost use Rattle.just_lang.specs.CycleTables.{standing, standings, standing_in, AreBefore, AreStanding, AreRecipes, needed_by};
 
+use super::before::sum_of;
 use super::first::first_on_cycle_at;
 use super::steps::push_some;
 use just_lang_names::{Names, PathKind, Target, target_of};
@@ -79,16 +80,6 @@ fn recipes_of_modules<'a>(
         add_recipes(&mut list, number, of_module.recipes.as_slice())?;
     }
     Ok((list, before))
-}
-
-/// The sum, where it can be counted.
-fn sum_of(before: usize, place: usize) -> Result<usize, NoMemory>
-    ensures { IfOk result (λ n. n ≡ before + place) }
-{
-    match before.checked_add(place) {
-        Some(sum) => Ok(sum),
-        None => Err(NoMemory),
-    }
 }
 
 /// The place, among all, of the recipe that a path comes to.

@@ -6,7 +6,7 @@ ghost use Rattle.just_lang.specs.Rules.{IsFirstRule, IsFirstFurther};
 
 use super::circular::first_circular;
 use super::names::first_on_names;
-use crate::Recipes;
+use super::recipe::Recipes;
 use just_lang_rulebook::{Broken, first_broken_behind, first_broken_item};
 use just_path_text::{Environ, NoMemory};
 use std::alloc::Global;

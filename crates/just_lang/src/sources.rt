@@ -12,8 +12,10 @@ ghost use Rattle.just_lang.specs.Assembled.{IsMadeOf, IsSoundlyMadeOf, IsJustfil
 ghost use Rattle.just_lang.specs.Tables.{AreTables};
 
 use super::before::before_each;
+use super::disabled::{Disabling, causes};
+use super::errors::{check_rules, error_of_files};
+use super::recipe::{Recipes, standing_recipes};
 use super::tables::Tables;
-use crate::{Disabling, Recipes, causes, check_rules, error_of_files, standing_recipes};
 use just_lang_justfile::{Project, justfile_of};
 use just_lang_layout::{Layout, lay};
 use just_lang_names::{Names, names_of};

@@ -7,8 +7,8 @@ ghost use Rattle.just_lang.specs.DisablingTables.{texts, IsDisabling};
 ghost use Rattle.just_lang.specs.Tables.{AreTables, causes_of};
 
 use super::before::sum_of;
+use super::disabled::{Disabling, modules_of_alias, modules_of_recipe};
 use super::paths::{linked_target, recipe_path};
-use crate::{Disabling, modules_of_alias, modules_of_recipe};
 use just_lang_justfile::{AliasTarget, Linker};
 use just_lang_names::{Names, PathKind, target_of};
 use just_lang_syntax::Name;
