@@ -21,7 +21,8 @@ fn add_variable(index: &Index<'_>, name: &Name, places: &mut Vec<usize>) -> Resu
     ensures { OnOk result (places.new.items ≡ places.old.items ++ places_in index.now (name.now ∷ [])) }
 {
     let place = index.place(name.text.as_str());
-    Ok(push_some(places, place)?)
+    push_some(places, place)?;
+    Ok(())
 }
 
 /// Adds the places of the variables that an expression names.
@@ -39,16 +40,22 @@ fn add_variables(index: &Index<'_>, expr: &Expr, places: &mut Vec<usize>) -> Res
             add_variables(index, left.get(), places)?;
             add_variables(index, right.get(), places)?;
             add_variables(index, consequent.get(), places)?;
-            add_variables(index, alternative.get(), places)
+            add_variables(index, alternative.get(), places)?;
+            Ok(())
         }
-        Expr::Root(inside) | Expr::Group(inside) => add_variables(index, inside.get(), places),
+        Expr::Root(inside) | Expr::Group(inside) => {
+            add_variables(index, inside.get(), places)?;
+            Ok(())
+        }
         Expr::Join(first, second) => {
             add_variables(index, first.get(), places)?;
-            add_variables(index, second.get(), places)
+            add_variables(index, second.get(), places)?;
+            Ok(())
         }
         Expr::Concat(first, second) => {
             add_variables(index, first.get(), places)?;
-            add_variables(index, second.get(), places)
+            add_variables(index, second.get(), places)?;
+            Ok(())
         }
         Expr::Literal(_) => Ok(()),
         Expr::Variable(name) => add_variable(index, name, places),
@@ -56,7 +63,10 @@ fn add_variables(index: &Index<'_>, expr: &Expr, places: &mut Vec<usize>) -> Res
             add_variables(index, key.get(), places)?;
             match default {
                 None => Ok(()),
-                Some(default) => add_variables(index, default.get(), places),
+                Some(default) => {
+                    add_variables(index, default.get(), places)?;
+                    Ok(())
+                }
             }
         }
     }
