@@ -7,10 +7,9 @@
 use super::module::push_module;
 use super::page::Page;
 use super::sources::push_source;
-use just_eval_closure::all_modules;
 use just_lang::assemble;
-use just_lang_types::Source;
 use just_lang_types::project::{Justfile, LangError};
+use just_lang_types::{Source, all_modules};
 use rows_common::{Wrong, at, environment, unescaped_text};
 use std::alloc::Global;
 
