@@ -3,7 +3,7 @@ use Rattle.std.proofs.Common.{List, [], ◌∷◌}
 use Rattle.just_lang_types.specs.declared.project.Justfile.{Justfile}
 use Rattle.just_lang_types.specs.declared.source.Source.{Source}
 use Rattle.just_lang_layout.specs.Paths.{Pairs}
-use Rattle.just_eval_closure.specs.Modules.{AreModules}
+use Rattle.just_lang_types.specs.Modules.{AreModules}
 use Rattle.just_eval_closure.specs.Ends.{AreEnding}
 use Rattle.just_lang.specs.Assembled.{IsJustfileOfSources}
 use Rattle.just_cli_plan.specs.EndingProjects.{ProjectsEnd}

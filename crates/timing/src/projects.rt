@@ -3,7 +3,7 @@
 
 ghost use Rattle.std.specs.Prelude.{List, [], ◌∷◌, IfOk};
 ghost use Rattle.just_lang_types.specs.declared.project.Justfile.{Justfile};
-ghost use Rattle.just_eval_closure.specs.Modules.{AreModules};
+ghost use Rattle.just_lang_types.specs.Modules.{AreModules};
 ghost use Rattle.just_eval_closure.specs.Ends.{AreEnding};
 
 use super::recipes::recipes;
