@@ -8,7 +8,7 @@ use Rattle.just_lang_types.specs.declared.node.BodyLine.{BodyLine}
 use Rattle.just_lang_types.specs.declared.project.LangError.{LangError}
 use Rattle.just_lang_types.specs.declared.scope.Scopes.{Scopes}
 use Rattle.just_eval_closure.specs.Answers.{Answer, and_then}
-use Rattle.just_eval_closure.specs.Modules.{Located}
+use Rattle.just_lang_types.specs.Modules.{Located}
 use Rattle.just_exec_work.specs.declared.work.Work.{Work}
 use Rattle.just_exec_work.specs.Works.{Run}
 use Rattle.just_exec.specs.Caches.{cache_attribute, keyed_texts, cache_of, script_child, cache_by, recipe_cache}

@@ -9,7 +9,7 @@ use Rattle.just_lang_types.specs.declared.project.Justfile.{Justfile}
 use Rattle.just_lang_types.specs.declared.project.LangError.{LangError}
 use Rattle.just_lang_types.specs.declared.project.LangError.TheVariants as lang
 use Rattle.just_eval_closure.specs.Answers.{Answer}
-use Rattle.just_eval_closure.specs.Modules.{settings_of, Located, recipe_at}
+use Rattle.just_lang_types.specs.Modules.{settings_of, Located, recipe_at}
 use Rattle.just_eval_closure.specs.declared.entry.Entry.{Entry}
 use Rattle.just_eval_closure.specs.Entries.{located_of, IsFound}
 use Rattle.just_exec_work.specs.declared.error.CommandError.{CommandError}

@@ -11,7 +11,7 @@ use Rattle.just_lang_types.specs.declared.node.BodyLine.{BodyLine}
 use Rattle.just_lang_types.specs.declared.project.Justfile.{Justfile}
 use Rattle.just_lang_types.specs.declared.scope.Scopes.{Scopes}
 use Rattle.just_eval_closure.specs.Answers.{Answer, and_then}
-use Rattle.just_eval_closure.specs.Modules.{Located, recipe_at}
+use Rattle.just_lang_types.specs.Modules.{Located, recipe_at}
 use Rattle.just_exec_work.specs.declared.run_flags.RunFlags.{RunFlags}
 use Rattle.just_exec_work.specs.declared.work.Work.{Work}
 use Rattle.just_exec_work.specs.Works.{Run, recipe_work}

@@ -11,7 +11,7 @@ use Rattle.just_lang_types.specs.declared.node.BodyLine.{BodyLine}
 use Rattle.just_lang_types.specs.declared.recipe.Recipe.{Recipe}
 use Rattle.just_lang_types.specs.declared.scope.Scopes.{Scopes}
 use Rattle.just_eval_closure.specs.Answers.{Answer, and_then, each}
-use Rattle.just_eval_closure.specs.Modules.{Located}
+use Rattle.just_lang_types.specs.Modules.{Located}
 use Rattle.just_eval_closure.specs.Dependencies.{text_in_recipe}
 use Rattle.just_exec_work.specs.declared.work.Work.{Work}
 use Rattle.just_exec_work.specs.declared.work.Work.TheVariants as work

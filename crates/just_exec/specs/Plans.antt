@@ -8,7 +8,7 @@ use Rattle.just_lang_types.specs.declared.scope.Scopes.{Scopes}
 use Rattle.just_lang_types.specs.declared.project.Justfile.{Justfile, out-Justfile}
 use Rattle.just_lang_types.specs.declared.project.LangError.TheVariants as lang
 use Rattle.just_eval_closure.specs.Answers.{Answer}
-use Rattle.just_eval_closure.specs.Modules.{path_of, settings_of, Located, recipe_at}
+use Rattle.just_lang_types.specs.Modules.{path_of, settings_of, Located, recipe_at}
 use Rattle.just_exec_work.specs.declared.error.CommandError.TheVariants as command
 use Rattle.just_exec_work.specs.declared.run_flags.RunFlags.{RunFlags}
 use Rattle.just_exec_work.specs.declared.work.Work.{Work}

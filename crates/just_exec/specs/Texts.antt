@@ -6,7 +6,8 @@ use Rattle.just_lang_types.specs.declared.recipe.Modulepath.{Modulepath}
 use Rattle.just_lang_types.specs.declared.recipe.Parameter.{Parameter}
 use Rattle.just_print.specs.SmallTexts.{ticked, list_text}
 use Rattle.just_print.specs.Usages as usages
-use Rattle.just_config.specs.Texts.{error_text as config_text, feature_text}
+use Rattle.just_config.specs.Texts.{error_text as config_text}
+use Rattle.just_lang_types.specs.Features.{feature_text}
 use Rattle.just_env.specs.declared.search_error.SearchError.{SearchError}
 use Rattle.just_env.specs.declared.search_error.SearchError.TheVariants as search
 use Rattle.just_env.specs.declared.env_error.OutputError.{OutputError}

@@ -112,9 +112,9 @@ fn run_plan(
     requires { Sees scopes.now from.now }
     ensures { GivesPlan (run_plan scopes.now (located_of from.now) (run_of run.now) (text_of folder.entry) lines.now) result }
 {
-    let texts = texts_of(alloc, run.flags, from.recipe)?;
     let work = recipe_work(alloc, run, lines)?;
     let cache = recipe_cache(alloc, scopes, from, run, folder, lines, &work)?;
+    let texts = texts_of(alloc, run.flags, from.recipe)?;
     Ok(node_plan(run.flags, from, texts, work, cache))
 }
 

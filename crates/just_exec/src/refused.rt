@@ -3,7 +3,7 @@
 ghost use Rattle.std.specs.Prelude.{◌≡◌, ◌++◌, codes};
 ghost use Rattle.std.specs.Fmt.{WritesOnOk};
 ghost use Rattle.just_print.specs.SmallTexts.{list_text};
-ghost use Rattle.just_config.specs.Texts.{feature_text};
+ghost use Rattle.just_lang_types.specs.Features.{feature_text};
 ghost use Rattle.just_print.specs.Usages.{usage_text as usage_of};
 ghost use Rattle.just_exec.specs.Parts.{circular_text, absent_text, values_text, pattern_text, default_text, overrides_text, takes_text};
 ghost use Rattle.just_exec.specs.Texts.{count_text, unstable_text};
