@@ -2,7 +2,7 @@
 use Rattle.std.proofs.Common.{Ok, Err, ap}
 use Rattle.std.proofs.lemmas.List.Elements.{recursion_from_All}
 use Rattle.just_lang_types.specs.declared.project.Justfile.{Justfile}
-use Rattle.just_eval_closure.specs.Modules.{assignments_of}
+use Rattle.just_lang_types.specs.Modules.{assignments_of}
 use Rattle.just_eval.specs.Uses.{AreEnding}
 use Rattle.just_cli_plan.specs.Loading.{LoadsAgree, RootsAgree}
 use Rattle.just_cli_plan.specs.Evaluating.{EvaluationsAgree}

@@ -13,8 +13,8 @@ use Rattle.just_lang_types.specs.declared.scope.Override.{Override}
 use Rattle.just_lang_types.specs.declared.scope.Scopes.{Scopes}
 use Rattle.just_lang_types.specs.declared.source.Source.{Source}
 use Rattle.just_eval_closure.specs.Answers.{Answer}
-use Rattle.just_eval_closure.specs.Modules.{AreModules}
-use Rattle.just_eval_closure.proofs.Nesting.{same_modules}
+use Rattle.just_lang_types.specs.Modules.{AreModules}
+use Rattle.just_lang_types.proofs.Nesting.{same_modules}
 use Rattle.just_lang.specs.Projects.{IsFirstError}
 use Rattle.just_lang.specs.Assembled.{IsJustfileOfSources}
 use Rattle.just_eval.specs.Evaluations.{IsEvaluation}
@@ -25,7 +25,7 @@ use Rattle.just_eval_closure.specs.AskedClosures.{around_of}
 use Rattle.just_exec.specs.declared.node_plan.NodePlan.{NodePlan}
 use Rattle.just_sched_history.specs.declared.plan.Plan.{Plan}
 use Rattle.just_exec.specs.Refusals.{error_of_lang}
-use Rattle.just_config.specs.declared.unstable_feature.UnstableFeature.{UnstableFeature}
+use Rattle.just_lang_types.specs.declared.unstable_feature.UnstableFeature.{UnstableFeature}
 use Rattle.just_exec.specs.declared.error.Error.{Error}
 use Rattle.just_exec.specs.declared.error.Error.TheVariants as error
 use Rattle.just_cli_plan.specs.Own.{OrMemory}

@@ -17,7 +17,7 @@ use Rattle.just_lang_spots.specs.Graph.{targets, Reaches, edge, along, IsOnCycle
 use Rattle.just_lang_spots.proofs.Chains.{all_pass, chains_end}
 use Rattle.just_lang.specs.Cycles.{Standing, IsFirstSpot, IsCircularRecipe, recipe_spot, all_recipes, dependencies_of, place_of_dependency, recipes_needed, recipe_graph}
 use Rattle.just_lang.proofs.RecipeGraphs.{recipes_graph}
-use Rattle.just_eval_closure.specs.Modules.{Located, located, located_at}
+use Rattle.just_lang_types.specs.Modules.{Located, located, located_at}
 use Rattle.just_eval_closure.specs.Ends as eval
 use Rattle.just_lang.specs.Linked.{recipe_path}
 use Rattle.just_cli_plan.proofs.Apart.{AreApart, picked_leads}

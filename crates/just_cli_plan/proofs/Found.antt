@@ -3,7 +3,7 @@ use Rattle.std.proofs.Common.{◌≡◌, ◌∙◌, List, [], Option, Some, None
 use Rattle.just_lang_types.specs.declared.key.Key.{Key}
 use Rattle.just_lang_types.specs.declared.project.Justfile.{Justfile, out-Justfile}
 use Rattle.just_lang_types.specs.declared.scope.Scopes.{Scopes}
-use Rattle.just_eval_closure.specs.Modules.{path_of, settings_of, Located, recipe_at}
+use Rattle.just_lang_types.specs.Modules.{path_of, settings_of, Located, recipe_at}
 use Rattle.just_eval_closure.specs.Scopes.{levels_within, scope_of}
 use Rattle.just_eval_closure.specs.Dependencies.{levels_in}
 use Rattle.just_eval_closure.specs.Entries.{located_of, IsFound}

@@ -7,7 +7,7 @@ use Rattle.just_lang_layout.specs.declared.error.LayoutError.{LayoutError}
 use Rattle.just_lang_layout.specs.declared.layout.Layout.{Layout}
 use Rattle.just_lang_layout.specs.Paths.{Pairs}
 use Rattle.just_lang_spots.specs.Standing.{Wins}
-use Rattle.just_eval_closure.proofs.Nesting.{same_modules}
+use Rattle.just_lang_types.proofs.Nesting.{same_modules}
 use Rattle.just_lang_rulebook.specs.Meant.{meant}
 use Rattle.just_lang.specs.Cycles.{IsFirstSpot, IsCircularRecipe}
 use Rattle.just_lang.specs.Errors.{error_of_files}

@@ -7,7 +7,7 @@ use Rattle.just_lang_types.specs.declared.project.Justfile.{Justfile}
 use Rattle.just_lang_types.specs.declared.project.LangError.{LangError}
 use Rattle.just_lang_types.specs.declared.project.LangError.TheVariants as lang
 use Rattle.just_eval_closure.specs.Answers.{Answer, and_then}
-use Rattle.just_eval_closure.specs.Modules.{AreModules}
+use Rattle.just_lang_types.specs.Modules.{AreModules}
 use Rattle.just_cli_plan.specs.OneProject.{IsDetermined}
 use Rattle.just_cli_plan.proofs.OneProjectLaws.{projects_agree}
 use Rattle.just_cli_plan.proofs.AgreeLaws.{evaluations_agree, closures_agree}

@@ -27,8 +27,8 @@ use Rattle.just_lang_shapes.specs.Expansions.{expanded_exprs}
 use Rattle.just_lang.specs.Cycles.{Standing, IsFirstSpot, IsCircularRecipe, IsCircularVariable, in_module, recipes_from, all_recipes}
 use Rattle.just_lang.proofs.Loops.{map_picked}
 use Rattle.just_lang.proofs.Variables.{picked_same}
-use Rattle.just_eval_closure.specs.Modules.{AreModules, Located, located, recipes_of as own_recipes, assignments_of as own_assignments}
-use Rattle.just_eval_closure.proofs.Nesting.{same_modules}
+use Rattle.just_lang_types.specs.Modules.{AreModules, Located, located, recipes_of as own_recipes, assignments_of as own_assignments}
+use Rattle.just_lang_types.proofs.Nesting.{same_modules}
 use Rattle.just_eval_closure.specs.Ends.{AreEnding}
 use Rattle.just_eval.specs.Uses.{AreEnding as AreVariablesEnding}
 use Rattle.just_lang_justfile.specs.Links.{Links}

@@ -12,7 +12,7 @@ use Rattle.just_lang_types.specs.declared.recipe.Modulepath.{Modulepath}
 use Rattle.just_lang_layout.specs.declared.layout.Layout.{Layout}
 use Rattle.just_lang_layout.specs.declared.layout.Module.{Module}
 use Rattle.just_lang_spots.specs.Standing.{Wins}
-use Rattle.just_eval_closure.specs.Modules.{path_of, modules_of, AreModules}
+use Rattle.just_lang_types.specs.Modules.{path_of, modules_of, AreModules}
 use Rattle.just_lang_justfile.specs.Links.{Links}
 use Rattle.just_lang_justfile.specs.Modules.{IsModuleOf}
 use Rattle.just_lang_justfile.specs.Trees.{front, is_within, IsAround, AreModulesOf, IsJustfileOf}

@@ -3,7 +3,7 @@ use Rattle.std.specs.Prelude.{List, [], ◌∷◌, All}
 use Rattle.just_lang_types.specs.declared.project.Justfile.{Justfile}
 use Rattle.just_lang_types.specs.declared.source.Source.{Source}
 use Rattle.just_lang_layout.specs.Paths.{Pairs}
-use Rattle.just_eval_closure.specs.Modules.{AreModules, assignments_of}
+use Rattle.just_lang_types.specs.Modules.{AreModules, assignments_of}
 use Rattle.just_eval_closure.specs.Ends.{AreEnding}
 use Rattle.just_eval.specs.Uses.{AreEnding as AreVariablesEnding}
 use Rattle.just_lang.specs.Assembled.{IsJustfileOfSources}

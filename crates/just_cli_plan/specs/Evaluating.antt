@@ -6,7 +6,7 @@ use Rattle.just_lang_types.specs.declared.scope.DotenvOf.{DotenvOf}
 use Rattle.just_lang_types.specs.declared.scope.Override.{Override}
 use Rattle.just_lang_types.specs.declared.scope.Scopes.{Scopes}
 use Rattle.just_eval_closure.specs.Answers.{Answer}
-use Rattle.just_eval_closure.specs.Modules.{assignments_of}
+use Rattle.just_lang_types.specs.Modules.{assignments_of}
 use Rattle.just_eval.specs.Evaluations.{IsEvaluation}
 use Rattle.just_eval.specs.Uses.{AreEnding}
 

@@ -4,9 +4,9 @@ use Rattle.std.specs.List.{list_any}
 use Rattle.just_path_text.specs.Environ.{or_else}
 use Rattle.just_lang_types.specs.declared.project.Justfile.{Justfile}
 use Rattle.just_lang_types.specs.declared.recipe.Recipe.{Recipe}
-use Rattle.just_eval_closure.specs.Modules.{recipes_of, settings_of}
-use Rattle.just_config.specs.declared.unstable_feature.UnstableFeature.{UnstableFeature}
-use Rattle.just_config.specs.declared.unstable_feature.UnstableFeature.TheVariants as feature
+use Rattle.just_lang_types.specs.Modules.{recipes_of, settings_of}
+use Rattle.just_lang_types.specs.declared.unstable_feature.UnstableFeature.{UnstableFeature}
+use Rattle.just_lang_types.specs.declared.unstable_feature.UnstableFeature.TheVariants as feature
 use Rattle.just_exec_work.specs.Attributes.{has_attribute}
 
 -- an option's word, where the option is given

@@ -7,7 +7,7 @@ use Rattle.just_lang_types.specs.declared.project.LangError.{LangError}
 use Rattle.just_lang_types.specs.declared.project.LangError.TheVariants as error
 use Rattle.just_lang_types.specs.declared.source.Source.{Source}
 use Rattle.just_lang_layout.specs.Paths.{Pairs}
-use Rattle.just_eval_closure.specs.Modules.{AreModules}
+use Rattle.just_lang_types.specs.Modules.{AreModules}
 use Rattle.just_lang.specs.Projects.{IsFirstError}
 use Rattle.just_lang.specs.Assembled.{IsJustfileOfSources}
 

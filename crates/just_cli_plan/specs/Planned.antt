@@ -5,7 +5,7 @@ use Rattle.just_lang_types.specs.declared.node.Closure.{Closure}
 use Rattle.just_lang_types.specs.declared.node.Node.{Node}
 use Rattle.just_lang_types.specs.declared.project.Justfile.{Justfile, out-Justfile}
 use Rattle.just_lang_types.specs.declared.scope.Scopes.{Scopes}
-use Rattle.just_eval_closure.specs.Modules.{path_of, settings_of, Located, recipe_at}
+use Rattle.just_lang_types.specs.Modules.{path_of, settings_of, Located, recipe_at}
 use Rattle.just_eval_closure.specs.Scopes.{pairs_for}
 use Rattle.just_eval_closure.specs.Dependencies.{scope_within}
 use Rattle.just_env.specs.Changes.{Change, changes}

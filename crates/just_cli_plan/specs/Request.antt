@@ -11,14 +11,14 @@ use Rattle.just_lang_types.specs.declared.scope.DotenvOf.{DotenvOf}
 use Rattle.just_lang_types.specs.declared.scope.Scopes.{Scopes}
 use Rattle.just_lang_types.specs.declared.source.Source.{Source}
 use Rattle.just_eval_closure.specs.Answers.{Answer, and_then}
-use Rattle.just_eval_closure.specs.Modules.{AreModules}
+use Rattle.just_lang_types.specs.Modules.{AreModules}
 use Rattle.just_lang.specs.Projects.{IsFirstError}
 use Rattle.just_lang.specs.Assembled.{IsJustfileOfSources}
 use Rattle.just_eval.specs.Evaluations.{IsEvaluation}
 use Rattle.just_eval_words.specs.Invocations.{Invokes, within_one}
 use Rattle.just_eval_closure.specs.Closures.{IsClosureOf}
 use Rattle.just_eval_closure.specs.Visits.{Visits}
-use Rattle.just_config.specs.declared.unstable_feature.UnstableFeature.{UnstableFeature}
+use Rattle.just_lang_types.specs.declared.unstable_feature.UnstableFeature.{UnstableFeature}
 use Rattle.just_eval_closure.specs.AskedClosures.{around_of}
 use Rattle.just_exec.specs.declared.plan_error.PlanError.{PlanError}
 use Rattle.just_exec.specs.declared.node_plan.NodePlan.{NodePlan}

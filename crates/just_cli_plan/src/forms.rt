@@ -2,7 +2,7 @@
 
 ghost use Rattle.std.specs.Prelude.{◌≡◌, map};
 ghost use Rattle.std.specs.List.{list_any};
-ghost use Rattle.just_eval_closure.specs.Modules.{recipes_of, settings_of};
+ghost use Rattle.just_lang_types.specs.Modules.{recipes_of, settings_of};
 ghost use Rattle.just_exec.specs.declared.error.Error.TheVariants as error;
 ghost use Rattle.just_cli_plan.specs.Own.{OrMemory};
 ghost use Rattle.just_cli_plan.specs.Forms.{is_cached, feature_of, feature_in, unstable_feature};

@@ -6,7 +6,7 @@ ghost use Rattle.just_lang_types.specs.declared.project.Justfile.{Justfile};
 ghost use Rattle.just_lang_types.specs.declared.project.LangError.{LangError};
 ghost use Rattle.just_eval_closure.specs.WellFormed.{IsWellFormed};
 ghost use Rattle.just_eval_closure.specs.Requests.{IsIndexed};
-ghost use Rattle.just_eval_closure.specs.Modules.{AreModules};
+ghost use Rattle.just_lang_types.specs.Modules.{AreModules};
 ghost use Rattle.just_cli_plan.specs.Own.{OrMemory};
 ghost use Rattle.just_cli_plan.specs.Projects.{IsSound};
 ghost use Rattle.just_cli_plan.specs.Request.{outline_of, AsksKeys, MakesPlan, PlansKeys};

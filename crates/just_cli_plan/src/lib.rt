@@ -1,5 +1,5 @@
-//! The plan of a run, from the sources of a project and what is asked of it; that there is one at most; and the error
-//! of a run that failed.
+//! The room of the command line: the plan of a run, from the sources of a project and what is asked of it; that there is
+//! one at most; and the error of a run that failed.
 #![tactic(auto)]
 
 mod agree;

@@ -2,10 +2,10 @@
 
 ghost use Rattle.std.specs.Prelude.{◌≡◌, ◌∷◌, [], List, map, None, Some, option_map, Ok, Err, IfOk, IfErr};
 ghost use Rattle.std.specs.Int.NonZero.{non_zero_u64_get};
-ghost use Rattle.just_config.specs.declared.unstable_feature.UnstableFeature.{UnstableFeature as Feature};
+ghost use Rattle.just_lang_types.specs.declared.unstable_feature.UnstableFeature.{UnstableFeature as Feature};
 ghost use Rattle.just_lang_types.specs.declared.project.Justfile.{Justfile};
 ghost use Rattle.just_lang_types.specs.declared.project.LangError.{LangError};
-ghost use Rattle.just_eval_closure.specs.Modules.{AreModules};
+ghost use Rattle.just_lang_types.specs.Modules.{AreModules};
 ghost use Rattle.just_eval.specs.Evaluations.{IsEvaluation};
 ghost use Rattle.just_exec.specs.Refusals.{error_of_lang};
 ghost use Rattle.just_exec.specs.declared.error.Error.TheVariants as error;
@@ -19,11 +19,10 @@ use super::forms::unstable_feature;
 use super::keys::plan_of_keys;
 use crate::projects_end;
 use just_eval::evaluate;
-use just_eval_closure::all_modules;
 use just_exec::Error;
 use just_lang::assemble;
 use just_lang_types::project::Justfile;
-use just_lang_types::{DotenvOf, Scopes, Source};
+use just_lang_types::{DotenvOf, Scopes, Source, all_modules};
 use just_path_text::{Environ, Seq};
 use just_sched_history::Plan;
 use std::alloc::Global;
@@ -93,7 +92,10 @@ pub fn project_of_sources(
     projects_end();
     match check_project(alloc, wanted.unstable, &justfile) {
         Ok(()) => Ok(justfile),
-        Err(error) => Err(error),
+        Err(error) => {
+            drop(justfile);
+            Err(error)
+        }
     }
 }
 
