@@ -17,7 +17,7 @@ use Rattle.just_cli_plan.specs.declared.wanted.Wanted.{Wanted}
 use Rattle.just_cli_plan.specs.Own.{OrMemory}
 use Rattle.just_lang_types.specs.declared.project.Justfile.{Justfile}
 use Rattle.just_lang_types.specs.declared.scope.DotenvOf.{DotenvOf}
-use Rattle.just_eval_closure.specs.Modules.{AreModules, settings_of}
+use Rattle.just_lang_types.specs.Modules.{AreModules, settings_of}
 use Rattle.std.specs.List.{list_any}
 use Rattle.just_host_record.specs.Record.{is_failed}
 use Rattle.just_host_record.specs.declared.entry.HostFault.TheVariants as fault

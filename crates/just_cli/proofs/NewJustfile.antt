@@ -1,5 +1,5 @@
 -- A new justfile is written and told of, from what the calls answered.
-use Rattle.std.proofs.Common.{◌≡◌, ◌++◌, inl, inr, ℕ, Bool, true, false, List, [], ◌∷◌, Option, Some, None, Result, Ok, Err, IfOk, IfErr, refl, sym, ap, ◌∙◌, subst, append_assoc, append-nil}
+use Rattle.std.proofs.Common.{◌≡◌, ◌++◌, ℕ, Bool, true, false, List, [], ◌∷◌, Option, Some, None, Result, Ok, Err, IfOk, IfErr, refl, sym, ap, ◌∙◌, subst, append_assoc, append-nil}
 use Rattle.just_host_record.specs.declared.entry.Call.TheVariants as call
 use Rattle.just_host_record.specs.declared.entry.Entry.{Entry}
 use Rattle.just_host_record.specs.declared.entry.Entry.TheVariants as entry
@@ -7,7 +7,7 @@ use Rattle.just_host_record.specs.declared.entry.HostFault.{HostFault}
 use Rattle.just_host_record.specs.declared.entry.HostFault.TheVariants as fault
 use Rattle.just_host_record.specs.declared.entry.Stream.TheVariants as stream
 use Rattle.just_host_record.specs.Changes.{place_written, written, Changes}
-use Rattle.just_host_record.specs.Record.{refused, IsOwnFault, IsNoMiss}
+use Rattle.just_host_record.specs.Record.{refused}
 use Rattle.just_host_record.specs.World.{World}
 use Rattle.just_env.specs.Answers.{GainsMisses}
 use Rattle.just_sched_history.specs.declared.event.Event.{Event}
@@ -35,12 +35,6 @@ line_quiet old quiet line is = sym (ap (λ b. old ++ told_line b line) is ∙ ap
 
 pub line_told : (old new : List Entry) (quiet : Bool) (line : List ℕ) → quiet ≡ false → new ≡ old ++ entry.Printed stream.Err line ∷ [] → new ≡ old ++ told_line quiet line
 line_told old new quiet line is grew = grew ∙ sym (ap (λ b. old ++ told_line b line) is)
-
--- it is lost by a failed print, or want of memory
-pub line_lost : (io : HostFault) (e : Error) → e ≡ print_error io → IsOwnFault call.Print io → IsNoMiss io → OrMemory (λ x. x ≡ error.StdoutIo (fault.Failed call.Print)) e
-line_lost (fault.Missed m) e is own never = absurd never
-line_lost (fault.Failed c) e is own never = inr (is ∙ ap (λ d. error.StdoutIo (fault.Failed d)) own)
-line_lost fault.NoMemory e is own never = inl is
 
 -- the error of a refused print has its entry
 pub print_refused : (old new : List Entry) (io : HostFault) (e : Error) → new ≡ old ++ refused [] io → e ≡ print_error io → new ≡ old ++ entries_of e

@@ -12,7 +12,7 @@ use Rattle.just_exec.specs.declared.plan_error.PlanError.{PlanError}
 use Rattle.just_exec.specs.declared.plan_error.PlanError.TheVariants as plan_error
 use Rattle.just_exec.specs.declared.error.Error.TheVariants as error
 use Rattle.just_lang_types.specs.declared.project.Justfile.{Justfile}
-use Rattle.just_eval_closure.specs.Modules.{AreModules}
+use Rattle.just_lang_types.specs.Modules.{AreModules}
 use Rattle.just_cli.specs.Faults.{entries_of}
 use Rattle.just_cli.specs.Options.{is_lacking, is_missing}
 use Rattle.just_cli.proofs.Silent.{IsSilent, then_silent, or_silent}

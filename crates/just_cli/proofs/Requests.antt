@@ -27,7 +27,7 @@ use Rattle.just_cli.specs.NewPath.{is_init, FindsNew}
 use Rattle.just_cli.specs.Options.{cache_beside, wanted_of, allowed}
 use Rattle.just_cli.specs.Words.{WordsRequest, ArgumentsRequest, FolderRequest, ConfigRequest, LocatedRequest, JustfileRequest, FindsEnviron, ReadsWords, FindsFolder, GivesConfig, IsBuilt, Configures, FindsLocation, FindsJustfile, TakesFile}
 use Rattle.just_exec.specs.Refusals.{error_of_search}
-use Rattle.just_eval_closure.specs.Modules.{settings_of}
+use Rattle.just_lang_types.specs.Modules.{settings_of}
 use Rattle.just_cli_plan.proofs.AgreeLaws.{loads_agree}
 use Rattle.just_env.specs.Captures.{Capture, told_behind}
 use Rattle.just_cli_plan.specs.Request.{SourcesRequest, ProjectRequest, LoadedRequest, Outline, FindsProject, PlansSources}

@@ -27,6 +27,7 @@ use Rattle.just_cli_plan.specs.Outcome.{IsErrorFor}
 use Rattle.just_cli.specs.Acts.{Act, AreActs, folders_in, captures_in}
 use Rattle.just_cli.specs.Altered.{IsAltered, EndsAsItWas, StaysAsItWas}
 use Rattle.just_cli_plan.specs.Pairs.{entries_of as entries_in}
+use Rattle.just_cli.specs.Questions.{AsksQuiet}
 use Rattle.just_cli.specs.Quiet.{AskQuiet}
 use Rattle.just_cli.specs.Preparing.{EndsWith, LeavesActs, EndsActs, Performs, Prepares}
 use Rattle.just_cli.specs.Record.{GoByCacheRule, IsBook, IsTold, is_captured, IsQuiet, Removes, EndsBehind, EndsWell, EndsIll, EndsUnopened, EndsBefore}
@@ -274,7 +275,7 @@ run_well words told after old entered now new w seen kept made jobs messages qui
 
 pub run_ill : (words : List (List ℕ)) (told after : Option World) (old entered now middle new : List Entry) (w seen settled : Option World) (kept made : List (List ℕ)) (jobs : Option ℕ) (messages : List Bool) (quiet : Bool) (plan driven : Plan) (h : List Event) (heard : List Bool) (shown : List Event) (v : Verdict) (e : Error) (r : Result Report Failure)
     → r ≡ Err (record { error = e; plan = Some driven; history = h; code = exit_code e }) → IsDriven (start_with plan jobs entered w) driven h v now seen → kept ≡ []
-    → Prepares (AsksGlobal words told) (Asks words told) told w kept made old entered (Ok (outline_of plan jobs messages)) → AskQuiet words told quiet e → settled ≡ seen
+    → Prepares (AsksGlobal words told) (Asks words told) told w kept made old entered (Ok (outline_of plan jobs messages)) → AsksQuiet words told quiet → settled ≡ seen
     → IsErrorFor driven.nodes heard shown v (Some e) → heard ≡ messages → shown ≡ h → IsToldBehind quiet e now middle → Removes made settled middle after new → IsRun words told after old new r
 run_ill words told after old entered now middle new w seen settled kept made jobs messages quiet plan driven h heard shown v e r is driven_so none (listings, passed, p) asks_quiet world error_is heard_is shown_is tells removes =
     let d : IsDriven (start_with plan jobs entered w) plan h v now seen = subst (λ p. IsDriven (start_with plan jobs entered w) p h v now seen) driven_so.plan driven_so in

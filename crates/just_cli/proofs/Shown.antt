@@ -1,7 +1,8 @@
 -- Words that ask for a text get it, or the error of a print that failed.
-use Rattle.std.proofs.Common.{◌≡◌, ◌++◌, ℕ, false, List, [], Option, None, Result, Err, refl, sym, ◌∙◌, ap, subst}
+use Rattle.std.proofs.Common.{◌≡◌, ◌++◌, inl, inr, ℕ, false, List, [], Option, None, Result, Err, refl, sym, ◌∙◌, ap, subst}
 use Rattle.just_host_record.specs.World.{World}
-use Rattle.just_host_record.specs.Record.{refused}
+use Rattle.just_host_record.specs.Record.{refused, IsOwnFault, IsNoMiss}
+use Rattle.just_host_record.specs.declared.entry.Call.TheVariants as call
 use Rattle.just_host_record.specs.declared.entry.Entry.{Entry}
 use Rattle.just_host_record.specs.declared.entry.HostFault.{HostFault}
 use Rattle.just_host_record.specs.declared.entry.HostFault.TheVariants as fault
@@ -9,6 +10,8 @@ use Rattle.just_sched_history.specs.declared.event.Event.{Event}
 use Rattle.just_cli.specs.declared.ended.Failure.{Failure}
 use Rattle.just_cli.specs.declared.ended.Report.{Report}
 use Rattle.just_exec.specs.declared.error.Error.{Error}
+use Rattle.just_exec.specs.declared.error.Error.TheVariants as error
+use Rattle.just_cli_plan.specs.Own.{OrMemory}
 use Rattle.just_cli.specs.Faults.{entries_of, print_error}
 use Rattle.just_cli.specs.Questions.{IsQuestion, IsShown}
 use Rattle.just_cli.specs.Record.{IsTold}
@@ -22,14 +25,20 @@ print_entries (fault.Missed m) = refl
 print_entries (fault.Failed c) = refl
 print_entries fault.NoMemory = refl
 
+-- a text is lost by a failed print, or want of memory
+pub text_lost : (io : HostFault) (e : Error) → e ≡ print_error io → IsOwnFault call.Print io → IsNoMiss io → OrMemory (λ x. x ≡ error.StdoutIo (fault.Failed call.Print)) e
+text_lost (fault.Missed m) e is own never = absurd never
+text_lost (fault.Failed c) e is own never = inr (is ∙ ap (λ d. error.StdoutIo (fault.Failed d)) own)
+text_lost fault.NoMemory e is own never = inl is
+
 -- the text wasn't printed
 pub unshown : (text : List ℕ) (told after : Option World) (old now new : List Entry) (r : Result Report Failure) (io : HostFault) (e : Error) (h : List Event)
-    → r ≡ Err (record { error = e; plan = None; history = h; code = exit_code e }) → h ≡ [] → e ≡ print_error io → now ≡ old ++ refused [] io
+    → r ≡ Err (record { error = e; plan = None; history = h; code = exit_code e }) → h ≡ [] → e ≡ print_error io → IsOwnFault call.Print io → IsNoMiss io → now ≡ old ++ refused [] io
     → (es : List Entry) × (new ≡ now ++ es) × IsTold false e es → after ≡ told → IsShown text told after old new r
-unshown text told after old now new r io e h is no_history error_is grew tells world =
+unshown text told after old now new r io e h is no_history error_is own never grew tells world =
     subst (λ q. IsShown text told after old new q) (sym is) (record {
       shown = tt;
-      unshown = (refl, no_history, refl, (io, error_is), ends_before [] false e old now new (refused [] io) grew ([], tt, sym (ap entries_of error_is ∙ print_entries io)) tells);
+      unshown = (refl, no_history, refl, text_lost io e error_is own never, ends_before [] false e old now new (refused [] io) grew ([], tt, sym (ap entries_of error_is ∙ print_entries io)) tells);
       world = world;
     })
 

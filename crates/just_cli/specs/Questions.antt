@@ -2,9 +2,10 @@
 use Rattle.std.specs.Prelude.{ℕ, ◌≡◌, ◌++◌, Bool, true, false, List, [], ◌∷◌, codes, Option, Some, None, option_map, Result, Ok, IfOk, IfErr}
 use Rattle.std.specs.Int.NonZero.{non_zero_u64_get}
 use Rattle.just_path_text.specs.declared.environ.Environ.{Environ}
+use Rattle.just_host_record.specs.declared.entry.Call.TheVariants as call
 use Rattle.just_host_record.specs.declared.entry.Entry.{Entry}
 use Rattle.just_host_record.specs.declared.entry.Entry.TheVariants as entry
-use Rattle.just_host_record.specs.declared.entry.HostFault.{HostFault}
+use Rattle.just_host_record.specs.declared.entry.HostFault.TheVariants as fault
 use Rattle.just_host_record.specs.declared.entry.Stream.TheVariants as stream
 use Rattle.just_host_record.specs.World.{World}
 use Rattle.just_config_words.specs.declared.arguments.Arguments.{Arguments}
@@ -16,15 +17,16 @@ use Rattle.just_config.specs.Versions.{version_text}
 use Rattle.just_env.specs.Answers.{GainsMisses}
 use Rattle.just_cli.specs.declared.ended.Failure.{Failure}
 use Rattle.just_cli.specs.declared.ended.Report.{Report}
-use Rattle.just_cli.specs.Faults.{print_error}
 use Rattle.just_cli.specs.Preparing.{Prepares}
 use Rattle.just_cli.specs.Record.{EndsBefore}
 use Rattle.just_cli.specs.declared.task.Task.{Task}
 use Rattle.just_cli.specs.declared.task.Task.TheVariants as task
+use Rattle.just_cli_plan.specs.Own.{OrMemory}
 use Rattle.just_cli_plan.specs.Request.{outline_of}
 use Rattle.just_cli.specs.Request.{EnvironGiven, Serves, ServesNew, Asks, AsksNew, AsksGlobal}
 use Rattle.just_cli.specs.Words.{ArgumentsRequest}
 use Rattle.just_exec.specs.Codes.{exit_code}
+use Rattle.just_exec.specs.declared.error.Error.TheVariants as error
 
 -- the line of the version: `just 1.58.0`
 abbrev pub version_line : List ℕ
@@ -71,9 +73,9 @@ IsServed told after a kept keeps old new (task.Show text) = ⊥
 abbrev pub IsNothing : Report → Type 0
 IsNothing r = (r.plan.nodes ≡ []) × (r.plan.invocations ≡ []) × (r.history ≡ [])
 
--- the text wasn't printed, or memory was wanting; the error is told
+-- the print of the text failed, or memory was wanting; the error is told
 abbrev pub IsUnshown : Failure → List Entry → List Entry → Type 0
-IsUnshown f old new = (f.plan ≡ None) × (f.history ≡ []) × (f.code ≡ exit_code f.error) × ((io : HostFault) × (f.error ≡ print_error io)) × EndsBefore [] false f.error old new
+IsUnshown f old new = (f.plan ≡ None) × (f.history ≡ []) × (f.code ≡ exit_code f.error) × OrMemory (λ x. x ≡ error.StdoutIo (fault.Failed call.Print)) f.error × EndsBefore [] false f.error old new
 
 -- the text is printed once to standard output, and the told world stays
 pub record IsShown (text : List ℕ) (told after : Option World) (old new : List Entry) (result : Result Report Failure) : Type 0 where

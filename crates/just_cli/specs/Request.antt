@@ -25,7 +25,7 @@ use Rattle.just_cli_plan.specs.Request.{SourcesRequest, ProjectRequest, LoadedRe
 use Rattle.just_cli.specs.NewPath.{is_init, FindsNew}
 use Rattle.just_search.specs.declared.location.Location.{Location}
 use Rattle.just_search.specs.Fallback.{FallsBack}
-use Rattle.just_eval_closure.specs.Modules.{settings_of}
+use Rattle.just_lang_types.specs.Modules.{settings_of}
 use Rattle.just_cli.specs.Acts.{Act, AreToldBehind, Step, Looks, Behind}
 use Rattle.just_cli.specs.Options.{is_lacking, lacks, allowed}
 use Rattle.just_cli.specs.Words.{ArgumentsRequest, ConfigRequest, LocatedRequest, JustfileRequest, FindsEnviron, ReadsWords, FindsFolder, Configures, FindsLocation, FindsJustfile, TakesFile}

@@ -33,9 +33,9 @@ pub record IsRun (words : List (List ℕ)) (told after : Option World) (old new 
   pub acts : List Act
   pub between : Option World
   pub settled : Option World
-  -- whether the words ask for quiet
+  -- whether the words ask for quiet; those of a plan were read
   pub quiet : Bool
-  pub quiet_is : IfErr result (λ f. ∥ AskQuiet words told quiet f.error ∥₁)
+  pub quiet_is : IfErr result (λ f. ∥ MatchOption f.plan (AskQuiet words told quiet f.error) (λ p. AsksQuiet words told quiet) ∥₁)
   -- a report's history is that of a run which ended well
   pub ran : IfOk result (λ r. ∥ EndsWell listings acts r.plan jobs r.history settled after old new ∥₁)
   -- a plan, its job limit and its messages are what the words ask for

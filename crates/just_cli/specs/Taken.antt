@@ -13,7 +13,7 @@ use Rattle.just_cli_plan.specs.Request.{Outline}
 use Rattle.just_cli.specs.Options.{is_lacking}
 use Rattle.just_cli.specs.Preparing.{Performs}
 use Rattle.just_lang_types.specs.declared.project.Justfile.{Justfile}
-use Rattle.just_eval_closure.specs.Modules.{AreModules}
+use Rattle.just_lang_types.specs.Modules.{AreModules}
 use Rattle.just_cli.specs.Request.{PlansLoaded, AnswersAt, at_place, TriesFrom, Tries}
 use Rattle.just_cli.specs.Words.{ConfigRequest, LocatedRequest, TakesFile}
 

@@ -5,7 +5,7 @@ use Rattle.just_host_record.specs.World.{World}
 use Rattle.just_env.specs.declared.search_error.SearchError.{SearchError}
 use Rattle.just_search.specs.declared.location.Location.{Location}
 use Rattle.just_search.specs.Fallback.{AreTried}
-use Rattle.just_eval_closure.specs.Modules.{settings_of}
+use Rattle.just_lang_types.specs.Modules.{settings_of}
 use Rattle.just_exec.specs.declared.error.Error.{Error}
 use Rattle.just_exec.specs.Refusals.{error_of_search}
 use Rattle.just_cli_plan.specs.Own.{is_fault, IsOwn}

@@ -144,10 +144,10 @@ pub(crate) fn wanted(
     ensures { IfOk result (λ w. w ≡ wanted_of config.now folder.now (cache_beside (text_of file.entry))) }
 {
     let words = config.arguments.try_clone()?;
+    let cache_folder = cache_beside(alloc, file)?;
     let overrides = all_copied(alloc, config.overrides.as_slice())?;
     let dotenv = dotenv_ask(config)?;
     let flags = run_flags(alloc, config, folder)?;
-    let cache_folder = cache_beside(alloc, file)?;
     Ok(Wanted {
         words,
         overrides,
@@ -168,6 +168,7 @@ fn built(alloc: Global, config: Config) -> Result<Config, Error>
     ensures refused { IfErr result (OrMemory (λ e. (environ : Environ) → IsBuilt (record { config = config; environ = environ }) (Err e))) }
 {
     if let Some(word) = not_built(&config) {
+        drop(config);
         return Err(not_built_error(alloc, word));
     }
     Ok(config)

@@ -1,4 +1,4 @@
-//! A run, from the words of the command line to the children: the top calls and what they answer.
+//! The room of the command line, and its door: a run, from the words to the children, by the top calls and what they answer.
 #![tactic(auto)]
 
 mod configured;
@@ -20,6 +20,10 @@ mod tried;
 pub use ended::{Ended, Failure, Report};
 pub use init_text::INIT_JUSTFILE;
 pub use just_exec::Error;
+pub use just_host::{Call, Host, HostFault, Look, RealHost, Signal, Status};
+pub use just_path::{Miss, Utf8PathBuf};
+pub use just_path_text::{NoMemory, Seq, Text};
+pub use just_sched::{Event, Outcome, Plan, PlanNode, Reason};
 pub use law::first_answers;
 pub use program::{exit_status, no_arguments, run_arguments};
 pub use runner::{run, run_with};

@@ -33,7 +33,10 @@ fn serve<H: Host>(
     let quiet = arguments.quiet;
     let folder = match current_folder(host) {
         Ok(folder) => folder,
-        Err(error) => return Err(error),
+        Err(error) => {
+            drop(arguments);
+            return Err(error);
+        }
     };
     let config = match configure(alloc, arguments, folder) {
         Ok(config) => config,
@@ -41,13 +44,22 @@ fn serve<H: Host>(
     };
     if is_init(&config.subcommand) {
         match find_free(alloc, host, &config) {
-            Ok(path) => return Ok(Task::Init(path, quiet)),
-            Err(error) => return Err(error),
+            Ok(path) => {
+                drop(config);
+                return Ok(Task::Init(path, quiet));
+            }
+            Err(error) => {
+                drop(config);
+                return Err(error);
+            }
         }
     }
     let location = match locate(alloc, host, &config) {
         Ok(location) => location,
-        Err(error) => return Err(error),
+        Err(error) => {
+            drop(config);
+            return Err(error);
+        }
     };
     match plan_tried(alloc, environ, config, location, made, host) {
         Ok((plan, jobs, messages)) => Ok(Task::Run(plan, jobs, messages, quiet)),

@@ -5,7 +5,7 @@ ghost use Rattle.std.specs.Int.NonZero.{non_zero_u64_get};
 ghost use Rattle.just_path.specs.Path.{text_of};
 ghost use Rattle.just_host_record.specs.declared.entry.Entry.{Entry};
 ghost use Rattle.just_lang_types.specs.declared.project.Justfile.{Justfile};
-ghost use Rattle.just_eval_closure.specs.Modules.{AreModules};
+ghost use Rattle.just_lang_types.specs.Modules.{AreModules};
 ghost use Rattle.just_cli_plan.specs.Own.{OrMemory};
 ghost use Rattle.just_cli_plan.specs.Projects.{IsSound};
 ghost use Rattle.just_cli_plan.specs.Request.{outline_of};
@@ -21,8 +21,8 @@ use super::show::empty_plan;
 use super::taken::take;
 use just_cli_plan::{Wanted, load_pairs, plan_of_project, project_of_sources};
 use just_config::Config;
-use just_eval_closure::all_modules;
 use just_host::Host;
+use just_lang_types::all_modules;
 use just_lang_types::project::Justfile;
 use just_path::{Utf8Path, Utf8PathBuf};
 use just_path_text::{Environ, NoMemory, Seq};
@@ -103,10 +103,16 @@ fn plan_at<H: Host>(
     };
     let project = match project_of(alloc, host, environ, &wanted, path.as_path()) {
         Ok(project) => project,
-        Err(error) => return (Err(error), false),
+        Err(error) => {
+            drop(wanted);
+            return (Err(error), false);
+        }
     };
     let planned = plan_of(alloc, host, environ, &wanted, &project);
-    (planned, project.settings.fallback)
+    let fallback = project.settings.fallback;
+    drop(wanted);
+    drop(project);
+    (planned, fallback)
 }
 
 /// Whether another justfile is tried behind one that sets fallback, or doesn't, and is refused so.
@@ -222,5 +228,7 @@ pub(crate) fn plan_tried<H: Host>(
 ) -> Result<Planned, Error>
     ensures { PerformsTries (record { config = config; environ = environ.now; location = location }) (H.world host.old) (H.world host.new) made.old.items made.new.items (H.entries host.old) (H.entries host.new) (outlined result) }
 {
-    plan_allowed(alloc, environ, &config, location, made, host)
+    let planned = plan_allowed(alloc, environ, &config, location, made, host);
+    drop(config);
+    planned
 }

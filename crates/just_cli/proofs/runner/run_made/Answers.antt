@@ -38,5 +38,5 @@ pub returns-in-Ok : goal.returns-in-Ok
 returns-in-Ok g c = λ after new removes.
     let asks = rw c.in-Ok-Run.field-0-is at c.in-Ok-Run.ensures.asked in
     by_run
-    (run_ill _ _ after _ _ _ _ new _ _ _ _ _ _ _ _ c.in-Ok-Run.plan _ _ _ _ _ _ _ c.fail-in-Some.ensures.failed c.in-Ok.ensures.driven c.new-made.ensures.items asks.0 (quiet_read _ _ _ _ asks.1) c.fail-in-Some.ensures.world c.in-Some.ensures c.as_slice.ensures c.as_slice-in-Ok.ensures
+    (run_ill _ _ after _ _ _ _ new _ _ _ _ _ _ _ _ c.in-Ok-Run.plan _ _ _ _ _ _ _ c.fail-in-Some.ensures.failed c.in-Ok.ensures.driven c.new-made.ensures.items asks.0 asks.1 c.fail-in-Some.ensures.world c.in-Some.ensures c.as_slice.ensures c.as_slice-in-Ok.ensures
     c.fail-in-Some.ensures.told removes)
