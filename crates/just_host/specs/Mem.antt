@@ -2,6 +2,7 @@
 use Rattle.std.specs.Prelude.{ℕ, ◌≡◌, ◌==◌, ◌++◌, Bool, true, false, List, [], ◌∷◌, drop, Option, Some, None, Result, Ok, Err}
 use Rattle.std.specs.List.{list_any}
 use Rattle.just_path.specs.declared.host.Miss.{Miss}
+use Rattle.just_path.specs.declared.host.Miss.TheVariants as miss
 use Rattle.just_path.specs.declared.host.PathFault.{PathFault}
 use Rattle.just_path.specs.declared.host.PathFault.TheVariants as path_fault
 use Rattle.just_path.specs.declared.host.PathNote.{PathNote}
@@ -139,6 +140,21 @@ IsHostMissOf m fault.NoMemory = Unit {0}
 abbrev pub IsHostFaultOf : TreeFault → HostFault → Type 0
 IsHostFaultOf (tree_fault.Missed m) refusal = IsHostMissOf m refusal
 IsHostFaultOf tree_fault.NoMemory refusal = refusal ≡ fault.NoMemory
+
+-- a tree's refusal that is no miss but that of what is too large
+abbrev pub IsTooLarge : TreeFault → Type 0
+IsTooLarge (tree_fault.Missed m) = m ≡ miss.TooLarge
+IsTooLarge tree_fault.NoMemory = Unit {0}
+
+abbrev pub IsOnlyMiss : Miss → HostFault → Type 0
+IsOnlyMiss m (fault.Missed n) = n ≡ m
+IsOnlyMiss m (fault.Failed c) = Unit {0}
+IsOnlyMiss m fault.NoMemory = Unit {0}
+
+-- no miss is answered but that one
+abbrev pub OnlyMisses : {A : Type 0} → Miss → Result A HostFault → Type 0
+OnlyMisses m (Ok x) = Unit {0}
+OnlyMisses m (Err e) = IsOnlyMiss m e
 
 -- the failure of that call, or want of memory
 abbrev pub IsFailureOf : Call → HostFault → Type 0

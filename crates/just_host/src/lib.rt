@@ -1,4 +1,4 @@
-//! The hosts: `MemHost` in memory, and `RealHost` over the system. What a host is stands in `just_host_record`, the files of a host in memory in `just_host_memory`.
+//! The room of hosts: what a run touches of the outside, in memory (`MemHost`, `GateHost`) and over the system (`RealHost`). This crate hands the whole room on.
 #![tactic(auto)]
 
 mod gate;
@@ -11,4 +11,7 @@ pub use just_host_record::{
     Status, Stream, Thing,
 };
 pub use just_host_system::{RealChild, RealDone, RealHost};
+pub use just_lang_read::Boxed;
+pub use just_path::{Item, Kind, Meta, Miss, PathCall, PathFault, PathHost, Utf8Path, Utf8PathBuf};
+pub use just_path_text::{Environ, NoMemory, Seq, Text, TryClone};
 pub use memory::{MemChild, MemDone, MemHost};

@@ -1,11 +1,12 @@
 //! A host in memory, which does what its plot says.
-ghost use Rattle.std.specs.Prelude.{◌≡◌, ◌+◌, drop, ◌<◌, ◌≤◌, ℕ, List, [], ◌∷◌, ◌++◌, Option, Some, Ok, refl, option_map, IfOk, IfSome, OnOk, OnErr, MatchResult, length, string_bytes};
+ghost use Rattle.std.specs.Prelude.{◌≡◌, ◌+◌, drop, ◌<◌, ◌≤◌, ℕ, List, [], ◌∷◌, ◌++◌, Option, Some, Ok, refl, option_map, IfOk, IfErr, IfSome, OnOk, OnErr, MatchResult, length, string_bytes};
 ghost use Rattle.std.specs.FinMap as map;
 ghost use Rattle.just_path.specs.Path.{text_of};
 ghost use Rattle.just_path.specs.Comps.{slash};
 ghost use Rattle.just_path.specs.Host.{note_of, note_of_fault};
 ghost use Rattle.just_path.specs.View.{place_under, AreInOrder, AreNamesInOrder, Told, TellsItems, TellsNames, meta_told, canonical_told, link_told};
 ghost use Rattle.just_path.specs.declared.host.PathCall.{PathCall};
+ghost use Rattle.just_path.specs.declared.host.Miss.{Miss};
 ghost use Rattle.just_host_record.specs.declared.entry.Entry.{Entry};
 ghost use Rattle.just_host_record.specs.declared.entry.Status.{Status};
 ghost use Rattle.just_host_record.specs.declared.tree.Thing.{Thing};
@@ -16,9 +17,10 @@ ghost use Rattle.just_host_record.specs.World.{view_of, ReadTells, Touched, Leav
 ghost use Rattle.just_host_record.specs.Changes.{place_written, written, with_cache_entry, IsOfEntry, Changes};
 ghost use Rattle.just_host_record.specs.Folders.{TempTells, Removes, IsFresh};
 ghost use Rattle.just_host_record.specs.NewFolders.{with_folder, IsOfFolder};
+ghost use Rattle.just_host_record.specs.Scripts.{StartTells};
 ghost use Rattle.just_host_record.specs.Looks.{dash, TellsAnswer, told_input, told_sum, told_check, LookTells, ChecksTo};
 ghost use Rattle.just_host_memory.specs.Trees.{files_of, world_from};
-ghost use Rattle.just_host.specs.Mem.{record_of, world_of, Went, OnlyNotes, OnlyFiles, Answers, answer_in, Plays, Runs, IsFaultOf, IsHostFaultOf, IsFailureOf, is_struck, is_wait_struck, waited_for, FailsIf, PathFailsIf};
+ghost use Rattle.just_host.specs.Mem.{record_of, world_of, Went, OnlyNotes, OnlyFiles, Answers, answer_in, Plays, Runs, IsFaultOf, IsHostFaultOf, IsFailureOf, IsTooLarge, OnlyMisses, is_struck, is_wait_struck, waited_for, FailsIf, PathFailsIf};
 ghost use Rattle.just_host_memory.specs.Playing.{next_call, word_of, ending_of, status_of, output_of, others, tree_after};
 ghost use Rattle.just_host_record.proofs.Laws.{counts_noted};
 
@@ -312,6 +314,7 @@ fn captured(
         (files_of tree.old) (ending_of (word_of spec.now) endings.old.items)) }
     ensures used { OnOk result (endings.new.items ≡ others (word_of spec.now) endings.old.items) }
     ensures err { OnErr result (entries_of log.new ≡ entries_of log.old) }
+    ensures refusal { IfErr result IsTooLarge }
     ensures files { OnErr result (files_of tree.new ≡ files_of tree.old) }
     ensures kept { OnErr result (endings.new.items ≡ endings.old.items) }
     ensures spare { spare_of log.new ≡ spare_of log.old }
@@ -541,6 +544,7 @@ impl Host for MemHost {
         ensures world { Some (world_of self.new) ≡ Some (world_of self.old) }
         ensures spare { spare_of self.new.log ≡ spare_of self.old.log }
         ensures fails { FailsIf (is_struck self.old.faults) result }
+        ensures refusal { OnlyMisses Miss.TooLarge result }
         ensures answer { IfOk result (λ s. string_bytes s ≡ answer_in self.old.answers.items) }
         ensures answers { OnOk result (Answers self.old self.new) }
         ensures refused { OnErr result (OnlyNotes self.old self.new (next_call self.old.faults.calls)) }
@@ -806,6 +810,7 @@ impl Host for MemHost {
         ensures entries { record_of self.new ≡ record_of self.old ++ gained (script_folder spec.now) (λ c. Entry.Started c.number spec.now ∷ []) result }
         ensures number { IfOk result (λ c. c.number ≡ children (record_of self.old)) }
         ensures fault { IsStartFault spec.now result }
+        ensures shown { StartTells (Some (world_of self.old)) spec.now result }
         ensures leaves { Leaves (Some (world_of self.old)) (Some (world_of self.new)) result }
         ensures spare { spare_of self.new.log ≡ spare_of self.old.log }
         ensures fails { FailsIf (is_struck self.old.faults) result }

@@ -2,7 +2,7 @@
 use Rattle.std.proofs.Common.{refl}
 use Rattle.just_host_record.specs.declared.entry.Call.TheVariants as call
 use Rattle.just_host.specs.Mem.{world_of}
-use Rattle.just_host.proofs.Worlds.{failed_leaves}
+use Rattle.just_host.proofs.Worlds.{failed_leaves, failed_shows}
 use Rattle.just_host.proofs.memory.MemHostHost.start.Goals as goal
 
 pub returns-then-strike-clause-leaves : goal.returns-then-strike-clause-leaves
@@ -10,3 +10,6 @@ returns-then-strike-clause-leaves c = failed_leaves (world_of c.args.self.now) (
 
 pub returns-clause-leaves : goal.returns-clause-leaves
 returns-clause-leaves c = (world_of c.args.self.now, refl, refl, refl, refl)
+
+pub returns-then-strike-clause-shown : goal.returns-then-strike-clause-shown
+returns-then-strike-clause-shown c = failed_shows (world_of c.args.self.now) c.args.spec.now call.Start c.fail.result c.fail.ensures.kind
