@@ -325,7 +325,7 @@ pub(crate) fn answer_sum(
     told: io::Result<[u8; 32]>,
 ) -> Result<[u8; 32], HostFault>
     requires room { HasRoom log.old }
-    requires copy { copy ≡ text_of path.entry }
+    requires copy { copy ≡ text_of path }
     ensures entries { entries_of log.new ≡ entries_of log.old
         ++ gained (text_of path.entry) (λ d. Entry.Summed (text_of path.entry) d ∷ []) result }
     ensures own { IsOwn Call.Sum result }
@@ -350,7 +350,7 @@ pub(crate) fn answer_probe(
     told: io::Result<Look>,
 ) -> Result<Look, HostFault>
     requires room { HasRoom log.old }
-    requires copy { copy ≡ text_of entry.entry }
+    requires copy { copy ≡ text_of entry }
     ensures entries { entries_of log.new ≡ entries_of log.old
         ++ gained (text_of entry.entry)
         (λ x. Entry.Probed (text_of entry.entry) outputs x ∷ []) result }
@@ -411,7 +411,7 @@ pub(crate) fn answer_save(
     told: io::Result<()>,
 ) -> Result<(), HostFault>
     requires room { HasRoom log.old }
-    requires copy { copy ≡ text_of entry.entry }
+    requires copy { copy ≡ text_of entry }
     ensures entries { entries_of log.new ≡ entries_of log.old
         ++ gained (text_of entry.entry) (λ _. Entry.Saved (text_of entry.entry) ∷ []) result }
     ensures own { IsOwn Call.Save result }
