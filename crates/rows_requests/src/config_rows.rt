@@ -20,5 +20,5 @@ pub(crate) fn agrees(alloc: Global, fields: &[&str]) -> Result<bool, Wrong> {
 fn answer(alloc: Global, pairs: &str, words: &str) -> Result<String, Wrong> {
     let environ = environment(alloc, pairs)?;
     let configured = Configured::new(alloc, words, &environ, "/p")?;
-    Ok(config_shown(alloc, &configured.answer)?)
+    config_shown(alloc, &configured.answer)
 }

@@ -1,31 +1,32 @@
 //! The configuration of words, as a text.
 
-use super::pieces::add_pieces;
+use super::page::Page;
 use just_config::{Config, ConfigError, SearchConfig, Verbosity};
 use just_lang_types::Override;
 use just_path::Utf8PathBuf;
 use just_path_text::Text;
-use std::alloc::{AllocError, Global};
+use rows_common::Wrong;
+use std::alloc::Global;
 
 /// What words give as a configuration, as a text. It promises nothing beyond safety.
 pub(crate) fn config_shown(
     alloc: Global,
     answer: &Result<Config, ConfigError>,
-) -> Result<String, AllocError> {
-    let mut text = String::new(alloc);
+) -> Result<String, Wrong> {
+    let mut page = Page::new(alloc);
     match answer {
-        Ok(config) => add_config(&mut text, config),
-        Err(error) => add_error(&mut text, error),
-    }?;
-    Ok(text)
+        Ok(config) => push_config(&mut page, config),
+        Err(error) => push_error(&mut page, error),
+    }
+    page.finished()
 }
 
 /// Adds a configuration.
-fn add_config(text: &mut String, config: &Config) -> Result<(), AllocError> {
-    add_search(text, &config.search_config)?;
-    text.push_str(verbosity_shown(config.verbosity))?;
-    add_overrides(text, config.overrides.as_slice())?;
-    add_texts(text, ";arguments=", config.arguments.as_slice())
+fn push_config(page: &mut Page, config: &Config) {
+    push_search(page, &config.search_config);
+    page.push(verbosity_shown(config.verbosity));
+    push_overrides(page, config.overrides.as_slice());
+    push_texts(page, ";arguments=", config.arguments.as_slice());
 }
 
 /// How much is printed.
@@ -56,48 +57,50 @@ fn search_parts(
 }
 
 /// Adds a path behind a name, where there is one.
-fn add_path(text: &mut String, name: &str, path: Option<&Utf8PathBuf>) -> Result<(), AllocError> {
-    match path {
-        Some(path) => add_pieces(text, &[name, path.as_str()]),
-        None => Ok(()),
+fn push_path(page: &mut Page, name: &str, path: Option<&Utf8PathBuf>) {
+    if let Some(path) = path {
+        page.push(name);
+        page.push(path.as_str());
     }
 }
 
 /// Adds how the justfile is found.
-fn add_search(text: &mut String, search: &SearchConfig) -> Result<(), AllocError> {
+fn push_search(page: &mut Page, search: &SearchConfig) {
     let (name, path, folder) = search_parts(search);
-    text.push_str(name)?;
-    add_path(text, "", path)?;
-    add_path(text, " in ", folder)
+    page.push(name);
+    push_path(page, "", path);
+    push_path(page, " in ", folder);
 }
 
 /// Adds texts with commas between, where there are some.
-fn add_texts(text: &mut String, name: &str, texts: &[Text]) -> Result<(), AllocError> {
+fn push_texts(page: &mut Page, name: &str, texts: &[Text]) {
     let mut mark = name;
     for one in texts {
-        add_pieces(text, &[mark, one.as_str()])?;
+        page.push(mark);
+        page.push(one.as_str());
         mark = ",";
     }
-    Ok(())
 }
 
-/// Adds an override behind a mark.
-fn add_override(text: &mut String, mark: &str, one: &Override) -> Result<(), AllocError> {
-    text.push_str(mark)?;
+/// Adds an override.
+fn push_override(page: &mut Page, one: &Override) {
     for component in one.module.components.as_slice() {
-        add_pieces(text, &[component.as_str(), "::"])?;
+        page.push(component.as_str());
+        page.push("::");
     }
-    add_pieces(text, &[one.name.as_str(), "=", one.value.as_str()])
+    page.push(one.name.as_str());
+    page.push("=");
+    page.push(one.value.as_str());
 }
 
 /// Adds overrides with commas between, where there are some.
-fn add_overrides(text: &mut String, all: &[Override]) -> Result<(), AllocError> {
+fn push_overrides(page: &mut Page, all: &[Override]) {
     let mut mark = ";overrides=";
     for one in all {
-        add_override(text, mark, one)?;
+        page.push(mark);
+        push_override(page, one);
         mark = ",";
     }
-    Ok(())
 }
 
 /// The name of an error, and the text that it is about, where there is one.
@@ -140,12 +143,12 @@ fn surplus_arguments(error: &ConfigError) -> &[Text] {
 }
 
 /// Adds an error.
-fn add_error(text: &mut String, error: &ConfigError) -> Result<(), AllocError> {
+fn push_error(page: &mut Page, error: &ConfigError) {
     let (name, about) = error_parts(error);
-    text.push_str(name)?;
+    page.push(name);
     if let Some(about) = about {
-        text.push_str(about.as_str())?;
+        page.push(about.as_str());
     }
-    add_texts(text, ";overrides=", surplus_overrides(error))?;
-    add_texts(text, ";arguments=", surplus_arguments(error))
+    push_texts(page, ";overrides=", surplus_overrides(error));
+    push_texts(page, ";arguments=", surplus_arguments(error));
 }

@@ -1,11 +1,12 @@
 //! What a search finds, and its text.
 
-use super::pieces::add_pieces;
+use super::page::Page;
 use just_env::SearchError;
 use just_path::Utf8PathBuf;
 use just_path_text::Text;
 use just_search::{Location, Origin, Search};
-use std::alloc::{AllocError, Global};
+use rows_common::Wrong;
+use std::alloc::Global;
 
 /// What a search answers.
 pub(crate) enum Found {
@@ -66,61 +67,60 @@ pub(crate) fn found_shown(
     alloc: Global,
     found: &Found,
     made: &[Utf8PathBuf],
-) -> Result<String, AllocError> {
-    let mut text = String::new(alloc);
-    add_found(&mut text, found)?;
+) -> Result<String, Wrong> {
+    let mut page = Page::new(alloc);
+    push_found(&mut page, found);
     for folder in made {
-        add_pieces(&mut text, &[" made ", folder.as_str()])?;
+        page.push(" made ");
+        page.push(folder.as_str());
     }
-    Ok(text)
+    page.finished()
 }
 
 /// Adds what is found.
-fn add_found(text: &mut String, found: &Found) -> Result<(), AllocError> {
+fn push_found(page: &mut Page, found: &Found) {
     match found {
-        Found::Place(location) => add_location(text, location),
-        Found::File(search) => add_file(text, search),
-        Found::Target(search) => add_target(text, search),
-        Found::Nothing => text.push_str("none"),
-        Found::Refused(error) => add_error(text, error),
+        Found::Place(location) => push_location(page, location),
+        Found::File(search) => push_file(page, search),
+        Found::Target(search) => push_target(page, search),
+        Found::Nothing => page.push("none"),
+        Found::Refused(error) => push_error(page, error),
     }
 }
 
+/// Adds the folder in which something stands.
+fn push_folder(page: &mut Page, folder: &Utf8PathBuf) {
+    page.push(" in ");
+    page.push(folder.as_str());
+}
+
 /// Adds where a justfile is.
-fn add_location(text: &mut String, location: &Location) -> Result<(), AllocError> {
+fn push_location(page: &mut Page, location: &Location) {
     let (origin, path) = match &location.origin {
         Origin::File(path) => ("file ", path.as_str()),
         Origin::Markdown(path) => ("markdown ", path.as_str()),
         Origin::StandardInput => ("input", ""),
     };
-    let folder = location.working_directory.as_str();
-    add_pieces(text, &[origin, path, " in ", folder])
+    page.push(origin);
+    page.push(path);
+    push_folder(page, &location.working_directory);
 }
 
 /// Adds the file of a justfile, with the temporary folder that it stands in.
-fn add_file(text: &mut String, search: &Search) -> Result<(), AllocError> {
-    let (of, tempdir) = match &search.tempdir {
-        Some(tempdir) => (" of ", tempdir.as_str()),
-        None => ("", ""),
-    };
-    let folder = search.working_directory.as_str();
-    add_pieces(
-        text,
-        &[
-            "file ",
-            search.justfile.as_str(),
-            of,
-            tempdir,
-            " in ",
-            folder,
-        ],
-    )
+fn push_file(page: &mut Page, search: &Search) {
+    page.push("file ");
+    page.push(search.justfile.as_str());
+    if let Some(tempdir) = &search.tempdir {
+        page.push(" of ");
+        page.push(tempdir.as_str());
+    }
+    push_folder(page, &search.working_directory);
 }
 
 /// Adds where a justfile is to be written.
-fn add_target(text: &mut String, search: &Search) -> Result<(), AllocError> {
-    let folder = search.working_directory.as_str();
-    add_pieces(text, &[search.justfile.as_str(), " in ", folder])
+fn push_target(page: &mut Page, search: &Search) {
+    page.push(search.justfile.as_str());
+    push_folder(page, &search.working_directory);
 }
 
 /// The name of an error, and the path that it is about, where there is one.
@@ -149,14 +149,14 @@ fn candidates(error: &SearchError) -> &[Text] {
 }
 
 /// Adds why a search is refused.
-fn add_error(text: &mut String, error: &SearchError) -> Result<(), AllocError> {
+fn push_error(page: &mut Page, error: &SearchError) {
     let (name, path) = error_parts(error);
-    text.push_str(name)?;
+    page.push(name);
     if let Some(path) = path {
-        text.push_str(path.as_str())?;
+        page.push(path.as_str());
     }
     for name in candidates(error) {
-        add_pieces(text, &[" ", name.as_str()])?;
+        page.push(" ");
+        page.push(name.as_str());
     }
-    Ok(())
 }

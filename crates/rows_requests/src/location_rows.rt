@@ -67,7 +67,7 @@ fn searched(
     let config = configured.config()?;
     let mut made = Vec::new(alloc);
     let found = found(alloc, asked, told, config, &mut made, &mut world.host)?;
-    Ok(found_shown(alloc, &found, made.as_slice())?)
+    found_shown(alloc, &found, made.as_slice())
 }
 
 /// What a search of that name answers: one for a place.

@@ -9,7 +9,7 @@ mod found;
 mod key;
 mod key_rows;
 mod location_rows;
-mod pieces;
+mod page;
 mod said;
 mod script_rows;
 mod shebang_rows;
