@@ -245,12 +245,34 @@ fn plot(alloc: Global, row: &Value) -> Result<Plot, Wrong> {
     })
 }
 
+/// The tree of a row, in that folder.
+fn tree_of(alloc: Global, row: &Value, current: &str) -> Result<Tree, Wrong> {
+    match row.get("files") {
+        Some(files) => tree(alloc, current, files),
+        None => Err(Wrong::Form),
+    }
+}
+
+/// A host in memory in that folder, over a tree and an environment, over which that happens.
+fn memory(
+    alloc: Global,
+    current: &str,
+    tree: Tree,
+    environ: Environ,
+    plot: Plot,
+) -> Result<MemHost, NoMemory> {
+    let current = Utf8PathBuf::from_str(alloc, current)?;
+    MemHost::new(alloc, tree, current, environ, plot)
+}
+
 /// The host of a row. It promises nothing beyond safety.
 pub(crate) fn host(alloc: Global, row: &Value) -> Result<MemHost, Wrong> {
     let current = text(row, "current")?;
-    let tree = tree(alloc, current, row.get("files").ok_or(Wrong::Form)?)?;
     let environ = environ(alloc, row)?;
-    let current = Utf8PathBuf::from_str(alloc, current)?;
+    let tree = tree_of(alloc, row, current)?;
     let plot = plot(alloc, row)?;
-    Ok(MemHost::new(alloc, tree, current, environ, plot)?)
+    match memory(alloc, current, tree, environ, plot) {
+        Ok(host) => Ok(host),
+        Err(NoMemory) => Err(Wrong::NoMemory),
+    }
 }

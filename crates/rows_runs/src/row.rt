@@ -1,6 +1,6 @@
 //! The run of a row, and what it shows beside what the row wants.
 
-use crate::parts::unlike;
+use crate::parts::{Page, unlike};
 use crate::{given, shown, told};
 use just_cli::{Ended, Failure, Report, run_with};
 use just_host::MemHost;
@@ -17,11 +17,10 @@ fn found(
     host: MemHost,
     ended: Result<Report, Failure>,
 ) -> Result<String, Wrong> {
-    let end = told::end(alloc, ended, shown::history(row).is_some());
-    let behind = told::behind(alloc, host, shown::changes(row).is_some());
-    let mut found = end?;
-    found.push_str(behind?.as_str())?;
-    Ok(found)
+    let mut page = Page::new(alloc);
+    told::push_end(&mut page, ended, shown::history(row).is_some());
+    told::push_behind(&mut page, host, shown::changes(row).is_some());
+    page.finished()
 }
 
 /// What differs between what a run shows and what the row wants.

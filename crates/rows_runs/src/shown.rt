@@ -1,8 +1,9 @@
 //! What a row wants of a run, in the forms of `told`.
 
 use crate::given::{items, text, tree};
-use crate::parts::{begin, push_item};
+use crate::parts::Page;
 use crate::told::push_tree;
+use just_host::Tree;
 use rows_common::Wrong;
 use serde_json::Value;
 use std::alloc::Global;
@@ -23,33 +24,35 @@ pub(crate) fn changes(row: &Value) -> Option<&[Value]> {
     }
 }
 
-/// The code that a row wants.
-fn code(row: &Value) -> Result<i64, Wrong> {
+/// Adds the code that a row wants.
+fn push_code(page: &mut Page, row: &Value) {
+    page.push("code ");
     match row.get("code") {
-        Some(code) => code.as_i64().ok_or(Wrong::Form),
-        None => Err(Wrong::Form),
+        Some(code) => match code.as_i64() {
+            Some(code) => page.push_shown(&code),
+            None => page.fail(Wrong::Form),
+        },
+        None => page.fail(Wrong::Form),
     }
 }
 
-/// The code of a row, and the history, where it says that.
-fn end(alloc: Global, row: &Value) -> Result<String, Wrong> {
-    let code = code(row)?;
-    let end = match history(row) {
-        Some(history) => format!(in alloc; "code {code} and history {history}"),
-        None => format!(in alloc; "code {code}"),
-    };
-    Ok(end?)
+/// Adds the code of a row, and the history, where it says that.
+fn push_end(page: &mut Page, row: &Value) {
+    push_code(page, row);
+    if let Some(history) = history(row) {
+        page.push(" and history ");
+        page.push(history);
+    }
 }
 
 /// Adds the texts of a list.
-fn push_texts(all: &mut String, texts: &[Value]) -> Result<(), Wrong> {
+fn push_texts(page: &mut Page, texts: &[Value]) {
     for text in texts {
         match text {
-            Value::String(text) => push_item(all, text.as_str())?,
-            _ => return Err(Wrong::Form),
+            Value::String(text) => page.push_item(text.as_str()),
+            _ => page.fail(Wrong::Form),
         }
     }
-    Ok(())
 }
 
 /// Whether a child's script is its program.
@@ -66,62 +69,57 @@ fn script_of(child: &Value) -> Option<&Value> {
 }
 
 /// Adds a script.
-fn push_script(all: &mut String, script: &Value) -> Result<(), Wrong> {
-    let how = if is_run(script) { "runs" } else { "reads" };
-    let (name, lines) = (text(script, "name")?, text(script, "text")?);
-    write!(all, " {how} [{name}] [{lines}]")?;
-    push_texts(all, items(script, "after"))
+fn push_script(page: &mut Page, script: &Value) {
+    let how = if is_run(script) {
+        " runs ["
+    } else {
+        " reads ["
+    };
+    page.push(how);
+    page.push_field(text(script, "name"));
+    page.push("] [");
+    page.push_field(text(script, "text"));
+    page.push("]");
+    push_texts(page, items(script, "after"));
 }
 
 /// Adds a child's program with its arguments, and its folder.
-fn push_program(all: &mut String, child: &Value, with_program: bool) -> Result<(), Wrong> {
+fn push_program(page: &mut Page, child: &Value, with_program: bool) {
     if with_program {
-        all.push_str(text(child, "program")?)?;
-        push_texts(all, items(child, "arguments"))?;
+        page.push_field(text(child, "program"));
+        push_texts(page, items(child, "arguments"));
     }
     if let Some(Value::String(folder)) = child.get("folder") {
-        write!(all, " in {folder}")?;
+        page.push(" in ");
+        page.push(folder.as_str());
     }
-    Ok(())
-}
-
-/// Adds a child as a line.
-fn push_child(all: &mut String, child: &Value) -> Result<(), Wrong> {
-    match script_of(child) {
-        Some(script) => {
-            push_program(all, child, !is_run(script))?;
-            push_script(all, script)?;
-        }
-        None => push_program(all, child, true)?,
-    }
-    Ok(all.push_str("\n")?)
 }
 
 /// Adds the children of a row, a line each.
-fn push_children(all: &mut String, row: &Value) -> Result<(), Wrong> {
-    begin(all, "children")?;
+fn push_children(page: &mut Page, row: &Value) {
+    page.begin("children");
     for child in items(row, "children") {
-        push_child(all, child)?;
+        match script_of(child) {
+            Some(script) => {
+                push_program(page, child, !is_run(script));
+                push_script(page, script);
+            }
+            None => push_program(page, child, true),
+        }
+        page.push("\n");
     }
-    Ok(())
-}
-
-/// Adds what changes in the environment of a child, as a line.
-fn push_changes(all: &mut String, child: &Value) -> Result<(), Wrong> {
-    match child {
-        Value::Array(changes) => push_texts(all, changes.as_slice())?,
-        _ => return Err(Wrong::Form),
-    }
-    Ok(all.push_str("\n")?)
 }
 
 /// Adds what changes in the environment of each child of a row, a line each.
-fn push_all_changes(all: &mut String, children: &[Value]) -> Result<(), Wrong> {
-    begin(all, "changes")?;
+fn push_all_changes(page: &mut Page, children: &[Value]) {
+    page.begin("changes");
     for child in children {
-        push_changes(all, child)?;
+        match child {
+            Value::Array(changes) => push_texts(page, changes.as_slice()),
+            _ => page.fail(Wrong::Form),
+        }
+        page.push("\n");
     }
-    Ok(())
 }
 
 /// The number of calls that fail in a row.
@@ -141,32 +139,42 @@ fn output(row: &Value) -> &str {
 }
 
 /// Adds what is to be told by a host's record.
-fn push_record(all: &mut String, row: &Value) -> Result<(), Wrong> {
-    begin(all, "failed calls")?;
-    write!(all, "{}", failure_count(row))?;
-    begin(all, "stdout")?;
-    all.push_str(output(row))?;
-    begin(all, "stderr")?;
-    all.push_str(text(row, "stderr")?)?;
-    begin(all, "prompts")?;
-    push_texts(all, items(row, "prompts"))?;
-    push_children(all, row)
+fn push_record(page: &mut Page, row: &Value) {
+    page.begin("failed calls");
+    page.push_shown(&failure_count(row));
+    page.begin("stdout");
+    page.push(output(row));
+    page.begin("stderr");
+    page.push_field(text(row, "stderr"));
+    page.begin("prompts");
+    push_texts(page, items(row, "prompts"));
+    push_children(page, row);
 }
 
-/// Adds the files behind a run, which are those before it where the row doesn't say.
-fn push_files(alloc: Global, all: &mut String, row: &Value) -> Result<(), Wrong> {
-    let files = row.get("after").or(row.get("files")).ok_or(Wrong::Form)?;
-    let tree = tree(alloc, text(row, "current")?, files)?;
-    Ok(push_tree(alloc, all, &tree)?)
+/// The files behind a run, which are those before it where the row doesn't say.
+fn tree_behind(alloc: Global, row: &Value) -> Result<Tree, Wrong> {
+    match row.get("after").or(row.get("files")) {
+        Some(files) => tree(alloc, text(row, "current")?, files),
+        None => Err(Wrong::Form),
+    }
+}
+
+/// Adds the files behind a run.
+fn push_files(page: &mut Page, row: &Value) {
+    match tree_behind(page.alloc, row) {
+        Ok(tree) => push_tree(page, &tree),
+        Err(wrong) => page.fail(wrong),
+    }
 }
 
 /// What a row wants of a run. It promises nothing beyond safety.
 pub(crate) fn wanted(alloc: Global, row: &Value) -> Result<String, Wrong> {
-    let mut all = end(alloc, row)?;
-    push_record(&mut all, row)?;
+    let mut page = Page::new(alloc);
+    push_end(&mut page, row);
+    push_record(&mut page, row);
     if let Some(children) = changes(row) {
-        push_all_changes(&mut all, children)?;
+        push_all_changes(&mut page, children);
     }
-    push_files(alloc, &mut all, row)?;
-    Ok(all)
+    push_files(&mut page, row);
+    page.finished()
 }

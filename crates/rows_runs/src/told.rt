@@ -1,28 +1,25 @@
 //! What a run shows: how it ended, what its host's record tells, and the files behind it.
 
-use crate::parts::{begin, push_item};
+use crate::parts::Page;
 use just_cli::{Failure, Report};
 use just_host::{Entry, MemHost, Script, Spec, Stream, Tree};
 use just_path_text::Text;
+use rows_common::Wrong;
 use std::alloc::{AllocError, Global};
 
-/// The code of a run, and its history, where that is asked for. It promises nothing beyond safety.
-pub(crate) fn end(
-    alloc: Global,
-    ended: Result<Report, Failure>,
-    with_history: bool,
-) -> Result<String, AllocError> {
+/// Adds the code of a run, and its history, where that is asked for. It promises nothing beyond safety.
+pub(crate) fn push_end(page: &mut Page, ended: Result<Report, Failure>, with_history: bool) {
     let (code, history) = match &ended {
         Ok(report) => (0, report.history.as_slice()),
         Err(failure) => (failure.code, failure.history.as_slice()),
     };
-    let end = if with_history {
-        format!(in alloc; "code {code} and history {history:?}")
-    } else {
-        format!(in alloc; "code {code}")
-    };
+    page.push("code ");
+    page.push_shown(&code);
+    if with_history {
+        page.push(" and history ");
+        page.push_shown(&history);
+    }
     drop(ended);
-    end
 }
 
 /// How many calls failed.
@@ -37,14 +34,13 @@ fn failure_count(entries: &[Entry]) -> usize {
 }
 
 /// Adds what was printed to standard output.
-fn push_output(all: &mut String, entries: &[Entry]) -> Result<(), AllocError> {
-    begin(all, "stdout")?;
+fn push_output(page: &mut Page, entries: &[Entry]) {
+    page.begin("stdout");
     for entry in entries {
         if let Entry::Printed(Stream::Out, text) = entry {
-            all.push_str(text.as_str())?;
+            page.push(text.as_str());
         }
     }
-    Ok(())
 }
 
 /// What an entry tells of standard error, prompts too.
@@ -57,97 +53,90 @@ fn error_of(entry: &Entry) -> &str {
 }
 
 /// Adds what was printed to standard error.
-fn push_error(all: &mut String, entries: &[Entry]) -> Result<(), AllocError> {
-    begin(all, "stderr")?;
+fn push_error(page: &mut Page, entries: &[Entry]) {
+    page.begin("stderr");
     for entry in entries {
-        all.push_str(error_of(entry))?;
+        page.push(error_of(entry));
     }
-    Ok(())
 }
 
 /// Adds the prompts.
-fn push_prompts(all: &mut String, entries: &[Entry]) -> Result<(), AllocError> {
-    begin(all, "prompts")?;
+fn push_prompts(page: &mut Page, entries: &[Entry]) {
+    page.begin("prompts");
     for entry in entries {
         if let Entry::Asked(prompt, _) = entry {
-            push_item(all, prompt.as_str())?;
+            page.push_item(prompt.as_str());
         }
     }
-    Ok(())
 }
 
 /// Adds texts in brackets.
-fn push_items(all: &mut String, texts: &[Text]) -> Result<(), AllocError> {
+fn push_items(page: &mut Page, texts: &[Text]) {
     for text in texts {
-        push_item(all, text.as_str())?;
+        page.push_item(text.as_str());
     }
-    Ok(())
 }
 
 /// Adds a script.
-fn push_script(alloc: Global, all: &mut String, script: &Script) -> Result<(), AllocError> {
-    let Ok(text) = script.text.to_string(alloc) else {
-        return Err(AllocError);
-    };
-    let how = if script.run { "runs" } else { "reads" };
-    let name = script.name.as_str();
-    write!(all, " {how} [{name}] [{text}]")?;
-    push_items(all, script.after.as_slice())
+fn push_script(page: &mut Page, script: &Script) {
+    let how = if script.run { " runs" } else { " reads" };
+    page.push(how);
+    page.push_item(script.name.as_str());
+    match script.text.to_string(page.alloc) {
+        Ok(text) => page.push_item(text.as_str()),
+        Err(_) => page.fail(Wrong::NoMemory),
+    }
+    push_items(page, script.after.as_slice());
 }
 
 /// Adds a child: a program with its arguments, or a script that is the program; its folder; its script.
-fn push_child(alloc: Global, all: &mut String, spec: &Spec) -> Result<(), AllocError> {
+fn push_child(page: &mut Page, spec: &Spec) {
     if !matches!(&spec.script, Some(script) if script.run) {
-        all.push_str(spec.program.as_str())?;
-        push_items(all, spec.arguments.as_slice())?;
+        page.push(spec.program.as_str());
+        push_items(page, spec.arguments.as_slice());
     }
     if let Some(folder) = &spec.folder {
-        write!(all, " in {}", folder.as_str())?;
+        page.push(" in ");
+        page.push(folder.as_str());
     }
-    match &spec.script {
-        Some(script) => push_script(alloc, all, script),
-        None => Ok(()),
+    if let Some(script) = &spec.script {
+        push_script(page, script);
     }
 }
 
 /// Adds the children that were started, a line each.
-fn push_children(alloc: Global, all: &mut String, entries: &[Entry]) -> Result<(), AllocError> {
-    begin(all, "children")?;
+fn push_children(page: &mut Page, entries: &[Entry]) {
+    page.begin("children");
     for entry in entries {
         if let Entry::Started(_, spec) = entry {
-            push_child(alloc, all, spec.get())?;
-            all.push_str("\n")?;
+            push_child(page, spec.get());
+            page.push("\n");
         }
     }
-    Ok(())
 }
 
 /// Adds what changes in the environment of a child: a name with the text that it gets, or with none, where it is taken out.
-fn push_change(all: &mut String, change: &(Text, Option<Text>)) -> Result<(), AllocError> {
-    let name = change.0.as_str();
-    match &change.1 {
-        Some(text) => write!(all, " [{name}={}]", text.as_str()),
-        None => push_item(all, name),
+fn push_change(page: &mut Page, change: &(Text, Option<Text>)) {
+    page.push(" [");
+    page.push(change.0.as_str());
+    if let Some(text) = &change.1 {
+        page.push("=");
+        page.push(text.as_str());
     }
-}
-
-/// Adds all that changes there, as a line.
-fn push_changes(all: &mut String, spec: &Spec) -> Result<(), AllocError> {
-    for change in spec.changes.as_slice() {
-        push_change(all, change)?;
-    }
-    all.push_str("\n")
+    page.push("]");
 }
 
 /// Adds what changes in the environment of each child, a line each.
-fn push_all_changes(all: &mut String, entries: &[Entry]) -> Result<(), AllocError> {
-    begin(all, "changes")?;
+fn push_all_changes(page: &mut Page, entries: &[Entry]) {
+    page.begin("changes");
     for entry in entries {
         if let Entry::Started(_, spec) = entry {
-            push_changes(all, spec.get())?;
+            for change in spec.get().changes.as_slice() {
+                push_change(page, change);
+            }
+            page.push("\n");
         }
     }
-    Ok(())
 }
 
 /// A thing as it is shown, without what stands behind it in its list.
@@ -158,59 +147,45 @@ fn alone(shown: &str) -> &str {
     }
 }
 
-/// Adds the things of a tree, each as it is shown for developers, in the order of these texts. It promises nothing beyond safety.
-pub(crate) fn push_tree(alloc: Global, all: &mut String, tree: &Tree) -> Result<(), AllocError> {
-    begin(all, "tree")?;
-    let shown = format!(in alloc; "{tree:?}")?;
+/// The things of a shown tree, each as it is shown for developers, in the order of these texts.
+fn things<'a>(alloc: Global, shown: &'a str) -> Result<Vec<&'a str>, AllocError> {
     let mut things = Vec::new(alloc);
-    for thing in shown.as_str().split("(Place ") {
+    for thing in shown.split("(Place ") {
         things.push(alone(thing))?;
     }
     things.sort()?;
-    write!(all, "{things:?}")
+    Ok(things)
+}
+
+/// Adds the things of a tree. It promises nothing beyond safety.
+pub(crate) fn push_tree(page: &mut Page, tree: &Tree) {
+    let alloc = page.alloc;
+    page.begin("tree");
+    match format!(in alloc; "{tree:?}") {
+        Ok(shown) => match things(alloc, shown.as_str()) {
+            Ok(things) => page.push_shown(&things),
+            Err(_) => page.fail(Wrong::NoMemory),
+        },
+        Err(_) => page.fail(Wrong::NoMemory),
+    }
 }
 
 /// Adds what a host's record tells, with the changes of environments where they are asked for.
-fn push_record(
-    alloc: Global,
-    all: &mut String,
-    entries: &[Entry],
-    with_changes: bool,
-) -> Result<(), AllocError> {
-    begin(all, "failed calls")?;
-    write!(all, "{}", failure_count(entries))?;
-    push_output(all, entries)?;
-    push_error(all, entries)?;
-    push_prompts(all, entries)?;
-    push_children(alloc, all, entries)?;
+fn push_record(page: &mut Page, entries: &[Entry], with_changes: bool) {
+    page.begin("failed calls");
+    page.push_shown(&failure_count(entries));
+    push_output(page, entries);
+    push_error(page, entries);
+    push_prompts(page, entries);
+    push_children(page, entries);
     if with_changes {
-        push_all_changes(all, entries)?;
+        push_all_changes(page, entries);
     }
-    Ok(())
 }
 
-/// Adds what a host tells behind a run.
-fn push_host(
-    alloc: Global,
-    all: &mut String,
-    host: &MemHost,
-    with_changes: bool,
-) -> Result<(), AllocError> {
-    push_record(alloc, all, host.entries(), with_changes)?;
-    push_tree(alloc, all, host.tree())
-}
-
-/// What a host tells behind a run: its record, with the changes of environments where they are asked for, and its files. It promises nothing beyond safety.
-pub(crate) fn behind(
-    alloc: Global,
-    host: MemHost,
-    with_changes: bool,
-) -> Result<String, AllocError> {
-    let mut all = String::new(alloc);
-    let pushed = push_host(alloc, &mut all, &host, with_changes);
+/// Adds what a host tells behind a run: its record, with the changes of environments where they are asked for, and its files. It promises nothing beyond safety.
+pub(crate) fn push_behind(page: &mut Page, host: MemHost, with_changes: bool) {
+    push_record(page, host.entries(), with_changes);
+    push_tree(page, host.tree());
     drop(host);
-    match pushed {
-        Ok(()) => Ok(all),
-        Err(refused) => Err(refused),
-    }
 }
