@@ -70,16 +70,22 @@ fn shown(alloc: Global, text: &str) -> Result<String, Wrong> {
     }
 }
 
-/// What a row says that is answered, in the same form.
-fn wanted(alloc: Global, row: &Value) -> Result<String, Wrong> {
-    if is_ok(row)? {
-        let printed = text_of(row, "print")?;
-        return Ok(format!(in alloc; "ok\n{printed}")?);
-    }
+/// The fault that a row says, in the same form.
+fn wanted_fault(alloc: Global, row: &Value) -> Result<String, Wrong> {
     let kind = text_of(row, "kind")?;
     let line = number_of(row, "line")?;
     let column = number_of(row, "column")?;
     Ok(format!(in alloc; "{kind} {line} {column}")?)
+}
+
+/// What a row says that is answered, in the same form.
+fn wanted(alloc: Global, row: &Value) -> Result<String, Wrong> {
+    if is_ok(row)? {
+        let printed = text_of(row, "print")?;
+        Ok(format!(in alloc; "ok\n{printed}")?)
+    } else {
+        wanted_fault(alloc, row)
+    }
 }
 
 /// Whether a row of `parse` agrees.
