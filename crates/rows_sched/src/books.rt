@@ -221,8 +221,8 @@ fn plays<H: Host + Drop>(
     Ok(())
 }
 
-/// Three priors, each of which runs one child.
-const THREE: &str = "all: a b c\na:\n\techo a\nb:\n\techo b\nc:\n\techo c\n";
+/// Three priors side by side, each of which runs one child.
+const THREE: &str = "[parallel]\nall: a b c\na:\n\techo a\nb:\n\techo b\nc:\n\techo c\n";
 
 /// Two bodies are opened, and no third one while both are open; the second one ends first.
 #[test]
@@ -242,8 +242,8 @@ fn one_job_bounds_open_bodies(rt: HostRuntime) -> Result<(), NoMemory> {
     plays(&rt, alloc, (THREE, "all"), memory(alloc)?, 1, 1, want)
 }
 
-/// Three priors, the first two of which fail.
-const TWO_FAIL: &str = "p: a b c\na:\n\texit 3\nb:\n\texit 4\nc:\n\techo c\n";
+/// Three priors side by side, the first two of which fail.
+const TWO_FAIL: &str = "[parallel]\np: a b c\na:\n\texit 3\nb:\n\texit 4\nc:\n\techo c\n";
 
 /// Both of two priors fail, the second one first: the run fails by the first.
 #[test]
@@ -255,7 +255,8 @@ fn row_least_failed_node(rt: HostRuntime) -> Result<(), NoMemory> {
 }
 
 /// A diamond: the lowest node, the two above it, and the highest one.
-const DIAMOND: &str = "p: a b\n\techo p\na: c\n\texit 3\nb: c\n\techo b\nc:\n\techo c\n";
+const DIAMOND: &str =
+    "[parallel]\np: a b\n\techo p\n[parallel]\na: c\n\texit 3\n[parallel]\nb: c\n\techo b\nc:\n\techo c\n";
 
 /// The states of the diamond's nodes at each step, where one of the two in the middle fails.
 #[test]
@@ -268,7 +269,7 @@ fn states_of_a_diamond(rt: HostRuntime) -> Result<(), NoMemory> {
 
 /// Two bodies of one class, which read the file `in` and make the file `out`.
 const ONE_CLASS: &str =
-    "set unstable\n\n[script]\n[cache(inputs='in', outputs='out')]\nm f:\n\ttouch out\n\nall: (m 'a') (m 'b')\n";
+    "set unstable\n\n[script]\n[cache(inputs='in', outputs='out')]\nm f:\n\ttouch out\n\n[parallel]\nall: (m 'a') (m 'b')\n";
 
 /// While the first body is open, the second waits for it; then it is skipped, and the third, which is empty, ends.
 #[test]

@@ -18,18 +18,21 @@ fn add_recipe(text: &mut String, number: u32) -> Result<(), AllocError> {
     let left = number.saturating_add(15);
     let right = number.saturating_add(16);
     if right < 300 {
-        write!(text, "\nn{number}: n{left} n{right}\n\techo {number}")
+        write!(
+            text,
+            "\n[parallel]\nn{number}: n{left} n{right}\n\techo {number}"
+        )
     } else if left < 300 {
-        write!(text, "\nn{number}: n{left}\n\techo {number}")
+        write!(text, "\n[parallel]\nn{number}: n{left}\n\techo {number}")
     } else {
         write!(text, "\nn{number}:\n\techo {number}")
     }
 }
 
 /// The first recipe of the lattice, which has the whole first row.
-const FIRST: &str = "all: n0 n1 n2 n3 n4 n5 n6 n7 n8 n9 n10 n11 n12 n13 n14";
+const FIRST: &str = "[parallel]\nall: n0 n1 n2 n3 n4 n5 n6 n7 n8 n9 n10 n11 n12 n13 n14";
 
-/// A justfile of 300 recipes in rows of 15. The priors of each are the two below it; the first one has the whole first row.
+/// A justfile of 300 recipes in rows of 15. The priors of each are the two below it, side by side; the first one has the whole first row.
 fn lattice(alloc: Global) -> Result<String, AllocError> {
     let mut text = String::from_str(alloc, FIRST)?;
     for number in 0..300u32 {

@@ -1,7 +1,4 @@
-//! Plans whose priors run side by side.
-
-ghost use Rattle.std.specs.Prelude.{◌≡◌, map, IfOk};
-ghost use Rattle.rows_sched.specs.Beside.{beside_of};
+//! Plans of recipes of small justfiles.
 
 use super::hosts::{no_environ, one_text};
 use just_cli_plan::{DotenvAsk, Wanted, plan_of_project, project_of_sources};
@@ -9,45 +6,9 @@ use just_exec_work::RunFlags;
 use just_lang_types::Source;
 use just_path::Utf8Path;
 use just_path_text::{Environ, NoMemory, Seq, Text};
-use just_sched::{Plan, PlanNode};
+use just_sched::Plan;
 use std::alloc::Global;
 use std::process::Abort;
-
-/// The nodes, each with its priors side by side.
-fn nodes_beside(alloc: Global, nodes: Vec<PlanNode>) -> Result<Vec<PlanNode>, NoMemory>
-    ensures { IfOk result (λ v. v.items ≡ map beside_of nodes.items) }
-{
-    let mut made = Vec::new(alloc);
-    for node in nodes {
-        let PlanNode {
-            node,
-            prompt,
-            parallel: _,
-            work,
-            banner,
-            cache,
-        } = node;
-        made.push(PlanNode {
-            node,
-            prompt,
-            parallel: true,
-            work,
-            banner,
-            cache,
-        })?;
-    }
-    Ok(made)
-}
-
-/// The plan with each node's priors side by side.
-fn beside(alloc: Global, plan: Plan) -> Result<Plan, NoMemory> {
-    let Plan { nodes, invocations } = plan;
-    let made = nodes_beside(alloc, nodes.into_vec())?;
-    Ok(Plan {
-        nodes: Seq::from(made),
-        invocations,
-    })
-}
 
 /// How recipes of the root folder are run, where the words say nothing of it.
 fn plain_flags(alloc: Global) -> Result<RunFlags, NoMemory> {
@@ -145,9 +106,9 @@ fn planned(rt: &impl Abort, alloc: Global, request: &Request) -> Plan {
     }
 }
 
-/// The plan of a recipe of that justfile, with each node's priors side by side.
+/// The plan of a recipe of that justfile.
 /// No clause: it serves tests alone.
 pub fn plan_of(rt: &impl Abort, alloc: Global, text: &str, name: &str) -> Result<Plan, NoMemory> {
     let request = request_of(alloc, text, name)?;
-    beside(alloc, planned(rt, alloc, &request))
+    Ok(planned(rt, alloc, &request))
 }

@@ -67,7 +67,7 @@ fn gate(alloc: Global) -> Result<GateHost, NoMemory> {
 #[test]
 fn two_children_at_once(rt: HostRuntime) -> Result<(), NoMemory> {
     let alloc = rt.alloc();
-    let text = "p: a b\n\techo p\na:\n\techo a\nb:\n\techo b\n";
+    let text = "[parallel]\np: a b\n\techo p\na:\n\techo a\nb:\n\techo b\n";
     let plan = plan_of(&rt, alloc, text, "p")?;
     let host = gate(alloc)?;
     let (host, _, _, verdict) = run_of(&rt, alloc, plan, host, None);

@@ -1,2 +1,0 @@
--- The definitions that plans for tests cite.
-pub mod Beside
