@@ -106,6 +106,14 @@ module _ {s : Start} {h : List Event} {now : List Entry} {w : Option World} {spa
   bound_at : (j : ℕ) → s.jobs ≡ Some j → taken ≤ j
   bound_at j is = ∥∥₁_elim account le_prop (λ a. subst (λ o. MatchOption o (Unit {0}) (λ i. taken ≤ i)) is a.bound)
 
+  bounded_by : (o : Option ℕ) → s.jobs ≡ o → MatchOption o (Unit {0}) (λ j. taken ≤ j)
+  bounded_by None is = tt
+  bounded_by (Some j) is = bound_at j is
+
+  -- no more bodies are open than there are jobs
+  pub bound_of : MatchOption s.jobs (Unit {0}) (λ j. taken ≤ j)
+  bound_of = bounded_by s.jobs refl
+
   full_by : (j : ℕ) (b : Bool) → s.jobs ≡ Some j → (taken == j) ≡ b → MatchBool b (s.jobs ≡ Some (open_bodies (run_of s) h)) (MatchOption s.jobs (Unit {0}) (λ i. open_bodies (run_of s) h < i))
   full_by j true is same = is ∙ ap (λ n. Some n) (sym (eqb-true taken j same) ∙ counted_of)
   full_by j false is other =

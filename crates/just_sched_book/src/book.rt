@@ -138,9 +138,10 @@ impl<H: Host + Drop, P: Naming> Book<H, P> {
         }
     }
 
-    /// How many bodies are open.
+    /// How many bodies are open: no more than there are jobs.
     pub fn open_bodies(&self) -> usize
-        ensures { result ≡ open_bodies (run_of P.start) self.now.history.items }
+        ensures count { result ≡ open_bodies (run_of P.start) self.now.history.items }
+        ensures few { MatchOption P.start.jobs (Unit {0}) (λ j. result ≤ j) }
     {
         self.taken
     }

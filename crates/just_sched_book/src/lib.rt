@@ -1,4 +1,4 @@
-//! The book of a run: it keeps a legal history over a host, and makes its moves. It knows nothing of threads.
+//! The room of runs: the book of a run, which keeps a legal history over a host and makes its moves. It knows nothing of threads.
 #![tactic(auto)]
 
 mod book;
