@@ -3,7 +3,7 @@
 ghost use Rattle.std.specs.Prelude.{◌≡◌, ◌+◌, ◌<◌, ◌≤◌, ℕ, [], All, length, vec_len, vec_capacity};
 
 use super::shared::Shared;
-use super::worker::work_at;
+use super::worker::work;
 use just_host_record::Host;
 use just_sched_book::{Naming, Seat};
 use just_sched_history::Plan;
@@ -73,6 +73,6 @@ pub(crate) fn work_all<H: Host + Send + Drop, P: Naming + Send + Sync, R: Thread
         &|_at: usize, seat: &mut Seat<P>|
             requires { (seat.now.share.parts ≡ 1) × (seat.now.share.amount ≡ 0) }
             ensures { (seat.exit.now.share.parts ≡ 1) × (seat.exit.now.share.amount ≡ 0) }
-        { work_at(rt, shared, seat) },
+        { work(rt, shared, seat) },
     );
 }

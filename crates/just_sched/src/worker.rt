@@ -32,7 +32,7 @@ fn follow<H: Host + Drop, P: Naming, R: Wait>(
 /// Makes moves and follows the bodies that they open, until there is no move and no body is open. It waits for children
 /// without the lock. A move that opened a body may leave another, so it wakes one worker; one that ended a body or asked a node may give
 /// further ones, the first of which this worker makes itself.
-pub fn work_at<H: Host + Drop, P: Naming>(rt: &impl Wait, shared: &Shared<H, P>, seat: &mut Seat<P>)
+pub fn work<H: Host + Drop, P: Naming>(rt: &impl Wait, shared: &Shared<H, P>, seat: &mut Seat<P>)
     requires { seat.old.share.amount ≡ 0 }
     ensures parts { seat.new.share.parts ≡ seat.old.share.parts }
     ensures units { seat.new.share.amount ≡ 0 }

@@ -1,6 +1,6 @@
 -- Between two moves the seat has no unit.
 use Rattle.std.proofs.Common.{◌≡◌}
-use Rattle.just_sched.proofs.worker.work_at.Given as goal
+use Rattle.just_sched.proofs.worker.work.Given as goal
 
 abbrev pub invariant-moves : goal.invariant-moves
 invariant-moves g l = record {
