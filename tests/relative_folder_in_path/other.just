@@ -1,0 +1,4 @@
+set shell := ['teller', 'text']
+
+line:
+	@echo line

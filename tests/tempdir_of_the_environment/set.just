@@ -1,0 +1,5 @@
+set tempdir := 'other'
+
+shebang:
+	#!/bin/sh
+	echo "${0%/just-*}"
