@@ -1,0 +1,4 @@
+export PATH := '/dev/null'
+
+shell:
+	@true

@@ -1,0 +1,3 @@
+[working-directory('/dev/null')]
+shell:
+	@true
