@@ -1,7 +1,7 @@
 //! Trees that stand in memory and under a folder of the system.
 ghost use Rattle.std.specs.Prelude.{◌<◌};
 
-use super::forms::filled;
+use super::forms::placed;
 use super::stands::{PLACES, Random, Stand, is_before_links, is_link};
 use just_host::{Thing, Tree};
 use just_path::Utf8Path;
@@ -29,10 +29,9 @@ fn target(
     let up = UPS.get(place).copied().unwrap_or("");
     let path = PLACES.get(other).copied().unwrap_or("");
     if is_link(all[other]) || !is_before_links(all, other) {
-        return filled(alloc, "Unone", &[('U', up)]);
+        return placed(alloc, "Unone", up, root, path);
     }
-    let parts = [('U', up), ('R', root), ('P', path)];
-    filled(alloc, target_form(random.next() % 4), &parts)
+    placed(alloc, target_form(random.next() % 4), up, root, path)
 }
 
 /// The form of a link's text of that number: `U` the way up to the root, `R` the root, `P` the path.

@@ -25,3 +25,14 @@ pub(crate) fn filled(
     }
     Ok(text)
 }
+
+/// The text of a form in which `U` is the way up to a root, `R` the root, and `P` a path in it.
+pub(crate) fn placed(
+    alloc: Global,
+    form: &str,
+    up: &str,
+    root: &str,
+    path: &str,
+) -> Result<String, NoMemory> {
+    filled(alloc, form, &[('U', up), ('R', root), ('P', path)])
+}

@@ -17,7 +17,7 @@ pub(crate) struct Asked {
     /// The last folder that is searched.
     pub(crate) ceiling: String,
     /// Names that are looked for, with commas between; empty where the usual ones are.
-    pub(crate) names: &'static str,
+    pub(crate) names: String,
 }
 
 impl Drop for Asked {
@@ -55,20 +55,21 @@ impl Drop for Ended {
 
 /// The configuration of a search.
 fn searching(alloc: Global, asked: &Asked) -> Result<Configured, NoMemory> {
-    let (ceiling, prefix) = (asked.ceiling.as_str(), asked.prefix.as_str());
-    let usual = ["--ceiling", ceiling, prefix];
-    let named = ["--ceiling", ceiling, "--justfile-name", asked.names, prefix];
-    let words: &[&str] = if asked.names.is_empty() {
-        &usual
-    } else {
-        &named
-    };
-    let words = match words.split_last() {
-        Some((last, front)) if last.is_empty() => front,
-        _ => words,
-    };
     let folder = Utf8PathBuf::from_str(alloc, asked.called.as_str())?;
-    of_words(alloc, words, folder)
+    let (ceiling, prefix) = (asked.ceiling.as_str(), asked.prefix.as_str());
+    let names = asked.names.as_str();
+    match (names.is_empty(), prefix.is_empty()) {
+        (true, true) => of_words(alloc, &["--ceiling", ceiling], folder),
+        (true, false) => of_words(alloc, &["--ceiling", ceiling, prefix], folder),
+        (false, true) => {
+            let words = ["--ceiling", ceiling, "--justfile-name", names];
+            of_words(alloc, &words, folder)
+        }
+        (false, false) => {
+            let words = ["--ceiling", ceiling, "--justfile-name", names, prefix];
+            of_words(alloc, &words, folder)
+        }
+    }
 }
 
 /// The configuration of words in a folder; where they have none, memory is told to be wanting, so that the test fails.

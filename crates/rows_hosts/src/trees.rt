@@ -3,7 +3,7 @@
 
 use super::alike::{answer_alike, refuse_alike};
 use super::both::grow;
-use super::forms::filled;
+use super::forms::{filled, placed};
 use super::search::{Asked, search_alike};
 use super::stands::{PLACES, Random, Stand, grown, is_before_links};
 use just_host::{Host, MemHost, Plot, RealHost, Tree};
@@ -112,7 +112,7 @@ fn any_ceiling(
         Some(last) => ("R/P", last),
         None => ("R", ""),
     };
-    filled(alloc, form, &[('R', root), ('P', last)])
+    placed(alloc, form, "", root, last)
 }
 
 /// The path in front of the words of a search from a place, in a form of that number; empty where the program is called at the place.
@@ -122,13 +122,13 @@ fn prefix_of(alloc: Global, root: &str, name: &str, form: u8) -> Result<String, 
         1 => "P/",
         _ => "R//P/",
     };
-    filled(alloc, form, &[('R', root), ('P', name)])
+    placed(alloc, form, "", root, name)
 }
 
 /// The folder in which the program is called, for a form of words of that number.
 fn called_in(alloc: Global, root: &str, name: &str, form: u8) -> Result<String, NoMemory> {
     let form = if form == 0 { "R/P" } else { "R" };
-    filled(alloc, form, &[('R', root), ('P', name)])
+    placed(alloc, form, "", root, name)
 }
 
 /// A search from a place upwards.
@@ -141,7 +141,7 @@ fn any_search(
     let name = PLACES.get(place).copied().unwrap_or("");
     let ceiling = any_ceiling(alloc, random, root, place)?;
     let form = random.next() % 3;
-    let names = any_names(random);
+    let names = String::from_str(alloc, any_names(random))?;
     let called = called_in(alloc, root, name, form)?;
     let prefix = prefix_of(alloc, root, name, form)?;
     Ok(Asked {
@@ -178,8 +178,10 @@ fn search_difference<A: Host, B: Host>(
         let from = is_before_links(all, n) && all[n] != Stand::Nothing && all[n] != Stand::Loop;
         if from && !search_agrees(alloc, random, one, other, root, n)? {
             let place = PLACES.get(n).copied().unwrap_or("");
-            let parts = [('R', root), ('P', place)];
-            return Ok(Some(filled(alloc, "search from R/P", &parts)?));
+            return match placed(alloc, "search from R/P", "", root, place) {
+                Ok(told) => Ok(Some(told)),
+                Err(refused) => Err(refused),
+            };
         }
     }
     Ok(None)
