@@ -3,7 +3,7 @@
 
 use super::fresh::fresh_folder;
 use just_host_record::{Look, MAX_SUMMED};
-use just_path::{Kind, Utf8Path, Utf8PathBuf};
+use just_path::{Kind, Miss, Utf8Path, Utf8PathBuf};
 use sha2::{Digest, Sha256};
 use std::alloc::Global;
 use std::env;
@@ -210,12 +210,15 @@ fn is_missing<F: Files>(files: &F, path: &str) -> io::Result<bool> {
     }
 }
 
-/// Whether nothing stands where a path leads. Another miss is an error. No clause: nothing is claimed of files.
+/// Whether nothing stands where a path leads, also where the path is too long or holds a NUL. Another miss is an error. No clause: nothing is
+/// claimed of files.
 pub fn is_absent<F: Files>(files: &F, path: &str) -> io::Result<bool> {
     match super::system::look(files, path, true) {
         Ok(_) => Ok(false),
-        Err(error) if error.kind() == ErrorKind::NotFound => Ok(true),
-        Err(error) => Err(error),
+        Err(error) => match super::system::miss_of(&error) {
+            Some(Miss::NotFound) => Ok(true),
+            _ => Err(error),
+        },
     }
 }
 

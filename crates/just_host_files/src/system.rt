@@ -79,14 +79,14 @@ pub fn look<F: Files>(files: &F, path: &str, follow: bool) -> io::Result<Meta> {
 pub fn list<F: Files>(files: &F, alloc: Global, path: &str) -> io::Result<Vec<Item>>
     ensures { IfOk result (λ v. AreInOrder v.items) }
 {
-    sorted(alloc, found(files, alloc, path, true)?)
+    sorted(alloc, found(files, alloc, path)?)
 }
 
 /// The names of what stands in a folder, rising. The system isn't asked what they are the names of.
 pub fn names<F: Files>(files: &F, alloc: Global, path: &str) -> io::Result<Seq<Text>>
     ensures { IfOk result AreNamesInOrder }
 {
-    let items = sorted(alloc, found(files, alloc, path, false)?)?;
+    let items = sorted(alloc, found_names(files, alloc, path)?)?;
     match names_of(alloc, items) {
         Ok(names) => Ok(names),
         Err(NoMemory) => Err(io::Error::from(ErrorKind::OutOfMemory)),
@@ -107,36 +107,34 @@ fn sorted(alloc: Global, found: Vec<Item>) -> io::Result<Vec<Item>>
     }
 }
 
-/// What stands in a folder; where kinds aren't asked for, only the names are known. A name that isn't UTF-8 makes the call fail.
-fn found<F: Files>(
-    files: &F,
-    alloc: Global,
-    path: &str,
-    with_kinds: bool,
-) -> io::Result<Vec<Item>> {
+/// What stands in a folder. A name that isn't UTF-8 makes the call fail.
+fn found<F: Files>(files: &F, alloc: Global, path: &str) -> io::Result<Vec<Item>> {
+    let pair = (files, alloc);
     let mut items = Vec::new(alloc);
-    for entry in fs::read_dir(&(files, alloc), path)? {
-        add_entry(alloc, &mut items, entry, with_kinds)?;
+    for entry in fs::read_dir(&pair, path)? {
+        if let Some(item) = item_of(alloc, entry)? {
+            items.push(item)?;
+        }
     }
     Ok(items)
 }
 
-/// Adds the item of an entry of a folder, unless the entry vanished.
-fn add_entry<F: Files + Drop>(
-    alloc: Global,
-    items: &mut Vec<Item>,
-    told: io::Result<DirEntry<F>>,
-    with_kinds: bool,
-) -> io::Result<()> {
+/// An item for each name in a folder, of which no more is known. A name that isn't UTF-8 makes the call fail.
+fn found_names<F: Files>(files: &F, alloc: Global, path: &str) -> io::Result<Vec<Item>> {
+    let pair = (files, alloc);
+    let mut items = Vec::new(alloc);
+    for entry in fs::read_dir(&pair, path)? {
+        let name = name_of(alloc, entry)?;
+        let kind = Kind::Other;
+        items.push(Item { name, kind })?;
+    }
+    Ok(items)
+}
+
+/// The name of an entry of a folder.
+fn name_of<F: Files + Drop>(alloc: Global, told: io::Result<DirEntry<F>>) -> io::Result<Text> {
     match told {
-        Ok(entry) => {
-            let item = item_of(alloc, &entry, with_kinds);
-            drop(entry);
-            if let Some(item) = item? {
-                items.push(item)?;
-            }
-            Ok(())
-        }
+        Ok(entry) => Ok(Text::from(String::from_str(alloc, entry.file_name())?)),
         Err(error) => Err(entry_error(error)),
     }
 }
@@ -144,23 +142,19 @@ fn add_entry<F: Files + Drop>(
 /// The item of an entry of a folder, or none where the entry vanished.
 fn item_of<F: Files + Drop>(
     alloc: Global,
-    entry: &DirEntry<F>,
-    with_kinds: bool,
+    told: io::Result<DirEntry<F>>,
 ) -> io::Result<Option<Item>> {
-    let Some(kind) = entry_kind(entry, with_kinds)? else {
-        return Ok(None);
+    let entry = match told {
+        Ok(entry) => entry,
+        Err(error) => return Err(entry_error(error)),
     };
-    let name = Text::from(String::from_str(alloc, entry.file_name())?);
-    Ok(Some(Item { name, kind }))
-}
-
-/// The kind of an entry of a folder, or none where the entry vanished. Where kinds aren't asked for, the system isn't asked.
-fn entry_kind<F: Files + Drop>(entry: &DirEntry<F>, with_kinds: bool) -> io::Result<Option<Kind>> {
-    if !with_kinds {
-        return Ok(Some(Kind::Other));
-    }
     match entry.file_type() {
-        Ok(file_type) => Ok(Some(kind_of(&file_type))),
+        Ok(file_type) => {
+            let name = String::from_str(alloc, entry.file_name())?;
+            let name = Text::from(name);
+            let kind = kind_of(&file_type);
+            Ok(Some(Item { name, kind }))
+        }
         Err(error) if error.kind() == ErrorKind::NotFound => Ok(None),
         Err(error) => Err(error),
     }
