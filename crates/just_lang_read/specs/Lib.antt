@@ -4,6 +4,7 @@ pub mod Place
 pub mod Cursor
 pub mod Reader
 pub mod Characters
+pub mod Decimal
 pub mod Lines
 pub mod Indentation
 pub mod Quotes

@@ -1,6 +1,7 @@
 //! Decimal numbers.
 ghost use Rattle.std.specs.Prelude.{◌≡◌, ◌&&◌, ◌+◌, ◌*◌, ◌-◌, ◌^◌, true, false, nat_lt, MatchOption};
-ghost use Rattle.just_config_words.specs.Decimal.{decimal, number_from, is_digit, is_number_within};
+ghost use Rattle.just_lang_read.specs.Characters.{is_digit};
+ghost use Rattle.just_lang_read.specs.Decimal.{decimal, number_from, is_number_within};
 
 /// The number of a text: digits without a sign, without a zero in front, below 2 ^ 64.
 pub fn decimal(text: &str) -> Option<u64>

@@ -1,8 +1,6 @@
 -- Decimal numbers.
 use Rattle.std.specs.Prelude.{ℕ, Bool, false, ◌&&◌, ◌==◌, if◌then◌else◌, nat_le, nat_lt, ◌+◌, ◌*◌, ◌-◌, ◌^◌, List, [], ◌∷◌, Option, Some, None}
-
-abbrev pub is_digit : ℕ → Bool
-is_digit c = nat_le 48 c && nat_le c 57
+use Rattle.just_lang_read.specs.Characters.{is_digit}
 
 -- the number that a number's digits and these make, where it is below 2 ^ 64
 abbrev pub number_from : ℕ → List ℕ → Option ℕ
