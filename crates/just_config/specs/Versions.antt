@@ -3,7 +3,7 @@ use Rattle.std.specs.Prelude.{ℕ, ◌&&◌, if◌then◌else◌, nat_le, List, 
 use Rattle.std.specs.Fmt.{decimal as digits_of}
 use Rattle.just_config.specs.declared.version.Version.{Version}
 use Rattle.just_config_words.specs.Cuts.{holds, before_first, behind_first}
-use Rattle.just_config_words.specs.Decimal.{decimal}
+use Rattle.just_lang_read.specs.Decimal.{decimal}
 
 abbrev pub dot : ℕ
 dot = 46

@@ -3,7 +3,7 @@ ghost use Rattle.std.specs.Prelude.{◌≡◌, IfOk, IfErr, None, Some, codes};
 ghost use Rattle.just_config.specs.Versions.{version_of, number_of, version_text};
 
 use just_config_words::cut::cut;
-use just_config_words::decimal::decimal;
+use just_lang_read::decimal;
 use std::fmt;
 
 /// A version: three numbers of one to nine digits.

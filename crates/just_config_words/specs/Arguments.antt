@@ -7,7 +7,7 @@ use Rattle.just_config_words.specs.declared.occurrence.Occurrence.{Occurrence}
 use Rattle.just_config_words.specs.declared.subcommand.Subcommand.{Subcommand}
 use Rattle.just_config_words.specs.declared.subcommand.Subcommand.TheVariants as command
 use Rattle.just_config_words.specs.Cuts.{parts}
-use Rattle.just_config_words.specs.Decimal.{decimal}
+use Rattle.just_lang_read.specs.Decimal.{decimal}
 use Rattle.just_config_words.specs.Occurrences.{is_given, times, value_in, values_in, behind}
 use Rattle.just_config_words.specs.Rules.{gives_command}
 

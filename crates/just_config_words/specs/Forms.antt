@@ -3,7 +3,7 @@ use Rattle.std.specs.Prelude.{ℕ, Bool, true, not, ◌||◌, List, [], ◌∷�
 use Rattle.std.specs.Char.{to_ascii_lowercase}
 use Rattle.just_config_words.specs.declared.entry.Form.{Form}
 use Rattle.just_config_words.specs.declared.entry.Form.TheVariants.{Text, Switch, LooseSwitch, Count, AliasStyle, DumpFormat, EvaluateFormat, Indentation, Jobs}
-use Rattle.just_config_words.specs.Decimal.{decimal, is_number_within}
+use Rattle.just_lang_read.specs.Decimal.{decimal, is_number_within}
 
 -- whether a text is in the form
 abbrev pub is_in_form : Form → List ℕ → Bool

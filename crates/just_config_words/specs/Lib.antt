@@ -1,7 +1,6 @@
 -- What the contracts of the crate cite.
 pub mod Table
 pub mod Cuts
-pub mod Decimal
 pub mod Forms
 pub mod Kinds
 pub mod Letters

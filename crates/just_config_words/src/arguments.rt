@@ -7,10 +7,10 @@ ghost use Rattle.just_config_words.specs.Arguments.{AreArguments, verbosity, job
 ghost use Rattle.just_config_words.specs.ArgumentParts.{AreLooks, ArePlaces, AreLists};
 
 use super::argument_parts::{CommandFlags, Lists, Looks, Places, RunFlags};
-use super::decimal::decimal;
 use super::occurrence::{behind, is_given, times, value_in};
 use super::subcommand::subcommand_in;
 use super::{Occurrence, Subcommand};
+use just_lang_read::decimal;
 use just_path_text::{NoMemory, Seq, Text};
 use std::alloc::Global;
 use std::num::NonZeroU64;

@@ -5,7 +5,7 @@ ghost use Rattle.std.specs.Char.{to_ascii_lowercase};
 ghost use Rattle.just_config_words.specs.Forms.{is_no, are_in_form};
 
 use super::Form;
-use super::decimal::is_within;
+use just_lang_read::is_within;
 use just_path_text::Text;
 
 impl Form {

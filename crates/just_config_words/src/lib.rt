@@ -4,7 +4,6 @@
 mod argument_parts;
 mod arguments;
 pub mod cut;
-pub mod decimal;
 mod entry;
 mod fault;
 mod form;

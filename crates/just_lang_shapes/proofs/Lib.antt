@@ -4,7 +4,6 @@ pub mod Kept
 pub mod Blanks
 pub mod Above
 pub mod KeyTables
-pub mod Digits
 pub mod Fields
 pub mod Parameters
 pub mod ExpandedExprs

@@ -1,7 +1,6 @@
 -- The definitions of the shapes.
 pub mod Attributes
 pub mod Expansions
-pub mod Numbers
 pub mod Parameters
 pub mod Settings
 pub mod Comments

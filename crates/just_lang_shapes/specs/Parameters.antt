@@ -20,7 +20,7 @@ use Rattle.just_lang_types.specs.Options.{is_text}
 use Rattle.just_lang_shapes.specs.declared.keys.Keys.{Keys}
 use Rattle.just_lang_shapes.specs.Attributes.{first_of}
 use Rattle.just_lang_shapes.specs.Expansions.{expanded_default}
-use Rattle.just_lang_shapes.specs.Numbers.{number_of}
+use Rattle.just_lang_read.specs.Decimal.{decimal}
 
 -- ---- keys
 
@@ -94,7 +94,7 @@ module _ (text_of : StringLiteral → Option (List ℕ)) where
 
   -- the number that the text of a key is
   abbrev pub number_at : List ℕ → List Argument → Option ℕ
-  number_at key xs = option_and_then number_of (value_of key xs)
+  number_at key xs = option_and_then decimal (value_of key xs)
 
   unfoldable pub parameter_with : List Argument → AstParameter → Parameter
   parameter_with xs p = record {

@@ -4,7 +4,7 @@ ghost use Rattle.just_lang_shapes.specs.Parameters.{value_of, values_of, pattern
 
 use super::expansions::expanded_default;
 use super::keys::{has_key, keys_of, stands_alone, value_of, values_of};
-use super::number::number_of;
+use just_lang_read::decimal;
 use just_lang_syntax::{Argument, AstParameter, Attribute};
 use just_lang_types::{Parameter, Pattern, Texts};
 use just_path_text::{NoMemory, Seq, Text, TryClone};
@@ -59,7 +59,7 @@ fn number_at<T: Texts>(
 {
     match value_of(alloc, texts, key, arguments)? {
         None => Ok(None),
-        Some(text) => Ok(number_of(text.as_str())),
+        Some(text) => Ok(decimal(text.as_str())),
     }
 }
 

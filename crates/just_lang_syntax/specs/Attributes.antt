@@ -1,5 +1,5 @@
 -- Attributes: lines of them in brackets, and what stands behind the name of each.
-use Rattle.std.specs.Prelude.{◌≡◌, ℕ, ◌+◌, ◌*◌, ◌-◌, ◌^◌, nat_lt, Bool, true, false, not, ◌&&◌, ◌||◌, ◌==◌, List, [], ◌∷◌, ◌++◌, Option, Some, None, codes, bytes_eq}
+use Rattle.std.specs.Prelude.{◌≡◌, ℕ, Bool, true, false, not, is_some, ◌&&◌, ◌||◌, ◌==◌, List, [], ◌∷◌, ◌++◌, Option, Some, None, codes, bytes_eq}
 use Rattle.std.specs.List.{list_any}
 use Rattle.just_lang_read.specs.Place.{Place, AreMany, next, starts, begins}
 use Rattle.just_lang_syntax.specs.declared.ast.Name.{Name}
@@ -12,7 +12,8 @@ use Rattle.just_lang_syntax.specs.declared.ast.Attribute.{Attribute}
 use Rattle.just_lang_syntax.specs.declared.form.Form.{Form}
 use Rattle.just_lang_syntax.specs.declared.form.Form.TheVariants.{Bare, MaybeText, Text, Texts, Arg, Cache, Open}
 use Rattle.just_lang_syntax.specs.declared.form.KeyForm.TheVariants.{Number}
-use Rattle.just_lang_read.specs.Characters.{begins_name, is_digit}
+use Rattle.just_lang_read.specs.Characters.{begins_name}
+use Rattle.just_lang_read.specs.Decimal.{decimal}
 use Rattle.just_lang_read.specs.Lines.{skip, behind_word, IsToken}
 use Rattle.just_lang_syntax.specs.Places.{IsName, IsRest}
 use Rattle.just_lang_syntax.specs.Strings.{IsString, IsTextOf}
@@ -60,23 +61,9 @@ may_cache earlier key = is_cache_key key && not (bytes_eq key (codes "extra") &&
 abbrev pub may_have : List Argument → List ℕ → Bool
 may_have earlier key = bytes_eq key (codes "pattern") || not (has_key earlier key)
 
--- whether digits follow a number, and all of them make one below 2 ^ 64
-abbrev pub decimal_from : ℕ → List ℕ → Bool
-decimal_from n [] = true
-decimal_from n (c ∷ rest) = is_digit c && (nat_lt (n * 10 + (c - 48)) (2 ^ 64) && decimal_from (n * 10 + (c - 48)) rest)
-
-abbrev pub has_zero : List ℕ → Bool
-has_zero [] = false
-has_zero (c ∷ []) = false
-has_zero (c ∷ d ∷ rest) = c == 48
-
-abbrev pub is_some_text : List ℕ → Bool
-is_some_text [] = false
-is_some_text (c ∷ rest) = true
-
 -- whether a text is a decimal number of 64 bits without a zero in front
 abbrev pub is_decimal : List ℕ → Bool
-is_decimal text = is_some_text text && (not (has_zero text) && decimal_from 0 text)
+is_decimal text = is_some (decimal text)
 
 -- a key of `arg` behind these: alone, with a text, or with a number
 pub data IsOption (earlier : List Argument) (p q : Place) (x : Argument) : Type 0 where

@@ -1,8 +1,7 @@
 //! Attributes: lines of them in brackets, and what may stand behind the name of each.
-ghost use Rattle.std.specs.Prelude.{◌≡◌, ◌++◌, ◌+◌, ◌*◌, ◌-◌, ◌^◌, ◌&&◌, nat_lt, true, false, [], IfOk, MatchOption};
+ghost use Rattle.std.specs.Prelude.{◌≡◌, ◌++◌, true, false, [], IfOk};
 ghost use Rattle.just_lang_read.specs.Reader.{Reads};
-ghost use Rattle.just_lang_syntax.specs.Attributes.{goes_on, is_keyed, with_comment, decimal_from, has_key, is_decimal, is_key_or, may_cache, may_have};
-ghost use Rattle.just_lang_read.specs.Characters.{is_digit};
+ghost use Rattle.just_lang_syntax.specs.Attributes.{goes_on, is_keyed, with_comment, has_key, is_key_or, may_cache, may_have};
 ghost use Rattle.just_lang_syntax.specs.Collected.{ReadsVec};
 ghost use Rattle.just_lang_syntax.specs.ItemReaders as read;
 
@@ -12,7 +11,7 @@ use super::list::{add, list_of};
 use super::string::string;
 use super::token::{name, rest};
 use super::{Argument, Attribute, Expr, Name};
-use just_lang_read::{Cursor, NameStart, ReadError, behind_word, skip, token};
+use just_lang_read::{Cursor, NameStart, ReadError, behind_word, decimal, skip, token};
 use just_path_text::{Seq, Text};
 use std::alloc::{AllocError, Global};
 
@@ -403,7 +402,7 @@ fn number(alloc: Global, cursor: &mut Cursor<'_>, key: Name) -> Result<Argument,
     let column = cursor.column();
     let value = string(alloc, cursor)?;
     let text = value.text(alloc)?;
-    let fits = is_decimal(text.as_str());
+    let fits = decimal(text.as_str()).is_some();
     drop(text);
     if !fits {
         return Err(ReadError::Syntax);
@@ -414,41 +413,6 @@ fn number(alloc: Global, cursor: &mut Cursor<'_>, key: Name) -> Result<Argument,
         column,
         value: Expr::Literal(value),
     })
-}
-
-/// Whether a text is a decimal number of 64 bits without a zero in front.
-fn is_decimal(text: &str) -> bool
-    ensures { result ≡ is_decimal text.now }
-{
-    match text.as_bytes() {
-        [] => false,
-        [b'0', _, ..] => false,
-        bytes => is_decimal_from(bytes),
-    }
-}
-
-/// Whether these are digits of a number below 2 ^ 64.
-fn is_decimal_from(digits: &[u8]) -> bool
-    ensures { result ≡ decimal_from 0 digits.now }
-{
-    let mut number: u64 = 0;
-    'digits: for digit in digits {
-        match with_digit(number, *digit) {
-            Some(next) => number = next,
-            None => return false,
-        }
-    }
-    true
-}
-
-/// A number with one more digit, if this is one and the number stays below 2 ^ 64.
-fn with_digit(number: u64, digit: u8) -> Option<u64>
-    ensures { MatchOption result ((is_digit digit && nat_lt (number * 10 + (digit - 48)) (2 ^ 64)) ≡ false) (λ n. ((is_digit digit && nat_lt (number * 10 + (digit - 48)) (2 ^ 64)) ≡ true) × (n ≡ number * 10 + (digit - 48))) }
-{
-    if !digit.is_ascii_digit() {
-        return None;
-    }
-    number.checked_mul(10)?.checked_add(u64::from(digit - b'0'))
 }
 
 /// Whether one of the arguments has this key, with a value or alone.

@@ -1,7 +1,0 @@
--- The digits to come go on from the number so far.
-use Rattle.std.proofs.Common.{◌≡◌, drop}
-use Rattle.just_config_words.specs.Decimal.{number_from}
-use Rattle.just_config_words.proofs.decimal.number.Given as goal
-
-abbrev pub invariant-digits : goal.invariant-digits
-invariant-digits l = number_from l.number (drop l.digit-index l.digits) ≡ number_from l.initial.number l.digits
