@@ -1,9 +1,9 @@
 //! What is printed before a child starts.
 
-ghost use Rattle.std.specs.Prelude.{◌≡◌, ◌++◌, IfOk, OnOk, string_bytes};
-ghost use Rattle.just_exec_work.specs.Scripts.{ended};
+ghost use Rattle.std.specs.Prelude.{◌≡◌, IfOk};
 ghost use Rattle.just_exec_work.specs.Echoes.{is_quiet, shows_line, line_echo, shows_script, script_echo};
 
+use super::placed::push_ended;
 use super::{RunAttributes, RunFlags};
 use just_lang_types::{BodyLine, Settings};
 use just_path_text::{NoMemory, Text};
@@ -41,15 +41,6 @@ pub(crate) fn shows_script(flags: &RunFlags, recipe: bool) -> bool
     ensures { result ≡ shows_script flags.now recipe }
 {
     !flags.quiet && (flags.dry_run || recipe)
-}
-
-/// Adds a text and the end of its line.
-fn push_ended(text: &mut String, line: &str) -> Result<(), NoMemory>
-    ensures { OnOk result (string_bytes text.new ≡ string_bytes text.old ++ ended line.now) }
-{
-    text.push_str(line)?;
-    text.push_str("\n")?;
-    Ok(())
 }
 
 /// What is printed for a line.

@@ -32,7 +32,7 @@ pub(crate) fn shebang_count(lines: &[BodyLine]) -> usize
 }
 
 /// Adds a text and the end of its line.
-fn push_ended(text: &mut String, line: &str) -> Result<(), NoMemory>
+pub(crate) fn push_ended(text: &mut String, line: &str) -> Result<(), NoMemory>
     ensures { OnOk result (string_bytes text.new ≡ string_bytes text.old ++ ended line.now) }
 {
     text.push_str(line)?;

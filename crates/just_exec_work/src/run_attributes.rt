@@ -3,7 +3,6 @@
 use just_path_text::{Seq, Text};
 
 /// How the attributes of a recipe ask it to be run.
-#[derive(Drop)]
 pub struct RunAttributes {
     /// The texts of `script`, where it is there: a command and its arguments, or none.
     pub script: Option<Seq<Text>>,
@@ -17,4 +16,17 @@ pub struct RunAttributes {
     pub no_quiet: bool,
     /// Whether its children are given its positional arguments.
     pub positional_arguments: bool,
+}
+
+impl Drop for RunAttributes {
+    fn drop(self) {
+        let RunAttributes {
+            script: _,
+            extension: _,
+            working_directory: _,
+            no_cd: _,
+            no_quiet: _,
+            positional_arguments: _,
+        } = self;
+    }
 }

@@ -4,7 +4,6 @@ use just_path::Utf8PathBuf;
 use just_path_text::{Seq, Text};
 
 /// What the words of a run say of its commands.
-#[derive(Drop)]
 pub struct RunFlags {
     pub shell: Option<Text>,
     pub shell_args: Option<Seq<Text>>,
@@ -23,4 +22,21 @@ pub struct RunFlags {
     pub tempdir: Option<Utf8PathBuf>,
     /// The working folder that the search gives.
     pub folder: Utf8PathBuf,
+}
+
+impl Drop for RunFlags {
+    fn drop(self) {
+        let RunFlags {
+            shell: _,
+            shell_args: _,
+            quiet: _,
+            loquacious: _,
+            dry_run: _,
+            no_cache: _,
+            yes: _,
+            explain: _,
+            tempdir: _,
+            folder: _,
+        } = self;
+    }
 }

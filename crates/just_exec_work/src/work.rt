@@ -5,7 +5,6 @@ use just_lang_read::Boxed;
 use just_path_text::{Seq, Text};
 
 /// What a body has to run.
-#[derive(Drop)]
 pub enum Work {
     /// One child for each line.
     Lines(Seq<Command>),
@@ -14,8 +13,16 @@ pub enum Work {
     Empty,
 }
 
+impl Drop for Work {
+    fn drop(self) {
+        match self {
+            Work::Lines(_) | Work::Script(_) => {}
+            Work::Empty => {}
+        }
+    }
+}
+
 /// One command of a body.
-#[derive(Drop)]
 pub struct Command {
     /// Of a script that is run by itself the program and its arguments are the interpreter and the argument that its first line names.
     pub spec: Spec,
@@ -27,6 +34,18 @@ pub struct Command {
     pub forgiving: bool,
     /// Whether the code 1 ends the body well.
     pub guard: bool,
+}
+
+impl Drop for Command {
+    fn drop(self) {
+        let Command {
+            spec: _,
+            echo: _,
+            line: _,
+            forgiving: _,
+            guard: _,
+        } = self;
+    }
 }
 
 /// What a body does next.
