@@ -10,7 +10,10 @@ use Rattle.just_cache.specs.declared.cache_error.CacheError.TheVariants as error
 abbrev pub missed_input : List ℕ → Miss → CacheError
 missed_input path miss.NotFound = error.InputMissing path
 missed_input path miss.IsFolder = error.InputDirectory path
-missed_input path m = error.Io (fault.Missed m) path
+missed_input path miss.NotFolder = error.Io (fault.Missed miss.NotFolder) path
+missed_input path miss.NotUtf8 = error.Io (fault.Missed miss.NotUtf8) path
+missed_input path miss.NotEmpty = error.Io (fault.Missed miss.NotEmpty) path
+missed_input path miss.TooLarge = error.Io (fault.Missed miss.TooLarge) path
 
 -- the error of an input whose sum was refused
 abbrev pub input_error : List ℕ → HostFault → CacheError
