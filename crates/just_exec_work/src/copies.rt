@@ -27,7 +27,7 @@ pub(crate) fn sh_with(alloc: Global, argument: &str) -> Result<Interpreter, NoMe
 }
 
 /// The sequence of one text.
-pub(crate) fn one_text(alloc: Global, text: &str) -> Result<Seq<Text>, NoMemory>
+pub fn one_text(alloc: Global, text: &str) -> Result<Seq<Text>, NoMemory>
     ensures { IfOk result (λ ts. ts ≡ text.now ∷ []) }
 {
     let mut texts = Vec::with_capacity(alloc, 1)?;

@@ -32,6 +32,7 @@ mod work;
 mod works;
 
 pub use attribute::{attribute_text, has_attribute, prints_code, read_attributes};
+pub use copies::one_text;
 pub use error::CommandError;
 pub use executor::Executor;
 pub use folder::module_folder;
