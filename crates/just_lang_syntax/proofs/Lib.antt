@@ -1,6 +1,7 @@
 -- The laws of the language.
 pub mod Collect
 pub mod Marks
+pub mod Listed
 pub mod LineLaws
 pub mod TextLaws
 pub mod PathLoop

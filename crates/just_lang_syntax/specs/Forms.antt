@@ -1,5 +1,5 @@
 -- The attributes, settings and keys that the grammar knows by name, and what it asks of each.
-use Rattle.std.specs.Prelude.{ℕ, Bool, true, false, ◌||◌, if◌then◌else◌, List, [], ◌∷◌, codes, bytes_eq}
+use Rattle.std.specs.Prelude.{ℕ, Bool, true, false, ◌||◌, if◌then◌else◌, List, [], ◌∷◌, ◌++◌, codes, bytes_eq}
 use Rattle.just_lang_syntax.specs.declared.form.Form.{Form}
 use Rattle.just_lang_syntax.specs.declared.form.Form.TheVariants.{Bare, MaybeText, Text, Texts, Arg, Cache, Open}
 use Rattle.just_lang_syntax.specs.declared.form.KeyForm.{KeyForm}
@@ -27,6 +27,22 @@ form_of name =
     else (if bytes_eq name (codes "script") then Texts
     else (if bytes_eq name (codes "arg") then Arg
     else (if bytes_eq name (codes "cache") then Cache else (if is_one_of bare_attributes name then Bare else Open)))))
+
+-- the attributes
+abbrev pub attributes : List (List ℕ)
+attributes =
+    codes "confirm" ∷ codes "doc" ∷ codes "extension" ∷ codes "group" ∷ codes "working-directory" ∷ codes "script" ∷ codes "arg" ∷ codes "cache"
+    ∷ bare_attributes
+
+-- whether the form is that of an attribute which there is
+abbrev pub is_known : Form → Bool
+is_known Bare = true
+is_known MaybeText = true
+is_known Text = true
+is_known Texts = true
+is_known Arg = true
+is_known Cache = true
+is_known Open = false
 
 -- whether an attribute of the form may have nothing behind its name
 abbrev pub may_be_bare : Form → Bool
@@ -81,11 +97,31 @@ flags =
     ∷ codes "dotenv-required" ∷ codes "export" ∷ codes "fallback" ∷ codes "guards" ∷ codes "ignore-comments" ∷ codes "lists" ∷ codes "no-cd"
     ∷ codes "no-exit-message" ∷ codes "positional-arguments" ∷ codes "quiet" ∷ codes "unstable" ∷ codes "windows-powershell" ∷ []
 
+-- the settings that are expressions
+abbrev pub text_settings : List (List ℕ)
+text_settings =
+    codes "dotenv-command" ∷ codes "dotenv-filename" ∷ codes "dotenv-path" ∷ codes "indentation" ∷ codes "tempdir" ∷ codes "working-directory" ∷ []
+
+-- the settings that are lists
+abbrev pub list_settings : List (List ℕ)
+list_settings = codes "shell" ∷ codes "script-interpreter" ∷ codes "windows-shell" ∷ []
+
+-- the settings
+abbrev pub settings : List (List ℕ)
+settings = text_settings ++ (list_settings ++ flags)
+
+-- whether the sort is that of a setting which there is
+abbrev pub is_sorted : Sort → Bool
+is_sorted sort.Flag = true
+is_sorted sort.Text = true
+is_sorted sort.List = true
+is_sorted sort.Open = false
+
 -- the sort of a setting
 abbrev pub sort_of : List ℕ → Sort
 sort_of name =
-    if is_one_of (codes "dotenv-command" ∷ codes "dotenv-filename" ∷ codes "dotenv-path" ∷ codes "indentation" ∷ codes "tempdir" ∷ codes "working-directory" ∷ []) name then sort.Text
-    else (if is_one_of (codes "shell" ∷ codes "script-interpreter" ∷ codes "windows-shell" ∷ []) name then sort.List
+    if is_one_of text_settings name then sort.Text
+    else (if is_one_of list_settings name then sort.List
     else (if is_one_of flags name then sort.Flag else sort.Open))
 
 -- the settings and the attributes that are left out

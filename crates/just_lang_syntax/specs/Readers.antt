@@ -65,6 +65,10 @@ unfoldable pub comparison : Reader Comparison
 comparison = λ p. if begins (codes "==") p then (token (codes "==") >> pure Equal) p else (token (codes "!=") >> pure Unequal) p
 
 module _ (inner : Reader Expr) where
+  -- a mark, and what stands behind it
+  abbrev pub operand : List ℕ → Reader Expr
+  operand mark = token mark >> inner
+
   unfoldable pub group : Reader Expr
   group = do
     token (codes "(")
@@ -123,6 +127,17 @@ module _ (inner : Reader Expr) where
         x ← block
         pure (false, x)) p
 
+  -- behind the condition
+  abbrev pub alternative : Reader (Bool × Expr)
+  alternative = word (codes "else") >> otherwise
+
+  abbrev pub branches : Expr × Comparison × Expr → Reader Expr
+  branches c = do
+    consequent ← block
+    word (codes "else")
+    o ← otherwise
+    pure (e.If c.0 c.1 c.2 consequent o.0 o.1)
+
   unfoldable pub conditional : Reader Expr
   conditional = do
     token (codes "if")
@@ -137,6 +152,18 @@ module _ (inner : Reader Expr) where
     token (codes "/")
     x ← inner
     pure (e.Root x)
+
+  abbrev pub join : Expr → Reader Expr
+  join a = do
+    token (codes "/")
+    b ← inner
+    pure (e.Join a b)
+
+  abbrev pub concat : Expr → Reader Expr
+  concat a = do
+    token (codes "+")
+    b ← inner
+    pure (e.Concat a b)
 
   -- behind the first value
   unfoldable pub tail : Expr → Reader Expr

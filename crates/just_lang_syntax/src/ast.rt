@@ -268,6 +268,23 @@ impl Drop for Argument {
     }
 }
 
+impl Argument {
+    ghost use Rattle.just_lang_syntax.specs.Attributes.{is_key_or};
+
+    /// Whether the argument has this key, with a value or alone.
+    pub fn is_of_key(&self, key: &str) -> bool
+        ensures { result ≡ is_key_or key.now self.now.key self.now.value }
+    {
+        match &self.key {
+            Some(name) => name.text.as_str() == key,
+            None => match &self.value {
+                Expr::Variable(name) => name.text.as_str() == key,
+                _ => false,
+            },
+        }
+    }
+}
+
 /// A recipe as it is written. The comment is the one behind the recipe's line.
 pub struct AstRecipe {
     pub attributes: Seq<Attribute>,

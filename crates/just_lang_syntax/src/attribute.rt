@@ -1,7 +1,7 @@
 //! Attributes: lines of them in brackets, and what may stand behind the name of each.
 ghost use Rattle.std.specs.Prelude.{◌≡◌, ◌++◌, true, false, [], IfOk};
 ghost use Rattle.just_lang_read.specs.Reader.{Reads};
-ghost use Rattle.just_lang_syntax.specs.Attributes.{goes_on, is_keyed, with_comment, has_key, is_key_or, may_cache, may_have};
+ghost use Rattle.just_lang_syntax.specs.Attributes.{goes_on, is_keyed, attribute_of, with_comment, has_key, may_cache, may_have};
 ghost use Rattle.just_lang_syntax.specs.Collected.{ReadsVec};
 ghost use Rattle.just_lang_syntax.specs.ItemReaders as read;
 
@@ -103,31 +103,28 @@ fn attribute(alloc: Global, cursor: &mut Cursor<'_>) -> Result<Attribute, ReadEr
     let form = form_of(name.text.as_str());
     if cursor.begins(b":") {
         let arguments = colon_argument(alloc, cursor, form)?;
-        return Ok(Attribute {
-            name,
-            colon: true,
-            arguments,
-            comment: None,
-        });
+        return Ok(attribute_of(name, true, arguments));
     }
     if cursor.begins(b"(") {
         let arguments = arguments(alloc, cursor, form)?;
-        return Ok(Attribute {
-            name,
-            colon: false,
-            arguments,
-            comment: None,
-        });
+        return Ok(attribute_of(name, false, arguments));
     }
     if !form.may_be_bare() {
         return Err(ReadError::Syntax);
     }
-    Ok(Attribute {
+    Ok(attribute_of(name, false, Seq::new(alloc)))
+}
+
+/// The attribute of these parts. The comment behind its line isn't read yet.
+fn attribute_of(name: Name, colon: bool, arguments: Seq<Argument>) -> Attribute
+    ensures { result ≡ attribute_of name colon arguments }
+{
+    Attribute {
         name,
-        colon: false,
-        arguments: Seq::new(alloc),
+        colon,
+        arguments,
         comment: None,
-    })
+    }
 }
 
 /// A colon and one string.
@@ -416,25 +413,13 @@ fn number(alloc: Global, cursor: &mut Cursor<'_>, key: Name) -> Result<Argument,
 }
 
 /// Whether one of the arguments has this key, with a value or alone.
-fn has_key(arguments: &[Argument], key: &str) -> bool
+pub fn has_key(arguments: &[Argument], key: &str) -> bool
     ensures { result ≡ has_key arguments.now key.now }
 {
     'arguments: for argument in arguments {
-        if is_of_key(argument, key) {
+        if argument.is_of_key(key) {
             return true;
         }
     }
     false
-}
-
-fn is_of_key(argument: &Argument, key: &str) -> bool
-    ensures { result ≡ is_key_or key.now argument.now.key argument.now.value }
-{
-    match &argument.key {
-        Some(name) => name.text.as_str() == key,
-        None => match &argument.value {
-            Expr::Variable(name) => name.text.as_str() == key,
-            _ => false,
-        },
-    }
 }

@@ -1,7 +1,8 @@
 //! The entries of a text: what stands in it line by line, before body lines are gathered into their recipes.
 ghost use Rattle.std.specs.Prelude.{◌≡◌, reverse, IfOk};
 ghost use Rattle.just_lang_read.specs.Reader.{Reads};
-ghost use Rattle.just_lang_syntax.specs.File.{items_of, gather_blank};
+ghost use Rattle.just_lang_syntax.specs.File.{items_of, gather_one, gather_blank};
+ghost use Rattle.just_lang_syntax.specs.declared.entry.Entry.TheVariants as entry;
 ghost use Rattle.just_lang_syntax.specs.ItemReaders as read;
 ghost use Rattle.just_lang_syntax.specs.Room.{may_be_item, most_items};
 
@@ -12,6 +13,7 @@ use super::{AstItem, AstRecipe, Line};
 use just_lang_read::{Blank, Boxed, Cursor, ReadError, blank_line, is_blank_line};
 use just_path_text::{NoMemory, Seq};
 use std::alloc::{AllocError, Global};
+use std::mem;
 
 /// An entry of a text.
 #[derive(Drop)]
@@ -135,16 +137,7 @@ pub fn gather(alloc: Global, mut entries: Vec<Entry>) -> Result<Seq<AstItem>, No
     let mut lines: Vec<Line> = Vec::new(alloc);
     let mut items: Vec<AstItem> = Vec::with_capacity(alloc, most_items(entries.as_slice()))?;
     'entries: while let Some(entry) = entries.pop() {
-        match entry {
-            Entry::Blank(number) => add_blank(alloc, number, &mut lines, &mut items)?,
-            Entry::Item(item) => items.push(item.into_inner())?,
-            Entry::Recipe(recipe) => {
-                let whole = with_body(alloc, recipe, lines)?;
-                items.push(whole)?;
-                lines = Vec::new(alloc);
-            }
-            Entry::Line(line) => lines.push(line)?,
-        }
+        add_entry(alloc, entry, &mut lines, &mut items)?;
     }
     items.reverse();
     Ok(list_of(items))
@@ -165,6 +158,41 @@ fn may_be_item(entry: &Entry) -> bool
         Entry::Blank(_) | Entry::Item(_) | Entry::Recipe(_) => true,
         Entry::Line(_) => false,
     }
+}
+
+/// Adds an entry before those that were gathered: to the lines of a body or to the items, the last one first.
+#[tactic(auto, using(crate::proofs::Gather::reverse_last))]
+fn add_entry(
+    alloc: Global,
+    entry: Entry,
+    lines: &mut Vec<Line>,
+    items: &mut Vec<AstItem>,
+) -> Result<(), NoMemory>
+    ensures { IfOk result (λ u. (reverse lines.new.items, reverse items.new.items)
+        ≡ gather_one entry (reverse lines.old.items) (reverse items.old.items)) }
+{
+    match entry {
+        Entry::Blank(number) => Ok(add_blank(alloc, number, lines, items)?),
+        Entry::Item(item) => Ok(items.push(item.into_inner())?),
+        Entry::Recipe(recipe) => add_recipe(alloc, recipe, lines, items),
+        Entry::Line(line) => Ok(lines.push(line)?),
+    }
+}
+
+/// Adds a recipe to the items, the last one first. The lines of a body are its own, and none are left.
+#[tactic(auto, using(crate::proofs::Gather::reverse_last))]
+fn add_recipe(
+    alloc: Global,
+    recipe: Boxed<AstRecipe>,
+    lines: &mut Vec<Line>,
+    items: &mut Vec<AstItem>,
+) -> Result<(), NoMemory>
+    ensures { IfOk result (λ u. (reverse lines.new.items, reverse items.new.items)
+        ≡ gather_one (entry.Recipe recipe) (reverse lines.old.items) (reverse items.old.items)) }
+{
+    let body = mem::replace(lines, Vec::new(alloc));
+    let whole = with_body(alloc, recipe, body)?;
+    Ok(items.push(whole)?)
 }
 
 /// Adds a blank line: to the lines of a body, the last one first, where there are any, else to the items.

@@ -41,7 +41,7 @@ fn is_call(cursor: &Cursor<'_>) -> bool
 }
 
 /// An expression on the heap, where its drop is one call.
-fn boxed(alloc: Global, inside: Expr) -> Result<Boxed<Expr>, AllocError>
+pub(crate) fn boxed(alloc: Global, inside: Expr) -> Result<Boxed<Expr>, AllocError>
     ensures { IfOk result (λ x. x ≡ inside) }
 {
     Ok(Boxed::new(alloc, inside)?)
@@ -76,14 +76,27 @@ fn inner(alloc: Global, cursor: &mut Cursor<'_>, left: usize) -> Result<Boxed<Ex
     Ok(boxed(alloc, inside)?)
 }
 
+/// A mark, and an expression behind it.
+#[cycle(expr)]
+fn operand(
+    alloc: Global,
+    cursor: &mut Cursor<'_>,
+    left: usize,
+    mark: &[u8],
+) -> Result<Boxed<Expr>, ReadError>
+    ensures { Reads (read.operand (read.inner left) mark.now cursor.old) result cursor.new }
+{
+    token(cursor, mark)?;
+    inner(alloc, cursor, left)
+}
+
 /// `/ EXPR`
 #[cycle(expr)]
 #[tactic(auto, unfolding(crate::specs::Readers::root))]
 fn root(alloc: Global, cursor: &mut Cursor<'_>, left: usize) -> Result<Expr, ReadError>
     ensures { Reads (read.root (read.inner left) cursor.old) result cursor.new }
 {
-    token(cursor, b"/")?;
-    let inside = inner(alloc, cursor, left)?;
+    let inside = operand(alloc, cursor, left, b"/")?;
     Ok(Expr::Root(inside))
 }
 
@@ -95,10 +108,35 @@ fn conditional(alloc: Global, cursor: &mut Cursor<'_>, left: usize) -> Result<Ex
 {
     token(cursor, b"if")?;
     let condition = condition(alloc, cursor, left)?;
+    branches(alloc, cursor, left, condition)
+}
+
+/// What stands behind the condition of an `if`.
+#[cycle(expr)]
+fn branches(
+    alloc: Global,
+    cursor: &mut Cursor<'_>,
+    left: usize,
+    condition: (Boxed<Expr>, Comparison, Boxed<Expr>),
+) -> Result<Expr, ReadError>
+    ensures { Reads (read.branches (read.inner left) condition cursor.old) result cursor.new }
+{
     let consequent = block(alloc, cursor, left)?;
-    word(cursor, b"else")?;
-    let alternative = otherwise(alloc, cursor, left)?;
+    let alternative = alternative(alloc, cursor, left)?;
     Ok(join_if(condition, consequent, alternative))
+}
+
+/// `else`, and what stands behind it.
+#[cycle(expr)]
+fn alternative(
+    alloc: Global,
+    cursor: &mut Cursor<'_>,
+    left: usize,
+) -> Result<(bool, Boxed<Expr>), ReadError>
+    ensures { Reads (read.alternative (read.inner left) cursor.old) result cursor.new }
+{
+    word(cursor, b"else")?;
+    otherwise(alloc, cursor, left)
 }
 
 /// `LEFT == RIGHT` or `LEFT != RIGHT`
@@ -136,8 +174,7 @@ fn comparison(cursor: &mut Cursor<'_>) -> Result<Comparison, ReadError>
 fn block(alloc: Global, cursor: &mut Cursor<'_>, left: usize) -> Result<Boxed<Expr>, ReadError>
     ensures { Reads (read.block (read.inner left) cursor.old) result cursor.new }
 {
-    token(cursor, b"{")?;
-    let inside = inner(alloc, cursor, left)?;
+    let inside = operand(alloc, cursor, left, b"{")?;
     token(cursor, b"}")?;
     Ok(inside)
 }
@@ -208,8 +245,7 @@ pub fn value(alloc: Global, cursor: &mut Cursor<'_>, left: usize) -> Result<Expr
 fn group(alloc: Global, cursor: &mut Cursor<'_>, left: usize) -> Result<Expr, ReadError>
     ensures { Reads (read.group (read.inner left) cursor.old) result cursor.new }
 {
-    token(cursor, b"(")?;
-    let inside = inner(alloc, cursor, left)?;
+    let inside = operand(alloc, cursor, left, b"(")?;
     token(cursor, b")")?;
     Ok(Expr::Group(inside))
 }
@@ -223,8 +259,7 @@ fn env(alloc: Global, cursor: &mut Cursor<'_>, left: usize) -> Result<Expr, Read
     let line = cursor.line();
     let column = cursor.column();
     word(cursor, b"env")?;
-    token(cursor, b"(")?;
-    let key = inner(alloc, cursor, left)?;
+    let key = operand(alloc, cursor, left, b"(")?;
     let default = default(alloc, cursor, left)?;
     token(cursor, b")")?;
     Ok(Expr::Env {
@@ -248,8 +283,7 @@ fn default(
     if !cursor.begins(b",") {
         return Ok(None);
     }
-    token(cursor, b",")?;
-    let inside = inner(alloc, cursor, left)?;
+    let inside = operand(alloc, cursor, left, b",")?;
     Ok(Some(inside))
 }
 
@@ -260,16 +294,35 @@ fn tail(alloc: Global, cursor: &mut Cursor<'_>, left: usize, first: Expr) -> Res
     ensures { Reads (read.tail (read.inner left) first cursor.old) result cursor.new }
 {
     if cursor.begins(b"/") {
-        let first = boxed(alloc, first)?;
-        token(cursor, b"/")?;
-        let second = inner(alloc, cursor, left)?;
-        return Ok(Expr::Join(first, second));
+        return join(alloc, cursor, left, first);
     }
     if cursor.begins(b"+") {
-        let first = boxed(alloc, first)?;
-        token(cursor, b"+")?;
-        let second = inner(alloc, cursor, left)?;
-        return Ok(Expr::Concat(first, second));
+        return concat(alloc, cursor, left, first);
     }
     Ok(first)
+}
+
+/// `/ EXPR` behind a value.
+#[cycle(expr)]
+fn join(alloc: Global, cursor: &mut Cursor<'_>, left: usize, first: Expr) -> Result<Expr, ReadError>
+    ensures { Reads (read.join (read.inner left) first cursor.old) result cursor.new }
+{
+    let first = boxed(alloc, first)?;
+    let second = operand(alloc, cursor, left, b"/")?;
+    Ok(Expr::Join(first, second))
+}
+
+/// `+ EXPR` behind a value.
+#[cycle(expr)]
+fn concat(
+    alloc: Global,
+    cursor: &mut Cursor<'_>,
+    left: usize,
+    first: Expr,
+) -> Result<Expr, ReadError>
+    ensures { Reads (read.concat (read.inner left) first cursor.old) result cursor.new }
+{
+    let first = boxed(alloc, first)?;
+    let second = operand(alloc, cursor, left, b"+")?;
+    Ok(Expr::Concat(first, second))
 }

@@ -1,6 +1,6 @@
 //! What the grammar asks of the attributes, settings and keys that it knows by name.
 ghost use Rattle.std.specs.Prelude.{◌≡◌, map};
-ghost use Rattle.just_lang_syntax.specs.Forms.{form_of, is_one_of, bare_attributes, key_form, is_cache_key, sort_of, flags, is_left_out_setting, is_left_out_attribute};
+ghost use Rattle.just_lang_syntax.specs.Forms.{form_of, is_one_of, attributes, bare_attributes, key_form, is_cache_key, sort_of, settings, flags, is_left_out_setting, is_left_out_attribute};
 
 /// The names of the attributes that have nothing behind them.
 const BARE_ATTRIBUTES: [&str; 17] = [
@@ -55,7 +55,7 @@ const FLAGS: [&str; 17] = [
 ];
 
 /// Whether a name is one of these.
-fn is_one_of(names: &[&str], name: &str) -> bool
+pub fn is_one_of(names: &[&str], name: &str) -> bool
     ensures { result ≡ is_one_of (map (λ n. n.now) names.now) name.now }
 {
     'names: for known in names {
@@ -86,7 +86,18 @@ pub enum Form {
 }
 
 impl Form {
-    ghost use Rattle.just_lang_syntax.specs.Forms.{may_be_bare, has_colon};
+    ghost use Rattle.just_lang_syntax.specs.Forms.{may_be_bare, has_colon, is_known};
+
+    /// Whether the name of the attribute is known, and isn't left out.
+    fn is_known(self) -> bool
+        ensures { result ≡ is_known self }
+    {
+        match self {
+            Form::Bare | Form::MaybeText | Form::Text | Form::Texts | Form::Arg | Form::Cache =>
+                true,
+            Form::Open => false,
+        }
+    }
 
     /// Whether nothing may stand behind the name.
     pub fn may_be_bare(self) -> bool
@@ -128,6 +139,14 @@ pub fn form_of(name: &str) -> Form
     } else {
         Form::Open
     }
+}
+
+/// Whether there is an attribute of that name.
+#[tactic(auto, using(crate::proofs::Listed::attribute_known))]
+pub fn is_attribute(name: &str) -> bool
+    ensures { result ≡ is_one_of attributes name.now }
+{
+    form_of(name).is_known()
 }
 
 /// Whether it is the name of an attribute that has nothing behind it.
@@ -201,6 +220,28 @@ pub enum Sort {
     List,
     /// Any of these: the name isn't known, or is left out.
     Open,
+}
+
+impl Sort {
+    ghost use Rattle.just_lang_syntax.specs.Forms.{is_sorted};
+
+    /// Whether the name of the setting is known, and isn't left out.
+    fn is_sorted(self) -> bool
+        ensures { result ≡ is_sorted self }
+    {
+        match self {
+            Sort::Flag | Sort::Text | Sort::List => true,
+            Sort::Open => false,
+        }
+    }
+}
+
+/// Whether there is a setting of that name.
+#[tactic(auto, using(crate::proofs::Listed::setting_sorted))]
+pub fn is_setting(name: &str) -> bool
+    ensures { result ≡ is_one_of settings name.now }
+{
+    sort_of(name).is_sorted()
 }
 
 /// The sort of the setting with that name.

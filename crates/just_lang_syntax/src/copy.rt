@@ -1,0 +1,124 @@
+//! Copies of names, strings and expressions.
+ghost use Rattle.std.specs.Prelude.{◌≡◌, IfOk};
+
+use super::expr::boxed;
+use super::{Expr, Name, StringLiteral};
+use just_lang_read::Boxed;
+use just_path_text::{NoMemory, TryClone};
+use std::alloc::Global;
+
+impl TryClone for Name {
+    fn try_clone(&self) -> Result<Name, NoMemory> {
+        let text = self.text.try_clone()?;
+        Ok(Name {
+            text,
+            line: self.line,
+            column: self.column,
+        })
+    }
+}
+
+impl TryClone for StringLiteral {
+    fn try_clone(&self) -> Result<StringLiteral, NoMemory> {
+        let raw = self.raw.try_clone()?;
+        Ok(StringLiteral {
+            expands: self.expands,
+            quote: self.quote,
+            raw,
+            line: self.line,
+            column: self.column,
+        })
+    }
+}
+
+/// A copy of an expression.
+#[cycle(copy)]
+pub fn copy_expr(alloc: Global, expr: &Expr) -> Result<Expr, NoMemory>
+    ensures { IfOk result (λ e. e ≡ expr.now) }
+{
+    match expr {
+        Expr::If {
+            left,
+            comparison,
+            right,
+            consequent,
+            chained,
+            alternative,
+        } => {
+            let (left, right) = copied_pair(alloc, left, right)?;
+            let (consequent, alternative) = copied_pair(alloc, consequent, alternative)?;
+            Ok(Expr::If {
+                left,
+                comparison: *comparison,
+                right,
+                consequent,
+                chained: *chained,
+                alternative,
+            })
+        }
+        Expr::Root(inside) => Ok(Expr::Root(copied(alloc, inside)?)),
+        Expr::Join(first, second) => {
+            let (first, second) = copied_pair(alloc, first, second)?;
+            Ok(Expr::Join(first, second))
+        }
+        Expr::Concat(first, second) => {
+            let (first, second) = copied_pair(alloc, first, second)?;
+            Ok(Expr::Concat(first, second))
+        }
+        Expr::Literal(string) => Ok(Expr::Literal(string.try_clone()?)),
+        Expr::Variable(name) => Ok(Expr::Variable(name.try_clone()?)),
+        Expr::Group(inside) => Ok(Expr::Group(copied(alloc, inside)?)),
+        Expr::Env {
+            line,
+            column,
+            key,
+            default,
+        } => {
+            let key = copied(alloc, key)?;
+            let default = copied_default(alloc, default)?;
+            Ok(Expr::Env {
+                line: *line,
+                column: *column,
+                key,
+                default,
+            })
+        }
+    }
+}
+
+/// A copy of an expression on the heap.
+#[cycle(copy)]
+pub fn copied(alloc: Global, expr: &Boxed<Expr>) -> Result<Boxed<Expr>, NoMemory>
+    ensures { IfOk result (λ b. b ≡ expr.now) }
+{
+    let copy = copy_expr(alloc, expr.get())?;
+    Ok(boxed(alloc, copy)?)
+}
+
+/// Copies of two expressions on the heap.
+#[cycle(copy)]
+fn copied_pair(
+    alloc: Global,
+    first: &Boxed<Expr>,
+    second: &Boxed<Expr>,
+) -> Result<(Boxed<Expr>, Boxed<Expr>), NoMemory>
+    ensures { IfOk result (λ pair. pair ≡ (first.now, second.now)) }
+{
+    let first = copied(alloc, first)?;
+    let second = copied(alloc, second)?;
+    Ok((first, second))
+}
+
+/// A copy of the second argument of `env`, where there is one.
+#[cycle(copy)]
+fn copied_default(
+    alloc: Global,
+    default: &Option<Boxed<Expr>>,
+) -> Result<Option<Boxed<Expr>>, NoMemory>
+    ensures { IfOk result (λ d. d ≡ default.now) }
+{
+    match default {
+        None => Ok(None),
+        Some(inside) => Ok(Some(copied(alloc, inside)?)),
+    }
+}
