@@ -14,6 +14,7 @@ use Rattle.just_lang_spots.specs.declared.repeated.Named.{Named}
 use Rattle.just_lang_spots.specs.Spots.{spot_where, earlier, first_spot}
 use Rattle.just_lang_spots.specs.Repeated.{is_among, repeated_behind, repeated, named}
 use Rattle.just_lang_spots.proofs.Spots.{first_behind}
+use Rattle.just_lang_spots.proofs.ListLaws.{map_end}
 
 -- the order of borrowed texts
 abbrev pub text_cmp : Bor (List ℕ) → Bor (List ℕ) → Ordering
@@ -37,12 +38,8 @@ pub sees_more : {S : Type 0} (q k : Bor (List ℕ)) (old new : HashSet (Bor (Lis
     → Updates text_eq old new k true → contains text_eq old q ≡ is_among q.now names → contains text_eq new q ≡ is_among q.now (names ++ k.now ∷ [])
 sees_more q k old new names h same = h.0 q ∙ ap (λ b. cond (bytes_eq k.now q.now) true b) same ∙ among_more q.now k.now names
 
-pub map_push : {X Y : Type 0} (f : X → Y) (xs : List X) (x : X) → map f (xs ++ x ∷ []) ≡ map f xs ++ f x ∷ []
-map_push f [] x = refl
-map_push f (y ∷ xs) x = ap (λ k. f y ∷ k) (map_push f xs x)
-
 pub names_more : {X Y : Type 0} (f : X → Y) (xs : List X) (i : ℕ) (d : X) → i < length xs → map f (take (i + 1) xs) ≡ map f (take i xs) ++ f (get_or xs i d) ∷ []
-names_more f xs i d h = ap (map f) (take_more xs i d h) ∙ map_push f (take i xs) (get_or xs i d)
+names_more f xs i d h = ap (map f) (take_more xs i d h) ∙ map_end f (take i xs) (get_or xs i d)
 
 not_not : (b : Bool) → not (not b) ≡ b
 not_not true = refl

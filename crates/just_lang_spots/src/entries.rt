@@ -1,11 +1,10 @@
 //! The items of a module, each with the number of its file.
-ghost use Rattle.std.specs.Prelude.{◌≡◌, ◌++◌, [], ◌∷◌, if◌then◌else◌, map, filter, IfOk, OnOk, codes};
+ghost use Rattle.std.specs.Prelude.{◌≡◌, ◌++◌, [], ◌∷◌, if◌then◌else◌, map, filter, IfOk, OnOk};
 ghost use Rattle.std.specs.List.{list_any};
-ghost use Rattle.just_lang_syntax.specs.Forms.{is_one_of};
 ghost use Rattle.just_lang_spots.specs.Entries.{entry, entries};
-ghost use Rattle.just_lang_spots.specs.Items.{item_name, these_platforms, other_platforms, has_attribute, is_here, is_recipe_here, is_assignment, is_set_by, sets, is_set};
+ghost use Rattle.just_lang_spots.specs.Items.{item_name, has_attribute, is_here, is_recipe_here, is_assignment, is_set_by, sets, is_set};
 
-use just_lang_syntax::{AstItem, Attribute, SettingValue};
+use just_lang_syntax::{AstItem, Attribute, SettingValue, is_one_of};
 use just_path_text::NoMemory;
 use std::alloc::{AllocError, Global};
 
@@ -31,37 +30,26 @@ pub fn item_name(item: &AstItem) -> &str
     }
 }
 
-fn is_this_platform(name: &str) -> bool
-    ensures { result ≡ is_one_of these_platforms name.now }
-{
-    matches!(name, "linux" | "unix")
-}
+/// The names of the attributes for this platform.
+const THESE_PLATFORMS: [&str; 2] = ["linux", "unix"];
 
-fn is_other_platform(name: &str) -> bool
-    ensures { result ≡ is_one_of other_platforms name.now }
-{
-    matches!(
-        name,
-        "macos" | "windows" | "openbsd" | "freebsd" | "netbsd" | "dragonfly" | "android"
-    )
-}
+/// The names of the attributes for other platforms.
+const OTHER_PLATFORMS: [&str; 7] = [
+    "macos",
+    "windows",
+    "openbsd",
+    "freebsd",
+    "netbsd",
+    "dragonfly",
+    "android",
+];
 
-fn names_this_platform(attributes: &[Attribute]) -> bool
-    ensures { result ≡ has_attribute these_platforms attributes.now }
+/// Whether one of some attributes has one of these names.
+fn has_attribute(names: &[&str], attributes: &[Attribute]) -> bool
+    ensures { result ≡ has_attribute (map (λ n. n.now) names.now) attributes.now }
 {
     'attributes: for attribute in attributes {
-        if is_this_platform(attribute.name.text.as_str()) {
-            return true;
-        }
-    }
-    false
-}
-
-fn names_other_platform(attributes: &[Attribute]) -> bool
-    ensures { result ≡ has_attribute other_platforms attributes.now }
-{
-    'attributes: for attribute in attributes {
-        if is_other_platform(attribute.name.text.as_str()) {
+        if is_one_of(names, attribute.name.text.as_str()) {
             return true;
         }
     }
@@ -72,7 +60,7 @@ fn names_other_platform(attributes: &[Attribute]) -> bool
 pub fn is_here(attributes: &[Attribute]) -> bool
     ensures { result ≡ is_here attributes.now }
 {
-    names_this_platform(attributes) || !names_other_platform(attributes)
+    has_attribute(&THESE_PLATFORMS, attributes) || !has_attribute(&OTHER_PLATFORMS, attributes)
 }
 
 fn is_recipe_here(one: &Entry<'_>) -> bool

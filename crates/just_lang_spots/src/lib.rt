@@ -14,6 +14,7 @@ mod reach;
 mod repeated;
 mod rule;
 mod spot;
+mod steps;
 mod winners;
 
 pub use entries::{Entry, is_here, is_set, item_name, recipe_items, variable_items};
@@ -26,4 +27,5 @@ pub use places::{argument_spot, literal_spot, name_spot};
 pub use repeated::{Named, first_repeated};
 pub use rule::{ModuleRule, Rule, first_among};
 pub use spot::{Spot, earlier, first_of, spot_where};
-pub use winners::{standing, unbeaten};
+pub use steps::push_some;
+pub use winners::{standing, standing_recipes, standing_variables, unbeaten};

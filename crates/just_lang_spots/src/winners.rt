@@ -1,12 +1,12 @@
 //! Which of a module's recipes and variables stand.
-ghost use Rattle.std.specs.Prelude.{◌≡◌, IfOk};
+ghost use Rattle.std.specs.Prelude.{◌≡◌, filter, IfOk};
 ghost use Rattle.std.specs.List.{list_any};
 ghost use Rattle.just_lang_spots.specs.Entries.{entry, entries};
-ghost use Rattle.just_lang_spots.specs.Items.{item_name};
+ghost use Rattle.just_lang_spots.specs.Items.{item_name, is_recipe_here, is_assignment};
 ghost use Rattle.just_lang_spots.specs.Standing.{unbeaten, last_of_each, standing};
 ghost use Rattle.just_lang_spots.specs.Winners.{is_imported, wins_in, has_pair, ArePairs, is_beaten_by};
 
-use super::entries::{Entry, item_name, keep_where};
+use super::entries::{Entry, item_name, keep_where, recipe_items, variable_items};
 use just_path_text::{NoMemory, Seq};
 use std::alloc::Global;
 use std::collections::{BTreeSet, HashSet};
@@ -140,4 +140,28 @@ pub fn standing<'a>(
 {
     let unbeaten = unbeaten(alloc, winners, items)?;
     last_of_each(alloc, unbeaten.as_slice())
+}
+
+/// The recipes among some items that stand.
+pub fn standing_recipes<'a>(
+    alloc: Global,
+    winners: &[Seq<usize>],
+    items: &[Entry<'a>],
+) -> Result<Vec<Entry<'a>>, NoMemory>
+    ensures { IfOk result (λ v. entries v.items ≡ standing item_name (wins_in winners.now) (filter is_recipe_here (entries items.now))) }
+{
+    let recipes = recipe_items(alloc, items)?;
+    standing(alloc, winners, recipes.as_slice())
+}
+
+/// The variables among some items that stand.
+pub fn standing_variables<'a>(
+    alloc: Global,
+    winners: &[Seq<usize>],
+    items: &[Entry<'a>],
+) -> Result<Vec<Entry<'a>>, NoMemory>
+    ensures { IfOk result (λ v. entries v.items ≡ standing item_name (wins_in winners.now) (filter is_assignment (entries items.now))) }
+{
+    let variables = variable_items(alloc, items)?;
+    standing(alloc, winners, variables.as_slice())
 }
