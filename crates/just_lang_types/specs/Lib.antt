@@ -8,4 +8,5 @@ pub mod Modules
 pub mod Names
 pub mod Options
 pub mod References
+pub mod Switches
 pub mod Trees

@@ -19,6 +19,7 @@ mod scope;
 mod script;
 mod settings;
 mod source;
+mod switch;
 mod texts;
 mod unstable_feature;
 
@@ -33,7 +34,7 @@ pub use key::{Key, Value};
 pub use modules::all_modules;
 pub use name::is_recipe_name;
 pub use node::{BodyLine, Closure, Node};
-pub use options::{is_option, names_option};
+pub use options::{is_option, names_option, text_at};
 pub use place::Place;
 pub use position::Position;
 pub use project::{Justfile, LangError};
@@ -43,5 +44,6 @@ pub use scope::{Alias, Assignment, Binding, Disabled, DotenvOf, Level, Override,
 pub use script::{is_script, is_shebang};
 pub use settings::{Interpreter, Settings};
 pub use source::{Source, parse};
+pub use switch::Switch;
 pub use texts::Texts;
 pub use unstable_feature::UnstableFeature;

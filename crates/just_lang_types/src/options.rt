@@ -1,12 +1,10 @@
 //! The parameters that are options.
 ghost use Rattle.std.specs.Prelude.{◌≡◌, IfOk, codes};
-ghost use Rattle.std.specs.List.{list_any};
-ghost use Rattle.just_lang_syntax.specs.Attributes.{is_key_or, has_key};
 ghost use Rattle.just_lang_types.specs.Options.{is_text, is_named_key, has_character, text_at, first_text, names_option, makes_option, is_option_by, is_option};
 
 use super::expr_text::const_text;
 use super::texts::Texts;
-use just_lang_syntax::{Argument, AstParameter, Attribute, Expr, Name};
+use just_lang_syntax::{Argument, AstParameter, Attribute, Name, has_key};
 use just_path_text::{NoMemory, Text};
 use std::alloc::Global;
 
@@ -20,31 +18,7 @@ fn is_text(name: &str, text: &Option<Text>) -> bool
     }
 }
 
-/// Whether the argument has that key, with a value or alone.
-fn is_of_key(key: &str, argument: &Argument) -> bool
-    ensures { result ≡ is_key_or key.now argument.now.key argument.now.value }
-{
-    match &argument.key {
-        Some(name) => name.text.as_str() == key,
-        None => match &argument.value {
-            Expr::Variable(name) => name.text.as_str() == key,
-            _ => false,
-        },
-    }
-}
-
-/// Whether one of the arguments has that key.
-fn has_key(arguments: &[Argument], key: &str) -> bool
-    ensures { result ≡ has_key arguments.now key.now }
-{
-    'arguments: for argument in arguments {
-        if is_of_key(key, argument) {
-            return true;
-        }
-    }
-    false
-}
-
+/// Whether the name is that key.
 fn is_named_key(key: &str, name: &Option<Name>) -> bool
     ensures { result ≡ is_named_key key.now name.now }
 {
@@ -55,7 +29,7 @@ fn is_named_key(key: &str, name: &Option<Name>) -> bool
 }
 
 /// The text of an argument with that key.
-fn text_at<T: Texts>(
+pub fn text_at<T: Texts>(
     alloc: Global,
     texts: &T,
     key: &str,

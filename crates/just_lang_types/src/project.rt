@@ -3,7 +3,9 @@
 ghost use Rattle.std.specs.Prelude.{◌≡◌};
 ghost use Rattle.just_lang_types.specs.declared.project.LangError.TheVariants.{NoMemory as OutOfMemory};
 
-use super::{Alias, Assignment, CompileError, Disabled, Modulepath, Parameter, Recipe, Settings};
+use super::{
+    Alias, Assignment, CompileError, Disabled, Modulepath, Parameter, Recipe, Settings, Switch,
+};
 use just_path::Utf8PathBuf;
 use just_path_text::{NoMemory, Seq, Text};
 use std::alloc::{AllocError, AllocFailed};
@@ -97,26 +99,26 @@ pub enum LangError {
     },
     UnknownOption {
         recipe: Text,
-        switch: Text,
+        switch: Switch,
     },
     InvalidOption {
         argument: Text,
     },
     FlagWithValue {
         recipe: Text,
-        switch: Text,
+        switch: Switch,
     },
     NonFinalOptionWithValue {
         recipe: Text,
-        switch: Text,
+        switch: Switch,
     },
     OptionMissingValue {
         recipe: Text,
-        switch: Text,
+        switch: Switch,
     },
     DuplicateOption {
         recipe: Text,
-        switch: Text,
+        switch: Switch,
     },
     PositionalArgumentCountMismatch {
         recipe: Text,
@@ -126,7 +128,7 @@ pub enum LangError {
     },
     MissingOption {
         recipe: Text,
-        switch: Text,
+        switch: Switch,
     },
     ArgumentTooFewValues {
         recipe: Text,
