@@ -15,7 +15,7 @@ IsWithout c (x ∷ xs) = ((x == c) ≡ false) × IsWithout c xs
 apart : (c x : ℕ) → x ≢ c → (x == c) ≡ false
 apart c x h = grind (arith, nat_tests)
 
-same : (c : ℕ) → (c == c) ≡ true
+pub same : (c : ℕ) → (c == c) ≡ true
 same c = grind (arith, nat_tests)
 
 or_true : (b : Bool) → (b || true) ≡ true

@@ -1,6 +1,7 @@
 -- What the contracts of the crate cite.
 pub mod Table
 pub mod Cuts
+pub mod Paths
 pub mod Forms
 pub mod Kinds
 pub mod Letters
@@ -11,6 +12,5 @@ pub mod Front
 pub mod Variables
 pub mod Rules
 pub mod Arguments
-pub mod ArgumentParts
 pub mod Words
 pub mod Steps

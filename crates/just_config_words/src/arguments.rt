@@ -1,13 +1,13 @@
 //! What the words of the command line and the variables give, option by option.
-ghost use Rattle.std.specs.Prelude.{◌≡◌, ◌&&◌, not, codes, IfOk};
+ghost use Rattle.std.specs.Prelude.{◌≡◌, ◌&&◌, not, codes, flat_map, IfOk, Ok, true};
 ghost use Rattle.std.specs.Option.{option_map};
 ghost use Rattle.std.specs.Int.NonZero.{non_zero_u64_get};
-ghost use Rattle.just_config_words.specs.Occurrences.{is_given, value_in, behind};
-ghost use Rattle.just_config_words.specs.Arguments.{AreArguments, verbosity, jobs_in};
-ghost use Rattle.just_config_words.specs.ArgumentParts.{AreLooks, ArePlaces, AreLists};
+ghost use Rattle.just_config_words.specs.Occurrences.{is_given, value_in, values_in, behind};
+ghost use Rattle.just_config_words.specs.Arguments.{AreArguments, comma, verbosity, jobs_in};
+ghost use Rattle.just_config_words.specs.Cuts.{parts};
 
-use super::argument_parts::{CommandFlags, Lists, Looks, Places, RunFlags};
-use super::occurrence::{behind, is_given, times, value_in};
+use super::cut::add_parts;
+use super::occurrence::{behind, is_given, times, value_in, values_in};
 use super::subcommand::subcommand_in;
 use super::{Occurrence, Subcommand};
 use just_lang_read::decimal;
@@ -142,31 +142,43 @@ fn jobs(filled: &[Occurrence]) -> Option<NonZeroU64>
     NonZeroU64::new(decimal(value_in("jobs", filled)?)?)
 }
 
-/// The looks and the places that options give.
-fn looks_and_places(alloc: Global, filled: &[Occurrence]) -> Result<(Looks, Places), NoMemory>
-    ensures { IfOk result (λ p. AreLooks filled.now p.0 × ArePlaces filled.now p.1) }
+/// The names under which a justfile is looked for.
+fn names(alloc: Global, filled: &[Occurrence]) -> Result<Seq<Text>, NoMemory>
+    ensures { IfOk result
+        (λ v. v ≡ flat_map (parts comma) (values_in (codes "justfile-name") filled.now)) }
 {
-    let looks = Looks::new(alloc, filled)?;
-    match Places::new(alloc, filled) {
-        Ok(places) => Ok((looks, places)),
-        Err(refused) => {
-            drop(looks);
-            Err(refused)
+    let values = values_in(alloc, "justfile-name", filled)?;
+    let mut names = Vec::new(alloc);
+    'values: for value in values.as_slice() {
+        add_parts(alloc, &mut names, value.as_str(), ',')?;
+    }
+    Ok(Seq::from(names))
+}
+
+/// A copy of the option's value. Where memory is wanting it is none, and `is_whole` turns false: who asks for many values
+/// needs no way out behind each.
+fn copied(alloc: Global, name: &str, filled: &[Occurrence], is_whole: &mut bool) -> Option<Text>
+    ensures { (is_whole.new ≡ true)
+        → (is_whole.old ≡ true) × (result ≡ value_in name.now filled.now) }
+{
+    match Text::from_str(alloc, value_in(name, filled)?) {
+        Ok(text) => Some(text),
+        Err(NoMemory) => {
+            *is_whole = false;
+            None
         }
     }
 }
 
-/// The looks, the places and the lists that options give.
-fn values_of(alloc: Global, filled: &[Occurrence]) -> Result<((Looks, Places), Lists), NoMemory>
-    ensures { IfOk result
-        (λ p. AreLooks filled.now p.0.0 × ArePlaces filled.now p.0.1 × AreLists filled.now p.1) }
+/// The texts that were made. Where memory was wanting they are none, and `is_whole` turns false.
+fn made(alloc: Global, texts: Result<Seq<Text>, NoMemory>, is_whole: &mut bool) -> Seq<Text>
+    ensures { (is_whole.new ≡ true) → (is_whole.old ≡ true) × (texts ≡ Ok result) }
 {
-    let front = looks_and_places(alloc, filled)?;
-    match Lists::new(alloc, filled) {
-        Ok(lists) => Ok((front, lists)),
-        Err(refused) => {
-            drop(front);
-            Err(refused)
+    match texts {
+        Ok(texts) => texts,
+        Err(NoMemory) => {
+            *is_whole = false;
+            Seq::from(Vec::new(alloc))
         }
     }
 }
@@ -180,62 +192,78 @@ impl Arguments {
     ) -> Result<Arguments, NoMemory>
         ensures { IfOk result (AreArguments filled.now positional) }
     {
-        let runs = RunFlags::new(filled);
-        let commands = CommandFlags::new(filled);
-        let clears = clears_shell_args(filled);
-        let verbose = verbosity(filled);
-        let most = jobs(filled);
         let subcommand = subcommand_in(filled)?;
-        let values = values_of(alloc, filled)?;
-        let ((looks, places), lists) = values;
-        Ok(Arguments {
-            allow_missing: runs.allow_missing,
-            check: commands.check,
-            clear_shell_args: clears,
-            default_list: commands.default_list,
-            dry_run: runs.dry_run,
-            explain: runs.explain,
-            global_justfile: runs.global_justfile,
-            list_submodules: commands.list_submodules,
-            no_aliases: commands.no_aliases,
-            no_cache: runs.no_cache,
-            no_deps: runs.no_deps,
-            no_dotenv: runs.no_dotenv,
-            one: runs.one,
-            quiet: runs.quiet,
-            shell_command: commands.shell_command,
-            unsorted: commands.unsorted,
-            unstable: runs.unstable,
-            verbose,
-            yes: runs.yes,
-            complete_aliases: commands.complete_aliases,
-            highlight: commands.highlight,
-            no_highlight: commands.no_highlight,
-            alias_style: looks.alias_style,
-            ceiling: places.ceiling,
-            chooser: looks.chooser,
-            dump_format: looks.dump_format,
-            evaluate_format: looks.evaluate_format,
-            indentation: looks.indentation,
-            jobs: most,
-            justfile: places.justfile,
-            list_heading: looks.list_heading,
-            list_prefix: looks.list_prefix,
-            shell: places.shell,
-            tempdir: places.tempdir,
-            working_directory: places.working_directory,
-            color: places.color,
-            command_color: places.command_color,
-            cygpath: places.cygpath,
-            dotenv_command: lists.dotenv_command,
-            dotenv_filename: lists.dotenv_filename,
-            dotenv_path: lists.dotenv_path,
-            group: lists.group,
-            justfile_name: lists.justfile_name,
-            shell_arg: lists.shell_arg,
-            set: lists.set,
+        let mut is_whole = true;
+        let arguments = Arguments {
+            allow_missing: is_given("allow-missing", filled),
+            check: is_given("check", filled),
+            clear_shell_args: clears_shell_args(filled),
+            default_list: is_given("default-list", filled),
+            dry_run: is_given("dry-run", filled),
+            explain: is_given("explain", filled),
+            global_justfile: is_given("global-justfile", filled),
+            list_submodules: is_given("list-submodules", filled),
+            no_aliases: is_given("no-aliases", filled),
+            no_cache: is_given("no-cache", filled),
+            no_deps: is_given("no-deps", filled),
+            no_dotenv: is_given("no-dotenv", filled),
+            one: is_given("one", filled),
+            quiet: is_given("quiet", filled),
+            shell_command: is_given("shell-command", filled),
+            unsorted: is_given("unsorted", filled),
+            unstable: is_given("unstable", filled),
+            verbose: verbosity(filled),
+            yes: is_given("yes", filled),
+            complete_aliases: is_given("complete-aliases", filled),
+            highlight: is_given("highlight", filled),
+            no_highlight: is_given("no-highlight", filled),
+            alias_style: copied(alloc, "alias-style", filled, &mut is_whole),
+            ceiling: copied(alloc, "ceiling", filled, &mut is_whole),
+            chooser: copied(alloc, "chooser", filled, &mut is_whole),
+            dump_format: copied(alloc, "dump-format", filled, &mut is_whole),
+            evaluate_format: copied(alloc, "evaluate-format", filled, &mut is_whole),
+            indentation: copied(alloc, "indentation", filled, &mut is_whole),
+            jobs: jobs(filled),
+            justfile: copied(alloc, "justfile", filled, &mut is_whole),
+            list_heading: copied(alloc, "list-heading", filled, &mut is_whole),
+            list_prefix: copied(alloc, "list-prefix", filled, &mut is_whole),
+            shell: copied(alloc, "shell", filled, &mut is_whole),
+            tempdir: copied(alloc, "tempdir", filled, &mut is_whole),
+            working_directory: copied(alloc, "working-directory", filled, &mut is_whole),
+            color: copied(alloc, "color", filled, &mut is_whole),
+            command_color: copied(alloc, "command-color", filled, &mut is_whole),
+            cygpath: copied(alloc, "cygpath", filled, &mut is_whole),
+            dotenv_command: made(
+                alloc,
+                values_in(alloc, "dotenv-command", filled),
+                &mut is_whole,
+            ),
+            dotenv_filename: made(
+                alloc,
+                values_in(alloc, "dotenv-filename", filled),
+                &mut is_whole,
+            ),
+            dotenv_path: made(
+                alloc,
+                values_in(alloc, "dotenv-path", filled),
+                &mut is_whole,
+            ),
+            group: made(alloc, values_in(alloc, "group", filled), &mut is_whole),
+            justfile_name: made(alloc, names(alloc, filled), &mut is_whole),
+            shell_arg: made(
+                alloc,
+                values_in(alloc, "shell-arg", behind("clear-shell-args", filled)),
+                &mut is_whole,
+            ),
+            set: made(alloc, values_in(alloc, "set", filled), &mut is_whole),
             arguments: positional,
             subcommand,
-        })
+        };
+        if is_whole {
+            Ok(arguments)
+        } else {
+            drop(arguments);
+            Err(NoMemory)
+        }
     }
 }

@@ -1,7 +1,7 @@
-//! The words of the command line: what they ask for, with the variables that fill in what they leave out.
+//! The room of the configuration: the words of the command line, what they ask for, with the variables that fill in what
+//! they leave out.
 #![tactic(auto)]
 
-mod argument_parts;
 mod arguments;
 pub mod cut;
 mod entry;
@@ -11,6 +11,7 @@ mod front;
 mod kind;
 mod mark;
 mod occurrence;
+mod path;
 mod rule;
 mod subcommand;
 mod table;
@@ -23,6 +24,7 @@ use entry::{Entry, Form, Kind, Values};
 pub use mark::add_copies;
 use mark::{Attached, Mark};
 use occurrence::Occurrence;
+pub use path::prefix_of;
 pub use subcommand::Subcommand;
 pub use usage::{Usage, UsageKind};
 pub use words::{Read, meanings_agree, read_words};
