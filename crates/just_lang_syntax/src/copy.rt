@@ -1,5 +1,6 @@
 //! Copies of names, strings and expressions.
 ghost use Rattle.std.specs.Prelude.{◌≡◌, IfOk};
+ghost use Rattle.just_lang_syntax.specs.declared.ast.Expr.TheVariants as variant;
 
 use super::expr::boxed;
 use super::{Expr, Name, StringLiteral};
@@ -45,8 +46,10 @@ pub fn copy_expr(alloc: Global, expr: &Expr) -> Result<Expr, NoMemory>
             chained,
             alternative,
         } => {
-            let (left, right) = copied_pair(alloc, left, right)?;
-            let (consequent, alternative) = copied_pair(alloc, consequent, alternative)?;
+            let left = copied(alloc, left)?;
+            let right = copied(alloc, right)?;
+            let consequent = copied(alloc, consequent)?;
+            let alternative = copied(alloc, alternative)?;
             Ok(Expr::If {
                 left,
                 comparison: *comparison,
@@ -58,11 +61,13 @@ pub fn copy_expr(alloc: Global, expr: &Expr) -> Result<Expr, NoMemory>
         }
         Expr::Root(inside) => Ok(Expr::Root(copied(alloc, inside)?)),
         Expr::Join(first, second) => {
-            let (first, second) = copied_pair(alloc, first, second)?;
+            let first = copied(alloc, first)?;
+            let second = copied(alloc, second)?;
             Ok(Expr::Join(first, second))
         }
         Expr::Concat(first, second) => {
-            let (first, second) = copied_pair(alloc, first, second)?;
+            let first = copied(alloc, first)?;
+            let second = copied(alloc, second)?;
             Ok(Expr::Concat(first, second))
         }
         Expr::Literal(string) => Ok(Expr::Literal(string.try_clone()?)),
@@ -75,13 +80,13 @@ pub fn copy_expr(alloc: Global, expr: &Expr) -> Result<Expr, NoMemory>
             default,
         } => {
             let key = copied(alloc, key)?;
-            let default = copied_default(alloc, default)?;
-            Ok(Expr::Env {
-                line: *line,
-                column: *column,
-                key,
-                default,
-            })
+            match default {
+                None => Ok(env_of(*line, *column, key, None)),
+                Some(default) => {
+                    let default = copied(alloc, default)?;
+                    Ok(env_of(*line, *column, key, Some(default)))
+                }
+            }
         }
     }
 }
@@ -95,30 +100,14 @@ pub fn copied(alloc: Global, expr: &Boxed<Expr>) -> Result<Boxed<Expr>, NoMemory
     Ok(boxed(alloc, copy)?)
 }
 
-/// Copies of two expressions on the heap.
-#[cycle(copy)]
-fn copied_pair(
-    alloc: Global,
-    first: &Boxed<Expr>,
-    second: &Boxed<Expr>,
-) -> Result<(Boxed<Expr>, Boxed<Expr>), NoMemory>
-    ensures { IfOk result (λ pair. pair ≡ (first.now, second.now)) }
+/// The call of `env` at that place.
+fn env_of(line: usize, column: usize, key: Boxed<Expr>, default: Option<Boxed<Expr>>) -> Expr
+    ensures { result ≡ variant.Env line column key default }
 {
-    let first = copied(alloc, first)?;
-    let second = copied(alloc, second)?;
-    Ok((first, second))
-}
-
-/// A copy of the second argument of `env`, where there is one.
-#[cycle(copy)]
-fn copied_default(
-    alloc: Global,
-    default: &Option<Boxed<Expr>>,
-) -> Result<Option<Boxed<Expr>>, NoMemory>
-    ensures { IfOk result (λ d. d ≡ default.now) }
-{
-    match default {
-        None => Ok(None),
-        Some(inside) => Ok(Some(copied(alloc, inside)?)),
+    Expr::Env {
+        line,
+        column,
+        key,
+        default,
     }
 }
