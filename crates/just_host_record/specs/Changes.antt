@@ -15,7 +15,7 @@ use Rattle.just_host_record.specs.World.{World, view_of}
 
 -- a world with another tree
 abbrev pub with_tree : World → Tree → World
-with_tree w tree = record { tree = tree; current = w.current; environ = w.environ; input = w.input }
+with_tree w tree = record { tree = tree; current = w.current; environ = w.environ; input = w.input; harmless = w.harmless }
 
 -- the folder that a place is in; the root is in itself
 abbrev pub folder_of : List ℕ → List ℕ

@@ -1,5 +1,6 @@
--- The world that a host may tell: its files, environment, current folder and standard input.
-use Rattle.std.specs.Prelude.{ℕ, ◌≡◌, nat_lt, if◌then◌else◌, List, length, Option, Some, None, Result, Ok, Err, MatchOption, string_bytes}
+-- The world that a host may tell: its files, environment, current folder and standard input, and which children
+-- leave the files alone.
+use Rattle.std.specs.Prelude.{ℕ, ◌≡◌, nat_lt, if◌then◌else◌, Bool, true, List, length, Option, Some, None, Result, Ok, Err, MatchOption, string_bytes}
 use Rattle.std.specs.FinMap as map
 use Rattle.std.specs.Str.{is_utf8}
 use Rattle.std.specs.declared.string.String.{String}
@@ -9,6 +10,7 @@ use Rattle.just_path.specs.declared.host.Miss.{Miss}
 use Rattle.just_path.specs.declared.host.Miss.TheVariants as miss
 use Rattle.just_host_record.specs.declared.entry.HostFault.{HostFault}
 use Rattle.just_host_record.specs.declared.entry.HostFault.TheVariants as fault
+use Rattle.just_host_record.specs.declared.entry.Spec.{Spec}
 use Rattle.just_host_record.specs.declared.outside.TheConstants.{MAX_BYTES}
 use Rattle.just_host_record.specs.declared.tree.Thing.{Thing}
 use Rattle.just_host_record.specs.declared.tree.Thing.TheVariants as thing
@@ -19,6 +21,8 @@ pub record World : Type 0 where
   pub current : List ℕ
   pub environ : List (List ℕ × List ℕ)
   pub input : List ℕ
+  -- whether a child of that spec leaves the files alone where it is run to its end for what it prints
+  pub harmless : Spec → Bool
 
 -- a world as its paths see it
 abbrev pub view_of : World → View
@@ -53,9 +57,19 @@ ReadTells None path result = Unit {0}
 ReadTells (Some w) path (Ok s) = told_read w path ≡ Ok (string_bytes s)
 ReadTells (Some w) path (Err e) = ReadShows w path e
 
--- a call that may have changed the files, and nothing else of the world. A world that isn't told stays untold
+-- a child that leaves the files alone in the first world does so in the second
+abbrev pub StayHarmless : World → World → Type 0
+StayHarmless v w = (spec : Spec) → v.harmless spec ≡ true → w.harmless spec ≡ true
+
+-- A call that may have changed the files, and nothing else of the world; no child that leaves them alone does harm
+-- behind it. A world that isn't told stays untold.
 abbrev pub Touched : Option World → Option World → Type 0
-Touched old new = MatchOption new (Unit {0}) (λ w. (v : World) × (old ≡ Some v) × (w.current ≡ v.current) × (w.environ ≡ v.environ) × (w.input ≡ v.input))
+Touched old new = MatchOption new (Unit {0}) (λ w. (v : World) × (old ≡ Some v) × (w.current ≡ v.current)
+    × (w.environ ≡ v.environ) × (w.input ≡ v.input) × StayHarmless v w)
+
+-- a child that leaves the files alone leaves a told world as it is
+abbrev pub LeftAlone : Option World → Option World → Spec → Type 0
+LeftAlone old new spec = MatchOption old (Unit {0}) (λ w. w.harmless spec ≡ true → new ≡ old)
 
 abbrev pub FaultLeaves : Option World → Option World → HostFault → Type 0
 FaultLeaves old new (fault.Missed m) = new ≡ old

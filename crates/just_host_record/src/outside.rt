@@ -6,7 +6,7 @@ ghost use Rattle.just_host_record.specs.declared.entry.Entry.{Entry};
 ghost use Rattle.just_host_record.specs.declared.entry.Status.{Status};
 ghost use Rattle.just_host_record.specs.declared.outside.TheConstants.{MAX_BYTES};
 ghost use Rattle.just_host_record.specs.Record.{gained, IsOwn, NeverMissed, noted, children, faults_of, misses_of, settled_entry, settled_answer, text_or_empty, script_folder, IsStartFault, IsCaptureFault};
-ghost use Rattle.just_host_record.specs.World.{World, view_of, ReadTells, Touched, Leaves};
+ghost use Rattle.just_host_record.specs.World.{World, view_of, ReadTells, Touched, Leaves, LeftAlone};
 ghost use Rattle.just_host_record.specs.Changes.{place_written, written, with_cache_entry, IsOfEntry, Changes};
 ghost use Rattle.just_host_record.specs.Folders.{TempTells, Removes};
 ghost use Rattle.just_host_record.specs.NewFolders.{with_folder, IsOfFolder};
@@ -156,12 +156,13 @@ pub trait Host: PathHost {
         ensures spare { spare self.new ≡ spare self.old };
 
     /// Runs a child to its end, feeds it these bytes, and answers how it ended and what it printed. A child that stops reading is no fault. An
-    /// output beyond `MAX_BYTES` is a miss, with the program as its path.
+    /// output beyond `MAX_BYTES` is a miss, with the program as its path. A told world tells which children leave the files alone.
     fn capture(&mut self, spec: &Spec, input: &[u8]) -> Result<(Status, Vec<u8>), HostFault>
         ensures entries { entries self.new ≡ entries self.old ++ gained spec.now.program (λ r. Entry.Captured spec.now input.now r.0 r.1.items ∷ []) result }
         ensures limit { IfOk result (λ r. length r.1.items ≤ MAX_BYTES) }
         ensures fault { IsCaptureFault input.now result }
         ensures leaves { Leaves (world self.old) (world self.new) result }
+        ensures alone { LeftAlone (world self.old) (world self.new) spec.now }
         ensures spare { spare self.new ≡ spare self.old };
 
     /// Starts a child. Its number is the number of children that were started before. A miss is that of the folder or the file of its script.
