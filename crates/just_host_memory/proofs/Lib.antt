@@ -4,4 +4,5 @@ pub mod Lookups
 pub mod Behind
 pub mod Below
 pub mod Endings
+pub mod Harmless
 pub mod Climbs

@@ -1,6 +1,6 @@
 -- How a child over a host in memory is played: its word, its ending, and what its effects make of the files.
-use Rattle.std.specs.Prelude.{ℕ, ◌+◌, ◌≡◌, ◌++◌, nat_lt, if◌then◌else◌, List, [], ◌∷◌, map, Option, Some, None, pos}
-use Rattle.std.specs.List.{find, flat_map, remove, position_or_len}
+use Rattle.std.specs.Prelude.{ℕ, ◌+◌, ◌≡◌, ◌++◌, nat_lt, Bool, true, false, not, ◌||◌, if◌then◌else◌, List, [], ◌∷◌, map, Option, Some, None, pos}
+use Rattle.std.specs.List.{find, flat_map, list_all, remove, position_or_len}
 use Rattle.std.specs.FinMap as maps
 use Rattle.std.specs.Str.{bytes_eq}
 use Rattle.just_host_record.specs.declared.entry.Script.{Script}
@@ -29,6 +29,18 @@ word_of spec = word_or spec.arguments spec.script
 -- the first ending of a word
 abbrev pub ending_of : List ℕ → List Ending → Option Ending
 ending_of word endings = find (λ e. bytes_eq e.word word) endings
+
+abbrev pub are_none : List (List ℕ × Option Thing) → Bool
+are_none [] = true
+are_none (e ∷ es) = false
+
+-- whether an ending is of another word, or has no effects
+abbrev pub does_nothing : List ℕ → Ending → Bool
+does_nothing word e = not (bytes_eq e.word word) || are_none e.effects.items
+
+-- whether no child of a word has effects, whichever of the endings it has
+abbrev pub leave_alone : List Ending → List ℕ → Bool
+leave_alone endings word = list_all (does_nothing word) endings
 
 -- the endings but for that one
 abbrev pub others : List ℕ → List Ending → List Ending

@@ -1,5 +1,5 @@
 -- What a tree in memory is, and what its answers show.
-use Rattle.std.specs.Prelude.{ℕ, ◌≡◌, List, [], ◌∷◌, Result, Ok, Err}
+use Rattle.std.specs.Prelude.{ℕ, ◌≡◌, List, [], ◌∷◌, Result, Ok, Err, true}
 use Rattle.std.specs.FinMap as map
 use Rattle.just_path.specs.View.{View}
 use Rattle.just_path.specs.declared.host.Miss.{Miss}
@@ -32,7 +32,7 @@ ShowsPlace told result = Shows (λ p. p.path) told result
 
 -- a world of which only its files and its current folder matter
 abbrev pub world_from : List ℕ → Tree → World
-world_from folder tree = record { tree = tree; current = folder; environ = []; input = [] }
+world_from folder tree = record { tree = tree; current = folder; environ = []; input = []; harmless = λ spec. true }
 
 -- a tree after a call is the one that is told, and a miss the one that is told
 abbrev pub ShowsTree : {A : Type 0} → Result Tree Miss → Tree → Result A TreeFault → Type 0
