@@ -24,6 +24,6 @@ pub use just_path_text::{NoMemory, Text};
 pub use list::List;
 pub use ordinals::ordinal;
 pub use range::{DisplayRange, display};
-pub use usage::{Usage, UsageParameter};
+pub use usage::{Usage, UsageParameter, has_options, is_option, is_optional, is_variadic};
 pub use whitespace::ShowWhitespace;
 pub use whole::print;

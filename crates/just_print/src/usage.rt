@@ -23,15 +23,15 @@ pub struct UsageParameter<'a> {
     pub parameter: &'a Parameter,
 }
 
-/// Whether a parameter is an option.
-fn is_option(parameter: &Parameter) -> bool
+/// Whether a parameter is an option: it has a name for switches, and no positional word is its.
+pub fn is_option(parameter: &Parameter) -> bool
     ensures { result ≡ is_option parameter.now }
 {
     parameter.long.is_some() || parameter.short.is_some()
 }
 
 /// Whether a parameter takes several values.
-fn is_variadic(kind: ParameterKind) -> bool
+pub fn is_variadic(kind: ParameterKind) -> bool
     ensures { result ≡ is_variadic kind }
 {
     match kind {
@@ -41,7 +41,7 @@ fn is_variadic(kind: ParameterKind) -> bool
 }
 
 /// Whether a parameter may be left out.
-fn is_optional(parameter: &Parameter) -> bool
+pub fn is_optional(parameter: &Parameter) -> bool
     ensures { result ≡ is_optional parameter.now }
 {
     parameter.default.is_some() || parameter.kind == ParameterKind::Star
@@ -79,7 +79,7 @@ impl<'a> fmt::Display for Usage<'a> {
 }
 
 /// Whether one of the parameters is an option.
-fn has_options(parameters: &[Parameter]) -> bool
+pub fn has_options(parameters: &[Parameter]) -> bool
     ensures { result ≡ has_options parameters.now }
 {
     parameters.iter().any(is_option)
