@@ -2,16 +2,9 @@
 
 ghost use Rattle.std.specs.Prelude.{◌≡◌, IfOk};
 
-use just_lang_types::{Key, Modulepath};
+use just_lang_types::Key;
 use just_path_text::{NoMemory, Seq, TryClone};
 use std::alloc::Global;
-
-/// A copy of a path, with room for just its components.
-pub fn copy_of_path(_alloc: Global, path: &Modulepath) -> Result<Modulepath, NoMemory>
-    ensures { IfOk result (λ copy. copy ≡ path.now) }
-{
-    path.try_clone()
-}
 
 /// Copies of keys, with room for just these.
 pub(crate) fn copy_of_keys(alloc: Global, keys: &[Key]) -> Result<Seq<Key>, NoMemory>

@@ -64,7 +64,7 @@ fn value_from(
 
 /// The values of a recipe's parameters, of which each is given that or nothing.
 #[tactic(auto, using(crate::proofs::GivenValues::value_more, crate::proofs::GivenValues::value_refused, crate::proofs::GivenValues::no_parameter, crate::proofs::GivenValues::nothing_given))]
-pub(crate) fn values_given(
+pub fn values_given(
     alloc: Global,
     scopes: &Scopes,
     to: &Entry<'_>,

@@ -4,9 +4,9 @@ ghost use Rattle.std.specs.Prelude.{◌≡◌, IfOk, OnOk};
 ghost use Rattle.just_eval_closure.specs.Entries.{indexed, Enters, AreFirst};
 
 use super::entry::{Entry, Index};
-use crate::{copy_of_path, path_mark};
+use crate::path_mark;
 use just_lang_types::Modulepath;
-use just_path_text::NoMemory;
+use just_path_text::{NoMemory, TryClone};
 use std::alloc::Global;
 use std::collections::{BTreeMap, HashMap};
 
@@ -25,7 +25,7 @@ impl<'p> Index<'p> {
 
     /// Enters a recipe under its path, where the path is new.
     #[tactic(auto, using(crate::proofs::EntryLists::entered_before))]
-    fn enter(&mut self, alloc: Global, entry: &Entry<'p>) -> Result<(), NoMemory>
+    fn enter(&mut self, entry: &Entry<'p>) -> Result<(), NoMemory>
         ensures { OnOk result (Enters self.old entry.now self.new) }
     {
         let path = &entry.recipe.path;
@@ -34,7 +34,7 @@ impl<'p> Index<'p> {
         }
         let mark = path_mark(path);
         if self.firsts.contains_key(&mark) {
-            self.others.insert(copy_of_path(alloc, path)?, *entry)?;
+            self.others.insert(path.try_clone()?, *entry)?;
             return Ok(());
         }
         self.firsts.insert(mark, *entry)?;
@@ -52,7 +52,7 @@ pub(crate) fn index_of<'p>(alloc: Global, all: &[Entry<'p>]) -> Result<Index<'p>
         others: BTreeMap::new(alloc),
     };
     'entries: for entry in all {
-        index.enter(alloc, entry)?;
+        index.enter(entry)?;
     }
     Ok(index)
 }

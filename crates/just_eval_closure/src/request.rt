@@ -12,19 +12,27 @@ use super::entries::entries;
 use super::entry::{Entry, Index};
 use super::given::values_given;
 use super::index::index_of;
-use crate::copy_of_path;
 use just_lang_types::project::{Justfile, LangError};
 use just_lang_types::{Dependency, Key, Modulepath, Scopes, Value, all_modules};
-use just_path_text::{NoMemory, Seq};
+use just_path_text::{NoMemory, Seq, TryClone};
 use std::alloc::Global;
 
 /// A project with the scopes of its modules. Looking a recipe up takes the logarithm of their number.
-#[derive(Drop)]
 pub struct Request<'p> {
     pub modules: Vec<&'p Justfile>,
     pub scopes: &'p Scopes,
     /// The first recipe of each path.
     pub entries: Index<'p>,
+}
+
+impl Drop for Request<'_> {
+    fn drop(self) {
+        let Request {
+            modules: _,
+            scopes: _,
+            entries: _,
+        } = self;
+    }
 }
 
 impl<'p> Request<'p> {
@@ -71,7 +79,7 @@ impl<'p> Request<'p> {
     {
         let exprs = dependency.arguments.as_slice();
         let given = arguments(alloc, self.scopes, from, values, exprs)?;
-        let recipe = copy_of_path(alloc, &dependency.path)?;
+        let recipe = dependency.path.try_clone()?;
         let Some(to) = self.entry(&dependency.path) else {
             return Ok(Key {
                 recipe,

@@ -10,7 +10,7 @@ returns-then-contains_key c =
     let m = c.args.self.now in
     let e = c.args.entry.now in
     let new : is_some (indexed m e.recipe.now.path) ≡ false = search rules in
-    entered_other m (record { firsts = m.firsts; others = c.insert.new.self }) e c.in_ok-copy_of_path.field-0 c.in_ok-copy_of_path.ensures new refl c.in_ok-insert.ensures.updates
+    entered_other m (record { firsts = m.firsts; others = c.insert.new.self }) e c.in_ok-try_clone.field-0 c.in_ok-try_clone.ensures new refl c.in_ok-insert.ensures.updates
 
 pub returns : goal.returns
 returns c =
