@@ -92,10 +92,10 @@ pub fn text_in_recipe(
 }
 
 /// A value of one text.
-pub(crate) fn value_of_text(alloc: Global, text: Text) -> Result<Value, NoMemory>
-    ensures { IfOk result (λ v. v ≡ value_of_text text) }
+pub fn value_of_text(alloc: Global, text: Text) -> Result<Value, NoMemory>
+    ensures { IfOk result (λ value. value ≡ value_of_text text) }
 {
-    let mut elements = Vec::new(alloc);
+    let mut elements = Vec::with_capacity(alloc, 1)?;
     elements.push(text)?;
     Ok(Value {
         elements: Seq::from(elements),

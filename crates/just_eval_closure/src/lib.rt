@@ -19,7 +19,7 @@ mod request;
 mod scope;
 mod walk;
 
-pub use argument::text_in_recipe;
+pub use argument::{text_in_recipe, value_of_text};
 pub use around::dependencies;
 pub use closing::{closure, closure_within};
 pub use entries::levels;
