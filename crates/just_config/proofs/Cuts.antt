@@ -1,42 +1,13 @@
 -- What a text is cut into at the last one of a character.
-use Rattle.std.proofs.Common.{◌≡◌, ◌≢◌, ℕ, suc, ◌<◌, ◌≤◌, ◌+◌, ◌++◌, ◌==◌, ◌||◌, Bool, true, false, List, [], ◌∷◌, refl, sym, ◌∙◌, ap, subst, length, take, drop, get_or, arith, Bor, Option}
+use Rattle.std.proofs.Common.{◌≡◌, ℕ, ◌≤◌, ◌+◌, ◌++◌, true, false, List, [], ◌∷◌, refl, sym, ◌∙◌, ap, subst, length, take, drop, Bor, Option}
 use Rattle.std.specs.Prelude.{Some, None}
 use Rattle.std.specs.Str.Pattern.{RFindsChar}
 use Rattle.std.specs.Option.{MatchOption}
-use Rattle.std.proofs.lemmas.Bool.Decides.{nat_tests}
 use Rattle.std.proofs.lemmas.List.{take-append-drop}
 use Rattle.std.proofs.lemmas.Str.Pattern.{NoCharPasses-char, drop_at_char}
 use Rattle.just_config_words.specs.Cuts.{holds}
+use Rattle.just_config_words.proofs.Cuts.{IsWithout, same, is_without, holds_none, holds_it}
 use Rattle.just_config.specs.Cuts.{up_to_last, behind_last}
-
--- the character stands at no place of a text
-abbrev pub IsWithout : ℕ → List ℕ → Type 0
-IsWithout c [] = Unit {0}
-IsWithout c (x ∷ xs) = ((x == c) ≡ false) × IsWithout c xs
-
-apart : (c x : ℕ) → x ≢ c → (x == c) ≡ false
-apart c x h = grind (arith, nat_tests)
-
-same : (c : ℕ) → (c == c) ≡ true
-same c = grind (arith, nat_tests)
-
-or_true : (b : Bool) → (b || true) ≡ true
-or_true true = refl
-or_true false = refl
-
-pub is_without : (c : ℕ) (xs : List ℕ) → ((i : ℕ) → i < length xs → get_or xs i 0 ≢ c) → IsWithout c xs
-is_without c [] h = tt
-is_without c (x ∷ xs) h = (apart c x (h 0 (omega arith)), is_without c xs (λ i l. h (suc i) (omega (arith, l))))
-
--- a text without the character
-pub holds_none : (c : ℕ) (xs : List ℕ) → IsWithout c xs → holds c xs ≡ false
-holds_none c [] h = refl
-holds_none c (x ∷ xs) h = let e = h.0 in rw e (holds_none c xs h.1)
-
--- and one with it
-pub holds_it : (c : ℕ) (xs ys : List ℕ) → holds c (xs ++ (c ∷ ys)) ≡ true
-holds_it c [] ys = let e = same c in rw e refl
-holds_it c (x ∷ xs) ys = ap (λ b. (x == c) || b) (holds_it c xs ys) ∙ or_true (x == c)
 
 pub up_to_it : (c : ℕ) (xs ys : List ℕ) → IsWithout c ys → up_to_last c (xs ++ (c ∷ ys)) ≡ xs ++ (c ∷ [])
 up_to_it c [] ys h = let e = same c in let f = holds_none c ys h in rw f (rw e refl)

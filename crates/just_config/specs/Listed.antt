@@ -5,6 +5,7 @@ use Rattle.std.specs.Ordering.{nat_cmp, ordering_then}
 use Rattle.std.specs.Cmp.Lexicographic.{slice_cmp}
 use Rattle.std.specs.BTreeMap.{insert_entry}
 use Rattle.just_lang_types.specs.declared.scope.Override.{Override}
+use Rattle.just_config_words.specs.Paths.{prefix_of}
 
 -- the order of variables: by module path, and then by name
 abbrev pub variable_cmp : List (List ℕ) × List ℕ → List (List ℕ) × List ℕ → Ordering
@@ -14,11 +15,6 @@ variable_cmp x y = ordering_then (slice_cmp (slice_cmp nat_cmp) x.0 y.0) (slice_
 abbrev pub set_all : List ((List (List ℕ) × List ℕ) × List ℕ) → List Override → List ((List (List ℕ) × List ℕ) × List ℕ)
 set_all values [] = values
 set_all values (o ∷ os) = set_all (insert_entry variable_cmp values (o.«module».components, o.name) o.value) os
-
--- each module of a path with `::` behind it
-abbrev pub prefix_of : List (List ℕ) → List ℕ
-prefix_of [] = []
-prefix_of (n ∷ ns) = n ++ (codes "::" ++ prefix_of ns)
 
 -- a variable with its value: `module::name=value`
 abbrev pub entry_text : (List (List ℕ) × List ℕ) × List ℕ → List ℕ

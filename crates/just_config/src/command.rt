@@ -39,17 +39,7 @@ pub(crate) fn path_words(subcommand: &Subcommand) -> Option<&Seq<Text>>
         | Subcommand::List(words)
         | Subcommand::Show(words)
         | Subcommand::Usage(words) => Some(words),
-        Subcommand::Choose(_)
-        | Subcommand::Command(_)
-        | Subcommand::Dump(_)
-        | Subcommand::Edit(_)
-        | Subcommand::Evaluate(_)
-        | Subcommand::Fmt(_)
-        | Subcommand::Groups(_)
-        | Subcommand::Init(_)
-        | Subcommand::Request(_)
-        | Subcommand::Summary(_)
-        | Subcommand::Variables(_) => None,
+        _ => None,
     }
 }
 
@@ -59,20 +49,7 @@ pub(crate) fn is_empty_command(subcommand: &Subcommand) -> bool
 {
     match subcommand {
         Subcommand::Command(words) => words.is_empty(),
-        Subcommand::Choose(_)
-        | Subcommand::Clean(_)
-        | Subcommand::Dump(_)
-        | Subcommand::Edit(_)
-        | Subcommand::Evaluate(_)
-        | Subcommand::Fmt(_)
-        | Subcommand::Groups(_)
-        | Subcommand::Init(_)
-        | Subcommand::List(_)
-        | Subcommand::Request(_)
-        | Subcommand::Show(_)
-        | Subcommand::Summary(_)
-        | Subcommand::Usage(_)
-        | Subcommand::Variables(_) => false,
+        _ => false,
     }
 }
 
@@ -108,20 +85,7 @@ pub(crate) fn request_words(subcommand: &Subcommand) -> Option<&Seq<Text>>
 {
     match subcommand {
         Subcommand::Request(words) => Some(words),
-        Subcommand::Choose(_)
-        | Subcommand::Clean(_)
-        | Subcommand::Command(_)
-        | Subcommand::Dump(_)
-        | Subcommand::Edit(_)
-        | Subcommand::Evaluate(_)
-        | Subcommand::Fmt(_)
-        | Subcommand::Groups(_)
-        | Subcommand::Init(_)
-        | Subcommand::List(_)
-        | Subcommand::Show(_)
-        | Subcommand::Summary(_)
-        | Subcommand::Usage(_)
-        | Subcommand::Variables(_) => None,
+        _ => None,
     }
 }
 

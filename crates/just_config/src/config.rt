@@ -13,7 +13,6 @@ use std::alloc::Global;
 use std::num::NonZeroU64;
 
 /// What a run is asked to do, and how: the fields of [`Arguments`], and what follows from them.
-#[derive(Drop)]
 pub struct Config {
     /// Whether unknown recipes and modules are passed over.
     pub allow_missing: bool,
@@ -117,6 +116,64 @@ pub struct Config {
     pub verbosity: Verbosity,
     /// The folder in which the program was called.
     pub invocation_directory: Utf8PathBuf,
+}
+
+impl Drop for Config {
+    fn drop(self) {
+        let Config {
+            allow_missing: _,
+            check: _,
+            clear_shell_args: _,
+            default_list: _,
+            dry_run: _,
+            explain: _,
+            global_justfile: _,
+            list_submodules: _,
+            no_aliases: _,
+            no_cache: _,
+            no_deps: _,
+            no_dotenv: _,
+            one: _,
+            quiet: _,
+            shell_command: _,
+            unsorted: _,
+            unstable: _,
+            verbose: _,
+            yes: _,
+            complete_aliases: _,
+            highlight: _,
+            no_highlight: _,
+            alias_style: _,
+            ceiling: _,
+            chooser: _,
+            dump_format: _,
+            evaluate_format: _,
+            indentation: _,
+            jobs: _,
+            justfile: _,
+            list_heading: _,
+            list_prefix: _,
+            shell: _,
+            tempdir: _,
+            working_directory: _,
+            color: _,
+            command_color: _,
+            cygpath: _,
+            dotenv_command: _,
+            dotenv_filename: _,
+            dotenv_path: _,
+            group: _,
+            justfile_name: _,
+            shell_arg: _,
+            set: _,
+            arguments: _,
+            subcommand: _,
+            search_config: _,
+            overrides: _,
+            verbosity: _,
+            invocation_directory: _,
+        } = self;
+    }
 }
 
 /// The path of a text, where there is one.

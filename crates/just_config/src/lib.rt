@@ -1,4 +1,4 @@
-//! The room of the command line: what its words mean, and the configuration that they give.
+//! The room of the configuration: what the words of the command line mean, and the configuration that they give.
 //!
 //! [`read_words`] reads the words, by the crate `just_config_words`, and [`Config::from_arguments`] judges what they ask for.
 #![tactic(auto)]

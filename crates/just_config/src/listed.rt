@@ -1,8 +1,9 @@
 //! Overrides as a list in prose has them.
-ghost use Rattle.std.specs.Prelude.{◌≡◌, ◌++◌, [], map, codes, string_bytes, IfOk, OnOk};
+ghost use Rattle.std.specs.Prelude.{◌≡◌, [], map, IfOk, OnOk};
 ghost use Rattle.std.specs.BTreeMap.{insert_entry};
-ghost use Rattle.just_config.specs.Listed.{set_all, variable_cmp, prefix_of, entry_text, listed};
+ghost use Rattle.just_config.specs.Listed.{set_all, variable_cmp, entry_text, listed};
 
+use just_config_words::prefix_of;
 use just_lang_types::Override;
 use just_path_text::{NoMemory, Seq, Text};
 use std::alloc::Global;
@@ -29,18 +30,6 @@ fn values_of(alloc: Global, overrides: &[Override]) -> Result<BTreeMap<Variable,
         set(&mut values, one)?;
     }
     Ok(values)
-}
-
-/// The modules of a path, each with `::` behind it.
-fn prefix_of(alloc: Global, path: &[Text]) -> Result<String, NoMemory>
-    ensures { IfOk result (λ text. string_bytes text ≡ prefix_of path.now) }
-{
-    let mut text = String::new(alloc);
-    'path: for component in path {
-        text.push_str(component.as_str())?;
-        text.push_str("::")?;
-    }
-    Ok(text)
 }
 
 /// A variable with its value.
