@@ -12,6 +12,7 @@ use Rattle.just_lang_types.specs.declared.scope.Override.{Override}
 use Rattle.just_lang_types.specs.declared.project.Justfile.{Justfile}
 use Rattle.just_lang_types.specs.Keys.{same_path}
 use Rattle.just_eval_closure.specs.Numbers.{text_cmp, path_cmp}
+use Rattle.just_config_words.specs.Paths.{prefix_of}
 use Rattle.just_lang_types.specs.Modules.{path_of, assignments_of}
 
 -- a variable of a project: the path of its module, and its name
@@ -59,11 +60,6 @@ variable_cmp v w = ordering_then (path_cmp v.0 w.0) (text_cmp v.1 w.1)
 pub record AreUnknown (modules : List Justfile) (overrides : List Override) (variables : List Variable) : Type 0 where
   pub which : (v : Variable) → Contains variables v ↔ ((is_overridden overrides v ≡ true) × (is_assigned modules v ≡ false))
   pub ordered : IsStrictlySortedBy variable_cmp variables
-
--- each module of a path with `::` behind it
-abbrev pub prefix_of : List (List ℕ) → List ℕ
-prefix_of [] = []
-prefix_of (n ∷ ns) = n ++ (codes "::" ++ prefix_of ns)
 
 -- a variable as a message names it: its module's path and its name, joined by `::`
 abbrev pub variable_text : Variable → List ℕ

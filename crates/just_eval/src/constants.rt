@@ -1,12 +1,13 @@
 //! The constants as the outermost level of scopes.
 
-ghost use Rattle.std.specs.Prelude.{◌≡◌, map, false, IfOk, [], ◌∷◌};
+ghost use Rattle.std.specs.Prelude.{◌≡◌, map, false, IfOk, []};
 ghost use Rattle.std.specs.Option.{unwrap_or};
 ghost use Rattle.just_lang_types.specs.Constants.{constant_of};
 ghost use Rattle.just_eval_closure.specs.Scopes.{value_of_text};
 ghost use Rattle.just_eval.specs.Evaluations.{constant_level};
 
-use just_lang_types::{Binding, Level, Value, constant};
+use just_eval_closure::value_of_text;
+use just_lang_types::{Binding, Level, constant};
 use just_path_text::{NoMemory, Seq, Text};
 use std::alloc::Global;
 
@@ -51,17 +52,6 @@ pub(crate) fn constant_text(alloc: Global, name: &str) -> Result<Text, NoMemory>
         Some(text) => Text::from_str(alloc, text),
         None => Ok(Text::from(String::new(alloc))),
     }
-}
-
-/// A value of one text.
-pub(crate) fn value_of_text(alloc: Global, text: Text) -> Result<Value, NoMemory>
-    ensures { IfOk result (λ value. value ≡ value_of_text text) }
-{
-    let mut elements = Vec::with_capacity(alloc, 1)?;
-    elements.push(text)?;
-    Ok(Value {
-        elements: Seq::from(elements),
-    })
 }
 
 /// The constant with that name as a binding.

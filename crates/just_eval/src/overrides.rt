@@ -1,12 +1,13 @@
 //! What the command line gives to the variables of a module, and what it gives to none.
 
-ghost use Rattle.std.specs.Prelude.{◌≡◌, ◌≢◌, ◌++◌, ◌&&◌, [], List, not, map, false, string_bytes, IfOk, OnOk, Some, MatchOption};
+ghost use Rattle.std.specs.Prelude.{◌≡◌, ◌≢◌, ◌++◌, ◌&&◌, [], List, not, map, false, IfOk, OnOk, Some, MatchOption};
 ghost use Rattle.std.specs.BTreeMap.{Updates};
 ghost use Rattle.std.specs.BTreeSet.{contains};
 ghost use Rattle.just_eval_closure.specs.Numbers.{text_cmp};
 ghost use Rattle.just_lang_types.specs.Keys.{same_path};
-ghost use Rattle.just_eval.specs.Overrides.{Variable, Keeps, AreGiven, is_overridden, assigns, is_assigned, variable_cmp, AreUnknown, prefix_of, variable_text};
+ghost use Rattle.just_eval.specs.Overrides.{Variable, Keeps, AreGiven, is_overridden, assigns, is_assigned, variable_cmp, AreUnknown, variable_text};
 
+use just_config_words::prefix_of;
 use just_lang_types::project::Justfile;
 use just_lang_types::{Assignment, Modulepath, Override};
 use just_path_text::{NoMemory, Seq, Text, TryClone};
@@ -106,18 +107,6 @@ fn unknown(
         )?;
     }
     Ok(left)
-}
-
-/// The modules of a path, each with `::` behind it.
-fn prefix_of(alloc: Global, path: &[Text]) -> Result<String, NoMemory>
-    ensures { IfOk result (λ text. string_bytes text ≡ prefix_of path.now) }
-{
-    let mut text = String::new(alloc);
-    'path: for component in path {
-        text.push_str(component.as_str())?;
-        text.push_str("::")?;
-    }
-    Ok(text)
 }
 
 /// A variable as a message names it.

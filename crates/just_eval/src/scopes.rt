@@ -11,8 +11,9 @@ ghost use Rattle.just_eval.specs.Evaluations.{bindings_told, scope_with, IsScope
 ghost use Rattle.just_eval.specs.Partial.{outcome_there, outcomes_there};
 ghost use Rattle.just_eval.specs.Uses.{AreEnding};
 
-use super::constants::{constant_level, value_of_text};
+use super::constants::constant_level;
 use super::settled::{Outcome, outcomes};
+use just_eval_closure::value_of_text;
 use just_lang_types::project::{Justfile, LangError};
 use just_lang_types::{Assignment, Binding, DotenvOf, Level, Modulepath, Override, Scope};
 use just_path_text::{Environ, NoMemory, Seq, Text, TryClone};
