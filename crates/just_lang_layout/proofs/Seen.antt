@@ -12,7 +12,8 @@ use Rattle.std.proofs.lemmas.List.Folds.{list_any-append}
 use Rattle.just_lang_layout.specs.declared.pending.Declaration.{Declaration}
 use Rattle.just_lang_layout.specs.Modules.{has_name, last_of_each}
 use Rattle.just_lang_layout.specs.Pending.{text_cmp, HasNames}
-use Rattle.just_lang_layout.proofs.Lists.{item_front, front_more}
+use Rattle.just_lang_spots.proofs.ListLaws.{drop_here}
+use Rattle.just_lang_layout.proofs.Lists.{front_more}
 
 or_front : (b c : Bool) → cond b true c ≡ (b || c)
 or_front true c = refl
@@ -39,7 +40,7 @@ one_in_front ds d k old new e h same = λ q.
 pub names_at : (ds : List Declaration) (i j : ℕ) (d : Declaration) (k : Bor (List ℕ)) (old new : BTreeSet (Bor (List ℕ))) → i + 1 ≡ j → i < length ds → d ≡ get_or ds i d
     → k.now ≡ d.name → Updates text_cmp old new k true → HasNames (drop j ds) old → HasNames (drop i ds) new
 names_at ds i j d k old new p h e n u same =
-    subst (λ (xs : List Declaration). HasNames xs new) (sym (item_front ds i d h e))
+    subst (λ (xs : List Declaration). HasNames xs new) (sym (drop_here ds i d h e))
     (one_in_front (drop (i + 1) ds) d k old new n u (subst (λ (m : ℕ). HasNames (drop m ds) old) (sym p) same))
 
 -- whether a later one has the name of a declaration
@@ -57,7 +58,7 @@ kept_at ds last i j d k old b p h e n same new is s =
     reverse-append last (d ∷ [])
     ∙ ap (λ (xs : List Declaration). d ∷ xs) (s ∙ ap (λ (m : ℕ). last_of_each (drop m ds)) (sym p))
     ∙ ap (λ (t : Bool). if t then last_of_each (drop (i + 1) ds) else d ∷ last_of_each (drop (i + 1) ds)) (sym (later ds i j d k old b false p n same new is))
-    ∙ ap last_of_each (sym (item_front ds i d h e))
+    ∙ ap last_of_each (sym (drop_here ds i d h e))
 
 -- one that a later one beats doesn't
 pub passed_at : (ds last : List Declaration) (i j : ℕ) (d : Declaration) (k : Bor (List ℕ)) (old : BTreeSet (Bor (List ℕ))) (b : Bool) → i + 1 ≡ j → i < length ds → d ≡ get_or ds i d
@@ -66,7 +67,7 @@ pub passed_at : (ds last : List Declaration) (i j : ℕ) (d : Declaration) (k : 
 passed_at ds last i j d k old b p h e n same new is s =
     s ∙ ap (λ (m : ℕ). last_of_each (drop m ds)) (sym p)
     ∙ ap (λ (t : Bool). if t then last_of_each (drop (i + 1) ds) else d ∷ last_of_each (drop (i + 1) ds)) (sym (later ds i j d k old b true p n same new is))
-    ∙ ap last_of_each (sym (item_front ds i d h e))
+    ∙ ap last_of_each (sym (drop_here ds i d h e))
 
 -- the names of one declaration more, behind those so far
 pub names_behind : (ds : List Declaration) (i : ℕ) (d : Declaration) (k : Bor (List ℕ)) (old new : BTreeSet (Bor (List ℕ))) → i < length ds → d ≡ get_or ds i d → k.now ≡ d.name

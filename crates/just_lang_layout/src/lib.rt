@@ -3,6 +3,7 @@
 
 mod error;
 mod imports;
+mod items;
 mod laid;
 mod layout;
 mod path;
@@ -11,6 +12,7 @@ mod target;
 mod visit;
 
 pub use error::LayoutError;
+pub use items::{item_at, items_at, items_of_module};
 pub use laid::lay;
 pub use layout::{File, Layout, Module, Placed};
 pub use path::{meaning, path_under};
