@@ -1,6 +1,5 @@
 -- The lemmas of the rules.
 pub mod Parts
-pub mod Names
 pub mod Misplaced
 pub mod Folds
 pub mod Loops

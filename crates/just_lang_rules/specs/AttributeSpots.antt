@@ -1,5 +1,5 @@
 -- The rules on attributes.
-use Rattle.std.specs.Prelude.{ℕ, Bool, false, not, ◌&&◌, ◌||◌, if◌then◌else◌, List, [], ◌++◌, map, filter_map, Option, Some, None, option_map, codes, slice_get}
+use Rattle.std.specs.Prelude.{ℕ, Bool, true, false, not, ◌&&◌, ◌||◌, if◌then◌else◌, List, [], ◌++◌, map, filter_map, Option, Some, None, option_map, codes, slice_get}
 use Rattle.std.specs.List.{flat_map}
 use Rattle.just_lang_syntax.specs.Forms.{is_one_of}
 use Rattle.just_lang_syntax.specs.declared.ast.StringLiteral.{StringLiteral}
@@ -11,7 +11,7 @@ use Rattle.just_lang_spots.specs.declared.spot.Spot.{Spot}
 use Rattle.just_lang_rules.specs.declared.duplicate_attributes.ArgName.{ArgName}
 use Rattle.just_lang_spots.specs.Spots.{spot_where}
 use Rattle.just_lang_spots.specs.Places.{name_spot, argument_spot}
-use Rattle.just_lang_rules.specs.Tables.{recipe_attributes, module_attributes}
+use Rattle.just_lang_rules.specs.Tables.{attributes_of}
 use Rattle.just_lang_spots.specs.Repeated.{repeated, is_among}
 use Rattle.just_lang_types.specs.Attributes.{is_called, is_shebang, is_script}
 use Rattle.just_lang_types.specs.ConstantTexts.{const_text}
@@ -26,11 +26,11 @@ unknown_attribute_of file item.Blank = []
 unknown_attribute_of file (item.Comment text) = []
 unknown_attribute_of file (item.Alias name target comment) = []
 unknown_attribute_of file (item.Import optional path comment) = []
-unknown_attribute_of file (item.Module attributes optional name path comment) = unknown_among module_attributes file attributes
+unknown_attribute_of file (item.Module attributes optional name path comment) = unknown_among (attributes_of true) file attributes
 unknown_attribute_of file (item.Assignment export name value comment) = []
 unknown_attribute_of file (item.Unexport name comment) = []
 unknown_attribute_of file (item.Setting name value comment) = []
-unknown_attribute_of file (item.Recipe r) = unknown_among recipe_attributes file r.attributes
+unknown_attribute_of file (item.Recipe r) = unknown_among (attributes_of false) file r.attributes
 
 -- ---- attributes that come twice
 

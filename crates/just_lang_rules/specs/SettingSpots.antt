@@ -1,12 +1,11 @@
 -- The rules on the names of settings.
 use Rattle.std.specs.Prelude.{ℕ, not, List, [], Option, Some, None, filter_map}
-use Rattle.just_lang_syntax.specs.Forms.{is_one_of}
+use Rattle.just_lang_syntax.specs.Forms.{is_one_of, settings}
 use Rattle.just_lang_syntax.specs.declared.ast.AstItem.{AstItem}
 use Rattle.just_lang_syntax.specs.declared.ast.AstItem.TheVariants as item
 use Rattle.just_lang_spots.specs.declared.spot.Spot.{Spot}
 use Rattle.just_lang_spots.specs.Spots.{spot_where}
 use Rattle.just_lang_spots.specs.Places.{name_spot}
-use Rattle.just_lang_rules.specs.Tables.{settings}
 use Rattle.just_lang_spots.specs.Repeated.{repeated}
 
 -- the name of a setting that there isn't

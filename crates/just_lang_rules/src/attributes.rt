@@ -1,50 +1,13 @@
 //! The rules on the names of attributes, and on those that don't go with the body.
-ghost use Rattle.std.specs.Prelude.{◌≡◌, codes};
+ghost use Rattle.std.specs.Prelude.{◌≡◌};
 ghost use Rattle.just_lang_syntax.specs.Forms.{is_one_of};
-ghost use Rattle.just_lang_rules.specs.Tables.{recipe_attributes, module_attributes};
+ghost use Rattle.just_lang_rules.specs.Tables.{module_attributes, attributes_of};
 
-use super::listed::is_one_of;
 use just_lang_spots::{Rule, Spot, first_among, name_spot, spot_where};
-use just_lang_syntax::{AstItem, Attribute};
+use just_lang_syntax::{AstItem, Attribute, is_attribute};
 use just_lang_types::{is_script, is_shebang};
 use just_path_text::NoMemory;
 use std::alloc::Global;
-
-/// The attributes of recipes.
-const RECIPE_ATTRIBUTES: [&str; 25] = [
-    "arg",
-    "cache",
-    "confirm",
-    "default",
-    "doc",
-    "exit-message",
-    "extension",
-    "group",
-    "no-cd",
-    "no-exit-message",
-    "no-quiet",
-    "parallel",
-    "positional-arguments",
-    "private",
-    "script",
-    "working-directory",
-    "linux",
-    "unix",
-    "macos",
-    "windows",
-    "openbsd",
-    "freebsd",
-    "netbsd",
-    "dragonfly",
-    "android",
-];
-
-/// Whether recipes have an attribute of that name.
-fn is_recipe_attribute(name: &str) -> bool
-    ensures { result ≡ is_one_of recipe_attributes name.now }
-{
-    is_one_of(name, &RECIPE_ATTRIBUTES)
-}
 
 /// Whether modules have an attribute of that name.
 fn is_module_attribute(name: &str) -> bool
@@ -53,42 +16,31 @@ fn is_module_attribute(name: &str) -> bool
     matches!(name, "doc" | "group" | "private")
 }
 
-/// The rule that recipes have each attribute.
-#[derive(Clone, Copy, Drop)]
-struct UnknownRecipeAttribute;
-
-impl Rule<Attribute> for UnknownRecipeAttribute {
-    ghost use Rattle.std.specs.Prelude.{not};
-    ghost use Rattle.just_lang_syntax.specs.Forms.{is_one_of};
-    ghost use Rattle.just_lang_rules.specs.Tables.{recipe_attributes};
-    ghost use Rattle.just_lang_spots.specs.Places.{name_spot};
-    ghost use Rattle.just_lang_spots.specs.Spots.{spot_where};
-
-    ghost spots = { λ _ file a. spot_where (not (is_one_of recipe_attributes a.name.text)) (name_spot file a.name) };
-
-    fn first(
-        &self,
-        _alloc: Global,
-        file: usize,
-        thing: &Attribute,
-    ) -> Result<Option<Spot>, NoMemory> {
-        let is_unknown = !is_recipe_attribute(thing.name.text.as_str());
-        Ok(spot_where(is_unknown, name_spot(file, &thing.name)))
+/// Whether modules, or else recipes, have an attribute of that name.
+fn has_attribute(of_module: bool, name: &str) -> bool
+    ensures { result ≡ is_one_of (attributes_of of_module) name.now }
+{
+    if of_module {
+        is_module_attribute(name)
+    } else {
+        is_attribute(name)
     }
 }
 
-/// The rule that modules have each attribute.
+/// The rule that modules, or else recipes, have each attribute.
 #[derive(Clone, Copy, Drop)]
-struct UnknownModuleAttribute;
+struct Unknown {
+    of_module: bool,
+}
 
-impl Rule<Attribute> for UnknownModuleAttribute {
+impl Rule<Attribute> for Unknown {
     ghost use Rattle.std.specs.Prelude.{not};
     ghost use Rattle.just_lang_syntax.specs.Forms.{is_one_of};
-    ghost use Rattle.just_lang_rules.specs.Tables.{module_attributes};
+    ghost use Rattle.just_lang_rules.specs.Tables.{attributes_of};
     ghost use Rattle.just_lang_spots.specs.Places.{name_spot};
     ghost use Rattle.just_lang_spots.specs.Spots.{spot_where};
 
-    ghost spots = { λ _ file a. spot_where (not (is_one_of module_attributes a.name.text)) (name_spot file a.name) };
+    ghost spots = { λ r file a. spot_where (not (is_one_of (attributes_of r.of_module) a.name.text)) (name_spot file a.name) };
 
     fn first(
         &self,
@@ -96,7 +48,7 @@ impl Rule<Attribute> for UnknownModuleAttribute {
         file: usize,
         thing: &Attribute,
     ) -> Result<Option<Spot>, NoMemory> {
-        let is_unknown = !is_module_attribute(thing.name.text.as_str());
+        let is_unknown = !has_attribute(self.of_module, thing.name.text.as_str());
         Ok(spot_where(is_unknown, name_spot(file, &thing.name)))
     }
 }
@@ -113,11 +65,12 @@ impl Rule<AstItem> for UnknownAttribute {
     fn first(&self, alloc: Global, file: usize, thing: &AstItem) -> Result<Option<Spot>, NoMemory> {
         match thing {
             AstItem::Module { attributes, .. } => {
-                first_among(alloc, &UnknownModuleAttribute, file, attributes.as_slice())
+                let rule = Unknown { of_module: true };
+                first_among(alloc, &rule, file, attributes.as_slice())
             }
             AstItem::Recipe(recipe) => {
-                let attributes = recipe.get().attributes.as_slice();
-                first_among(alloc, &UnknownRecipeAttribute, file, attributes)
+                let rule = Unknown { of_module: false };
+                first_among(alloc, &rule, file, recipe.get().attributes.as_slice())
             }
             _ => Ok(None),
         }

@@ -1,12 +1,11 @@
 //! The rule that an attribute comes once.
-ghost use Rattle.std.specs.Prelude.{◌≡◌, ◌++◌, [], IfOk, OnOk, option_map, map, filter_map};
-ghost use Rattle.std.specs.List.{cons_option};
+ghost use Rattle.std.specs.Prelude.{◌≡◌, IfOk, option_map, map, filter_map};
 ghost use Rattle.just_lang_spots.specs.Spots.{first_spot};
 ghost use Rattle.just_lang_spots.specs.Repeated.{named};
 ghost use Rattle.just_lang_rules.specs.AttributeSpots.{arg_name, arg_pair, duplicate_among};
 
 use just_lang_spots::{
-    Named, Naming, Rule, Spot, earlier, first_repeated, first_repeated_among, name_spot,
+    Named, Naming, Rule, Spot, earlier, first_repeated, first_repeated_among, name_spot, push_some,
 };
 use just_lang_syntax::{AstItem, Attribute};
 use just_lang_types::{Texts, const_text};
@@ -65,19 +64,6 @@ fn arg_name<T: Texts>(
     }
 }
 
-/// Adds one, where there is one.
-fn push_some(list: &mut Vec<ArgName>, one: Option<ArgName>) -> Result<(), NoMemory>
-    ensures { OnOk result (list.new.items ≡ list.old.items ++ cons_option one []) }
-{
-    match one {
-        None => Ok(()),
-        Some(one) => {
-            list.push(one)?;
-            Ok(())
-        }
-    }
-}
-
 /// The parameters that the attributes are for.
 fn arg_names<T: Texts>(
     alloc: Global,
@@ -96,7 +82,7 @@ fn arg_names<T: Texts>(
 }
 
 /// The same names, borrowed.
-#[tactic(auto, using(crate::proofs::Names::one_more))]
+#[tactic(auto, using(just_lang_spots::proofs::Names::one_more))]
 fn borrowed(alloc: Global, names: &[ArgName]) -> Result<Vec<Named<'_>>, AllocError>
     ensures { IfOk result (λ v. map named v.items ≡ map arg_pair names.now) }
 {

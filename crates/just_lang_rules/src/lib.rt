@@ -8,7 +8,6 @@ mod defaults;
 mod duplicate_attributes;
 mod expansions;
 mod faults;
-mod listed;
 mod parameters;
 mod required;
 mod settings;

@@ -9,7 +9,7 @@ use just_path_text::NoMemory;
 use std::alloc::{AllocError, Global};
 
 /// The names of parameters.
-#[tactic(auto, using(crate::proofs::Names::one_more))]
+#[tactic(auto, using(just_lang_spots::proofs::Names::one_more))]
 fn parameter_names(
     alloc: Global,
     file: usize,

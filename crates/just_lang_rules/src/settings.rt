@@ -1,52 +1,10 @@
 //! The rules on the names of settings.
-ghost use Rattle.std.specs.Prelude.{◌≡◌};
-ghost use Rattle.just_lang_syntax.specs.Forms.{is_one_of};
-ghost use Rattle.just_lang_rules.specs.Tables.{settings};
-
-use super::listed::is_one_of;
 use just_lang_spots::{
     Entry, ModuleRule, Named, Naming, Rule, Spot, first_repeated_in, name_spot, spot_where,
 };
-use just_lang_syntax::AstItem;
+use just_lang_syntax::{AstItem, is_setting};
 use just_path_text::NoMemory;
 use std::alloc::Global;
-
-/// The settings.
-const SETTINGS: [&str; 26] = [
-    "allow-duplicate-recipes",
-    "allow-duplicate-variables",
-    "default-list",
-    "dotenv-load",
-    "dotenv-override",
-    "dotenv-required",
-    "export",
-    "fallback",
-    "guards",
-    "ignore-comments",
-    "lists",
-    "no-cd",
-    "no-exit-message",
-    "positional-arguments",
-    "quiet",
-    "unstable",
-    "windows-powershell",
-    "dotenv-command",
-    "dotenv-filename",
-    "dotenv-path",
-    "indentation",
-    "tempdir",
-    "working-directory",
-    "shell",
-    "script-interpreter",
-    "windows-shell",
-];
-
-/// Whether there is a setting of that name.
-fn is_setting(name: &str) -> bool
-    ensures { result ≡ is_one_of settings name.now }
-{
-    is_one_of(name, &SETTINGS)
-}
 
 /// The rule that there is each setting. Its place is the setting's name.
 #[derive(Clone, Copy, Drop)]
