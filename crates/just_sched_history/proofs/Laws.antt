@@ -24,14 +24,14 @@ use Rattle.just_sched_history.specs.Cached.{is_cached, are_one_class}
 use Rattle.just_sched_history.specs.Touched.{IsTouched, IsTouchedAt}
 use Rattle.just_sched_history.specs.Legal.{Run, IsLegal, IsComplete, all_starts}
 use Rattle.just_sched_history.specs.Match.{Matches}
-use Rattle.just_sched_history.specs.Moves.{GrowsBy, IsMove, RunsWith, Rests}
+use Rattle.just_sched_history.specs.Moves.{GrowsBy, GrowsOrCatches, IsMove, RunsWith, Rests}
 use Rattle.just_sched_history.specs.State.{statuses, reason_of, next_step, caught_signal, is_open}
 use Rattle.just_exec_work.specs.Steps.{after, commands_of}
 use Rattle.just_sched_history.proofs.CacheCauses.{input_shown, output_shown}
 use Rattle.just_sched_history.proofs.CacheRules.{each_apart, goes_by_rule, skipped_by_look}
 use Rattle.just_sched_history.proofs.Touching.{touched_told}
 use Rattle.just_sched_history.proofs.Causes.{last_end, status_failed, failed_code, guard_code, fault_caused, miss_caused, refusal_caused, signal_shown}
-use Rattle.just_sched_history.proofs.Grows.{grows_none, grows_turn, move_apart, runs_on, others_open, closed_where}
+use Rattle.just_sched_history.proofs.Grows.{grows_turn, move_apart, runs_on, others_open, closed_where}
 use Rattle.just_sched_history.proofs.Stretch.{matched_children, started}
 
 -- The last status of a node is that of a child which the node started, and whose end the record shows.
@@ -87,20 +87,20 @@ pub moves_another : (s : Run) (old new : List Event) (n m child : ℕ) → IsMov
 moves_another = move_apart
 
 -- A body runs on with its child while events of another node are noted.
-pub body_runs_on : (old new : List Event) (n m child : ℕ) → GrowsBy old new n → m ≢ n → RunsWith old m child → RunsWith new m child
+pub body_runs_on : (old new : List Event) (n m child : ℕ) → GrowsOrCatches old new n → m ≢ n → RunsWith old m child → RunsWith new m child
 body_runs_on = runs_on
 
 -- Events of a node leave every other node as open as it was.
-pub others_stay_open : (old new : List Event) (n m : ℕ) → GrowsBy old new n → m ≢ n → is_open new m ≡ is_open old m
+pub others_stay_open : (old new : List Event) (n m : ℕ) → GrowsOrCatches old new n → m ≢ n → is_open new m ≡ is_open old m
 others_stay_open = others_open
 
 -- Where a node came to rest, the nodes are closed that were closed but for it.
-pub rests_closed : (Q : ℕ → Type 0) (old new : List Event) (n : ℕ) → GrowsBy old new n → Rests new n → ((m : ℕ) → m ≢ n → Q m → is_open old m ≡ false) → (m : ℕ) → Q m → is_open new m ≡ false
+pub rests_closed : (Q : ℕ → Type 0) (old new : List Event) (n : ℕ) → GrowsOrCatches old new n → Rests new n → ((m : ℕ) → m ≢ n → Q m → is_open old m ≡ false) → (m : ℕ) → Q m → is_open new m ≡ false
 rests_closed = closed_where
 
 -- A turn of a body is of its node: its child's end was noted, and the body was gone on with.
-pub turn_grows : (a b c : List Event) (n m k : ℕ) → m ≡ n → k ≡ m → GrowsBy a b m → GrowsBy b c k → GrowsBy a c n
-turn_grows a b c n m k first after p q = grows_turn a a b c n m k first after (grows_none a n) p q
+pub turn_grows : (a b c : List Event) (n m k : ℕ) → m ≡ n → k ≡ m → GrowsBy a b m → GrowsOrCatches b c k → GrowsOrCatches a c n
+turn_grows = grows_turn
 
 -- What a run that started no child, and of which no call failed, leaves of a told world: it differs at most at the places of its caches.
 pub untouched_but_caches : (nodes : List PlanNode) (told new : Option World) → IsTouched nodes told new → IsTouchedAt nodes told new

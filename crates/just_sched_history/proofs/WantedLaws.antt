@@ -6,7 +6,7 @@ use Rattle.std.proofs.lemmas.Option.{slice_get-get_or}
 use Rattle.std.specs.Prelude.{slice_index, Contains}
 use Rattle.just_eval_closure.specs.WellFormed.{IsWellFormed}
 use Rattle.just_sched_history.specs.declared.plan_node.PlanNode.{PlanNode}
-use Rattle.just_sched_history.specs.Nodes.{subsequents_at, priors_at, parallel_at, parallel_in, prompt_at, prompt_in}
+use Rattle.just_sched_history.specs.Nodes.{subsequents_at, priors_at, parallel_at, parallel_in, prompt_at, prompt_in, cache_at, cache_in}
 use Rattle.just_sched_history.specs.State.{MayComeNext}
 use Rattle.just_sched_history.specs.Tables.{InRange}
 use Rattle.just_sched_history.proofs.PlanLaws.{shapes, subsequent_behind, prior_before, prior_within, invocation_within, contains_at}
@@ -26,6 +26,9 @@ parallel_read nodes read at d same lt = rw same (ap parallel_in (sym (slice_get-
 
 pub prompt_read : (nodes read : List PlanNode) (at : ℕ) (d : PlanNode) → read ≡ nodes → at < length nodes → (get_or read at d).prompt ≡ prompt_at nodes at
 prompt_read nodes read at d same lt = rw same (ap prompt_in (sym (slice_get-get_or nodes at d lt)))
+
+pub cache_read : (nodes read : List PlanNode) (at : ℕ) (d : PlanNode) → read ≡ nodes → at < length nodes → (get_or read at d).cache ≡ cache_at nodes at
+cache_read nodes read at d same lt = rw same (ap cache_in (sym (slice_get-get_or nodes at d lt)))
 
 module _ (nodes : List PlanNode) (invocations : List ℕ) (well : ∥ IsWellFormed (shapes nodes) invocations ∥₁) where
   pub subsequents_within : (flags : List Bool) (at : ℕ) → length flags ≡ length nodes → InRange (subsequents_at nodes at) flags

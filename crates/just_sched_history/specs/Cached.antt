@@ -17,21 +17,58 @@ use Rattle.just_sched_history.specs.State.{first, is_open}
 
 abbrev pub looks : ℕ → Event → Bool
 looks n (event.Looked m sums seen) = m == n
-looks n _ = false
+looks n (event.Asked m y) = false
+looks n (event.Took m) = false
+looks n (event.Skipped m) = false
+looks n (event.Begun m) = false
+looks n (event.Started m i c) = false
+looks n (event.Ended m i c s) = false
+looks n (event.Saved m) = false
+looks n (event.Done m o) = false
+looks n (event.Gave m) = false
+looks n (event.Caught s) = false
 
 abbrev pub saves : ℕ → Event → Bool
 saves n (event.Saved m) = m == n
-saves n _ = false
+saves n (event.Asked m y) = false
+saves n (event.Took m) = false
+saves n (event.Looked m sums seen) = false
+saves n (event.Skipped m) = false
+saves n (event.Begun m) = false
+saves n (event.Started m i c) = false
+saves n (event.Ended m i c s) = false
+saves n (event.Done m o) = false
+saves n (event.Gave m) = false
+saves n (event.Caught s) = false
 
 -- the sums and the look of a Looked event of the node
 abbrev pub look_of : ℕ → Event → Option (List (List ℕ) × Look)
 look_of n (event.Looked m sums seen) = if m == n then Some (sums, seen) else None
-look_of n _ = None
+look_of n (event.Asked m y) = None
+look_of n (event.Took m) = None
+look_of n (event.Skipped m) = None
+look_of n (event.Begun m) = None
+look_of n (event.Started m i c) = None
+look_of n (event.Ended m i c s) = None
+look_of n (event.Saved m) = None
+look_of n (event.Done m o) = None
+look_of n (event.Gave m) = None
+look_of n (event.Caught s) = None
 
 -- the sums of an event that is a look; none of another
 abbrev pub sums_in : Option Event → List (List ℕ)
 sums_in (Some (event.Looked m sums seen)) = sums
-sums_in _ = []
+sums_in (Some (event.Asked m y)) = []
+sums_in (Some (event.Took m)) = []
+sums_in (Some (event.Skipped m)) = []
+sums_in (Some (event.Begun m)) = []
+sums_in (Some (event.Started m i c)) = []
+sums_in (Some (event.Ended m i c s)) = []
+sums_in (Some (event.Saved m)) = []
+sums_in (Some (event.Done m o)) = []
+sums_in (Some (event.Gave m)) = []
+sums_in (Some (event.Caught s)) = []
+sums_in None = []
 
 -- ---- the states
 
@@ -48,7 +85,8 @@ seen_at h n = first (filter_map (look_of n) h)
 
 abbrev pub is_full : Look → Bool
 is_full look.Full = true
-is_full _ = false
+is_full look.Empty = false
+is_full (look.OutputMissing j) = false
 
 abbrev pub full_in : Option (List (List ℕ) × Look) → Bool
 full_in (Some seen) = is_full seen.1

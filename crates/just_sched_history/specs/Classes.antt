@@ -49,4 +49,12 @@ IsShift None e = (n : ℕ) → (takes n e ≡ false) × (gives n e ≡ false)
 abbrev pub KeepsClasses : List PlanNode → List Event → Event → Type 0
 KeepsClasses nodes h (event.Took n) = has_given h n ≡ false
 KeepsClasses nodes h (event.Gave n) = (m : ℕ) → (m ≡ n → ⊥) → is_open h m ≡ true → are_one_class nodes m n ≡ false
-KeepsClasses nodes h _ = Unit {0}
+KeepsClasses nodes h (event.Asked m y) = Unit {0}
+KeepsClasses nodes h (event.Looked m sums seen) = Unit {0}
+KeepsClasses nodes h (event.Skipped m) = Unit {0}
+KeepsClasses nodes h (event.Begun m) = Unit {0}
+KeepsClasses nodes h (event.Started m i c) = Unit {0}
+KeepsClasses nodes h (event.Ended m i c s) = Unit {0}
+KeepsClasses nodes h (event.Saved m) = Unit {0}
+KeepsClasses nodes h (event.Done m o) = Unit {0}
+KeepsClasses nodes h (event.Caught s) = Unit {0}

@@ -15,7 +15,13 @@ is_favourable (entry.Signalled signal) = false
 is_favourable (entry.Ended child status) = is_code (pos 0) status
 is_favourable (entry.Asked prompt answer) = is_yes answer
 is_favourable (entry.Checked outputs missing) = is_none missing
-is_favourable _ = true
+is_favourable (entry.Summed path sum) = true
+is_favourable (entry.Probed path outputs seen) = true
+is_favourable (entry.Saved path) = true
+is_favourable (entry.Started child spec) = true
+is_favourable (entry.Captured spec input status output) = true
+is_favourable (entry.Printed stream text) = true
+is_favourable (entry.Made path) = true
 
 -- each entry of the stretch is favourable
 abbrev pub IsFavourable : List Entry → Type 0

@@ -52,7 +52,16 @@ open_bodies s h = count_by (λ n. is_open h n) (range_with_len 0 (length s.nodes
 
 abbrev pub is_start : Event → Bool
 is_start (event.Started n i c) = true
-is_start _ = false
+is_start (event.Asked m y) = false
+is_start (event.Took m) = false
+is_start (event.Looked m sums seen) = false
+is_start (event.Skipped m) = false
+is_start (event.Begun m) = false
+is_start (event.Ended m i c s) = false
+is_start (event.Saved m) = false
+is_start (event.Done m o) = false
+is_start (event.Gave m) = false
+is_start (event.Caught s) = false
 
 -- how many commands were started so far
 abbrev pub all_starts : List Event → ℕ
@@ -65,7 +74,22 @@ MayMiss s h n call.Probe = IsDue s h n Looked
 MayMiss s h n call.Temp = (i : ℕ) × IsDue s h n (Started i)
 MayMiss s h n call.Check = IsDue s h n Saved
 MayMiss s h n call.Save = IsDue s h n Saved
-MayMiss s h n _ = ⊥
+MayMiss s h n call.Meta = ⊥
+MayMiss s h n call.List = ⊥
+MayMiss s h n call.Canonical = ⊥
+MayMiss s h n call.Link = ⊥
+MayMiss s h n call.Current = ⊥
+MayMiss s h n call.Read = ⊥
+MayMiss s h n call.Input = ⊥
+MayMiss s h n call.Environ = ⊥
+MayMiss s h n call.Write = ⊥
+MayMiss s h n call.MakeFolder = ⊥
+MayMiss s h n call.Remove = ⊥
+MayMiss s h n call.Print = ⊥
+MayMiss s h n call.Sum = ⊥
+MayMiss s h n call.Start = ⊥
+MayMiss s h n call.Wait = ⊥
+MayMiss s h n call.Capture = ⊥
 
 -- a call of the host that the node's due event makes, and that may fail
 abbrev pub MayFail : Run → List Event → ℕ → Call → Type 0
@@ -78,7 +102,18 @@ MayFail s h n call.Start = (i : ℕ) × IsDue s h n (Started i)
 MayFail s h n call.Wait = IsDue s h n Ended
 MayFail s h n call.Check = IsDue s h n Saved
 MayFail s h n call.Save = IsDue s h n Saved
-MayFail s h n _ = ⊥
+MayFail s h n call.Meta = ⊥
+MayFail s h n call.List = ⊥
+MayFail s h n call.Canonical = ⊥
+MayFail s h n call.Link = ⊥
+MayFail s h n call.Current = ⊥
+MayFail s h n call.Read = ⊥
+MayFail s h n call.Input = ⊥
+MayFail s h n call.Environ = ⊥
+MayFail s h n call.Write = ⊥
+MayFail s h n call.MakeFolder = ⊥
+MayFail s h n call.Remove = ⊥
+MayFail s h n call.Capture = ⊥
 
 -- The node's body has come to its end, which is this by the statuses so far: it was begun, it is between two commands, it
 -- isn't done, and this is its next step.

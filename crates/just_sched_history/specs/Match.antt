@@ -94,7 +94,18 @@ FaultStandsFor s h n call.Sum es = OfCache s n (λ c. SumsFirst c (λ many. many
 FaultStandsFor s h n call.Probe es = OfCache s n (λ c. SumsFirst c (λ many. many ≡ length c.paths) (λ sums. entry.Failed call.Probe ∷ []) es)
 FaultStandsFor s h n call.Check es = es ≡ entry.Failed call.Check ∷ []
 FaultStandsFor s h n call.Save es = OfCache s n (λ c. es ≡ entry.Checked c.outputs None ∷ entry.Failed call.Save ∷ [])
-FaultStandsFor s h n _ es = ⊥
+FaultStandsFor s h n call.Meta es = ⊥
+FaultStandsFor s h n call.List es = ⊥
+FaultStandsFor s h n call.Canonical es = ⊥
+FaultStandsFor s h n call.Link es = ⊥
+FaultStandsFor s h n call.Current es = ⊥
+FaultStandsFor s h n call.Read es = ⊥
+FaultStandsFor s h n call.Input es = ⊥
+FaultStandsFor s h n call.Environ es = ⊥
+FaultStandsFor s h n call.Write es = ⊥
+FaultStandsFor s h n call.MakeFolder es = ⊥
+FaultStandsFor s h n call.Remove es = ⊥
+FaultStandsFor s h n call.Capture es = ⊥
 
 -- the same for a miss, with the path that the call was made on
 abbrev pub MissStandsFor : Run → List Event → ℕ → Call → Miss → List Entry → Type 0
@@ -103,7 +114,22 @@ MissStandsFor s h n call.Temp m es = BehindEcho s h n (λ c. entry.Missed (scrip
 MissStandsFor s h n call.Probe m es = OfCache s n (λ c. SumsFirst c (λ many. many ≡ length c.paths) (λ sums. entry.Missed (entry_of c sums) m ∷ []) es)
 MissStandsFor s h n call.Check m es = OfCache s n (λ c. (path : List ℕ) × Contains c.outputs path × (es ≡ entry.Missed path m ∷ []))
 MissStandsFor s h n call.Save m es = OfSums s h n (λ c sums. es ≡ entry.Checked c.outputs None ∷ entry.Missed (entry_of c sums) m ∷ [])
-MissStandsFor s h n _ m es = ⊥
+MissStandsFor s h n call.Meta m es = ⊥
+MissStandsFor s h n call.List m es = ⊥
+MissStandsFor s h n call.Canonical m es = ⊥
+MissStandsFor s h n call.Link m es = ⊥
+MissStandsFor s h n call.Current m es = ⊥
+MissStandsFor s h n call.Read m es = ⊥
+MissStandsFor s h n call.Input m es = ⊥
+MissStandsFor s h n call.Environ m es = ⊥
+MissStandsFor s h n call.Write m es = ⊥
+MissStandsFor s h n call.MakeFolder m es = ⊥
+MissStandsFor s h n call.Remove m es = ⊥
+MissStandsFor s h n call.Print m es = ⊥
+MissStandsFor s h n call.Sum m es = ⊥
+MissStandsFor s h n call.Start m es = ⊥
+MissStandsFor s h n call.Wait m es = ⊥
+MissStandsFor s h n call.Capture m es = ⊥
 
 -- the entries of a body that failed for that reason
 abbrev pub FailureStandsFor : Run → List Event → ℕ → Reason → List Entry → Type 0

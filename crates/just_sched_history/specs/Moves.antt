@@ -13,11 +13,19 @@ use Rattle.just_sched_history.specs.State.{node_of, is_of, is_open, is_running, 
 abbrev pub concerns : ℕ → Event → Bool
 concerns n e = is_none (node_of e) || is_of n e
 
--- the history gained events, each of which is one of that node, or a caught signal
-pub record GrowsBy (old new : List Event) (n : ℕ) : Type 0 where
+-- the history gained events, each of which passes the test
+pub record GrowsWhere (passes : Event → Bool) (old new : List Event) : Type 0 where
   pub more : List Event
   pub grew : new ≡ old ++ more
-  pub own : AllPass (concerns n) more
+  pub own : AllPass passes more
+
+-- each is one of that node, so no signal was caught
+abbrev pub GrowsBy : List Event → List Event → ℕ → Type 0
+GrowsBy old new n = GrowsWhere (is_of n) old new
+
+-- each is one of that node, or a caught signal
+abbrev pub GrowsOrCatches : List Event → List Event → ℕ → Type 0
+GrowsOrCatches old new n = GrowsWhere (concerns n) old new
 
 -- the events of an answer: where a node is answered by a no, it is done by that
 abbrev pub answer_events : ℕ → Bool → List Event
@@ -32,7 +40,7 @@ pub record IsMove (s : Run) (old new : List Event) (n : ℕ) : Type 0 where
   pub not_taken : has_taken old n ≡ false
   pub least_to_ask : (m : ℕ) → m < n → IsToAsk s.nodes s.invocations old m → ⊥
   pub least_to_take : (m : ℕ) → m < n → MayTake s old m → ⊥
-  pub grows : GrowsBy old new n
+  pub grows : GrowsOrCatches old new n
 
 -- the node's body is open, and runs with that child
 pub record RunsWith (h : List Event) (n child : ℕ) : Type 0 where

@@ -21,7 +21,43 @@ total_commands nodes = sum_by (λ x. length (commands_of x.work)) nodes
 abbrev pub settles : Event → Bool
 settles (event.Ended n i c s) = true
 settles (event.Done n (outcome.Failed (reason.Fault call.Wait))) = true
-settles _ = false
+settles (event.Done n (outcome.Failed (reason.Fault call.Meta))) = false
+settles (event.Done n (outcome.Failed (reason.Fault call.List))) = false
+settles (event.Done n (outcome.Failed (reason.Fault call.Canonical))) = false
+settles (event.Done n (outcome.Failed (reason.Fault call.Link))) = false
+settles (event.Done n (outcome.Failed (reason.Fault call.Current))) = false
+settles (event.Done n (outcome.Failed (reason.Fault call.Read))) = false
+settles (event.Done n (outcome.Failed (reason.Fault call.Input))) = false
+settles (event.Done n (outcome.Failed (reason.Fault call.Ask))) = false
+settles (event.Done n (outcome.Failed (reason.Fault call.Environ))) = false
+settles (event.Done n (outcome.Failed (reason.Fault call.Write))) = false
+settles (event.Done n (outcome.Failed (reason.Fault call.MakeFolder))) = false
+settles (event.Done n (outcome.Failed (reason.Fault call.Temp))) = false
+settles (event.Done n (outcome.Failed (reason.Fault call.Remove))) = false
+settles (event.Done n (outcome.Failed (reason.Fault call.Print))) = false
+settles (event.Done n (outcome.Failed (reason.Fault call.Sum))) = false
+settles (event.Done n (outcome.Failed (reason.Fault call.Probe))) = false
+settles (event.Done n (outcome.Failed (reason.Fault call.Check))) = false
+settles (event.Done n (outcome.Failed (reason.Fault call.Save))) = false
+settles (event.Done n (outcome.Failed (reason.Fault call.Start))) = false
+settles (event.Done n (outcome.Failed (reason.Fault call.Capture))) = false
+settles (event.Done n (outcome.Failed reason.Status)) = false
+settles (event.Done n (outcome.Failed reason.NotConfirmed)) = false
+settles (event.Done n (outcome.Failed (reason.Input j m))) = false
+settles (event.Done n (outcome.Failed (reason.Output j))) = false
+settles (event.Done n (outcome.Failed (reason.Place c m))) = false
+settles (event.Done n (outcome.Failed reason.Interrupted)) = false
+settles (event.Done n (outcome.Failed reason.NoMemory)) = false
+settles (event.Done n outcome.Well) = false
+settles (event.Asked m y) = false
+settles (event.Took m) = false
+settles (event.Looked m sums seen) = false
+settles (event.Skipped m) = false
+settles (event.Begun m) = false
+settles (event.Started m i c) = false
+settles (event.Saved m) = false
+settles (event.Gave m) = false
+settles (event.Caught s) = false
 
 -- how many children were settled
 abbrev pub settle_count : List Event → ℕ

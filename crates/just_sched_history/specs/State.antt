@@ -41,71 +41,215 @@ is_of n e = names (node_of e) n
 
 abbrev pub answers : Bool → ℕ → Event → Bool
 answers wanted n (event.Asked m y) = (m == n) && (if wanted then y else not y)
-answers wanted n _ = false
+answers wanted n (event.Took m) = false
+answers wanted n (event.Looked m sums seen) = false
+answers wanted n (event.Skipped m) = false
+answers wanted n (event.Begun m) = false
+answers wanted n (event.Started m i c) = false
+answers wanted n (event.Ended m i c s) = false
+answers wanted n (event.Saved m) = false
+answers wanted n (event.Done m o) = false
+answers wanted n (event.Gave m) = false
+answers wanted n (event.Caught s) = false
 
 abbrev pub asks : ℕ → Event → Bool
 asks n (event.Asked m y) = m == n
-asks n _ = false
+asks n (event.Took m) = false
+asks n (event.Looked m sums seen) = false
+asks n (event.Skipped m) = false
+asks n (event.Begun m) = false
+asks n (event.Started m i c) = false
+asks n (event.Ended m i c s) = false
+asks n (event.Saved m) = false
+asks n (event.Done m o) = false
+asks n (event.Gave m) = false
+asks n (event.Caught s) = false
 
 abbrev pub takes : ℕ → Event → Bool
 takes n (event.Took m) = m == n
-takes n _ = false
+takes n (event.Asked m y) = false
+takes n (event.Looked m sums seen) = false
+takes n (event.Skipped m) = false
+takes n (event.Begun m) = false
+takes n (event.Started m i c) = false
+takes n (event.Ended m i c s) = false
+takes n (event.Saved m) = false
+takes n (event.Done m o) = false
+takes n (event.Gave m) = false
+takes n (event.Caught s) = false
 
 abbrev pub skips : ℕ → Event → Bool
 skips n (event.Skipped m) = m == n
-skips n _ = false
+skips n (event.Asked m y) = false
+skips n (event.Took m) = false
+skips n (event.Looked m sums seen) = false
+skips n (event.Begun m) = false
+skips n (event.Started m i c) = false
+skips n (event.Ended m i c s) = false
+skips n (event.Saved m) = false
+skips n (event.Done m o) = false
+skips n (event.Gave m) = false
+skips n (event.Caught s) = false
 
 abbrev pub begins : ℕ → Event → Bool
 begins n (event.Begun m) = m == n
-begins n _ = false
+begins n (event.Asked m y) = false
+begins n (event.Took m) = false
+begins n (event.Looked m sums seen) = false
+begins n (event.Skipped m) = false
+begins n (event.Started m i c) = false
+begins n (event.Ended m i c s) = false
+begins n (event.Saved m) = false
+begins n (event.Done m o) = false
+begins n (event.Gave m) = false
+begins n (event.Caught s) = false
 
 abbrev pub starts : ℕ → Event → Bool
 starts n (event.Started m i c) = m == n
-starts n _ = false
+starts n (event.Asked m y) = false
+starts n (event.Took m) = false
+starts n (event.Looked m sums seen) = false
+starts n (event.Skipped m) = false
+starts n (event.Begun m) = false
+starts n (event.Ended m i c s) = false
+starts n (event.Saved m) = false
+starts n (event.Done m o) = false
+starts n (event.Gave m) = false
+starts n (event.Caught s) = false
 
 abbrev pub ends : ℕ → Event → Bool
 ends n (event.Ended m i c s) = m == n
-ends n _ = false
+ends n (event.Asked m y) = false
+ends n (event.Took m) = false
+ends n (event.Looked m sums seen) = false
+ends n (event.Skipped m) = false
+ends n (event.Begun m) = false
+ends n (event.Started m i c) = false
+ends n (event.Saved m) = false
+ends n (event.Done m o) = false
+ends n (event.Gave m) = false
+ends n (event.Caught s) = false
 
 abbrev pub concludes : ℕ → Event → Bool
 concludes n (event.Done m o) = m == n
-concludes n _ = false
+concludes n (event.Asked m y) = false
+concludes n (event.Took m) = false
+concludes n (event.Looked m sums seen) = false
+concludes n (event.Skipped m) = false
+concludes n (event.Begun m) = false
+concludes n (event.Started m i c) = false
+concludes n (event.Ended m i c s) = false
+concludes n (event.Saved m) = false
+concludes n (event.Gave m) = false
+concludes n (event.Caught s) = false
 
 abbrev pub concludes_well : ℕ → Event → Bool
 concludes_well n (event.Done m outcome.Well) = m == n
 concludes_well n (event.Done m (outcome.Failed r)) = false
-concludes_well n _ = false
+concludes_well n (event.Asked m y) = false
+concludes_well n (event.Took m) = false
+concludes_well n (event.Looked m sums seen) = false
+concludes_well n (event.Skipped m) = false
+concludes_well n (event.Begun m) = false
+concludes_well n (event.Started m i c) = false
+concludes_well n (event.Ended m i c s) = false
+concludes_well n (event.Saved m) = false
+concludes_well n (event.Gave m) = false
+concludes_well n (event.Caught s) = false
 
 abbrev pub fails : ℕ → Event → Bool
 fails n (event.Done m outcome.Well) = false
 fails n (event.Done m (outcome.Failed r)) = m == n
-fails n _ = false
+fails n (event.Asked m y) = false
+fails n (event.Took m) = false
+fails n (event.Looked m sums seen) = false
+fails n (event.Skipped m) = false
+fails n (event.Begun m) = false
+fails n (event.Started m i c) = false
+fails n (event.Ended m i c s) = false
+fails n (event.Saved m) = false
+fails n (event.Gave m) = false
+fails n (event.Caught s) = false
 
 abbrev pub gives : ℕ → Event → Bool
 gives n (event.Gave m) = m == n
-gives n _ = false
+gives n (event.Asked m y) = false
+gives n (event.Took m) = false
+gives n (event.Looked m sums seen) = false
+gives n (event.Skipped m) = false
+gives n (event.Begun m) = false
+gives n (event.Started m i c) = false
+gives n (event.Ended m i c s) = false
+gives n (event.Saved m) = false
+gives n (event.Done m o) = false
+gives n (event.Caught s) = false
 
 abbrev pub catches : Event → Bool
 catches (event.Caught s) = true
-catches _ = false
+catches (event.Asked m y) = false
+catches (event.Took m) = false
+catches (event.Looked m sums seen) = false
+catches (event.Skipped m) = false
+catches (event.Begun m) = false
+catches (event.Started m i c) = false
+catches (event.Ended m i c s) = false
+catches (event.Saved m) = false
+catches (event.Done m o) = false
+catches (event.Gave m) = false
 
 abbrev pub status_of : ℕ → Event → Option Status
 status_of n (event.Ended m i c s) = if m == n then Some s else None
-status_of n _ = None
+status_of n (event.Asked m y) = None
+status_of n (event.Took m) = None
+status_of n (event.Looked m sums seen) = None
+status_of n (event.Skipped m) = None
+status_of n (event.Begun m) = None
+status_of n (event.Started m i c) = None
+status_of n (event.Saved m) = None
+status_of n (event.Done m o) = None
+status_of n (event.Gave m) = None
+status_of n (event.Caught s) = None
 
 -- the place and the child that a Started event of the node has
 abbrev pub start_of : ℕ → Event → Option (ℕ × ℕ)
 start_of n (event.Started m i c) = if m == n then Some (i, c) else None
-start_of n _ = None
+start_of n (event.Asked m y) = None
+start_of n (event.Took m) = None
+start_of n (event.Looked m sums seen) = None
+start_of n (event.Skipped m) = None
+start_of n (event.Begun m) = None
+start_of n (event.Ended m i c s) = None
+start_of n (event.Saved m) = None
+start_of n (event.Done m o) = None
+start_of n (event.Gave m) = None
+start_of n (event.Caught s) = None
 
 abbrev pub reason_in : ℕ → Event → Option Reason
 reason_in n (event.Done m (outcome.Failed r)) = if m == n then Some r else None
 reason_in n (event.Done m outcome.Well) = None
-reason_in n _ = None
+reason_in n (event.Asked m y) = None
+reason_in n (event.Took m) = None
+reason_in n (event.Looked m sums seen) = None
+reason_in n (event.Skipped m) = None
+reason_in n (event.Begun m) = None
+reason_in n (event.Started m i c) = None
+reason_in n (event.Ended m i c s) = None
+reason_in n (event.Saved m) = None
+reason_in n (event.Gave m) = None
+reason_in n (event.Caught s) = None
 
 abbrev pub signal_in : Event → Option Signal
 signal_in (event.Caught s) = Some s
-signal_in _ = None
+signal_in (event.Asked m y) = None
+signal_in (event.Took m) = None
+signal_in (event.Looked m sums seen) = None
+signal_in (event.Skipped m) = None
+signal_in (event.Begun m) = None
+signal_in (event.Started m i c) = None
+signal_in (event.Ended m i c s) = None
+signal_in (event.Saved m) = None
+signal_in (event.Done m o) = None
+signal_in (event.Gave m) = None
 
 -- ---- the states
 

@@ -12,7 +12,13 @@ use Rattle.just_sched_history.specs.Legal.{Run, IsComplete}
 abbrev pub decides : Option Reason → Bool
 decides None = false
 decides (Some reason.Interrupted) = false
-decides (Some _) = true
+decides (Some reason.Status) = true
+decides (Some reason.NotConfirmed) = true
+decides (Some (reason.Input j m)) = true
+decides (Some (reason.Output j)) = true
+decides (Some (reason.Place c m)) = true
+decides (Some (reason.Fault c)) = true
+decides (Some reason.NoMemory) = true
 
 -- n is the node of least number whose failure decides
 pub record IsLeast (s : Run) (h : List Event) (n : ℕ) : Type 0 where
