@@ -1,5 +1,5 @@
 -- The parameters of a recipe, with what `arg` says of each.
-use Rattle.std.specs.Prelude.{◌≡◌, ℕ, Bool, false, not, ◌&&◌, is_some, if◌then◌else◌, List, [], ◌∷◌, map, filter_map, Option, Some, None, bytes_eq, codes, chars, slice_get}
+use Rattle.std.specs.Prelude.{◌≡◌, ℕ, Bool, false, not, ◌&&◌, is_some, if◌then◌else◌, List, [], ◌∷◌, map, filter_map, Option, Some, None, codes, chars, slice_get}
 use Rattle.std.specs.List.{list_any}
 use Rattle.std.specs.Option.{option_and_then, option_copied, unwrap_or}
 use Rattle.std.specs.Ordering.{nat_cmp}
@@ -9,14 +9,13 @@ use denote.Ref.{Bor}
 use Rattle.just_lang_syntax.specs.declared.ast.Argument.{Argument}
 use Rattle.just_lang_syntax.specs.declared.ast.AstParameter.{AstParameter}
 use Rattle.just_lang_syntax.specs.declared.ast.Attribute.{Attribute}
-use Rattle.just_lang_syntax.specs.declared.ast.Name.{Name}
 use Rattle.just_lang_syntax.specs.declared.ast.StringLiteral.{StringLiteral}
 use Rattle.just_lang_syntax.specs.Attributes.{is_named, has_key}
 use Rattle.just_lang_types.specs.declared.recipe.Parameter.{Parameter}
 use Rattle.just_lang_types.specs.declared.recipe.Pattern.{Pattern}
 use Rattle.just_lang_types.specs.Attributes.{is_called}
 use Rattle.just_lang_types.specs.ConstantTexts.{const_text}
-use Rattle.just_lang_types.specs.Options.{is_text}
+use Rattle.just_lang_types.specs.Options.{is_text, text_at}
 use Rattle.just_lang_shapes.specs.declared.keys.Keys.{Keys}
 use Rattle.just_lang_shapes.specs.Attributes.{first_of}
 use Rattle.just_lang_shapes.specs.Expansions.{expanded_default}
@@ -30,10 +29,6 @@ is_alone key x = not (is_some x.key) && is_named key x.value
 
 abbrev pub stands_alone : List ℕ → List Argument → Bool
 stands_alone key xs = list_any (is_alone key) xs
-
-abbrev pub is_key : List ℕ → Option Name → Bool
-is_key key None = false
-is_key key (Some n) = bytes_eq n.text key
 
 abbrev pub or_earlier : Option (List Argument) → Option (List Argument) → Option (List Argument)
 or_earlier earlier None = earlier
@@ -71,13 +66,9 @@ module _ (text_of : StringLiteral → Option (List ℕ)) where
   abbrev pub keys_of : List Attribute → List ℕ → List Argument
   keys_of attributes name = unwrap_or (last_keys attributes name) []
 
-  -- the text of a key
-  abbrev pub value_at : List ℕ → Argument → Option (List ℕ)
-  value_at key x = if is_key key x.key then const_text text_of x.value else None
-
   -- the texts of a key, in their order
   abbrev pub values_of : List ℕ → List Argument → List (List ℕ)
-  values_of key xs = filter_map (value_at key) xs
+  values_of key xs = filter_map (text_at text_of key) xs
 
   abbrev pub value_of : List ℕ → List Argument → Option (List ℕ)
   value_of key xs = first_of (values_of key xs)

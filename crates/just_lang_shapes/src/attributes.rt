@@ -3,7 +3,7 @@ ghost use Rattle.std.specs.Prelude.{◌≡◌, IfOk};
 ghost use Rattle.std.specs.Option.{option_copied};
 ghost use Rattle.just_lang_shapes.specs.Attributes.{first_of, has_attribute, begins_underscore, is_private, first_text, text_behind, texts_behind, doc_of, groups_of};
 
-use super::steps::push_some;
+use just_lang_spots::push_some;
 use just_lang_syntax::{Argument, Attribute};
 use just_lang_types::{Texts, const_text};
 use just_path_text::{NoMemory, Seq, Text};

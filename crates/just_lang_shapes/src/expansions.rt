@@ -1,37 +1,40 @@
 //! Copies of what stands in items, where each string with an `x` in front gives way to the text that it expands to.
-ghost use Rattle.std.specs.Prelude.{◌≡◌, IfOk};
+ghost use Rattle.std.specs.Prelude.{◌≡◌, map, IfOk};
 ghost use Rattle.just_lang_shapes.specs.Expansions.{literal_with, expanded_literal, expanded_expr, expanded_exprs, expanded_default};
 
 use just_lang_read::Boxed;
-use just_lang_syntax::{Expr, Name, Quote, StringLiteral};
+use just_lang_syntax::{Expr, Quote, StringLiteral};
 use just_lang_types::Texts;
 use just_path_text::{NoMemory, Seq, Text, TryClone};
 use std::alloc::Global;
 
-/// A copy of a name.
-pub(crate) fn copy_of_name(name: &Name) -> Result<Name, NoMemory>
-    ensures { IfOk result (λ copy. copy ≡ name.now) }
-{
-    let text = name.text.try_clone()?;
-    Ok(Name {
-        text,
-        line: name.line,
-        column: name.column,
-    })
+/// What has strings in it that may expand.
+pub(crate) trait Expand: Drop {
+    ghost use Rattle.std.specs.Prelude.{◌≡◌, IfOk, List, Option, ℕ};
+    ghost use Rattle.just_lang_syntax.specs.declared.ast.StringLiteral.{StringLiteral};
+
+    /// The copy, by the texts of strings.
+    ghost expansion: { (StringLiteral → Option (List ℕ)) → Self → Self };
+
+    /// A copy with its strings expanded.
+    fn expanded<T: Texts>(&self, alloc: Global, texts: &T) -> Result<Self, NoMemory>
+        ensures { IfOk result (λ x. x ≡ expansion (T.text_of texts.now) self.now) };
 }
 
-/// A copy of a string.
-fn copy_of_literal(literal: &StringLiteral) -> Result<StringLiteral, NoMemory>
-    ensures { IfOk result (λ copy. copy ≡ literal.now) }
+/// Copies of some things with their strings expanded.
+pub(crate) fn expanded_each<T: Texts, X: Expand>(
+    alloc: Global,
+    texts: &T,
+    things: &[X],
+) -> Result<Seq<X>, NoMemory>
+    ensures { IfOk result (λ all. all ≡ map (X.expansion (T.text_of texts.now)) things.now) }
 {
-    let raw = literal.raw.try_clone()?;
-    Ok(StringLiteral {
-        expands: literal.expands,
-        quote: literal.quote,
-        raw,
-        line: literal.line,
-        column: literal.column,
-    })
+    let mut all = Vec::with_capacity(alloc, things.len())?;
+    'things: for thing in things {
+        let expanded = thing.expanded(alloc, texts)?;
+        all.push(expanded)?;
+    }
+    Ok(Seq::from(all))
 }
 
 /// A string of that text, at the place of another.
@@ -56,11 +59,11 @@ fn expanded_literal<T: Texts>(
     ensures { IfOk result (λ x. x ≡ expanded_literal (T.text_of texts.now) literal.now) }
 {
     if !literal.expands {
-        return copy_of_literal(literal);
+        return literal.try_clone();
     }
     match texts.text(alloc, literal)? {
         Some(text) => Ok(literal_with(literal, text)),
-        None => copy_of_literal(literal),
+        None => literal.try_clone(),
     }
 }
 
@@ -123,7 +126,7 @@ pub fn expanded_expr<T: Texts>(alloc: Global, texts: &T, expr: &Expr) -> Result<
             Ok(Expr::Concat(first, second))
         }
         Expr::Literal(literal) => Ok(Expr::Literal(expanded_literal(alloc, texts, literal)?)),
-        Expr::Variable(name) => Ok(Expr::Variable(copy_of_name(name)?)),
+        Expr::Variable(name) => Ok(Expr::Variable(name.try_clone()?)),
         Expr::Group(inside) => Ok(Expr::Group(expanded_inside(alloc, texts, inside)?)),
         Expr::Env {
             line,
@@ -153,6 +156,16 @@ pub fn expanded_expr<T: Texts>(alloc: Global, texts: &T, expr: &Expr) -> Result<
     }
 }
 
+impl Expand for Expr {
+    ghost use Rattle.just_lang_shapes.specs.Expansions.{expanded_expr};
+
+    ghost expansion = { λ text_of x. expanded_expr text_of x };
+
+    fn expanded<T: Texts>(&self, alloc: Global, texts: &T) -> Result<Expr, NoMemory> {
+        expanded_expr(alloc, texts, self)
+    }
+}
+
 /// Expressions with their strings expanded.
 pub fn expanded_exprs<T: Texts>(
     alloc: Global,
@@ -161,12 +174,7 @@ pub fn expanded_exprs<T: Texts>(
 ) -> Result<Seq<Expr>, NoMemory>
     ensures { IfOk result (λ all. all ≡ expanded_exprs (T.text_of texts.now) exprs.now) }
 {
-    let mut all = Vec::with_capacity(alloc, exprs.len())?;
-    'exprs: for expr in exprs {
-        let expanded = expanded_expr(alloc, texts, expr)?;
-        all.push(expanded)?;
-    }
-    Ok(Seq::from(all))
+    expanded_each(alloc, texts, exprs)
 }
 
 /// The default of a parameter with its strings expanded, where there is one.

@@ -1,13 +1,12 @@
 //! The keys of `arg`.
 ghost use Rattle.std.specs.Prelude.{◌≡◌, ℕ, List, IfOk, OnOk};
 ghost use Rattle.std.specs.Option.{option_copied};
-ghost use Rattle.just_lang_syntax.specs.Attributes.{is_key_or, has_key};
 ghost use Rattle.just_lang_shapes.specs.Attributes.{first_of};
-ghost use Rattle.just_lang_shapes.specs.Parameters.{is_alone, stands_alone, is_key, keys_behind, keys_for, or_earlier, found_at, keys_in, AreKeys, value_at, values_of, value_of};
+ghost use Rattle.just_lang_shapes.specs.Parameters.{is_alone, stands_alone, keys_behind, keys_for, or_earlier, found_at, keys_in, AreKeys, values_of, value_of};
 
-use super::steps::push_some;
-use just_lang_syntax::{Argument, Attribute, Expr, Name};
-use just_lang_types::{Texts, const_text};
+use just_lang_spots::push_some;
+use just_lang_syntax::{Argument, Attribute, Expr};
+use just_lang_types::{Texts, const_text, text_at};
 use just_path_text::{NoMemory, Seq, Text};
 use std::alloc::Global;
 use std::collections::BTreeMap;
@@ -106,55 +105,6 @@ pub fn stands_alone(key: &str, arguments: &[Argument]) -> bool
     false
 }
 
-/// Whether the argument has that key, with a value or alone.
-fn is_key_or(key: &str, argument: &Argument) -> bool
-    ensures { result ≡ is_key_or key.now argument.now.key argument.now.value }
-{
-    match &argument.key {
-        Some(name) => name.text.as_str() == key,
-        None => match &argument.value {
-            Expr::Variable(name) => name.text.as_str() == key,
-            _ => false,
-        },
-    }
-}
-
-/// Whether one of some has that key.
-pub fn has_key(key: &str, arguments: &[Argument]) -> bool
-    ensures { result ≡ has_key arguments.now key.now }
-{
-    'arguments: for argument in arguments {
-        if is_key_or(key, argument) {
-            return true;
-        }
-    }
-    false
-}
-
-fn is_key(key: &str, name: &Option<Name>) -> bool
-    ensures { result ≡ is_key key.now name.now }
-{
-    match name {
-        None => false,
-        Some(name) => name.text.as_str() == key,
-    }
-}
-
-/// The text of that key.
-fn value_at<T: Texts>(
-    alloc: Global,
-    texts: &T,
-    key: &str,
-    argument: &Argument,
-) -> Result<Option<Text>, NoMemory>
-    ensures { IfOk result (λ t. t ≡ value_at (T.text_of texts.now) key.now argument.now) }
-{
-    if !is_key(key, &argument.key) {
-        return Ok(None);
-    }
-    const_text(alloc, texts, &argument.value)
-}
-
 /// The texts of that key, in their order.
 pub fn values_of<T: Texts>(
     alloc: Global,
@@ -166,7 +116,7 @@ pub fn values_of<T: Texts>(
 {
     let mut all = Vec::new(alloc);
     'arguments: for argument in arguments {
-        let text = value_at(alloc, texts, key, argument)?;
+        let text = text_at(alloc, texts, key, argument)?;
         push_some(&mut all, text)?;
     }
     Ok(Seq::from(all))
@@ -182,7 +132,7 @@ pub fn value_of<T: Texts>(
     ensures { IfOk result (λ t. t ≡ value_of (T.text_of texts.now) key.now arguments.now) }
 {
     'arguments: for argument in arguments {
-        if let Some(text) = value_at(alloc, texts, key, argument)? {
+        if let Some(text) = text_at(alloc, texts, key, argument)? {
             return Ok(Some(text));
         }
     }

@@ -10,7 +10,6 @@ mod parameter;
 mod recipe;
 mod scope;
 mod settings;
-mod steps;
 
 pub use attributes::{doc_of, groups_of, is_private};
 pub use comments::{Comments, comments_of};

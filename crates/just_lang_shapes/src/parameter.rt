@@ -3,9 +3,9 @@ ghost use Rattle.std.specs.Prelude.{◌≡◌, IfOk, chars, codes, slice_get};
 ghost use Rattle.just_lang_shapes.specs.Parameters.{value_of, values_of, pattern_of, long_of, short_of, number_at, parameter_with, parameters_of};
 
 use super::expansions::expanded_default;
-use super::keys::{has_key, keys_of, stands_alone, value_of, values_of};
+use super::keys::{keys_of, stands_alone, value_of, values_of};
 use just_lang_read::decimal;
-use just_lang_syntax::{Argument, AstParameter, Attribute};
+use just_lang_syntax::{Argument, AstParameter, Attribute, has_key};
 use just_lang_types::{Parameter, Pattern, Texts};
 use just_path_text::{NoMemory, Seq, Text, TryClone};
 use std::alloc::Global;
@@ -19,7 +19,7 @@ fn long_of<T: Texts>(
 ) -> Result<Option<Text>, NoMemory>
     ensures { IfOk result (λ t. t ≡ long_of (T.text_of texts.now) name.now arguments.now) }
 {
-    if !has_key("long", arguments) {
+    if !has_key(arguments, "long") {
         return Ok(None);
     }
     match value_of(alloc, texts, "long", arguments)? {

@@ -4,8 +4,7 @@ ghost use Rattle.just_lang_spots.specs.Entries.{entry, entries};
 ghost use Rattle.just_lang_shapes.specs.Scopes.{assignment_in, assignments_of, unexport_in, unexports_of};
 
 use super::expansions::expanded_expr;
-use super::steps::push_some;
-use just_lang_spots::Entry;
+use just_lang_spots::{Entry, push_some};
 use just_lang_syntax::AstItem;
 use just_lang_types::{Assignment, Texts};
 use just_path_text::{NoMemory, Seq, Text, TryClone};

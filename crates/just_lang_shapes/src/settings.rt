@@ -5,8 +5,7 @@ ghost use Rattle.just_lang_spots.specs.Entries.{entry, entries};
 ghost use Rattle.just_lang_spots.specs.Items.{is_set};
 ghost use Rattle.just_lang_shapes.specs.Settings.{is_setting, value_in, setting_value, text_in, interpreter_of, interpreter_in, text_setting, list_setting, settings_with, settings_of};
 
-use super::steps::push_some;
-use just_lang_spots::{Entry, is_set};
+use just_lang_spots::{Entry, is_set, push_some};
 use just_lang_syntax::{AstItem, SettingValue, StringLiteral};
 use just_lang_types::{Interpreter, Settings, Texts, const_text};
 use just_path_text::{NoMemory, Seq, Text};

@@ -1,7 +1,7 @@
 -- One more, where there is one.
 use Rattle.std.proofs.Common.{◌+◌, ◌∙◌, drop}
 use Rattle.just_lang_spots.proofs.ListLaws.{drop_here}
-use Rattle.just_lang_shapes.specs.Parameters.{value_at}
+use Rattle.just_lang_types.specs.Options.{text_at}
 use Rattle.just_lang_shapes.proofs.ListLaws.{picked_step}
 use Rattle.just_lang_shapes.proofs.keys.values_of.Goals as goal
 
@@ -10,5 +10,5 @@ arguments-preserved g c =
     let xs = c.args.arguments.now in
     let i = c.arguments.argument-index in
     let x = c.argument-item.result in
-    picked_step (value_at (g.T.Texts.text_of c.args.texts.now) c.args.key.now) x (drop (i + 1) xs) (drop i xs) c.arguments.all.items c.push_some.new.list.items c.in_ok-text.text
+    picked_step (text_at (g.T.Texts.text_of c.args.texts.now) c.args.key.now) x (drop (i + 1) xs) (drop i xs) c.arguments.all.items c.push_some.new.list.items c.in_ok-text.text
     (drop_here xs i x c.arguments-test.true c.argument-item.is) c.in_ok-text.ensures c.in_ok-push_some.ensures ∙ c.arguments.invariant
