@@ -35,8 +35,3 @@ pub made_step : {A B : Type 0} (f : A → B) (y : A) (rest more : List A) (old n
 made_step {A} {B} f y rest more old new one e is n =
     ap (λ (ys : List B). ys ++ map f rest) n ∙ append_assoc old (one ∷ []) (map f rest)
     ∙ ap (λ (x : B). old ++ (x ∷ map f rest)) is ∙ sym (ap (λ (xs : List A). old ++ map f xs) e)
-
--- what was added of those in front, and what is still to be added
-pub flat_step : {A B : Type 0} (f : A → List B) (y : A) (rest more : List A) (old new : List B) → more ≡ y ∷ rest → new ≡ old ++ f y → new ++ flat_map f rest ≡ old ++ flat_map f more
-flat_step {A} {B} f y rest more old new e n =
-    ap (λ (ys : List B). ys ++ flat_map f rest) n ∙ append_assoc old (f y) (flat_map f rest) ∙ sym (ap (λ (xs : List A). old ++ flat_map f xs) e)

@@ -6,7 +6,7 @@ ghost use Rattle.just_lang_rules.specs.ParameterSpots.{wants_value};
 ghost use Rattle.just_lang_names.specs.Arities.{has_option_name, arity_of, arity_of_item, arities_of, arity_in, takes};
 ghost use Rattle.just_lang_names.specs.TargetSpots.{is_variadic};
 
-use super::names::{ModuleNames, Names};
+use super::names::Names;
 use super::options::{Options, options_of};
 use just_lang_spots::Entry;
 use just_lang_syntax::{AstItem, AstParameter, AstRecipe, ParameterKind};
@@ -143,16 +143,16 @@ fn arity_of_item<T: Texts>(alloc: Global, texts: &T, one: &Entry<'_>) -> Result<
     }
 }
 
-/// The arities of the recipes of a module.
+/// The arities of some recipes.
 fn arities_in<T: Texts>(
     alloc: Global,
     texts: &T,
-    names: &ModuleNames<'_>,
+    recipes: &[Entry<'_>],
 ) -> Result<Seq<Arity>, NoMemory>
-    ensures { IfOk result (λ s. s ≡ map (arity_of_item (T.text_of texts.now)) (entries names.now.recipes.items)) }
+    ensures { IfOk result (λ s. s ≡ map (arity_of_item (T.text_of texts.now)) (entries recipes.now)) }
 {
     let mut arities = Vec::new(alloc);
-    'recipes: for one in &names.recipes {
+    'recipes: for one in recipes {
         let arity = arity_of_item(alloc, texts, one)?;
         arities.push(arity)?;
     }
@@ -169,7 +169,7 @@ pub fn arities_of<T: Texts>(
 {
     let mut modules = Vec::new(alloc);
     'modules: for of_module in &names.modules {
-        let arities = arities_in(alloc, texts, of_module)?;
+        let arities = arities_in(alloc, texts, of_module.recipes.as_slice())?;
         modules.push(arities)?;
     }
     Ok(Arities { modules })

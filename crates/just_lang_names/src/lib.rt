@@ -3,7 +3,6 @@
 
 mod arity;
 mod children;
-mod items;
 mod listed;
 mod marked;
 mod marks;
@@ -17,7 +16,6 @@ mod targets;
 
 pub use arity::{Arities, Arity, arities_of};
 pub use children::Children;
-pub use items::{items_at, items_of_module};
 pub use listed::{ListedAlias, ListedDependency, all_aliases, all_dependencies};
 pub use marked::MarkedIndex;
 pub use names::{ModuleNames, Names, names_of};

@@ -18,12 +18,20 @@ struct NamedPlace<'a> {
 
 /// For each name the place of the last item of that name. Most are found by the marks of their names alone; those of which
 /// another name has the mark are kept by their names. Looking one up takes the logarithm of their number.
-#[derive(Drop)]
 pub struct MarkedIndex<'a> {
     /// The first name of each mark.
     firsts: BTreeMap<u64, NamedPlace<'a>>,
     /// The places of the names behind the first one of their marks.
     others: BTreeMap<&'a str, usize>,
+}
+
+impl Drop for MarkedIndex<'_> {
+    fn drop(self) {
+        let MarkedIndex {
+            firsts: _,
+            others: _,
+        } = self;
+    }
 }
 
 /// The places of the last ones of each name.

@@ -1,23 +1,19 @@
 //! What the names of a project's modules mean, as tables.
-ghost use Rattle.std.specs.Prelude.{◌≡◌, filter, IfOk};
-ghost use Rattle.just_lang_spots.specs.Entries.{entries, IsIndex};
-ghost use Rattle.just_lang_spots.specs.Items.{item_name, is_recipe_here, is_assignment};
-ghost use Rattle.just_lang_spots.specs.Standing.{standing};
+ghost use Rattle.std.specs.Prelude.{◌≡◌, IfOk};
+ghost use Rattle.just_lang_spots.specs.Entries.{IsIndex};
 ghost use Rattle.just_lang_spots.specs.Winners.{wins_in};
 ghost use Rattle.just_lang_names.specs.Names.{IsModuleNames, AreModuleNames, AreNames, layout_of, wins_of};
 ghost use Rattle.just_lang_names.specs.Standing.{absent_items};
 
 use super::children::{Children, children_of, own_numbers};
-use super::items::{items_at, items_of_module};
 use super::marked::{MarkedIndex, marked_index_of};
 use super::paths::{Paths, paths_of};
-use just_lang_layout::{File, Layout, Module};
-use just_lang_spots::{Entry, Index, index_of, recipe_items, standing, variable_items};
+use just_lang_layout::{File, Layout, Module, items_at, items_of_module};
+use just_lang_spots::{Entry, Index, index_of, standing_recipes, standing_variables};
 use just_path_text::{NoMemory, Seq};
 use std::alloc::Global;
 
 /// The items of a module, the recipes and the variables among them that stand, and the `mod`s whose modules aren't there.
-#[derive(Drop)]
 pub struct ModuleNames<'a> {
     pub items: Vec<Entry<'a>>,
     pub recipes: Vec<Entry<'a>>,
@@ -30,8 +26,20 @@ pub struct ModuleNames<'a> {
     pub absent_places: Index<'a>,
 }
 
+impl Drop for ModuleNames<'_> {
+    fn drop(self) {
+        let ModuleNames {
+            items: _,
+            recipes: _,
+            recipe_places: _,
+            variables: _,
+            variable_places: _,
+            absent_places: _,
+        } = self;
+    }
+}
+
 /// The names of all modules. Looking one up takes the logarithm of their number.
-#[derive(Drop)]
 pub struct Names<'a> {
     pub layout: &'a Layout,
     /// For each file those that import it, straight or through others.
@@ -46,28 +54,17 @@ pub struct Names<'a> {
     pub children: Children<'a>,
 }
 
-/// The recipes among some items that stand.
-fn standing_recipes<'a>(
-    alloc: Global,
-    winners: &[Seq<usize>],
-    items: &[Entry<'a>],
-) -> Result<Vec<Entry<'a>>, NoMemory>
-    ensures { IfOk result (λ v. entries v.items ≡ standing item_name (wins_in winners.now) (filter is_recipe_here (entries items.now))) }
-{
-    let recipes = recipe_items(alloc, items)?;
-    standing(alloc, winners, recipes.as_slice())
-}
-
-/// The variables among some items that stand.
-fn standing_variables<'a>(
-    alloc: Global,
-    winners: &[Seq<usize>],
-    items: &[Entry<'a>],
-) -> Result<Vec<Entry<'a>>, NoMemory>
-    ensures { IfOk result (λ v. entries v.items ≡ standing item_name (wins_in winners.now) (filter is_assignment (entries items.now))) }
-{
-    let variables = variable_items(alloc, items)?;
-    standing(alloc, winners, variables.as_slice())
+impl Drop for Names<'_> {
+    fn drop(self) {
+        let Names {
+            layout: _,
+            winners: _,
+            modules: _,
+            paths: _,
+            numbers: _,
+            children: _,
+        } = self;
+    }
 }
 
 /// The places among the `mod`s of a module whose modules aren't there.

@@ -79,49 +79,6 @@ fn last_spot_where(test: bool, file: usize, path: &[Name]) -> Option<Spot>
     if test { last_spot(file, path) } else { None }
 }
 
-/// The last name of a dependency's path, which comes to this, where the recipe doesn't take so many arguments.
-fn miscounted<'a>(
-    names: &Names<'a>,
-    arities: &Arities,
-    one: &ListedDependency<'a>,
-    found: &Target<'a>,
-) -> Option<Spot>
-    requires target { target found.now ≡ target_for PathKind.Dependency (wins_of names.now) (layout_of names.now) one.now.number one.now.dependency.now.path }
-    requires place { IsPlaced names.now found.now }
-    ensures { (text_of : StringLiteral → Option (List ℕ)) → AreArities text_of names.now arities.now → result ≡ first_spot (miscounted_dependency text_of (wins_of names.now) (layout_of names.now) (dependency_of one.now)) }
-{
-    match found {
-        Target::Recipe { number, place, .. } => match arities.at(*number, *place) {
-            None => None,
-            Some(arity) => {
-                let takes = arity.takes(one.dependency.arguments.len());
-                last_spot_where(!takes, one.file, one.dependency.path.as_slice())
-            }
-        },
-        _ => None,
-    }
-}
-
-/// The last name of a dependency's path, which comes to this, where the recipe has an option.
-fn on_option<'a>(
-    names: &Names<'a>,
-    arities: &Arities,
-    one: &ListedDependency<'a>,
-    found: &Target<'a>,
-) -> Option<Spot>
-    requires target { target found.now ≡ target_for PathKind.Dependency (wins_of names.now) (layout_of names.now) one.now.number one.now.dependency.now.path }
-    requires place { IsPlaced names.now found.now }
-    ensures { (text_of : StringLiteral → Option (List ℕ)) → AreArities text_of names.now arities.now → result ≡ first_spot (option_dependency text_of (wins_of names.now) (layout_of names.now) (dependency_of one.now)) }
-{
-    match found {
-        Target::Recipe { number, place, .. } => match arities.at(*number, *place) {
-            None => None,
-            Some(arity) => last_spot_where(arity.options, one.file, one.dependency.path.as_slice()),
-        },
-        _ => None,
-    }
-}
-
 /// The first places where dependencies break rules.
 #[derive(Clone, Copy)]
 pub struct DependencySpots {
@@ -133,6 +90,37 @@ pub struct DependencySpots {
     pub on_option: Option<Spot>,
 }
 
+/// The last name of a dependency's path, which comes to this: where the recipe doesn't take so many arguments, and where it
+/// has an option.
+fn arity_spots<'a>(
+    names: &Names<'a>,
+    arities: &Arities,
+    one: &ListedDependency<'a>,
+    found: &Target<'a>,
+) -> (Option<Spot>, Option<Spot>)
+    requires target { target found.now
+        ≡ target_for PathKind.Dependency (wins_of names.now) (layout_of names.now) one.now.number one.now.dependency.now.path }
+    requires place { IsPlaced names.now found.now }
+    ensures miscounted { (text_of : StringLiteral → Option (List ℕ)) → AreArities text_of names.now arities.now
+        → result.0 ≡ first_spot (miscounted_dependency text_of (wins_of names.now) (layout_of names.now) (dependency_of one.now)) }
+    ensures on_option { (text_of : StringLiteral → Option (List ℕ)) → AreArities text_of names.now arities.now
+        → result.1 ≡ first_spot (option_dependency text_of (wins_of names.now) (layout_of names.now) (dependency_of one.now)) }
+{
+    match found {
+        Target::Recipe { number, place, .. } => match arities.at(*number, *place) {
+            None => (None, None),
+            Some(arity) => {
+                let path = one.dependency.path.as_slice();
+                let takes = arity.takes(one.dependency.arguments.len());
+                let miscounted = last_spot_where(!takes, one.file, path);
+                let on_option = last_spot_where(arity.options, one.file, path);
+                (miscounted, on_option)
+            }
+        },
+        _ => (None, None),
+    }
+}
+
 /// Where a dependency breaks rules.
 fn spots_of<'a>(names: &Names<'a>, arities: &Arities, one: &ListedDependency<'a>) -> DependencySpots
     requires { AreNames names.now }
@@ -142,10 +130,11 @@ fn spots_of<'a>(names: &Names<'a>, arities: &Arities, one: &ListedDependency<'a>
 {
     let path = one.dependency.path.as_slice();
     let found = target_of(names, PathKind::Dependency, one.number, path);
+    let (miscounted, on_option) = arity_spots(names, arities, one, &found);
     DependencySpots {
         unknown: unknown_of(one.file, &found),
-        miscounted: miscounted(names, arities, one, &found),
-        on_option: on_option(names, arities, one, &found),
+        miscounted,
+        on_option,
     }
 }
 

@@ -6,5 +6,5 @@ use Rattle.just_lang_names.proofs.arity.arities_in.Given as goal
 
 abbrev pub invariant-recipes : goal.invariant-recipes
 invariant-recipes g l =
-    l.arities.items ++ map (arity_of_item (g.T.Texts.text_of l.texts)) (entries (drop l.one-index l.names.recipes.items))
-    ≡ map (arity_of_item (g.T.Texts.text_of l.texts)) (entries l.names.recipes.items)
+    l.arities.items ++ map (arity_of_item (g.T.Texts.text_of l.texts)) (entries (drop l.one-index l.recipes))
+    ≡ map (arity_of_item (g.T.Texts.text_of l.texts)) (entries l.recipes)

@@ -4,7 +4,7 @@ use Rattle.just_lang_spots.specs.Entries.{entry, entries}
 use Rattle.just_lang_spots.proofs.ListLaws.{entries_drop}
 use Rattle.just_lang_names.specs.Targets.{alias_in}
 use Rattle.just_lang_names.specs.TargetSpots.{aliases_in}
-use Rattle.just_lang_names.proofs.Steps.{flat_step}
+use Rattle.just_lang_rules.proofs.Loops.{flat_step}
 use Rattle.just_lang_names.proofs.listed.push_aliases.Goals as goal
 
 pub items-preserved : goal.items-preserved
