@@ -6,6 +6,8 @@ use Rattle.just_lang_syntax.specs.declared.ast.AstItem.TheVariants as item
 use Rattle.just_lang_syntax.specs.declared.ast.Name.{Name}
 use Rattle.just_lang_types.specs.declared.scope.Alias.{Alias}
 use Rattle.just_lang_types.specs.declared.scope.Disabled.{Disabled}
+use Rattle.just_lang_justfile.specs.declared.aliases.AliasKind.{AliasKind}
+use Rattle.just_lang_justfile.specs.declared.aliases.AliasKind.TheVariants as alias_kind
 use Rattle.just_lang_justfile.specs.declared.linker.AliasTarget.{AliasTarget}
 use Rattle.just_lang_justfile.specs.declared.linker.AliasTarget.TheVariants as target
 use Rattle.just_lang_justfile.specs.Links.{Links}
@@ -21,6 +23,11 @@ abbrev pub module_alias : List ℕ → AliasTarget → Option Alias
 module_alias name (target.Module path) = Some (record { name = name; target = path })
 module_alias name (target.Recipe path) = None
 module_alias name target.Nothing = None
+
+-- an alias whose target is of that kind
+abbrev pub alias_for : AliasKind → List ℕ → AliasTarget → Option Alias
+alias_for alias_kind.Recipe = recipe_alias
+alias_for alias_kind.Module = module_alias
 
 module _ (links : Links) (number : ℕ) where
   -- what an alias's path in the module of that number comes to; none where it can't be run
@@ -44,6 +51,10 @@ module _ (links : Links) (number : ℕ) where
 
   abbrev pub module_aliases_of : List (ℕ × AstItem) → List Alias
   module_aliases_of items = filter_map (alias_by module_alias) items
+
+  -- those of that kind
+  abbrev pub aliases_to : AliasKind → List (ℕ × AstItem) → List Alias
+  aliases_to kind items = filter_map (alias_by (alias_for kind)) items
 
   -- one that can't
   abbrev pub disabled_alias : ℕ × AstItem → Option Disabled

@@ -1,16 +1,22 @@
 //! The aliases of a module: of recipes, of modules, and those that can't be run.
 ghost use Rattle.std.specs.Prelude.{◌≡◌, Some, IfOk};
 ghost use Rattle.just_lang_spots.specs.Entries.{entry, entries};
-ghost use Rattle.just_lang_justfile.specs.Aliases.{recipe_alias, module_alias, target_of, alias_by, recipe_aliases_of, module_aliases_of, disabled_alias, disabled_aliases_of};
+ghost use Rattle.just_lang_justfile.specs.Aliases.{alias_for, target_of, alias_by, aliases_to, disabled_alias, disabled_aliases_of};
 
 use super::linker::{AliasTarget, Linker};
 use super::recipes::disabled_for;
-use super::steps::push_some;
-use just_lang_spots::Entry;
+use just_lang_spots::{Entry, push_some};
 use just_lang_syntax::{AstItem, Name};
 use just_lang_types::{Alias, Disabled, Modulepath};
 use just_path_text::{NoMemory, Seq, Text};
 use std::alloc::Global;
+
+/// What the target of an alias is.
+#[derive(Clone, Copy)]
+pub(crate) enum AliasKind {
+    Recipe,
+    Module,
+}
 
 /// The alias of that name, with that target.
 fn alias_to(alloc: Global, name: &Name, target: Modulepath) -> Result<Option<Alias>, NoMemory>
@@ -20,23 +26,25 @@ fn alias_to(alloc: Global, name: &Name, target: Modulepath) -> Result<Option<Ali
     Ok(Some(Alias { name, target }))
 }
 
-/// The alias of that name, where its target is a recipe.
-fn recipe_alias(alloc: Global, name: &Name, target: AliasTarget) -> Result<Option<Alias>, NoMemory>
-    ensures { IfOk result (λ a. a ≡ recipe_alias name.now.text target) }
+/// The alias of that name, where its target is of that kind.
+fn alias_for(
+    alloc: Global,
+    kind: AliasKind,
+    name: &Name,
+    target: AliasTarget,
+) -> Result<Option<Alias>, NoMemory>
+    ensures { IfOk result (λ a. a ≡ alias_for kind name.now.text target) }
 {
     match target {
-        AliasTarget::Recipe(path) => alias_to(alloc, name, path),
-        AliasTarget::Module(_) | AliasTarget::Nothing => Ok(None),
-    }
-}
-
-/// The alias of that name, where its target is a module.
-fn module_alias(alloc: Global, name: &Name, target: AliasTarget) -> Result<Option<Alias>, NoMemory>
-    ensures { IfOk result (λ a. a ≡ module_alias name.now.text target) }
-{
-    match target {
-        AliasTarget::Module(path) => alias_to(alloc, name, path),
-        AliasTarget::Recipe(_) | AliasTarget::Nothing => Ok(None),
+        AliasTarget::Recipe(path) => match kind {
+            AliasKind::Recipe => alias_to(alloc, name, path),
+            AliasKind::Module => Ok(None),
+        },
+        AliasTarget::Module(path) => match kind {
+            AliasKind::Recipe => Ok(None),
+            AliasKind::Module => alias_to(alloc, name, path),
+        },
+        AliasTarget::Nothing => Ok(None),
     }
 }
 
@@ -58,79 +66,42 @@ fn target_of<'a, L: Linker<'a>>(
     Ok(Some(links.alias_target(alloc, number, path)?))
 }
 
-/// The alias of a recipe that an item is, where it can be run.
-fn recipe_alias_in<'a, L: Linker<'a>>(
+/// The alias of that kind that an item is, where it can be run.
+fn alias_in<'a, L: Linker<'a>>(
     alloc: Global,
     links: &L,
     number: usize,
+    kind: AliasKind,
     one: &Entry<'a>,
 ) -> Result<Option<Alias>, NoMemory>
     requires { L.known links.now }
-    ensures { IfOk result (λ a. a ≡ alias_by (L.links links.now) number recipe_alias (entry one.now)) }
+    ensures { IfOk result (λ a. a ≡ alias_by (L.links links.now) number (alias_for kind) (entry one.now)) }
 {
     match one.item {
         AstItem::Alias { name, target, .. } => {
             match target_of(alloc, links, number, target.as_slice())? {
                 None => Ok(None),
-                Some(target) => recipe_alias(alloc, name, target),
+                Some(target) => alias_for(alloc, kind, name, target),
             }
         }
         _ => Ok(None),
     }
 }
 
-/// The alias of a module that an item is, where it can be run.
-fn module_alias_in<'a, L: Linker<'a>>(
+/// The aliases of that kind in the module of that number that can be run.
+pub(crate) fn aliases_to<'a, L: Linker<'a>>(
     alloc: Global,
     links: &L,
     number: usize,
-    one: &Entry<'a>,
-) -> Result<Option<Alias>, NoMemory>
-    requires { L.known links.now }
-    ensures { IfOk result (λ a. a ≡ alias_by (L.links links.now) number module_alias (entry one.now)) }
-{
-    match one.item {
-        AstItem::Alias { name, target, .. } => {
-            match target_of(alloc, links, number, target.as_slice())? {
-                None => Ok(None),
-                Some(target) => module_alias(alloc, name, target),
-            }
-        }
-        _ => Ok(None),
-    }
-}
-
-/// The aliases of recipes in the module of that number that can be run.
-pub(crate) fn recipe_aliases_of<'a, L: Linker<'a>>(
-    alloc: Global,
-    links: &L,
-    number: usize,
+    kind: AliasKind,
     items: &[Entry<'a>],
 ) -> Result<Seq<Alias>, NoMemory>
     requires { L.known links.now }
-    ensures { IfOk result (λ all. all ≡ recipe_aliases_of (L.links links.now) number (entries items.now)) }
+    ensures { IfOk result (λ all. all ≡ aliases_to (L.links links.now) number kind (entries items.now)) }
 {
     let mut all = Vec::new(alloc);
     'items: for one in items {
-        let alias = recipe_alias_in(alloc, links, number, one)?;
-        push_some(&mut all, alias)?;
-    }
-    Ok(Seq::from(all))
-}
-
-/// The aliases of modules in the module of that number that can be run.
-pub(crate) fn module_aliases_of<'a, L: Linker<'a>>(
-    alloc: Global,
-    links: &L,
-    number: usize,
-    items: &[Entry<'a>],
-) -> Result<Seq<Alias>, NoMemory>
-    requires { L.known links.now }
-    ensures { IfOk result (λ all. all ≡ module_aliases_of (L.links links.now) number (entries items.now)) }
-{
-    let mut all = Vec::new(alloc);
-    'items: for one in items {
-        let alias = module_alias_in(alloc, links, number, one)?;
+        let alias = alias_in(alloc, links, number, kind, one)?;
         push_some(&mut all, alias)?;
     }
     Ok(Seq::from(all))

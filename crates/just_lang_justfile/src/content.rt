@@ -14,15 +14,15 @@ ghost use Rattle.just_lang_justfile.specs.Modules.{source_of, IsModuleOf};
 ghost use Rattle.just_lang_justfile.specs.Recipes.{recipes_of, disabled_recipes_of};
 ghost use Rattle.just_lang_justfile.specs.Standing.{standing_recipes, standing_variables, absent_names};
 
-use super::aliases::{disabled_aliases_of, module_aliases_of, recipe_aliases_of};
+use super::aliases::{AliasKind, aliases_to, disabled_aliases_of};
 use super::declaration::{declaration_of, doc_in, groups_in};
-use super::items::{absent_names, items_of_module, standing_recipes, standing_variables};
+use super::items::absent_names;
 use super::linker::Linker;
 use super::project::Project;
 use super::recipes::{Parent, disabled_recipes_of, recipes_of};
-use just_lang_layout::{File, Module};
+use just_lang_layout::{File, Module, items_of_module};
 use just_lang_shapes::{Comments, assignments_of, settings_of, unexports_of};
-use just_lang_spots::Entry;
+use just_lang_spots::{Entry, standing_recipes, standing_variables};
 use just_lang_types::project::Justfile;
 use just_lang_types::{Alias, Assignment, Disabled, Modulepath, Recipe, Settings, Texts};
 use just_path::Utf8PathBuf;
@@ -111,8 +111,8 @@ fn aliases_of<'a, L: Linker<'a>>(
     ensures modules { IfOk result (λ a. a.modules ≡ module_aliases_of (L.links links.now) number (entries items.now)) }
     ensures disabled { IfOk result (λ a. a.disabled ≡ disabled_aliases_of (L.links links.now) number (entries items.now)) }
 {
-    let recipes = recipe_aliases_of(alloc, links, number, items)?;
-    let modules = module_aliases_of(alloc, links, number, items)?;
+    let recipes = aliases_to(alloc, links, number, AliasKind::Recipe, items)?;
+    let modules = aliases_to(alloc, links, number, AliasKind::Module, items)?;
     let disabled = disabled_aliases_of(alloc, links, number, items)?;
     Ok(Aliases {
         recipes,

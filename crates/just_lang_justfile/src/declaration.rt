@@ -6,8 +6,7 @@ ghost use Rattle.just_lang_justfile.specs.Comments.{above_at};
 ghost use Rattle.just_lang_justfile.specs.Declarations.{declaration_of, doc_by, groups_in};
 
 use super::comments::above_in;
-use super::items::item_at;
-use just_lang_layout::{File, Module};
+use just_lang_layout::{File, Module, item_at};
 use just_lang_shapes::{Comments, doc_of, groups_of};
 use just_lang_spots::Entry;
 use just_lang_syntax::AstItem;

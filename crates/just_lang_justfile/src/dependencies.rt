@@ -3,8 +3,8 @@ ghost use Rattle.std.specs.Prelude.{◌≡◌, IfOk};
 ghost use Rattle.just_lang_justfile.specs.Recipes.{dependency_of, dependencies_of};
 
 use super::linker::Linker;
-use super::steps::push_some;
 use just_lang_shapes::expanded_exprs;
+use just_lang_spots::push_some;
 use just_lang_syntax::AstDependency;
 use just_lang_types::{Dependency, Texts};
 use just_path_text::{NoMemory, Seq};

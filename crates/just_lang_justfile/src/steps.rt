@@ -1,6 +1,5 @@
-//! Steps of loops that make lists.
+//! A step of a loop that makes a list.
 ghost use Rattle.std.specs.Prelude.{◌≡◌, ◌++◌, ◌∷◌, [], OnOk};
-ghost use Rattle.std.specs.List.{cons_option};
 
 use just_path_text::NoMemory;
 
@@ -9,14 +8,4 @@ pub(crate) fn push_one<T: Drop>(list: &mut Vec<T>, one: T) -> Result<(), NoMemor
     ensures { OnOk result (list.new.items ≡ list.old.items ++ one ∷ []) }
 {
     Ok(list.push(one)?)
-}
-
-/// Adds one to a list, where there is one.
-pub(crate) fn push_some<T: Drop>(list: &mut Vec<T>, one: Option<T>) -> Result<(), NoMemory>
-    ensures { OnOk result (list.new.items ≡ list.old.items ++ cons_option one []) }
-{
-    match one {
-        None => Ok(()),
-        Some(one) => push_one(list, one),
-    }
 }

@@ -2,7 +2,7 @@
 use Rattle.std.proofs.Common.{◌+◌, ◌∙◌, drop}
 use Rattle.just_lang_spots.proofs.ListLaws.{drop_here}
 use Rattle.just_lang_justfile.specs.Recipes.{dependency_of}
-use Rattle.just_lang_justfile.proofs.ListLaws.{picked_step}
+use Rattle.just_lang_shapes.proofs.ListLaws.{picked_step}
 use Rattle.just_lang_justfile.proofs.dependencies.dependencies_of.Goals as goal
 
 pub dependencies-preserved : goal.dependencies-preserved

@@ -3,7 +3,8 @@ use Rattle.std.proofs.Common.{◌+◌, ◌∙◌, drop}
 use Rattle.std.specs.List.{enumerate_from}
 use Rattle.just_lang_spots.specs.Entries.{entry, entries}
 use Rattle.just_lang_justfile.specs.Recipes.{disabled_at}
-use Rattle.just_lang_justfile.proofs.ListLaws.{picked_step, places_here}
+use Rattle.just_lang_shapes.proofs.ListLaws.{picked_step}
+use Rattle.just_lang_justfile.proofs.ListLaws.{places_here}
 use Rattle.just_lang_justfile.proofs.recipes.disabled_recipes_of.Goals as goal
 
 pub standing-preserved : goal.standing-preserved

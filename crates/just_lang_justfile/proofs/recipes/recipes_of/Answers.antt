@@ -3,7 +3,7 @@ use Rattle.std.proofs.Common.{◌+◌, ◌∙◌, drop}
 use Rattle.just_lang_spots.specs.Entries.{entry, entries}
 use Rattle.just_lang_spots.proofs.ListLaws.{entries_drop}
 use Rattle.just_lang_justfile.specs.Recipes.{recipe_at}
-use Rattle.just_lang_justfile.proofs.ListLaws.{picked_step}
+use Rattle.just_lang_shapes.proofs.ListLaws.{picked_step}
 use Rattle.just_lang_justfile.proofs.recipes.recipes_of.Goals as goal
 
 pub standing-preserved : goal.standing-preserved
