@@ -7,3 +7,4 @@ pub mod Refusals
 pub mod Parts
 pub mod Texts
 pub mod Codes
+pub mod Executors

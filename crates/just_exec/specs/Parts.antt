@@ -8,6 +8,8 @@ use Rattle.just_host_record.specs.declared.entry.HostFault.TheVariants as fault
 use Rattle.just_lang_types.specs.declared.error.CompileKind.{CompileKind}
 use Rattle.just_lang_types.specs.declared.error.CompileKind.TheVariants as kind
 use Rattle.just_lang_types.specs.declared.recipe.Parameter.{Parameter}
+use Rattle.just_lang_types.specs.declared.switch.Switch.{Switch}
+use Rattle.just_lang_types.specs.Switches.{switch_text}
 use Rattle.just_print.specs.SmallTexts.{ticked, list_text}
 use Rattle.just_print.specs.Usages.{is_option, is_optional, is_variadic}
 use Rattle.just_config_words.specs.declared.usage.UsageKind.{UsageKind}
@@ -111,9 +113,13 @@ naming before name behind = codes "error: " ++ (before ++ (ticked name ++ behind
 abbrev pub of_recipe : List ℕ → List ℕ → List ℕ
 of_recipe recipe told = codes "error: recipe " ++ (ticked recipe ++ told)
 
--- what is told of a recipe and one of its switches or parameters
-abbrev pub of_switch : List ℕ → List ℕ → List ℕ → List ℕ → List ℕ
-of_switch recipe before switch behind = of_recipe recipe (before ++ (ticked switch ++ behind))
+-- what is told of a recipe and of a part of it, as a parameter, a shell or an output
+abbrev pub of_part : List ℕ → List ℕ → List ℕ → List ℕ → List ℕ
+of_part recipe before part behind = of_recipe recipe (before ++ (ticked part ++ behind))
+
+-- what is told of a recipe and one of its switches
+abbrev pub of_switch : List ℕ → List ℕ → Switch → List ℕ → List ℕ
+of_switch recipe before switch behind = of_part recipe before (switch_text switch) behind
 
 -- a file is imported by one that it leads to
 abbrev pub circular_text : List ℕ → List ℕ → List ℕ
@@ -126,7 +132,7 @@ absent_text noun name modules = naming noun name (codes " depends on absent ") +
 -- a parameter was given too few or too many values
 abbrev pub values_text : List ℕ → List ℕ → ℕ → List ℕ → ℕ → List ℕ
 values_text recipe parameter found bound number =
-    of_switch recipe (codes " parameter ") parameter (codes " got ") ++ (counted found (codes "value") ++ (codes " but takes at " ++ (bound ++ (codes " " ++ decimal number))))
+    of_part recipe (codes " parameter ") parameter (codes " got ") ++ (counted found (codes "value") ++ (codes " but takes at " ++ (bound ++ (codes " " ++ decimal number))))
 
 -- no pattern of a parameter matches a value
 abbrev pub pattern_text : List ℕ → List ℕ → List ℕ → List (List ℕ) → List ℕ
@@ -145,7 +151,7 @@ overrides_text vs = codes "error: " ++ (listed (codes "variable") vs ++ codes " 
 -- the shell of a recipe's line had an I/O error
 abbrev pub shell_text : List ℕ → List ℕ → HostFault → List ℕ
 shell_text recipe shell io =
-    of_switch recipe (codes " could not be run because of an IO error while launching the shell ") shell (codes ": ") ++ fault_text io
+    of_part recipe (codes " could not be run because of an IO error while launching the shell ") shell (codes ": ") ++ fault_text io
 
 -- the file of a recipe's script had one
 abbrev pub folder_text : List ℕ → HostFault → List ℕ
@@ -165,7 +171,7 @@ shebang_text recipe command argument io =
     of_recipe recipe (codes " with shebang `#!") ++ (command ++ (behind_blank argument ++ execution_text io))
 
 abbrev pub script_text : List ℕ → List ℕ → HostFault → List ℕ
-script_text recipe command io = of_switch recipe (codes " with command ") command (codes " execution error: ") ++ fault_text io
+script_text recipe command io = of_part recipe (codes " with command ") command (codes " execution error: ") ++ fault_text io
 
 -- a recipe's line failed, or was ended by a signal
 abbrev pub failed_text : List ℕ → Option ℕ → List ℕ

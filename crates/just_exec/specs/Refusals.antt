@@ -16,7 +16,14 @@ use Rattle.just_exec.specs.declared.error.Error.TheVariants as error
 -- of words
 abbrev pub usage_of_kind : UsageKind → Usage → Error
 usage_of_kind kind.NoMemory u = error.NoMemory
-usage_of_kind _ u = error.Usage u
+usage_of_kind kind.Unknown u = error.Usage u
+usage_of_kind kind.LeftOut u = error.Usage u
+usage_of_kind kind.MissingValue u = error.Usage u
+usage_of_kind kind.UnexpectedValue u = error.Usage u
+usage_of_kind kind.BadValue u = error.Usage u
+usage_of_kind kind.Repeated u = error.Usage u
+usage_of_kind kind.Conflict u = error.Usage u
+usage_of_kind kind.Requires u = error.Usage u
 
 abbrev pub error_of_usage : Usage → Error
 error_of_usage u = usage_of_kind u.kind u
@@ -24,7 +31,14 @@ error_of_usage u = usage_of_kind u.kind u
 -- of a configuration
 abbrev pub error_of_config : ConfigError → Error
 error_of_config config_error.NoMemory = error.NoMemory
-error_of_config e = error.Config e
+error_of_config (config_error.OverridePath path) = error.Config (config_error.OverridePath path)
+error_of_config (config_error.Internal message) = error.Config (config_error.Internal message)
+error_of_config config_error.SearchDirConflict = error.Config config_error.SearchDirConflict
+error_of_config (config_error.ModulePath path) = error.Config (config_error.ModulePath path)
+error_of_config config_error.RequestParse = error.Config config_error.RequestParse
+error_of_config (config_error.SubcommandArguments subcommand arguments) = error.Config (config_error.SubcommandArguments subcommand arguments)
+error_of_config (config_error.SubcommandOverrides subcommand overrides) = error.Config (config_error.SubcommandOverrides subcommand overrides)
+error_of_config (config_error.SubcommandOverridesAndArguments subcommand overrides arguments) = error.Config (config_error.SubcommandOverridesAndArguments subcommand overrides arguments)
 
 -- of a project, or of a request of its recipes
 abbrev pub error_of_lang : LangError → Error
@@ -68,7 +82,14 @@ error_of_search (search.FilesystemIo path io) = error.FilesystemIo path io
 error_of_search (search.Load path io) = error.Load path io
 error_of_search (search.Lang l) = error_of_lang l
 error_of_search search.NoMemory = error.NoMemory
-error_of_search e = error.Search e
+error_of_search search.GlobalJustfileInit = error.Search search.GlobalJustfileInit
+error_of_search search.GlobalJustfileNotFound = error.Search search.GlobalJustfileNotFound
+error_of_search search.InitWithJustfileFromStandardInput = error.Search search.InitWithJustfileFromStandardInput
+error_of_search (search.JustfileHadNoParent path) = error.Search (search.JustfileHadNoParent path)
+error_of_search (search.MultipleCandidates folder candidates) = error.Search (search.MultipleCandidates folder candidates)
+error_of_search search.NotFound = error.Search search.NotFound
+error_of_search (search.StdinIo io) = error.Search (search.StdinIo io)
+error_of_search (search.TempdirIo io) = error.Search (search.TempdirIo io)
 
 -- of dotenv files
 abbrev pub error_of_env : EnvError → Error

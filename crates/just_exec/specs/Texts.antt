@@ -14,7 +14,7 @@ use Rattle.just_env.specs.declared.env_error.OutputError.{OutputError}
 use Rattle.just_env.specs.declared.env_error.OutputError.TheVariants as output
 use Rattle.just_exec.specs.declared.error.Error.{Error}
 use Rattle.just_exec.specs.declared.error.Error.TheVariants as error
-use Rattle.just_exec.specs.Parts.{fault_text, kind_text, usage_text, counted, place_text, naming, of_recipe, of_switch, circular_text, absent_text, values_text, pattern_text, default_text, overrides_text, shell_text, folder_text, script_text, shebang_text, failed_text, terminated_text, takes_text}
+use Rattle.just_exec.specs.Parts.{fault_text, kind_text, usage_text, counted, place_text, naming, of_recipe, of_part, of_switch, circular_text, absent_text, values_text, pattern_text, default_text, overrides_text, shell_text, folder_text, script_text, shebang_text, failed_text, terminated_text, takes_text}
 
 -- a recipe with its short usage
 abbrev pub count_text : List ℕ → Modulepath → List Parameter → ℕ → List ℕ
@@ -99,10 +99,10 @@ error_text (error.MissingOption recipe switch) = of_switch recipe (codes " requi
 error_text (error.ArgumentTooFewValues recipe parameter found number) = values_text recipe parameter found (codes "least") number
 error_text (error.ArgumentTooManyValues recipe parameter found number) = values_text recipe parameter found (codes "most") number
 error_text (error.ArgumentPatternMismatch argument recipe parameter patterns) = pattern_text argument recipe parameter patterns
-error_text (error.EmptyListArgument recipe parameter) = of_switch recipe (codes " parameter ") parameter (codes " requires at least one element but received empty list")
+error_text (error.EmptyListArgument recipe parameter) = of_part recipe (codes " parameter ") parameter (codes " requires at least one element but received empty list")
 error_text (error.ExcessInvocations count) = codes "error: expected 1 command-line recipe invocation but found " ++ decimal count
 error_text error.ClosureLimit = codes "error: request needs more than 1000000 recipes"
-error_text (error.InvalidShebang recipe shebang) = of_switch recipe (codes " has invalid shebang ") shebang []
+error_text (error.InvalidShebang recipe shebang) = of_part recipe (codes " has invalid shebang ") shebang []
 error_text (error.Code recipe line code message) = failed_text recipe line ++ (codes " with exit code " ++ signed_decimal code)
 error_text (error.GuardCode recipe line code) =
     codes "error: guard line in recipe " ++ (ticked recipe ++ (codes " on line " ++ (decimal line ++ (codes " returned reserved exit code " ++ signed_decimal code))))
@@ -114,7 +114,7 @@ error_text (error.Shebang recipe command argument io) = shebang_text recipe comm
 error_text (error.TempdirIo recipe io) = folder_text recipe io
 error_text (error.CacheInputMissing path) = naming (codes "cache input does not exist: ") path []
 error_text (error.CacheInputDirectory path) = naming (codes "cache input is directory: ") path []
-error_text (error.CacheOutputMissing recipe output) = of_switch recipe (codes " failed to create cache output ") output []
+error_text (error.CacheOutputMissing recipe output) = of_part recipe (codes " failed to create cache output ") output []
 error_text (error.CacheEntryWrite path io) = naming (codes "failed to write cache entry at ") path (codes ": " ++ fault_text io)
 error_text (error.NotConfirmed recipe) = naming (codes "recipe ") recipe (codes " was not confirmed")
 error_text (error.GetConfirmation io) = codes "error: failed to read confirmation from stdin: " ++ fault_text io

@@ -4,12 +4,11 @@ use just_config::{ConfigError, UnstableFeature};
 use just_config_words::Usage;
 use just_env::{OutputError, SearchError};
 use just_host_record::{HostFault, Signal};
-use just_lang_types::{CompileError, Modulepath, Parameter};
+use just_lang_types::{CompileError, Modulepath, Parameter, Switch};
 use just_path::Utf8PathBuf;
 use just_path_text::{Seq, Text};
 
-/// Why a request is refused, or a run failed. Recipes are told by their names without those of their modules, switches with their dashes.
-#[derive(Drop)]
+/// Why a request is refused, or a run failed. Recipes are told by their names without those of their modules.
 pub enum Error {
     /// The words of the command line, or a variable that fills them in, are at fault.
     Usage(Usage),
@@ -108,26 +107,26 @@ pub enum Error {
     },
     UnknownOption {
         recipe: Text,
-        switch: Text,
+        switch: Switch,
     },
     InvalidOption {
         argument: Text,
     },
     FlagWithValue {
         recipe: Text,
-        switch: Text,
+        switch: Switch,
     },
     NonFinalOptionWithValue {
         recipe: Text,
-        switch: Text,
+        switch: Switch,
     },
     OptionMissingValue {
         recipe: Text,
-        switch: Text,
+        switch: Switch,
     },
     DuplicateOption {
         recipe: Text,
-        switch: Text,
+        switch: Switch,
     },
     /// A recipe got more or fewer positional arguments than it takes.
     PositionalArgumentCountMismatch {
@@ -138,7 +137,7 @@ pub enum Error {
     },
     MissingOption {
         recipe: Text,
-        switch: Text,
+        switch: Switch,
     },
     ArgumentTooFewValues {
         recipe: Text,
@@ -263,4 +262,170 @@ pub enum Error {
     /// A signal was caught before all recipes were done.
     Interrupted(Signal),
     NoMemory,
+}
+
+impl Drop for Error {
+    fn drop(self) {
+        match self {
+            Error::Usage(_)
+            | Error::NotBuilt { word: _ }
+            | Error::Config(_)
+            | Error::CurrentDir { io: _ }
+            | Error::Search(_)
+            | Error::Load { path: _, io: _ }
+            | Error::FilesystemIo { path: _, io: _ }
+            | Error::MissingImportFile
+            | Error::CircularImport {
+                current: _,
+                import: _,
+            }
+            | Error::MissingModuleFile { module: _ }
+            | Error::AmbiguousModuleFile {
+                module: _,
+                found: _,
+            }
+            | Error::Homedir
+            | Error::Compile(_)
+            | Error::Const {
+                path: _,
+                line: _,
+                column: _,
+            }
+            | Error::UnstableFeature(_)
+            | Error::DotenvRequired
+            | Error::Dotenv { path: _, line: _ }
+            | Error::DotenvArgumentsRequireLists
+            | Error::DotenvCommand {
+                command: _,
+                output_error: _,
+            }
+            | Error::UnknownOverrides { overrides: _ }
+            | Error::FunctionCall { name: _ }
+            | Error::NoRecipes
+            | Error::NoDefaultRecipe
+            | Error::DefaultRecipeRequiresArguments {
+                recipe: _,
+                min_arguments: _,
+            }
+            | Error::UnknownRecipe { recipe: _ }
+            | Error::UnknownSubmodule { path: _ }
+            | Error::ModuleAbsent { module: _ }
+            | Error::RecipeDisabled {
+                recipe: _,
+                modules: _,
+            }
+            | Error::AliasDisabled {
+                alias: _,
+                modules: _,
+            }
+            | Error::ExpectedSubmoduleButFoundRecipe { path: _ }
+            | Error::UnknownOption {
+                recipe: _,
+                switch: _,
+            }
+            | Error::InvalidOption { argument: _ }
+            | Error::FlagWithValue {
+                recipe: _,
+                switch: _,
+            }
+            | Error::NonFinalOptionWithValue {
+                recipe: _,
+                switch: _,
+            }
+            | Error::OptionMissingValue {
+                recipe: _,
+                switch: _,
+            }
+            | Error::DuplicateOption {
+                recipe: _,
+                switch: _,
+            }
+            | Error::PositionalArgumentCountMismatch {
+                recipe: _,
+                path: _,
+                parameters: _,
+                found: _,
+            }
+            | Error::MissingOption {
+                recipe: _,
+                switch: _,
+            }
+            | Error::ArgumentTooFewValues {
+                recipe: _,
+                parameter: _,
+                found: _,
+                min: _,
+            }
+            | Error::ArgumentTooManyValues {
+                recipe: _,
+                parameter: _,
+                found: _,
+                max: _,
+            }
+            | Error::ArgumentPatternMismatch {
+                argument: _,
+                recipe: _,
+                parameter: _,
+                pattern: _,
+            }
+            | Error::EmptyListArgument {
+                recipe: _,
+                parameter: _,
+            }
+            | Error::ExcessInvocations { invocations: _ }
+            | Error::ClosureLimit
+            | Error::InvalidShebang {
+                recipe: _,
+                shebang: _,
+            }
+            | Error::Code {
+                recipe: _,
+                line: _,
+                code: _,
+                message: _,
+            }
+            | Error::GuardCode {
+                recipe: _,
+                line: _,
+                code: _,
+            }
+            | Error::Signal {
+                recipe: _,
+                line: _,
+                signal: _,
+            }
+            | Error::Unknown { recipe: _, line: _ }
+            | Error::ShellIo {
+                recipe: _,
+                shell: _,
+                io: _,
+            }
+            | Error::Script {
+                recipe: _,
+                command: _,
+                io: _,
+            }
+            | Error::Shebang {
+                recipe: _,
+                command: _,
+                argument: _,
+                io: _,
+            }
+            | Error::TempdirIo { recipe: _, io: _ }
+            | Error::CacheInputMissing { path: _ }
+            | Error::CacheInputDirectory { path: _ }
+            | Error::CacheOutputMissing {
+                recipe: _,
+                output: _,
+            }
+            | Error::CacheEntryWrite { path: _, io: _ }
+            | Error::NotConfirmed { recipe: _ }
+            | Error::GetConfirmation { io: _ }
+            | Error::StdoutIo { io: _ }
+            | Error::InitExists { justfile: _ }
+            | Error::WriteJustfile { justfile: _, io: _ }
+            | Error::Interrupted(_)
+            | Error::NoMemory => {}
+        }
+    }
 }

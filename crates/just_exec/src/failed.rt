@@ -6,7 +6,7 @@ ghost use Rattle.just_print.specs.SmallTexts.{ticked};
 ghost use Rattle.just_exec.specs.Parts.{fault_text, line_text, shell_text, folder_text, script_text, behind_blank, execution_text, shebang_text, failed_text, terminated_text};
 
 use super::parts::fault_text;
-use super::sentences::{tell_recipe, tell_switch};
+use super::sentences::{tell_part, tell_recipe};
 use just_host_record::HostFault;
 use just_path_text::Text;
 use std::fmt;
@@ -89,7 +89,7 @@ pub(crate) fn tell_shell<W: fmt::Write>(
 ) -> fmt::Result
     ensures { WritesOnOk W.write_str_gives f.old result (shell_text recipe.now shell.now io) f.new }
 {
-    tell_switch(
+    tell_part(
         recipe,
         " could not be run because of an IO error while launching the shell ",
         shell,
@@ -124,7 +124,7 @@ pub(crate) fn tell_script<W: fmt::Write>(
 ) -> fmt::Result
     ensures { WritesOnOk W.write_str_gives f.old result (script_text recipe.now command.now io) f.new }
 {
-    tell_switch(recipe, " with command ", command, " execution error: ", f)?;
+    tell_part(recipe, " with command ", command, " execution error: ", f)?;
     tell_io(io, f)
 }
 

@@ -17,6 +17,7 @@ mod failed;
 mod from;
 mod heading;
 mod keys;
+mod lost;
 mod node_cache;
 mod node_plan;
 mod parts;
@@ -45,10 +46,11 @@ pub use just_lang_read::Boxed;
 pub use just_lang_types::project::{Justfile, LangError};
 pub use just_lang_types::{
     BodyLine, CompileError, CompileKind, DotenvOf, Interpreter, Key, Modulepath, Parameter, Recipe,
-    Scopes, Settings, Value,
+    Scopes, Settings, Switch, Value,
 };
 pub use just_path::{Miss, Utf8Path, Utf8PathBuf};
 pub use just_path_text::{NoMemory, Seq, Text, TryClone};
+pub use lost::executor_error;
 pub use node_cache::NodeCache;
 pub use node_plan::NodePlan;
 pub use plan_error::PlanError;

@@ -10,7 +10,7 @@ ghost use Rattle.just_exec.specs.Texts.{count_text, unstable_text};
 
 use super::parts::{least, most, takes_one_number};
 use super::sentences::{
-    tell_counted, tell_listed, tell_naming, tell_recipe, tell_switch, tell_ticked,
+    tell_counted, tell_listed, tell_naming, tell_part, tell_recipe, tell_ticked,
 };
 use just_config::UnstableFeature;
 use just_lang_types::{Modulepath, Parameter};
@@ -54,7 +54,7 @@ pub(crate) fn tell_values<W: fmt::Write>(
 ) -> fmt::Result
     ensures { WritesOnOk W.write_str_gives f.old result (values_text recipe.now parameter.now found bound.now number) f.new }
 {
-    tell_switch(recipe, " parameter ", parameter, " got ", f)?;
+    tell_part(recipe, " parameter ", parameter, " got ", f)?;
     tell_counted(found, "value", f)?;
     write!(f, " but takes at {bound} {number}")
 }

@@ -3,10 +3,11 @@
 ghost use Rattle.std.specs.Prelude.{◌≡◌, ◌++◌, codes, length};
 ghost use Rattle.std.specs.Fmt.{WritesOnOk};
 ghost use Rattle.just_print.specs.SmallTexts.{list_text};
-ghost use Rattle.just_exec.specs.Parts.{fault_text, place_text, several, counted, listed, ticked_before, naming, of_recipe, of_switch};
+ghost use Rattle.just_exec.specs.Parts.{fault_text, place_text, several, counted, listed, ticked_before, naming, of_recipe, of_part, of_switch};
 
 use super::parts::{fault_text, plural_end};
 use just_host_record::HostFault;
+use just_lang_types::Switch;
 use just_path_text::Text;
 use just_print::List;
 use std::fmt;
@@ -71,18 +72,32 @@ pub(crate) fn tell_recipe<W: fmt::Write>(
     write!(f, "error: recipe `{recipe}`{told}")
 }
 
-/// What is told of a recipe and one of its switches or parameters.
+/// What is told of a recipe and of a part of it, as a parameter, a shell or an output.
+pub(crate) fn tell_part<W: fmt::Write>(
+    recipe: &Text,
+    before: &str,
+    part: &Text,
+    behind: &str,
+    f: &mut fmt::Formatter<W>,
+) -> fmt::Result
+    ensures { WritesOnOk W.write_str_gives f.old result (of_part recipe.now before.now part.now behind.now) f.new }
+{
+    let recipe = recipe.as_str();
+    let part = part.as_str();
+    write!(f, "error: recipe `{recipe}`{before}`{part}`{behind}")
+}
+
+/// What is told of a recipe and one of its switches.
 pub(crate) fn tell_switch<W: fmt::Write>(
     recipe: &Text,
     before: &str,
-    switch: &Text,
+    switch: &Switch,
     behind: &str,
     f: &mut fmt::Formatter<W>,
 ) -> fmt::Result
     ensures { WritesOnOk W.write_str_gives f.old result (of_switch recipe.now before.now switch.now behind.now) f.new }
 {
     let recipe = recipe.as_str();
-    let switch = switch.as_str();
     write!(f, "error: recipe `{recipe}`{before}`{switch}`{behind}")
 }
 

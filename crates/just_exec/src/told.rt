@@ -17,7 +17,9 @@ use super::refused::{
     tell_absent, tell_circular, tell_count, tell_default, tell_overrides, tell_pattern,
     tell_unstable, tell_values,
 };
-use super::sentences::{tell_at, tell_fault, tell_list, tell_naming, tell_place, tell_switch};
+use super::sentences::{
+    tell_at, tell_fault, tell_list, tell_naming, tell_part, tell_place, tell_switch,
+};
 use just_config::Usage;
 use just_env::{OutputError, SearchError};
 use just_host_record::HostFault;
@@ -330,7 +332,7 @@ fn tell_argument<W: fmt::Write>(error: &Error, f: &mut fmt::Formatter<W>) -> fmt
             pattern.as_slice(),
             f,
         ),
-        Error::EmptyListArgument { recipe, parameter } => tell_switch(
+        Error::EmptyListArgument { recipe, parameter } => tell_part(
             recipe,
             " parameter ",
             parameter,
@@ -382,7 +384,7 @@ fn tell_child<W: fmt::Write>(error: &Error, f: &mut fmt::Formatter<W>) -> fmt::R
 {
     match error {
         Error::InvalidShebang { recipe, shebang } => {
-            tell_switch(recipe, " has invalid shebang ", shebang, "", f)
+            tell_part(recipe, " has invalid shebang ", shebang, "", f)
         }
         Error::ShellIo { recipe, shell, io } => tell_shell(recipe, shell, *io, f),
         Error::Script {
@@ -413,7 +415,7 @@ fn tell_cache<W: fmt::Write>(error: &Error, f: &mut fmt::Formatter<W>) -> fmt::R
             tell_naming("cache input is directory: ", path.as_str(), "", f)
         }
         Error::CacheOutputMissing { recipe, output } => {
-            tell_switch(recipe, " failed to create cache output ", output, "", f)
+            tell_part(recipe, " failed to create cache output ", output, "", f)
         }
         Error::CacheEntryWrite { path, io } => {
             tell_at("failed to write cache entry at ", path.as_str(), *io, f)
