@@ -1,5 +1,5 @@
 -- What a text is cut into at the last one of a character.
-use Rattle.std.proofs.Common.{◌≡◌, ℕ, ◌≤◌, ◌+◌, ◌++◌, true, false, List, [], ◌∷◌, refl, sym, ◌∙◌, ap, subst, length, take, drop, Bor, Option}
+use Rattle.std.proofs.Common.{◌≡◌, ℕ, ◌<◌, ◌≤◌, ◌+◌, ◌++◌, true, false, List, [], ◌∷◌, refl, sym, ◌∙◌, ap, subst, length, take, drop, Bor, Option}
 use Rattle.std.specs.Prelude.{Some, None}
 use Rattle.std.specs.Str.Pattern.{RFindsChar}
 use Rattle.std.specs.Option.{MatchOption}
