@@ -20,7 +20,8 @@ use Rattle.just_eval_closure.specs.Answers.{Answer, and_then}
 use Rattle.just_lang_types.specs.Modules.{path_of, recipes_of, modules_of, AreModules, Located, located}
 use Rattle.just_lang_types.proofs.Nesting.{same_modules}
 use Rattle.just_eval_closure.specs.Dependencies.{value_from, values_behind, values_given}
-use Rattle.just_eval_words.specs.Parameters.{is_variadic, is_option, least_words}
+use Rattle.just_print.specs.Usages.{is_variadic, is_option}
+use Rattle.just_eval_words.specs.Parameters.{least_words}
 use Rattle.just_eval_words.specs.Switches.{Words, all_taken}
 use Rattle.just_eval_words.specs.Tests.{values_for, given_from, given_words, refusal}
 use Rattle.just_eval_words.specs.Given.{unless, tested, words_given}

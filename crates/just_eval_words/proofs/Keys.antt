@@ -1,5 +1,5 @@
 -- The key of one invocation, step by step.
-use Rattle.std.proofs.Common.{◌≡◌, ℕ, ◌+◌, List, map, drop, drop-drop, Ok, Err, ap, ◌∙◌}
+use Rattle.std.proofs.Common.{◌≡◌, ℕ, ◌+◌, List, map, drop, drop-drop, Option, Ok, Err, sym, ap, ◌∙◌}
 use Rattle.just_lang_types.specs.declared.key.Key.{Key}
 use Rattle.just_lang_types.specs.declared.key.Value.{Value}
 use Rattle.just_lang_types.specs.declared.scope.Scopes.{Scopes}
@@ -24,11 +24,16 @@ module _ (scopes : Scopes) (l : Located) (ws : List Word) where
   words_refused e h = ap by_words h
 
   module _ (given : List (List Word)) (left : List Word) (h : words_given l.recipe ws ≡ Ok (given, left)) where
-    pub values_refused : (e : LangError) → values_given scopes l (map as_given given) ≡ Err e → key_behind scopes l ws ≡ Err e
-    values_refused e k = ap by_words h ∙ ap (by_values given left) k
+    -- the values of what is given, at the recipe with what its expressions see
+    module _ (to : Located) (shares : List (Option (List Word))) (is : to ≡ l) (are : shares ≡ map as_given given) where
+      values_here : values_given scopes l (map as_given given) ≡ values_given scopes to shares
+      values_here = ap (λ t. values_given scopes t (map as_given given)) (sym is) ∙ ap (values_given scopes to) (sym are)
 
-    pub key_is : (vs : List Value) → values_given scopes l (map as_given given) ≡ Ok vs → key_behind scopes l ws ≡ Ok (record { recipe = l.recipe.path; arguments = vs }, left)
-    key_is vs k = ap by_words h ∙ ap (by_values given left) k
+      pub values_refused : (e : LangError) → values_given scopes to shares ≡ Err e → key_behind scopes l ws ≡ Err e
+      values_refused e k = ap by_words h ∙ ap (by_values given left) (values_here ∙ k)
+
+      pub key_is : (vs : List Value) → values_given scopes to shares ≡ Ok vs → key_behind scopes l ws ≡ Ok (record { recipe = l.recipe.path; arguments = vs }, left)
+      key_is vs k = ap by_words h ∙ ap (by_values given left) (values_here ∙ k)
 
 pub drop_further : (p c : ℕ) (ws : List Word) → drop c (drop p ws) ≡ drop (p + c) ws
 drop_further p c ws = drop-drop c p ws

@@ -11,7 +11,6 @@ pub mod Steps
 pub mod Parts
 pub mod Lookups
 pub mod Targets
-pub mod InvocationValues
 pub mod Keys
 pub mod Invoked
 pub mod Agree

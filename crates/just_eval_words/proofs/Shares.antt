@@ -3,52 +3,51 @@ use Rattle.std.proofs.Common.{◌≡◌, ℕ, suc, ◌+◌, ◌<◌, ◌≤◌, 
 use Rattle.std.specs.Prelude.{if◌then◌else◌}
 use Rattle.std.proofs.lemmas.List.{drop_all}
 use Rattle.just_lang_types.specs.declared.recipe.Parameter.{Parameter}
-use Rattle.just_eval_words.specs.Parameters.{is_option, is_variadic}
+use Rattle.just_print.specs.Usages.{is_option, is_variadic}
 use Rattle.just_eval_words.specs.Sorts.{Word}
 use Rattle.just_eval_words.specs.Tests.{values_for, given_from}
 
--- what a parameter is given in front of what the others are
-abbrev by : Bool → Bool → ℕ → List Parameter → List Word → List (ℕ × Word) → List (List Word)
-by option all n ps ws os =
-    if option then values_for n os ∷ given_from (suc n) ps ws os else (if all then ws ∷ given_from (suc n) ps [] os else take 1 ws ∷ given_from (suc n) ps (drop 1 ws) os)
+one_more : (n : ℕ) → suc n ≡ n + 1
+one_more n = omega arith
 
-module _ (ps : List Parameter) (os : List (ℕ × Word)) (n : ℕ) (p : Parameter) (given : List (List Word)) (lt : n < length ps) (is : p ≡ get_or ps n p) where
-  one : n + 1 ≡ suc n
-  one = omega arith
+-- ---- one parameter
 
-  here : (ws : List Word) → given_from n (drop n ps) ws os ≡ by (is_option p) (is_variadic p.kind) n (drop (suc n) ps) ws os
-  here ws = ap (λ qs. given_from n qs ws os) (drop-cons ps n p lt ∙ ap (λ z. z ∷ drop (suc n) ps) (sym is))
+module _ (n : ℕ) (p : Parameter) (os : List (ℕ × Word)) (ps : List Parameter) (x ws : List Word) where
+  -- in front of what the others are given of the words that are left
+  abbrev by : Bool → Bool → List (List Word)
+  by option all = if option then values_for n os ∷ given_from (suc n) ps ws os else (if all then ws ∷ given_from (suc n) ps [] os else take 1 ws ∷ given_from (suc n) ps (drop 1 ws) os)
 
-  -- with what the parameter is given
-  joined : (x : List Word) (ws vs : List Word) → given_from n (drop n ps) ws os ≡ x ∷ given_from (suc n) (drop (suc n) ps) vs os → (given ++ x ∷ []) ++ given_from (n + 1) (drop (n + 1) ps) vs os ≡ given ++ given_from n (drop n ps) ws os
-  joined x ws vs h =
-      append_assoc given (x ∷ []) (given_from (n + 1) (drop (n + 1) ps) vs os) ∙ ap (λ k. given ++ x ∷ given_from k (drop k ps) vs os) one ∙ ap (λ l. given ++ l) (sym h)
+  numbered : (vs : List Word) → x ∷ given_from (suc n) ps vs os ≡ x ∷ given_from (n + 1) ps vs os
+  numbered vs = ap (λ k. x ∷ given_from k ps vs os) (one_more n)
 
   -- an option its values
-  pub option_given : (ws : List Word) → is_option p ≡ true → (given ++ values_for n os ∷ []) ++ given_from (n + 1) (drop (n + 1) ps) ws os ≡ given ++ given_from n (drop n ps) ws os
-  option_given ws h = joined (values_for n os) ws ws (here ws ∙ ap (λ b. by b (is_variadic p.kind) n (drop (suc n) ps) ws os) h)
+  pub option_given : is_option p ≡ true → x ≡ values_for n os → given_from n (p ∷ ps) ws os ≡ x ∷ given_from (n + 1) ps ws os
+  option_given h is = ap (λ b. by b (is_variadic p.kind)) h ∙ ap (λ y. y ∷ given_from (suc n) ps ws os) (sym is) ∙ numbered ws
 
-  positional : (ws : List Word) (all : Bool) → is_option p ≡ false → is_variadic p.kind ≡ all → given_from n (drop n ps) ws os ≡ by false all n (drop (suc n) ps) ws os
-  positional ws all h k = here ws ∙ ap (λ b. by b (is_variadic p.kind) n (drop (suc n) ps) ws os) h ∙ ap (λ b. by false b n (drop (suc n) ps) ws os) k
+  positional : (all : Bool) → is_option p ≡ false → is_variadic p.kind ≡ all → given_from n (p ∷ ps) ws os ≡ by false all
+  positional all h k = ap (λ b. by b (is_variadic p.kind)) h ∙ ap (by false) k
 
   -- a variadic one all that are left
-  pub all_given : (ws : List Word) (m : ℕ) → is_option p ≡ false → is_variadic p.kind ≡ true → (given ++ drop m ws ∷ []) ++ given_from (n + 1) (drop (n + 1) ps) (drop (length ws) ws) os ≡ given ++ given_from n (drop n ps) (drop m ws) os
-  all_given ws m h k =
-      let none : drop (length ws) ws ≡ [] = drop_all (length ws) ws (omega arith) in
-      joined (drop m ws) (drop m ws) (drop (length ws) ws) (positional (drop m ws) true h k ∙ ap (λ vs. drop m ws ∷ given_from (suc n) (drop (suc n) ps) vs os) (sym none))
+  pub all_given : (vs : List Word) → is_option p ≡ false → is_variadic p.kind ≡ true → x ≡ ws → vs ≡ [] → given_from n (p ∷ ps) ws os ≡ x ∷ given_from (n + 1) ps vs os
+  all_given vs h k is none = positional true h k ∙ ap (λ y. y ∷ given_from (suc n) ps [] os) (sym is) ∙ ap (λ us. x ∷ given_from (suc n) ps us os) (sym none) ∙ numbered vs
 
   -- another one a word
-  pub one_given : (ws : List Word) (m : ℕ) (w : Word) → is_option p ≡ false → is_variadic p.kind ≡ false → m < length ws → w ≡ get_or ws m w → (given ++ (w ∷ []) ∷ []) ++ given_from (n + 1) (drop (n + 1) ps) (drop (m + 1) ws) os ≡ given ++ given_from n (drop n ps) (drop m ws) os
-  one_given ws m w h k lt' is' =
-      let next : m + 1 ≡ suc m = omega arith in
-      let split : drop m ws ≡ w ∷ drop (suc m) ws = drop-cons ws m w lt' ∙ ap (λ z. z ∷ drop (suc m) ws) (sym is') in
-      joined (w ∷ []) (drop m ws) (drop (m + 1) ws) (positional (drop m ws) false h k ∙ ap (λ vs. take 1 vs ∷ given_from (suc n) (drop (suc n) ps) (drop 1 vs) os) split ∙ ap (λ j. (w ∷ []) ∷ given_from (suc n) (drop (suc n) ps) (drop j ws) os) (sym next))
+  pub one_given : (w : Word) (vs : List Word) → is_option p ≡ false → is_variadic p.kind ≡ false → ws ≡ w ∷ vs → x ≡ w ∷ [] → given_from n (p ∷ ps) ws os ≡ x ∷ given_from (n + 1) ps vs os
+  one_given w vs h k split is = positional false h k ∙ ap (λ us. take 1 us ∷ given_from (suc n) ps (drop 1 us) os) split ∙ ap (λ y. y ∷ given_from (suc n) ps vs os) (sym is) ∙ numbered vs
 
   -- or none where no word is left
-  pub none_given : (ws : List Word) (m : ℕ) → is_option p ≡ false → is_variadic p.kind ≡ false → length ws ≤ m → (given ++ [] ∷ []) ++ given_from (n + 1) (drop (n + 1) ps) (drop m ws) os ≡ given ++ given_from n (drop n ps) (drop m ws) os
-  none_given ws m h k le =
-      let none : drop m ws ≡ [] = drop_all m ws le in
-      joined [] (drop m ws) (drop m ws) (positional (drop m ws) false h k ∙ ap (λ vs. take 1 vs ∷ given_from (suc n) (drop (suc n) ps) (drop 1 vs) os) none ∙ ap (λ vs. [] ∷ given_from (suc n) (drop (suc n) ps) vs os) (sym none))
+  pub none_given : is_option p ≡ false → is_variadic p.kind ≡ false → ws ≡ [] → x ≡ [] → given_from n (p ∷ ps) ws os ≡ x ∷ given_from (n + 1) ps ws os
+  none_given h k none is = positional false h k ∙ ap (λ us. take 1 us ∷ given_from (suc n) ps (drop 1 us) os) none ∙ ap (λ us. [] ∷ given_from (suc n) ps us os) (sym none) ∙ ap (λ y. y ∷ given_from (suc n) ps ws os) (sym is) ∙ numbered ws
+
+-- ---- all parameters
+
+-- what a parameter was given is behind what those before it were given
+pub given_more : (ps : List Parameter) (os : List (ℕ × Word)) (n : ℕ) (p : Parameter) (given : List (List Word)) (x ws vs : List Word) → n < length ps → p ≡ get_or ps n p → ((qs : List Parameter) → given_from n (p ∷ qs) ws os ≡ x ∷ given_from (n + 1) qs vs os)
+    → (given ++ x ∷ []) ++ given_from (n + 1) (drop (n + 1) ps) vs os ≡ given ++ given_from n (drop n ps) ws os
+given_more ps os n p given x ws vs lt is h =
+    let here : given_from n (drop n ps) ws os ≡ x ∷ given_from (n + 1) (drop (n + 1) ps) vs os =
+    ap (λ qs. given_from n qs ws os) (drop-cons ps n p lt ∙ ap (λ z. z ∷ drop (suc n) ps) (sym is)) ∙ h (drop (suc n) ps) ∙ ap (λ k. x ∷ given_from (n + 1) (drop k ps) vs os) (one_more n) in
+    append_assoc given (x ∷ []) (given_from (n + 1) (drop (n + 1) ps) vs os) ∙ ap (λ l. given ++ l) (sym here)
 
 -- no parameter is left
 pub no_parameter : (ps : List Parameter) (os : List (ℕ × Word)) (n : ℕ) (given : List (List Word)) (ws : List Word) → length ps ≤ n → given ++ given_from n (drop n ps) ws os ≡ given

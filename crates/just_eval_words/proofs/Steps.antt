@@ -1,20 +1,22 @@
 -- What one word gives, case by case.
-use Rattle.std.proofs.Common.{◌≡◌, ℕ, Bool, true, false, List, [], ◌∷◌, ◌++◌, length, Option, Some, None, Ok, Err, codes, refl, sym, ap, ◌∙◌}
-use Rattle.std.specs.Prelude.{if◌then◌else◌, ◌==◌, ◌&&◌, ◌||◌, not, bytes_eq, encode_utf8}
+use Rattle.std.proofs.Common.{◌≡◌, ℕ, Bool, true, false, List, [], length, Option, Some, None, Ok, Err, refl, sym, ap, ◌∙◌}
+use Rattle.std.specs.Prelude.{if◌then◌else◌, ◌==◌, ◌&&◌, ◌||◌, not, bytes_eq}
 use Rattle.std.specs.List.{list_any}
 use Rattle.just_lang_types.specs.declared.recipe.Parameter.{Parameter}
 use Rattle.just_lang_types.specs.declared.recipe.Recipe.{Recipe}
+use Rattle.just_lang_types.specs.declared.switch.Switch.{Switch}
+use Rattle.just_lang_types.specs.declared.switch.Switch.TheVariants as switch
 use Rattle.just_lang_types.specs.declared.project.LangError.{LangError}
 use Rattle.just_lang_types.specs.declared.project.LangError.TheVariants as error
 use Rattle.just_eval_closure.specs.Answers.{Answer, and_then}
-use Rattle.just_eval_words.specs.Parameters.{is_variadic, has_long, has_short, numbered_from, fixed_value, most_words, has_room}
+use Rattle.just_eval_words.specs.Parameters.{has_long, has_short, numbered_from, fixed_value}
 use Rattle.just_eval_words.specs.Sorts.{Word, Sort, sort}
 use Rattle.just_eval_words.specs.Switches.{Words, Awaited, Step, is_full, with_option, noted, then_any, option_taken, long_found, long_taken, letter_valued, letter_found, letter_taken, letters_taken, positional_taken, taken_of, sort_taken, word_taken}
 
 module _ (r : Recipe) where
   -- ---- a value
 
-  module _ (s : List ℕ) (n : ℕ) (p : Parameter) (t : Words) (v : Word) where
+  module _ (s : Switch) (n : ℕ) (p : Parameter) (t : Words) (v : Word) where
     pub note_again : is_full n p t ≡ true → noted r s n p t v ≡ Err (error.DuplicateOption r.name s)
     note_again h = ap (λ b. if b then Err (error.DuplicateOption r.name s) else Ok (with_option t n v)) h
 
@@ -23,7 +25,7 @@ module _ (r : Recipe) where
 
   -- ---- a long switch
 
-  module _ (s : List ℕ) (t : Words) (n : ℕ) (p : Parameter) where
+  module _ (s : Switch) (t : Words) (n : ℕ) (p : Parameter) where
     pub flag_given : (f g : Word) → fixed_value p ≡ Some f → option_taken r s t n p (fixed_value p) (Some g) ≡ Err (error.FlagWithValue r.name s)
     flag_given f g h = ap (λ o. option_taken r s t n p o (Some g)) h
 
@@ -60,31 +62,31 @@ module _ (r : Recipe) where
 
   module _ (w : Word) (name : List ℕ) (g : Option Word) (t : Words) where
     abbrev by_name : Bool → Answer Step
-    by_name b = if b then Err (error.InvalidOption w) else long_found r (codes "--" ++ name) t g (numbered_from (has_long name) 0 r.parameters)
+    by_name b = if b then Err (error.InvalidOption w) else long_found r (switch.Long name) t g (numbered_from (has_long name) 0 r.parameters)
 
     pub long_nameless : bytes_eq name [] ≡ true → long_taken r w name g t ≡ Err (error.InvalidOption w)
     long_nameless h = ap by_name h
 
-    pub long_unknown : bytes_eq name [] ≡ false → numbered_from (has_long name) 0 r.parameters ≡ None → long_taken r w name g t ≡ Err (error.UnknownOption r.name (codes "--" ++ name))
-    long_unknown h k = ap by_name h ∙ ap (long_found r (codes "--" ++ name) t g) k
+    pub long_unknown : bytes_eq name [] ≡ false → numbered_from (has_long name) 0 r.parameters ≡ None → long_taken r w name g t ≡ Err (error.UnknownOption r.name (switch.Long name))
+    long_unknown h k = ap by_name h ∙ ap (long_found r (switch.Long name) t g) k
 
-    pub long_is : (n : ℕ) (p : Parameter) (x : Answer Step) → bytes_eq name [] ≡ false → numbered_from (has_long name) 0 r.parameters ≡ Some (n, p) → option_taken r (codes "--" ++ name) t n p (fixed_value p) g ≡ x → long_taken r w name g t ≡ x
-    long_is n p x h k l = ap by_name h ∙ ap (long_found r (codes "--" ++ name) t g) k ∙ l
+    pub long_is : (n : ℕ) (p : Parameter) (x : Answer Step) → bytes_eq name [] ≡ false → numbered_from (has_long name) 0 r.parameters ≡ Some (n, p) → option_taken r (switch.Long name) t n p (fixed_value p) g ≡ x → long_taken r w name g t ≡ x
+    long_is n p x h k l = ap by_name h ∙ ap (long_found r (switch.Long name) t g) k ∙ l
 
   module _ (c : ℕ) (last : Bool) (t : Words) where
-    pub letter_unknown : numbered_from (has_short c) 0 r.parameters ≡ None → letter_taken r c last t ≡ Err (error.UnknownOption r.name (codes "-" ++ encode_utf8 c))
-    letter_unknown h = ap (letter_found r (codes "-" ++ encode_utf8 c) last t) h
+    pub letter_unknown : numbered_from (has_short c) 0 r.parameters ≡ None → letter_taken r c last t ≡ Err (error.UnknownOption r.name (switch.Short c))
+    letter_unknown h = ap (letter_found r (switch.Short c) last t) h
 
-    pub letter_is : (n : ℕ) (p : Parameter) (x : Answer Step) → numbered_from (has_short c) 0 r.parameters ≡ Some (n, p) → letter_valued r (codes "-" ++ encode_utf8 c) last t n p (fixed_value p) ≡ x → letter_taken r c last t ≡ x
-    letter_is n p x h k = ap (letter_found r (codes "-" ++ encode_utf8 c) last t) h ∙ k
+    pub letter_is : (n : ℕ) (p : Parameter) (x : Answer Step) → numbered_from (has_short c) 0 r.parameters ≡ Some (n, p) → letter_valued r (switch.Short c) last t n p (fixed_value p) ≡ x → letter_taken r c last t ≡ x
+    letter_is n p x h k = ap (letter_found r (switch.Short c) last t) h ∙ k
 
   -- ---- words
 
   module _ (t : Words) (w : Word) where
-    pub value_noted : (s : List ℕ) (n : ℕ) (p : Parameter) (u : Words) → noted r s n p t w ≡ Ok u → word_taken r (Awaited.a_value s n p) t w ≡ Ok (Some (u, Awaited.a_word false))
+    pub value_noted : (s : Switch) (n : ℕ) (p : Parameter) (u : Words) → noted r s n p t w ≡ Ok u → word_taken r (Awaited.a_value s n p) t w ≡ Ok (Some (u, Awaited.a_word false))
     value_noted s n p u h = ap (λ a. taken_of r (then_any r a)) h
 
-    pub value_refused : (s : List ℕ) (n : ℕ) (p : Parameter) (e : LangError) → noted r s n p t w ≡ Err e → word_taken r (Awaited.a_value s n p) t w ≡ Err e
+    pub value_refused : (s : Switch) (n : ℕ) (p : Parameter) (e : LangError) → noted r s n p t w ≡ Err e → word_taken r (Awaited.a_value s n p) t w ≡ Err e
     value_refused s n p e h = ap (λ a. taken_of r (then_any r a)) h
 
     pub ended_is : (o : Option Step) → positional_taken r true t w ≡ o → word_taken r (Awaited.a_word true) t w ≡ Ok o

@@ -3,6 +3,7 @@ use Rattle.std.proofs.Common.{◌≡◌, ℕ, suc, ◌+◌, ◌<◌, ◌≤◌, 
 use Rattle.std.proofs.lemmas.List.{drop_all}
 use Rattle.just_lang_types.specs.declared.recipe.Parameter.{Parameter}
 use Rattle.just_lang_types.specs.declared.recipe.Recipe.{Recipe}
+use Rattle.just_lang_types.specs.declared.switch.Switch.{Switch}
 use Rattle.just_lang_types.specs.declared.project.LangError.{LangError}
 use Rattle.just_lang_types.specs.declared.project.LangError.TheVariants as error
 use Rattle.just_eval_closure.specs.Answers.{Answer, and_then}
@@ -38,7 +39,7 @@ pub words_end : (r : Recipe) (ws : List Word) (n : ℕ) (b : Bool) (t : Words) �
 words_end r ws n b t le = let none : drop n ws ≡ [] = drop_all n ws le in ap (λ vs. takes r (Awaited.a_word b) t vs) none ∙ ap (λ vs. Ok (t, vs)) (sym none)
 
 -- an option waits for its value
-pub value_missing : (r : Recipe) (ws : List Word) (n : ℕ) (switch : List ℕ) (m : ℕ) (p : Parameter) (t : Words) → length ws ≤ n → takes r (Awaited.a_value switch m p) t (drop n ws) ≡ Err (error.OptionMissingValue r.name switch)
+pub value_missing : (r : Recipe) (ws : List Word) (n : ℕ) (switch : Switch) (m : ℕ) (p : Parameter) (t : Words) → length ws ≤ n → takes r (Awaited.a_value switch m p) t (drop n ws) ≡ Err (error.OptionMissingValue r.name switch)
 value_missing r ws n switch m p t le = ap (λ vs. takes r (Awaited.a_value switch m p) t vs) (drop_all n ws le)
 
 -- ---- with the tests

@@ -1,35 +1,17 @@
 -- How the parameters of a recipe take words.
 use Rattle.std.specs.Prelude.{ℕ, nat_lt, ◌==◌, ◌&&◌, ◌||◌, not, Bool, true, false, if◌then◌else◌, List, [], ◌∷◌, length, suc, Option, Some, None, is_some, codes, bytes_eq}
 use Rattle.std.specs.List.{list_any, filter}
-use Rattle.just_lang_syntax.specs.declared.ast.ParameterKind.{ParameterKind}
-use Rattle.just_lang_syntax.specs.declared.ast.ParameterKind.TheVariants.{Singular, Plus, Star}
 use Rattle.just_lang_types.specs.declared.recipe.Parameter.{Parameter}
+use Rattle.just_print.specs.Usages.{is_option, is_optional, is_variadic}
 
--- ---- positional parameters
-
-abbrev pub is_variadic : ParameterKind → Bool
-is_variadic Singular = false
-is_variadic Plus = true
-is_variadic Star = true
-
-abbrev pub is_star : ParameterKind → Bool
-is_star Singular = false
-is_star Plus = false
-is_star Star = true
-
--- a parameter with a name for switches is an option; the others are positional
-abbrev pub is_option : Parameter → Bool
-is_option p = is_some p.long || is_some p.short
-
-abbrev pub has_options : List Parameter → Bool
-has_options ps = list_any is_option ps
+-- ---- positional parameters: those that are no options
 
 abbrev pub is_positional : Parameter → Bool
 is_positional p = not (is_option p)
 
 -- a positional parameter that can't go without a word
 abbrev pub needs_word : Parameter → Bool
-needs_word p = not (is_option p) && not (is_some p.default || is_star p.kind)
+needs_word p = not (is_option p) && not (is_optional p)
 
 -- one that takes any number of words
 abbrev pub takes_all : Parameter → Bool

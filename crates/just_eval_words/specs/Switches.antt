@@ -1,14 +1,17 @@
 -- What a recipe takes of the words behind its path: positional words, and switches with their values.
-use Rattle.std.specs.Prelude.{ℕ, ◌==◌, ◌&&◌, ◌||◌, not, Bool, true, false, if◌then◌else◌, List, [], ◌∷◌, ◌++◌, length, Option, Some, None, Ok, Err, codes, bytes_eq, encode_utf8}
+use Rattle.std.specs.Prelude.{ℕ, ◌==◌, ◌&&◌, ◌||◌, not, Bool, true, false, if◌then◌else◌, List, [], ◌∷◌, ◌++◌, length, Option, Some, None, Ok, Err, bytes_eq}
 use Rattle.std.specs.List.{list_any}
 use Rattle.just_lang_types.specs.declared.recipe.Parameter.{Parameter}
 use Rattle.just_lang_types.specs.declared.recipe.Recipe.{Recipe}
+use Rattle.just_lang_types.specs.declared.switch.Switch.{Switch}
+use Rattle.just_lang_types.specs.declared.switch.Switch.TheVariants as a_switch
 use Rattle.just_lang_types.specs.declared.project.LangError.TheVariants as error
 use Rattle.just_eval_closure.specs.Answers.{Answer, and_then}
 use Rattle.just_eval_words.specs.declared.taken.Taken.{Taken}
 use Rattle.just_eval_words.specs.declared.taken.Next.{Next}
 use Rattle.just_eval_words.specs.declared.taken.Next.TheVariants as next
-use Rattle.just_eval_words.specs.Parameters.{is_variadic, has_options, most_words, has_room, has_long, has_short, numbered_from, fixed_value}
+use Rattle.just_print.specs.Usages.{is_variadic, has_options}
+use Rattle.just_eval_words.specs.Parameters.{most_words, has_room, has_long, has_short, numbered_from, fixed_value}
 use Rattle.just_eval_words.specs.Sorts.{Word, Sort, sort}
 
 -- ---- what was taken, and what comes next
@@ -30,7 +33,7 @@ with_option t n v = record { positional = t.positional; options = t.options ++ (
 -- any word, where the switches may have ended; or the value of an option, by its switch and the number of its parameter
 pub data Awaited : Type 0 where
   a_word : Bool → Awaited
-  a_value : List ℕ → ℕ → Parameter → Awaited
+  a_value : Switch → ℕ → Parameter → Awaited
 
 abbrev pub words_of : Taken → Words
 words_of t = record { positional = t.positional.items; options = t.options.items }
@@ -57,40 +60,40 @@ module _ (r : Recipe) where
   -- ---- one switch
 
   -- a value comes once, but where the option may come several times
-  abbrev pub noted : List ℕ → ℕ → Parameter → Words → Word → Answer Words
+  abbrev pub noted : Switch → ℕ → Parameter → Words → Word → Answer Words
   noted switch n p t v = if is_full n p t then Err (error.DuplicateOption r.name switch) else Ok (with_option t n v)
 
   abbrev pub then_any : Answer Words → Answer Step
   then_any a = and_then a (λ u. Ok (u, Awaited.a_word false))
 
   -- a long switch: by the value that its option takes without words, and the one behind its `=`
-  abbrev pub option_taken : List ℕ → Words → ℕ → Parameter → Option Word → Option Word → Answer Step
+  abbrev pub option_taken : Switch → Words → ℕ → Parameter → Option Word → Option Word → Answer Step
   option_taken switch t n p (Some fixed) (Some given) = Err (error.FlagWithValue r.name switch)
   option_taken switch t n p (Some fixed) None = then_any (noted switch n p t fixed)
   option_taken switch t n p None (Some given) = then_any (noted switch n p t given)
   option_taken switch t n p None None = Ok (t, Awaited.a_value switch n p)
 
-  abbrev pub long_found : List ℕ → Words → Option Word → Option (ℕ × Parameter) → Answer Step
+  abbrev pub long_found : Switch → Words → Option Word → Option (ℕ × Parameter) → Answer Step
   long_found switch t given None = Err (error.UnknownOption r.name switch)
   long_found switch t given (Some o) = option_taken switch t o.0 o.1 (fixed_value o.1) given
 
   -- `--NAME` or `--NAME=VALUE`
   abbrev pub long_taken : Word → List ℕ → Option Word → Words → Answer Step
   long_taken w name given t =
-      if bytes_eq name [] then Err (error.InvalidOption w) else long_found (codes "--" ++ name) t given (numbered_from (has_long name) 0 r.parameters)
+      if bytes_eq name [] then Err (error.InvalidOption w) else long_found (a_switch.Long name) t given (numbered_from (has_long name) 0 r.parameters)
 
   -- a letter: by whether it is the last one of its group, and the value that its option takes without words
-  abbrev pub letter_valued : List ℕ → Bool → Words → ℕ → Parameter → Option Word → Answer Step
+  abbrev pub letter_valued : Switch → Bool → Words → ℕ → Parameter → Option Word → Answer Step
   letter_valued switch last t n p (Some fixed) = then_any (noted switch n p t fixed)
   letter_valued switch true t n p None = Ok (t, Awaited.a_value switch n p)
   letter_valued switch false t n p None = Err (error.NonFinalOptionWithValue r.name switch)
 
-  abbrev pub letter_found : List ℕ → Bool → Words → Option (ℕ × Parameter) → Answer Step
+  abbrev pub letter_found : Switch → Bool → Words → Option (ℕ × Parameter) → Answer Step
   letter_found switch last t None = Err (error.UnknownOption r.name switch)
   letter_found switch last t (Some o) = letter_valued switch last t o.0 o.1 (fixed_value o.1)
 
   abbrev pub letter_taken : ℕ → Bool → Words → Answer Step
-  letter_taken c last t = letter_found (codes "-" ++ encode_utf8 c) last t (numbered_from (has_short c) 0 r.parameters)
+  letter_taken c last t = letter_found (a_switch.Short c) last t (numbered_from (has_short c) 0 r.parameters)
 
   -- the letters of a group, one after the other
   abbrev pub letters_taken : List ℕ → Answer Step → Answer Step

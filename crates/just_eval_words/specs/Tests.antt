@@ -1,14 +1,17 @@
 -- What is tested behind all words.
-use Rattle.std.specs.Prelude.{ℕ, suc, ◌==◌, nat_lt, ◌&&◌, not, Bool, true, false, if◌then◌else◌, List, [], ◌∷◌, ◌++◌, length, take, drop, map, filter, find, Option, Some, None, is_some, Result, Ok, Err, ◌≡◌, ◌≢◌, codes, encode_utf8}
+use Rattle.std.specs.Prelude.{ℕ, suc, ◌==◌, nat_lt, not, Bool, true, false, if◌then◌else◌, List, [], ◌∷◌, ◌++◌, length, take, drop, map, filter, find, Option, Some, None, is_some, Result, Ok, Err, ◌≡◌, ◌≢◌}
 use Rattle.std.specs.List.{list_any}
 use Rattle.std.specs.Option.{option_map}
 use Rattle.just_path_text.specs.Environ.{or_else}
 use Rattle.just_lang_types.specs.declared.recipe.Parameter.{Parameter}
 use Rattle.just_lang_types.specs.declared.recipe.Pattern.{Pattern}
 use Rattle.just_lang_types.specs.declared.recipe.Recipe.{Recipe}
+use Rattle.just_lang_types.specs.declared.switch.Switch.{Switch}
+use Rattle.just_lang_types.specs.declared.switch.Switch.TheVariants as switch
 use Rattle.just_lang_types.specs.declared.project.LangError.{LangError}
 use Rattle.just_lang_types.specs.declared.project.LangError.TheVariants as error
-use Rattle.just_eval_words.specs.Parameters.{is_variadic, is_option, least_words}
+use Rattle.just_print.specs.Usages.{is_variadic, is_option}
+use Rattle.just_eval_words.specs.Parameters.{least_words}
 use Rattle.just_eval_words.specs.Sorts.{Word}
 use Rattle.just_eval_words.specs.Switches.{Words}
 use Rattle.just_eval_words.specs.Patterns.{matches}
@@ -32,13 +35,13 @@ given_words ps t = given_from 0 ps t.positional t.options
 
 -- ---- tests
 
--- the dashes and the name of an option, the long one where it has both
-abbrev pub switch_by : Option (List ℕ) → Option ℕ → List ℕ
-switch_by (Some long) short = codes "--" ++ long
-switch_by None (Some short) = codes "-" ++ encode_utf8 short
-switch_by None None = []
+-- the switch of an option, the long one where it has both; none of a parameter that is no option
+abbrev pub switch_by : Option (List ℕ) → Option ℕ → Option Switch
+switch_by (Some long) short = Some (switch.Long long)
+switch_by None (Some short) = Some (switch.Short short)
+switch_by None None = None
 
-abbrev pub switch_of : Parameter → List ℕ
+abbrev pub switch_of : Parameter → Option Switch
 switch_of p = switch_by p.long p.short
 
 -- what a test says of the first parameter, in their order, of which it says something
@@ -54,7 +57,7 @@ module _ (r : Recipe) where
 
   -- an option without a default that wasn't given
   abbrev pub lack : Parameter → List Word → Option LangError
-  lack p [] = if is_option p && not (is_some p.default) then Some (error.MissingOption r.name (switch_of p)) else None
+  lack p [] = if is_some p.default then None else option_map (error.MissingOption r.name) (switch_of p)
   lack p (v ∷ vs) = None
 
   -- fewer values than it takes, or more

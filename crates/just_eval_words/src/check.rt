@@ -4,24 +4,23 @@ ghost use Rattle.std.specs.Prelude.{◌≡◌, IfOk, length};
 ghost use Rattle.just_eval_words.specs.Tests.{switch_of, first_over, count_refusal, lack, miscount, mismatch, refusal, Passes};
 
 use super::copy::copy_parameters;
-use super::parameter::{is_option, least_words};
+use super::parameter::least_words;
 use super::pattern::first_mismatch;
-use super::switch::{letter_switch, long_switch};
 use just_lang_types::project::LangError;
-use just_lang_types::{Parameter, Recipe};
+use just_lang_types::{Parameter, Recipe, Switch};
 use just_path_text::{NoMemory, Seq, Text, TryClone};
 use std::alloc::Global;
 
-/// The switch of an option, the long one where it has both.
-fn switch_of(alloc: Global, parameter: &Parameter) -> Result<Text, NoMemory>
-    ensures { IfOk result (λ t. t ≡ switch_of parameter.now) }
+/// The switch of an option, the long one where it has both; none where the parameter is no option.
+fn switch_of(parameter: &Parameter) -> Result<Option<Switch>, NoMemory>
+    ensures { IfOk result (λ s. s ≡ switch_of parameter.now) }
 {
     if let Some(long) = &parameter.long {
-        return long_switch(alloc, long.as_str());
+        return Ok(Some(Switch::Long(long.try_clone()?)));
     }
     match parameter.short {
-        Some(letter) => letter_switch(alloc, letter),
-        None => Ok(Text::from(String::new(alloc))),
+        Some(letter) => Ok(Some(Switch::Short(letter))),
+        None => Ok(None),
     }
 }
 
@@ -32,35 +31,33 @@ fn check_count(alloc: Global, recipe: &Recipe, count: usize) -> Result<(), LangE
     let parameters = recipe.parameters.as_slice();
     if count < least_words(parameters) {
         return Err(LangError::PositionalArgumentCountMismatch {
-            parameters: copy_parameters(alloc, parameters)?,
-            path: recipe.path.try_clone()?,
-            recipe: recipe.name.try_clone()?,
             found: count,
+            recipe: recipe.name.try_clone()?,
+            path: recipe.path.try_clone()?,
+            parameters: copy_parameters(alloc, parameters)?,
         });
     }
     Ok(())
 }
 
 /// Refuses an option that was given nothing and has no default.
-fn check_lack(
-    alloc: Global,
-    recipe: &Recipe,
-    parameter: &Parameter,
-    values: &[Text],
-) -> Result<(), LangError>
+fn check_lack(recipe: &Recipe, parameter: &Parameter, values: &[Text]) -> Result<(), LangError>
     ensures { Passes (lack recipe.now parameter.now values.now) result }
 {
     match values {
         [] => {}
         [_, ..] => return Ok(()),
     }
-    if is_option(parameter) && !parameter.default.is_some() {
-        return Err(LangError::MissingOption {
-            recipe: recipe.name.try_clone()?,
-            switch: switch_of(alloc, parameter)?,
-        });
+    if parameter.default.is_some() {
+        return Ok(());
     }
-    Ok(())
+    match switch_of(parameter)? {
+        None => Ok(()),
+        Some(switch) => Err(LangError::MissingOption {
+            recipe: recipe.name.try_clone()?,
+            switch,
+        }),
+    }
 }
 
 /// Refuses fewer values than a parameter takes, or more.
@@ -117,7 +114,7 @@ fn check_pattern(
 
 /// Refuses the first option that was given nothing and has no default.
 #[tactic(auto, using(crate::proofs::Firsts::passed, crate::proofs::Firsts::refused, crate::proofs::Firsts::no_parameter, crate::proofs::Firsts::nothing_given))]
-fn check_lacks(alloc: Global, recipe: &Recipe, given: &[Seq<Text>]) -> Result<(), LangError>
+fn check_lacks(recipe: &Recipe, given: &[Seq<Text>]) -> Result<(), LangError>
     ensures { Passes (first_over (lack recipe.now) recipe.now.parameters given.now) result }
 {
     let parameters = recipe.parameters.as_slice();
@@ -125,7 +122,7 @@ fn check_lacks(alloc: Global, recipe: &Recipe, given: &[Seq<Text>]) -> Result<()
         if at >= given.len() {
             return Ok(());
         }
-        check_lack(alloc, recipe, &parameters[at], given[at].as_slice())?;
+        check_lack(recipe, &parameters[at], given[at].as_slice())?;
     }
     Ok(())
 }
@@ -171,7 +168,7 @@ pub(crate) fn check(
     ensures { Passes (refusal recipe.now count given.now) result }
 {
     check_count(alloc, recipe, count)?;
-    check_lacks(alloc, recipe, given)?;
+    check_lacks(recipe, given)?;
     check_numbers(recipe, given)?;
     check_patterns(alloc, recipe, given)?;
     Ok(())

@@ -1,123 +1,11 @@
 //! Copies of parameters.
 
-ghost use Rattle.std.specs.Prelude.{◌≡◌, IfOk};
+ghost use Rattle.std.specs.Prelude.{◌≡◌, Ok, true, IfOk};
 
-use just_lang_read::Boxed;
-use just_lang_types::{Expr, Name, Parameter, Pattern, StringLiteral};
+use just_lang_syntax::copy_expr;
+use just_lang_types::{Expr, Parameter, Pattern};
 use just_path_text::{NoMemory, Seq, TryClone};
 use std::alloc::Global;
-
-/// A copy of a name.
-fn copy_name(name: &Name) -> Result<Name, NoMemory>
-    ensures { IfOk result (λ n. n ≡ name.now) }
-{
-    Ok(Name {
-        text: name.text.try_clone()?,
-        line: name.line,
-        column: name.column,
-    })
-}
-
-/// A copy of a string.
-fn copy_string(string: &StringLiteral) -> Result<StringLiteral, NoMemory>
-    ensures { IfOk result (λ s. s ≡ string.now) }
-{
-    Ok(StringLiteral {
-        expands: string.expands,
-        quote: string.quote,
-        raw: string.raw.try_clone()?,
-        line: string.line,
-        column: string.column,
-    })
-}
-
-/// A copy of an expression.
-#[cycle(copy)]
-fn copy_expr(alloc: Global, expr: &Expr) -> Result<Expr, NoMemory>
-    ensures { IfOk result (λ e. e ≡ expr.now) }
-{
-    match expr {
-        Expr::If {
-            left,
-            comparison,
-            right,
-            consequent,
-            chained,
-            alternative,
-        } => {
-            let left = copied(alloc, left.get())?;
-            let right = copied(alloc, right.get())?;
-            let consequent = copied(alloc, consequent.get())?;
-            let alternative = copied(alloc, alternative.get())?;
-            Ok(Expr::If {
-                left,
-                comparison: *comparison,
-                right,
-                consequent,
-                chained: *chained,
-                alternative,
-            })
-        }
-        Expr::Root(inside) => {
-            let inside = copied(alloc, inside.get())?;
-            Ok(Expr::Root(inside))
-        }
-        Expr::Join(first, second) => {
-            let first = copied(alloc, first.get())?;
-            let second = copied(alloc, second.get())?;
-            Ok(Expr::Join(first, second))
-        }
-        Expr::Concat(first, second) => {
-            let first = copied(alloc, first.get())?;
-            let second = copied(alloc, second.get())?;
-            Ok(Expr::Concat(first, second))
-        }
-        Expr::Literal(string) => Ok(Expr::Literal(copy_string(string)?)),
-        Expr::Variable(name) => Ok(Expr::Variable(copy_name(name)?)),
-        Expr::Group(inside) => {
-            let inside = copied(alloc, inside.get())?;
-            Ok(Expr::Group(inside))
-        }
-        Expr::Env {
-            line,
-            column,
-            key,
-            default,
-        } => {
-            let key = copied(alloc, key.get())?;
-            let default = copied_default(alloc, default)?;
-            Ok(Expr::Env {
-                line: *line,
-                column: *column,
-                key,
-                default,
-            })
-        }
-    }
-}
-
-/// A copy of an expression, on the heap.
-#[cycle(copy)]
-fn copied(alloc: Global, expr: &Expr) -> Result<Boxed<Expr>, NoMemory>
-    ensures { IfOk result (λ b. b ≡ expr.now) }
-{
-    let copy = copy_expr(alloc, expr)?;
-    Ok(Boxed::new(alloc, copy)?)
-}
-
-/// A copy of the second argument of `env`, where there is one.
-#[cycle(copy)]
-fn copied_default(
-    alloc: Global,
-    default: &Option<Boxed<Expr>>,
-) -> Result<Option<Boxed<Expr>>, NoMemory>
-    ensures { IfOk result (λ d. d ≡ default.now) }
-{
-    match default {
-        None => Ok(None),
-        Some(inside) => Ok(Some(copied(alloc, inside.get())?)),
-    }
-}
 
 /// A copy of an expression, where there is one.
 fn copy_default(alloc: Global, default: &Option<Expr>) -> Result<Option<Expr>, NoMemory>
@@ -141,11 +29,28 @@ fn copy_pattern(pattern: &Option<Pattern>) -> Result<Option<Pattern>, NoMemory>
     }
 }
 
+/// What was copied. Where memory was wanting it is none, and `is_whole` turns false: who copies much needs no way out behind
+/// each copy.
+fn kept<T>(copied: Result<Option<T>, NoMemory>, is_whole: &mut bool) -> Option<T>
+    ensures { (is_whole.new ≡ true) → (is_whole.old ≡ true) × (copied ≡ Ok result) }
+{
+    match copied {
+        Ok(copy) => copy,
+        Err(NoMemory) => {
+            *is_whole = false;
+            None
+        }
+    }
+}
+
 /// A copy of a parameter.
 fn copy_parameter(alloc: Global, parameter: &Parameter) -> Result<Parameter, NoMemory>
     ensures { IfOk result (λ p. p ≡ parameter.now) }
 {
-    Ok(Parameter {
+    let name = parameter.name.try_clone()?;
+    let mut is_whole = true;
+    let copy = Parameter {
+        name,
         kind: parameter.kind,
         export: parameter.export,
         short: parameter.short,
@@ -153,13 +58,18 @@ fn copy_parameter(alloc: Global, parameter: &Parameter) -> Result<Parameter, NoM
         multiple: parameter.multiple,
         min: parameter.min,
         max: parameter.max,
-        pattern: copy_pattern(&parameter.pattern)?,
-        name: parameter.name.try_clone()?,
-        long: parameter.long.try_clone()?,
-        value: parameter.value.try_clone()?,
-        help: parameter.help.try_clone()?,
-        default: copy_default(alloc, &parameter.default)?,
-    })
+        pattern: kept(copy_pattern(&parameter.pattern), &mut is_whole),
+        long: kept(parameter.long.try_clone(), &mut is_whole),
+        value: kept(parameter.value.try_clone(), &mut is_whole),
+        help: kept(parameter.help.try_clone(), &mut is_whole),
+        default: kept(copy_default(alloc, &parameter.default), &mut is_whole),
+    };
+    if is_whole {
+        Ok(copy)
+    } else {
+        drop(copy);
+        Err(NoMemory)
+    }
 }
 
 /// A copy of parameters.

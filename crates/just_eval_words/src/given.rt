@@ -1,14 +1,15 @@
 //! What each parameter was given.
 
-ghost use Rattle.std.specs.Prelude.{◌≡◌, ◌∷◌, [], IfOk, map, filter, ◌==◌};
+ghost use Rattle.std.specs.Prelude.{◌≡◌, ◌∷◌, ◌+◌, [], List, IfOk};
+ghost use Rattle.just_lang_types.specs.declared.recipe.Parameter.{Parameter};
 ghost use Rattle.just_eval_words.specs.Switches.{words_of};
-ghost use Rattle.just_eval_words.specs.Tests.{values_for, given_words};
+ghost use Rattle.just_eval_words.specs.Tests.{values_for, given_from, given_words};
 
-use super::parameter::{is_option, is_variadic};
 use super::taken::Taken;
 use just_config_words::add_copies;
 use just_lang_types::Parameter;
 use just_path_text::{NoMemory, Seq, Text};
+use just_print::{is_option, is_variadic};
 use std::alloc::Global;
 
 /// The values that the option of a number was given.
@@ -47,8 +48,35 @@ fn one(alloc: Global, word: &Text) -> Result<Seq<Text>, NoMemory>
     Ok(Seq::from(one))
 }
 
-/// What each parameter was given: an option its values, a variadic parameter all words that are left, another one a word.
-#[tactic(auto, using(crate::proofs::Shares::option_given, crate::proofs::Shares::all_given, crate::proofs::Shares::one_given, crate::proofs::Shares::none_given, crate::proofs::Shares::no_parameter))]
+/// What the parameter of a number is given, and the words that it leaves: an option is given its values, a variadic parameter
+/// all words, another one a word.
+#[tactic(auto, using(crate::proofs::Shares::option_given, crate::proofs::Shares::all_given, crate::proofs::Shares::one_given, crate::proofs::Shares::none_given))]
+fn share<'w>(
+    alloc: Global,
+    number: usize,
+    parameter: &Parameter,
+    words: &'w [Text],
+    options: &[(usize, Text)],
+) -> Result<(Seq<Text>, &'w [Text]), NoMemory>
+    ensures { IfOk result
+        (λ r. (ps : List Parameter)
+        → given_from number (parameter.now ∷ ps) words.now options.now
+        ≡ r.0 ∷ given_from (number + 1) ps r.1.now options.now) }
+{
+    if is_option(parameter) {
+        return Ok((values_for(alloc, number, options)?, words));
+    }
+    if is_variadic(parameter.kind) {
+        return Ok((copies(alloc, words)?, &[]));
+    }
+    match words.split_first() {
+        None => Ok((Seq::new(alloc), words)),
+        Some((word, rest)) => Ok((one(alloc, word)?, rest)),
+    }
+}
+
+/// What each parameter was given.
+#[tactic(auto, using(crate::proofs::Shares::given_more, crate::proofs::Shares::no_parameter))]
 pub(crate) fn given_words(
     alloc: Global,
     parameters: &[Parameter],
@@ -56,22 +84,13 @@ pub(crate) fn given_words(
 ) -> Result<Vec<Seq<Text>>, NoMemory>
     ensures { IfOk result (λ given. given.items ≡ given_words parameters.now (words_of taken.now)) }
 {
-    let words = taken.positional.as_slice();
     let options = taken.options.as_slice();
+    let mut left = taken.positional.as_slice();
     let mut given = Vec::new(alloc);
-    let mut at = 0;
     'parameters: for number in 0..parameters.len() {
-        if is_option(&parameters[number]) {
-            given.push(values_for(alloc, number, options)?)?;
-        } else if is_variadic(parameters[number].kind) {
-            given.push(copies(alloc, &words[at..])?)?;
-            at = words.len();
-        } else if at < words.len() {
-            given.push(one(alloc, &words[at])?)?;
-            at += 1;
-        } else {
-            given.push(Seq::new(alloc))?;
-        }
+        let (words, rest) = share(alloc, number, &parameters[number], left, options)?;
+        given.push(words)?;
+        left = rest;
     }
     Ok(given)
 }

@@ -4,18 +4,36 @@ ghost use Rattle.std.specs.Prelude.{◌≡◌, ◌≢◌, ◌≤◌, ◌<◌, �
 ghost use Rattle.just_lang_types.specs.declared.project.Justfile.{Justfile};
 ghost use Rattle.just_lang_types.specs.declared.project.LangError.TheVariants as error;
 ghost use Rattle.just_lang_types.specs.Modules.{AreModules};
-ghost use Rattle.just_eval_words.specs.Invocations.{key_behind, first_key, Invokes, NamesRecipe, within_one, InvocationsAgree};
+ghost use Rattle.just_eval_words.specs.Invocations.{as_given, key_behind, first_key, Invokes, NamesRecipe, within_one, InvocationsAgree};
 ghost use Rattle.just_eval_words.specs.Sights.{located_of};
 
 use super::found::Found;
-use super::sight::sight_of;
+use super::sight::entry_of;
 use super::target::chosen;
-use super::value::values_given;
 use crate::words_given;
+use just_eval_closure::values_given;
 use just_lang_types::project::{Justfile, LangError};
 use just_lang_types::{Key, Scopes, all_modules};
-use just_path_text::{Seq, Text, TryClone};
+use just_path_text::{NoMemory, Seq, Text, TryClone};
 use std::alloc::Global;
+
+/// What a parameter is given by its words: nothing, where there are none.
+fn as_given(words: Seq<Text>) -> Option<Seq<Text>>
+    ensures { result ≡ as_given words }
+{
+    if words.is_empty() { None } else { Some(words) }
+}
+
+/// What parameters are given by their words.
+fn all_given(alloc: Global, words: Vec<Seq<Text>>) -> Result<Vec<Option<Seq<Text>>>, NoMemory>
+    ensures { IfOk result (λ given. given.items ≡ map as_given words.items) }
+{
+    let mut given = Vec::with_capacity(alloc, words.len())?;
+    'words: for one in words {
+        given.push(as_given(one))?;
+    }
+    Ok(given)
+}
 
 /// The key of a recipe with the words behind its path, and how many of them it takes.
 #[tactic(auto, using(crate::proofs::Keys::words_refused, crate::proofs::Keys::values_refused, crate::proofs::Keys::key_is))]
@@ -30,8 +48,9 @@ fn key_behind(
     ensures refused { IfErr result (λ e. e ≢ error.NoMemory → key_behind scopes.now (located_of found.entry) words.now ≡ Err e) }
 {
     let (given, count) = words_given(alloc, found.recipe, words)?;
-    let to = sight_of(scopes, found);
-    let arguments = values_given(alloc, scopes, &to, given.as_slice())?;
+    let to = entry_of(scopes, found);
+    let shares = all_given(alloc, given)?;
+    let arguments = values_given(alloc, scopes, &to, shares.as_slice())?;
     let key = Key {
         recipe: found.recipe.path.try_clone()?,
         arguments: Seq::from(arguments),

@@ -15,7 +15,6 @@ mod sight;
 mod switch;
 mod taken;
 mod target;
-mod value;
 mod words;
 
 pub use invocation::{invocations, invocations_agree, within_one};

@@ -3,43 +3,10 @@
 ghost use Rattle.std.specs.Prelude.{◌≡◌, ◌≤◌, Some, None, IfSome, MatchOption, length};
 ghost use Rattle.std.specs.List.{list_any, filter};
 ghost use Rattle.std.specs.Option.{option_copied};
-ghost use Rattle.just_eval_words.specs.Parameters.{is_variadic, is_star, is_option, has_options, is_positional, needs_word, takes_all, least_words, most_words, has_room, has_long, has_short, numbered_from, fixed_value};
+ghost use Rattle.just_eval_words.specs.Parameters.{is_positional, needs_word, takes_all, least_words, most_words, has_room, has_long, has_short, numbered_from, fixed_value};
 
-use just_lang_types::{Parameter, ParameterKind};
-
-/// Whether a parameter takes any number of words.
-pub(crate) fn is_variadic(kind: ParameterKind) -> bool
-    ensures { result ≡ is_variadic kind }
-{
-    match kind {
-        ParameterKind::Singular => false,
-        ParameterKind::Plus | ParameterKind::Star => true,
-    }
-}
-
-/// Whether a parameter takes no word, too.
-fn is_star(kind: ParameterKind) -> bool
-    ensures { result ≡ is_star kind }
-{
-    match kind {
-        ParameterKind::Singular | ParameterKind::Plus => false,
-        ParameterKind::Star => true,
-    }
-}
-
-/// Whether a parameter has a name for switches.
-pub(crate) fn is_option(parameter: &Parameter) -> bool
-    ensures { result ≡ is_option parameter.now }
-{
-    parameter.long.is_some() || parameter.short.is_some()
-}
-
-/// Whether one of the parameters has a name for switches.
-pub(crate) fn has_options(parameters: &[Parameter]) -> bool
-    ensures { result ≡ has_options parameters.now }
-{
-    parameters.iter().any(|p| is_option(p))
-}
+use just_lang_types::Parameter;
+use just_print::{is_option, is_optional, is_variadic};
 
 /// Whether a parameter is none for switches.
 fn is_positional(parameter: &Parameter) -> bool
@@ -52,7 +19,7 @@ fn is_positional(parameter: &Parameter) -> bool
 fn needs_word(parameter: &Parameter) -> bool
     ensures { result ≡ needs_word parameter.now }
 {
-    !is_option(parameter) && !(parameter.default.is_some() || is_star(parameter.kind))
+    !is_option(parameter) && !is_optional(parameter)
 }
 
 /// Whether a positional parameter takes any number of words.

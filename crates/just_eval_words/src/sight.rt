@@ -1,34 +1,24 @@
 //! What the expressions of a recipe see.
 
 ghost use Rattle.std.specs.Prelude.{◌≡◌};
-ghost use Rattle.just_eval_words.specs.Sights.{Sees};
+ghost use Rattle.just_eval_closure.specs.Entries.{Sees};
+ghost use Rattle.just_eval_closure.specs.Entries as entries;
+ghost use Rattle.just_eval_words.specs.Sights.{located_of};
 
 use super::found::Found;
-use just_eval_closure::{levels, pairs_for};
-use just_lang_types::{Level, Scopes};
-use just_path_text::{Environ, Text};
+use just_eval_closure::{Entry, levels, pairs_for};
+use just_lang_types::Scopes;
 
-/// A recipe with what its expressions see.
-#[derive(Clone, Copy)]
-pub(crate) struct Sight<'p> {
-    pub(crate) found: Found<'p>,
-    /// The levels of the module's scope.
-    pub(crate) levels: &'p [Level],
-    /// The dotenv pairs of the module.
-    pub(crate) pairs: &'p [(Text, Text)],
-    pub(crate) environ: &'p Environ,
-}
-
-/// What the expressions of a recipe see.
-pub(crate) fn sight_of<'p>(scopes: &'p Scopes, found: Found<'p>) -> Sight<'p>
+/// A recipe that was found, with what its expressions see.
+pub(crate) fn entry_of<'p>(scopes: &'p Scopes, found: Found<'p>) -> Entry<'p>
     ensures sees { Sees scopes.now result }
-    ensures found { result.found ≡ found.entry }
+    ensures found { entries.located_of result ≡ located_of found.entry }
 {
     let path = &found.parent.module_path;
-    Sight {
-        found,
+    Entry {
+        parent: found.parent,
+        recipe: found.recipe,
         levels: levels(scopes, path),
         pairs: pairs_for(scopes.dotenv.as_slice(), path),
-        environ: &scopes.environ,
     }
 }

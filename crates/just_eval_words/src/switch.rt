@@ -1,6 +1,6 @@
 //! What one word gives to a recipe.
 
-ghost use Rattle.std.specs.Prelude.{◌≡◌, ◌≢◌, ◌++◌, Ok, Err, Some, None, false, IfOk, IfErr, OnOk, MatchOption, codes, option_map, string_bytes, encode_utf8, chars};
+ghost use Rattle.std.specs.Prelude.{◌≡◌, ◌≢◌, Ok, Err, None, false, IfOk, IfErr};
 ghost use Rattle.std.specs.Option.{option_copied};
 ghost use Rattle.just_lang_types.specs.declared.project.LangError.TheVariants as error;
 ghost use Rattle.just_eval_words.specs.Parameters.{most_words, fixed_value};
@@ -13,36 +13,9 @@ use super::parameter::{fixed_value, has_room, option_lettered, option_named};
 use super::taken::{Next, Taken};
 use just_lang_read::characters_of;
 use just_lang_types::project::LangError;
-use just_lang_types::{Parameter, Recipe};
+use just_lang_types::{Parameter, Recipe, Switch};
 use just_path_text::{NoMemory, Text, TryClone};
 use std::alloc::Global;
-
-/// A text behind another one.
-fn behind(alloc: Global, first: &str, second: &str) -> Result<Text, NoMemory>
-    ensures { IfOk result (λ t. t ≡ first.now ++ second.now) }
-{
-    let mut text = String::new(alloc);
-    text.push_str(first)?;
-    text.push_str(second)?;
-    Ok(Text::from(text))
-}
-
-/// The switch of a letter.
-pub(crate) fn letter_switch(alloc: Global, letter: char) -> Result<Text, NoMemory>
-    ensures { IfOk result (λ t. t ≡ codes "-" ++ encode_utf8 letter) }
-{
-    let mut text = String::new(alloc);
-    text.push_str("-")?;
-    text.push(letter)?;
-    Ok(Text::from(text))
-}
-
-/// The switch of a long name.
-pub(crate) fn long_switch(alloc: Global, name: &str) -> Result<Text, NoMemory>
-    ensures { IfOk result (λ t. t ≡ codes "--" ++ name.now) }
-{
-    behind(alloc, "--", name)
-}
 
 /// Takes the value of a long switch, or waits for it.
 #[tactic(auto, using(crate::proofs::Steps::flag_given, crate::proofs::Steps::flag_noted, crate::proofs::Steps::flag_refused, crate::proofs::Steps::given_noted, crate::proofs::Steps::given_refused, crate::proofs::Steps::option_waits))]
@@ -50,7 +23,7 @@ fn option_taken<'r>(
     alloc: Global,
     recipe: &'r Recipe,
     taken: &mut Taken,
-    switch: Text,
+    switch: Switch,
     number: usize,
     parameter: &'r Parameter,
     given: Option<&str>,
@@ -64,15 +37,11 @@ fn option_taken<'r>(
             switch,
         }),
         (Some(value), None) => {
-            let noted = taken.note(alloc, recipe, switch.as_str(), number, parameter, value);
-            drop(switch);
-            noted?;
+            taken.note(alloc, recipe, switch, number, parameter, value)?;
             Ok(Next::Word(false))
         }
         (None, Some(value)) => {
-            let noted = taken.note(alloc, recipe, switch.as_str(), number, parameter, value);
-            drop(switch);
-            noted?;
+            taken.note(alloc, recipe, switch, number, parameter, value)?;
             Ok(Next::Word(false))
         }
         (None, None) => Ok(Next::Value(switch, number, parameter)),
@@ -97,7 +66,7 @@ fn long_taken<'r>(
             argument: Text::from_str(alloc, word)?,
         });
     }
-    let switch = long_switch(alloc, name)?;
+    let switch = Switch::Long(Text::from_str(alloc, name)?);
     match option_named(recipe.parameters.as_slice(), name) {
         None => Err(LangError::UnknownOption {
             recipe: recipe.name.try_clone()?,
@@ -116,7 +85,7 @@ fn letter_valued<'r>(
     alloc: Global,
     recipe: &'r Recipe,
     taken: &mut Taken,
-    switch: Text,
+    switch: Switch,
     last: bool,
     number: usize,
     parameter: &'r Parameter,
@@ -125,9 +94,7 @@ fn letter_valued<'r>(
     ensures refused { IfErr result (λ e. e ≢ error.NoMemory → letter_valued recipe.now switch last (words_of taken.old) number parameter.now (fixed_value parameter.now) ≡ Err e) }
 {
     if let Some(value) = fixed_value(parameter) {
-        let noted = taken.note(alloc, recipe, switch.as_str(), number, parameter, value);
-        drop(switch);
-        noted?;
+        taken.note(alloc, recipe, switch, number, parameter, value)?;
         return Ok(Next::Word(false));
     }
     if last {
@@ -151,7 +118,7 @@ fn letter_taken<'r>(
     ensures taken { IfOk result (λ n. letter_taken recipe.now letter last (words_of taken.old) ≡ Ok (words_of taken.new, awaited n)) }
     ensures refused { IfErr result (λ e. e ≢ error.NoMemory → letter_taken recipe.now letter last (words_of taken.old) ≡ Err e) }
 {
-    let switch = letter_switch(alloc, letter)?;
+    let switch = Switch::Short(letter);
     match option_lettered(recipe.parameters.as_slice(), letter) {
         None => Err(LangError::UnknownOption {
             recipe: recipe.name.try_clone()?,
@@ -253,9 +220,7 @@ pub(crate) fn word_taken<'r>(
 {
     match next {
         Next::Value(switch, number, parameter) => {
-            let noted = taken.note(alloc, recipe, switch.as_str(), number, parameter, word);
-            drop(switch);
-            noted?;
+            taken.note(alloc, recipe, switch, number, parameter, word)?;
             Ok(Some(Next::Word(false)))
         }
         Next::Word(true) => {

@@ -4,10 +4,10 @@ ghost use Rattle.std.specs.Prelude.{◌≡◌, ◌≢◌, Ok, Err, IfOk, IfErr, 
 ghost use Rattle.just_lang_types.specs.declared.project.LangError.TheVariants as error;
 ghost use Rattle.just_eval_words.specs.Switches.{words_of, has_value, is_full, no_words, with_word, with_option, noted};
 
-use super::parameter::is_variadic;
 use just_lang_types::project::LangError;
-use just_lang_types::{Parameter, Recipe};
+use just_lang_types::{Parameter, Recipe, Switch};
 use just_path_text::{NoMemory, Text, TryClone};
+use just_print::is_variadic;
 use std::alloc::Global;
 
 /// The words that a recipe took so far.
@@ -25,7 +25,7 @@ pub(crate) enum Next<'r> {
     /// Any word, where the switches may have ended.
     Word(bool),
     /// The value of an option, by its switch and the number of its parameter.
-    Value(Text, usize, &'r Parameter),
+    Value(Switch, usize, &'r Parameter),
 }
 
 impl Taken {
@@ -75,20 +75,21 @@ impl Taken {
         &mut self,
         alloc: Global,
         recipe: &Recipe,
-        switch: &str,
+        switch: Switch,
         number: usize,
         parameter: &Parameter,
         value: &str,
     ) -> Result<(), LangError>
-        ensures noted { OnOk result (noted recipe.now switch.now number parameter.now (words_of self.old) value.now ≡ Ok (words_of self.new)) }
-        ensures refused { IfErr result (λ e. e ≢ error.NoMemory → noted recipe.now switch.now number parameter.now (words_of self.old) value.now ≡ Err e) }
+        ensures noted { OnOk result (noted recipe.now switch number parameter.now (words_of self.old) value.now ≡ Ok (words_of self.new)) }
+        ensures refused { IfErr result (λ e. e ≢ error.NoMemory → noted recipe.now switch number parameter.now (words_of self.old) value.now ≡ Err e) }
     {
         if self.is_full(number, parameter) {
             return Err(LangError::DuplicateOption {
                 recipe: recipe.name.try_clone()?,
-                switch: Text::from_str(alloc, switch)?,
+                switch,
             });
         }
+        drop(switch);
         self.add_value(alloc, number, value)?;
         Ok(())
     }

@@ -13,10 +13,30 @@ use super::found::{Found, Target};
 use super::name::{aliased_recipe, disabled_at, is_absent, module_named, names_recipe, recipe_in};
 use super::path::{first_part, joined_path};
 use crate::least_words;
-use just_lang_types::Recipe;
 use just_lang_types::project::{Justfile, LangError};
+use just_lang_types::{Disabled, Recipe};
 use just_path_text::{NoMemory, Text, TryClone};
 use std::alloc::Global;
+
+/// The refusal of a recipe that can't be run.
+fn recipe_disabled(alloc: Global, name: &str, disabled: &Disabled) -> Result<LangError, NoMemory>
+    ensures { IfOk result (λ e. e ≡ error.RecipeDisabled name.now disabled.now.modules) }
+{
+    Ok(LangError::RecipeDisabled {
+        recipe: Text::from_str(alloc, name)?,
+        modules: disabled.modules.try_clone()?,
+    })
+}
+
+/// The refusal of an alias of a recipe that can't be run.
+fn alias_disabled(alloc: Global, name: &str, disabled: &Disabled) -> Result<LangError, NoMemory>
+    ensures { IfOk result (λ e. e ≡ error.AliasDisabled name.now disabled.now.modules) }
+{
+    Ok(LangError::AliasDisabled {
+        alias: Text::from_str(alloc, name)?,
+        modules: disabled.modules.try_clone()?,
+    })
+}
 
 /// What the last name of a word leads to in a module.
 #[tactic(auto, using(crate::proofs::Targets::module_is, crate::proofs::Targets::absent_is, crate::proofs::Targets::no_recipe_is, crate::proofs::Targets::recipe_is, crate::proofs::Targets::no_alias_is, crate::proofs::Targets::alias_is, crate::proofs::Targets::unknown_is))]
@@ -39,10 +59,7 @@ fn last_target<'p>(
         });
     }
     if let Some(disabled) = disabled_at(justfile.disabled_recipes.as_slice(), name) {
-        return Err(LangError::RecipeDisabled {
-            recipe: Text::from_str(alloc, name)?,
-            modules: disabled.modules.try_clone()?,
-        });
+        return Err(recipe_disabled(alloc, name, disabled)?);
     }
     if let Some(recipe) = recipe_in(justfile, name) {
         return Ok(Target::Recipe(Found {
@@ -51,10 +68,7 @@ fn last_target<'p>(
         }));
     }
     if let Some(disabled) = disabled_at(justfile.disabled_aliases.as_slice(), name) {
-        return Err(LangError::AliasDisabled {
-            alias: Text::from_str(alloc, name)?,
-            modules: disabled.modules.try_clone()?,
-        });
+        return Err(alias_disabled(alloc, name, disabled)?);
     }
     match aliased_recipe(modules, justfile, name) {
         Some(found) => Ok(Target::Recipe(found)),
@@ -145,7 +159,7 @@ fn default_in(justfile: &Justfile) -> Option<&Recipe>
 
 /// The default recipe of a module.
 #[tactic(auto, using(crate::proofs::Targets::none_default, crate::proofs::Targets::default_disabled, crate::proofs::Targets::default_needs, crate::proofs::Targets::default_is))]
-fn default_of(justfile: &Justfile) -> Result<Found<'_>, LangError>
+fn default_of(alloc: Global, justfile: &Justfile) -> Result<Found<'_>, LangError>
     ensures found { IfOk result (λ f. default_of justfile.now ≡ Ok (located_of f)) }
     ensures refused { IfErr result (λ e. e ≢ error.NoMemory → default_of justfile.now ≡ Err e) }
 {
@@ -155,10 +169,7 @@ fn default_of(justfile: &Justfile) -> Result<Found<'_>, LangError>
     let disabled = disabled_at(justfile.disabled_recipes.as_slice(), recipe.name.as_str());
     let least = least_words(recipe.parameters.as_slice());
     if let Some(disabled) = disabled {
-        return Err(LangError::RecipeDisabled {
-            recipe: recipe.name.try_clone()?,
-            modules: disabled.modules.try_clone()?,
-        });
+        return Err(recipe_disabled(alloc, recipe.name.as_str(), disabled)?);
     }
     if least != 0 {
         return Err(LangError::DefaultRecipeRequiresArguments {
@@ -192,5 +203,5 @@ pub(crate) fn chosen<'p>(
             Target::Recipe(found) => return Ok((found, at + 1)),
         }
     }
-    Ok((default_of(justfile)?, words.len()))
+    Ok((default_of(alloc, justfile)?, words.len()))
 }

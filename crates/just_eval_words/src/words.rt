@@ -7,12 +7,13 @@ ghost use Rattle.just_eval_words.specs.Given.{words_given};
 
 use super::check::check;
 use super::given::given_words;
-use super::parameter::{has_options, most_words};
+use super::parameter::most_words;
 use super::switch::word_taken;
 use super::taken::{Next, Taken};
 use just_lang_types::Recipe;
 use just_lang_types::project::LangError;
 use just_path_text::{Seq, Text, TryClone};
+use just_print::has_options;
 use std::alloc::Global;
 
 /// Takes words for a recipe, as many as it has room for.
