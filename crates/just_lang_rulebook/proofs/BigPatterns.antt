@@ -1,5 +1,5 @@
 -- Patterns that the grammar reads and that are too big, and those that it doesn't read, one more at a time.
-use Rattle.std.proofs.Common.{◌≡◌, ℕ, zero, suc, ◌+◌, ◌<◌, ◌≤◌, Bool, List, [], ◌∷◌, map, drop, length, get_or, Option, None, refl, sym, ap, subst, ◌∙◌, arith}
+use Rattle.std.proofs.Common.{◌≡◌, ℕ, zero, suc, ◌+◌, ◌<◌, ◌≤◌, List, [], ◌∷◌, map, drop, length, get_or, Option, None, refl, sym, ap, subst, ◌∙◌, arith}
 use Rattle.std.specs.Prelude.{not}
 use Rattle.just_lang_spots.specs.declared.spot.Spot.{Spot}
 use Rattle.just_lang_spots.specs.Spots.{earlier, first_spot, spot_where}

@@ -1,5 +1,5 @@
 -- One more file.
-use Rattle.std.proofs.Common.{◌≡◌, ℕ, suc, ◌+◌, ◌<◌, List, ◌∷◌, ◌++◌, drop, length, get_or, Option, refl, sym, ap, ◌∙◌, add-one, append_assoc}
+use Rattle.std.proofs.Common.{◌≡◌, ℕ, suc, ◌+◌, ◌<◌, List, ◌++◌, drop, length, get_or, Option, sym, ap, ◌∙◌, add-one, append_assoc}
 use Rattle.just_lang_syntax.specs.declared.ast.AstItem.{AstItem}
 use Rattle.just_lang_syntax.specs.declared.error.FaultKind.{FaultKind}
 use Rattle.just_lang_layout.specs.declared.layout.File.{File}

@@ -2,7 +2,6 @@
 pub mod EntrySteps
 pub mod LineSteps
 pub mod Blanks
-pub mod KeptPatterns
 pub mod ReadPatterns
 pub mod BigPatterns
 pub mod FileSteps

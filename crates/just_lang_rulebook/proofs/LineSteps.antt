@@ -1,5 +1,5 @@
 -- One more line.
-use Rattle.std.proofs.Common.{◌≡◌, ℕ, suc, ◌+◌, ◌<◌, Bool, List, ◌∷◌, ◌++◌, drop, length, get_or, Option, refl, sym, ap, ◌∙◌, add-one, drop-cons}
+use Rattle.std.proofs.Common.{◌≡◌, ℕ, ◌+◌, ◌<◌, Bool, List, ◌∷◌, drop, length, get_or, Option, sym, ap, ◌∙◌}
 use Rattle.just_lang_syntax.specs.declared.ast.Line.{Line}
 use Rattle.just_lang_spots.specs.declared.spot.Spot.{Spot}
 use Rattle.just_lang_spots.specs.Spots.{earlier, first_spot}

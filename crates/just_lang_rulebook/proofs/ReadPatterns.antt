@@ -1,5 +1,5 @@
 -- What regular expressions' grammar reads, by the answers of the library.
-use Rattle.std.proofs.Common.{◌≡◌, ◌≢◌, ℕ, ◌≤◌, ◌<◌, ◌⊎◌, inl, inr, Bool, true, false, List, Option, Some, None, IsSomeAnd, IfSome, chars, refl, sym, subst, ap, arith}
+use Rattle.std.proofs.Common.{◌≡◌, ◌≢◌, ℕ, ◌≤◌, ◌<◌, inl, inr, true, false, List, Option, Some, None, IsSomeAnd, IfSome, chars, refl, sym, subst, ap, arith}
 use Rattle.std.specs.Prelude.{nat_le, Result, Ok, Err, IfOk, IfErr}
 use Rattle.std.proofs.lemmas.Bool.Decides.{nat_tests}
 use Rattle.regex.specs.Patterns.{default_config, Re}
@@ -13,7 +13,7 @@ use Rattle.regex.specs.declared.error.Error.TheVariants as error
 use Rattle.regex_syntax.specs.Brackets.{Nested}
 use Rattle.regex_syntax.specs.Grammar.{Names, read}
 use Rattle.regex_syntax.specs.declared.error.ErrorKind.{ErrorKind}
-use Rattle.regex_syntax.specs.declared.error.ErrorKind.TheVariants.{OutOfMemory, NestLimitExceeded}
+use Rattle.regex_syntax.specs.declared.error.ErrorKind.TheVariants.{OutOfMemory}
 use Rattle.just_path_text.specs.declared.memory.NoMemory.{NoMemory}
 use Rattle.just_lang_rulebook.specs.declared.refusals.Refusal.{Refusal}
 use Rattle.just_lang_rulebook.specs.Patterns.{is_shallow, is_pattern, refusal_by, IsOwnRefusal}

@@ -1,5 +1,5 @@
 -- The patterns of parameters, and which of them regular expressions' grammar reads.
-use Rattle.std.specs.Prelude.{◌≡◌, ℕ, nat_le, Bool, true, false, if◌then◌else◌, List, [], ◌∷◌, ◌++◌, filter_map, not, chars, Option, Some, None, option_map, Result, Ok, Err, bytes_eq, codes}
+use Rattle.std.specs.Prelude.{◌≡◌, ℕ, nat_le, Bool, true, false, if◌then◌else◌, List, [], ◌∷◌, ◌++◌, filter_map, not, chars, Option, Some, None, option_map, Result, Ok, Err, codes}
 use Rattle.std.specs.List.{flat_map}
 use Rattle.regex.specs.Patterns.{default_config, Re}
 use Rattle.regex.specs.declared.string.regex.Regex.{Regex}
@@ -8,7 +8,6 @@ use Rattle.regex.specs.declared.error.Error.TheVariants as error
 use Rattle.regex_syntax.specs.Brackets.{Nested}
 use Rattle.regex_syntax.specs.Grammar.{Names, read}
 use Rattle.just_path_text.specs.declared.memory.NoMemory.{NoMemory}
-use Rattle.just_lang_syntax.specs.declared.ast.Name.{Name}
 use Rattle.just_lang_syntax.specs.declared.ast.StringLiteral.{StringLiteral}
 use Rattle.just_lang_syntax.specs.declared.ast.Argument.{Argument}
 use Rattle.just_lang_syntax.specs.declared.ast.Attribute.{Attribute}
@@ -18,7 +17,7 @@ use Rattle.just_lang_spots.specs.declared.spot.Spot.{Spot}
 use Rattle.just_lang_spots.specs.Spots.{spot_where, earlier}
 use Rattle.just_lang_spots.specs.Places.{argument_spot}
 use Rattle.just_lang_types.specs.Attributes.{is_called}
-use Rattle.just_lang_types.specs.ConstantTexts.{const_text}
+use Rattle.just_lang_types.specs.Options.{text_at}
 use Rattle.just_lang_rulebook.specs.declared.refusals.Refusal.{Refusal}
 use Rattle.just_lang_rulebook.specs.declared.refusals.Refusal.TheVariants.{Syntax, Size}
 use Rattle.just_lang_rulebook.specs.declared.patterns.PatternText.{PatternText}
@@ -61,15 +60,10 @@ IsRefusal text (Some Size) = is_pattern text ≡ true
 abbrev pub pattern_pair : PatternText → List ℕ × Spot
 pattern_pair x = (x.text, x.spot)
 
--- whether an argument has that key
-abbrev pub is_keyed : List ℕ → Option Name → Bool
-is_keyed key None = false
-is_keyed key (Some name) = bytes_eq name.text key
-
 module _ (text_of : StringLiteral → Option (List ℕ)) where
   -- the text of a `pattern`, with the place of its value
   abbrev pub pattern_text : ℕ → Argument → Option (List ℕ × Spot)
-  pattern_text file x = if is_keyed (codes "pattern") x.key then option_map (λ t. (t, argument_spot file x)) (const_text text_of x.value) else None
+  pattern_text file x = option_map (λ t. (t, argument_spot file x)) (text_at text_of (codes "pattern") x)
 
   abbrev pub patterns_of_attribute : ℕ → Attribute → List (List ℕ × Spot)
   patterns_of_attribute file a = if is_called (codes "arg") a then filter_map (pattern_text file) a.arguments else []

@@ -42,7 +42,7 @@ pub use duplicate_kinds::{
 pub use duplicate_names::{DuplicateRecipe, DuplicateVariable};
 pub use files::{first_fault, first_source_limit};
 pub use guards::GuardAndInfallible;
-pub use item_lists::{items_of_files, items_of_module};
+pub use item_lists::items_of_files;
 pub use items::first_in_items;
 pub use line_front::front;
 pub use meanings::{Meanings, text_meant};

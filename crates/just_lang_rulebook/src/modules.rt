@@ -5,9 +5,9 @@ ghost use Rattle.just_lang_spots.specs.Spots.{first_spot};
 ghost use Rattle.just_lang_layout.specs.Items.{items_of_module};
 ghost use Rattle.just_lang_rulebook.specs.Rules.{of_items, of_modules};
 
-use super::item_lists::{items_of_files, items_of_module};
+use super::item_lists::items_of_files;
 use crate::first_in_items;
-use just_lang_layout::{File, Layout, Module};
+use just_lang_layout::{File, Layout, Module, items_of_module};
 use just_lang_spots::{ModuleRule, Rule, Spot, earlier};
 use just_lang_syntax::AstItem;
 use just_path_text::NoMemory;

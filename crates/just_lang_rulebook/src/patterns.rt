@@ -1,11 +1,11 @@
 //! The patterns of parameters.
-ghost use Rattle.std.specs.Prelude.{◌≡◌, ◌++◌, [], IfOk, OnOk, option_map, map, filter_map};
-ghost use Rattle.std.specs.List.{cons_option, flat_map};
+ghost use Rattle.std.specs.Prelude.{◌≡◌, ◌++◌, IfOk, OnOk, option_map, map, filter_map};
+ghost use Rattle.std.specs.List.{flat_map};
 ghost use Rattle.just_lang_rulebook.specs.Patterns.{pattern_pair, pattern_text, patterns_of_attribute, patterns_of};
 
-use just_lang_spots::{Spot, argument_spot};
+use just_lang_spots::{Spot, argument_spot, push_some};
 use just_lang_syntax::{Argument, AstItem, Attribute};
-use just_lang_types::{Texts, const_text};
+use just_lang_types::{Texts, text_at};
 use just_path_text::{NoMemory, Text};
 use std::alloc::Global;
 
@@ -25,31 +25,12 @@ fn pattern_text<T: Texts>(
 ) -> Result<Option<PatternText>, NoMemory>
     ensures { IfOk result (λ p. option_map pattern_pair p ≡ pattern_text (T.text_of texts.now) file argument.now) }
 {
-    let Some(key) = &argument.key else {
-        return Ok(None);
-    };
-    if key.text.as_str() != "pattern" {
-        return Ok(None);
-    }
-    match const_text(alloc, texts, &argument.value)? {
+    match text_at(alloc, texts, "pattern", argument)? {
         None => Ok(None),
         Some(text) => Ok(Some(PatternText {
             text,
             spot: argument_spot(file, argument),
         })),
-    }
-}
-
-/// Adds one, where there is one.
-fn push_some(list: &mut Vec<PatternText>, one: Option<PatternText>) -> Result<(), NoMemory>
-    ensures { OnOk result (list.new.items ≡ list.old.items ++ cons_option one []) }
-{
-    match one {
-        None => Ok(()),
-        Some(one) => {
-            list.push(one)?;
-            Ok(())
-        }
     }
 }
 

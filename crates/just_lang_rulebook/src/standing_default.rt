@@ -1,6 +1,6 @@
 //! The rule that a module has one default recipe.
 use just_lang_rules::DuplicateDefault;
-use just_lang_spots::{Entry, ModuleRule, Spot, recipe_items, standing};
+use just_lang_spots::{Entry, ModuleRule, Spot, standing_recipes};
 use just_path_text::{NoMemory, Seq};
 use std::alloc::Global;
 
@@ -18,8 +18,7 @@ impl<'a> ModuleRule for StandingDuplicateDefault<'a> {
     ghost spots = { λ r items. standing_default_spots (wins_in r.winners.now) items };
 
     fn first(&self, alloc: Global, items: &[Entry<'_>]) -> Result<Option<Spot>, NoMemory> {
-        let recipes = recipe_items(alloc, items)?;
-        let kept = standing(alloc, self.winners, recipes.as_slice())?;
+        let kept = standing_recipes(alloc, self.winners, items)?;
         DuplicateDefault.first(alloc, kept.as_slice())
     }
 }

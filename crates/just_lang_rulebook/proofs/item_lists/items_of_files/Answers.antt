@@ -1,5 +1,5 @@
 -- One more file.
-use Rattle.std.proofs.Common.{◌≡◌, ◌++◌, ◌∙◌, ap, sym, List}
+use Rattle.std.proofs.Common.{◌++◌, ◌∙◌, ap, sym, List}
 use Rattle.just_lang_syntax.specs.declared.ast.AstItem.{AstItem}
 use Rattle.just_lang_layout.specs.declared.layout.File.{File}
 use Rattle.just_lang_spots.specs.Entries.{entries}

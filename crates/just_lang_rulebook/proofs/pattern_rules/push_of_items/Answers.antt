@@ -4,7 +4,7 @@ use Rattle.just_lang_syntax.specs.declared.ast.AstItem.{AstItem}
 use Rattle.just_lang_spots.specs.Entries.{entry, entries}
 use Rattle.just_lang_spots.proofs.ListLaws.{entries_drop}
 use Rattle.just_lang_rulebook.specs.Patterns.{pattern_pair, patterns_of}
-use Rattle.just_lang_rulebook.proofs.KeptPatterns.{flat_step}
+use Rattle.just_lang_rules.proofs.Loops.{flat_step}
 use Rattle.just_lang_rulebook.proofs.pattern_rules.push_of_items.Goals as goal
 
 pub items-preserved : goal.items-preserved

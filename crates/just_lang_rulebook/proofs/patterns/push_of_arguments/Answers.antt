@@ -2,7 +2,7 @@
 use Rattle.std.proofs.Common.{◌+◌, ◌∙◌, drop}
 use Rattle.just_lang_spots.proofs.ListLaws.{drop_here}
 use Rattle.just_lang_rulebook.specs.Patterns.{pattern_pair, pattern_text}
-use Rattle.just_lang_rulebook.proofs.KeptPatterns.{viewed_step}
+use Rattle.just_lang_rules.proofs.Loops.{viewed_step}
 use Rattle.just_lang_rulebook.proofs.patterns.push_of_arguments.Goals as goal
 
 pub arguments-preserved : goal.arguments-preserved

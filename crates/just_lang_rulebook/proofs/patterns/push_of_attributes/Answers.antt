@@ -2,7 +2,7 @@
 use Rattle.std.proofs.Common.{◌+◌, ◌∙◌, map, drop}
 use Rattle.just_lang_spots.proofs.ListLaws.{drop_here}
 use Rattle.just_lang_rulebook.specs.Patterns.{pattern_pair, patterns_of_attribute}
-use Rattle.just_lang_rulebook.proofs.KeptPatterns.{flat_step}
+use Rattle.just_lang_rules.proofs.Loops.{flat_step}
 use Rattle.just_lang_rulebook.proofs.patterns.push_of_attributes.Goals as goal
 
 pub attributes-preserved : goal.attributes-preserved
