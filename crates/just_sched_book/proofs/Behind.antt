@@ -18,11 +18,11 @@ use Rattle.just_sched_history.specs.Legal.{Started, IsDue, is_start, all_starts,
 use Rattle.just_sched_history.specs.Moves.{RunsWith}
 use Rattle.just_sched_history.specs.Nodes.{work_in}
 use Rattle.just_sched_history.specs.Start.{Start, run_of}
-use Rattle.just_sched_history.specs.State.{takes, gives, starts, ends, concludes, has_taken, has_given, is_skipped, is_done, is_over, is_open, start_count, end_count, is_running}
+use Rattle.just_sched_history.specs.State.{takes, gives, begins, starts, ends, concludes, has_taken, has_given, is_begun, is_skipped, is_done, is_over, is_open, start_count, end_count, is_running}
 use Rattle.just_exec_work.specs.Steps.{commands_of}
 use Rattle.just_sched_history.proofs.Counts.{due_start, agrees}
 use Rattle.just_sched_history.proofs.Due.{inside, is_opened, running_by, runs}
-use Rattle.just_sched_history.proofs.OneMore.{all_starts_more, ends_more, is_open_stays, last_started, running_stays, starts_more}
+use Rattle.just_sched_history.proofs.OneMore.{all_starts_more, ends_more, in_body_stays, is_open_stays, last_started, running_stays, starts_more}
 use Rattle.just_sched_history.proofs.Tests.{and_false, any_none, any_now, or_true}
 
 -- a test that passes counts one
@@ -49,6 +49,16 @@ open_as h later e n grew t g = ap (λ k. is_open k n) grew ∙ is_open_stays h e
 -- an event that starts, ends and concludes nothing of the node leaves it running as it was
 pub running_as : (h later : List Event) (e : Event) (n : ℕ) → later ≡ h ++ e ∷ [] → starts n e ≡ false → ends n e ≡ false → concludes n e ≡ false → is_running later n ≡ is_running h n
 running_as h later e n grew a b d = ap (λ k. is_running k n) grew ∙ running_stays h e n a b d
+
+-- a body that was just begun is in its middle, and runs nothing
+pub begin_did : (h later : List Event) (n : ℕ) → later ≡ h ++ event.Begun n ∷ [] → in_body h n ≡ true → is_running h n ≡ false
+    → (in_body later n ≡ true) × (is_begun later n ≡ true) × (is_running later n ≡ false)
+begin_did h later n grew b still =
+    let e = event.Begun n in (
+      ap (λ k. in_body k n) grew ∙ in_body_stays h e n refl refl refl refl ∙ b,
+      ap (λ k. is_begun k n) grew ∙ any_now (begins n) h e (eq-eqb n n refl),
+      running_as h later e n grew refl refl refl ∙ still,
+    )
 
 -- a node that was just concluded is done
 pub done_now : (h later : List Event) (n : ℕ) (o : Outcome) → later ≡ h ++ event.Done n o ∷ [] → is_done later n ≡ true

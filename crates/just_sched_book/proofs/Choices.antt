@@ -15,7 +15,7 @@ use Rattle.just_sched_book.specs.MoveAnswers.{MatchNext}
 use Rattle.just_sched_history.specs.Start.{Start, run_of}
 use Rattle.just_sched_history.specs.Turns.{IsFree, OnlyWaits}
 use Rattle.just_sched_history.specs.State.{has_taken, has_caught, is_asked, is_done, IsToAsk, IsDueNext}
-use Rattle.just_sched_history.proofs.Grows.{grows_two}
+use Rattle.just_sched_history.proofs.Grows.{grows_two, or_caught}
 use Rattle.just_sched_history.proofs.OneMore.{taken_on}
 use Rattle.just_sched_history.proofs.Range.{ready_there, to_ask_there}
 
@@ -71,7 +71,7 @@ asked_move s old first new n same to_ask free least none grown asked = record {
   not_taken = free;
   least_to_ask = least;
   least_to_take = none;
-  grows = subst (λ h. GrowsBy h new n) same grown;
+  grows = or_caught old new n (subst (λ h. GrowsBy h new n) same grown);
 }
 
 -- what became of a move, where the free node of least number took a job and was then gone on with
@@ -85,7 +85,7 @@ did_next r s old first mid new node K same may least took taken went did =
       not_taken = may.ready.not_taken;
       least_to_ask = λ m lt to_ask. (least m lt).not_to_ask to_ask;
       least_to_take = λ m lt other. none_takes s old m (least m lt) other;
-      grows = grows_two old mid new node (subst (λ h. GrowsBy h mid node) same took) went;
+      grows = or_caught old new node (grows_two old mid new node (subst (λ h. GrowsBy h mid node) same took) went);
     } in
     match_next r (Rests new node) ((n : ℕ) × IsMove (run_of s) old new n × Rests new n) (λ n c. (n ≡ node) × RunsWith new n c) (λ n c. IsMove (run_of s) old new n × RunsWith new n c) (λ i. ⊥) K
     (λ rests. (node, move, rests))

@@ -24,7 +24,7 @@ use Rattle.just_sched_book.specs.declared.token.Next.TheVariants as next
 use Rattle.just_sched_book.specs.Account.{IsAccount}
 use Rattle.just_sched_history.specs.Legal.{Run, Due, Asked, Looked, Begun, Started, Ended, Saved, IsDue, May, MayFail, MayMiss, MayFailBy, IsLegal, is_start, all_starts}
 use Rattle.just_sched_history.specs.Match.{IsStranger}
-use Rattle.just_sched_history.specs.Moves.{GrowsBy, IsMove, RunsWith, Rests}
+use Rattle.just_sched_history.specs.Moves.{concerns, GrowsBy, GrowsOrCatches, IsMove, RunsWith, Rests}
 use Rattle.just_sched_book.specs.MoveAnswers.{MatchNext}
 use Rattle.just_sched_history.specs.Room.{settles, settle_count}
 use Rattle.just_sched_history.specs.Running.{running_bodies, EachOpenRuns}
@@ -36,7 +36,7 @@ use Rattle.just_sched_history.proofs.Counts.{agrees, running_begun, running_insi
 use Rattle.just_sched_history.proofs.Due.{by_not_done, inside, rests, runs}
 use Rattle.just_sched_history.proofs.EventRoom.{own, settled, split}
 use Rattle.just_sched_book.proofs.Accounts.{node_in}
-use Rattle.just_sched_history.proofs.Grows.{grows_two, others_open, others_run}
+use Rattle.just_sched_history.proofs.Grows.{grows_both, or_caught, others_open, others_run}
 use Rattle.just_sched_history.proofs.Histories.{legal_holds}
 use Rattle.just_sched_history.proofs.Order.{unlooked_unbegun}
 use Rattle.just_sched_history.proofs.PlanShape.{IsFormed}
@@ -259,7 +259,7 @@ module _ {s : Start} {h : List Event} {now : List Entry} {w : Option World} {spa
 -- ---- open bodies as a history grows
 
 -- each open body runs, where each but that of n did, and that of n does
-pub each_grown : (old new : List Event) (n : ℕ) → GrowsBy old new n → ((m : ℕ) → m ≢ n → is_open old m ≡ true → is_running old m ≡ true) → (is_open new n ≡ true → is_running new n ≡ true) → EachOpenRuns new
+pub each_grown : (old new : List Event) (n : ℕ) → GrowsOrCatches old new n → ((m : ℕ) → m ≢ n → is_open old m ≡ true → is_running old m ≡ true) → (is_open new n ≡ true → is_running new n ≡ true) → EachOpenRuns new
 each_grown old new n g others here m =
     each_or (λ k. is_open new k ≡ true → is_running new k ≡ true) m n (m == n) refl (λ ne o. others_run old new n m g ne ∙ others m ne (sym (others_open old new n m g ne) ∙ o)) here
 
@@ -275,10 +275,10 @@ each_next (next.Body body) s old new K each did = each_grown old new body.node d
 each_next (next.Idle i) s old new K each did = subst EachOpenRuns (sym did.0) each
 
 -- each open body runs behind a turn of one
-pub each_turn : {X C D : Type 0} {g : Host.Ghosts X C D} {p : PathHost.Ghosts X} (r : Next X C D g p) (old mid new : List Event) (n : ℕ) → EachOpenRuns old → GrowsBy old mid n → GrowsBy mid new n
+pub each_turn : {X C D : Type 0} {g : Host.Ghosts X C D} {p : PathHost.Ghosts X} (r : Next X C D g p) (old mid new : List Event) (n : ℕ) → EachOpenRuns old → GrowsBy old mid n → GrowsOrCatches mid new n
     → MatchNext r (Rests new n) (λ k c. (k ≡ n) × RunsWith new k c) (λ i. ⊥) → EachOpenRuns new
-each_turn next.Moved old mid new n each p q did = each_grown old new n (grows_two old mid new n p q) (λ m ne. each m) (rests_each new n did)
-each_turn (next.Body body) old mid new n each p q did = each_grown old new n (grows_two old mid new n p q) (λ m ne. each m) (λ o. subst (λ k. is_running new k ≡ true) did.0 did.1.runs)
+each_turn next.Moved old mid new n each p q did = each_grown old new n (grows_both (concerns n) old mid new (or_caught old mid n p) q) (λ m ne. each m) (rests_each new n did)
+each_turn (next.Body body) old mid new n each p q did = each_grown old new n (grows_both (concerns n) old mid new (or_caught old mid n p) q) (λ m ne. each m) (λ o. subst (λ k. is_running new k ≡ true) did.0 did.1.runs)
 each_turn (next.Idle i) old mid new n each p q did = absurd did
 
 -- ---- nodes and children

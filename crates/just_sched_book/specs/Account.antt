@@ -24,4 +24,12 @@ pub record IsAccount (s : Start) (h : List Event) (now : List Entry) (world : Op
 abbrev pub taken_behind : Event → ℕ → ℕ
 taken_behind (event.Took n) taken = taken + 1
 taken_behind (event.Gave n) taken = taken - 1
-taken_behind _ taken = taken
+taken_behind (event.Asked m y) taken = taken
+taken_behind (event.Looked m sums seen) taken = taken
+taken_behind (event.Skipped m) taken = taken
+taken_behind (event.Begun m) taken = taken
+taken_behind (event.Started m i c) taken = taken
+taken_behind (event.Ended m i c s) taken = taken
+taken_behind (event.Saved m) taken = taken
+taken_behind (event.Done m o) taken = taken
+taken_behind (event.Caught s) taken = taken

@@ -19,7 +19,7 @@ ghost use Rattle.just_sched_history.specs.Idle.{IsIdle, CanMove, HasWork};
 ghost use Rattle.just_sched_history.specs.NodeStates.{IsState};
 ghost use Rattle.just_sched_history.specs.Turns.{IsTurn};
 ghost use Rattle.just_sched_history.specs.Verdict.{IsVerdict};
-ghost use Rattle.just_sched_history.specs.Moves.{GrowsBy, IsMove, RunsWith, Rests};
+ghost use Rattle.just_sched_history.specs.Moves.{GrowsBy, GrowsOrCatches, IsMove, RunsWith, Rests};
 ghost use Rattle.just_sched_book.specs.MoveAnswers.{MatchNext};
 ghost use base.Stored.{Coded-set};
 
@@ -113,6 +113,8 @@ impl<H: Host + Drop, P: Naming> Book<H, P> {
         ensures plan { IfOk result (λ r. r.0.plan ≡ plan.plan) }
         ensures jobs { IfOk result (λ r. r.0.jobs ≡ jobs) }
         ensures seat { IfOk result (λ r. (r.1.share.parts ≡ P.parts) × (r.1.share.amount ≡ 0)) }
+        ensures entries { IfOk result (λ r. H.entries r.0.host ≡ H.entries host) }
+        ensures world { IfOk result (λ r. H.world r.0.host ≡ H.world host) }
         ensures back { IfErr result (λ r. (H.entries r.0 ≡ H.entries host) × (H.world r.0 ≡ H.world host) × (r.1.plan ≡ plan.plan)) }
     {
         let mut host = host;
@@ -226,7 +228,7 @@ impl<H: Host + Drop, P: Naming> Book<H, P> {
     }
 
     /// Notes how a body's child ended, for which the seat gives a unit: of the node that runs with that child, else of the
-    /// running node of least number, for which waiting has failed then. It takes no memory.
+    /// running node of least number, for which waiting has failed then. It takes no memory, and no signal is caught.
     pub fn note_end(&mut self, seat: &mut Seat<P>, body: WaitedBody<H>) -> HeldBody
         requires unit { 0 < seat.old.share.amount }
         ensures plan { self.new.plan ≡ self.old.plan }
@@ -253,7 +255,7 @@ impl<H: Host + Drop, P: Naming> Book<H, P> {
         ensures jobs { self.new.jobs ≡ self.old.jobs }
         ensures parts { seat.new.share.parts ≡ seat.old.share.parts }
         ensures units { MatchNext result (seat.new.share.amount ≡ seat.old.share.amount) (λ node child. seat.new.share.amount ≡ seat.old.share.amount + 1) (λ i. ⊥) }
-        ensures grown { GrowsBy self.old.history.items self.new.history.items body.node }
+        ensures grown { GrowsOrCatches self.old.history.items self.new.history.items body.node }
         ensures did { MatchNext result (Rests self.new.history.items body.node)
             (λ node child. (node ≡ body.node) × RunsWith self.new.history.items node child)
             (λ i. ⊥) }

@@ -18,14 +18,12 @@ use std::alloc::Global;
 
 /// The cache of the node.
 pub(crate) fn cache(plan: &Plan, node: u32) -> &CachePlan
-    requires { is_cached plan.now.nodes node ≡ true }
+    requires within { node < length plan.now.nodes }
+    requires cached { is_cached plan.now.nodes node ≡ true }
     ensures { cache_at plan.now.nodes node ≡ Some result.now }
 {
-    match plan.nodes.as_slice().get(node as usize) {
-        Some(planned) => match &planned.cache {
-            Some(cache) => cache.get(),
-            None => unreachable!(),
-        },
+    match &plan.nodes.as_slice()[node as usize].cache {
+        Some(cache) => cache.get(),
         None => unreachable!(),
     }
 }

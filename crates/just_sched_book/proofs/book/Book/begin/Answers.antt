@@ -10,7 +10,7 @@ use Rattle.just_sched_book.proofs.Accounts.{node_in, room_for, noted}
 use Rattle.just_sched_history.proofs.Asking.{no_kept}
 use Rattle.just_sched_book.proofs.Gained.{begin_fails}
 use Rattle.just_sched_history.proofs.Grows.{grows_one}
-use Rattle.just_sched_book.proofs.Behind.{over_now}
+use Rattle.just_sched_book.proofs.Behind.{begin_did, open_as, over_now}
 use Rattle.just_sched_history.proofs.Due.{inside}
 use Rattle.just_sched_book.proofs.Tallies.{tally_more, tally_done, told_end}
 use Rattle.just_sched_book.proofs.book.Book.begin.Goals as goal
@@ -52,6 +52,19 @@ returns-in-Ok-clause-grown g c = grows_one c.args.self.now.history.items _ (even
 
 pub returns-in-Err-clause-grown : goal.returns-in-Err-clause-grown
 returns-in-Err-clause-grown g c = grows_one c.args.self.now.history.items _ (event.Done c.args.node (outcome.Failed c.in-Err.reason)) c.args.node c.note-in-Err.ensures.items (eq-eqb c.args.node c.args.node refl)
+
+pub returns-in-Ok-clause-opened : goal.returns-in-Ok-clause-opened
+returns-in-Ok-clause-opened g c =
+    let s = c.args.self.now in
+    open_as s.history.items _ (event.Begun c.args.node) c.args.node c.note.ensures.items refl refl ∙ (inside s.history.items c.args.node c.requires.inside).is_open
+
+pub returns-in-Err-clause-opened : goal.returns-in-Err-clause-opened
+returns-in-Err-clause-opened g c =
+    let s = c.args.self.now in
+    open_as s.history.items _ (event.Done c.args.node (outcome.Failed c.in-Err.reason)) c.args.node c.note-in-Err.ensures.items refl refl ∙ (inside s.history.items c.args.node c.requires.inside).is_open
+
+pub returns-in-Ok-clause-did : goal.returns-in-Ok-clause-did
+returns-in-Ok-clause-did g c = begin_did c.args.self.now.history.items _ c.args.node c.note.ensures.items c.requires.inside c.requires.still
 
 pub returns-in-Err-clause-did : goal.returns-in-Err-clause-did
 returns-in-Err-clause-did g c = over_now c.args.self.now.history.items _ c.args.node (outcome.Failed c.in-Err.reason) c.note-in-Err.ensures.items

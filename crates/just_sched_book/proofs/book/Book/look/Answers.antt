@@ -1,5 +1,5 @@
 -- The entry was looked at, or a call of the host broke: the event may come with what was gained, and the account goes on.
-use Rattle.std.proofs.Common.{arith, refl, sym, ◌∙◌, ap, eq-eqb}
+use Rattle.std.proofs.Common.{arith, length, refl, sym, ◌∙◌, ap, eq-eqb}
 use Rattle.just_sched_history.proofs.CachedMoves.{look_did}
 use Rattle.just_sched_book.proofs.Looking.{look_may, look_stands, look_fails}
 use Rattle.just_sched_history.proofs.Touching.{leads_looked}
@@ -8,7 +8,7 @@ use Rattle.just_sched_history.specs.Nodes.{cache_at}
 use Rattle.just_sched_history.specs.Start.{run_of}
 use Rattle.just_sched_history.specs.declared.event.Event.TheVariants as event
 use Rattle.just_sched_history.specs.declared.event.Outcome.TheVariants as outcome
-use Rattle.just_sched_book.proofs.Accounts.{room_for, noted_leading}
+use Rattle.just_sched_book.proofs.Accounts.{node_in, room_for, noted_leading}
 use Rattle.just_sched_history.proofs.Asking.{no_kept}
 use Rattle.just_sched_book.proofs.Behind.{open_as, over_now}
 use Rattle.just_sched_history.proofs.Due.{inside}
@@ -16,8 +16,13 @@ use Rattle.just_sched_history.proofs.Grows.{grows_one}
 use Rattle.just_sched_book.proofs.Tallies.{tally_more, tally_done, unlooked_end}
 use Rattle.just_sched_book.proofs.book.Book.look.Goals as goal
 
-pub cache-requires : goal.cache-requires
-cache-requires g c = ap (λ p. is_cached p.nodes c.args.node) c.args.self.now.plan_named ∙ c.requires.cached
+pub cache-requires-clause-within : goal.cache-requires-clause-within
+cache-requires-clause-within g c =
+    let s = c.args.self.now in
+    omega (arith, node_in s.account c.args.node (inside s.history.items c.args.node c.requires.inside).is_open, ap (λ p. length p.nodes) s.plan_named)
+
+pub cache-requires-clause-cached : goal.cache-requires-clause-cached
+cache-requires-clause-cached g c = ap (λ p. is_cached p.nodes c.args.node) c.args.self.now.plan_named ∙ c.requires.cached
 
 pub note-requires-clause-room : goal.note-requires-clause-room
 note-requires-clause-room g c =

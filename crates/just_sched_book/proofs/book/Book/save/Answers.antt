@@ -1,11 +1,11 @@
 -- The entry was saved, or a call of the host broke: the event may come with what was gained, and the account goes on.
-use Rattle.std.proofs.Common.{arith, refl, sym, subst, ◌∙◌, ap, Ok, Err, eq-eqb}
+use Rattle.std.proofs.Common.{arith, length, refl, sym, subst, ◌∙◌, ap, Ok, Err, eq-eqb}
 use Rattle.just_sched_book.specs.Gains.{SaveGains}
 use Rattle.just_sched_history.specs.Rows.{IsTable}
 use Rattle.just_sched_history.specs.Cached.{is_looked_at, is_cached}
 use Rattle.just_sched_history.proofs.TablesLaws.{rows_of}
 use Rattle.just_sched_history.proofs.CachedMoves.{save_did, seen_of}
-use Rattle.just_sched_book.proofs.Accounts.{looked_here, room_for, noted_leading}
+use Rattle.just_sched_book.proofs.Accounts.{looked_here, node_in, room_for, noted_leading}
 use Rattle.just_sched_book.proofs.Looking.{save_stands, save_fails, sums_are}
 use Rattle.just_sched_history.proofs.Touching.{leads_saved}
 use Rattle.just_sched_history.specs.Nodes.{cache_at}
@@ -19,8 +19,13 @@ use Rattle.just_sched_history.proofs.Grows.{grows_one}
 use Rattle.just_sched_book.proofs.Tallies.{tally_more, tally_done, unsaved_end}
 use Rattle.just_sched_book.proofs.book.Book.save.Goals as goal
 
-pub cache-requires : goal.cache-requires
-cache-requires g c = ap (λ p. is_cached p.nodes c.args.node) c.args.self.now.plan_named ∙ c.requires.cached
+pub cache-requires-clause-within : goal.cache-requires-clause-within
+cache-requires-clause-within g c =
+    let s = c.args.self.now in
+    omega (arith, node_in s.account c.args.node (inside s.history.items c.args.node c.requires.inside).is_open, ap (λ p. length p.nodes) s.plan_named)
+
+pub cache-requires-clause-cached : goal.cache-requires-clause-cached
+cache-requires-clause-cached g c = ap (λ p. is_cached p.nodes c.args.node) c.args.self.now.plan_named ∙ c.requires.cached
 
 pub note-requires-clause-room : goal.note-requires-clause-room
 note-requires-clause-room g c =
