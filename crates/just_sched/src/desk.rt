@@ -1,6 +1,6 @@
 //! What lies under the lock of a run: its book, each open body of which runs a child whenever the lock is free.
 
-ghost use Rattle.std.specs.Prelude.{◌≡◌, ◌+◌, ◌<◌, ℕ, [], true, false, MatchOption};
+ghost use Rattle.std.specs.Prelude.{◌≡◌, ◌+◌, ◌<◌, ◌≤◌, ℕ, [], true, false, MatchOption};
 ghost use Rattle.std.specs.List.{list_any};
 ghost use Rattle.just_sched_history.specs.Idle.{IsIdle};
 ghost use Rattle.just_sched_history.specs.Legal.{open_bodies};
@@ -52,12 +52,21 @@ impl<H: Host + Drop, P: Naming> Desk<H, P> {
         }
     }
 
+    /// How many bodies are open: no more than there are jobs, and each runs a child.
+    pub fn open_bodies(&self) -> usize
+        ensures count { result ≡ open_bodies (run_of P.start) self.now.book.history.items }
+        ensures few { MatchOption P.start.jobs (Unit {0}) (λ j. result ≤ j) }
+        ensures each { EachOpenRuns self.now.book.history.items }
+    {
+        self.book.open_bodies()
+    }
+
     /// Whether no body is open.
     pub fn is_quiet(&self) -> bool
         ensures quiet { result ≡ true → open_bodies (run_of P.start) self.now.book.history.items ≡ 0 }
         ensures busy { result ≡ false → 0 < open_bodies (run_of P.start) self.now.book.history.items }
     {
-        self.book.open_bodies() == 0
+        self.open_bodies() == 0
     }
 
     /// Shows that no body is open, to a seat that has every part and no unit. It changes nothing.
