@@ -13,7 +13,7 @@ pub struct Broken {
 }
 
 /// The rule, broken at that place.
-pub(crate) fn broken_at(kind: CompileKind, spot: Spot) -> Option<Broken>
+pub fn broken_at(kind: CompileKind, spot: Spot) -> Option<Broken>
     ensures { result ≡ broken_at kind (Some spot) }
 {
     Some(Broken { kind, spot })

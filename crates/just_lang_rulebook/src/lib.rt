@@ -32,7 +32,7 @@ pub use attribute_kinds::{
     first_shell_expansion, first_unknown_attribute, first_unknown_setting,
 };
 pub use behind::first_broken_behind;
-pub use broken::Broken;
+pub use broken::{Broken, broken_at};
 pub use broken_items::first_broken_item;
 pub use duplicate_aliases::DuplicateAlias;
 pub use duplicate_kinds::{
