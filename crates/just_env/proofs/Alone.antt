@@ -69,7 +69,7 @@ module _ (told : Option World) (environ : Pairs) where
   found_reads t paths names folder (Ok None) p lost = none_reads t.dotenv_required lost
   found_reads t paths names folder (Err e) p lost = finds_reads paths names folder (Err e) p lost
 
-  pairs_reads : (ask : DotenvAsk) (folder : List ℕ) (t : Settings) (r : Result Pairs EnvError) → FoundPairs told ask environ folder t r → IsUnrun r → ⊥
+  pub pairs_reads : (ask : DotenvAsk) (folder : List ℕ) (t : Settings) (r : Result Pairs EnvError) → FoundPairs told ask environ folder t r → IsUnrun r → ⊥
   pairs_reads ask folder t r p lost =
       found_reads t (paths_given ask t) (names_wanted ask t) folder p.0 p.1 (subst (λ (z : Result Pairs EnvError). IsUnrun z) p.2 lost)
 

@@ -9,7 +9,7 @@ use Rattle.just_host_record.specs.declared.entry.Entry.{Entry}
 use Rattle.just_host_record.specs.declared.entry.HostFault.{HostFault}
 use Rattle.just_host_record.specs.Record.{refused}
 use Rattle.just_host_record.specs.declared.entry.Status.{Status}
-use Rattle.just_host_record.specs.World.{World, Touched, FaultLeaves}
+use Rattle.just_host_record.specs.World.{World, FaultLeaves}
 use Rattle.just_dotenv.specs.File.{Gives, Stops}
 use Rattle.just_dotenv.specs.Meaning.{Pairs}
 use Rattle.just_env.specs.declared.env_error.EnvError.{EnvError}
@@ -17,8 +17,8 @@ use Rattle.just_env.specs.declared.env_error.EnvError.TheVariants as error
 use Rattle.just_env.specs.declared.env_error.OutputError.{OutputError}
 use Rattle.just_env.specs.declared.env_error.OutputError.TheVariants as output
 use Rattle.just_env.specs.DotenvAnswers.{Answers, GainsAmong, Runs, entries_of}
-use Rattle.just_env.specs.Captures.{Capture, entry_of, told_behind, AreAmongMisses}
-use Rattle.just_env.specs.Commands.{command_spec, GivesPairs, ending_error, IsUncaptured, RunsCommand, RunsCommands, before_pairs}
+use Rattle.just_env.specs.Captures.{Capture, entry_of, told_behind, AreAmongMisses, LeavesWorld}
+use Rattle.just_env.specs.Commands.{command_spec, GivesPairs, ending_error, IsUncaptured, RunsCommand, RunsCommands, before_pairs, BeginsCommand, BeginsCommands}
 use Rattle.just_env.proofs.Running.{error_stays, among_none, among_then, behind_append, run_refused_behind, run_short_behind}
 
 -- ---- what a child printed
@@ -61,10 +61,12 @@ module _ (environ : Pairs) (shell : Interpreter) (folder : List ℕ) (told : Opt
   -- whatever the commands that are left come to, all come to that behind the pairs so far
   pub record LeadsOn (now : Option World) (left : List (List ℕ)) (cs : List Capture) (done : Pairs) : Type 0 where
     pub so : (ds : List Capture) (r : Result Pairs EnvError) → RunsCommands environ shell folder now left ds r → RunsCommands environ shell folder told commands (cs ++ ds) (behind done r)
+    pub begun : (ds : List Capture) → BeginsCommands environ shell folder now left ds → BeginsCommands environ shell folder told commands (cs ++ ds)
 
   pub on_first : LeadsOn told commands [] []
   on_first = record {
     so = λ ds r runs. subst (λ x. RunsCommands environ shell folder told commands ds x) (nothing_before r) runs;
+    begun = λ ds begins. begins;
   }
 
   pub on_next : (now : Option World) (command : List ℕ) (left : List (List ℕ)) (cs ds : List Capture) (done pairs : Pairs) → LeadsOn now (command ∷ left) cs done
@@ -73,11 +75,21 @@ module _ (environ : Pairs) (shell : Interpreter) (folder : List ℕ) (told : Opt
     so = λ es r rest.
         let all : RunsCommands environ shell folder told commands (cs ++ (ds ++ es)) (behind done (before_pairs pairs r)) = leads.so (ds ++ es) (before_pairs pairs r) (RunsCommands.more now command left ds es pairs r runs rest) in
         subst (λ l. RunsCommands environ shell folder told commands l (behind (done ++ pairs) r)) (sym (append_assoc cs ds es)) (subst (λ x. RunsCommands environ shell folder told commands (cs ++ (ds ++ es)) x) (behind_pairs done pairs r) all);
+    begun = λ es begins.
+        subst (λ l. BeginsCommands environ shell folder told commands l) (sym (append_assoc cs ds es))
+        (leads.begun (ds ++ es) (BeginsCommands.one_before now command left ds es pairs runs begins));
   }
 
   pub on_refused : (now : Option World) (command : List ℕ) (left : List (List ℕ)) (cs ds : List Capture) (done : Pairs) (e : EnvError) → LeadsOn now (command ∷ left) cs done
       → RunsCommand environ shell folder now command ds (Err e) → RunsCommands environ shell folder told commands (cs ++ ds) (Err e)
   on_refused now command left cs ds done e leads runs = leads.so ds (Err e) (RunsCommands.refused now command left ds e runs)
+
+  -- what was begun for the commands so far, and for one more
+  pub on_begun : (now : Option World) (command : List ℕ) (left : List (List ℕ)) (cs ds : List Capture) (done : Pairs) → LeadsOn now (command ∷ left) cs done → BeginsCommand shell folder now command ds → BeginsCommands environ shell folder told commands (cs ++ ds)
+  on_begun now command left cs ds done leads begins = leads.begun ds (BeginsCommands.the_last now command left ds begins)
+
+  pub all_begun : (now : Option World) (left : List (List ℕ)) (cs : List Capture) (done : Pairs) → LeadsOn now left cs done → BeginsCommands environ shell folder told commands cs
+  all_begun now left cs done leads = subst (λ l. BeginsCommands environ shell folder told commands l) (append-nil cs) (leads.begun [] (BeginsCommands.nothing_more now left))
 
   pub on_all : (now : Option World) (cs : List Capture) (done : Pairs) → LeadsOn now [] cs done → RunsCommands environ shell folder told commands cs (Ok done)
   on_all now cs done leads =
@@ -88,24 +100,24 @@ module _ (environ : Pairs) (shell : Interpreter) (folder : List ℕ) (told : Opt
 
 module _ (environ : Pairs) (shell : Interpreter) (folder : List ℕ) (told after : Option World) (command : List ℕ) where
   -- it was run to its end
-  module _ (c : Capture) (is : c.spec ≡ command_spec shell folder command) (touched : Touched told c.after) (now : after ≡ c.after) (old new : List Entry) (gained : new ≡ old ++ entry_of c ∷ []) where
+  module _ (c : Capture) (is : c.spec ≡ command_spec shell folder command) (touched : LeavesWorld told c) (now : after ≡ c.after) (old new : List Entry) (gained : new ≡ old ++ entry_of c ∷ []) where
     among_one : GainsAmong (c ∷ []) old new
     among_one = (entry_of c ∷ [], AreAmongMisses.a_child c [] [] AreAmongMisses.none, gained)
 
-    pub ran_one : (r : Result Pairs EnvError) → Answers (GivesPairs environ folder command c.status c.output) r → IfErr r (λ e. entries_of [] e ≡ []) → Runs (RunsCommand environ shell folder told command) told after old new r
-    ran_one (Ok pairs) gives unheard = (c ∷ [], RunsCommand.captured c (Ok pairs) is touched gives, among_one, now)
+    pub ran_one : (r : Result Pairs EnvError) → Answers (GivesPairs environ folder command c.status c.output) r → IfErr r (λ e. entries_of [] e ≡ []) → Runs (RunsCommand environ shell folder told command) (BeginsCommand shell folder told command) told after old new r
+    ran_one (Ok pairs) gives unheard = (c ∷ [], RunsCommand.captured c (Ok pairs) is touched gives, among_one, now, BeginsCommand.a_child c is touched)
     ran_one (Err e) (inl memory) unheard =
-        (c ∷ [], inl memory, (new, [], among_one, sym (append-nil new) ∙ ap (λ l. new ++ l) (sym unheard)), error_stays c.after after e now)
+        (c ∷ [], inl memory, (new, [], among_one, sym (append-nil new) ∙ ap (λ l. new ++ l) (sym unheard)), error_stays c.after after e now, BeginsCommand.a_child c is touched)
     ran_one (Err e) (inr gives) unheard =
-        (c ∷ [], inr (RunsCommand.captured c (Err e) is touched gives), (new, [], among_one, sym (append-nil new) ∙ ap (λ l. new ++ l) (sym unheard)), error_stays c.after after e now)
+        (c ∷ [], inr (RunsCommand.captured c (Err e) is touched gives), (new, [], among_one, sym (append-nil new) ∙ ap (λ l. new ++ l) (sym unheard)), error_stays c.after after e now, BeginsCommand.a_child c is touched)
 
   -- it wasn't
   pub ran_none : (io : HostFault) (named : List ℕ) (e : EnvError) (program : List ℕ) (old new : List Entry) → named ≡ command → e ≡ error.DotenvCommand named (output.Io io) → IsUncaptured io → FaultLeaves told after io
-      → new ≡ old ++ refused program io → Runs (RunsCommand environ shell folder told command) told after old new (Err e)
+      → new ≡ old ++ refused program io → Runs (RunsCommand environ shell folder told command) (BeginsCommand shell folder told command) told after old new (Err e)
   ran_none io named e program old new at so refuses leaves gained =
       let same : e ≡ error.DotenvCommand command (output.Io io) = so ∙ ap (λ k. error.DotenvCommand k (output.Io io)) at in
-      subst (λ x. Runs (RunsCommand environ shell folder told command) told after old new (Err x)) (sym same)
-      ([], inr (RunsCommand.uncaptured io refuses), (old, program, among_none old, gained), leaves)
+      subst (λ x. Runs (RunsCommand environ shell folder told command) (BeginsCommand shell folder told command) told after old new (Err x)) (sym same)
+      ([], inr (RunsCommand.uncaptured io refuses), (old, program, among_none old, gained), leaves, BeginsCommand.nothing)
 
 -- ---- the loop over commands
 
@@ -117,9 +129,9 @@ module _ (environ : Pairs) (shell : Interpreter) (folder : List ℕ) (told : Opt
   pub on_start : (done : Pairs) → done ≡ [] → RanOn told commands done old
   on_start done none = subst (λ p. RanOn told commands p old) (sym none) ([], on_first environ shell folder told commands, among_none old, refl)
 
-  pub on_end : (now : Option World) (i : ℕ) (done : Pairs) (entries : List Entry) → length commands ≤ i → RanOn now (drop i commands) done entries → Runs (RunsCommands environ shell folder told commands) told now old entries (Ok done)
+  pub on_end : (now : Option World) (i : ℕ) (done : Pairs) (entries : List Entry) → length commands ≤ i → RanOn now (drop i commands) done entries → Runs (RunsCommands environ shell folder told commands) (BeginsCommands environ shell folder told commands) told now old entries (Ok done)
   on_end now i done entries last (cs, leads, gained, is) =
-      (cs, on_all environ shell folder told commands now cs done (subst (λ l. LeadsOn environ shell folder told commands now l cs done) (drop_of_length-le commands last) leads), gained, is)
+      (cs, on_all environ shell folder told commands now cs done (subst (λ l. LeadsOn environ shell folder told commands now l cs done) (drop_of_length-le commands last) leads), gained, is, all_begun environ shell folder told commands now (drop i commands) cs done leads)
 
   module _ (now after : Option World) (i : ℕ) (command : List ℕ) (done : Pairs) (middle new : List Entry) (less : i < length commands) (here : command ≡ get_or commands i command)
       (ran : RanOn now (drop i commands) done middle) where
@@ -129,8 +141,8 @@ module _ (environ : Pairs) (shell : Interpreter) (folder : List ℕ) (told : Opt
     leads : LeadsOn environ shell folder told commands now (command ∷ drop (i + 1) commands) ran.0 done
     leads = subst (λ l. LeadsOn environ shell folder told commands now l ran.0 done) left ran.1
 
-    pub on_more : (pairs all : Pairs) → Runs (RunsCommand environ shell folder now command) now after middle new (Ok pairs) → all ≡ done ++ pairs → RanOn after (drop (i + 1) commands) all new
-    on_more pairs all (ds, runs, gained, is) so =
+    pub on_more : (pairs all : Pairs) → Runs (RunsCommand environ shell folder now command) (BeginsCommand shell folder now command) now after middle new (Ok pairs) → all ≡ done ++ pairs → RanOn after (drop (i + 1) commands) all new
+    on_more pairs all (ds, runs, gained, is, begun) so =
         let next : LeadsOn environ shell folder told commands (told_behind now ds) (drop (i + 1) commands) (ran.0 ++ ds) (done ++ pairs) =
         on_next environ shell folder told commands now command (drop (i + 1) commands) ran.0 ds done pairs leads runs in (
           ran.0 ++ ds,
@@ -139,11 +151,16 @@ module _ (environ : Pairs) (shell : Interpreter) (folder : List ℕ) (told : Opt
           is ∙ ap (λ w. told_behind w ds) ran.3 ∙ sym (behind_append told ran.0 ds),
         )
 
-    pub on_error : (e : EnvError) → Runs (RunsCommand environ shell folder now command) now after middle new (Err e) → Runs (RunsCommands environ shell folder told commands) told after old new (Err e)
-    on_error e runs =
-        run_refused_behind (RunsCommands environ shell folder told commands) told after old new ran.0 middle now ran.2 ran.3 (RunsCommand environ shell folder now command) e runs
-        (λ ds refuses. on_refused environ shell folder told commands now command (drop (i + 1) commands) ran.0 ds done e leads refuses)
+    begun_here : (ds : List Capture) → BeginsCommand shell folder now command ds → BeginsCommands environ shell folder told commands (ran.0 ++ ds)
+    begun_here ds begins = on_begun environ shell folder told commands now command (drop (i + 1) commands) ran.0 ds done leads begins
 
-    pub on_short : (pairs : Pairs) (r : Result Pairs EnvError) → Runs (RunsCommand environ shell folder now command) now after middle new (Ok pairs) → IsErrAnd r (λ e. e ≡ error.NoMemory) → Runs (RunsCommands environ shell folder told commands) told after old new r
+    pub on_error : (e : EnvError) → Runs (RunsCommand environ shell folder now command) (BeginsCommand shell folder now command) now after middle new (Err e)
+        → Runs (RunsCommands environ shell folder told commands) (BeginsCommands environ shell folder told commands) told after old new (Err e)
+    on_error e runs =
+        run_refused_behind (RunsCommands environ shell folder told commands) (BeginsCommands environ shell folder told commands) told after old new ran.0 middle now ran.2 ran.3 (RunsCommand environ shell folder now command) (BeginsCommand shell folder now command) e runs
+        (λ ds refuses. on_refused environ shell folder told commands now command (drop (i + 1) commands) ran.0 ds done e leads refuses) begun_here
+
+    pub on_short : (pairs : Pairs) (r : Result Pairs EnvError) → Runs (RunsCommand environ shell folder now command) (BeginsCommand shell folder now command) now after middle new (Ok pairs) → IsErrAnd r (λ e. e ≡ error.NoMemory)
+        → Runs (RunsCommands environ shell folder told commands) (BeginsCommands environ shell folder told commands) told after old new r
     on_short pairs (Ok x) runs memory = absurd memory
-    on_short pairs (Err e) runs memory = run_short_behind (RunsCommands environ shell folder told commands) told after old new ran.0 middle now ran.2 ran.3 runs.0 e runs.2 runs.3 memory
+    on_short pairs (Err e) runs memory = run_short_behind (RunsCommands environ shell folder told commands) (BeginsCommands environ shell folder told commands) told after old new ran.0 middle now ran.2 ran.3 runs.0 e runs.2 runs.3 memory (begun_here runs.0 runs.4)

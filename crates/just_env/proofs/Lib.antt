@@ -11,6 +11,7 @@ pub mod Turning
 pub mod Stopped
 pub mod Agreed
 pub mod Alone
+mod Ends
 mod Bound
 mod Lookups
 mod Put

@@ -1,5 +1,5 @@
 -- The pairs of one module, as they are answered.
-use Rattle.std.proofs.Common.{◌≡◌, ◌⊎◌, inl, inr, ℕ, List, [], Option, refl, ap, subst}
+use Rattle.std.proofs.Common.{◌≡◌, ◌⊎◌, inl, inr, ℕ, List, [], Option, refl, ap, sym, subst}
 use Rattle.std.specs.Prelude.{Result, Ok, Err}
 use Rattle.just_host_record.specs.World.{World}
 use Rattle.just_dotenv.specs.Meaning.{Pairs}
@@ -17,8 +17,8 @@ use Rattle.just_env.specs.declared.env_error.EnvError.TheVariants as error
 use Rattle.just_env.specs.DotenvAnswers.{Answers}
 use Rattle.just_env.specs.Asked.{sources_of, commands_of, paths_given, names_wanted}
 use Rattle.just_env.specs.Captures.{Capture}
-use Rattle.just_env.specs.Commands.{RunsCommands}
-use Rattle.just_env.specs.Loads.{FindsFiles, FoundPairs, PrintedPairs, LoadsFrom, LoadsOwn, pairs_of_found, kept}
+use Rattle.just_env.specs.Commands.{RunsCommands, BeginsCommands}
+use Rattle.just_env.specs.Loads.{FindsFiles, FoundPairs, PrintedPairs, LoadsFrom, LoadsOwn, BeginsOwn, pairs_of_found, kept}
 
 module _ (told : Option World) (ask : DotenvAsk) (environ : Pairs) (folder : List ℕ) where
   module _ (s : Settings) (paths names : List (List ℕ)) (are_paths : paths ≡ paths_given ask s) (are_names : names ≡ names_wanted ask s) where
@@ -41,6 +41,9 @@ module _ (told : Option World) (flags : RunFlags) (environ : Pairs) (folder : Li
   module _ (i : Interpreter) (given : List (List ℕ)) (cs : List Capture) (is : i ≡ shell flags s) (are : given ≡ commands) where
     by_shell : (r : Result Pairs EnvError) → RunsCommands environ i folder told given cs r → RunsCommands environ (shell flags s) folder told commands cs r
     by_shell r runs = subst (λ ks. RunsCommands environ (shell flags s) folder told ks cs r) are (subst (λ x. RunsCommands environ x folder told given cs r) is runs)
+
+    pub begun_by_shell : BeginsCommands environ i folder told given cs → BeginsCommands environ (shell flags s) folder told commands cs
+    begun_by_shell begins = subst (λ ks. BeginsCommands environ (shell flags s) folder told ks cs) are (subst (λ x. BeginsCommands environ x folder told given cs) is begins)
 
     -- commands were run
     pub printed_kept : (pairs kept_pairs : Pairs) → RunsCommands environ i folder told given cs (Ok pairs) → kept_pairs ≡ kept s.dotenv_override environ pairs
@@ -74,3 +77,8 @@ module _ (told : Option World) (ask : DotenvAsk) (flags : RunFlags) (environ : P
   own_printed s commands is of_module of_ask cs r printed =
       by_sources cs r (Ok sources.Commands) is
       (subst (λ t. PrintedPairs told flags environ folder t (commands_of ask j) cs r) of_module (subst (λ ks. PrintedPairs told flags environ folder s ks cs r) of_ask printed))
+
+  pub own_begun : (s : Settings) (commands : List (List ℕ)) → ◌≡◌ {A = Result Sources EnvError} (Ok sources.Commands) (sources_of ask j) → s ≡ settings_of j → commands ≡ commands_of ask j
+      → (cs : List Capture) → BeginsCommands environ (shell flags s) folder told commands cs → BeginsOwn told ask flags environ folder j cs
+  own_begun s commands is of_module of_ask cs begins =
+      inr (sym is, subst (λ t. BeginsCommands environ (shell flags t) folder told (commands_of ask j) cs) of_module (subst (λ ks. BeginsCommands environ (shell flags s) folder told ks cs) of_ask begins))

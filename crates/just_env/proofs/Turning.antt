@@ -15,7 +15,7 @@ use Rattle.just_env.specs.declared.env_error.EnvError.{EnvError}
 use Rattle.just_env.specs.declared.env_error.EnvError.TheVariants as error
 use Rattle.just_env.specs.DotenvAnswers.{GainsAmong, Runs}
 use Rattle.just_env.specs.Captures.{Capture, told_behind}
-use Rattle.just_env.specs.Loads.{LoadsOwn, LoadsModules, LoadsProject, Following, following, folder_of, dotenv_of, before_others}
+use Rattle.just_env.specs.Loads.{LoadsOwn, LoadsModules, LoadsProject, BeginsOwn, BeginsModules, BeginsProject, Following, following, folder_of, dotenv_of, before_others}
 use Rattle.just_env.specs.Turns.{LoadsNext, seen}
 use Rattle.just_env.proofs.Running.{among_none, among_then, behind_append, run_refused_behind, run_short_behind}
 
@@ -54,6 +54,7 @@ nothing_before (Err e) = refl
 -- whatever the modules on the stack come to, the first ones come to that behind what is loaded
 pub record Leads (ask : DotenvAsk) (flags : RunFlags) (environ : Pairs) (told : Option World) (first : Following) (now : Option World) (pending : Following) (cs : List Capture) (done : List DotenvOf) : Type 0 where
   pub so : (ds : List Capture) (r : Result (List DotenvOf) EnvError) → LoadsModules ask flags environ now (reverse pending) ds r → LoadsModules ask flags environ told first (cs ++ ds) (behind done r)
+  pub begun : (ds : List Capture) → BeginsModules ask flags environ now (reverse pending) ds → BeginsModules ask flags environ told first (cs ++ ds)
 
 -- ---- one module
 
@@ -68,6 +69,7 @@ module _ (ask : DotenvAsk) (flags : RunFlags) (environ : Pairs) where
   pub leads_first : (told : Option World) (j : Justfile) (pending : Following) → pending ≡ (j, []) ∷ [] → Leads ask flags environ told (following [] (j ∷ [])) told pending [] []
   leads_first told j pending is = record {
     so = λ ds r loads. subst (λ x. LoadsModules ask flags environ told (following [] (j ∷ [])) ds x) (nothing_before r) (subst (λ ps. LoadsModules ask flags environ told (reverse ps) ds r) is loads);
+    begun = λ ds begins. subst (λ ps. BeginsModules ask flags environ told (reverse ps) ds) is begins;
   }
 
   turned : (ps us : Following) (p : Justfile × Pairs) → ps ≡ us ++ p ∷ [] → reverse ps ≡ p ∷ reverse us
@@ -88,12 +90,22 @@ module _ (ask : DotenvAsk) (flags : RunFlags) (environ : Pairs) where
           leads.so (ds ++ es) (before_others (dotenv_of j (before ++ next.0)) r) (subst (λ l. LoadsModules ask flags environ now l (ds ++ es) (before_others (dotenv_of j (before ++ next.0)) r)) (sym (turned ps us (j, before) is)) more) in
           subst (λ l. LoadsModules ask flags environ told first l (behind (done ++ one ∷ []) r)) (sym (append_assoc cs ds es))
           (subst (λ x. LoadsModules ask flags environ told first (cs ++ (ds ++ es)) x) (ap (λ o. behind done (before_others o r)) (sym next.2) ∙ behind_one done one r) all);
+      begun = λ es begins.
+          let here : BeginsModules ask flags environ (told_behind now ds) (following (before ++ next.0) (modules_of j) ++ reverse us) es =
+          subst (λ l. BeginsModules ask flags environ (told_behind now ds) l es) (within us qs (following (before ++ next.0) (modules_of j)) next.3) begins in
+          let more : BeginsModules ask flags environ now ((j, before) ∷ reverse us) (ds ++ es) = BeginsModules.one_before now j before next.0 (reverse us) ds es next.1 here in
+          subst (λ l. BeginsModules ask flags environ told first l) (sym (append_assoc cs ds es))
+          (leads.begun (ds ++ es) (subst (λ l. BeginsModules ask flags environ now l (ds ++ es)) (sym (turned ps us (j, before) is)) more));
     }
 
     -- one is refused
     pub leads_refused : (e : EnvError) → LoadsNext now ask flags environ j before us qs ds (Err e) → LoadsModules ask flags environ told first (cs ++ ds) (Err e)
     leads_refused e next =
         leads.so ds (Err e) (subst (λ l. LoadsModules ask flags environ now l ds (Err e)) (sym (turned ps us (j, before) is)) (LoadsModules.refused now j before (reverse us) ds e next))
+
+    -- what was begun for those that are loaded, and for one more
+    pub leads_begun : BeginsOwn now ask flags environ (folder_of flags.folder j) j ds → BeginsModules ask flags environ told first (cs ++ ds)
+    leads_begun begins = leads.begun ds (subst (λ l. BeginsModules ask flags environ now l ds) (sym (turned ps us (j, before) is)) (BeginsModules.the_last now j before (reverse us) ds begins))
 
     -- there are fewer modules left, with those within it
     pub fewer_left : (one : DotenvOf) → LoadsNext now ask flags environ j before us qs ds (Ok one) → weights (modules_in qs) < weights (modules_in ps)
@@ -109,6 +121,9 @@ module _ (ask : DotenvAsk) (flags : RunFlags) (environ : Pairs) where
       subst (λ l. LoadsModules ask flags environ told first l (Ok done)) (append-nil cs)
       (subst (λ l. LoadsModules ask flags environ told first (cs ++ []) (Ok l)) (append-nil done)
       (leads.so [] (Ok []) (subst (λ l. LoadsModules ask flags environ now l [] (Ok [])) (sym (ap (λ l. reverse l) none)) (LoadsModules.none now))))
+
+  pub all_begun : (told now : Option World) (first ps : Following) (cs : List Capture) (done : List DotenvOf) → Leads ask flags environ told first now ps cs done → BeginsModules ask flags environ told first cs
+  all_begun told now first ps cs done leads = subst (λ l. BeginsModules ask flags environ told first l) (append-nil cs) (leads.begun [] (BeginsModules.nothing_more now (reverse ps)))
 
 -- ---- with modules behind borrows
 
@@ -126,15 +141,15 @@ module _ (ask : DotenvAsk) (flags : RunFlags) (environ : Pairs) (told : Option W
   on_start pending done is none = subst (λ l. LoadedOn told pending l old) (sym none) ([], leads_first ask flags environ told j pending is, among_none old, refl)
 
   pub on_end : (now : Option World) (pending : Following) (done all : List DotenvOf) (entries : List Entry) → pending ≡ [] → all ≡ done → LoadedOn now pending done entries
-      → Runs (LoadsProject told ask flags environ j) told now old entries (Ok all)
+      → Runs (LoadsProject told ask flags environ j) (BeginsProject told ask flags environ j) told now old entries (Ok all)
   on_end now pending done all entries none same (cs, leads, gained, is) =
-      subst (λ l. Runs (LoadsProject told ask flags environ j) told now old entries (Ok l)) (sym same)
-      (cs, leads_all ask flags environ told now (following [] (j ∷ [])) pending cs done none leads, gained, is)
+      subst (λ l. Runs (LoadsProject told ask flags environ j) (BeginsProject told ask flags environ j) told now old entries (Ok l)) (sym same)
+      (cs, leads_all ask flags environ told now (following [] (j ∷ [])) pending cs done none leads, gained, is, all_begun ask flags environ told now (following [] (j ∷ [])) pending cs done leads)
 
   -- a module is taken from the stack
   module _ (now after : Option World) (ps us qs : Following) (k : Justfile) (before : Pairs) (done : List DotenvOf) (middle new : List Entry) (is : ps ≡ us ++ (k, before) ∷ []) (loaded : LoadedOn now ps done middle) where
-    pub on_more : (one : DotenvOf) (all : List DotenvOf) → Runs (LoadsNext now ask flags environ k before us qs) now after middle new (Ok one) → all ≡ done ++ one ∷ [] → LoadedOn after qs all new
-    on_more one all (ds, next, gained, world) so =
+    pub on_more : (one : DotenvOf) (all : List DotenvOf) → Runs (LoadsNext now ask flags environ k before us qs) (BeginsOwn now ask flags environ (folder_of flags.folder k) k) now after middle new (Ok one) → all ≡ done ++ one ∷ [] → LoadedOn after qs all new
+    on_more one all (ds, next, gained, world, begun) so =
         let leads : Leads ask flags environ told (following [] (j ∷ [])) (told_behind now ds) qs (loaded.0 ++ ds) (done ++ one ∷ []) =
         leads_next ask flags environ told now (following [] (j ∷ [])) ps us qs loaded.0 ds done k before is loaded.1 one next in (
           loaded.0 ++ ds,
@@ -143,15 +158,18 @@ module _ (ask : DotenvAsk) (flags : RunFlags) (environ : Pairs) (told : Option W
           world ∙ ap (λ w. told_behind w ds) loaded.3 ∙ sym (behind_append told loaded.0 ds),
         )
 
-    pub on_fewer : (one : DotenvOf) → Runs (LoadsNext now ask flags environ k before us qs) now after middle new (Ok one) → weights (modules_in qs) < weights (modules_in ps)
-    on_fewer one (ds, next, gained, world) = fewer_left ask flags environ told now (following [] (j ∷ [])) ps us qs loaded.0 ds done k before is loaded.1 one next
+    pub on_fewer : (one : DotenvOf) → Runs (LoadsNext now ask flags environ k before us qs) (BeginsOwn now ask flags environ (folder_of flags.folder k) k) now after middle new (Ok one) → weights (modules_in qs) < weights (modules_in ps)
+    on_fewer one (ds, next, gained, world, begun) = fewer_left ask flags environ told now (following [] (j ∷ [])) ps us qs loaded.0 ds done k before is loaded.1 one next
 
-    pub on_error : (e : EnvError) → Runs (LoadsNext now ask flags environ k before us qs) now after middle new (Err e) → Runs (LoadsProject told ask flags environ j) told after old new (Err e)
+    begun_here : (ds : List Capture) → BeginsOwn now ask flags environ (folder_of flags.folder k) k ds → BeginsProject told ask flags environ j (loaded.0 ++ ds)
+    begun_here ds begins = leads_begun ask flags environ told now (following [] (j ∷ [])) ps us qs loaded.0 ds done k before is loaded.1 begins
+
+    pub on_error : (e : EnvError) → Runs (LoadsNext now ask flags environ k before us qs) (BeginsOwn now ask flags environ (folder_of flags.folder k) k) now after middle new (Err e) → Runs (LoadsProject told ask flags environ j) (BeginsProject told ask flags environ j) told after old new (Err e)
     on_error e runs =
-        run_refused_behind (LoadsProject told ask flags environ j) told after old new loaded.0 middle now loaded.2 loaded.3 (LoadsNext now ask flags environ k before us qs) e runs
-        (λ ds refuses. leads_refused ask flags environ told now (following [] (j ∷ [])) ps us qs loaded.0 ds done k before is loaded.1 e refuses)
+        run_refused_behind (LoadsProject told ask flags environ j) (BeginsProject told ask flags environ j) told after old new loaded.0 middle now loaded.2 loaded.3 (LoadsNext now ask flags environ k before us qs) (BeginsOwn now ask flags environ (folder_of flags.folder k) k) e runs
+        (λ ds refuses. leads_refused ask flags environ told now (following [] (j ∷ [])) ps us qs loaded.0 ds done k before is loaded.1 e refuses) begun_here
 
-    pub on_short : (one : DotenvOf) (r : Result (List DotenvOf) EnvError) → Runs (LoadsNext now ask flags environ k before us qs) now after middle new (Ok one) → IsErrAnd r (λ e. e ≡ error.NoMemory)
-        → Runs (LoadsProject told ask flags environ j) told after old new r
+    pub on_short : (one : DotenvOf) (r : Result (List DotenvOf) EnvError) → Runs (LoadsNext now ask flags environ k before us qs) (BeginsOwn now ask flags environ (folder_of flags.folder k) k) now after middle new (Ok one) → IsErrAnd r (λ e. e ≡ error.NoMemory)
+        → Runs (LoadsProject told ask flags environ j) (BeginsProject told ask flags environ j) told after old new r
     on_short one (Ok x) runs memory = absurd memory
-    on_short one (Err e) runs memory = run_short_behind (LoadsProject told ask flags environ j) told after old new loaded.0 middle now loaded.2 loaded.3 runs.0 e runs.2 runs.3 memory
+    on_short one (Err e) runs memory = run_short_behind (LoadsProject told ask flags environ j) (BeginsProject told ask flags environ j) told after old new loaded.0 middle now loaded.2 loaded.3 runs.0 e runs.2 runs.3 memory (begun_here runs.0 runs.4)

@@ -5,7 +5,7 @@ use Rattle.just_host_record.specs.declared.entry.Entry.{Entry}
 use Rattle.just_host_record.specs.declared.entry.Entry.TheVariants as entry
 use Rattle.just_host_record.specs.declared.entry.Spec.{Spec}
 use Rattle.just_host_record.specs.declared.entry.Status.{Status}
-use Rattle.just_host_record.specs.World.{World}
+use Rattle.just_host_record.specs.World.{World, Touched, LeftAlone}
 
 -- a child that was run to its end: what it was asked for by, how it ended, what it printed, and the world that its host told behind it
 pub record Capture : Type 0 where
@@ -17,6 +17,11 @@ pub record Capture : Type 0 where
 -- its entry in the record; nothing is fed to it
 abbrev pub entry_of : Capture → Entry
 entry_of c = entry.Captured c.spec [] c.status c.output
+
+-- What such a child leaves of the world that was told before it: all but the files; and all of it, where the host tells of it that it
+-- leaves the files alone.
+abbrev pub LeavesWorld : Option World → Capture → Type 0
+LeavesWorld told c = Touched told c.after × LeftAlone told c.after c.spec
 
 -- the world that is told behind some children
 abbrev pub told_behind : Option World → List Capture → Option World

@@ -10,14 +10,14 @@ use Rattle.just_host_record.specs.declared.entry.Spec.{Spec}
 use Rattle.just_host_record.specs.declared.entry.Status.{Status}
 use Rattle.just_host_record.specs.declared.entry.Status.TheVariants as status
 use Rattle.just_host_record.specs.Record.{IsCaptureRefusal}
-use Rattle.just_host_record.specs.World.{World, Touched}
+use Rattle.just_host_record.specs.World.{World}
 use Rattle.just_dotenv.specs.File.{Gives, Stops}
 use Rattle.just_dotenv.specs.Meaning.{Pairs}
 use Rattle.just_env.specs.declared.env_error.EnvError.{EnvError}
 use Rattle.just_env.specs.declared.env_error.EnvError.TheVariants as error
 use Rattle.just_env.specs.declared.env_error.OutputError.{OutputError}
 use Rattle.just_env.specs.declared.env_error.OutputError.TheVariants as output
-use Rattle.just_env.specs.Captures.{Capture, told_behind}
+use Rattle.just_env.specs.Captures.{Capture, told_behind, LeavesWorld}
 
 -- the child of a command: the shell with its arguments, and behind them the command, in that folder. It has the environment of the run
 abbrev pub command_spec : Interpreter → List ℕ → List ℕ → Spec
@@ -44,9 +44,10 @@ IsUncaptured (fault.Missed m) = m ≡ miss.TooLarge
 IsUncaptured (fault.Failed c) = IsCaptureRefusal [] (fault.Failed c)
 IsUncaptured fault.NoMemory = ⊥
 
--- One command: its child is run to its end, and may touch the files as it runs; or it isn't.
+-- One command: its child is run to its end, and may touch the files as it runs, unless the host tells that it doesn't; or it isn't.
 pub data RunsCommand (environ : Pairs) (shell : Interpreter) (folder : List ℕ) (told : Option World) (command : List ℕ) : List Capture → Result Pairs EnvError → Type 0 where
-  captured : (c : Capture) (r : Result Pairs EnvError) → c.spec ≡ command_spec shell folder command → Touched told c.after → GivesPairs environ folder command c.status c.output r
+  captured : (c : Capture) (r : Result Pairs EnvError) → c.spec ≡ command_spec shell folder command → LeavesWorld told c
+      → GivesPairs environ folder command c.status c.output r
       → RunsCommand environ shell folder told command (c ∷ []) r
   uncaptured : (io : HostFault) → IsUncaptured io → RunsCommand environ shell folder told command [] (Err (error.DotenvCommand command (output.Io io)))
 
@@ -62,3 +63,19 @@ pub data RunsCommands (environ : Pairs) (shell : Interpreter) (folder : List ℕ
       → RunsCommands environ shell folder (told_behind told cs) commands ds r → RunsCommands environ shell folder told (command ∷ commands) (cs ++ ds) (before_pairs pairs r)
   refused : (told : Option World) (command : List ℕ) (commands : List (List ℕ)) (cs : List Capture) (e : EnvError) → RunsCommand environ shell folder told command cs (Err e)
       → RunsCommands environ shell folder told (command ∷ commands) cs (Err e)
+
+-- ---- what was begun
+
+-- of one command: its child is run to its end, or it isn't
+pub data BeginsCommand (shell : Interpreter) (folder : List ℕ) (told : Option World) (command : List ℕ) : List Capture → Type 0 where
+  nothing : BeginsCommand shell folder told command []
+  a_child : (c : Capture) → c.spec ≡ command_spec shell folder command → LeavesWorld told c → BeginsCommand shell folder told command (c ∷ [])
+
+-- of some commands, one behind the other: each but the last of those for which a child was run gave its pairs
+pub data BeginsCommands (environ : Pairs) (shell : Interpreter) (folder : List ℕ) : Option World → List (List ℕ) → List Capture → Type 0 where
+  nothing_more : (told : Option World) (commands : List (List ℕ)) → BeginsCommands environ shell folder told commands []
+  the_last : (told : Option World) (command : List ℕ) (commands : List (List ℕ)) (cs : List Capture) → BeginsCommand shell folder told command cs
+      → BeginsCommands environ shell folder told (command ∷ commands) cs
+  one_before : (told : Option World) (command : List ℕ) (commands : List (List ℕ)) (cs ds : List Capture) (pairs : Pairs)
+      → RunsCommand environ shell folder told command cs (Ok pairs) → BeginsCommands environ shell folder (told_behind told cs) commands ds
+      → BeginsCommands environ shell folder told (command ∷ commands) (cs ++ ds)

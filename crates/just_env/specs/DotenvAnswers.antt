@@ -41,6 +41,11 @@ abbrev pub GainsAll : {A : Type 0} → List Capture → List Entry → List Entr
 GainsAll cs old new (Ok x) = GainsAmong cs old new
 GainsAll cs old new (Err e) = (middle : List Entry) × (program : List ℕ) × GainsAmong cs old middle × (new ≡ middle ++ entries_of program e)
 
+-- the entry that an error tells stands last in the record; that of a child that is refused names one of these programs
+abbrev pub EndsBy : {A : Type 0} → (List ℕ → Type 0) → List Entry → Result A EnvError → Type 0
+EndsBy programs new (Ok x) = Unit {0}
+EndsBy programs new (Err e) = (program : List ℕ) × programs program × (middle : List Entry) × (new ≡ middle ++ entries_of program e)
+
 -- the world that is told behind an answer is that behind the last child. One that couldn't be run to its end may have touched the files
 abbrev pub ErrorLeaves : Option World → Option World → EnvError → Type 0
 ErrorLeaves old new (error.DotenvCommand command (output.Io io)) = FaultLeaves old new io
@@ -58,6 +63,7 @@ abbrev pub Leaves : {A : Type 0} → Option World → List Capture → Option Wo
 Leaves old cs new (Ok x) = new ≡ told_behind old cs
 Leaves old cs new (Err e) = ErrorLeaves (told_behind old cs) new e
 
--- An answer, with some children that were run to their end for it; and what it leaves in the record and of the world.
-abbrev pub Runs : {A : Type 0} → (List Capture → Result A EnvError → Type 0) → Option World → Option World → List Entry → List Entry → Result A EnvError → Type 0
-Runs P told after old new r = (cs : List Capture) × Answers (P cs) r × GainsAll cs old new r × Leaves told cs after r
+-- An answer, with some children that were run to their end for it, and were begun so, whatever the answer is; and what it leaves in the record and of the
+-- world.
+abbrev pub Runs : {A : Type 0} → (List Capture → Result A EnvError → Type 0) → (List Capture → Type 0) → Option World → Option World → List Entry → List Entry → Result A EnvError → Type 0
+Runs P begins told after old new r = (cs : List Capture) × Answers (P cs) r × GainsAll cs old new r × Leaves told cs after r × begins cs

@@ -1,5 +1,6 @@
 -- The dotenv pairs of the modules of a project.
-use Rattle.std.specs.Prelude.{ℕ, ◌≡◌, ◌||◌, Bool, if◌then◌else◌, List, [], ◌∷◌, ◌++◌, map, filter, Option, Some, None, is_none, Result, Ok, Err}
+use Rattle.std.specs.Prelude.{ℕ, ◌≡◌, ◌⊎◌, ◌||◌, Bool, if◌then◌else◌, List, [], ◌∷◌, ◌++◌, map, filter, Option, Some, None, is_none, Result, Ok, Err}
+use Rattle.std.specs.List.{Contains}
 use Rattle.just_path.specs.Ancestors.{ancestors_of}
 use Rattle.just_path_text.specs.Environ.{value_of}
 use Rattle.just_host_record.specs.World.{World}
@@ -18,7 +19,7 @@ use Rattle.just_env.specs.declared.env_error.EnvError.{EnvError}
 use Rattle.just_env.specs.declared.env_error.EnvError.TheVariants as error
 use Rattle.just_env.specs.Asked.{sources_of, commands_of, paths_given, names_wanted}
 use Rattle.just_env.specs.Captures.{Capture, told_behind}
-use Rattle.just_env.specs.Commands.{RunsCommands}
+use Rattle.just_env.specs.Commands.{RunsCommands, BeginsCommands}
 use Rattle.just_env.specs.Files.{LoadsUnder}
 use Rattle.just_env.specs.Sequences.{First}
 
@@ -105,3 +106,39 @@ pub data LoadsModules (ask : DotenvAsk) (flags : RunFlags) (environ : Pairs) : O
 -- the pairs of the modules of a project, and the children that were run to their end for them
 abbrev pub LoadsProject : Option World → DotenvAsk → RunFlags → Pairs → Justfile → List Capture → Result (List DotenvOf) EnvError → Type 0
 LoadsProject told ask flags environ j cs r = LoadsModules ask flags environ told (following [] (j ∷ [])) cs r
+
+-- ---- what was begun
+
+-- of a module's own pairs: children are run for its commands alone
+abbrev pub BeginsOwn : Option World → DotenvAsk → RunFlags → Pairs → List ℕ → Justfile → List Capture → Type 0
+BeginsOwn told ask flags environ folder j cs =
+    (cs ≡ []) ⊎ ((sources_of ask j ≡ Ok sources.Commands) × BeginsCommands environ (shell flags (settings_of j)) folder told (commands_of ask j) cs)
+
+-- of modules and all within them, in the order of the sources: each but the last of those that were begun has its pairs
+pub data BeginsModules (ask : DotenvAsk) (flags : RunFlags) (environ : Pairs) : Option World → Following → List Capture → Type 0 where
+  nothing_more : (told : Option World) (left : Following) → BeginsModules ask flags environ told left []
+  the_last : (told : Option World) (j : Justfile) (before : Pairs) (others : Following) (cs : List Capture)
+      → BeginsOwn told ask flags environ (folder_of flags.folder j) j cs → BeginsModules ask flags environ told ((j, before) ∷ others) cs
+  one_before : (told : Option World) (j : Justfile) (before own : Pairs) (others : Following) (cs ds : List Capture)
+      → LoadsOwn told ask flags environ (folder_of flags.folder j) j cs (Ok own)
+      → BeginsModules ask flags environ (told_behind told cs) (following (before ++ own) (modules_of j) ++ others) ds
+      → BeginsModules ask flags environ told ((j, before) ∷ others) (cs ++ ds)
+
+-- of the pairs of the modules of a project
+abbrev pub BeginsProject : Option World → DotenvAsk → RunFlags → Pairs → Justfile → List Capture → Type 0
+BeginsProject told ask flags environ j cs = BeginsModules ask flags environ told (following [] (j ∷ [])) cs
+
+-- ---- the program that runs commands
+
+-- the program of the shell that runs a module's commands
+abbrev pub shell_program : RunFlags → Justfile → List ℕ
+shell_program flags j = (shell flags (settings_of j)).command
+
+-- a module of a project
+pub data IsModuleOf (root : Justfile) : Justfile → Type 0 where
+  itself : IsModuleOf root root
+  within : (j m : Justfile) → IsModuleOf root j → Contains (modules_of j) m → IsModuleOf root m
+
+-- a program is that of the shell of one of its modules
+abbrev pub IsShellOf : RunFlags → Justfile → List ℕ → Type 0
+IsShellOf flags root program = (m : Justfile) × IsModuleOf root m × (program ≡ shell_program flags m)

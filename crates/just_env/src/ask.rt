@@ -2,9 +2,10 @@
 
 ghost use Rattle.std.specs.Prelude.{◌≡◌, [], IfOk, IfErr};
 ghost use Rattle.just_env.specs.DotenvAnswers.{Answers, entries_of};
-ghost use Rattle.just_env.specs.Asked.{is_any, is_several, given, paths_given, names_wanted, is_root, commands_asked, commands_of, has_several, has_flag, has_given, sources_of};
+ghost use Rattle.just_env.specs.Asked.{is_any, is_several, given, paths_given, or_default, names_wanted, is_root, commands_asked, commands_of, has_several, has_flag, has_given, sources_of};
 
 use super::EnvError;
+use just_exec_work::one_text;
 use just_lang_types::Settings;
 use just_lang_types::project::Justfile;
 use just_path_text::{NoMemory, Seq, Text};
@@ -59,11 +60,10 @@ fn given(alloc: Global, option: &Seq<Text>, setting: &Option<Text>) -> Result<Se
     if is_any(option) {
         return option.try_clone();
     }
-    let mut texts = Vec::new(alloc);
-    if let Some(text) = setting {
-        texts.push(text.try_clone()?)?;
+    match setting {
+        Some(text) => one_text(alloc, text.as_str()),
+        None => Ok(Seq::new(alloc)),
     }
-    Ok(Seq::from(texts))
 }
 
 /// The paths of a module's files.
@@ -77,6 +77,16 @@ pub(crate) fn paths_given(
     given(alloc, &ask.paths, &settings.dotenv_path)
 }
 
+/// Some names, or the one that holds where there are none.
+fn or_default(alloc: Global, names: Seq<Text>) -> Result<Seq<Text>, NoMemory>
+    ensures { IfOk result (λ all. all ≡ or_default names) }
+{
+    if is_any(&names) {
+        return Ok(names);
+    }
+    one_text(alloc, ".env")
+}
+
 /// The names under which a module's files are looked for.
 pub(crate) fn names_wanted(
     alloc: Global,
@@ -85,13 +95,10 @@ pub(crate) fn names_wanted(
 ) -> Result<Seq<Text>, NoMemory>
     ensures { IfOk result (λ names. names ≡ names_wanted ask.now settings.now) }
 {
-    let names = given(alloc, &ask.filenames, &settings.dotenv_filename)?;
-    if is_any(&names) {
-        return Ok(names);
-    }
-    let mut names = Vec::new(alloc);
-    names.push(Text::from_str(alloc, ".env")?)?;
-    Ok(Seq::from(names))
+    or_default(
+        alloc,
+        given(alloc, &ask.filenames, &settings.dotenv_filename)?,
+    )
 }
 
 /// Whether a module is the root.

@@ -17,7 +17,6 @@ use just_path_text::{Environ, Text};
 use std::alloc::Global;
 
 /// The pairs of the first folder, from one upwards, in which any file of some names is.
-#[tactic(auto, using(crate::proofs::Record::gains_then, crate::proofs::Laws::gains_none, crate::proofs::Climbs::climb_start, crate::proofs::Climbs::climb_over))]
 fn climb<H: Host>(
     alloc: Global,
     host: &mut H,
@@ -28,7 +27,6 @@ fn climb<H: Host>(
     ensures found { Answers (First (LoadsUnder (H.world host.old) environ.now.pairs names.now) (ancestors_of (text_of start.entry))) result }
     ensures gains { Gains (H.entries host.old) (H.entries host.new) result }
     ensures world { H.world host.new ≡ H.world host.old }
-    ensures spare { H.spare host.new ≡ H.spare host.old }
 {
     let mut folders = start.ancestors();
     'folders: while let Some(folder) = folders.next() {
@@ -43,7 +41,6 @@ fn climb<H: Host>(
 
 /// The pairs of a module's files: those at the given paths under its folder; where none is there, those of the first folder, from that one
 /// upwards, in which any file of the names is.
-#[tactic(auto, using(crate::proofs::Record::gains_then, crate::proofs::Climbs::files_by_paths, crate::proofs::Climbs::files_refused, crate::proofs::Climbs::files_by_names))]
 pub(crate) fn find_files<H: Host>(
     alloc: Global,
     host: &mut H,
@@ -55,7 +52,6 @@ pub(crate) fn find_files<H: Host>(
     ensures found { Answers (FindsFiles (H.world host.old) environ.now.pairs paths.now names.now (text_of folder.entry)) result }
     ensures gains { Gains (H.entries host.old) (H.entries host.new) result }
     ensures world { H.world host.new ≡ H.world host.old }
-    ensures spare { H.spare host.new ≡ H.spare host.old }
 {
     match load_files(alloc, host, environ, paths, folder) {
         Ok(Some(pairs)) => Ok(Some(pairs)),

@@ -2,8 +2,8 @@
 
 ghost use Rattle.std.specs.Prelude.{◌≡◌, ◌++◌, ◌∷◌, [], None, IfOk, IfErr};
 ghost use Rattle.just_path.specs.Path.{text_of};
-ghost use Rattle.just_env.specs.DotenvAnswers.{Answers, Runs, entries_of};
-ghost use Rattle.just_env.specs.Commands.{command_spec, ending_error, GivesPairs, RunsCommand, RunsCommands};
+ghost use Rattle.just_env.specs.DotenvAnswers.{Answers, EndsBy, Runs, entries_of};
+ghost use Rattle.just_env.specs.Commands.{command_spec, ending_error, GivesPairs, RunsCommand, RunsCommands, BeginsCommand, BeginsCommands};
 
 use super::pairs::{Pairs, behind};
 use super::{EnvError, OutputError};
@@ -126,8 +126,8 @@ fn run_command<H: Host>(
     folder: Utf8Path<'_>,
     command: &Text,
 ) -> Result<Pairs, EnvError>
-    ensures ran { Runs (RunsCommand environ.now.pairs shell.now (text_of folder.entry) (H.world host.old) command.now) (H.world host.old) (H.world host.new) (H.entries host.old) (H.entries host.new) result }
-    ensures spare { H.spare host.new ≡ H.spare host.old }
+    ensures ran { Runs (RunsCommand environ.now.pairs shell.now (text_of folder.entry) (H.world host.old) command.now) (BeginsCommand shell.now (text_of folder.entry) (H.world host.old) command.now) (H.world host.old) (H.world host.new) (H.entries host.old) (H.entries host.new) result }
+    ensures program { EndsBy (λ p. p ≡ shell.now.command) (H.entries host.new) result }
 {
     let spec = command_spec(alloc, shell, folder, command)?;
     let named = command.try_clone()?;
@@ -161,8 +161,8 @@ pub(crate) fn run_commands<H: Host>(
     folder: Utf8Path<'_>,
     commands: &[Text],
 ) -> Result<Pairs, EnvError>
-    ensures ran { Runs (RunsCommands environ.now.pairs shell.now (text_of folder.entry) (H.world host.old) commands.now) (H.world host.old) (H.world host.new) (H.entries host.old) (H.entries host.new) result }
-    ensures spare { H.spare host.new ≡ H.spare host.old }
+    ensures ran { Runs (RunsCommands environ.now.pairs shell.now (text_of folder.entry) (H.world host.old) commands.now) (BeginsCommands environ.now.pairs shell.now (text_of folder.entry) (H.world host.old) commands.now) (H.world host.old) (H.world host.new) (H.entries host.old) (H.entries host.new) result }
+    ensures program { EndsBy (λ p. p ≡ shell.now.command) (H.entries host.new) result }
 {
     let mut pairs = Seq::new(alloc);
     'commands: for command in commands {

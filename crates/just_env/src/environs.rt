@@ -14,7 +14,6 @@ pub fn environment<H: Host>(alloc: Global, host: &mut H) -> Result<Environ, Sear
     ensures environ { Answers (GivesEnviron (H.world host.old)) result }
     ensures entries { H.entries host.new ≡ H.entries host.old ++ told_entries result }
     ensures world { H.world host.new ≡ H.world host.old }
-    ensures spare { H.spare host.new ≡ H.spare host.old }
 {
     match host.environ() {
         Ok(environ) => Ok(environ),

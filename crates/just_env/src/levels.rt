@@ -1,6 +1,6 @@
 //! Changes, level by level.
 
-ghost use Rattle.std.specs.Prelude.{◌≡◌, map, None, IfOk, OnOk};
+ghost use Rattle.std.specs.Prelude.{◌≡◌, map, Some, None, IfOk, OnOk};
 ghost use Rattle.std.specs.BTreeMap.{insert_entry};
 ghost use Rattle.std.specs.List.{flat_map};
 ghost use Rattle.just_env.specs.Changes.{text_cmp, given_text, exported, exports, put_all, gets, goes, level_changes};
@@ -14,12 +14,29 @@ use std::collections::BTreeMap;
 /// The changes so far: a name with the text that it gets, or with none, where it is taken out.
 pub(crate) type Changes = BTreeMap<Text, Option<Text>>;
 
+/// Changes a name: it gets a text, or is taken out. The earlier change of that name goes.
+fn put(changes: &mut Changes, name: Text, text: Option<Text>) -> Result<(), NoMemory>
+    ensures { OnOk result (changes.new.entries ≡ insert_entry text_cmp changes.old.entries name text) }
+{
+    changes.insert(name, text)?;
+    Ok(())
+}
+
+/// Gives a name the text of a pair.
+fn put_pair(changes: &mut Changes, pair: &(Text, Text)) -> Result<(), NoMemory>
+    ensures { OnOk result
+        (changes.new.entries ≡ insert_entry text_cmp changes.old.entries pair.now.0 (Some pair.now.1)) }
+{
+    let name = pair.0.try_clone()?;
+    put(changes, name, Some(pair.1.try_clone()?))
+}
+
 /// Gives names the texts of pairs, the last pair of a name its own.
 pub(crate) fn put_pairs(changes: &mut Changes, pairs: &[(Text, Text)]) -> Result<(), NoMemory>
     ensures { OnOk result (changes.new.entries ≡ put_all changes.old.entries (map gets pairs.now)) }
 {
     'pairs: for pair in pairs {
-        changes.insert(pair.0.try_clone()?, Some(pair.1.try_clone()?))?;
+        put_pair(changes, pair)?;
     }
     Ok(())
 }
@@ -28,8 +45,7 @@ pub(crate) fn put_pairs(changes: &mut Changes, pairs: &[(Text, Text)]) -> Result
 fn take_name(changes: &mut Changes, name: &Text) -> Result<(), NoMemory>
     ensures { OnOk result (changes.new.entries ≡ insert_entry text_cmp changes.old.entries name.now None) }
 {
-    changes.insert(name.try_clone()?, None)?;
-    Ok(())
+    put(changes, name.try_clone()?, None)
 }
 
 /// Takes names out.

@@ -24,10 +24,12 @@ pub use env_error::{EnvError, OutputError};
 pub use environs::environment;
 pub use just_eval_closure::View;
 pub use just_exec_work::RunFlags;
-pub use just_host_record::{Host, HostFault};
+pub use just_host_record::{Call, Host, HostFault};
 pub use just_lang_types::project::{Justfile, LangError};
-pub use just_lang_types::{Binding, DotenvOf, Level, Parameter, Scope, Settings, Value};
-pub use just_path::{Utf8Path, Utf8PathBuf};
+pub use just_lang_types::{
+    Binding, DotenvOf, Interpreter, Level, Modulepath, Parameter, Scope, Settings, Value,
+};
+pub use just_path::{Miss, Utf8Path, Utf8PathBuf};
 pub use just_path_text::{Environ, NoMemory, Seq, Text};
 pub use law::dotenv_agrees;
 pub use module::load_dotenv;

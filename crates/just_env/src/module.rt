@@ -2,8 +2,10 @@
 
 ghost use Rattle.std.specs.Prelude.{◌≡◌, [], Ok, IfErr};
 ghost use Rattle.just_path.specs.Path.{text_of};
-ghost use Rattle.just_env.specs.DotenvAnswers.{Answers, Gains, Runs, entries_of};
-ghost use Rattle.just_env.specs.Loads.{FoundPairs, PrintedPairs, LoadsOwn, pairs_of_found};
+ghost use Rattle.just_exec_work.specs.Shells.{shell};
+ghost use Rattle.just_env.specs.DotenvAnswers.{Answers, EndsBy, Gains, Runs, entries_of};
+ghost use Rattle.just_env.specs.Commands.{BeginsCommands};
+ghost use Rattle.just_env.specs.Loads.{BeginsOwn, FoundPairs, PrintedPairs, LoadsOwn, pairs_of_found, shell_program};
 
 use super::ask::{Sources, commands_of, names_wanted, paths_given, sources_of};
 use super::climb::find_files;
@@ -41,7 +43,6 @@ fn pairs_of_found(
 }
 
 /// The pairs of the files of a module in that folder, which are looked for.
-#[tactic(auto, using(crate::proofs::Record::gains_nothing, crate::proofs::Record::gains_before, crate::proofs::Record::gains_then, crate::proofs::Record::gains_unheard, crate::proofs::Laws::gains_none, crate::proofs::Owned::found_pairs, crate::proofs::Owned::found_refused))]
 fn load_found<H: Host>(
     alloc: Global,
     host: &mut H,
@@ -53,7 +54,6 @@ fn load_found<H: Host>(
     ensures loaded { Answers (λ r. FoundPairs (H.world host.old) ask.now environ.now.pairs (text_of folder.entry) settings.now r) result }
     ensures gains { Gains (H.entries host.old) (H.entries host.new) result }
     ensures world { H.world host.new ≡ H.world host.old }
-    ensures spare { H.spare host.new ≡ H.spare host.old }
 {
     let paths = paths_given(alloc, ask, settings)?;
     let names = names_wanted(alloc, ask, settings)?;
@@ -80,8 +80,9 @@ fn load_printed<H: Host>(
     settings: &Settings,
     commands: &Seq<Text>,
 ) -> Result<Pairs, EnvError>
-    ensures loaded { Runs (PrintedPairs (H.world host.old) flags.now environ.now.pairs (text_of folder.entry) settings.now commands.now) (H.world host.old) (H.world host.new) (H.entries host.old) (H.entries host.new) result }
-    ensures spare { H.spare host.new ≡ H.spare host.old }
+    ensures loaded { Runs (PrintedPairs (H.world host.old) flags.now environ.now.pairs (text_of folder.entry) settings.now commands.now) (BeginsCommands environ.now.pairs (shell flags.now settings.now) (text_of folder.entry) (H.world host.old) commands.now) (H.world host.old) (H.world host.new) (H.entries host.old) (H.entries host.new) result }
+    ensures program { EndsBy (λ p. p ≡ (shell flags.now settings.now).command)
+        (H.entries host.new) result }
 {
     let shell = shell(alloc, flags, settings)?;
     match run_commands(alloc, host, environ, &shell, folder, commands.as_slice()) {
@@ -107,8 +108,10 @@ pub fn load_dotenv<H: Host>(
 ) -> Result<Pairs, EnvError>
     // The pairs are those that the module's settings and the words ask for, or the first refusal. The record gains the entries of the children that
     // were run to their end for them, misses among these, and the entry of the refused call; only these children may touch the files.
-    ensures loaded { Runs (LoadsOwn (H.world host.old) ask.now flags.now environ.now.pairs (text_of folder.entry) justfile.now) (H.world host.old) (H.world host.new) (H.entries host.old) (H.entries host.new) result }
-    ensures spare { H.spare host.new ≡ H.spare host.old }
+    ensures loaded { Runs (LoadsOwn (H.world host.old) ask.now flags.now environ.now.pairs (text_of folder.entry) justfile.now) (BeginsOwn (H.world host.old) ask.now flags.now environ.now.pairs (text_of folder.entry) justfile.now) (H.world host.old) (H.world host.new) (H.entries host.old) (H.entries host.new) result }
+    // The entry of a refused child names the module's shell.
+    ensures program { EndsBy (λ p. p ≡ shell_program flags.now justfile.now)
+        (H.entries host.new) result }
 {
     let commands = commands_of(alloc, ask, justfile)?;
     match sources_of(ask, justfile, &commands) {

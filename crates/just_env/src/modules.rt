@@ -1,8 +1,8 @@
 //! The dotenv pairs of all modules of a project.
 
 ghost use Rattle.std.specs.Prelude.{◌≡◌, ◌++◌, ◌∷◌, [], List, map, reverse, length, IfOk, OnOk, OnErr};
-ghost use Rattle.just_env.specs.DotenvAnswers.{Runs};
-ghost use Rattle.just_env.specs.Loads.{LoadsOwn, LoadsProject, following, folder_of};
+ghost use Rattle.just_env.specs.DotenvAnswers.{EndsBy, Runs};
+ghost use Rattle.just_env.specs.Loads.{LoadsOwn, LoadsProject, BeginsOwn, BeginsProject, following, folder_of, shell_program, IsShellOf};
 ghost use Rattle.just_env.specs.Turns.{LoadsNext, seen};
 
 use super::module::load_dotenv;
@@ -24,8 +24,9 @@ fn load_own<H: Host>(
     environ: &Environ,
     justfile: &Justfile,
 ) -> Result<Pairs, EnvError>
-    ensures loaded { Runs (LoadsOwn (H.world host.old) ask.now flags.now environ.now.pairs (folder_of flags.now.folder justfile.now) justfile.now) (H.world host.old) (H.world host.new) (H.entries host.old) (H.entries host.new) result }
-    ensures spare { H.spare host.new ≡ H.spare host.old }
+    ensures loaded { Runs (LoadsOwn (H.world host.old) ask.now flags.now environ.now.pairs (folder_of flags.now.folder justfile.now) justfile.now) (BeginsOwn (H.world host.old) ask.now flags.now environ.now.pairs (folder_of flags.now.folder justfile.now) justfile.now) (H.world host.old) (H.world host.new) (H.entries host.old) (H.entries host.new) result }
+    ensures program { EndsBy (λ p. p ≡ shell_program flags.now justfile.now)
+        (H.entries host.new) result }
 {
     let folder = module_folder(
         flags.folder.as_path(),
@@ -65,8 +66,9 @@ fn load_next<'j, H: Host>(
     next: Pending<'j>,
     pending: &mut Vec<Pending<'j>>,
 ) -> Result<DotenvOf, EnvError>
-    ensures loaded { Runs (LoadsNext (H.world host.old) ask.now flags.now environ.now.pairs next.entry.0.now next.entry.1 (seen pending.old.items) (seen pending.new.items)) (H.world host.old) (H.world host.new) (H.entries host.old) (H.entries host.new) result }
-    ensures spare { H.spare host.new ≡ H.spare host.old }
+    ensures loaded { Runs (LoadsNext (H.world host.old) ask.now flags.now environ.now.pairs next.entry.0.now next.entry.1 (seen pending.old.items) (seen pending.new.items)) (BeginsOwn (H.world host.old) ask.now flags.now environ.now.pairs (folder_of flags.now.folder next.entry.0.now) next.entry.0.now) (H.world host.old) (H.world host.new) (H.entries host.old) (H.entries host.new) result }
+    ensures program { EndsBy (λ p. p ≡ shell_program flags.now next.entry.0.now)
+        (H.entries host.new) result }
 {
     let (justfile, before) = next;
     let own = match load_own(alloc, host, ask, flags, environ, justfile) {
@@ -94,8 +96,9 @@ pub fn load_modules<H: Host>(
 ) -> Result<Seq<DotenvOf>, EnvError>
     // The pairs are those that the settings of the modules and the words ask for, or the first refusal. The record gains the entries of the children
     // that were run to their end for them, misses among these, and the entry of the refused call; only these children may touch the files.
-    ensures loaded { Runs (LoadsProject (H.world host.old) ask.now flags.now environ.now.pairs justfile.now) (H.world host.old) (H.world host.new) (H.entries host.old) (H.entries host.new) result }
-    ensures spare { H.spare host.new ≡ H.spare host.old }
+    ensures loaded { Runs (LoadsProject (H.world host.old) ask.now flags.now environ.now.pairs justfile.now) (BeginsProject (H.world host.old) ask.now flags.now environ.now.pairs justfile.now) (H.world host.old) (H.world host.new) (H.entries host.old) (H.entries host.new) result }
+    // The entry of a refused child names the shell of one of the modules.
+    ensures program { EndsBy (IsShellOf flags.now justfile.now) (H.entries host.new) result }
 {
     let mut loaded = Vec::new(alloc);
     let mut pending: Vec<Pending<'_>> = Vec::new(alloc);

@@ -12,7 +12,6 @@ invariant-folders g l = record {
   along : Along (LoadsUnder (g.H.Host.world l.fn.host) l.environ.pairs l.names) (ancestors_of (text_of l.fn.start)) (ancestors_left l.folders);
   gains : GainsMisses (g.H.Host.entries l.fn.host) (g.H.Host.entries l.host);
   world : g.H.Host.world l.host ≡ g.H.Host.world l.fn.host;
-  spare : g.H.Host.spare l.host ≡ g.H.Host.spare l.fn.host;
 }
 
 abbrev pub decreases-folders : goal.decreases-folders

@@ -1,5 +1,5 @@
 -- Children were run for the commands so far.
-use Rattle.std.proofs.Common.{◌≡◌, drop}
+use Rattle.std.proofs.Common.{drop}
 use Rattle.just_path.specs.Path.{text_of}
 use Rattle.just_env.proofs.Commanding.{RanOn}
 use Rattle.just_env.proofs.command.run_commands.Given as goal
@@ -7,5 +7,4 @@ use Rattle.just_env.proofs.command.run_commands.Given as goal
 abbrev pub invariant-commands : goal.invariant-commands
 invariant-commands g l = record {
   ran : RanOn l.environ.pairs l.shell (text_of l.folder) (g.H.Host.world l.fn.host) l.commands (g.H.Host.entries l.fn.host) (g.H.Host.world l.host) (drop l.command-index l.commands) l.pairs (g.H.Host.entries l.host);
-  spare : g.H.Host.spare l.host ≡ g.H.Host.spare l.fn.host;
 }

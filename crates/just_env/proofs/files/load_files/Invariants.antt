@@ -10,5 +10,4 @@ invariant-names g l = record {
   loaded : Loaded (g.H.Host.world l.fn.host) l.environ.pairs (text_of l.folder) l.names l.name-index l.found;
   gains : GainsMisses (g.H.Host.entries l.fn.host) (g.H.Host.entries l.host);
   world : g.H.Host.world l.host ≡ g.H.Host.world l.fn.host;
-  spare : g.H.Host.spare l.host ≡ g.H.Host.spare l.fn.host;
 }
