@@ -1,15 +1,13 @@
 -- What holds of a run of which no event speaks yet, once the invocations are gone along.
-use Rattle.std.proofs.Common.{◌≡◌, ℕ, ◌<◌, ◌≤◌, ◌⊎◌, inl, ⊎_elim, not, Bool, true, false, true≢false, List, [], length, None, arith, ap, sym, ◌∙◌, subst}
-use Rattle.std.proofs.lemmas.List.Sums.{count_by-le-length}
-use Rattle.std.specs.Prelude.{slice_index, Contains, vec_capacity}
+use Rattle.std.proofs.Common.{◌≡◌, ℕ, ◌⊎◌, inl, ⊎_elim, Bool, true, false, true≢false, List, [], None, sym, ◌∙◌, subst}
+use Rattle.std.specs.Prelude.{slice_index, Contains}
 use Rattle.just_sched_history.specs.declared.plan_node.PlanNode.{PlanNode}
 use Rattle.just_sched_history.specs.declared.progress.Progress.{Progress}
-use Rattle.just_sched_history.specs.Nodes.{priors_at, subsequents_at}
 use Rattle.just_sched_history.specs.State.{is_over_well, is_confirmed, IsFinished, invoked}
 use Rattle.just_sched_history.specs.Tables.{flag, FlagsAre}
 use Rattle.just_sched_history.specs.Covered.{AreCoveredBy}
-use Rattle.just_sched_history.specs.Led.{IsRaised, IsBefore, MayFollow, IsLed, place_of}
-use Rattle.just_sched_history.specs.Progress.{dependents_at, IsPlaced, IsClosedBut, IsTold}
+use Rattle.just_sched_history.specs.Led.{IsRaised, MayFollow, IsLed}
+use Rattle.just_sched_history.specs.Progress.{IsClosedBut, IsTold}
 use Rattle.just_sched_history.proofs.Entering.{no_next}
 use Rattle.just_sched_history.proofs.Led.{flag_within}
 use Rattle.just_sched_history.proofs.WantedLaws.{leads_weaker}
@@ -49,22 +47,3 @@ module _ (nodes : List PlanNode) (invocations : List ℕ) (p q : Progress) (over
 pub covered_begun : (nodes : List PlanNode) (gone : ℕ → Bool) (due : List Bool) (p q : Progress) → FlagsAre p.wanted.items (λ _. false) → IsRaised p.wanted.items q.wanted.items p.pending.items q.pending.items → AreCoveredBy nodes gone due q
 covered_begun nodes gone due p q wanted raised m up left =
     ⊎_elim (λ (was : flag p.wanted.items m ≡ true). absurd (none_up p.wanted.items wanted m was)) (λ (listed : Contains q.pending.items m). inl listed) (raised.noted m up)
-
--- before the first place of a list nothing stands
-before_first : (f w : List Bool) (xs : List ℕ) (place : ℕ) → place ≡ 0 → IsBefore f w xs place
-before_first f w xs place first = (omega (arith, first), λ j lt. absurd (omega (arith, lt, first)))
-
--- where no list is begun and nothing is pending, the places are right
-pub placed_first : (nodes : List PlanNode) (invocations : List ℕ) (p : Progress) → p.invocations ≡ 0 → ((m : ℕ) → place_of p.priors.items m ≡ 0) → ((m : ℕ) → place_of p.subsequents.items m ≡ 0) → p.pending.items ≡ []
-    → length p.wanted.items ≤ vec_capacity p.pending
-    → ((m q : ℕ) → Contains (priors_at nodes m) q → Contains (dependents_at p q) m) → ((m q : ℕ) → Contains (dependents_at p q) m → m < length nodes)
-    → IsPlaced nodes invocations p
-placed_first nodes invocations p invoked priors subsequents none room whole inside = record {
-  invoked = before_first p.finished.items p.wanted.items invocations p.invocations invoked;
-  priors = λ m. before_first p.finished.items p.wanted.items (priors_at nodes m) (place_of p.priors.items m) (priors m);
-  subsequents = λ m. before_first p.finished.items p.wanted.items (subsequents_at nodes m) (place_of p.subsequents.items m) (subsequents m);
-  listed = λ k at. absurd (omega (arith, at.1, ap (λ xs. length xs) none));
-  room = omega (arith, count_by-le-length not p.wanted.items, room, ap (λ xs. length xs) none);
-  dependents = whole;
-  inside = inside;
-}
