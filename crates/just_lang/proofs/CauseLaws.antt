@@ -21,7 +21,7 @@ use Rattle.just_lang.specs.CycleTables.{standings, AreRecipes}
 use Rattle.just_lang.specs.DisablingTables.{text, texts, text_where}
 use Rattle.just_lang.proofs.RecipeGraphs.{graph_of_recipes}
 use Rattle.just_lang.specs.SpotOrder.{nowhere}
-use Rattle.just_lang.proofs.Loops.{map_append, map_option, option_front}
+use Rattle.just_lang_rules.proofs.Loops.{map_append, map_option, option_front}
 use Rattle.std.proofs.Common.{append_assoc}
 use denote.Ref.{Bor}
 

@@ -11,7 +11,9 @@ use Rattle.just_lang_syntax.specs.declared.ast.StringLiteral.{StringLiteral}
 use Rattle.just_lang_types.specs.declared.project.Justfile.{Justfile, out-Justfile}
 use Rattle.just_lang_types.specs.declared.recipe.Modulepath.{Modulepath}
 use Rattle.just_lang_types.specs.declared.recipe.Recipe.{Recipe}
+use Rattle.just_lang_types.specs.declared.scope.Alias.{Alias}
 use Rattle.just_lang_types.specs.declared.scope.Assignment.{Assignment}
+use Rattle.just_lang_types.specs.declared.scope.Disabled.{Disabled}
 use Rattle.just_lang_types.specs.declared.source.Source.{Source}
 use Rattle.just_lang_layout.specs.declared.layout.Layout.{Layout}
 use Rattle.just_lang_layout.specs.declared.layout.Module.{Module}
@@ -23,6 +25,7 @@ use Rattle.just_lang_spots.specs.Repeated.{repeated}
 use Rattle.just_lang_spots.specs.Standing.{Wins}
 use Rattle.just_lang_rules.specs.AttributeSpots.{single_name, arg_name, duplicate_attribute_of}
 use Rattle.just_lang_rules.specs.ParameterSpots.{parameter_name, parameters_of as tree_parameters, required_follows_of}
+use Rattle.just_lang_rulebook.specs.DuplicateSpots.{alias_name, duplicate_aliases}
 use Rattle.just_lang_names.specs.ScopeSpots.{Scope, module_scope, with_parameters, unknown_in_attribute, unknown_in_dependency, unknown_in_line, unknown_in_defaults, unknown_behind, unknown_in_item, undefined_in_module}
 use Rattle.just_lang_names.specs.Standing.{standing_recipe_items, standing_variable_items}
 use Rattle.just_lang_names.specs.TargetSpots.{DependencyIn, dependency_in, dependencies_in, miscounted_dependency, option_dependency, all_dependencies}
@@ -31,6 +34,7 @@ use Rattle.just_lang_shapes.specs.Parameters.{parameters_of}
 use Rattle.just_lang_shapes.specs.Recipes.{path_within, recipe_of}
 use Rattle.just_lang_shapes.specs.Scopes.{assignments_of}
 use Rattle.just_lang_types.specs.Modules as parts
+use Rattle.just_lang_justfile.specs.Aliases.{recipe_aliases_of, module_aliases_of, disabled_aliases_of}
 use Rattle.just_lang_justfile.specs.Links.{Links}
 use Rattle.just_lang_justfile.specs.Modules.{IsModuleOf}
 use Rattle.just_lang_justfile.specs.Recipes as made
@@ -38,7 +42,8 @@ use Rattle.just_lang_justfile.specs.Trees.{AreModulesOf, IsJustfileOf}
 use Rattle.just_lang_justfile.proofs.Located.{modules_are}
 use Rattle.just_lang.specs.SoundLinks.{AreLinked}
 use Rattle.just_lang.specs.SoundRules.{BreaksNoRule}
-use Rattle.just_lang.specs.Sound.{AreDistinct, AreKnown, Fits, IsSoundRecipe, IsSoundModule, IsSound, variable_names, parameter_names, exprs_in_cache, exprs_in_body}
+use Rattle.just_lang.specs.Sound.{AreDistinct, AreKnown, Fits, IsSoundRecipe, IsSoundModule, IsSound, alias_names, variable_names, parameter_names, exprs_in_cache, exprs_in_body}
+use Rattle.just_lang.proofs.AliasNames.{names_of_all, made_named}
 use Rattle.just_lang.proofs.Arguments.{agreed}
 use Rattle.just_lang.proofs.Fits.{LeadsToRecipe, LeadsToModule, all_fit, recipe_aliases, module_aliases}
 use Rattle.just_lang.proofs.Found.{standing_named}
@@ -46,7 +51,7 @@ use Rattle.just_lang.proofs.Items.{of_module, of_standing}
 use Rattle.just_lang.proofs.Known.{AreAssignments, IsScopeOf, AreArgumentsKnown, module_names, assigned, with_all, known, arguments_known, attributes_known, body_known, defaults_known}
 use Rattle.just_lang.proofs.Lists.{none_left, none_right, none_each, all_append, all_left, all_right, all_both, all_filter, all_unmapped, flat_back, passes}
 use Rattle.just_lang.proofs.Order.{in_order}
-use Rattle.just_lang.proofs.Parameters.{distinct, parameters_distinct}
+use Rattle.just_lang.proofs.Parameters.{distinct, names_once, parameters_distinct}
 use Rattle.just_lang.proofs.SoundPaths.{AreApart, apart as apart_of}
 
 module _ (text_of : StringLiteral → Option (List ℕ)) (links : Links) (wins : Wins) (layout : Layout) (linked : AreLinked layout wins links) (apart : AreApart layout.modules)
@@ -199,15 +204,31 @@ module _ (text_of : StringLiteral → Option (List ℕ)) (links : Links) (wins :
         subst AreDistinct (sym (ap (λ (rs : List Recipe). map (λ (r : Recipe). r.name) rs) is.recipes ∙ recipe_names (standing_of m) are_recipes))
         (distinct (map (λ (x : ℕ × AstItem). item_name x.1) (standing_of m)) (standing_named wins (filter is_recipe_here (items_of_module layout.files m))))
 
+    -- ---- aliases
+
+    aliases_distinct : duplicate_aliases (items_of_module layout.files m) ≡ [] → AreDistinct (alias_names j)
+    aliases_distinct once =
+        let items : List (ℕ × AstItem) = items_of_module layout.files m in
+        let recipes : List Alias = recipe_aliases_of links number items in
+        let modules : List Alias = module_aliases_of links number items in
+        let disabled : List Disabled = disabled_aliases_of links number items in
+        let are : alias_names j ≡ names_of_all recipes modules disabled =
+        ap (λ (xs : List Alias). names_of_all xs (out-Justfile j).module_aliases (out-Justfile j).disabled_aliases) is.recipe_aliases
+        ∙ ap (λ (xs : List Alias). names_of_all recipes xs (out-Justfile j).disabled_aliases) is.module_aliases
+        ∙ ap (λ (ds : List Disabled). names_of_all recipes modules ds) is.disabled_aliases in
+        let named = made_named links number items (names_once (filter_map (λ (x : ℕ × AstItem). alias_name x.0 x.1) items) once) in
+        subst AreDistinct (sym are) (distinct (names_of_all recipes modules disabled) named)
+
     -- ---- the module
 
-    module_sound : AllByRecursion (λ (x : ℕ × AstItem). unknown_in_item scope x ≡ []) (variables_of m) → AllByRecursion IsWell (standing_of m) → IsSoundModule js j
-    module_sound variables recipes =
+    module_sound : duplicate_aliases (items_of_module layout.files m) ≡ [] → AllByRecursion (λ (x : ℕ × AstItem). unknown_in_item scope x ≡ []) (variables_of m) → AllByRecursion IsWell (standing_of m) → IsSoundModule js j
+    module_sound once variables recipes =
         record {
           variables = variables_distinct;
           values = All-from_recursion (λ (a : Assignment). AreKnown names a.value) (parts.assignments_of j)
               (subst (AllByRecursion (λ (a : Assignment). AreKnown names a.value)) (sym is.assignments) (values_known (variables_of m) variables));
           names = recipes_distinct;
+          aliases = aliases_distinct once;
           recipes = All-from_recursion (IsSoundRecipe js j) (parts.recipes_of j) (subst (AllByRecursion (IsSoundRecipe js j)) (sym is.recipes) (recipes_sound (standing_of m) recipes));
           recipe_aliases = All-from_recursion (LeadsToRecipe text_of links wins layout linked apart js are) (out-Justfile j).recipe_aliases
               (subst (AllByRecursion (LeadsToRecipe text_of links wins layout linked apart js are)) (sym is.recipe_aliases) (recipe_aliases text_of links wins layout linked apart js are number (items_of_module layout.files m)));
@@ -227,12 +248,13 @@ module _ (text_of : StringLiteral → Option (List ℕ)) (links : Links) (wins :
   dependencies_at x = flat_map (dependencies_in x.0) (standing_recipe_items wins layout.files x.1)
 
   all_sound : (n : ℕ) (ms : List Module) (ks : List Justfile) → AreModulesOf text_of links wins layout (enumerate_from n ms) ks → AllByRecursion IsOrderly (items_of_files layout.files)
+      → AllByRecursion (λ (m : Module). duplicate_aliases (items_of_module layout.files m) ≡ []) ms
       → AllByRecursion (λ (m : Module). undefined_in_module wins layout.files m ≡ []) ms → AllByRecursion (λ (x : ℕ × Module). AllByRecursion NoCount (dependencies_at x)) (enumerate_from n ms)
       → AllByRecursion (λ (x : ℕ × Module). AllByRecursion NoOption (dependencies_at x)) (enumerate_from n ms) → AllByRecursion (IsSoundModule js) ks
-  all_sound n [] [] h once undefined counts options = tt
-  all_sound n [] (k ∷ ks) h once undefined counts options = absurd h
-  all_sound n (m ∷ ms) [] h once undefined counts options = absurd h
-  all_sound n (m ∷ ms) (k ∷ ks) h once undefined counts options =
+  all_sound n [] [] h once aliases undefined counts options = tt
+  all_sound n [] (k ∷ ks) h once aliases undefined counts options = absurd h
+  all_sound n (m ∷ ms) [] h once aliases undefined counts options = absurd h
+  all_sound n (m ∷ ms) (k ∷ ks) h once aliases undefined counts options =
       let here : List (ℕ × AstItem) = standing_of m in
       let variables = none_each (unknown_in_item (module_scope wins layout.files m)) (variables_of m)
       (none_left (flat_map (unknown_in_item (module_scope wins layout.files m)) (variables_of m)) (flat_map (unknown_in_item (module_scope wins layout.files m)) here) undefined.0) in
@@ -245,7 +267,7 @@ module _ (text_of : StringLiteral → Option (List ℕ)) (links : Links) (wins :
       all_both (λ (x : ℕ × AstItem). unknown_in_item (module_scope wins layout.files m) x ≡ []) (IsProper n m k h.0.0) here recipes
       (all_both IsOrderly (IsFitting n m k h.0.0) here own
       (all_both (λ (x : ℕ × AstItem). AllByRecursion NoCount (dependencies_in n x)) (λ (x : ℕ × AstItem). AllByRecursion NoOption (dependencies_in n x)) here counted given)) in
-      (module_sound n m k h.0.0 variables well, all_sound (n + 1) ms ks h.1 once undefined.1 counts.1 options.1)
+      (module_sound n m k h.0.0 aliases.0 variables well, all_sound (n + 1) ms ks h.1 once aliases.1 undefined.1 counts.1 options.1)
 
   modules_sound : BreaksNoRule text_of wins layout → All (IsSoundModule js) js
   modules_sound none =
@@ -256,6 +278,7 @@ module _ (text_of : StringLiteral → Option (List ℕ)) (links : Links) (wins :
       (none_each (λ (x : ℕ × AstItem). repeated (map (parameter_name x.0) (tree_parameters x.1))) (items_of_files layout.files) none.parameters)
       (none_each (λ (x : ℕ × AstItem). duplicate_attribute_of text_of x.0 x.1) (items_of_files layout.files) none.attributes))
       (none_each (λ (x : ℕ × AstItem). required_follows_of text_of x.0 x.1) (items_of_files layout.files) none.order))
+      (none_each (λ (m : Module). duplicate_aliases (items_of_module layout.files m)) layout.modules none.aliases)
       (none_each (undefined_in_module wins layout.files) layout.modules none.variables)
       (flat_back NoCount dependencies_at (enumerate_from 0 layout.modules) (none_each (miscounted_dependency text_of wins layout) (all_dependencies wins layout) none.counts))
       (flat_back NoOption dependencies_at (enumerate_from 0 layout.modules) (none_each (option_dependency text_of wins layout) (all_dependencies wins layout) none.options)))

@@ -34,6 +34,7 @@ pub mod Targets
 pub mod Found
 pub mod Options
 pub mod Parameters
+pub mod AliasNames
 pub mod Order
 pub mod Arguments
 pub mod Items

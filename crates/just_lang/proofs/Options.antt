@@ -8,7 +8,6 @@ use Rattle.just_lang_syntax.specs.declared.ast.AstParameter.{AstParameter}
 use Rattle.just_lang_syntax.specs.declared.ast.AstRecipe.{AstRecipe}
 use Rattle.just_lang_syntax.specs.declared.ast.Attribute.{Attribute}
 use Rattle.just_lang_syntax.specs.declared.ast.Expr.{Expr}
-use Rattle.just_lang_syntax.specs.declared.ast.Name.{Name}
 use Rattle.just_lang_syntax.specs.declared.ast.StringLiteral.{StringLiteral}
 use Rattle.just_lang_syntax.specs.Attributes.{has_key}
 use Rattle.just_lang_types.specs.declared.recipe.Parameter.{Parameter}
@@ -20,7 +19,7 @@ use Rattle.just_lang_rules.specs.ParameterSpots as rule
 use Rattle.just_lang_names.specs.TargetSpots.{is_variadic, has_option, positional, takes_count}
 use Rattle.just_lang_shapes.specs.Attributes.{first_of}
 use Rattle.just_lang_shapes.specs.Expansions.{expanded_expr}
-use Rattle.just_lang_shapes.specs.Parameters.{is_key, value_at, values_of, value_of, keys_behind, keys_for, last_keys, keys_of, or_earlier, long_of, short_of, first_character, parameter_with, parameter_of, parameters_of}
+use Rattle.just_lang_shapes.specs.Parameters.{values_of, value_of, keys_behind, keys_for, last_keys, keys_of, or_earlier, long_of, short_of, first_character, parameter_with, parameter_of, parameters_of}
 use Rattle.just_lang.specs.Sound.{is_option, wants_value, Takes}
 use Rattle.just_lang.proofs.Lists.{left_false, right_false}
 
@@ -42,18 +41,14 @@ module _ (text_of : StringLiteral → Option (List ℕ)) where
       by true = refl
       by false = refl
 
-  same_text : (key : List ℕ) (k : Option Name) (value : Expr) → (if tree.is_named_key key k then const_text text_of value else None) ≡ (if is_key key k then const_text text_of value else None)
-  same_text key None value = refl
-  same_text key (Some n) value = refl
-
-  text_step : (s t first : Option (List ℕ)) (texts : List (List ℕ)) → s ≡ t → first ≡ first_of texts → option_or s first ≡ first_of (cons_option t texts)
-  text_step s None first texts e h = ap (λ (o : Option (List ℕ)). option_or o first) e ∙ h
-  text_step s (Some t) first texts e h = ap (λ (o : Option (List ℕ)). option_or o first) e
+  text_step : (s first : Option (List ℕ)) (texts : List (List ℕ)) → first ≡ first_of texts → option_or s first ≡ first_of (cons_option s texts)
+  text_step None first texts h = h
+  text_step (Some t) first texts h = refl
 
   -- the first text of a key, and its texts
   first_value : (key : List ℕ) (xs : List Argument) → tree.first_text text_of key xs ≡ value_of text_of key xs
   first_value key [] = refl
-  first_value key (x ∷ xs) = text_step (tree.text_at text_of key x) (value_at text_of key x) (tree.first_text text_of key xs) (values_of text_of key xs) (same_text key x.key x.value) (first_value key xs)
+  first_value key (x ∷ xs) = text_step (tree.text_at text_of key x) (tree.first_text text_of key xs) (values_of text_of key xs) (first_value key xs)
 
   pub short_is : (keys : List Argument) → is_some (short_of text_of keys) ≡ tree.has_character (tree.first_text text_of (codes "short") keys)
   short_is keys = by (value_of text_of (codes "short") keys) ∙ sym (ap tree.has_character (first_value (codes "short") keys))

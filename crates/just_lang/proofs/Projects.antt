@@ -9,7 +9,7 @@ use Rattle.just_lang_layout.specs.Paths.{Pairs}
 use Rattle.just_lang_spots.specs.declared.spot.Spot.{Spot}
 use Rattle.just_lang_spots.specs.Standing.{Wins}
 use Rattle.just_lang_rulebook.specs.Meant.{meant}
-use Rattle.just_lang_rulebook.specs.Rules.{duplicate_attribute_spots, duplicate_parameter_spots, required_parameter_spots}
+use Rattle.just_lang_rulebook.specs.Rules.{duplicate_alias_spots, duplicate_attribute_spots, duplicate_parameter_spots, required_parameter_spots}
 use Rattle.just_lang.specs.Cycles.{IsFirstSpot}
 use Rattle.just_lang_names.specs.Lookup.{Target, Found_recipe, Found_module, Found_absent, Found_nothing, dependency_target, alias_target}
 use Rattle.just_lang_names.specs.ScopeSpots.{undefined_variable_spots}
@@ -20,7 +20,7 @@ use Rattle.just_lang.proofs.Unbroken.{unbroken}
 use Rattle.just_lang.specs.Linked as project
 use Rattle.just_lang.specs.SoundLinks.{path_of_target, alias_of_target, recipe_or_nothing, module_or_nothing, AreLinked}
 use Rattle.just_lang.specs.SoundProjects.{ProjectsAreSound}
-use Rattle.just_lang.specs.SoundRules.{duplicate_attributes, duplicate_parameters, misplaced_parameters, BreaksNoRule}
+use Rattle.just_lang.specs.SoundRules.{repeated_aliases, duplicate_attributes, duplicate_parameters, misplaced_parameters, BreaksNoRule}
 use Rattle.just_lang.proofs.Laws.{sound_of_sources}
 
 module _ (layout : Layout) where
@@ -64,6 +64,10 @@ none_at_all [] h = refl
 none_at_all (x ∷ xs) h = absurd (h x (Contains-append_left (x ∷ []) xs x (Contains-push [] x)))
 
 module _ (environ : Pairs) (wins : Wins) (layout : Layout) (none : BreaksNone environ wins layout) where
+  aliases_once : repeated_aliases layout ≡ []
+  unfolding duplicate_alias_spots
+  aliases_once = none_at_all (repeated_aliases layout) (unbroken environ wins layout none 12 (omega arith))
+
   parameters_once : duplicate_parameters layout ≡ []
   unfolding duplicate_parameter_spots
   parameters_once = none_at_all (duplicate_parameters layout) (unbroken environ wins layout none 13 (omega arith))
@@ -86,7 +90,7 @@ module _ (environ : Pairs) (wins : Wins) (layout : Layout) (none : BreaksNone en
   no_options = none_at_all (dependency_is_option_spots (meant environ) wins layout) (unbroken environ wins layout none 19 (omega arith))
 
   pub breaks_none : BreaksNoRule (meant environ) wins layout
-  breaks_none = record { attributes = attributes_once; parameters = parameters_once; order = in_order; variables = names_known; counts = counts_fit; options = no_options }
+  breaks_none = record { aliases = aliases_once; attributes = attributes_once; parameters = parameters_once; order = in_order; variables = names_known; counts = counts_fit; options = no_options }
 
 pub projects_are_sound : ProjectsAreSound
 projects_are_sound sources environ j made =

@@ -1,4 +1,4 @@
--- A sound justfile: its names are known, its parameters are in order, and its dependencies and aliases lead to what there is and fit.
+-- A sound justfile: its names are known, no two of its aliases have one, its parameters are in order, and its dependencies and aliases lead to what there is and fit.
 -- That no recipe and no variable leads to itself is said by `AreEnding` of recipes and of variables.
 use Rattle.std.specs.Prelude.{◌≡◌, ◌≢◌, ◌⊎◌, ℕ, ◌≤◌, ◌||◌, not, Bool, true, false, is_some, List, [], ◌∷◌, ◌++◌, map, filter, length, Some, All, Contains, IfSome, if◌then◌else◌, bytes_eq, codes}
 use Rattle.std.specs.List.{flat_map, list_any}
@@ -16,6 +16,7 @@ use Rattle.just_lang_types.specs.declared.recipe.Parameter.{Parameter}
 use Rattle.just_lang_types.specs.declared.recipe.Recipe.{Recipe}
 use Rattle.just_lang_types.specs.declared.scope.Alias.{Alias}
 use Rattle.just_lang_types.specs.declared.scope.Assignment.{Assignment}
+use Rattle.just_lang_types.specs.declared.scope.Disabled.{Disabled}
 use Rattle.just_lang_spots.specs.Repeated.{is_among}
 use Rattle.just_lang_rules.specs.ParameterSpots.{is_star}
 use Rattle.just_lang_names.specs.NamesUsed.{names_of_expr}
@@ -31,6 +32,12 @@ AreDistinct (x ∷ xs) = All (λ (y : List ℕ). y ≢ x) xs × AreDistinct xs
 
 abbrev pub variable_names : Justfile → List (List ℕ)
 variable_names j = map (λ (a : Assignment). a.name) (assignments_of j)
+
+-- those of its aliases: of those of recipes, of those of modules, and of those that can't be run
+abbrev pub alias_names : Justfile → List (List ℕ)
+alias_names j =
+    map (λ (a : Alias). a.name) (out-Justfile j).recipe_aliases
+    ++ (map (λ (a : Alias). a.name) (out-Justfile j).module_aliases ++ map (λ (d : Disabled). d.name) (out-Justfile j).disabled_aliases)
 
 abbrev pub parameter_names : List Parameter → List (List ℕ)
 parameter_names ps = map (λ (p : Parameter). p.name) ps
@@ -106,6 +113,7 @@ pub record IsSoundModule (modules : List Justfile) (j : Justfile) : Type 0 where
   pub values : All (λ (a : Assignment). AreKnown (variable_names j) a.value) (assignments_of j)
   pub names : AreDistinct (map (λ (r : Recipe). r.name) (recipes_of j))
   pub recipes : All (IsSoundRecipe modules j) (recipes_of j)
+  pub aliases : AreDistinct (alias_names j)
   pub recipe_aliases : All (λ (a : Alias). (l : Located) × (recipe_at modules a.target ≡ Some l)) (out-Justfile j).recipe_aliases
   pub module_aliases : All (λ (a : Alias). (inner : Justfile) × Contains modules inner × (path_of inner ≡ a.target)) (out-Justfile j).module_aliases
 

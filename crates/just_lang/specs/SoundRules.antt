@@ -4,12 +4,14 @@ use Rattle.std.specs.List.{flat_map}
 use Rattle.just_lang_syntax.specs.declared.ast.AstItem.{AstItem}
 use Rattle.just_lang_syntax.specs.declared.ast.StringLiteral.{StringLiteral}
 use Rattle.just_lang_layout.specs.declared.layout.Layout.{Layout}
-use Rattle.just_lang_layout.specs.Items.{items_of_files}
+use Rattle.just_lang_layout.specs.declared.layout.Module.{Module}
+use Rattle.just_lang_layout.specs.Items.{items_of_files, items_of_module}
 use Rattle.just_lang_spots.specs.declared.spot.Spot.{Spot}
 use Rattle.just_lang_spots.specs.Repeated.{repeated}
 use Rattle.just_lang_spots.specs.Standing.{Wins}
 use Rattle.just_lang_rules.specs.AttributeSpots.{duplicate_attribute_of}
 use Rattle.just_lang_rules.specs.ParameterSpots.{parameter_name, parameters_of, required_follows_of}
+use Rattle.just_lang_rulebook.specs.DuplicateSpots.{duplicate_aliases}
 use Rattle.just_lang_names.specs.ScopeSpots.{undefined_variable_spots}
 use Rattle.just_lang_names.specs.TargetSpots.{dependency_argument_count_spots, dependency_is_option_spots}
 
@@ -25,7 +27,12 @@ duplicate_attributes text_of layout = flat_map (λ (x : ℕ × AstItem). duplica
 abbrev pub misplaced_parameters : (StringLiteral → Option (List ℕ)) → Layout → List Spot
 misplaced_parameters text_of layout = flat_map (λ (x : ℕ × AstItem). required_follows_of text_of x.0 x.1) (items_of_files layout.files)
 
+-- the aliases whose names another one before them in their module has
+abbrev pub repeated_aliases : Layout → List Spot
+repeated_aliases layout = flat_map (λ (m : Module). duplicate_aliases (items_of_module layout.files m)) layout.modules
+
 pub record BreaksNoRule (text_of : StringLiteral → Option (List ℕ)) (wins : Wins) (layout : Layout) : Type 0 where
+  pub aliases : repeated_aliases layout ≡ []
   pub attributes : duplicate_attributes text_of layout ≡ []
   pub parameters : duplicate_parameters layout ≡ []
   pub order : misplaced_parameters text_of layout ≡ []

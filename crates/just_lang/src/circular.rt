@@ -4,10 +4,9 @@ ghost use Rattle.just_lang_names.specs.Names.{layout_of, wins_of};
 ghost use Rattle.just_lang.specs.CycleTables.{AreRecipes};
 ghost use Rattle.just_lang.specs.Rules.{IsFirstCircular};
 
-use super::names::broken_at;
 use super::recipe::{Recipes, circular_recipe};
 use super::variable::circular_variable;
-use just_lang_rulebook::Broken;
+use just_lang_rulebook::{Broken, broken_at};
 use just_lang_types::CompileKind;
 use just_path_text::NoMemory;
 use std::alloc::Global;

@@ -11,9 +11,8 @@ ghost use Rattle.just_lang.specs.Disabling.{AreCauses, is_filled, if_absent, eac
 ghost use Rattle.just_lang.specs.DisablingTables.{text, text_where, texts, absent_for, end_for, absent_in, IsDisabling};
 
 use super::recipe::{Recipes, StandingRecipe, place_of_target};
-use super::steps::push_some;
 use just_lang_names::{Names, PathKind, child, is_absent, recipe_named, target_of};
-use just_lang_spots::{order, origins};
+use just_lang_spots::{order, origins, push_some};
 use just_lang_syntax::{AstDependency, Name};
 use just_path_text::{NoMemory, Seq};
 use std::alloc::{AllocError, Global};

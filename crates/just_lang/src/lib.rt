@@ -13,7 +13,6 @@ mod project;
 mod recipe;
 mod rule;
 mod sources;
-mod steps;
 mod tables;
 mod variable;
 
@@ -23,8 +22,8 @@ pub use just_lang_types::{
     Binding, BodyLine, Closure, Comparison, CompileError, CompileKind, Dependency, Disabled,
     DotenvOf, Expr, FileKind, FileRef, Fragment, Interpreter, Justfile, Key, LangError, Level,
     Line, Modulepath, Name, Node, Override, Parameter, ParameterKind, Pattern, Quote, Recipe,
-    Scope, Scopes, SettingValue, Settings, Source, StringLiteral, UnstableFeature, Value, constant,
-    parse, references,
+    Scope, Scopes, SettingValue, Settings, Source, StringLiteral, Switch, UnstableFeature, Value,
+    constant, parse, references,
 };
 pub use just_path::{Utf8Path, Utf8PathBuf};
 pub use just_path_text::{Environ, NoMemory, Seq, Text};

@@ -1,10 +1,10 @@
 //! The rules on the names that are used.
-ghost use Rattle.std.specs.Prelude.{◌≡◌, IfOk, Some};
+ghost use Rattle.std.specs.Prelude.{◌≡◌, IfOk};
 ghost use Rattle.just_lang_spots.specs.Spots.{first_spot};
 ghost use Rattle.just_lang_names.specs.Arities.{arities_of};
 ghost use Rattle.just_lang_names.specs.Names.{AreNames, layout_of, wins_of};
 ghost use Rattle.just_lang_names.specs.TargetSpots.{unknown_dependency_spots, dependency_argument_count_spots, dependency_is_option_spots};
-ghost use Rattle.just_lang_rulebook.specs.First.{broken_at, first_broken};
+ghost use Rattle.just_lang_rulebook.specs.First.{first_broken};
 ghost use Rattle.just_lang_rulebook.specs.Meant.{meant};
 ghost use Rattle.just_lang.specs.Rules.{rules_on_variables, rules_on_arities, rules_on_names};
 
@@ -12,18 +12,11 @@ use just_lang_names::{
     Arities, DependencySpots, Names, arities_of, first_dependency_spots, first_undefined_variable,
     first_unknown_alias_target,
 };
-use just_lang_rulebook::{Broken, Meanings};
+use just_lang_rulebook::{Broken, Meanings, broken_at};
 use just_lang_spots::Spot;
 use just_lang_types::CompileKind;
 use just_path_text::{Environ, NoMemory};
 use std::alloc::Global;
-
-/// The rule, broken at that place.
-pub(crate) fn broken_at(kind: CompileKind, spot: Spot) -> Option<Broken>
-    ensures { result ≡ broken_at kind (Some spot) }
-{
-    Some(Broken { kind, spot })
-}
 
 /// The first places where the dependencies of the recipes that stand break rules.
 #[tactic(auto, using(crate::proofs::Counts::miscounted, crate::proofs::Counts::on_option))]

@@ -9,9 +9,8 @@ ghost use Rattle.just_lang.specs.CycleTables.{standing, standings, standing_in, 
 
 use super::before::sum_of;
 use super::first::first_on_cycle_at;
-use super::steps::push_some;
 use just_lang_names::{Names, PathKind, Target, target_of};
-use just_lang_spots::{Entry, Spot, name_spot};
+use just_lang_spots::{Entry, Spot, name_spot, push_some};
 use just_lang_syntax::{AstDependency, AstItem, AstRecipe};
 use just_path_text::{NoMemory, Seq};
 use std::alloc::Global;

@@ -9,9 +9,8 @@ ghost use Rattle.just_lang.specs.Cycles.{IsFirstSpot, IsCircularAmong, IsCircula
 ghost use Rattle.just_lang.specs.CycleTables.{names_in_value, places_in, uses_in, variable_spot_in};
 
 use super::first::first_on_cycle_at;
-use super::steps::push_some;
 use just_lang_names::{ModuleNames, Names};
-use just_lang_spots::{Entry, Index, Spot, earlier, name_spot};
+use just_lang_spots::{Entry, Index, Spot, earlier, name_spot, push_some};
 use just_lang_syntax::{AstItem, Expr, Name};
 use just_path_text::{NoMemory, Seq};
 use std::alloc::Global;
@@ -21,8 +20,7 @@ fn add_variable(index: &Index<'_>, name: &Name, places: &mut Vec<usize>) -> Resu
     ensures { OnOk result (places.new.items ≡ places.old.items ++ places_in index.now (name.now ∷ [])) }
 {
     let place = index.place(name.text.as_str());
-    push_some(places, place)?;
-    Ok(())
+    push_some(places, place)
 }
 
 /// Adds the places of the variables that an expression names.

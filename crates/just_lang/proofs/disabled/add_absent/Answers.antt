@@ -7,7 +7,7 @@ use Rattle.just_lang_spots.proofs.ListLaws.{drop_here}
 use Rattle.just_lang_names.specs.Names.{layout_of}
 use Rattle.just_lang.specs.Disabling.{absent_of_dependency}
 use Rattle.just_lang.specs.DisablingTables.{text}
-use Rattle.just_lang.proofs.Loops.{viewed_step}
+use Rattle.just_lang_rules.proofs.Loops.{viewed_step}
 use Rattle.just_lang.proofs.disabled.add_absent.Goals as goal
 
 pub dependencies-preserved : goal.dependencies-preserved

@@ -5,7 +5,7 @@ use Rattle.just_lang_spots.proofs.ListLaws.{drop_here}
 use Rattle.just_lang_names.specs.Lookup.{dependency_target}
 use Rattle.just_lang_names.specs.Names.{layout_of, wins_of}
 use Rattle.just_lang.specs.Cycles.{place_of_target, place_of_dependency}
-use Rattle.just_lang.proofs.Loops.{picked_step}
+use Rattle.just_lang_rules.proofs.Loops.{picked_step}
 use Rattle.just_lang.proofs.recipe.add_needed.Goals as goal
 
 pub dependencies-preserved : goal.dependencies-preserved

@@ -3,7 +3,7 @@ use Rattle.std.proofs.Common.{◌+◌, ◌∙◌, drop}
 use Rattle.just_lang_spots.specs.Entries.{entry, entries}
 use Rattle.just_lang_spots.proofs.ListLaws.{entries_drop}
 use Rattle.just_lang.specs.CycleTables.{standing, standing_in}
-use Rattle.just_lang.proofs.Loops.{viewed_step}
+use Rattle.just_lang_rules.proofs.Loops.{viewed_step}
 use Rattle.just_lang.proofs.recipe.add_recipes.Goals as goal
 
 pub items-preserved : goal.items-preserved

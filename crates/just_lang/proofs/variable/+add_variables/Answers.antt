@@ -5,7 +5,8 @@ use Rattle.just_lang_syntax.specs.declared.ast.Expr.TheVariants as v
 use Rattle.just_lang_syntax.specs.declared.ast.Name.{Name}
 use Rattle.just_lang_names.specs.NamesUsed.{names_of_expr}
 use Rattle.just_lang.specs.CycleTables.{places_in}
-use Rattle.just_lang.proofs.CycleNames.{names_if, names_join, names_concat, names_env, adds_two, adds_four}
+use Rattle.just_lang_names.proofs.ScopeLaws.{names_if, names_join, names_concat, names_env}
+use Rattle.just_lang.proofs.CycleNames.{adds_two, adds_four}
 use Rattle.just_lang.proofs.variable.+add_variables.Goals as goal
 
 pub returns-in_ok-add_variables-in-If-4 : goal.returns-in_ok-add_variables-in-If-4

@@ -3,7 +3,7 @@ use Rattle.std.proofs.Common.{◌+◌, ◌∙◌, drop}
 use Rattle.just_lang_spots.specs.Entries.{entry, entries}
 use Rattle.just_lang_spots.proofs.ListLaws.{entries_drop}
 use Rattle.just_lang.specs.CycleTables.{variable_spot_in}
-use Rattle.just_lang.proofs.Loops.{picked_step}
+use Rattle.just_lang_rules.proofs.Loops.{picked_step}
 use Rattle.just_lang.proofs.variable.variable_spots.Goals as goal
 
 pub variables-preserved : goal.variables-preserved
