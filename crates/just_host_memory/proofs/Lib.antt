@@ -6,3 +6,6 @@ pub mod Below
 pub mod Endings
 pub mod Harmless
 pub mod Climbs
+mod Making
+pub mod Effects
+pub mod MadeFolders

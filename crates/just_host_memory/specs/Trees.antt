@@ -1,11 +1,13 @@
 -- What a tree in memory is, and what its answers show.
-use Rattle.std.specs.Prelude.{ℕ, ◌≡◌, List, [], ◌∷◌, Result, Ok, Err, true}
+use Rattle.std.specs.Prelude.{ℕ, ◌≡◌, Bool, true, if◌then◌else◌, List, [], ◌∷◌, Result, Ok, Err}
 use Rattle.std.specs.FinMap as map
 use Rattle.just_path.specs.View.{View}
 use Rattle.just_path.specs.declared.host.Miss.{Miss}
+use Rattle.just_path.specs.declared.host.Miss.TheVariants as miss
 use Rattle.just_host_record.specs.declared.tree.Thing.TheVariants as thing
 use Rattle.just_host_record.specs.Sights.{Tree, seen}
 use Rattle.just_host_record.specs.World.{World}
+use Rattle.just_host_record.specs.Changes.{is_not_found}
 use Rattle.just_host_memory.specs.declared.files.Tree.{Tree as Things}
 use Rattle.just_host_memory.specs.declared.sights.TreeFault.{TreeFault}
 use Rattle.just_host_memory.specs.declared.sights.TreeFault.TheVariants as fault
@@ -29,6 +31,10 @@ Shows look told (Err fault.NoMemory) = Unit {0}
 -- a place that is answered is the one that is told
 abbrev pub ShowsPlace : Result (List ℕ) Miss → Result Place TreeFault → Type 0
 ShowsPlace told result = Shows (λ p. p.path) told result
+
+-- the place of what is to be made behind a miss: this one, where nothing was found by a path that can name it
+abbrev pub place_to_make : Miss → Bool → List ℕ → Result (List ℕ) Miss
+place_to_make m unnamed place = if is_not_found m then (if unnamed then Err miss.NotFound else Ok place) else Err m
 
 -- a world of which only its files and its current folder matter
 abbrev pub world_from : List ℕ → Tree → World

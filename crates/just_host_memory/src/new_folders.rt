@@ -1,15 +1,16 @@
 //! Folders that are made with those above them.
-ghost use Rattle.std.specs.Prelude.{◌≡◌, ◌+◌, ◌≤◌, Err, OnErr, if◌then◌else◌, length, vec_len, vec_capacity};
+ghost use Rattle.std.specs.Prelude.{◌≡◌, ◌+◌, ◌≤◌, Err, OnOk, OnErr, if◌then◌else◌, length, vec_len, vec_capacity};
 ghost use Rattle.just_path.specs.Path.{text_of};
 ghost use Rattle.just_path.specs.View.{place_under};
 ghost use Rattle.just_host_record.specs.Changes.{is_not_found};
 ghost use Rattle.just_host_record.specs.NewFolders.{with_folders, new_folder, with_folder};
+ghost use Rattle.just_host_memory.specs.Effects.{MakesFolder};
 ghost use Rattle.just_host_memory.specs.Files.{files_in};
 ghost use Rattle.just_host_memory.specs.Trees.{files_of, world_from, Shows, ShowsTree, with_folders_at};
 
 use super::files::put;
 use super::sights::TreeFault;
-use super::writes::{folder_of, is_not_found};
+use super::writes::{folder_of, place_to_make};
 use super::{Place, Tree};
 use just_host_record::Thing;
 use just_path::{Miss, Utf8Path};
@@ -63,18 +64,8 @@ impl Tree {
         Ok(())
     }
 
-    /// The same at the place of a path, which leads somewhere unless it is empty.
-    fn new_folder(&mut self, alloc: Global, path: &str, place: Place) -> Result<(), TreeFault>
-        ensures tells { ShowsTree (new_folder (files_of self.old) path.now place.path) (files_of self.new) result }
-        ensures kept { OnErr result (files_of self.new ≡ files_of self.old) }
-    {
-        if path.is_empty() {
-            return Err(TreeFault::Missed(Miss::NotFound));
-        }
-        self.put_folder(alloc, place)
-    }
-
     /// Makes a folder where a path wasn't found.
+    #[tactic(auto, using(crate::proofs::Making::folder_made, crate::proofs::Making::folder_unmade))]
     fn folder_behind_miss(
         &mut self,
         alloc: Global,
@@ -85,14 +76,14 @@ impl Tree {
         ensures tells { ShowsTree (if is_not_found miss then new_folder (files_of self.old) (text_of path.entry) (place_under folder.now.path (text_of path.entry)) else Err miss) (files_of self.new) result }
         ensures kept { OnErr result (files_of self.new ≡ files_of self.old) }
     {
-        if !is_not_found(miss) {
-            return Err(TreeFault::Missed(miss));
+        match place_to_make(alloc, folder, path, miss, path.as_str().is_empty()) {
+            Ok(place) => self.put_folder(alloc, place),
+            Err(fault) => Err(fault),
         }
-        let place = Place::under(alloc, folder.as_path(), path)?;
-        self.new_folder(alloc, path.as_str(), place)
     }
 
     /// Makes a folder, with those above it, where a path leads to none.
+    #[tactic(auto, using(crate::proofs::MadeFolders::folder_makes, crate::proofs::MadeFolders::shown_makes))]
     pub fn make_folder(
         &mut self,
         alloc: Global,
@@ -100,6 +91,8 @@ impl Tree {
         path: Utf8Path<'_>,
     ) -> Result<(), TreeFault>
         ensures tells { ShowsTree (with_folder (world_from folder.now.path (files_of self.old)) (text_of path.entry)) (files_of self.new) result }
+        ensures makes { OnOk result (MakesFolder (world_from folder.now.path (files_of self.old))
+            (text_of path.entry) (files_of self.new)) }
         ensures kept { OnErr result (files_of self.new ≡ files_of self.old) }
     {
         match self.folder(alloc, folder, path) {

@@ -1,11 +1,14 @@
 //! What writing makes of a tree.
-ghost use Rattle.std.specs.Prelude.{◌≡◌, ◌+◌, ◌≤◌, IfOk, Ok, Err, OnOk, OnErr, [], false, if◌then◌else◌, is_none, vec_len, vec_capacity};
+ghost use Rattle.std.specs.Prelude.{◌≡◌, ◌+◌, ◌≤◌, ◌||◌, IfOk, Ok, Err, OnOk, OnErr, [], false, if◌then◌else◌, is_none, vec_len, vec_capacity};
 ghost use Rattle.std.specs.FinMap as map;
 ghost use Rattle.just_path.specs.Path.{text_of};
-ghost use Rattle.just_path.specs.View.{place_under};
+ghost use Rattle.just_path.specs.Comps.{is_empty};
+ghost use Rattle.just_path.specs.View.{place_under, asks_folder, absence};
 ghost use Rattle.just_host_record.specs.declared.tree.Thing.{Thing};
 ghost use Rattle.just_host_record.specs.Changes.{folder_of, holds_folder, is_open_place, is_not_found, file_at, new_place, place_written, runs, written, with_entry, new_entry, with_cache_entry};
-ghost use Rattle.just_host_memory.specs.Trees.{files_of, world_from, ShowsPlace, ShowsTree};
+ghost use Rattle.just_host_record.specs.Sights.{seen};
+ghost use Rattle.just_host_memory.specs.Effects.{IsPutSomewhere, HasEntry};
+ghost use Rattle.just_host_memory.specs.Trees.{files_of, world_from, place_to_make, ShowsPlace, ShowsTree};
 
 use super::files::put;
 use super::sights::{TreeFault, asks_folder, is_folder};
@@ -28,6 +31,32 @@ pub(crate) fn folder_of(alloc: Global, place: &Place) -> Result<Place, NoMemory>
     ensures { IfOk result (λ p. p.path ≡ folder_of place.now.path) }
 {
     Place::under(alloc, place.as_path(), Utf8Path::new(".."))
+}
+
+/// Whether no file can be made by a path: it is empty, or only a folder is found by it.
+fn names_no_file(path: &str) -> bool
+    ensures { result ≡ (is_empty path.now || asks_folder path.now) }
+{
+    path.is_empty() || asks_folder(path)
+}
+
+/// The place of what is to be made where a path wasn't found: the path's own, unless the path can't name it.
+pub(crate) fn place_to_make(
+    alloc: Global,
+    folder: &Place,
+    path: Utf8Path<'_>,
+    miss: Miss,
+    unnamed: bool,
+) -> Result<Place, TreeFault>
+    ensures { ShowsPlace (place_to_make miss unnamed (place_under folder.now.path (text_of path.entry))) result }
+{
+    if !is_not_found(miss) {
+        return Err(TreeFault::Missed(miss));
+    }
+    if unnamed {
+        return Err(TreeFault::Missed(Miss::NotFound));
+    }
+    Ok(Place::under(alloc, folder.as_path(), path)?)
 }
 
 impl Tree {
@@ -71,13 +100,11 @@ impl Tree {
         }
     }
 
-    /// The place, if a file can be put there.
-    fn new_place(&self, alloc: Global, path: &str, place: Place) -> Result<Place, TreeFault>
-        ensures { ShowsPlace (new_place (files_of self.now) path.now place.path) result }
+    /// The place, if something can be put there.
+    fn open_place(&self, alloc: Global, place: Place) -> Result<Place, TreeFault>
+        ensures { ShowsPlace (if is_open_place (files_of self.now) place.path then Ok place.path
+            else Err (absence place.path (seen (files_of self.now)))) result }
     {
-        if path.is_empty() || asks_folder(path) {
-            return Err(TreeFault::Missed(Miss::NotFound));
-        }
         if self.is_open_place(alloc, &place)? {
             return Ok(place);
         }
@@ -86,6 +113,7 @@ impl Tree {
     }
 
     /// The place of a new file where a path wasn't found.
+    #[tactic(auto, using(crate::proofs::Making::file_made, crate::proofs::Making::file_unmade))]
     fn place_behind_miss(
         &self,
         alloc: Global,
@@ -95,11 +123,10 @@ impl Tree {
     ) -> Result<Place, TreeFault>
         ensures { ShowsPlace (if is_not_found miss then new_place (files_of self.now) (text_of path.entry) (place_under folder.now.path (text_of path.entry)) else Err miss) result }
     {
-        if !is_not_found(miss) {
-            return Err(TreeFault::Missed(miss));
+        match place_to_make(alloc, folder, path, miss, names_no_file(path.as_str())) {
+            Ok(place) => self.open_place(alloc, place),
+            Err(fault) => Err(fault),
         }
-        let place = Place::under(alloc, folder.as_path(), path)?;
-        self.new_place(alloc, path.as_str(), place)
     }
 
     /// The place where a file is written.
@@ -131,7 +158,7 @@ impl Tree {
     }
 
     /// Lets the file at a path hold these bytes.
-    #[tactic(auto, using(crate::proofs::Lookups::clean_things))]
+    #[tactic(auto, using(crate::proofs::Lookups::clean_things, crate::proofs::Effects::written_puts, crate::proofs::Effects::shown_puts))]
     pub fn write(
         &mut self,
         alloc: Global,
@@ -140,6 +167,8 @@ impl Tree {
         bytes: &[u8],
     ) -> Result<(), TreeFault>
         ensures tells { ShowsTree (written (world_from folder.now.path (files_of self.old)) (text_of path.entry) bytes.now) (files_of self.new) result }
+        ensures puts { OnOk result (IsPutSomewhere (world_from folder.now.path (files_of self.old))
+            (text_of path.entry) bytes.now (files_of self.new)) }
         ensures kept { OnErr result (files_of self.new ≡ files_of self.old) }
     {
         let place = self.place_written(alloc, folder, path)?;
@@ -181,18 +210,8 @@ impl Tree {
         Err(TreeFault::Missed(miss))
     }
 
-    /// The same at the place of a path, which doesn't ask for a folder.
-    fn new_entry(&mut self, alloc: Global, path: &str, place: Place) -> Result<(), TreeFault>
-        ensures tells { ShowsTree (new_entry (files_of self.old) path.now place.path) (files_of self.new) result }
-        ensures kept { OnErr result (files_of self.new ≡ files_of self.old) }
-    {
-        if path.is_empty() || asks_folder(path) {
-            return Err(TreeFault::Missed(Miss::NotFound));
-        }
-        self.put_entry(alloc, place)
-    }
-
     /// Makes a cache entry where a path wasn't found.
+    #[tactic(auto, using(crate::proofs::Making::entry_made, crate::proofs::Making::entry_unmade))]
     fn entry_behind_miss(
         &mut self,
         alloc: Global,
@@ -203,14 +222,14 @@ impl Tree {
         ensures tells { ShowsTree (if is_not_found miss then new_entry (files_of self.old) (text_of path.entry) (place_under folder.now.path (text_of path.entry)) else Err miss) (files_of self.new) result }
         ensures kept { OnErr result (files_of self.new ≡ files_of self.old) }
     {
-        if !is_not_found(miss) {
-            return Err(TreeFault::Missed(miss));
+        match place_to_make(alloc, folder, path, miss, names_no_file(path.as_str())) {
+            Ok(place) => self.put_entry(alloc, place),
+            Err(fault) => Err(fault),
         }
-        let place = Place::under(alloc, folder.as_path(), path)?;
-        self.new_entry(alloc, path.as_str(), place)
     }
 
     /// Makes a cache entry, where no file is found at its path.
+    #[tactic(auto, using(crate::proofs::Effects::entry_has, crate::proofs::Effects::shown_has))]
     pub fn make_entry(
         &mut self,
         alloc: Global,
@@ -218,6 +237,8 @@ impl Tree {
         path: Utf8Path<'_>,
     ) -> Result<(), TreeFault>
         ensures tells { ShowsTree (with_cache_entry (world_from folder.now.path (files_of self.old)) (text_of path.entry)) (files_of self.new) result }
+        ensures has { OnOk result (HasEntry (world_from folder.now.path (files_of self.old))
+            (text_of path.entry) (files_of self.new)) }
         ensures kept { OnErr result (files_of self.new ≡ files_of self.old) }
     {
         match self.place(alloc, folder, path, true) {
