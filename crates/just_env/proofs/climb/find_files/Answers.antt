@@ -20,8 +20,8 @@ returns-in-Ok-None-clause-gains g c = gains_then _ _ _ _ c.in-Ok-None.ensures.ga
 pub returns-in-Ok-None-clause-world : goal.returns-in-Ok-None-clause-world
 returns-in-Ok-None-clause-world g c = c.climb.ensures.world ∙ c.load_files.ensures.world
 
-pub returns-clause-found : goal.returns-clause-found
-returns-clause-found g c = files_refused (g.H.Host.world c.args.host.now) c.args.environ.now.pairs c.args.paths.now c.args.names.now (text_of c.args.folder) c.in-Err.error c.in-Err.ensures.loaded
+pub returns-in-Err-clause-found : goal.returns-in-Err-clause-found
+returns-in-Err-clause-found g c = files_refused (g.H.Host.world c.args.host.now) c.args.environ.now.pairs c.args.paths.now c.args.names.now (text_of c.args.folder) c.in-Err.error c.in-Err.ensures.loaded
 
-pub returns-clause-gains : goal.returns-clause-gains
-returns-clause-gains g c = c.in-Err.ensures.gains
+pub returns-in-Err-clause-gains : goal.returns-in-Err-clause-gains
+returns-in-Err-clause-gains g c = c.in-Err.ensures.gains

@@ -68,11 +68,7 @@ pub returns-in-Err-NoMemory-clause-program : goal.returns-in-Err-NoMemory-clause
 returns-in-Err-NoMemory-clause-program g c = (c.args.shell.now.command, refl, (g.H.Host.entries c.capture.new.self), sym (append-nil (g.H.Host.entries c.capture.new.self)))
 
 pub returns-in-Err-Failed-clause-program : goal.returns-in-Err-Failed-clause-program
-returns-in-Err-Failed-clause-program g c =
-    let entries : g.H.Host.entries c.capture.new.self ≡ g.H.Host.entries c.args.host.now ++ refused c.in_ok-spec.spec.program (fault.Failed c.in-Err-Failed.call) = search rules in
-    (c.in_ok-spec.spec.program, ap (λ (s : Spec). s.program) c.in_ok-spec.ensures, (g.H.Host.entries c.args.host.now), entries)
+returns-in-Err-Failed-clause-program g c = (c.in_ok-spec.spec.program, ap (λ (s : Spec). s.program) c.in_ok-spec.ensures, (g.H.Host.entries c.args.host.now), search rules)
 
 pub returns-clause-program : goal.returns-clause-program
-returns-clause-program g c =
-    let entries : g.H.Host.entries c.capture.new.self ≡ g.H.Host.entries c.args.host.now ++ refused c.in_ok-spec.spec.program (fault.Missed c.in-Err-Missed.miss) = search rules in
-    (c.in_ok-spec.spec.program, ap (λ (s : Spec). s.program) c.in_ok-spec.ensures, (g.H.Host.entries c.args.host.now), entries)
+returns-clause-program g c = (c.in_ok-spec.spec.program, ap (λ (s : Spec). s.program) c.in_ok-spec.ensures, (g.H.Host.entries c.args.host.now), search rules)

@@ -23,12 +23,12 @@ returns-in-Err-clause-loaded g c = file_unread (g.H.Host.world c.args.host.now) 
 pub returns-in-Err-clause-gains : goal.returns-in-Err-clause-gains
 returns-in-Err-clause-gains g c = c.in-Err.ensures.gains
 
-pub returns-in-Ok-pairs_of_text-clause-loaded : goal.returns-in-Ok-pairs_of_text-clause-loaded
-returns-in-Ok-pairs_of_text-clause-loaded g c =
+pub returns-in-Ok-clause-loaded : goal.returns-in-Ok-clause-loaded
+returns-in-Ok-clause-loaded g c =
     file_there (g.H.Host.world c.args.host.now) c.args.environ.now.pairs (text_of c.args.path) c.in-Ok-Some.text c.in-Ok-pairs_of_text.pairs (rw c.in-Ok-Some.field-0-is at c.in-Ok-Some.ensures.text) (rw c.as_str.ensures at c.in-Ok-pairs_of_text.ensures.pairs)
 
-pub returns-in-Ok-pairs_of_text-clause-gains : goal.returns-in-Ok-pairs_of_text-clause-gains
-returns-in-Ok-pairs_of_text-clause-gains g c = c.in-Ok-Some.ensures.gains
+pub returns-in-Ok-clause-gains : goal.returns-in-Ok-clause-gains
+returns-in-Ok-clause-gains g c = c.in-Ok-Some.ensures.gains
 
 pub returns-clause-loaded : goal.returns-clause-loaded
 returns-clause-loaded g c =

@@ -2,6 +2,7 @@
 use Rattle.std.proofs.Common.{rules, ◌≡◌, Ok, Err, refl, inr, inl}
 use Rattle.std.specs.Prelude.{Result}
 use Rattle.just_path.specs.Path.{text_of}
+use Rattle.just_dotenv.specs.Meaning.{Pairs}
 use Rattle.just_env.proofs.Laws.{gains_none}
 use Rattle.just_lang_types.specs.Modules.{settings_of}
 use Rattle.just_env.specs.declared.ask.Sources.{Sources}
@@ -68,4 +69,4 @@ returns-in-Ok-Files-clause-program g c =
     ends_found (g.H.Host.world c.args.host.now) c.args.ask.now c.args.environ.now.pairs (text_of c.args.folder) (settings_of c.args.justfile.now) (λ p. p ≡ (shell_program c.args.flags.now c.args.justfile.now)) (shell_program c.args.flags.now c.args.justfile.now) refl (g.H.Host.entries c.args.host.now) (g.H.Host.entries c.load_found.new.host) c.load_found.result c.load_found.ensures.loaded c.load_found.ensures.gains
 
 pub returns-clause-program : goal.returns-clause-program
-returns-clause-program g c = ends_unheard (λ p. p ≡ (shell_program c.args.flags.now c.args.justfile.now)) (shell_program c.args.flags.now c.args.justfile.now) refl _ (Err c.in-Err.error) c.in-Err.ensures.unheard
+returns-clause-program g c = ends_unheard {A = Pairs} (λ p. p ≡ (shell_program c.args.flags.now c.args.justfile.now)) (shell_program c.args.flags.now c.args.justfile.now) refl _ (Err c.in-Err.error) c.in-Err.ensures.unheard
