@@ -25,7 +25,7 @@ returns-in-Err-clause-gains g c = c.in-Err.ensures.gains
 
 pub returns-in-Ok-clause-loaded : goal.returns-in-Ok-clause-loaded
 returns-in-Ok-clause-loaded g c =
-    file_there (g.H.Host.world c.args.host.now) c.args.environ.now.pairs (text_of c.args.path) c.in-Ok-Some.text c.in-Ok-pairs_of_text.pairs (rw c.in-Ok-Some.field-0-is at c.in-Ok-Some.ensures.text) (rw c.as_str.ensures at c.in-Ok-pairs_of_text.ensures.pairs)
+    file_there (g.H.Host.world c.args.host.now) c.args.environ.now.pairs (text_of c.args.path) c.in-Ok-Some.text c.in-Ok.pairs (rw c.in-Ok-Some.field-0-is at c.in-Ok-Some.ensures.text) (rw c.as_str.ensures at c.in-Ok.ensures.pairs)
 
 pub returns-in-Ok-clause-gains : goal.returns-in-Ok-clause-gains
 returns-in-Ok-clause-gains g c = c.in-Ok-Some.ensures.gains
