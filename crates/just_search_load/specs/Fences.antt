@@ -1,5 +1,5 @@
 -- The lines that open and close code blocks.
-use Rattle.std.specs.Prelude.{ℕ, ◌==◌, ◌&&◌, ◌||◌, not, nat_le, Bool, if◌then◌else◌, List, [], take, drop, Option, Some, None, codes, bytes_eq}
+use Rattle.std.specs.Prelude.{ℕ, ◌==◌, ◌&&◌, ◌||◌, not, nat_le, Bool, if◌then◌else◌, List, take, drop, Option, Some, None, codes, bytes_eq}
 use Rattle.std.specs.List.{list_any, list_all, prefix_len}
 use Rattle.just_path_text.specs.Environ.{or_else}
 use Rattle.just_search_load.specs.declared.fence.Fence.{Fence}

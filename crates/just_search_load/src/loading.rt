@@ -47,7 +47,6 @@ fn read_source<H: Host>(
     ensures refused { IfErr result (λ e. (e ≡ OutOfMemory) ⊎ ReadsText (H.world host.old) path (Err e)) }
     ensures entries { H.entries host.new ≡ H.entries host.old ++ told_entries result }
     ensures world { H.world host.new ≡ H.world host.old }
-    ensures spare { H.spare host.new ≡ H.spare host.old }
 {
     match read_text(alloc, host, path.as_path()) {
         Ok(text) => Ok(source_of(alloc, path, text)?),
@@ -126,7 +125,6 @@ impl Loader {
         ensures same { OnErr result (sources_of self.new ≡ sources_of self.old) }
         ensures entries { H.entries host.new ≡ H.entries host.old ++ told_entries result }
         ensures world { H.world host.new ≡ H.world host.old }
-        ensures spare { H.spare host.new ≡ H.spare host.old }
     {
         let alloc = self.inside.alloc;
         let place = Text::from(path.clean(alloc)?.into_string());
@@ -172,7 +170,6 @@ impl Loader {
         ensures grown { IsGrown (sources_of self.old) (sources_of self.new) }
         ensures gains { Gains (H.entries host.old) (H.entries host.new) result }
         ensures world { H.world host.new ≡ H.world host.old }
-        ensures spare { H.spare host.new ≡ H.spare host.old }
     {
         let alloc = self.inside.alloc;
         let source = match read_source(alloc, host, path) {
@@ -199,7 +196,6 @@ impl Loader {
         ensures grown { IsGrown (sources_of self.old) (sources_of self.new) }
         ensures gains { Gains (H.entries host.old) (H.entries host.new) result }
         ensures world { H.world host.new ≡ H.world host.old }
-        ensures spare { H.spare host.new ≡ H.spare host.old }
     {
         let mut pending = pending;
         'paths: while let Some((path, place)) = self.next(&mut pending)? {
@@ -223,7 +219,6 @@ impl Loader {
         ensures grown { IsGrown (sources_of self.old) (sources_of self.new) }
         ensures gains { Gains (H.entries host.old) (H.entries host.new) result }
         ensures world { H.world host.new ≡ H.world host.old }
-        ensures spare { H.spare host.new ≡ H.spare host.old }
     {
         let alloc = self.inside.alloc;
         let mut pending = Vec::new(alloc);
@@ -247,7 +242,6 @@ impl Loader {
         // The record gains misses, and the entry of the refused call.
         ensures gains { Gains (H.entries host.old) (H.entries host.new) result }
         ensures world { H.world host.new ≡ H.world host.old }
-        ensures spare { H.spare host.new ≡ H.spare host.old }
     {
         let known = self.inside.sources.len();
         match self.load_root(host, environ, root) {
@@ -270,7 +264,6 @@ impl Loader {
         // The record gains misses, and the entry of the refused call.
         ensures gains { Gains (H.entries host.old) (H.entries host.new) result }
         ensures world { H.world host.new ≡ H.world host.old }
-        ensures spare { H.spare host.new ≡ H.spare host.old }
     {
         match environment(self.inside.alloc, host) {
             Ok(environ) => self.load_over(host, &environ, root),
@@ -303,7 +296,6 @@ fn push_names<H: Host>(
     ensures names { AddsNames (SourceNames (H.world host.old) environ.now.pairs source.now) (to_load pending.old.items) (to_load pending.new.items) result }
     ensures gains { Gains (H.entries host.old) (H.entries host.new) result }
     ensures world { H.world host.new ≡ H.world host.old }
-    ensures spare { H.spare host.new ≡ H.spare host.old }
 {
     let mut names = Vec::new(alloc);
     match add_source(alloc, host, environ, source, &mut names) {

@@ -28,7 +28,6 @@ fn add_named<H: Host>(
     ensures added { Adds (NamesFile (H.world host.old) environ.now.pairs root.now string.now) found.old.items found.new.items result }
     ensures gains { Gains (H.entries host.old) (H.entries host.new) result }
     ensures world { H.world host.new ≡ H.world host.old }
-    ensures spare { H.spare host.new ≡ H.spare host.old }
 {
     let Some(text) = meaning(alloc, environ, string)? else {
         return Ok(());
@@ -53,7 +52,6 @@ fn add_module<H: Host>(
     ensures added { Adds (ModuleNames (H.world host.old) environ.now.pairs root.now name.now string.now) found.old.items found.new.items result }
     ensures gains { Gains (H.entries host.old) (H.entries host.new) result }
     ensures world { H.world host.new ≡ H.world host.old }
-    ensures spare { H.spare host.new ≡ H.spare host.old }
 {
     match string {
         Some(string) => add_named(alloc, host, environ, root, string, found),
@@ -77,7 +75,6 @@ fn add_item<H: Host>(
     ensures added { Adds (ItemNames (H.world host.old) environ.now.pairs root.now item.now) found.old.items found.new.items result }
     ensures gains { Gains (H.entries host.old) (H.entries host.new) result }
     ensures world { H.world host.new ≡ H.world host.old }
-    ensures spare { H.spare host.new ≡ H.spare host.old }
 {
     match item {
         AstItem::Import { path, .. } => add_named(alloc, host, environ, root, path, found),
@@ -89,7 +86,6 @@ fn add_item<H: Host>(
 }
 
 /// Adds the files that items of a file of that root name.
-#[tactic(auto, using(just_env::proofs::Laws::gains_nothing, just_env::proofs::Laws::gains_before, just_env::proofs::Laws::gains_none, just_env::proofs::Laws::gains_then, crate::proofs::Gathered::added_none))]
 fn add_items<H: Host>(
     alloc: Global,
     host: &mut H,
@@ -101,7 +97,6 @@ fn add_items<H: Host>(
     ensures added { Adds (Gathers (ItemNames (H.world host.old) environ.now.pairs root.now) items.now) found.old.items found.new.items result }
     ensures gains { Gains (H.entries host.old) (H.entries host.new) result }
     ensures world { H.world host.new ≡ H.world host.old }
-    ensures spare { H.spare host.new ≡ H.spare host.old }
 {
     'items: for item in items {
         match add_item(alloc, host, environ, root, item, found) {
@@ -136,7 +131,6 @@ pub(crate) fn add_source<H: Host>(
     ensures added { Adds (SourceNames (H.world host.old) environ.now.pairs source.now) found.old.items found.new.items result }
     ensures gains { Gains (H.entries host.old) (H.entries host.new) result }
     ensures world { H.world host.new ≡ H.world host.old }
-    ensures spare { H.spare host.new ≡ H.spare host.old }
 {
     let text = source.text.as_str();
     if !text.contains("import") && !text.contains("mod") {

@@ -23,7 +23,6 @@ pub(crate) fn add_present<H: Host>(
     ensures added { Adds (IfPresent (H.world host.old) path.now) found.old.items found.new.items result }
     ensures gains { Gains (H.entries host.old) (H.entries host.new) result }
     ensures world { H.world host.new ≡ H.world host.old }
-    ensures spare { H.spare host.new ≡ H.spare host.old }
 {
     if sees_file(alloc, host, path.as_path())? {
         found.push(path.try_clone()?)?;
@@ -32,7 +31,6 @@ pub(crate) fn add_present<H: Host>(
 }
 
 /// Adds those of some paths at which files stand.
-#[tactic(auto, using(just_env::proofs::Laws::gains_nothing, just_env::proofs::Laws::gains_before, just_env::proofs::Laws::gains_none, just_env::proofs::Laws::gains_then, crate::proofs::Gathered::added_none))]
 pub(crate) fn add_all_present<H: Host>(
     alloc: Global,
     host: &mut H,
@@ -42,7 +40,6 @@ pub(crate) fn add_all_present<H: Host>(
     ensures added { Adds (Gathers (IfPresent (H.world host.old)) paths.now) found.old.items found.new.items result }
     ensures gains { Gains (H.entries host.old) (H.entries host.new) result }
     ensures world { H.world host.new ≡ H.world host.old }
-    ensures spare { H.spare host.new ≡ H.spare host.old }
 {
     'paths: for path in paths {
         match add_present(alloc, host, path, found) {
@@ -117,7 +114,6 @@ pub(crate) fn add_module_files<H: Host>(
     ensures added { Adds (ModuleFiles (H.world host.old) base.now) found.old.items found.new.items result }
     ensures gains { Gains (H.entries host.old) (H.entries host.new) result }
     ensures world { H.world host.new ≡ H.world host.old }
-    ensures spare { H.spare host.new ≡ H.spare host.old }
 {
     let names = match names_in(alloc, host, base.as_path()) {
         Ok(names) => names,

@@ -21,7 +21,6 @@ pub(crate) fn sees_file<H: Host>(
     ensures seen { Answers (SeesFile (H.world host.old) (text_of path.entry)) result }
     ensures gains { Gains (H.entries host.old) (H.entries host.new) result }
     ensures world { H.world host.new ≡ H.world host.old }
-    ensures spare { H.spare host.new ≡ H.spare host.old }
 {
     let named = path.to_path_buf(alloc)?;
     match path.metadata(host) {
@@ -36,7 +35,7 @@ pub(crate) fn sees_file<H: Host>(
 }
 
 /// The names of what stands in a folder; none where there is no folder.
-#[tactic(auto, using(just_env::proofs::Laws::gains_nothing, just_env::proofs::Laws::gains_before, just_env::proofs::Laws::gains_none, just_env::proofs::Laws::gains_then, crate::proofs::Listed::lists_names, crate::proofs::Sights::lists_missed, crate::proofs::Sights::gains_miss, crate::proofs::Sights::gains_same))]
+#[tactic(auto, using(crate::proofs::Sights::lists_missed))]
 pub(crate) fn names_in<H: Host>(
     alloc: Global,
     host: &mut H,
@@ -45,7 +44,6 @@ pub(crate) fn names_in<H: Host>(
     ensures names { Answers (ListsNames (H.world host.old) (text_of path.entry)) result }
     ensures gains { Gains (H.entries host.old) (H.entries host.new) result }
     ensures world { H.world host.new ≡ H.world host.old }
-    ensures spare { H.spare host.new ≡ H.spare host.old }
 {
     let named = path.to_path_buf(alloc)?;
     match host.names(path) {
@@ -68,7 +66,6 @@ pub(crate) fn read_text<H: Host>(
     ensures text { Answers (ReadsText (H.world host.old) (text_of path.entry)) result }
     ensures entries { H.entries host.new ≡ H.entries host.old ++ told_entries result }
     ensures world { H.world host.new ≡ H.world host.old }
-    ensures spare { H.spare host.new ≡ H.spare host.old }
 {
     let named = path.to_path_buf(alloc)?;
     match host.read(path) {

@@ -10,5 +10,4 @@ invariant-items g l = record {
   added : Added (ItemNames (g.H.Host.world l.fn.host) l.environ.pairs l.root) l.items l.item-index l.fn.found.items l.found.items;
   gains : GainsMisses (g.H.Host.entries l.fn.host) (g.H.Host.entries l.host);
   world : g.H.Host.world l.host ≡ g.H.Host.world l.fn.host;
-  spare : g.H.Host.spare l.host ≡ g.H.Host.spare l.fn.host;
 }

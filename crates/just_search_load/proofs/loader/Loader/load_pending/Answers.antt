@@ -15,7 +15,6 @@ paths-preserved g c =
       grown = grown_then _ _ _ c.paths.invariant.grown c.in-Ok.ensures.grown;
       gains = misses_then _ _ _ c.paths.invariant.gains c.in-Ok.ensures.gains;
       world = c.load_next.ensures.world ∙ c.paths.invariant.world;
-      spare = c.load_next.ensures.spare ∙ c.paths.invariant.spare;
     }
 
 pub returns-in-Err-clause-ends : goal.returns-in-Err-clause-ends

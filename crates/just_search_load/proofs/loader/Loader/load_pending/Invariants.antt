@@ -12,7 +12,6 @@ invariant-paths g l = record {
   grown : IsGrown (sources_of l.fn.self) (sources_of l.self);
   gains : GainsMisses (g.H.Host.entries l.fn.host) (g.H.Host.entries l.host);
   world : g.H.Host.world l.host ≡ g.H.Host.world l.fn.host;
-  spare : g.H.Host.spare l.host ≡ g.H.Host.spare l.fn.host;
 }
 
 abbrev pub decreases-paths : goal.decreases-paths
