@@ -12,26 +12,26 @@ use Rattle.just_path.specs.declared.meta.Item.{Item}
 use Rattle.just_path.specs.declared.meta.Kind.{Kind}
 use Rattle.just_search_load.specs.Shown.{AreNamesIn}
 
-abbrev name : Item → List ℕ
-name i = i.name
+abbrev pub item_name : Item → List ℕ
+item_name i = i.name
 
 abbrev first : List ℕ × Kind → List ℕ
 first e = e.0
 
-names_of : (xs : List Item) → map first (named xs) ≡ map name xs
+names_of : (xs : List Item) → map first (named xs) ≡ map item_name xs
 names_of [] = refl
 names_of (x ∷ xs) = ap (λ (ns : List (List ℕ)). x.name ∷ ns) (names_of xs)
 
 -- items in order that tell the same of each name have the same names
-one_list : (place : List ℕ) (tree : Sights) (xs ys : List Item) → AreInOrder xs → AreInOrder ys → AreItemsOf place tree xs → AreItemsOf place tree ys → map name xs ≡ map name ys
+pub one_list : (place : List ℕ) (tree : Sights) (xs ys : List Item) → AreInOrder xs → AreInOrder ys → AreItemsOf place tree xs → AreItemsOf place tree ys → map item_name xs ≡ map item_name ys
 one_list place tree xs ys a b p q =
     let pairs : named xs ≡ named ys = same_entries (slice_cmp nat_cmp) nat_list_cmp_total (slice_cmp-IsAntisymmetric nat_cmp-IsAntisymmetric) (named xs) (named ys) a b (λ n. p n ∙ sym (q n)) in
     sym (names_of xs) ∙ ap (λ (es : List (List ℕ × Kind)). map first es) pairs ∙ names_of ys
 
-one_place : (a b : List ℕ) → ◌≡◌ {A = Result (List ℕ) Miss} (Ok a) (Ok b) → a ≡ b
+pub one_place : (a b : List ℕ) → ◌≡◌ {A = Result (List ℕ) Miss} (Ok a) (Ok b) → a ≡ b
 one_place a b is = cc
 
-no_place : (a : List ℕ) (m : Miss) → ◌≡◌ {A = Result (List ℕ) Miss} (Ok a) (Err m) → ⊥
+pub no_place : (a : List ℕ) (m : Miss) → ◌≡◌ {A = Result (List ℕ) Miss} (Ok a) (Err m) → ⊥
 no_place a m is = let no : ⊥ = cc in no
 
 -- a folder has one list of names

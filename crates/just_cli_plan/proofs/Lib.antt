@@ -3,6 +3,7 @@ pub mod Alone
 pub mod Chain
 pub mod Found
 pub mod Laws
+pub mod Listed
 pub mod Loading
 pub mod PlanNodes
 pub mod Refusals

@@ -15,7 +15,7 @@ use Rattle.just_exec.specs.Refusals.{error_of_env}
 use Rattle.just_exec.specs.declared.error.Error.{Error}
 use Rattle.just_exec.specs.declared.error.Error.TheVariants as error
 use Rattle.just_cli_plan.specs.Own.{OrMemory, is_uncaptured, IsOwn}
-use Rattle.just_cli_plan.specs.Pairs.{LoadsPairs, Runs, Leaves, ErrorLeaves, entries_of}
+use Rattle.just_cli_plan.specs.Pairs.{LoadsPairs, BeginsLoading, Runs, Leaves, ErrorLeaves, entries_of}
 use Rattle.just_cli_plan.specs.declared.wanted.Wanted.{Wanted}
 
 -- a refusal of pairs has the entry of its call
@@ -49,7 +49,7 @@ module _ (told after : Option World) (old new : List Entry) (wanted : Wanted) (e
   Loads cs r = LoadsProject told wanted.dotenv wanted.flags environ.pairs j cs r
 
   -- the pairs
-  pub pairs_loaded : (pairs : List DotenvOf) → RunsEnv Loads told after old new (Ok pairs) → Runs (LoadsPairs told wanted environ j) told after old new (Ok pairs)
+  pub pairs_loaded : (pairs : List DotenvOf) → RunsEnv Loads (BeginsLoading told wanted environ j) told after old new (Ok pairs) → Runs (LoadsPairs told wanted environ j) (BeginsLoading told wanted environ j) told after old new (Ok pairs)
   pairs_loaded pairs runs = runs
 
   why : (cs : List Capture) (f : EnvError) (e : Error) → e ≡ error_of_env f → (f ≡ env.NoMemory) ⊎ Loads cs (Err f) → OrMemory (λ x. LoadsPairs told wanted environ j cs (Err x)) e
@@ -57,13 +57,14 @@ module _ (told after : Option World) (old new : List Entry) (wanted : Wanted) (e
   why cs f e is (inr loads) = inr (f, loads, is)
 
   -- or why there are none
-  pub pairs_refused : (f : EnvError) (e : Error) → e ≡ error_of_env f → RunsEnv {A = List DotenvOf} Loads told after old new (Err f)
-      → Runs {A = List DotenvOf} (LoadsPairs told wanted environ j) told after old new (Err e)
-  pairs_refused f e is (cs, answer, (middle, path, gains, grew), left) = (
+  pub pairs_refused : (f : EnvError) (e : Error) → e ≡ error_of_env f → RunsEnv {A = List DotenvOf} Loads (BeginsLoading told wanted environ j) told after old new (Err f)
+      → Runs {A = List DotenvOf} (LoadsPairs told wanted environ j) (BeginsLoading told wanted environ j) told after old new (Err e)
+  pairs_refused f e is (cs, answer, (middle, path, gains, grew), left, begun) = (
     cs,
     why cs f e is answer,
     (middle, path, gains, grew ∙ ap (λ es. middle ++ es) (same_entries path f ∙ sym (ap (λ x. entries_of path x) is))),
     subst (λ x. ErrorLeaves (told_behind told cs) after x) (sym is) (same_world (told_behind told cs) after f left),
+    begun,
   )
 
 -- ---- what the world determines

@@ -16,7 +16,7 @@ use Rattle.just_lang_spots.proofs.Chains.{nodes_end, passed_by}
 use Rattle.just_eval_closure.proofs.Items.{in_contains, all_in}
 use Rattle.just_eval_closure.specs.Answers.{Answer, and_then}
 use Rattle.just_lang_types.specs.Modules.{path_of, assignments_of}
-use Rattle.just_eval_closure.specs.Values.{Valued, value}
+use Rattle.just_eval_closure.specs.Values.{Valued}
 use Rattle.just_eval.specs.Evaluations.{scope_told, IsScope, Evaluates, IsEvaluation}
 use Rattle.just_eval.specs.Outcomes.{AreOutcomesOf}
 use Rattle.just_eval.specs.Uses.{names_in, named, uses, AreEnding}

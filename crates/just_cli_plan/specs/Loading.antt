@@ -19,7 +19,16 @@ is_failure fault.NoMemory = false
 abbrev pub tells_failure : SearchError → Bool
 tells_failure (error.FilesystemIo path io) = is_failure io
 tells_failure (error.Load path io) = is_failure io
-tells_failure _ = false
+tells_failure error.GlobalJustfileInit = false
+tells_failure error.GlobalJustfileNotFound = false
+tells_failure error.InitWithJustfileFromStandardInput = false
+tells_failure (error.JustfileHadNoParent path) = false
+tells_failure (error.MultipleCandidates folder candidates) = false
+tells_failure error.NotFound = false
+tells_failure (error.StdinIo io) = false
+tells_failure (error.TempdirIo io) = false
+tells_failure (error.Lang e) = false
+tells_failure error.NoMemory = false
 
 -- an answer that the world determines: no failure of the host
 abbrev pub IsOwn : {A : Type 0} → Result A SearchError → Type 0

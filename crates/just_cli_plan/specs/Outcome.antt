@@ -105,13 +105,17 @@ entries_folder None = []
 -- the path of the entry that was looked at; empty where none was
 abbrev pub entry_seen : Option CachePlan → Option (List (List ℕ) × Look) → List ℕ
 entry_seen (Some c) (Some seen) = entry_of c seen.0
-entry_seen _ _ = []
+entry_seen (Some c) None = []
+entry_seen None seen = []
 
 -- the error of an input of that path that is a miss
 abbrev pub input_error : List ℕ → Miss → Error
 input_error path miss.NotFound = error.CacheInputMissing path
 input_error path miss.IsFolder = error.CacheInputDirectory path
-input_error path m = error.FilesystemIo path (fault.Missed m)
+input_error path miss.NotFolder = error.FilesystemIo path (fault.Missed miss.NotFolder)
+input_error path miss.NotUtf8 = error.FilesystemIo path (fault.Missed miss.NotUtf8)
+input_error path miss.NotEmpty = error.FilesystemIo path (fault.Missed miss.NotEmpty)
+input_error path miss.TooLarge = error.FilesystemIo path (fault.Missed miss.TooLarge)
 
 -- ---- nodes that failed
 
@@ -129,7 +133,24 @@ abbrev pub miss_error : PlanNode → Shown → Call → Miss → Error
 miss_error x s call.Ask m = error.FilesystemIo (codes "-") (fault.Missed m)
 miss_error x s call.Temp m = error.TempdirIo (name_of x) (fault.Missed m)
 miss_error x s call.Save m = error.FilesystemIo (entry_seen x.cache s.seen) (fault.Missed m)
-miss_error x s c m = error.FilesystemIo (entries_folder x.cache) (fault.Missed m)
+miss_error x s call.Meta m = error.FilesystemIo (entries_folder x.cache) (fault.Missed m)
+miss_error x s call.List m = error.FilesystemIo (entries_folder x.cache) (fault.Missed m)
+miss_error x s call.Canonical m = error.FilesystemIo (entries_folder x.cache) (fault.Missed m)
+miss_error x s call.Link m = error.FilesystemIo (entries_folder x.cache) (fault.Missed m)
+miss_error x s call.Current m = error.FilesystemIo (entries_folder x.cache) (fault.Missed m)
+miss_error x s call.Read m = error.FilesystemIo (entries_folder x.cache) (fault.Missed m)
+miss_error x s call.Input m = error.FilesystemIo (entries_folder x.cache) (fault.Missed m)
+miss_error x s call.Environ m = error.FilesystemIo (entries_folder x.cache) (fault.Missed m)
+miss_error x s call.Write m = error.FilesystemIo (entries_folder x.cache) (fault.Missed m)
+miss_error x s call.MakeFolder m = error.FilesystemIo (entries_folder x.cache) (fault.Missed m)
+miss_error x s call.Remove m = error.FilesystemIo (entries_folder x.cache) (fault.Missed m)
+miss_error x s call.Print m = error.FilesystemIo (entries_folder x.cache) (fault.Missed m)
+miss_error x s call.Sum m = error.FilesystemIo (entries_folder x.cache) (fault.Missed m)
+miss_error x s call.Probe m = error.FilesystemIo (entries_folder x.cache) (fault.Missed m)
+miss_error x s call.Check m = error.FilesystemIo (entries_folder x.cache) (fault.Missed m)
+miss_error x s call.Start m = error.FilesystemIo (entries_folder x.cache) (fault.Missed m)
+miss_error x s call.Wait m = error.FilesystemIo (entries_folder x.cache) (fault.Missed m)
+miss_error x s call.Capture m = error.FilesystemIo (entries_folder x.cache) (fault.Missed m)
 
 -- the error of a body that a failure of that call ended
 abbrev pub fault_error : PlanNode → Shown → Call → Error
@@ -139,7 +160,21 @@ fault_error x s call.Temp = error.TempdirIo (name_of x) (fault.Failed call.Temp)
 fault_error x s call.Save = error.CacheEntryWrite (entry_seen x.cache s.seen) (fault.Failed call.Save)
 fault_error x s call.Start = lost_error x s.ended x.work (fault.Failed call.Start)
 fault_error x s call.Wait = lost_error x s.ended x.work (fault.Failed call.Wait)
-fault_error x s c = error.FilesystemIo (entries_folder x.cache) (fault.Failed c)
+fault_error x s call.Meta = error.FilesystemIo (entries_folder x.cache) (fault.Failed call.Meta)
+fault_error x s call.List = error.FilesystemIo (entries_folder x.cache) (fault.Failed call.List)
+fault_error x s call.Canonical = error.FilesystemIo (entries_folder x.cache) (fault.Failed call.Canonical)
+fault_error x s call.Link = error.FilesystemIo (entries_folder x.cache) (fault.Failed call.Link)
+fault_error x s call.Current = error.FilesystemIo (entries_folder x.cache) (fault.Failed call.Current)
+fault_error x s call.Read = error.FilesystemIo (entries_folder x.cache) (fault.Failed call.Read)
+fault_error x s call.Input = error.FilesystemIo (entries_folder x.cache) (fault.Failed call.Input)
+fault_error x s call.Environ = error.FilesystemIo (entries_folder x.cache) (fault.Failed call.Environ)
+fault_error x s call.Write = error.FilesystemIo (entries_folder x.cache) (fault.Failed call.Write)
+fault_error x s call.MakeFolder = error.FilesystemIo (entries_folder x.cache) (fault.Failed call.MakeFolder)
+fault_error x s call.Remove = error.FilesystemIo (entries_folder x.cache) (fault.Failed call.Remove)
+fault_error x s call.Sum = error.FilesystemIo (entries_folder x.cache) (fault.Failed call.Sum)
+fault_error x s call.Probe = error.FilesystemIo (entries_folder x.cache) (fault.Failed call.Probe)
+fault_error x s call.Check = error.FilesystemIo (entries_folder x.cache) (fault.Failed call.Check)
+fault_error x s call.Capture = error.FilesystemIo (entries_folder x.cache) (fault.Failed call.Capture)
 
 -- the error of a node that failed for that reason; that of an interrupted one is told by the verdict alone
 abbrev pub failure_error : PlanNode → Bool → Shown → Option Reason → Error
@@ -149,7 +184,9 @@ failure_error x message s (Some (reason.Input j m)) = input_error (slice_index_o
 failure_error x message s (Some (reason.Output j)) = error.CacheOutputMissing (name_of x) (slice_index_or (outputs_in x.cache) j [])
 failure_error x message s (Some (reason.Place c m)) = miss_error x s c m
 failure_error x message s (Some (reason.Fault c)) = fault_error x s c
-failure_error x message s _ = error.NoMemory
+failure_error x message s (Some reason.Interrupted) = error.NoMemory
+failure_error x message s (Some reason.NoMemory) = error.NoMemory
+failure_error x message s None = error.NoMemory
 
 -- whether the message of a node's exit code is told
 abbrev pub is_told : List Bool → ℕ → Bool
@@ -169,12 +206,55 @@ is_filled (b ∷ bs) = true
 
 -- whether a text is copied for an error: the name of a recipe, a path of its cache, or another path that isn't empty
 abbrev pub copies_text : Error → Bool
+copies_text (error.Usage u) = false
+copies_text (error.NotBuilt word) = false
+copies_text (error.Config c) = false
+copies_text (error.CurrentDir io) = false
+copies_text (error.Search s) = false
+copies_text (error.Load path io) = false
 copies_text (error.FilesystemIo path io) = is_filled path
-copies_text (error.NotConfirmed recipe) = true
+copies_text error.MissingImportFile = false
+copies_text (error.CircularImport current import) = false
+copies_text (error.MissingModuleFile name) = false
+copies_text (error.AmbiguousModuleFile name found) = false
+copies_text error.Homedir = false
+copies_text (error.Compile c) = false
+copies_text (error.Const path line column) = false
+copies_text (error.UnstableFeature feature) = false
+copies_text error.DotenvRequired = false
+copies_text (error.Dotenv path line) = false
+copies_text error.DotenvArgumentsRequireLists = false
+copies_text (error.DotenvCommand command output_error) = false
+copies_text (error.UnknownOverrides overrides) = false
+copies_text (error.FunctionCall name) = false
+copies_text error.NoRecipes = false
+copies_text error.NoDefaultRecipe = false
+copies_text (error.DefaultRecipeRequiresArguments recipe min_arguments) = false
+copies_text (error.UnknownRecipe recipe) = false
+copies_text (error.UnknownSubmodule path) = false
+copies_text (error.ModuleAbsent name) = false
+copies_text (error.RecipeDisabled recipe modules) = false
+copies_text (error.AliasDisabled alias modules) = false
+copies_text (error.ExpectedSubmoduleButFoundRecipe path) = false
+copies_text (error.UnknownOption recipe switch) = false
+copies_text (error.InvalidOption argument) = false
+copies_text (error.FlagWithValue recipe switch) = false
+copies_text (error.NonFinalOptionWithValue recipe switch) = false
+copies_text (error.OptionMissingValue recipe switch) = false
+copies_text (error.DuplicateOption recipe switch) = false
+copies_text (error.PositionalArgumentCountMismatch recipe path parameters found) = false
+copies_text (error.MissingOption recipe switch) = false
+copies_text (error.ArgumentTooFewValues recipe parameter found min) = false
+copies_text (error.ArgumentTooManyValues recipe parameter found max) = false
+copies_text (error.ArgumentPatternMismatch argument recipe parameter texts) = false
+copies_text (error.EmptyListArgument recipe parameter) = false
+copies_text (error.ExcessInvocations invocations) = false
+copies_text error.ClosureLimit = false
+copies_text (error.InvalidShebang recipe shebang) = false
 copies_text (error.Code recipe line code message) = true
+copies_text (error.GuardCode recipe line code) = true
 copies_text (error.Signal recipe line signal) = true
 copies_text (error.Unknown recipe line) = true
-copies_text (error.GuardCode recipe line code) = true
 copies_text (error.ShellIo recipe shell io) = true
 copies_text (error.Script recipe command io) = true
 copies_text (error.Shebang recipe command argument io) = true
@@ -183,7 +263,13 @@ copies_text (error.CacheInputMissing path) = true
 copies_text (error.CacheInputDirectory path) = true
 copies_text (error.CacheOutputMissing recipe output) = true
 copies_text (error.CacheEntryWrite path io) = true
-copies_text _ = false
+copies_text (error.NotConfirmed recipe) = true
+copies_text (error.GetConfirmation io) = false
+copies_text (error.StdoutIo io) = false
+copies_text (error.InitExists justfile) = false
+copies_text (error.WriteJustfile justfile io) = false
+copies_text (error.Interrupted signal) = false
+copies_text error.NoMemory = false
 
 -- that error; in place of one for which a text is copied memory may be wanting
 abbrev pub IsToldAs : Error → Error → Type 0

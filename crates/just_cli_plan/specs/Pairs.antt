@@ -1,5 +1,5 @@
 -- The dotenv pairs of a project's modules, and what their loading leaves in the host's record and of its world.
-use Rattle.std.specs.Prelude.{ℕ, ◌≡◌, List, [], ◌++◌, Option, Some, None, Result, Ok, Err}
+use Rattle.std.specs.Prelude.{ℕ, ◌≡◌, List, [], ◌++◌, Option, Some, None, Result, Ok, Err, MatchOption}
 use Rattle.just_path_text.specs.declared.environ.Environ.{Environ}
 use Rattle.just_lang_types.specs.declared.project.Justfile.{Justfile}
 use Rattle.just_lang_types.specs.declared.scope.DotenvOf.{DotenvOf}
@@ -7,16 +7,13 @@ use Rattle.just_host_record.specs.declared.entry.Entry.{Entry}
 use Rattle.just_host_record.specs.declared.entry.HostFault.{HostFault}
 use Rattle.just_host_record.specs.Record.{refused}
 use Rattle.just_host_record.specs.World.{World, FaultLeaves}
-use Rattle.just_env.specs.declared.search_error.SearchError.TheVariants as search
 use Rattle.just_env.specs.declared.env_error.EnvError.{EnvError}
-use Rattle.just_env.specs.declared.env_error.OutputError.TheVariants as output
 use Rattle.just_env.specs.DotenvAnswers.{GainsAmong}
 use Rattle.just_env.specs.Captures.{Capture, told_behind}
-use Rattle.just_env.specs.Loads.{LoadsProject}
+use Rattle.just_env.specs.Loads.{LoadsProject, BeginsProject}
 use Rattle.just_exec.specs.Refusals.{error_of_env}
 use Rattle.just_exec.specs.declared.error.Error.{Error}
-use Rattle.just_exec.specs.declared.error.Error.TheVariants as error
-use Rattle.just_cli_plan.specs.Own.{OrMemory, call_in}
+use Rattle.just_cli_plan.specs.Own.{OrMemory, call_at, uncaptured_by}
 use Rattle.just_cli_plan.specs.declared.wanted.Wanted.{Wanted}
 
 -- The modules of a justfile have these dotenv pairs, for which these children were run to their end; or the first of them that is refused is told. Over a host
@@ -24,6 +21,10 @@ use Rattle.just_cli_plan.specs.declared.wanted.Wanted.{Wanted}
 abbrev pub LoadsPairs : Option World → Wanted → Environ → Justfile → List Capture → Result (List DotenvOf) Error → Type 0
 LoadsPairs told wanted environ j cs (Ok pairs) = LoadsProject told wanted.dotenv wanted.flags environ.pairs j cs (Ok pairs)
 LoadsPairs told wanted environ j cs (Err e) = (f : EnvError) × LoadsProject told wanted.dotenv wanted.flags environ.pairs j cs (Err f) × (e ≡ error_of_env f)
+
+-- what children were begun to be run for them, whatever the answer
+abbrev pub BeginsLoading : Option World → Wanted → Environ → Justfile → List Capture → Type 0
+BeginsLoading told wanted environ j cs = BeginsProject told wanted.dotenv wanted.flags environ.pairs j cs
 
 -- ---- what is left
 
@@ -34,9 +35,7 @@ refused_in None = []
 -- The entry of the refused call that an error tells, if it tells one. That of a child that gives dotenv pairs and that of a justfile's temporary folder have
 -- that path, which the error doesn't tell.
 abbrev pub entries_of : List ℕ → Error → List Entry
-entries_of path (error.DotenvCommand command (output.Io io)) = refused path io
-entries_of path (error.Search (search.TempdirIo io)) = refused path io
-entries_of path e = refused_in (call_in e)
+entries_of path e = refused_in (call_at path e)
 
 -- a record gains the entries of children that were run to their end, misses among them, and behind these the entry of the refused call that an error tells
 abbrev pub Gains : {A : Type 0} → List Capture → List Entry → List Entry → Result A Error → Type 0
@@ -45,8 +44,7 @@ Gains cs old new (Err e) = (middle : List Entry) × (path : List ℕ) × GainsAm
 
 -- the world that is told behind a refusal is the one before, but where a child couldn't be run to its end, which may have touched the files
 abbrev pub ErrorLeaves : Option World → Option World → Error → Type 0
-ErrorLeaves old new (error.DotenvCommand command (output.Io io)) = FaultLeaves old new io
-ErrorLeaves old new _ = new ≡ old
+ErrorLeaves old new e = MatchOption (uncaptured_by e) (new ≡ old) (λ io. FaultLeaves old new io)
 
 -- behind an answer the world is told that is behind the last child
 abbrev pub Leaves : {A : Type 0} → Option World → List Capture → Option World → Result A Error → Type 0
@@ -58,6 +56,6 @@ abbrev pub Answers : {A : Type 0} → (Result A Error → Type 0) → Result A E
 Answers P (Ok x) = P (Ok x)
 Answers P (Err e) = OrMemory (λ f. P (Err f)) e
 
--- An answer, with some children that were run to their end for it; and what it leaves in the record and of the world.
-abbrev pub Runs : {A : Type 0} → (List Capture → Result A Error → Type 0) → Option World → Option World → List Entry → List Entry → Result A Error → Type 0
-Runs P told after old new r = (cs : List Capture) × Answers (P cs) r × Gains cs old new r × Leaves told cs after r
+-- An answer, with some children that were run to their end for it, and were begun so; and what it leaves in the record and of the world.
+abbrev pub Runs : {A : Type 0} → (List Capture → Result A Error → Type 0) → (List Capture → Type 0) → Option World → Option World → List Entry → List Entry → Result A Error → Type 0
+Runs P begins told after old new r = (cs : List Capture) × Answers (P cs) r × Gains cs old new r × Leaves told cs after r × begins cs

@@ -1,7 +1,6 @@
 //! The dotenv pairs of a project.
 
-ghost use Rattle.std.specs.Prelude.{◌≡◌};
-ghost use Rattle.just_cli_plan.specs.Pairs.{LoadsPairs, Runs};
+ghost use Rattle.just_cli_plan.specs.Pairs.{LoadsPairs, BeginsLoading, Runs};
 
 use super::Wanted;
 use just_env::load_modules;
@@ -21,9 +20,9 @@ pub fn load_pairs<H: Host>(
     wanted: &Wanted,
 ) -> Result<Seq<DotenvOf>, Error>
     // The pairs are those that the settings of the modules and the words ask for, or the first refusal. The record gains the entries of the children that were
-    // run to their end for them, misses among these, and the entry of the refused call; only these children may touch the files.
-    ensures loaded { Runs (LoadsPairs (H.world host.old) wanted.now environ.now justfile.now) (H.world host.old) (H.world host.new) (H.entries host.old) (H.entries host.new) result }
-    ensures spare { H.spare host.new ≡ H.spare host.old }
+    // run to their end for them, misses among these, and the entry of the refused call; only these children may touch the files. They are those
+    // that the commands of the modules start, in their order, want of memory too.
+    ensures loaded { Runs (LoadsPairs (H.world host.old) wanted.now environ.now justfile.now) (BeginsLoading (H.world host.old) wanted.now environ.now justfile.now) (H.world host.old) (H.world host.new) (H.entries host.old) (H.entries host.new) result }
 {
     match load_modules(
         alloc,

@@ -2,5 +2,5 @@
 use Rattle.just_cli_plan.proofs.Loading.{pairs_refused}
 use Rattle.just_cli_plan.proofs.pairs.load_pairs.Goals as goal
 
-pub returns-in-Err-clause-loaded : goal.returns-in-Err-clause-loaded
-returns-in-Err-clause-loaded g c = pairs_refused _ _ _ _ c.args.wanted.now c.args.environ.now c.args.justfile.now c.in-Err.error _ c.from.ensures c.in-Err.ensures.loaded
+pub returns-in-Err : goal.returns-in-Err
+returns-in-Err g c = pairs_refused _ _ _ _ c.args.wanted.now c.args.environ.now c.args.justfile.now c.in-Err.error _ c.from.ensures c.in-Err.ensures.loaded
