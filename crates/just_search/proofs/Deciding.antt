@@ -1,5 +1,5 @@
 -- What a look in a folder decides, by what is listed.
-use Rattle.std.proofs.Common.{◌≡◌, ◌⊎◌, inl, inr, ℕ, List, [], ◌++◌, Option, Some, refl, ap, sym, ◌∙◌}
+use Rattle.std.proofs.Common.{◌≡◌, ◌⊎◌, inl, inr, ℕ, List, [], ◌++◌, Option, Some, refl, ap, sym, ◌∙◌, subst}
 use Rattle.std.specs.Prelude.{Result, Ok, Err, IfErr}
 use Rattle.std.proofs.lemmas.List.{append-nil}
 use Rattle.just_host_record.specs.declared.entry.Entry.{Entry}
@@ -49,3 +49,9 @@ told_none old r none = told_nothing old old r none (sym (append-nil old))
 pub answers_same : {A : Type 0} (r x : Result A SearchError) → r ≡ x → Answers (λ y. y ≡ x) r
 answers_same (Ok y) x is = is
 answers_same (Err e) x is = inr is
+
+-- one that is answered as another, for which something holds
+pub answers_at : {A : Type 0} (P : Result A SearchError → Type 0) (x r : Result A SearchError) → P x → Answers (λ y. y ≡ x) r → Answers P r
+answers_at P x (Ok y) so is = subst P (sym is) so
+answers_at P x (Err e) so (inl memory) = inl memory
+answers_at P x (Err e) so (inr is) = inr (subst P (sym is) so)

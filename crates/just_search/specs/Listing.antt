@@ -1,6 +1,8 @@
 -- What a host answers where a folder is listed.
 use Rattle.std.specs.Prelude.{ℕ, ◌≡◌, Bool, true, false, List, ◌++◌, map, Option, Result, Ok, Err, MatchOption}
 use Rattle.std.specs.List.{AllByRecursion}
+use Rattle.just_path.specs.declared.host.PathFault.{PathFault}
+use Rattle.just_path.specs.declared.host.PathFault.TheVariants as path_fault
 use Rattle.just_path.specs.declared.meta.Item.{Item}
 use Rattle.just_path.specs.View.{View, folder_told, AreInOrder, AreItemsOf}
 use Rattle.just_host_record.specs.declared.entry.Call.TheVariants as call
@@ -31,6 +33,12 @@ ListFaultFits told path fault.NoMemory = ⊥
 abbrev pub ListsFolder : Option World → List ℕ → Result (List (List ℕ)) SearchError → Type 0
 ListsFolder told path (Ok names) = AreNamesIn told path names
 ListsFolder told path (Err e) = (f : HostFault) × (e ≡ error.FilesystemIo path f) × ListFaultFits told path f
+
+-- the error of a listing that a host refused so
+abbrev pub listing_error : List ℕ → PathFault → SearchError
+listing_error path (path_fault.Missed m) = error.FilesystemIo path (fault.Missed m)
+listing_error path path_fault.Failed = error.FilesystemIo path (fault.Failed call.List)
+listing_error path path_fault.NoMemory = error.NoMemory
 
 -- ---- the record
 

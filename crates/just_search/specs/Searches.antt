@@ -1,5 +1,5 @@
 -- The search for a justfile, and for the one above it, each as a file that can be loaded.
-use Rattle.std.specs.Prelude.{ℕ, ◌≡◌, ◌⊎◌, List, ◌++◌, Option, Some, None, Result, Ok, Err}
+use Rattle.std.specs.Prelude.{ℕ, ◌≡◌, List, ◌++◌, Option, Some, None, Result, Ok, Err}
 use Rattle.just_host_record.specs.declared.entry.Entry.{Entry}
 use Rattle.just_host_record.specs.World.{World}
 use Rattle.just_config.specs.declared.config.Config.{Config}

@@ -7,8 +7,8 @@ ghost use Rattle.just_search.specs.Climb.{folders_above, FindsIn};
 ghost use Rattle.just_search.specs.Finding.{wanted_names, FindsAbove};
 
 use super::SearchError;
-use super::climb::{climb, is_ceiling};
-use super::finding::{as_origin, wanted_names};
+use super::climb::is_ceiling;
+use super::finding::{as_origin, climb_for};
 use super::location::Location;
 use just_config::Config;
 use just_host_record::Host;
@@ -26,16 +26,14 @@ fn climb_above<H: Host>(
     ensures found { Answers (FindsIn (H.world host.old) (wanted_names config.now) (folders_above config.now.ceiling (text_of folder.entry))) result }
     ensures entries { H.entries host.new ≡ H.entries host.old ++ told_entries result }
     ensures world { H.world host.new ≡ H.world host.old }
-    ensures spare { H.spare host.new ≡ H.spare host.old }
 {
-    let names = wanted_names(alloc, config)?;
     let mut folders = folder.ancestors();
     match folders.next() {
         Some(first) => {
             if is_ceiling(&config.ceiling, first) {
                 Err(SearchError::NotFound)
             } else {
-                climb(alloc, host, names.as_slice(), &config.ceiling, folders)
+                climb_for(alloc, host, config, folders)
             }
         }
         None => Err(SearchError::NotFound),
@@ -53,7 +51,6 @@ pub fn find_above<H: Host>(
     ensures found { Answers (FindsAbove (H.world host.old) config.now (text_of folder.entry)) result }
     ensures entries { H.entries host.new ≡ H.entries host.old ++ told_entries result }
     ensures world { H.world host.new ≡ H.world host.old }
-    ensures spare { H.spare host.new ≡ H.spare host.old }
 {
     match climb_above(alloc, host, config, folder) {
         Ok(file) => Ok(as_origin(alloc, file)?),

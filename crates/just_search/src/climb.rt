@@ -76,7 +76,6 @@ fn look_in<H: Host>(
     ensures looks { Answers (λ r. LooksIn (H.world host.old) wanted.now (text_of folder.entry) (answer_of r)) result }
     ensures entries { H.entries host.new ≡ H.entries host.old ++ told_entries result }
     ensures world { H.world host.new ≡ H.world host.old }
-    ensures spare { H.spare host.new ≡ H.spare host.old }
 {
     let names = match names_in(alloc, host, folder) {
         Ok(names) => names,
@@ -98,7 +97,6 @@ pub(crate) fn climb<H: Host>(
     ensures found { Answers (FindsIn (H.world host.old) wanted.now (up_to ceiling.now (ancestors_left folders.entry))) result }
     ensures entries { H.entries host.new ≡ H.entries host.old ++ told_entries result }
     ensures world { H.world host.new ≡ H.world host.old }
-    ensures spare { H.spare host.new ≡ H.spare host.old }
 {
     let mut folders = folders;
     'folders: while let Some(folder) = folders.next() {

@@ -55,7 +55,6 @@ pub fn find_fallback<H: Host>(
     ensures higher { IfOk result (λ o. MatchOption o (Unit {0}) (λ l. length l.working_directory < length (text_of folder.entry))) }
     ensures entries { H.entries host.new ≡ H.entries host.old ++ told_entries result }
     ensures world { H.world host.new ≡ H.world host.old }
-    ensures spare { H.spare host.new ≡ H.spare host.old }
 {
     if !is_search(&config.search_config) {
         return Ok(None);

@@ -46,7 +46,6 @@ fn write_at<H: Host>(host: &mut H, path: Utf8Path<'_>, text: &[u8]) -> Result<()
     ensures refused { IfErr result (IsUnwritten (H.world host.old) (H.world host.new) (text_of path.entry) text.now) }
     ensures own { IsOwn Write result }
     ensures entries { H.entries host.new ≡ H.entries host.old ++ gained (text_of path.entry) (λ _. []) result }
-    ensures spare { H.spare host.new ≡ H.spare host.old }
 {
     match host.write(path, text) {
         Ok(()) => Ok(()),
@@ -65,7 +64,6 @@ fn write_file<H: Host>(
 ) -> Result<Search, SearchError>
     ensures written { WritesFile (H.world host.old) (H.world host.new) folder.now text.now working_directory result }
     ensures entries { H.entries host.new ≡ H.entries host.old ++ told_entries None result }
-    ensures spare { H.spare host.new ≡ H.spare host.old }
 {
     let tempdir = folder.try_clone()?;
     let justfile = folder.as_path().join(alloc, Utf8Path::new("justfile"))?;
@@ -98,7 +96,6 @@ fn write_text<H: Host>(
     working_directory: Utf8PathBuf,
 ) -> Result<Search, SearchError>
     ensures written { MakesFolders (WritesText (H.world host.old) (H.world host.new) (parent_of config.now) text.now working_directory) (parent_of config.now) made.old.items made.new.items (H.entries host.old) (H.entries host.new) result }
-    ensures spare { H.spare host.new ≡ H.spare host.old }
 {
     let parent = parent_of(alloc, config)?;
     made.reserve(1)?;
@@ -129,7 +126,6 @@ fn write_markdown<H: Host>(
     working_directory: Utf8PathBuf,
 ) -> Result<Search, SearchError>
     ensures written { MakesFolders (Materializes (H.world host.old) (H.world host.new) (parent_of config.now) (record { origin = Markdown path; working_directory = working_directory })) (parent_of config.now) made.old.items made.new.items (H.entries host.old) (H.entries host.new) result }
-    ensures spare { H.spare host.new ≡ H.spare host.old }
 {
     match text_of_markdown(alloc, host, path) {
         Ok(text) => write_text(alloc, host, config, made, &text, working_directory),
@@ -147,7 +143,6 @@ fn write_input<H: Host>(
     working_directory: Utf8PathBuf,
 ) -> Result<Search, SearchError>
     ensures written { MakesFolders (Materializes (H.world host.old) (H.world host.new) (parent_of config.now) (record { origin = StandardInput; working_directory = working_directory })) (parent_of config.now) made.old.items made.new.items (H.entries host.old) (H.entries host.new) result }
-    ensures spare { H.spare host.new ≡ H.spare host.old }
 {
     match text_of_input(host) {
         Ok(text) => write_text(alloc, host, config, made, &text, working_directory),
@@ -167,7 +162,6 @@ pub fn materialize<H: Host>(
 ) -> Result<Search, SearchError>
     // The folders that were made are kept, with their entries in the record; behind these is that of the refused call.
     ensures materialized { MakesFolders (Materializes (H.world host.old) (H.world host.new) (parent_of config.now) location) (parent_of config.now) made.old.items made.new.items (H.entries host.old) (H.entries host.new) result }
-    ensures spare { H.spare host.new ≡ H.spare host.old }
 {
     let Location {
         origin,

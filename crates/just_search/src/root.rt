@@ -54,7 +54,6 @@ fn look_for_mark<H: Host>(
     ensures looks { Answers (λ r. LooksForMark (H.world host.old) (text_of folder.entry) (answer_of r)) result }
     ensures entries { H.entries host.new ≡ H.entries host.old ++ told_entries result }
     ensures world { H.world host.new ≡ H.world host.old }
-    ensures spare { H.spare host.new ≡ H.spare host.old }
 {
     match names_in(alloc, host, folder) {
         Ok(names) => if_marked(alloc, folder, names.as_slice()),
@@ -62,8 +61,15 @@ fn look_for_mark<H: Host>(
     }
 }
 
+/// A folder that is taken as the root of its project, since none has such a name.
+fn itself(alloc: Global, folder: Utf8Path<'_>) -> Result<Utf8PathBuf, SearchError>
+    ensures root { Answers (λ r. r ≡ Ok (text_of folder.entry)) result }
+    ensures unheard { IfErr result (λ e. entries_of e ≡ []) }
+{
+    Ok(folder.to_path_buf(alloc)?)
+}
+
 /// The root of the project that a folder is in.
-#[tactic(auto, using(crate::proofs::Climbs::marks_start, crate::proofs::Climbs::marks_over))]
 pub fn root_of<H: Host>(
     alloc: Global,
     host: &mut H,
@@ -73,7 +79,6 @@ pub fn root_of<H: Host>(
     ensures root { Answers (FindsRoot (H.world host.old) ceiling.now (text_of start.entry)) result }
     ensures entries { H.entries host.new ≡ H.entries host.old ++ told_entries result }
     ensures world { H.world host.new ≡ H.world host.old }
-    ensures spare { H.spare host.new ≡ H.spare host.old }
 {
     let mut folders = start.ancestors();
     'folders: while let Some(folder) = folders.next() {
@@ -83,8 +88,8 @@ pub fn root_of<H: Host>(
             Err(error) => return Err(error),
         }
         if is_ceiling(ceiling, folder) {
-            return Ok(start.to_path_buf(alloc)?);
+            return itself(alloc, start);
         }
     }
-    Ok(start.to_path_buf(alloc)?)
+    itself(alloc, start)
 }

@@ -22,7 +22,6 @@ pub fn search<H: Host>(
     host: &mut H,
 ) -> Result<Search, SearchError>
     ensures searched { Searches (H.world host.old) (H.world host.new) config.now made.old.items made.new.items (H.entries host.old) (H.entries host.new) result }
-    ensures spare { H.spare host.new ≡ H.spare host.old }
 {
     match find(alloc, config, host) {
         Ok(location) => materialize(alloc, location, config, made, host),
@@ -44,7 +43,6 @@ pub fn search_parent_directory<H: Host>(
 ) -> Result<Search, SearchError>
     ensures searched { SearchesAbove (H.world host.old) (H.world host.new) config.now found.now.working_directory made.old.items made.new.items (H.entries host.old) (H.entries host.new) result }
     ensures higher { IfOk result (λ s. length s.working_directory < length found.now.working_directory) }
-    ensures spare { H.spare host.new ≡ H.spare host.old }
 {
     let folder = found.working_directory.as_path();
     match find_fallback(alloc, folder, config, host) {

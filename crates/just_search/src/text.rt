@@ -22,7 +22,6 @@ pub(crate) fn text_of_markdown<H: Host>(
     ensures text { Answers (GivesText (H.world host.old) (Markdown path)) result }
     ensures entries { H.entries host.new ≡ H.entries host.old ++ told_entries None result }
     ensures world { H.world host.new ≡ H.world host.old }
-    ensures spare { H.spare host.new ≡ H.spare host.old }
 {
     match host.read(path.as_path()) {
         Ok(markdown) => Ok(Text::from(tangle(alloc, markdown.as_str())?)),
@@ -43,7 +42,6 @@ pub(crate) fn text_of_input<H: Host>(host: &mut H) -> Result<Text, SearchError>
     ensures text { Answers (GivesText (H.world host.old) StandardInput) result }
     ensures entries { H.entries host.new ≡ H.entries host.old ++ told_entries None result }
     ensures world { H.world host.new ≡ H.world host.old }
-    ensures spare { H.spare host.new ≡ H.spare host.old }
 {
     match host.input() {
         Ok(text) => Ok(Text::from(text)),

@@ -33,5 +33,4 @@ folders-preserved g c =
           c.folders.invariant.world c.folders.invariant.along parts (rw c.in-Ok-None.field-0-is at c.in-Ok-None.ensures.looks) (sym c.is_ceiling.ensures ∙ c.if-is_ceiling.false);
       entries = c.in-Ok-None.ensures.entries ∙ append-nil _ ∙ c.folders.invariant.entries;
       world = c.look_in.ensures.world ∙ c.folders.invariant.world;
-      spare = c.look_in.ensures.spare ∙ c.folders.invariant.spare;
     }

@@ -9,5 +9,4 @@ invariant-places g l = record {
   passed : Passed (g.H.Host.world l.fn.host) l.places (drop l.place-index l.places) (g.H.Host.entries l.fn.host) (g.H.Host.entries l.host);
   entries : GainsListings (g.H.Host.entries l.fn.host) (g.H.Host.entries l.host);
   world : g.H.Host.world l.host ≡ g.H.Host.world l.fn.host;
-  spare : g.H.Host.spare l.host ≡ g.H.Host.spare l.fn.host;
 }

@@ -1,9 +1,10 @@
 -- A path that leads to a program, one that doesn't, and a look that failed.
-use Rattle.std.proofs.Common.{rules, ◌≡◌, ◌∙◌}
+use Rattle.std.proofs.Common.{rules, ◌≡◌, refl, ◌∙◌}
 use Rattle.std.specs.Prelude.{IsErrAnd}
-use Rattle.just_env.proofs.Laws.{misses_then}
+use Rattle.just_env.proofs.Laws.{gains_none, misses_then}
 use Rattle.just_search.specs.declared.which_error.WhichError.TheVariants.{NoMemory as OutOfMemory}
-use Rattle.just_search.proofs.Looks.{looks_wanting, program_found, program_refused, program_passed}
+use Rattle.just_search.proofs.Looks.{looks_wanting, program_found, program_refused, program_passed, program_nowhere}
+use Rattle.just_search.proofs.Along.{along_start}
 use Rattle.just_search.proofs.program.first_program.Goals as goal
 
 pub returns-in_err-try_clone-in-Ok-true-clause-entries : goal.returns-in_err-try_clone-in-Ok-true-clause-entries
@@ -24,5 +25,34 @@ paths-preserved g c = record {
   along = program_passed (g.H.Host.world c.args.host.now) (g.H.Host.world c.paths.host) c.args.paths.now c.paths.path-index c.path-item.result c.paths.invariant.world c.paths-test.true c.path-item.is c.paths.invariant.along (rw c.as_path.ensures at rw c.in-Ok-false.field-0-test at c.in-Ok-false.ensures.seen);
   gains = misses_then _ _ _ c.paths.invariant.gains c.in-Ok-false.ensures.entries;
   world = c.sees_program.ensures.world ∙ c.paths.invariant.world;
-  spare = c.sees_program.ensures.spare ∙ c.paths.invariant.spare;
 }
+
+pub paths-init : goal.paths-init
+paths-init g c = record {
+  along = along_start _ c.args.paths.now;
+  gains = gains_none (g.H.Host.entries c.args.host.now);
+  world = refl;
+}
+
+pub returns-in-Ok-true-clause-entries : goal.returns-in-Ok-true-clause-entries
+returns-in-Ok-true-clause-entries g c = misses_then _ _ _ c.paths.invariant.gains c.in-Ok-true.ensures.entries
+
+pub returns-in-Err-clause-entries : goal.returns-in-Err-clause-entries
+returns-in-Err-clause-entries g c =
+    let h = c.in-Err.ensures.entries in
+    (h.0, misses_then _ _ _ c.paths.invariant.gains h.1, h.2)
+
+pub returns-clause-located : goal.returns-clause-located
+returns-clause-located g c = program_nowhere (g.H.Host.world c.args.host.now) c.args.paths.now c.paths.path-index c.paths-test.false c.paths.invariant.along
+
+pub returns-clause-entries : goal.returns-clause-entries
+returns-clause-entries g c = c.paths.invariant.gains
+
+pub returns-in_err-try_clone-in-Ok-true-clause-world : goal.returns-in_err-try_clone-in-Ok-true-clause-world
+returns-in_err-try_clone-in-Ok-true-clause-world g c = c.sees_program.ensures.world ∙ c.paths.invariant.world
+
+pub returns-in-Ok-true-clause-world : goal.returns-in-Ok-true-clause-world
+returns-in-Ok-true-clause-world g c = c.sees_program.ensures.world ∙ c.paths.invariant.world
+
+pub returns-in-Err-clause-world : goal.returns-in-Err-clause-world
+returns-in-Err-clause-world g c = c.sees_program.ensures.world ∙ c.paths.invariant.world

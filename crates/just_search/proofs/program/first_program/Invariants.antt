@@ -10,5 +10,4 @@ invariant-paths g l = record {
   along : Along (LooksAtProgram (g.H.Host.world l.fn.host)) l.paths (drop l.path-index l.paths);
   gains : GainsMisses (g.H.Host.entries l.fn.host) (g.H.Host.entries l.host);
   world : g.H.Host.world l.host ≡ g.H.Host.world l.fn.host;
-  spare : g.H.Host.spare l.host ≡ g.H.Host.spare l.fn.host;
 }

@@ -12,7 +12,6 @@ invariant-folders g l = record {
   along : Along (LooksForMark (g.H.Host.world l.fn.host)) (folders_from l.ceiling (text_of l.start)) (up_to l.ceiling (ancestors_left l.folders));
   entries : g.H.Host.entries l.host ≡ g.H.Host.entries l.fn.host;
   world : g.H.Host.world l.host ≡ g.H.Host.world l.fn.host;
-  spare : g.H.Host.spare l.host ≡ g.H.Host.spare l.fn.host;
 }
 
 abbrev pub decreases-folders : goal.decreases-folders

@@ -1,5 +1,4 @@
 -- The place above is taken, isn't there, or can't be told.
-use Rattle.std.proofs.Common.{◌≡◌}
 use Rattle.just_path.specs.Path.{text_of}
 use Rattle.just_search.proofs.Steps.{is_above, is_nowhere, is_refused, is_higher}
 use Rattle.just_search.proofs.searches.search_parent_directory.Goals as goal
