@@ -5,7 +5,8 @@ use just_config_words::{Arguments, Read, Subcommand, Usage, UsageKind};
 use just_path_text::{Seq, Text};
 use std::alloc::Global;
 
-/// What is read of words, as a text. It promises nothing beyond safety.
+/// What is read of words, as a text. The call of `drop` stands in place of a walk through all fields of the arguments at the
+/// scope's end. It promises nothing beyond safety.
 pub(crate) fn read_shown(alloc: Global, answer: Result<Read, Usage>) -> Shown {
     let mut shown = Shown::new(alloc);
     match &answer {
@@ -14,6 +15,7 @@ pub(crate) fn read_shown(alloc: Global, answer: Result<Read, Usage>) -> Shown {
         Ok(Read::Go(arguments)) => add_arguments(alloc, &mut shown, arguments),
         Err(usage) => add_usage(&mut shown, usage),
     }
+    drop(answer);
     shown
 }
 
