@@ -1,5 +1,5 @@
 -- What temporary folders make of a told world, as they are made and as they are removed.
-use Rattle.std.proofs.Common.{◌≡◌, ◌++◌, ◌||◌, ◌⊎◌, inl, inr, ℕ, Bool, true, false, true≢false, cond, List, [], ◌∷◌, Contains, Option, Some, None, Result, Ok, Err, MatchOption, refl, sym, ◌∙◌, ap, subst, append_assoc, append-nil, arith}
+use Rattle.std.proofs.Common.{◌≡◌, ◌++◌, ◌||◌, inl, inr, ℕ, Bool, true, false, true≢false, cond, List, [], ◌∷◌, Contains, Option, Some, None, Result, Ok, Err, MatchOption, refl, sym, ◌∙◌, ap, subst, append_assoc, append-nil, arith}
 use Rattle.std.specs.List.{list_any}
 use Rattle.std.specs.Prelude.{codes}
 use Rattle.std.specs.Str.{bytes_eq}
@@ -10,23 +10,24 @@ use Rattle.std.proofs.lemmas.Slice.Eq.{bytes_eq-Decides}
 use Rattle.std.proofs.lemmas.List.Elements.{Contains-append_left, Contains-append_right}
 use Rattle.std.proofs.lemmas.List.Folds.{list_any-append}
 use Rattle.just_path.specs.declared.host.Miss.{Miss}
-use Rattle.just_host_record.specs.declared.entry.Call.TheVariants as call
 use Rattle.just_host_record.specs.declared.entry.Entry.{Entry}
 use Rattle.just_host_record.specs.declared.entry.Entry.TheVariants as entry
 use Rattle.just_host_record.specs.declared.entry.HostFault.{HostFault}
 use Rattle.just_host_record.specs.declared.entry.HostFault.TheVariants as fault
+use Rattle.just_host_record.specs.declared.tree.Thing.{Thing}
 use Rattle.just_host_record.specs.declared.tree.Thing.TheVariants as thing
-use Rattle.just_host_record.specs.Changes.{with_tree, DiffersAt}
+use Rattle.just_host_record.specs.Changes.{with_tree, place_written, runs, written, DiffersAt}
 use Rattle.just_host_record.specs.Folders.{Removes as RemovesPath}
-use Rattle.just_host_record.specs.Record.{refused, gained, IsOwnFault, is_failed}
+use Rattle.just_host_record.specs.Record.{refused, gained, is_failed}
 use Rattle.just_host_record.specs.Sights.{Tree}
 use Rattle.just_host_record.specs.World.{World}
-use Rattle.just_host_record.proofs.Writing.{put_elsewhere, written_elsewhere}
+use Rattle.just_host_record.proofs.Writing.{put_elsewhere, put_there, written_elsewhere, written_there}
 use Rattle.just_sched_history.specs.declared.plan_node.PlanNode.{PlanNode}
 use Rattle.just_sched_history.specs.Touched.{IsTouched}
 use Rattle.just_search.specs.Files.{Makes, Writes, file_in}
 use Rattle.just_search.specs.Removals.{IsWithin, IsAnswered, IsTried, Clears, RemovesFolder, RemovesAll, RemovesSome}
-use Rattle.just_cli.specs.Altered.{LeadsTo, IsLedTo, Alters, IsAltered, EndsAsItWas, StaysAsItWas}
+use Rattle.just_search.proofs.Placing.{apart_texts}
+use Rattle.just_cli.specs.Altered.{LeadsTo, IsLedTo, PutsNoLink, Alters, IsAltered, EndsAsItWas, StaysAsItWas}
 use Rattle.just_cli.specs.Record.{Removes, AreRefusals, EndsBehind}
 
 -- ---- worlds that are led to
@@ -38,7 +39,7 @@ altered_same folders nodes (Some w) after is = subst (λ o. MatchOption o ⊥ (�
 
 alters_then : (folders : List (List ℕ)) (nodes : List PlanNode) (w u v : World) → Alters folders nodes w u → Alters folders nodes u v → Alters folders nodes w v
 alters_then folders nodes w u v a Alters.same = a
-alters_then folders nodes w u v a (Alters.within x y b d) = Alters.within x v (alters_then folders nodes w u x a b) d
+alters_then folders nodes w u v a (Alters.within x y b d free) = Alters.within x v (alters_then folders nodes w u x a b) d free
 alters_then folders nodes w u v a (Alters.cached x y b t) = Alters.cached x v (alters_then folders nodes w u x a b) t
 
 pub altered_then : (folders : List (List ℕ)) (nodes : List PlanNode) (a b c : Option World) → IsAltered folders nodes a b → IsAltered folders nodes b c → IsAltered folders nodes a c
@@ -63,13 +64,48 @@ module _ (some all : List (List ℕ)) (among : (folder : List ℕ) → Contains 
 
   alters_more : (w v : World) → Alters some nodes w v → Alters all nodes w v
   alters_more w v Alters.same = Alters.same
-  alters_more w v (Alters.within u y a d) = Alters.within u v (alters_more w u a) (differs_more u v d)
+  alters_more w v (Alters.within u y a d free) = Alters.within u v (alters_more w u a) (differs_more u v d) free
   alters_more w v (Alters.cached u y a t) = Alters.cached u v (alters_more w u a) t
 
   pub altered_more : (told after : Option World) → IsAltered some nodes told after → IsAltered all nodes told after
   altered_more None after a = a
   altered_more (Some w) None a = absurd a
   altered_more (Some w) (Some v) a = alters_more w v a
+
+-- ---- no link is put
+
+-- a thing that is put and is no link
+link_put : (tree : Tree) (place q target : List ℕ) (t : Thing) → (◌≡◌ {A = Option Thing} (Some t) (Some (thing.Link target)) → ⊥) → (b : Bool) → bytes_eq q place ≡ b → get (insert tree place t) q ≡ Some (thing.Link target) → get tree q ≡ Some (thing.Link target)
+link_put tree place q target t other true e is =
+    absurd (other (sym (put_there tree place t) ∙ (ap (λ k. get (insert tree place t) k) (sym ((bytes_eq-Decides q place).0 e)) ∙ is)))
+link_put tree place q target t other false e is = sym (put_elsewhere tree place q t (λ same. true≢false (sym ((bytes_eq-Decides q place).1 same) ∙ e))) ∙ is
+
+folder_no_link : (tree : Tree) (place : List ℕ) → PutsNoLink tree (insert tree place thing.Folder)
+folder_no_link tree place q target is = link_put tree place q target thing.Folder (λ same. let no : ⊥ = cc in no) (bytes_eq q place) refl is
+
+-- a file that is written
+written_link : (w : World) (path text place : List ℕ) (tree : Tree) → written w path text ≡ Ok tree → (may : Bool) → place_written w path ≡ Ok place → get tree place ≡ Some (thing.File text may)
+    → (q target : List ℕ) (b : Bool) → bytes_eq q place ≡ b → get tree q ≡ Some (thing.Link target) → get w.tree q ≡ Some (thing.Link target)
+written_link w path text place tree new may at there q target true e is =
+    let never : ◌≡◌ {A = Option Thing} (Some (thing.File text may)) (Some (thing.Link target)) = sym there ∙ (ap (λ k. get tree k) (sym ((bytes_eq-Decides q place).0 e)) ∙ is) in
+    absurd (let no : ⊥ = cc in no)
+written_link w path text place tree new may at there q target false e is =
+    sym (written_elsewhere w path text tree new q (λ to. let same : q ≡ place = cc in true≢false (sym ((bytes_eq-Decides q place).1 same) ∙ e))) ∙ is
+
+written_no_link : (w : World) (path text : List ℕ) (tree : Tree) → written w path text ≡ Ok tree → PutsNoLink w.tree tree
+written_no_link w path text tree new q target is =
+    let t = written_there w path text tree new in
+    written_link w path text t.0 tree new (runs (get w.tree t.0)) t.1 t.2 q target (bytes_eq q t.0) refl is
+
+-- what is removed
+link_removed : (tree : Tree) (place q target : List ℕ) (b : Bool) → bytes_eq q place ≡ b → get (remove tree place) q ≡ Some (thing.Link target) → get tree q ≡ Some (thing.Link target)
+link_removed tree place q target true e is =
+    let never : ◌≡◌ {A = Option Thing} None (Some (thing.Link target)) = sym (get-remove nat_list_cmp_total tree place q ∙ ap (λ b. cond b None (get tree q)) (is_eq-slice_cmp q place ∙ e)) ∙ is in
+    absurd (let no : ⊥ = cc in no)
+link_removed tree place q target false e is = sym (get-remove nat_list_cmp_total tree place q ∙ ap (λ b. cond b None (get tree q)) (is_eq-slice_cmp q place ∙ e)) ∙ is
+
+removed_no_link : (tree : Tree) (place : List ℕ) → PutsNoLink tree (remove tree place)
+removed_no_link tree place q target is = link_removed tree place q target (bytes_eq q place) refl is
 
 -- ---- a folder and its file
 
@@ -82,7 +118,8 @@ altered_made nodes None after parent folder is = is
 altered_made nodes (Some w) after parent folder makes =
     subst (λ o. MatchOption o ⊥ (λ v. Alters (folder ∷ []) nodes w v)) (sym makes.1)
     (Alters.within w (with_tree w (insert w.tree folder thing.Folder)) Alters.same
-    (record { tree = λ q apart. put_elsewhere w.tree folder q thing.Folder (λ same. apart (folder, folder, has_first folder [], IsWithin.itself, LeadsTo.made same)); current = refl; environ = refl; input = refl }))
+    (record { tree = λ q apart. put_elsewhere w.tree folder q thing.Folder (λ same. apart (folder, folder, has_first folder [], IsWithin.itself, LeadsTo.made same)); current = refl; environ = refl; input = refl })
+    (folder_no_link w.tree folder))
 
 -- none was made
 pub unmade : (told after : Option World) (parent : Option (List ℕ)) (io : HostFault) → Makes told after parent (Err io) → after ≡ told
@@ -97,7 +134,8 @@ altered_written nodes None after folder text is = is
 altered_written nodes (Some w) after folder text (tree, is, new) =
     subst (λ o. MatchOption o ⊥ (λ v. Alters (folder ∷ []) nodes w v)) (sym new)
     (Alters.within w (with_tree w tree) Alters.same
-    (record { tree = λ q apart. written_elsewhere w (file_in folder) text tree is q (λ to. apart (folder, file_in folder, has_first folder [], IsWithin.item folder (codes "justfile") IsWithin.itself refl, LeadsTo.written to)); current = refl; environ = refl; input = refl }))
+    (record { tree = λ q apart. written_elsewhere w (file_in folder) text tree is q (λ to. apart (folder, file_in folder, has_first folder [], IsWithin.item folder (codes "justfile") IsWithin.itself refl, LeadsTo.written to)); current = refl; environ = refl; input = refl })
+    (written_no_link w (file_in folder) text tree is))
 
 -- none was, since it missed
 pub unwritten_same : (told after : Option World) (folder text : List ℕ) (m : Miss) → Writes told after folder text (Err (fault.Missed m)) → after ≡ told
@@ -147,11 +185,6 @@ cleared_listing folders told old path (fault.Missed m) = (entry.Missed path m �
 cleared_listing folders told old path (fault.Failed c) = (entry.Failed c ∷ [], refl, (refl, tt), λ nodes quiet. altered_same folders nodes told told refl)
 cleared_listing folders told old path fault.NoMemory = ([], refl, tt, λ nodes quiet. altered_same folders nodes told told refl)
 
--- texts that aren't equal don't compare equal
-apart_texts : (q place : List ℕ) (b : Bool) → bytes_eq q place ≡ b → (q ≡ place → ⊥) → b ≡ false
-apart_texts q place true e apart = absurd (apart ((bytes_eq-Decides q place).0 e))
-apart_texts q place false e apart = refl
-
 -- where nothing was removed, there stands what stood there
 removed_elsewhere : (tree : Tree) (place q : List ℕ) → (q ≡ place → ⊥) → get (remove tree place) q ≡ get tree q
 removed_elsewhere tree place q apart =
@@ -167,7 +200,8 @@ module _ (folders : List (List ℕ)) (folder path : List ℕ) (has : Contains fo
   altered_removed nodes (Some w) after x (place, at, holds, is) =
       subst (λ o. MatchOption o ⊥ (λ v. Alters folders nodes w v)) (sym is)
       (Alters.within w (with_tree w (remove w.tree place)) Alters.same
-      (record { tree = λ q apart. removed_elsewhere w.tree place q (λ same. apart (folder, path, has, within, LeadsTo.removed (at ∙ ap (λ p. Ok p) (sym same)))); current = refl; environ = refl; input = refl }))
+      (record { tree = λ q apart. removed_elsewhere w.tree place q (λ same. apart (folder, path, has, within, LeadsTo.removed (at ∙ ap (λ p. Ok p) (sym same)))); current = refl; environ = refl; input = refl })
+      (removed_no_link w.tree place))
 
   cleared_by : (told after : Option World) (old new : List Entry) (r : Result (Unit {0}) HostFault) → IsAnswered r → RemovesPath told after path r → new ≡ old ++ gained path (λ _. []) r → Clearing folders told old after new
   cleared_by told after old new (Ok x) answered removes leaves = ([], leaves, tt, λ nodes quiet. altered_removed nodes told after x removes)
@@ -205,7 +239,7 @@ cleared_some told after old new folders s =
     (cleared_within (s.first ++ s.next ∷ s.others) s.next (Contains-append_right s.first (s.next ∷ s.others) s.next (has_first s.next s.others)) s.between s.middle after new s.cleared))
 
 pub clearing : (folders : List (List ℕ)) (told after : Option World) (old new : List Entry) → Removes folders told old after new → Clearing folders told old after new
-clearing folders told after old new (inl all) = cleared_all folders told old folders after new all (λ f has. has)
+clearing folders told after old new (inl all) = cleared_all folders told old folders after new all.0 (λ f has. has)
 clearing folders told after old new (inr some) = cleared_some told after old new folders some
 
 -- ---- where no folder was made, none is removed
@@ -219,7 +253,7 @@ kept_all told old folders after new RemovesAll.none is = (refl, refl)
 kept_all told old folders after new (RemovesAll.another first folder between now middle more before removes) is = absurd (some_left first [] folder is)
 
 pub removes_none : (folders : List (List ℕ)) (told after : Option World) (old new : List Entry) → folders ≡ [] → Removes folders told old after new → (after ≡ told) × (new ≡ old)
-removes_none folders told after old new is (inl all) = kept_all told old folders after new all is
+removes_none folders told after old new is (inl all) = kept_all told old folders after new all.0 is
 removes_none folders told after old new is (inr s) = absurd (some_left s.first s.others s.next (sym s.all ∙ is))
 
 -- ---- behind the book

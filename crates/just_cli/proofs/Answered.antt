@@ -41,7 +41,7 @@ module _ (jobs : Option ℕ) (messages : List Bool) (words : List (List ℕ)) (w
 
   beside : (q : Outline) (e : Error) → Asks words (Some w) own_listings acts own_after (Ok q) → RefusedFor words (Some w) listings acts after e → IsBeside words (Some w) listings acts after e
   beside q e asks (inl refuses) = beside_run q e asks refuses (beside_or_own e (is_fault e) (is_too_big e) (is_uncaptured e) refl refl refl refuses)
-  beside q e asks (inr is) = no_memory is
+  beside q e asks (inr is) = no_memory is.0
 
   -- a request that is a refusal is refused by its own error, or beside itself
   own_or_beside : (e f : Error) → Asks words (Some w) own_listings acts own_after (Err e) → IsOwn {A = Outline} (Err e) → Asks words (Some w) listings acts after (Err f) → IsBeside words (Some w) listings acts after f ⊎ IsOwn {A = Outline} (Err f) → (f ≡ e) ⊎ IsBeside words (Some w) listings acts after f
@@ -50,7 +50,7 @@ module _ (jobs : Option ℕ) (messages : List Bool) (words : List (List ℕ)) (w
 
   own_error : (e f : Error) → Asks words (Some w) own_listings acts own_after (Err e) → IsOwn {A = Outline} (Err e) → RefusedFor words (Some w) listings acts after f → (f ≡ e) ⊎ IsBeside words (Some w) listings acts after f
   own_error e f asks own (inl refuses) = own_or_beside e f asks own refuses (beside_or_own f (is_fault f) (is_too_big f) (is_uncaptured f) refl refl refl refuses)
-  own_error e f asks own (inr is) = inr (no_memory is)
+  own_error e f asks own (inr is) = inr (no_memory is.0)
 
   granted : (q : Outline) (plan : Option Plan) (e : Error) → Asks words (Some w) own_listings acts own_after (Ok q) → MatchOption plan (Unit {0}) (λ p. IsAsked words (Some w) listings acts after p jobs messages) → (plan ≡ None → ∥ RefusedFor words (Some w) listings acts after e ∥₁)
       → MatchOption plan (∥ IsBeside words (Some w) listings acts after e ∥₁) (λ p. ∥ outline_of p jobs messages ≡ q ∥₁)

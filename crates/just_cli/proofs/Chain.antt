@@ -1,7 +1,7 @@
 -- The chain of a request over a host, from what its calls answered.
-use Rattle.std.proofs.Common.{◌≡◌, ◌++◌, ◌∙◌, inl, inr, ℕ, Bool, true, false, true≢false, List, [], ◌∷◌, map, Option, Result, Ok, Err, IfOk, IfErr, refl, sym, ap, subst, append_assoc, append-nil}
+use Rattle.std.proofs.Common.{◌≡◌, ◌++◌, ◌∙◌, inl, inr, ℕ, Bool, true, false, true≢false, List, [], ◌∷◌, map, Option, Some, None, MatchOption, Result, Ok, Err, refl, sym, ap, subst, append_assoc, append-nil}
 use Rattle.just_path_text.specs.declared.environ.Environ.{Environ}
-use Rattle.just_host_record.specs.World.{World}
+use Rattle.just_host_record.specs.World.{World, Touched, FaultLeaves}
 use Rattle.just_host_record.specs.declared.entry.Entry.{Entry}
 use Rattle.just_lang_types.specs.declared.source.Source.{Source}
 use Rattle.just_env.specs.declared.search_error.SearchError.{SearchError}
@@ -14,28 +14,31 @@ use Rattle.just_search.specs.declared.location.Location.{Location}
 use Rattle.just_exec.specs.Refusals.{error_of_search}
 use Rattle.just_exec.specs.declared.error.Error.{Error}
 use Rattle.just_cli_plan.specs.declared.wanted.Wanted.{Wanted}
-use Rattle.just_cli_plan.specs.Own.{OrMemory}
+use Rattle.just_cli_plan.specs.Own.{OrMemory, uncaptured_by}
+use Rattle.just_cli_plan.proofs.Listed.{modules_listed}
 use Rattle.just_lang_types.specs.declared.project.Justfile.{Justfile}
 use Rattle.just_lang_types.specs.declared.scope.DotenvOf.{DotenvOf}
 use Rattle.just_lang_types.specs.Modules.{AreModules, settings_of}
 use Rattle.std.specs.List.{list_any}
 use Rattle.just_host_record.specs.Record.{is_failed}
+use Rattle.just_host_record.specs.declared.entry.HostFault.{HostFault}
 use Rattle.just_host_record.specs.declared.entry.HostFault.TheVariants as fault
 use Rattle.just_env.specs.declared.env_error.OutputError.TheVariants as output
 use Rattle.just_env.specs.Captures.{Capture, told_behind, AreAmongMisses}
+use Rattle.just_env.proofs.Running.{untouched}
 use Rattle.just_exec.specs.declared.error.Error.TheVariants as error
-use Rattle.just_cli_plan.specs.Pairs.{LoadsPairs, Runs, Leaves, ErrorLeaves, entries_of as entries_in}
+use Rattle.just_cli_plan.specs.Pairs.{LoadsPairs, BeginsLoading, Runs, Leaves, ErrorLeaves, entries_of as entries_in}
 use Rattle.just_cli.specs.Faults.{entries_of}
 use Rattle.just_cli_plan.specs.Request.{SourcesRequest, ProjectRequest, LoadedRequest, Outline, FindsProject, PlansProject}
 use Rattle.just_cli.specs.NewPath.{is_init}
-use Rattle.just_cli.specs.Acts.{Act, AreActs, folders_in, captures_in, Behind}
+use Rattle.just_cli.specs.Acts.{Act, AreActs, folders_in, captures_in, Behind, BeginsBehind}
 use Rattle.just_cli.specs.Preparing.{AreMisses, EndsWith, Answers, Performs}
-use Rattle.just_cli.specs.Taken.{TakesWanted, PlansIt, PerformsPlan}
-use Rattle.just_cli.specs.Request.{FindsProjectOf, AnswersAt, Tries, Searches, Decides, Serves, EnvironGiven, FolderGiven, Asks, AsksGlobal}
+use Rattle.just_cli.specs.Taken.{TakesWanted, PlansIt, BeginsIt, PerformsPlan}
+use Rattle.just_cli.specs.Request.{FindsProjectOf, AnswersAt, Tries, Searches, Decides, Serves, EnvironGiven, FolderGiven, Asks, AsksGlobal, BeginsAt, BeginsTries, BeginsServes, Begins as BeginsWords}
 use Rattle.just_cli.proofs.Altering.{altered_same, quiet_rest}
-use Rattle.just_cli.proofs.Prepared.{left_nothing, performs_as, performs_lost, performs_looking, performs_then, performs_refusal, performs_behind}
+use Rattle.just_cli.proofs.Prepared.{left_nothing, performs_as, performs_lost, performs_looking, performs_then, performs_behind}
 use Rattle.just_cli_plan.specs.Steps.{stops, goes_on}
-use Rattle.just_cli.specs.Words.{WordsRequest, ArgumentsRequest, FolderRequest, ConfigRequest, LocatedRequest, JustfileRequest, ReadsWords, Configures, FindsLocation}
+use Rattle.just_cli.specs.Words.{WordsRequest, ArgumentsRequest, FolderRequest, ConfigRequest, LocatedRequest, JustfileRequest, ReadsWords, Configures, FindsLocation, BeginsIn}
 
 -- ---- what is known
 
@@ -114,19 +117,36 @@ error_still old new path (error.DotenvCommand command (output.Io (fault.Failed c
 error_still old new path (error.DotenvCommand command (output.Io fault.NoMemory)) left quiet = left
 error_still old new path _ left quiet = left
 
+-- a world that stays is touched at most, and so is one behind a refusal
+touched_same : (old new : Option World) → new ≡ old → Touched old new
+touched_same old new is = subst (λ w. Touched old w) (sym is) (untouched old)
+
+leaves_touched : (old new : Option World) (o : Option HostFault) → MatchOption o (new ≡ old) (λ io. FaultLeaves old new io) → Touched old new
+leaves_touched old new None left = touched_same old new left
+leaves_touched old new (Some (fault.Missed m)) left = touched_same old new left
+leaves_touched old new (Some (fault.Failed c)) left = left
+leaves_touched old new (Some fault.NoMemory) left = touched_same old new left
+
+error_touched : (old new : Option World) (e : Error) → ErrorLeaves old new e → Touched old new
+error_touched old new e left = leaves_touched old new (uncaptured_by e) left
+
 module _ (told after : Option World) (old new : List Entry) (wanted : Wanted) (environ : Environ) (j : Justfile) where
+  abbrev Begins : List Act → Option World → Type 0
+  Begins acts world = BeginsIt wanted environ j told acts world
+
   -- the pairs, as a part of a preparation
   abbrev LoadsIt : List Act → Option World → Result (List DotenvOf) Error → Type 0
   LoadsIt acts world r = (cs : List Capture) × (acts ≡ map Act.captured cs) × LoadsPairs told wanted environ j cs r × Leaves told cs world r
 
-  pairs_part : (pairs : List DotenvOf) → Runs (LoadsPairs told wanted environ j) told after old new (Ok pairs) → Performs LoadsIt told after [] [] old new (Ok pairs)
-  pairs_part pairs (cs, loads, (es, are, grew), left) = record {
+  pairs_part : (pairs : List DotenvOf) → Runs (LoadsPairs told wanted environ j) (BeginsLoading told wanted environ j) told after old new (Ok pairs) → Performs LoadsIt Begins told after [] [] old new (Ok pairs)
+  pairs_part pairs (cs, loads, (es, are, grew), left, begun) = record {
     acts = map Act.captured cs;
     entries = es;
     grew = grew;
     leaves = (es, children_acts cs es are, refl);
     folders = sym (no_folders cs);
     answers = (cs, refl, loads, left);
+    begun = λ modules. (cs, refl, touched_same (told_behind told cs) after left, begun);
     still = λ none quiet. left ∙ ap (λ (l : List Capture). told_behind told l) (no_captures cs none);
     alters = λ nodes alone quiet. altered_same (folders_in (map Act.captured cs)) nodes told after (left ∙ ap (λ (l : List Capture). told_behind told l) (sym (all_captured cs) ∙ alone));
   }
@@ -135,14 +155,15 @@ module _ (told after : Option World) (old new : List Entry) (wanted : Wanted) (e
   or_pairs cs e (inl wants) left = inl wants
   or_pairs cs e (inr loads) left = inr (cs, refl, loads, left)
 
-  pairs_lost : (e : Error) → Runs {A = List DotenvOf} (LoadsPairs told wanted environ j) told after old new (Err e) → Performs LoadsIt told after [] [] old new (Err e)
-  pairs_lost e (cs, why, (middle, path, (es, are, grew), more), left) = record {
+  pairs_lost : (e : Error) → Runs {A = List DotenvOf} (LoadsPairs told wanted environ j) (BeginsLoading told wanted environ j) told after old new (Err e) → Performs LoadsIt Begins told after [] [] old new (Err e)
+  pairs_lost e (cs, why, (middle, path, (es, are, grew), more), left, begun) = record {
     acts = map Act.captured cs;
     entries = es ++ entries_in path e;
     grew = more ∙ (ap (λ l. l ++ entries_in path e) grew ∙ append_assoc old es (entries_in path e));
     leaves = (es, path, children_acts cs es are, refl);
     folders = sym (no_folders cs);
     answers = or_pairs cs e why left;
+    begun = λ modules. (cs, refl, error_touched (told_behind told cs) after e left, begun);
     still = λ none quiet. error_still (told_behind told cs) after path e left (quiet_rest is_failed es (entries_in path e) quiet) ∙ ap (λ (l : List Capture). told_behind told l) (no_captures cs none);
     alters = λ nodes alone quiet.
         altered_same (folders_in (map Act.captured cs)) nodes told after
@@ -155,8 +176,8 @@ module _ (told after : Option World) (old new : List Entry) (wanted : Wanted) (e
     lost_so acts e (inl wants) = inl wants
     lost_so acts e (inr (cs, is, loads, left)) = inr (modules, are, Behind.refused e (cs, is, loads, left) refl)
 
-    pub no_pairs : (e : Error) → Runs {A = List DotenvOf} (LoadsPairs told wanted environ j) told after old new (Err e) → PerformsPlan wanted environ j told after old new (Err e)
-    no_pairs e runs = performs_lost LoadsIt (PlansIt wanted environ j told) told after [] [] old new e (pairs_lost e runs) (λ acts why. lost_so acts e why)
+    pub no_pairs : (e : Error) → Runs {A = List DotenvOf} (LoadsPairs told wanted environ j) (BeginsLoading told wanted environ j) told after old new (Err e) → PerformsPlan wanted environ j told after old new (Err e)
+    no_pairs e runs = performs_lost LoadsIt (PlansIt wanted environ j told) Begins Begins told after [] [] old new e (pairs_lost e runs) (λ acts why. lost_so acts e why) (λ acts b. b)
 
     module _ (pairs seen : List DotenvOf) (same : seen ≡ pairs) where
       behind_pairs : (acts : List Act) (r : Result Outline Error) → LoadsIt acts after (Ok pairs) → PlansProject (loaded_in wanted environ j modules seen) r → PlansIt wanted environ j told acts after r
@@ -167,17 +188,13 @@ module _ (told after : Option World) (old new : List Entry) (wanted : Wanted) (e
       or_behind acts e loads (inl wants) = inl wants
       or_behind acts e loads (inr plans) = inr (behind_pairs acts (Err e) loads (plans modules are))
 
-      pub loaded_plan : (o : Outline) → Runs (LoadsPairs told wanted environ j) told after old new (Ok pairs) → ((ms : List Justfile) → AreModules (j ∷ []) ms → PlansProject (loaded_in wanted environ j ms seen) (Ok o)) → PerformsPlan wanted environ j told after old new (Ok o)
-      loaded_plan o runs plans = performs_as LoadsIt (PlansIt wanted environ j told) told after [] [] old new pairs o (pairs_part pairs runs) (λ acts loads. behind_pairs acts (Ok o) loads (plans modules are))
+      pub loaded_plan : (o : Outline) → Runs (LoadsPairs told wanted environ j) (BeginsLoading told wanted environ j) told after old new (Ok pairs) → ((ms : List Justfile) → AreModules (j ∷ []) ms → PlansProject (loaded_in wanted environ j ms seen) (Ok o)) → PerformsPlan wanted environ j told after old new (Ok o)
+      loaded_plan o runs plans = performs_as LoadsIt (PlansIt wanted environ j told) Begins Begins told after [] [] old new pairs o (pairs_part pairs runs) (λ acts loads. behind_pairs acts (Ok o) loads (plans modules are)) (λ acts b. b)
 
-      pub loaded_refused : (e : Error) → entries_of e ≡ [] → Runs (LoadsPairs told wanted environ j) told after old new (Ok pairs) → OrMemory (λ x. (ms : List Justfile) → AreModules (j ∷ []) ms → PlansProject (loaded_in wanted environ j ms seen) (Err x)) e
+      pub loaded_refused : (e : Error) → entries_of e ≡ [] → Runs (LoadsPairs told wanted environ j) (BeginsLoading told wanted environ j) told after old new (Ok pairs) → OrMemory (λ x. (ms : List Justfile) → AreModules (j ∷ []) ms → PlansProject (loaded_in wanted environ j ms seen) (Err x)) e
           → PerformsPlan wanted environ j told after old new (Err e)
       loaded_refused e silent runs why =
-          performs_looking LoadsIt (PlansIt wanted environ j told) told after after [] [] old new new pairs (Err e) (pairs_part pairs runs) refl (left_nothing new e silent) (λ acts loads. or_behind acts e loads why)
-
--- memory is wanting before
-pub no_modules : (told : Option World) (old : List Entry) (wanted : Wanted) (environ : Environ) (j : Justfile) → PerformsPlan wanted environ j told told old old (Err error.NoMemory)
-no_modules told old wanted environ j = performs_refusal (PlansIt wanted environ j told) told told [] old old refl error.NoMemory (left_nothing old error.NoMemory refl) (inl refl)
+          performs_looking LoadsIt (PlansIt wanted environ j told) Begins Begins told after after [] [] old new new pairs (Err e) (pairs_part pairs runs) refl (left_nothing new e silent) (λ acts loads. or_behind acts e loads why) (λ acts b. b)
 
 -- a refusal of arguments over a host, and of words, or want of memory
 abbrev pub RefusesRun : Option World → List Entry → List Act → Option World → Arguments → Environ → Error → Type 0
@@ -191,6 +208,9 @@ RefusesOver words told listings acts after e = OrMemory (λ f. Asks words told l
 module _ (config : Config) (environ : Environ) (location : Location) (told : Option World) where
   abbrev pub AsksAt : Bool → List Act → Option World → Result Outline Error → Type 0
   AsksAt fallback acts after r = AnswersAt told acts after (located_in config environ location) r fallback
+
+  abbrev pub BeginsHere : List Act → Option World → Type 0
+  BeginsHere acts after = BeginsAt told acts after (located_in config environ location)
 
   -- there is no file
   pub no_file : (acts : List Act) (after : Option World) (e : Error) → OrMemory (λ x. TakesWanted config location told acts after (Err x)) e → OrMemory (λ x. AsksAt false acts after (Err x)) e
@@ -213,6 +233,13 @@ module _ (config : Config) (environ : Environ) (location : Location) (told : Opt
           AnswersAt.of_project (project_in wanted environ j ms) acts more middle
           (Behind.both (justfile_in wanted environ justfile) acts [] between (takes environ) (refl, still, finds ms are) (sym (append-nil acts))) plans refl is
 
+      -- and what was begun of its project was begun of it
+      pub begun_behind : (acts more : List Act) (after : Option World) → TakesWanted config location told acts between (Ok (wanted, justfile)) → BeginsIt wanted environ j middle more after → BeginsHere (acts ++ more) after
+      begun_behind acts more after takes begins =
+          let ms = modules_listed j in
+          BeginsBehind.at_second (project_in wanted environ j ms.0) acts more middle
+          (Behind.both (justfile_in wanted environ justfile) acts [] between (takes environ) (refl, still, finds ms.0 ms.1) (sym (append-nil acts))) (begins ms.0) refl
+
       pub all_answers : (acts more : List Act) (after : Option World) (r : Result Outline Error) → TakesWanted config location told acts between (Ok (wanted, justfile)) → Answers (PlansIt wanted environ j middle more after) r → Answers (AsksAt fallback (acts ++ more) after) r
       all_answers acts more after (Ok o) takes plans = answers acts more after (Ok o) takes plans
       all_answers acts more after (Err e) takes (inl wants) = inl wants
@@ -221,28 +248,31 @@ module _ (config : Config) (environ : Environ) (location : Location) (told : Opt
   -- the parts of a preparation
   module _ (kept : List (List ℕ)) (old : List Entry) where
     abbrev pub AskedAt : Bool → Option World → List (List ℕ) → List Entry → Result Outline Error → Type 0
-    AskedAt fallback after keeps new r = Performs (AsksAt fallback) told after kept keeps old new r
+    AskedAt fallback after keeps new r = Performs (AsksAt fallback) BeginsHere told after kept keeps old new r
 
-    pub place_untaken : (after : Option World) (keeps : List (List ℕ)) (new : List Entry) (e : Error) → Performs {A = Wanted × List ℕ} (TakesWanted config location told) told after kept keeps old new (Err e) → AskedAt false after keeps new (Err e)
-    place_untaken after keeps new e p = performs_lost (TakesWanted config location told) (AsksAt false) told after kept keeps old new e p (λ acts lost. no_file acts after e lost)
+    pub place_untaken : (after : Option World) (keeps : List (List ℕ)) (new : List Entry) (e : Error) → Performs {A = Wanted × List ℕ} (TakesWanted config location told) (BeginsIn config location told) told after kept keeps old new (Err e) → AskedAt false after keeps new (Err e)
+    place_untaken after keeps new e p =
+        performs_lost (TakesWanted config location told) (AsksAt false) (BeginsIn config location told) BeginsHere told after kept keeps old new e p (λ acts lost. no_file acts after e lost) (λ acts b. BeginsBehind.at_first (BeginsBehind.at_first b))
 
-    module _ (between : Option World) (keeps : List (List ℕ)) (middle : List Entry) (wanted : Wanted) (justfile : List ℕ) (taken : Performs {A = Wanted × List ℕ} (TakesWanted config location told) told between kept keeps old middle (Ok (wanted, justfile))) where
+    module _ (between : Option World) (keeps : List (List ℕ)) (middle : List Entry) (wanted : Wanted) (justfile : List ℕ) (taken : Performs {A = Wanted × List ℕ} (TakesWanted config location told) (BeginsIn config location told) told between kept keeps old middle (Ok (wanted, justfile))) where
       pub place_lost : (after : Option World) (new : List Entry) (e : Error) → after ≡ between → (es : List Entry) × (new ≡ middle ++ es) × EndsWith [] e es
           → OrMemory (λ x. FindsProjectOf between (justfile_in wanted environ justfile) (Err x)) e → AskedAt false after keeps new (Err e)
       place_lost after new e world gains why =
-          performs_looking (TakesWanted config location told) (AsksAt false) told between after kept keeps old middle new (wanted, justfile) (Err e) taken world gains (λ acts takes. no_project wanted justfile between acts after e world takes why)
+          performs_looking (TakesWanted config location told) (AsksAt false) (BeginsIn config location told) BeginsHere told between after kept keeps old middle new (wanted, justfile) (Err e) taken world gains (λ acts takes. no_project wanted justfile between acts after e world takes why)
+          (λ acts b. BeginsBehind.at_first (BeginsBehind.at_first (subst (λ w. BeginsIn config location told acts w) (sym world) b)))
 
       module _ (seen after : Option World) (begun new : List Entry) (still : seen ≡ between) (gains : (es : List Entry) × (begun ≡ middle ++ es) × AreMisses es) (j : Justfile)
           (finds : (ms : List Justfile) → AreModules (j ∷ []) ms → FindsProjectOf between (justfile_in wanted environ justfile) (Ok (project_in wanted environ j ms))) (fallback : Bool) (is : fallback ≡ (settings_of j).fallback) where
         -- the file is there, and its project is made
-        taken_here : Performs {A = Wanted × List ℕ} (λ acts world r. TakesWanted config location told acts between r) told seen kept keeps old begun (Ok (wanted, justfile))
+        taken_here : Performs {A = Wanted × List ℕ} (λ acts world r. TakesWanted config location told acts between r) (λ acts world. Unit {0}) told seen kept keeps old begun (Ok (wanted, justfile))
         taken_here =
-            performs_looking (TakesWanted config location told) (λ acts world r. TakesWanted config location told acts between r) told between seen kept keeps old middle begun (wanted, justfile) (Ok (wanted, justfile)) taken still gains (λ acts takes. takes)
+            performs_looking (TakesWanted config location told) (λ acts world r. TakesWanted config location told acts between r) (BeginsIn config location told) (λ acts world. Unit {0}) told between seen kept keeps old middle begun (wanted, justfile) (Ok (wanted, justfile)) taken still gains (λ acts takes. takes) (λ acts b. tt)
 
         pub place_asked : (r : Result Outline Error) → PerformsPlan wanted environ j seen after begun new r → AskedAt fallback after keeps new r
         place_asked r plan =
-            performs_then (λ acts world x. TakesWanted config location told acts between x) (PlansIt wanted environ j seen) (AsksAt fallback) told seen after kept keeps keeps old begun new (wanted, justfile) r taken_here
-            (performs_behind (PlansIt wanted environ j seen) seen after keeps begun new r plan) (λ acts more takes plans. all_answers wanted justfile between seen still j finds fallback is acts more after r takes plans)
+            performs_then (λ acts world x. TakesWanted config location told acts between x) (PlansIt wanted environ j seen) (AsksAt fallback) (λ acts world. Unit {0}) (BeginsIt wanted environ j seen) BeginsHere told seen after kept keeps keeps old begun new (wanted, justfile) r taken_here
+            (performs_behind (PlansIt wanted environ j seen) (BeginsIt wanted environ j seen) seen after keeps begun new r plan) (λ acts more takes plans. all_answers wanted justfile between seen still j finds fallback is acts more after r takes plans)
+            (λ acts more takes begins. begun_behind wanted justfile between seen still j finds fallback is acts more after takes begins)
 
 -- ---- behind the words
 
@@ -279,6 +309,13 @@ module _ (a : Arguments) (environ : Environ) (told : Option World) where
         pub tried_plan : (acts : List Act) (after : Option World) (r : Result Outline Error) → Tries told acts after (located_in config environ location) r → Serves listings told acts after (arguments_in a environ) r
         tried_plan acts after r tries = searched acts after r (Behind.both (located_in config environ location) [] acts told (refl, refl, (refl, refl, finds)) tries refl)
 
+        -- and what was begun of it was begun of the words' arguments
+        pub tried_begun : (acts : List Act) (after : Option World) → BeginsTries told acts after (located_in config environ location) → BeginsServes listings told acts after (arguments_in a environ)
+        tried_begun acts after begins =
+            BeginsBehind.at_second (folder_in a environ folder) [] acts told (refl, refl, (refl, refl, given))
+            (BeginsBehind.at_second (config_in config environ) [] acts told (refl, refl, configures environ)
+            (plain, BeginsBehind.at_second (located_in config environ location) [] acts told (refl, refl, (refl, refl, finds)) begins refl) refl) refl
+
 -- ---- from the words on
 
 module _ (words : List (List ℕ)) (told : Option World) where
@@ -299,6 +336,12 @@ module _ (words : List (List ℕ)) (told : Option World) where
       words_ask listings acts after r serves =
           Behind.both (words_in words environ) [] acts told (refl, refl, (refl, given))
           (Behind.both (arguments_in a environ) [] acts told (refl, refl, (means, refl)) (subst (λ t. Serves listings t acts after (arguments_in a environ) r) same serves) refl) refl
+
+      -- and what was begun of these was begun of the words
+      pub words_begin : (listings : List Entry) (acts : List Act) (after : Option World) → BeginsServes listings now acts after (arguments_in a environ) → BeginsWords words told listings acts after
+      words_begin listings acts after begins =
+          BeginsBehind.at_second (words_in words environ) [] acts told (refl, refl, (refl, given))
+          (BeginsBehind.at_second (arguments_in a environ) [] acts told (refl, refl, (means, refl)) (subst (λ t. BeginsServes listings t acts after (arguments_in a environ)) same begins) refl) refl
 
       -- and they ask for the user's own justfile
       pub asks_global : a.global_justfile ≡ true → AsksGlobal words told

@@ -1,11 +1,11 @@
 -- What ends without a run, behind the removal of no folder.
-use Rattle.std.proofs.Common.{◌≡◌, inl, inr, List, [], Option, Result, Ok, Err, sym, ◌∙◌, ap, subst, append-nil}
+use Rattle.std.proofs.Common.{◌≡◌, inl, inr, List, [], Option, Result, Ok, Err, sym, ◌∙◌, subst}
 use Rattle.std.specs.Prelude.{ℕ, OnOk, OnErr}
 use Rattle.just_host_record.specs.World.{World}
 use Rattle.just_host_record.specs.declared.entry.Entry.{Entry}
 use Rattle.just_cli.specs.declared.ended.Failure.{Failure}
 use Rattle.just_cli.specs.declared.ended.Report.{Report}
-use Rattle.just_search.specs.Removals.{RemovesAll, RemovesSome}
+use Rattle.just_search.specs.Removals.{RemovesAll, RemovesSome, InTurn, TriesFolder}
 use Rattle.just_cli.specs.Record.{Removes}
 use Rattle.just_cli.specs.Run.{IsEnded}
 use Rattle.just_cli.proofs.Altering.{removes_none}
@@ -18,6 +18,6 @@ ended_so words told settled after old middle new kept made r none same is remove
     subst (λ w. IsEnded words told w old new r) (sym stays.0) (subst (λ es. IsEnded words told settled old es r) (sym stays.1) is)
 
 -- each folder is removed, or memory is wanting behind some
-pub removed_so : {A E : Type 0} (folders : List (List ℕ)) (told after : Option World) (old new : List Entry) (r : Result A E) → OnOk r (RemovesAll told old folders after new) → OnErr r (RemovesSome told old folders after new) → Removes folders told old after new
-removed_so folders told after old new (Ok x) all some = inl all
-removed_so folders told after old new (Err e) all some = inr some
+pub removed_so : {A E : Type 0} (folders : List (List ℕ)) (told after : Option World) (old new : List Entry) (r : Result A E) → OnOk r (RemovesAll told old folders after new) → OnOk r (InTurn TriesFolder told old folders after new) → OnErr r (RemovesSome told old folders after new) → Removes folders told old after new
+removed_so folders told after old new (Ok x) all tried some = inl (all, tried)
+removed_so folders told after old new (Err e) all tried some = inr some

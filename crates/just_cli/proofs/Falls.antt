@@ -1,16 +1,14 @@
 -- What follows for a run that failed, or came to its end, from what it left.
-use Rattle.std.proofs.Common.{◌≡◌, ℕ, zero, suc, ◌+◌, ◌<◌, ◌++◌, ◌||◌, inl, inr, Bool, true, false, cond, List, [], ◌∷◌, count_by, Contains, Option, Some, None, Result, Ok, Err, IfErr, MatchOption, refl, ap, sym, ◌∙◌, subst, append_assoc, arith}
-use Rattle.std.specs.List.{list_any}
+use Rattle.std.proofs.Common.{◌≡◌, ℕ, zero, suc, ◌+◌, ◌<◌, ◌++◌, inl, inr, Bool, true, false, cond, List, [], ◌∷◌, count_by, Contains, Option, Some, None, Result, Ok, Err, IfErr, MatchOption, refl, ap, sym, ◌∙◌, subst, arith}
 use Rattle.std.proofs.Math.Bool.{Bool-set}
 use Rattle.std.proofs.Math.Bridge.{le_prop}
-use Rattle.std.proofs.Math.Logic.{∥∥₁_elim, ∥∥₁_map}
+use Rattle.std.proofs.Math.Logic.{∥∥₁_elim}
 use Rattle.std.proofs.lemmas.List.{append_cancel_left}
 use Rattle.std.proofs.lemmas.List.Elements.{All-contains, Contains-append_left, Contains-append_right}
-use Rattle.std.proofs.lemmas.List.Folds.{list_any-append}
 use Rattle.std.proofs.lemmas.List.Sums.{sum_by-append, sum_by-cons}
 use Rattle.just_host_record.specs.World.{World}
 use Rattle.just_host_record.specs.Looks.{dash}
-use Rattle.just_host_record.specs.Record.{refused, faults_of, misses_of, is_failed, is_missed, is_started}
+use Rattle.just_host_record.specs.Record.{refused, faults_of, misses_of, is_failed, is_missed}
 use Rattle.just_path.specs.declared.host.Miss.{Miss}
 use Rattle.just_path.specs.declared.host.Miss.TheVariants as miss
 use Rattle.just_host_record.specs.declared.entry.Call.{Call}
@@ -24,9 +22,6 @@ use Rattle.just_sched_history.specs.declared.plan.Plan.{Plan}
 use Rattle.just_sched_history.specs.declared.plan_node.PlanNode.{PlanNode}
 use Rattle.just_sched_history.specs.Causes.{ShowsFailure, ShowsMiss}
 use Rattle.just_sched_history.specs.Favourable.{is_favourable, IsFavourable}
-use Rattle.just_sched_history.specs.Touched.{IsTouched}
-use Rattle.just_sched_history.specs.Start.{Start, IsKept, run_of}
-use Rattle.just_sched_history.proofs.Laws.{nothing_started}
 use Rattle.just_cli.specs.declared.ended.Failure.{Failure}
 use Rattle.just_cli.specs.declared.ended.Report.{Report}
 use Rattle.just_exec.specs.declared.error.Error.{Error}
@@ -40,7 +35,7 @@ use Rattle.just_env.specs.declared.env_error.OutputError.TheVariants as output
 use Rattle.just_cli_plan.specs.Pairs.{entries_of as entries_in}
 use Rattle.just_cli_plan.proofs.OutcomeLaws.{only_memory}
 use Rattle.just_cli.specs.Preparing.{EndsActs}
-use Rattle.just_cli.specs.Record.{Stretches, EndsIll, EndsUnopened, IsQuiet}
+use Rattle.just_cli.specs.Record.{Stretches, EndsIll, EndsUnopened}
 
 -- what a failure leaves: with no plan, a refusal before the book
 abbrev pub Failed : List Entry → List Act → Option ℕ → List Bool → Bool → Result Report Failure → Option World → Option World → List Entry → List Entry → Type 0

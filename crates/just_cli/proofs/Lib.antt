@@ -6,6 +6,7 @@ pub mod Arguments
 pub mod Asking
 pub mod Calls
 pub mod Chain
+pub mod Climbing
 pub mod Ending
 pub mod Falls
 pub mod Globals

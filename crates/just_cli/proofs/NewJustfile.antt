@@ -18,9 +18,8 @@ use Rattle.just_cli_plan.specs.Own.{OrMemory}
 use Rattle.just_cli.specs.declared.ended.Failure.{Failure}
 use Rattle.just_cli.specs.declared.ended.Report.{Report}
 use Rattle.just_cli.specs.Faults.{entries_of, print_error, write_error}
-use Rattle.just_cli.specs.Preparing.{AreMisses}
 use Rattle.just_cli.specs.Questions.{AsksQuiet, IsNothing}
-use Rattle.just_cli.specs.Record.{Stretches, EndsBefore, IsTold}
+use Rattle.just_cli.specs.Record.{EndsBefore, IsTold}
 use Rattle.just_cli.specs.Request.{AsksNew}
 use Rattle.just_cli.specs.Run.{IsEnded, by_init}
 use Rattle.just_cli.specs.Written.{written_line, told_line, Writes, IsUnwritten, TellsLine, IsWritten}

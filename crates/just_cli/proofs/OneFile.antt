@@ -1,5 +1,5 @@
 -- Over a told world and the same temporary folders the justfile in a place is one file at most.
-use Rattle.std.proofs.Common.{◌≡◌, ◌⊎◌, ◌++◌, inl, inr, ℕ, Bool, true, false, true≢false, List, [], ◌∷◌, map, length, Option, Some, None, option_map, Result, Ok, Err, refl, sym, ◌∙◌, ap, subst}
+use Rattle.std.proofs.Common.{◌≡◌, ◌++◌, ℕ, true, false, true≢false, List, [], ◌∷◌, map, Option, Some, None, Result, Ok, Err, refl, sym, ◌∙◌, ap, subst}
 use Rattle.std.specs.Prelude.{◌≢◌, if◌then◌else◌}
 use Rattle.std.specs.Str.Lines.{lines}
 use Rattle.std.specs.FinMap as finmap
@@ -12,7 +12,6 @@ use Rattle.just_host_record.specs.declared.entry.HostFault.TheVariants as fault
 use Rattle.just_host_record.specs.declared.tree.Thing.TheVariants as thing
 use Rattle.just_host_record.specs.Sights.{Tree}
 use Rattle.just_host_record.specs.Changes.{with_tree, written}
-use Rattle.just_host_record.specs.Folders.{ParentMiss}
 use Rattle.just_host_record.specs.Looks.{told_input}
 use Rattle.just_host_record.specs.World.{World, view_of, told_read}
 use Rattle.just_env.specs.declared.search_error.SearchError.{SearchError}
@@ -23,8 +22,8 @@ use Rattle.just_search.specs.declared.location.Location.{Location}
 use Rattle.just_search.specs.declared.location.Origin.{Origin}
 use Rattle.just_search.specs.declared.location.Origin.TheVariants as origin
 use Rattle.just_search_load.specs.declared.fence.Fence.{Fence}
-use Rattle.just_search_load.specs.Fences.{fence_of, closes}
-use Rattle.just_search_load.specs.Running.{line_out, fence_behind, out_of}
+use Rattle.just_search_load.specs.Fences.{closes}
+use Rattle.just_search_load.specs.Running.{out_of}
 use Rattle.just_search_load.specs.Tangles.{kept, AreInside, Tangles, text_of_lines, IsTangled}
 use Rattle.just_search.specs.Calls.{IsRefusal, Refuses}
 use Rattle.just_search.specs.Files.{Makes, Writes, WritesText, Materializes, search_in, file_in}

@@ -1,18 +1,11 @@
 -- Over a told world a justfile is found in one place at most, where no listing failed.
-use Rattle.std.proofs.Common.{◌≡◌, ◌++◌, ◌||◌, ℕ, Bool, true, false, true≢false, List, [], ◌∷◌, map, Option, Some, None, option_map, refl, sym, ap, ◌∙◌, subst}
+use Rattle.std.proofs.Common.{◌≡◌, ◌++◌, ◌||◌, ℕ, Bool, true, false, true≢false, List, [], ◌∷◌, Option, Some, None, option_map, refl, sym, ap, ◌∙◌, subst}
 use Rattle.std.specs.Prelude.{Result, Ok, Err}
 use Rattle.just_path.specs.Path.{pushed}
 use Rattle.std.specs.List.{list_any}
-use Rattle.std.specs.Ordering.{nat_cmp}
-use Rattle.std.specs.Cmp.Lexicographic.{slice_cmp}
-use Rattle.std.specs.FinMap.{nat_cmp-IsAntisymmetric, slice_cmp-IsAntisymmetric}
-use Rattle.std.specs.FinMap.Entries.{same_entries}
-use Rattle.std.proofs.lemmas.Cmp.{nat_list_cmp_total}
 use Rattle.std.proofs.lemmas.List.Folds.{list_any-append}
-use Rattle.just_path.specs.View.{Sights, named, AreInOrder, AreItemsOf}
+use Rattle.just_path.specs.View.{AreItemsOf}
 use Rattle.just_path.specs.declared.host.Miss.{Miss}
-use Rattle.just_path.specs.declared.meta.Item.{Item}
-use Rattle.just_path.specs.declared.meta.Kind.{Kind}
 use Rattle.just_host_record.specs.declared.entry.Entry.{Entry}
 use Rattle.just_host_record.specs.declared.entry.Call.TheVariants as call
 use Rattle.just_host_record.specs.declared.entry.HostFault.{HostFault}
@@ -27,6 +20,7 @@ use Rattle.just_env.specs.declared.search_error.SearchError.TheVariants as error
 use Rattle.just_env.specs.Answers.{entries_of, told_entries}
 use Rattle.just_cli_plan.specs.Loading.{tells_failure, IsOwn, GivesOwn}
 use Rattle.just_cli_plan.proofs.Answers.{answered_or_refused, same_answer, same_refusal, failed, own_refusal}
+use Rattle.just_cli_plan.proofs.Folders.{one_list, one_place, no_place}
 use Rattle.just_search.specs.declared.location.Location.{Location}
 use Rattle.just_search.specs.declared.place.Place.{Place}
 use Rattle.just_search.specs.Climb.{candidates, chosen, LooksIn, FindsIn, folders_from, folders_above}
@@ -39,28 +33,6 @@ use Rattle.just_search.specs.Fallback.{next_found, FallsBack}
 use Rattle.just_cli.specs.Request.{NoneFailed}
 
 -- ---- names
-
-abbrev item_name : Item → List ℕ
-item_name i = i.name
-
-abbrev first : List ℕ × Kind → List ℕ
-first e = e.0
-
-names_of : (xs : List Item) → map first (named xs) ≡ map item_name xs
-names_of [] = refl
-names_of (x ∷ xs) = ap (λ (ns : List (List ℕ)). x.name ∷ ns) (names_of xs)
-
--- items in order that tell the same of each name have the same names
-one_list : (place : List ℕ) (tree : Sights) (xs ys : List Item) → AreInOrder xs → AreInOrder ys → AreItemsOf place tree xs → AreItemsOf place tree ys → map item_name xs ≡ map item_name ys
-one_list place tree xs ys a b p q =
-    let pairs : named xs ≡ named ys = same_entries (slice_cmp nat_cmp) nat_list_cmp_total (slice_cmp-IsAntisymmetric nat_cmp-IsAntisymmetric) (named xs) (named ys) a b (λ n. p n ∙ sym (q n)) in
-    sym (names_of xs) ∙ ap (λ (es : List (List ℕ × Kind)). map first es) pairs ∙ names_of ys
-
-one_place : (a b : List ℕ) → ◌≡◌ {A = Result (List ℕ) Miss} (Ok a) (Ok b) → a ≡ b
-one_place a b is = cc
-
-no_place : (a : List ℕ) (m : Miss) → ◌≡◌ {A = Result (List ℕ) Miss} (Ok a) (Err m) → ⊥
-no_place a m is = let no : ⊥ = cc in no
 
 one_miss : (m n : Miss) → ◌≡◌ {A = Result (List ℕ) Miss} (Err m) (Err n) → m ≡ n
 one_miss m n is = cc

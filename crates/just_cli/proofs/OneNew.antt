@@ -1,17 +1,16 @@
 -- Over a told world a new justfile is written at one path at most.
-use Rattle.std.proofs.Common.{◌≡◌, ℕ, true, false, true≢false, List, Some, Result, Ok, Err, inl, inr, refl, sym, ap, ◌∙◌, subst}
+use Rattle.std.proofs.Common.{◌≡◌, ℕ, true, false, true≢false, List, Some, Result, Ok, Err, inl, inr, sym, ap, ◌∙◌, subst}
 use Rattle.just_host_record.specs.World.{World}
 use Rattle.just_config.specs.declared.config.Config.{Config}
 use Rattle.just_config.specs.declared.search_config.SearchConfig.{SearchConfig}
 use Rattle.just_config.specs.declared.search_config.SearchConfig.TheVariants as search
 use Rattle.just_env.specs.declared.search_error.SearchError.{SearchError}
-use Rattle.just_cli_plan.specs.Loading.{tells_failure, IsOwn as IsOwnSearch, GivesOwn as GivesOwnSearch}
+use Rattle.just_cli_plan.specs.Loading.{IsOwn as IsOwnSearch, GivesOwn as GivesOwnSearch}
 use Rattle.just_cli_plan.proofs.Answers.{answered_or_refused, same_answer}
 use Rattle.just_search.specs.Finding.{given_path}
 use Rattle.just_search.specs.declared.search_result.Search.{Search}
 use Rattle.just_search.specs.Inits.{in_root, InitsIn, InitsBy}
 use Rattle.just_exec.specs.Refusals.{error_of_search}
-use Rattle.just_exec.specs.declared.error.Error.{Error}
 use Rattle.just_cli_plan.specs.Own.{is_fault}
 use Rattle.just_cli_plan.proofs.Steps.{GivesOwn, then_own}
 use Rattle.just_cli.specs.NewPath.{FindsPath, IsFree, FindsFree}

@@ -1,5 +1,5 @@
 -- Over a told world and the same acts the justfiles that are tried from a place on give one answer at most, where each of them does, and each search for the next.
-use Rattle.std.proofs.Common.{◌≡◌, ◌++◌, ℕ, Bool, true, false, true≢false, List, [], Option, Some, None, Result, Ok, Err, refl, sym, ◌∙◌, ap, subst}
+use Rattle.std.proofs.Common.{◌≡◌, ◌++◌, Bool, true, false, true≢false, List, Option, Some, None, Result, Ok, Err, refl, sym, ◌∙◌, ap, subst}
 use Rattle.std.specs.Prelude.{◌&&◌, if◌then◌else◌}
 use Rattle.just_host_record.specs.World.{World}
 use Rattle.just_env.specs.declared.search_error.SearchError.{SearchError}
@@ -15,7 +15,8 @@ use Rattle.just_cli.specs.Acts.{Act, AreToldBehind}
 use Rattle.just_cli_plan.specs.Own.{IsOwn}
 use Rattle.just_cli.specs.Options.{is_lacking, lacks, is_missing, empty_outline, allowed}
 use Rattle.just_cli.specs.Words.{ConfigRequest, LocatedRequest}
-use Rattle.just_cli.specs.Request.{AnswersAt, at_place, TriesFrom}
+use Rattle.just_cli.specs.Request.{AnswersAt, at_place}
+use Rattle.just_cli.specs.Taken.{TriesFrom}
 use Rattle.just_cli.proofs.Acting.{Agrees, in_two, told_later}
 use Rattle.just_cli.proofs.OneLocation.{falls_one}
 use Rattle.just_cli.proofs.OneSearch.{own_search}

@@ -1,7 +1,6 @@
 -- What parts of a preparation answer and leave, from the answers of their calls.
-use Rattle.std.proofs.Common.{◌≡◌, ◌++◌, inl, inr, ℕ, Bool, true, false, List, [], ◌∷◌, Option, Result, Ok, Err, refl, sym, ◌∙◌, ap, subst, append_assoc, append-nil}
+use Rattle.std.proofs.Common.{◌≡◌, ◌++◌, inl, inr, ℕ, List, [], ◌∷◌, Option, Result, Ok, Err, refl, sym, ◌∙◌, ap, subst, append_assoc, append-nil}
 use Rattle.std.specs.Prelude.{MatchResult}
-use Rattle.std.specs.List.{list_any}
 use Rattle.std.proofs.lemmas.List.Elements.{Contains-append_left, Contains-append_right}
 use Rattle.just_host_record.specs.World.{World}
 use Rattle.just_host_record.specs.declared.entry.Entry.{Entry}
@@ -10,12 +9,11 @@ use Rattle.just_host_record.specs.Record.{is_failed}
 use Rattle.just_exec.specs.declared.error.Error.{Error}
 use Rattle.just_exec.specs.declared.error.Error.TheVariants as error
 use Rattle.just_cli_plan.specs.Own.{OrMemory}
-use Rattle.just_sched_history.specs.declared.plan_node.PlanNode.{PlanNode}
 use Rattle.just_cli.specs.Acts.{Act, folders_in, captures_in, AreActs}
 use Rattle.just_cli.specs.Altered.{IsAltered}
 use Rattle.just_cli_plan.specs.Pairs.{entries_of as entries_in}
 use Rattle.just_cli.specs.Faults.{entries_of}
-use Rattle.just_cli.specs.Preparing.{AreMisses, EndsWith, LeavesActs, EndsActs, Leaves, Answers, Performs, Prepares}
+use Rattle.just_cli.specs.Preparing.{AreMisses, EndsWith, LeavesActs, Leaves, Answers, Performs, Prepares}
 use Rattle.just_cli.specs.Request.{ArePassed}
 use Rattle.just_cli.proofs.Altering.{altered_same, altered_then, altered_more, quiet_first, quiet_rest}
 
@@ -86,8 +84,12 @@ left_look (Err e) es left = (left.0, [], misses_acts left.0 left.1, left.2)
 
 -- ---- a part that only looks
 
-module _ {A : Type 0} (gives : List Act → Option World → Result A Error → Type 0) (told after : Option World) (kept : List (List ℕ)) (old new : List Entry) (world : after ≡ told) where
-  looks_over : (r : Result A Error) (es : List Entry) → new ≡ old ++ es → Leaves [] [] r es → Answers (gives [] after) r → Performs gives told after kept kept old new r
+-- what was begun by some acts
+abbrev pub BegunBy : Type 1
+BegunBy = List Act → Option World → Type 0
+
+module _ {A : Type 0} (gives : List Act → Option World → Result A Error → Type 0) (begins : BegunBy) (told after : Option World) (kept : List (List ℕ)) (old new : List Entry) (world : after ≡ told) (begun : begins [] after) where
+  looks_over : (r : Result A Error) (es : List Entry) → new ≡ old ++ es → Leaves [] [] r es → Answers (gives [] after) r → Performs gives begins told after kept kept old new r
   looks_over r es grew leaves answers = record {
     acts = [];
     entries = es;
@@ -95,18 +97,19 @@ module _ {A : Type 0} (gives : List Act → Option World → Result A Error → 
     leaves = leaves;
     folders = sym (append-nil kept);
     answers = answers;
+    begun = begun;
     still = λ none quiet. world;
     alters = λ nodes alone quiet. altered_same [] nodes told after world;
   }
 
   -- a refusal, or an answer
-  pub performs_refusal : (e : Error) → (es : List Entry) × (new ≡ old ++ es) × EndsWith [] e es → OrMemory (λ x. gives [] after (Err x)) e → Performs gives told after kept kept old new (Err e)
+  pub performs_refusal : (e : Error) → (es : List Entry) × (new ≡ old ++ es) × EndsWith [] e es → OrMemory (λ x. gives [] after (Err x)) e → Performs gives begins told after kept kept old new (Err e)
   performs_refusal e gains why = looks_over (Err e) gains.0 gains.1 (left_look {A = A} (Err e) gains.0 gains.2) why
 
-  pub performs_answer : (x : A) → (es : List Entry) × (new ≡ old ++ es) × AreMisses es → gives [] after (Ok x) → Performs gives told after kept kept old new (Ok x)
+  pub performs_answer : (x : A) → (es : List Entry) × (new ≡ old ++ es) × AreMisses es → gives [] after (Ok x) → Performs gives begins told after kept kept old new (Ok x)
   performs_answer x gains is = looks_over (Ok x) gains.0 gains.1 (left_look (Ok x) gains.0 gains.2) is
 
-  pub performs_either : (r : Result A Error) → (es : List Entry) × (new ≡ old ++ es) × MatchResult r (λ _. AreMisses es) (λ e. EndsWith [] e es) → Answers (gives [] after) r → Performs gives told after kept kept old new r
+  pub performs_either : (r : Result A Error) → (es : List Entry) × (new ≡ old ++ es) × MatchResult r (λ _. AreMisses es) (λ e. EndsWith [] e es) → Answers (gives [] after) r → Performs gives begins told after kept kept old new r
   performs_either (Ok x) gains answers = performs_answer x gains answers
   performs_either (Err e) gains answers = performs_refusal e gains answers
 
@@ -125,10 +128,11 @@ leaves_then (Ok x) acts more es fs (xs, a, is) (ys, b, at) = (xs ++ ys, acts_app
 leaves_then (Err e) acts more es fs (xs, a, is) (ys, parent, b, at) =
     (xs ++ ys, parent, acts_append acts more xs ys a b, ap (λ l. l ++ fs) is ∙ (ap (λ l. xs ++ l) at ∙ sym (append_assoc xs ys (entries_in parent e))))
 
-pub performs_then : {A B : Type 0} (first : List Act → Option World → Result A Error → Type 0) (second gives : List Act → Option World → Result B Error → Type 0) (told between after : Option World) (kept keep keeps : List (List ℕ)) (old middle new : List Entry) (x : A) (r : Result B Error)
-    → Performs first told between kept keep old middle (Ok x) → Performs second between after keep keeps middle new r
-    → ((acts more : List Act) → first acts between (Ok x) → Answers (second more after) r → Answers (gives (acts ++ more) after) r) → Performs gives told after kept keeps old new r
-performs_then first second gives told between after kept keep keeps old middle new x r p q both =
+pub performs_then : {A B : Type 0} (first : List Act → Option World → Result A Error → Type 0) (second gives : List Act → Option World → Result B Error → Type 0) (one two begins : BegunBy) (told between after : Option World) (kept keep keeps : List (List ℕ)) (old middle new : List Entry) (x : A) (r : Result B Error)
+    → Performs first one told between kept keep old middle (Ok x) → Performs second two between after keep keeps middle new r
+    → ((acts more : List Act) → first acts between (Ok x) → Answers (second more after) r → Answers (gives (acts ++ more) after) r) → ((acts more : List Act) → first acts between (Ok x) → two more after → begins (acts ++ more) after)
+    → Performs gives begins told after kept keeps old new r
+performs_then first second gives one two begins told between after kept keep keeps old middle new x r p q both more_begun =
     let all = folders_append p.acts q.acts in
     record {
       acts = p.acts ++ q.acts;
@@ -137,6 +141,7 @@ performs_then first second gives told between after kept keep keeps old middle n
       leaves = leaves_then r p.acts q.acts p.entries q.entries p.leaves q.leaves;
       folders = q.folders ∙ (ap (λ fs. fs ++ folders_in q.acts) p.folders ∙ (append_assoc kept (folders_in p.acts) (folders_in q.acts) ∙ ap (λ fs. kept ++ fs) (sym all)));
       answers = both p.acts q.acts p.answers q.answers;
+      begun = more_begun p.acts q.acts p.answers q.begun;
       still = λ none quiet. q.still (nil_rest p.acts q.acts none) (quiet_rest is_failed p.entries q.entries quiet) ∙ p.still (nil_first p.acts q.acts none) (quiet_first is_failed p.entries q.entries quiet);
       alters = λ nodes alone quiet.
           subst (λ fs. IsAltered fs nodes told after) (sym all)
@@ -146,16 +151,17 @@ performs_then first second gives told between after kept keep keeps old middle n
     }
 
 -- a part behind which is only looked
-pub performs_looking : {A B : Type 0} (first : List Act → Option World → Result A Error → Type 0) (gives : List Act → Option World → Result B Error → Type 0) (told between after : Option World) (kept keeps : List (List ℕ)) (old middle new : List Entry) (x : A) (r : Result B Error)
-    → Performs first told between kept keeps old middle (Ok x) → after ≡ between → (es : List Entry) × (new ≡ middle ++ es) × MatchResult r (λ _. AreMisses es) (λ e. EndsWith [] e es) → ((acts : List Act) → first acts between (Ok x) → Answers (gives acts after) r)
-    → Performs gives told after kept keeps old new r
-performs_looking first gives told between after kept keeps old middle new x r p world (es, grew, left) more = record {
+pub performs_looking : {A B : Type 0} (first : List Act → Option World → Result A Error → Type 0) (gives : List Act → Option World → Result B Error → Type 0) (one begins : BegunBy) (told between after : Option World) (kept keeps : List (List ℕ)) (old middle new : List Entry) (x : A) (r : Result B Error)
+    → Performs first one told between kept keeps old middle (Ok x) → after ≡ between → (es : List Entry) × (new ≡ middle ++ es) × MatchResult r (λ _. AreMisses es) (λ e. EndsWith [] e es) → ((acts : List Act) → first acts between (Ok x) → Answers (gives acts after) r)
+    → ((acts : List Act) → one acts between → begins acts after) → Performs gives begins told after kept keeps old new r
+performs_looking first gives one begins told between after kept keeps old middle new x r p world (es, grew, left) more more_begun = record {
   acts = p.acts;
   entries = p.entries ++ es;
   grew = grew ∙ (ap (λ l. l ++ es) p.grew ∙ append_assoc old p.entries es);
   leaves = subst (λ l. Leaves [] l r (p.entries ++ es)) (append-nil p.acts) (leaves_then r p.acts [] p.entries es p.leaves (left_look r es left));
   folders = p.folders;
   answers = more p.acts p.answers;
+  begun = more_begun p.acts p.begun;
   still = λ none quiet. world ∙ p.still none (quiet_first is_failed p.entries es quiet);
   alters = λ nodes alone quiet. subst (λ w. IsAltered (folders_in p.acts) nodes told w) (sym world) (p.alters nodes alone (quiet_first is_failed p.entries es quiet));
 }
@@ -165,78 +171,82 @@ or_more one more over e (inl wants) = inl wants
 or_more one more over e (inr why) = inr (over (Err e) why)
 
 -- a part that keeps no folder, behind some that were kept
-pub performs_behind : {A : Type 0} (gives : List Act → Option World → Result A Error → Type 0) (told after : Option World) (kept : List (List ℕ)) (old new : List Entry) (r : Result A Error) → Performs gives told after [] [] old new r → Performs gives told after kept kept old new r
-performs_behind gives told after kept old new r p =
-    record { acts = p.acts; entries = p.entries; grew = p.grew; leaves = p.leaves; folders = sym (append-nil kept) ∙ ap (λ (fs : List (List ℕ)). kept ++ fs) p.folders; answers = p.answers; still = p.still; alters = p.alters }
+pub performs_behind : {A : Type 0} (gives : List Act → Option World → Result A Error → Type 0) (begins : BegunBy) (told after : Option World) (kept : List (List ℕ)) (old new : List Entry) (r : Result A Error) → Performs gives begins told after [] [] old new r → Performs gives begins told after kept kept old new r
+performs_behind gives begins told after kept old new r p =
+    record { acts = p.acts; entries = p.entries; grew = p.grew; leaves = p.leaves; folders = sym (append-nil kept) ∙ ap (λ (fs : List (List ℕ)). kept ++ fs) p.folders; answers = p.answers; begun = p.begun; still = p.still; alters = p.alters }
 
 -- the same for what says more
-pub performs_more : {A : Type 0} (first gives : List Act → Option World → Result A Error → Type 0) (told after : Option World) (kept keeps : List (List ℕ)) (old new : List Entry) (r : Result A Error) → ((acts : List Act) (s : Result A Error) → first acts after s → gives acts after s)
-    → Performs first told after kept keeps old new r → Performs gives told after kept keeps old new r
-performs_more first gives told after kept keeps old new (Ok x) over p =
-    record { acts = p.acts; entries = p.entries; grew = p.grew; leaves = p.leaves; folders = p.folders; answers = over p.acts (Ok x) p.answers; still = p.still; alters = p.alters }
-performs_more first gives told after kept keeps old new (Err e) over p =
-    record { acts = p.acts; entries = p.entries; grew = p.grew; leaves = p.leaves; folders = p.folders; answers = or_more (λ z. first p.acts after z) (λ z. gives p.acts after z) (λ z. over p.acts z) e p.answers; still = p.still; alters = p.alters }
+pub performs_more : {A : Type 0} (first gives : List Act → Option World → Result A Error → Type 0) (one begins : BegunBy) (told after : Option World) (kept keeps : List (List ℕ)) (old new : List Entry) (r : Result A Error) → ((acts : List Act) (s : Result A Error) → first acts after s → gives acts after s) → ((acts : List Act) → one acts after → begins acts after)
+    → Performs first one told after kept keeps old new r → Performs gives begins told after kept keeps old new r
+performs_more first gives one begins told after kept keeps old new (Ok x) over up p =
+    record { acts = p.acts; entries = p.entries; grew = p.grew; leaves = p.leaves; folders = p.folders; answers = over p.acts (Ok x) p.answers; begun = up p.acts p.begun; still = p.still; alters = p.alters }
+performs_more first gives one begins told after kept keeps old new (Err e) over up p =
+    record { acts = p.acts; entries = p.entries; grew = p.grew; leaves = p.leaves; folders = p.folders; answers = or_more (λ z. first p.acts after z) (λ z. gives p.acts after z) (λ z. over p.acts z) e p.answers; begun = up p.acts p.begun; still = p.still; alters = p.alters }
 
 -- the same acts for another answer
-pub performs_as : {A B : Type 0} (first : List Act → Option World → Result A Error → Type 0) (gives : List Act → Option World → Result B Error → Type 0) (told after : Option World) (kept keeps : List (List ℕ)) (old new : List Entry) (x : A) (y : B)
-    → Performs first told after kept keeps old new (Ok x) → ((acts : List Act) → first acts after (Ok x) → gives acts after (Ok y)) → Performs gives told after kept keeps old new (Ok y)
-performs_as first gives told after kept keeps old new x y p more =
-    record { acts = p.acts; entries = p.entries; grew = p.grew; leaves = p.leaves; folders = p.folders; answers = more p.acts p.answers; still = p.still; alters = p.alters }
+pub performs_as : {A B : Type 0} (first : List Act → Option World → Result A Error → Type 0) (gives : List Act → Option World → Result B Error → Type 0) (one begins : BegunBy) (told after : Option World) (kept keeps : List (List ℕ)) (old new : List Entry) (x : A) (y : B)
+    → Performs first one told after kept keeps old new (Ok x) → ((acts : List Act) → first acts after (Ok x) → gives acts after (Ok y)) → ((acts : List Act) → one acts after → begins acts after) → Performs gives begins told after kept keeps old new (Ok y)
+performs_as first gives one begins told after kept keeps old new x y p more up =
+    record { acts = p.acts; entries = p.entries; grew = p.grew; leaves = p.leaves; folders = p.folders; answers = more p.acts p.answers; begun = up p.acts p.begun; still = p.still; alters = p.alters }
 
-pub performs_lost : {A B : Type 0} (first : List Act → Option World → Result A Error → Type 0) (gives : List Act → Option World → Result B Error → Type 0) (told after : Option World) (kept keeps : List (List ℕ)) (old new : List Entry) (e : Error)
-    → Performs first told after kept keeps old new (Err e) → ((acts : List Act) → OrMemory (λ x. first acts after (Err x)) e → OrMemory (λ x. gives acts after (Err x)) e) → Performs gives told after kept keeps old new (Err e)
-performs_lost first gives told after kept keeps old new e p more =
-    record { acts = p.acts; entries = p.entries; grew = p.grew; leaves = p.leaves; folders = p.folders; answers = more p.acts p.answers; still = p.still; alters = p.alters }
+pub performs_lost : {A B : Type 0} (first : List Act → Option World → Result A Error → Type 0) (gives : List Act → Option World → Result B Error → Type 0) (one begins : BegunBy) (told after : Option World) (kept keeps : List (List ℕ)) (old new : List Entry) (e : Error)
+    → Performs first one told after kept keeps old new (Err e) → ((acts : List Act) → OrMemory (λ x. first acts after (Err x)) e → OrMemory (λ x. gives acts after (Err x)) e) → ((acts : List Act) → one acts after → begins acts after) → Performs gives begins told after kept keeps old new (Err e)
+performs_lost first gives one begins told after kept keeps old new e p more up =
+    record { acts = p.acts; entries = p.entries; grew = p.grew; leaves = p.leaves; folders = p.folders; answers = more p.acts p.answers; begun = up p.acts p.begun; still = p.still; alters = p.alters }
 
 -- an answer in the place of a refusal that is of no call
-pub performs_instead : {A B : Type 0} (first : List Act → Option World → Result A Error → Type 0) (gives : List Act → Option World → Result B Error → Type 0) (told after : Option World) (kept keeps : List (List ℕ)) (old new : List Entry) (e : Error) (y : B)
-    → ((parent : List ℕ) → entries_in parent e ≡ []) → Performs first told after kept keeps old new (Err e) → ((acts : List Act) → OrMemory (λ x. first acts after (Err x)) e → gives acts after (Ok y)) → Performs gives told after kept keeps old new (Ok y)
-performs_instead first gives told after kept keeps old new e y silent p more = record {
+pub performs_instead : {A B : Type 0} (first : List Act → Option World → Result A Error → Type 0) (gives : List Act → Option World → Result B Error → Type 0) (one begins : BegunBy) (told after : Option World) (kept keeps : List (List ℕ)) (old new : List Entry) (e : Error) (y : B)
+    → ((parent : List ℕ) → entries_in parent e ≡ []) → Performs first one told after kept keeps old new (Err e) → ((acts : List Act) → OrMemory (λ x. first acts after (Err x)) e → gives acts after (Ok y)) → ((acts : List Act) → one acts after → begins acts after)
+    → Performs gives begins told after kept keeps old new (Ok y)
+performs_instead first gives one begins told after kept keeps old new e y silent p more up = record {
   acts = p.acts;
   entries = p.entries;
   grew = p.grew;
   leaves = (p.leaves.0, p.leaves.2, p.leaves.3 ∙ (ap (λ xs. p.leaves.0 ++ xs) (silent p.leaves.1) ∙ append-nil p.leaves.0));
   folders = p.folders;
   answers = more p.acts p.answers;
+  begun = up p.acts p.begun;
   still = p.still;
   alters = p.alters;
 }
 
 -- want of memory behind an answer
-pub performs_short : {A B : Type 0} (first : List Act → Option World → Result A Error → Type 0) (gives : List Act → Option World → Result B Error → Type 0) (told after : Option World) (kept keeps : List (List ℕ)) (old new : List Entry) (x : A) (e : Error) → e ≡ error.NoMemory
-    → Performs first told after kept keeps old new (Ok x) → Performs gives told after kept keeps old new (Err e)
-performs_short first gives told after kept keeps old new x e is p = record {
+pub performs_short : {A B : Type 0} (first : List Act → Option World → Result A Error → Type 0) (gives : List Act → Option World → Result B Error → Type 0) (begins : BegunBy) (told after : Option World) (kept keeps : List (List ℕ)) (old new : List Entry) (x : A) (e : Error) → e ≡ error.NoMemory
+    → Performs first begins told after kept keeps old new (Ok x) → Performs gives begins told after kept keeps old new (Err e)
+performs_short first gives begins told after kept keeps old new x e is p = record {
   acts = p.acts;
   entries = p.entries;
   grew = p.grew;
   leaves = (p.leaves.0, [], p.leaves.1, p.leaves.2 ∙ (sym (append-nil p.leaves.0) ∙ ap (λ z. p.leaves.0 ++ entries_in [] z) (sym is)));
   folders = p.folders;
   answers = inl is;
+  begun = p.begun;
   still = p.still;
   alters = p.alters;
 }
 
 -- ---- behind listings
 
-module _ {A : Type 0} (global : Type 0) (asks : List Entry → List Act → Option World → Result A Error → Type 0) (told : Option World) (kept : List (List ℕ)) (old : List Entry) where
+module _ {A : Type 0} (global : Type 0) (asks : List Entry → List Act → Option World → Result A Error → Type 0) (begins : List Entry → BegunBy) (told : Option World) (kept : List (List ℕ)) (old : List Entry) where
   -- a refused call
-  pub ends_call : (after : Option World) (new : List Entry) (e : Error) → after ≡ told → new ≡ old ++ entries_of e → ((listings : List Entry) → OrMemory (λ x. asks listings [] after (Err x)) e) → Prepares global asks told after kept kept old new (Err e)
-  ends_call after new e world grew why =
-      ([], inl refl, performs_refusal (asks []) told after kept (old ++ []) new world e (entries_of e, grew ∙ ap (λ es. es ++ entries_of e) (sym (append-nil old)), ([], tt, refl)) (why []))
+  pub ends_call : (after : Option World) (new : List Entry) (e : Error) → after ≡ told → begins [] [] after → new ≡ old ++ entries_of e → ((listings : List Entry) → OrMemory (λ x. asks listings [] after (Err x)) e) → Prepares global asks begins told after kept kept old new (Err e)
+  ends_call after new e world begun grew why =
+      ([], inl refl, performs_refusal (asks []) (begins []) told after kept (old ++ []) new world begun e (entries_of e, grew ∙ ap (λ es. es ++ entries_of e) (sym (append-nil old)), ([], tt, refl)) (why []))
 
   -- a refusal of no call leaves nothing
-  pub ends_nothing : (after : Option World) (new : List Entry) (e : Error) → after ≡ told → new ≡ old → entries_of e ≡ [] → ((listings : List Entry) → OrMemory (λ x. asks listings [] after (Err x)) e) → Prepares global asks told after kept kept old new (Err e)
-  ends_nothing after new e world same silent why = ends_call after new e world (same ∙ (sym (append-nil old) ∙ ap (λ es. old ++ es) (sym silent))) why
+  pub ends_nothing : (after : Option World) (new : List Entry) (e : Error) → after ≡ told → begins [] [] after → new ≡ old → entries_of e ≡ [] → ((listings : List Entry) → OrMemory (λ x. asks listings [] after (Err x)) e) → Prepares global asks begins told after kept kept old new (Err e)
+  ends_nothing after new e world begun same silent why = ends_call after new e world begun (same ∙ (sym (append-nil old) ∙ ap (λ es. old ++ es) (sym silent))) why
 
   module _ (listings : List Entry) (passed : ArePassed global listings) where
     -- a refused search
-    pub ends_search : (after : Option World) (new : List Entry) (e : Error) → after ≡ told → new ≡ old ++ (listings ++ entries_of e) → OrMemory (λ x. asks listings [] after (Err x)) e → Prepares global asks told after kept kept old new (Err e)
-    ends_search after new e world grew why =
-        (listings, passed, performs_refusal (asks listings) told after kept (old ++ listings) new world e (entries_of e, grew ∙ sym (append_assoc old listings (entries_of e)), ([], tt, refl)) why)
+    pub ends_search : (after : Option World) (new : List Entry) (e : Error) → after ≡ told → begins listings [] after → new ≡ old ++ (listings ++ entries_of e) → OrMemory (λ x. asks listings [] after (Err x)) e → Prepares global asks begins told after kept kept old new (Err e)
+    ends_search after new e world begun grew why =
+        (listings, passed, performs_refusal (asks listings) (begins listings) told after kept (old ++ listings) new world begun e (entries_of e, grew ∙ sym (append_assoc old listings (entries_of e)), ([], tt, refl)) why)
 
 -- ---- a preparation as one of more
 
-module _ {A : Type 0} (global wider : Type 0) (asks more : List Entry → List Act → Option World → Result A Error → Type 0) (up : global → wider) (after : Option World) (over : (listings : List Entry) (acts : List Act) (r : Result A Error) → asks listings acts after r → more listings acts after r) where
+module _ {A : Type 0} (global wider : Type 0) (asks more : List Entry → List Act → Option World → Result A Error → Type 0) (one begins : List Entry → BegunBy) (up : global → wider) (after : Option World) (over : (listings : List Entry) (acts : List Act) (r : Result A Error) → asks listings acts after r → more listings acts after r)
+    (over_begun : (listings : List Entry) (acts : List Act) → one listings acts after → begins listings acts after) where
   passed_over : (listings : List Entry) → ArePassed global listings → ArePassed wider listings
   passed_over listings (inl none) = inl none
   passed_over listings (inr some) = inr (up some.0, some.1)
@@ -249,7 +259,7 @@ module _ {A : Type 0} (global wider : Type 0) (asks more : List Entry → List A
   answers_over listings acts (Ok x) asked = over listings acts (Ok x) asked
   answers_over listings acts (Err e) why = or_over listings acts e why
 
-  pub prepares_over : (told begun : Option World) (kept keeps : List (List ℕ)) (old now new : List Entry) (r : Result A Error) → begun ≡ told → now ≡ old → Prepares global asks begun after kept keeps now new r → Prepares wider more told after kept keeps old new r
+  pub prepares_over : (told begun : Option World) (kept keeps : List (List ℕ)) (old now new : List Entry) (r : Result A Error) → begun ≡ told → now ≡ old → Prepares global asks one begun after kept keeps now new r → Prepares wider more begins told after kept keeps old new r
   prepares_over told begun kept keeps old now new r world same (listings, passed, p) = (
     listings,
     passed_over listings passed,
@@ -260,6 +270,7 @@ module _ {A : Type 0} (global wider : Type 0) (asks more : List Entry → List A
       leaves = p.leaves;
       folders = p.folders;
       answers = answers_over listings p.acts r p.answers;
+      begun = over_begun listings p.acts p.begun;
       still = λ none quiet. p.still none quiet ∙ world;
       alters = λ nodes alone quiet. subst (λ t. IsAltered (folders_in p.acts) nodes t after) world (p.alters nodes alone quiet);
     },
@@ -267,8 +278,8 @@ module _ {A : Type 0} (global wider : Type 0) (asks more : List Entry → List A
 
 -- ---- want of memory behind a preparation, which leaves the record and the world as they are
 
-pub memory_behind : {A B : Type 0} (global : Type 0) (asks : List Entry → List Act → Option World → Result A Error → Type 0) (more : List Entry → List Act → Option World → Result B Error → Type 0) (told after later : Option World) (kept keeps : List (List ℕ)) (old new last : List Entry) (x : A)
-    → later ≡ after → last ≡ new → Prepares global asks told after kept keeps old new (Ok x) → Prepares global more told later kept keeps old last (Err error.NoMemory)
-memory_behind {A} {B} global asks more told after later kept keeps old new last x world same (listings, passed, p) =
-    let short : Performs (more listings) told after kept keeps (old ++ listings) new (Err error.NoMemory) = performs_short (asks listings) (more listings) told after kept keeps (old ++ listings) new x error.NoMemory refl p in
-    (listings, passed, subst (λ w. Performs (more listings) told w kept keeps (old ++ listings) last (Err error.NoMemory)) (sym world) (subst (λ es. Performs (more listings) told after kept keeps (old ++ listings) es (Err error.NoMemory)) (sym same) short))
+pub memory_behind : {A B : Type 0} (global : Type 0) (asks : List Entry → List Act → Option World → Result A Error → Type 0) (more : List Entry → List Act → Option World → Result B Error → Type 0) (begins : List Entry → BegunBy) (told after later : Option World) (kept keeps : List (List ℕ)) (old new last : List Entry) (x : A)
+    → later ≡ after → last ≡ new → Prepares global asks begins told after kept keeps old new (Ok x) → Prepares global more begins told later kept keeps old last (Err error.NoMemory)
+memory_behind {A} {B} global asks more begins told after later kept keeps old new last x world same (listings, passed, p) =
+    let short : Performs (more listings) (begins listings) told after kept keeps (old ++ listings) new (Err error.NoMemory) = performs_short (asks listings) (more listings) (begins listings) told after kept keeps (old ++ listings) new x error.NoMemory refl p in
+    (listings, passed, subst (λ w. Performs (more listings) (begins listings) told w kept keeps (old ++ listings) last (Err error.NoMemory)) (sym world) (subst (λ es. Performs (more listings) (begins listings) told after kept keeps (old ++ listings) es (Err error.NoMemory)) (sym same) short))

@@ -1,5 +1,5 @@
 -- Each step of a request gives one answer of its own at most, and so does the request.
-use Rattle.std.proofs.Common.{◌≡◌, ℕ, Bool, true, false, true≢false, List, [], ◌∷◌, map, Option, Some, None, Result, Ok, Err, ◌++◌, refl, sym, ◌∙◌, ap, subst, append_assoc, append-nil}
+use Rattle.std.proofs.Common.{◌≡◌, ℕ, true, false, true≢false, List, [], ◌∷◌, map, Option, Some, None, Result, Ok, Err, ◌++◌, refl, sym, ◌∙◌, ap, subst, append-nil}
 use Rattle.just_path_text.specs.declared.environ.Environ.{Environ}
 use Rattle.just_path.specs.declared.host.Miss.{Miss}
 use Rattle.just_host_record.specs.World.{World}
@@ -16,7 +16,7 @@ use Rattle.just_env.specs.declared.search_error.SearchError.{SearchError}
 use Rattle.just_search.specs.declared.search_result.Search.{Search}
 use Rattle.just_search.specs.Files.{parent_of}
 use Rattle.just_cli.specs.Acts.{Act, AreToldBehind, Step, Looks, Behind}
-use Rattle.just_cli.proofs.Acting.{Agrees, GivesOwnStep, looks_own, agrees_as, agrees_refusal, in_two, told_later, told_front, told_world, common, behind_own}
+use Rattle.just_cli.proofs.Acting.{GivesOwnStep, looks_own, agrees_as, agrees_refusal, in_two, told_front, told_world, common, behind_own}
 use Rattle.just_cli.proofs.OneFile.{materializes_one}
 use Rattle.just_cli.specs.Faults.{CallGives, FaultFits, io_error, folder_error}
 use Rattle.just_host_record.specs.declared.entry.Entry.{Entry}
@@ -35,13 +35,14 @@ use Rattle.just_cli_plan.proofs.Loading.{own_world}
 use Rattle.std.proofs.lemmas.List.{append_cancel_left}
 use Rattle.just_cli_plan.proofs.Laws.{plans_agree}
 use Rattle.just_cli_plan.proofs.Requests.{finds_project}
-use Rattle.just_cli_plan.specs.Steps.{Then, stops, goes_on}
+use Rattle.just_cli_plan.specs.Steps.{stops, goes_on}
 use Rattle.just_cli.specs.Request.{LoadsSources, EnvironGiven, FolderGiven, FindsProjectOf, FindsProjectAt, PlansLoaded, AnswersAt, Tries, Decides, Serves, Asks, NoneFailed}
 use Rattle.just_cli.proofs.Arguments.{arguments_one}
 use Rattle.just_cli.proofs.OneLocation.{by_one, own_unfailed}
+use Rattle.just_cli.proofs.Climbing.{climb_of_first}
 use Rattle.just_cli.proofs.OneTried.{own_answer, AnswersOne, from_one}
 use Rattle.just_cli.proofs.OneNew.{new_own}
-use Rattle.just_cli.proofs.OneSearch.{own_search, search_refused}
+use Rattle.just_cli.proofs.OneSearch.{search_refused}
 use Rattle.just_cli_plan.proofs.Steps.{GivesOwn, same_refusal, refused_or_found, same_found, then_own}
 
 -- an option that holds something holds one thing, and not nothing
@@ -309,7 +310,8 @@ answers_one w acts more rest left after later q r s f g (AnswersAt.of_project p 
 
 pub tries_own : GivesOwnStep Tries
 tries_own w acts more rest left after later q r s (x, p, is) own (y, o, at) other all told =
-    let one = from_one (record { config = q.config; environ = q.environ }) answers_one w acts more rest left after later q.location x y p (own_answer q.config x r is own) o (own_answer q.config y s at other) all told in
+    let c : ConfigRequest = record { config = q.config; environ = q.environ } in
+    let one = from_one c answers_one w acts more rest left after later q.location x y (climb_of_first c (Some w) acts after q.location x p) (own_answer q.config x r is own) (climb_of_first c (Some w) more later q.location y o) (own_answer q.config y s at other) all told in
     record { same = is ∙ (ap (λ z. allowed q.config z) one.same ∙ sym at); rests = one.rests; world = one.world; told = one.told; also = one.also }
 
 -- the steps behind the configuration, over listings none of which failed

@@ -1,5 +1,5 @@
 -- A run keeps its promise: from what its steps, its drive, the telling of its error and the removal of its folders ensure.
-use Rattle.std.proofs.Common.{◌≡◌, ◌⊎◌, ◌++◌, inl, inr, ℕ, Bool, true, false, true≢false, List, [], ◌∷◌, Option, Some, None, Result, Ok, Err, refl, sym, ◌∙◌, ap, subst, append_assoc, append-nil}
+use Rattle.std.proofs.Common.{◌≡◌, ◌⊎◌, ◌++◌, inl, inr, ℕ, Bool, true, false, true≢false, List, [], ◌∷◌, Option, Some, None, Result, Ok, Err, MatchOption, refl, sym, ◌∙◌, ap, subst, append_assoc, append-nil}
 use Rattle.std.specs.List.{list_any}
 use Rattle.std.proofs.Math.Logic.{∥∥₁_map}
 use Rattle.std.proofs.lemmas.List.{append_cancel_left}
@@ -30,15 +30,15 @@ use Rattle.just_cli_plan.specs.Pairs.{entries_of as entries_in}
 use Rattle.just_cli.specs.Questions.{AsksQuiet}
 use Rattle.just_cli.specs.Quiet.{AskQuiet}
 use Rattle.just_cli.specs.Preparing.{EndsWith, LeavesActs, EndsActs, Performs, Prepares}
-use Rattle.just_cli.specs.Record.{GoByCacheRule, IsBook, IsTold, is_captured, IsQuiet, Removes, EndsBehind, EndsWell, EndsIll, EndsUnopened, EndsBefore}
+use Rattle.just_cli.specs.Record.{GoByCacheRule, IsBook, IsTold, is_captured, IsQuiet, Removes, EndsWell, EndsIll, EndsUnopened, EndsBefore}
 use Rattle.just_cli_plan.specs.Request.{Outline, outline_of}
-use Rattle.just_cli.specs.Request.{Asks, AsksGlobal, IsAsked, RefusedFor}
+use Rattle.just_cli.specs.Request.{Asks, AsksGlobal, ArePassed, IsAsked, RefusedFor, Begins}
 use Rattle.just_cli.specs.Run.{IsRun}
 use Rattle.just_exec.specs.Codes.{exit_code}
 use Rattle.just_cli.proofs.Altering.{quiet_first, quiet_rest, clearing, removes_none, behind_book, ends_as_it_was, stays_as_it_was}
 use Rattle.just_cli.proofs.Answered.{answered}
 use Rattle.just_cli_plan.proofs.OutcomeLaws.{error_caused, only_memory_left}
-use Rattle.just_cli.proofs.Falls.{faults_rise, misses_rise, memory_wanted}
+use Rattle.just_cli.proofs.Falls.{Failed, faults_rise, misses_rise, memory_wanted}
 use Rattle.just_cli.proofs.Served.{served}
 
 -- what was told behind some stretch
@@ -47,7 +47,7 @@ IsToldBehind quiet e now new = (es : List Entry) × (new ≡ now ++ es) × IsTol
 
 -- what is asked for is prepared
 abbrev Ready : List (List ℕ) → Option World → List Entry → Option World → List (List ℕ) → List (List ℕ) → List Entry → List Entry → Result Outline Error → Type 0
-Ready words told listings between kept made old entered r = Performs (Asks words told listings) told between kept made (old ++ listings) entered r
+Ready words told listings between kept made old entered r = Performs (Asks words told listings) (Begins words told listings) told between kept made (old ++ listings) entered r
 
 -- ---- where no run is asked for
 
@@ -84,12 +84,43 @@ no_acts [] none alone = refl
 no_acts (Act.made folder ∷ acts) none alone = absurd (let no : ⊥ = cc in no)
 no_acts (Act.captured c ∷ acts) none alone = absurd (let no : ⊥ = cc in no)
 
+-- a run that failed, from what is shown of its failure
+failed_run : (words : List (List ℕ)) (told after : Option World) (old new : List Entry) (jobs : Option ℕ) (messages : List Bool) (listings : List Entry) → ArePassed (AsksGlobal words told) listings → (acts : List Act) (between settled : Option World) (quiet : Bool) (f : Failure)
+    → ∥ MatchOption f.plan (AskQuiet words told quiet f.error) (λ p. AsksQuiet words told quiet) ∥₁ → MatchOption f.plan (Unit {0}) (λ p. IsAsked words told listings acts between p jobs messages) → (f.plan ≡ None → ∥ RefusedFor words told listings acts between f.error ∥₁)
+    → Failed listings acts jobs messages quiet (Err f) settled after old new → (f.plan ≡ None → f.history ≡ []) → f.code ≡ exit_code f.error
+    → ((es : List Entry) → new ≡ old ++ es → IsQuiet es → MatchOption f.plan (StaysAsItWas (folders_in acts) told after) (λ p. ∥ EndsAsItWas (folders_in acts) p.nodes told after ∥₁)) → IsRun words told after old new (Err f)
+failed_run words told after old new jobs messages listings passed acts between settled quiet f asks_quiet asked refused left unplanned code untouched =
+    let fits = answered jobs messages words told listings acts between (Err f) asked refused in
+    record {
+      jobs = jobs;
+      messages = messages;
+      listings = listings;
+      passed = passed;
+      acts = acts;
+      between = between;
+      settled = settled;
+      quiet = quiet;
+      quiet_is = asks_quiet;
+      ran = tt;
+      asked = asked;
+      refused = refused;
+      answered = fits;
+      failed = left;
+      complete = served words told listings acts between settled after jobs messages quiet (Err f) old new fits left;
+      unplanned = unplanned;
+      code = code;
+      favoured = memory_wanted listings acts settled after jobs messages quiet (Err f) old new left;
+      faults = faults_rise listings acts settled after jobs messages quiet (Err f) old new left;
+      misses = misses_rise listings acts settled after jobs messages quiet (Err f) old new left;
+      untouched = untouched;
+    }
+
 -- ---- without a plan
 
 -- a refusal of a request, or want of memory, as why there is no plan
-refused_for : (words : List (List ℕ)) (told : Option World) (listings : List Entry) (acts : List Act) (between : Option World) (e : Error) → OrMemory (λ f. Asks words told listings acts between (Err f)) e → RefusedFor words told listings acts between e
-refused_for words told listings acts between e (inl wants) = inr wants
-refused_for words told listings acts between e (inr asks) = inl asks
+refused_for : (words : List (List ℕ)) (told : Option World) (listings : List Entry) (acts : List Act) (between : Option World) (e : Error) → OrMemory (λ f. Asks words told listings acts between (Err f)) e → Begins words told listings acts between → RefusedFor words told listings acts between e
+refused_for words told listings acts between e (inl wants) begun = inr (wants, begun)
+refused_for words told listings acts between e (inr asks) begun = inl asks
 
 module _ (words : List (List ℕ)) (told after : Option World) (old now middle new : List Entry) (quiet : Bool) (between settled : Option World) (kept made : List (List ℕ)) (none : kept ≡ []) (e : Error) (listings : List Entry) (p : Ready words told listings between kept made old now (Err e))
     (tells : IsToldBehind quiet e now middle) (world : settled ≡ between) (removes : Removes made settled middle after new) where
@@ -125,38 +156,15 @@ module _ (words : List (List ℕ)) (told after : Option World) (old now middle n
       (subst (λ w. IsAltered (folders_in p.acts) [] w after) world (c.3 [] (quiet_rest is_failed tells.0 c.0 (quiet_rest is_failed p.entries (tells.0 ++ c.0) still))))
 
 pub run_before : (words : List (List ℕ)) (told after : Option World) (old now middle new : List Entry) (quiet : Bool) (between settled : Option World) (kept made : List (List ℕ)) (r : Result Report Failure) (e : Error) (h : List Event)
-    → r ≡ Err (record { error = e; plan = None; history = h; code = exit_code e }) → h ≡ [] → kept ≡ [] → Prepares {A = Outline} (AsksGlobal words told) (Asks words told) told between kept made old now (Err e) → AskQuiet words told quiet e
+    → r ≡ Err (record { error = e; plan = None; history = h; code = exit_code e }) → h ≡ [] → kept ≡ [] → Prepares {A = Outline} (AsksGlobal words told) (Asks words told) (Begins words told) told between kept made old now (Err e) → AskQuiet words told quiet e
     → IsToldBehind quiet e now middle → settled ≡ between → Removes made settled middle after new → IsRun words told after old new r
 run_before words told after old now middle new quiet between settled kept made r e h is no_history none (listings, passed, p) asks_quiet tells world removes =
     let f : Failure = record { error = e; plan = None; history = h; code = exit_code e } in
-    let jobs : Option ℕ = None in
-    let messages : List Bool = [] in
-    let refused : f.plan ≡ None → ∥ RefusedFor words told listings p.acts between e ∥₁ = λ _. ∣ refused_for words told listings p.acts between e p.answers ∣₁ in
+    let refused : f.plan ≡ None → ∥ RefusedFor words told listings p.acts between e ∥₁ = λ _. ∣ refused_for words told listings p.acts between e p.answers p.begun ∣₁ in
     let left : ∥ EndsUnopened listings p.acts quiet e settled after old new ∥₁ = ∣ unopened words told after old now middle new quiet between settled kept made none e listings p tells world removes ∣₁ in
-    let fits = answered jobs messages words told listings p.acts between (Err f) tt refused in
-    subst (λ q. IsRun words told after old new q) (sym is) (record {
-      jobs = jobs;
-      messages = messages;
-      listings = listings;
-      passed = passed;
-      acts = p.acts;
-      between = between;
-      settled = settled;
-      quiet = quiet;
-      quiet_is = ∣ asks_quiet ∣₁;
-      ran = tt;
-      asked = tt;
-      refused = refused;
-      answered = fits;
-      failed = left;
-      complete = served words told listings p.acts between settled after jobs messages quiet (Err f) old new fits left;
-      unplanned = λ _. no_history;
-      code = refl;
-      favoured = memory_wanted listings p.acts settled after jobs messages quiet (Err f) old new left;
-      faults = faults_rise listings p.acts settled after jobs messages quiet (Err f) old new left;
-      misses = misses_rise listings p.acts settled after jobs messages quiet (Err f) old new left;
-      untouched = λ es grown calm. stays words told after old now middle new quiet between settled kept made none e listings p tells world removes es grown calm;
-    })
+    subst (λ q. IsRun words told after old new q) (sym is)
+    (failed_run words told after old new None [] listings passed p.acts between settled quiet f ∣ asks_quiet ∣₁ tt refused left (λ _. no_history) refl
+    (λ es grown calm. stays words told after old now middle new quiet between settled kept made none e listings p tells world removes es grown calm))
 
 -- ---- with a plan; behind what its preparation leaves the record is `entered`
 
@@ -241,7 +249,7 @@ some_none : {A : Type 0} (x : A) → Some x ≡ None → ⊥
 some_none x is = let no : ⊥ = cc in no
 
 pub run_well : (words : List (List ℕ)) (told after : Option World) (old entered now new : List Entry) (w seen : Option World) (kept made : List (List ℕ)) (jobs : Option ℕ) (messages : List Bool) (quiet : Bool) (plan driven : Plan) (h : List Event) (v : Verdict) (r : Result Report Failure) (nodes : List PlanNode) (heard : List Bool) (shown : List Event)
-    → r ≡ Ok (record { plan = driven; history = h }) → IsDriven (start_with plan jobs entered w) driven h v now seen → kept ≡ [] → Prepares (AsksGlobal words told) (Asks words told) told w kept made old entered (Ok (outline_of plan jobs messages))
+    → r ≡ Ok (record { plan = driven; history = h }) → IsDriven (start_with plan jobs entered w) driven h v now seen → kept ≡ [] → Prepares (AsksGlobal words told) (Asks words told) (Begins words told) told w kept made old entered (Ok (outline_of plan jobs messages))
     → IsErrorFor nodes heard shown v None → Removes made seen now after new → IsRun words told after old new r
 run_well words told after old entered now new w seen kept made jobs messages quiet plan driven h v r nodes heard shown is driven_so none (listings, passed, p) no_error removes =
     let d : IsDriven (start_with plan jobs entered w) plan h v now seen = subst (λ p. IsDriven (start_with plan jobs entered w) p h v now seen) driven_so.plan driven_so in
@@ -275,7 +283,7 @@ run_well words told after old entered now new w seen kept made jobs messages qui
 
 pub run_ill : (words : List (List ℕ)) (told after : Option World) (old entered now middle new : List Entry) (w seen settled : Option World) (kept made : List (List ℕ)) (jobs : Option ℕ) (messages : List Bool) (quiet : Bool) (plan driven : Plan) (h : List Event) (heard : List Bool) (shown : List Event) (v : Verdict) (e : Error) (r : Result Report Failure)
     → r ≡ Err (record { error = e; plan = Some driven; history = h; code = exit_code e }) → IsDriven (start_with plan jobs entered w) driven h v now seen → kept ≡ []
-    → Prepares (AsksGlobal words told) (Asks words told) told w kept made old entered (Ok (outline_of plan jobs messages)) → AsksQuiet words told quiet → settled ≡ seen
+    → Prepares (AsksGlobal words told) (Asks words told) (Begins words told) told w kept made old entered (Ok (outline_of plan jobs messages)) → AsksQuiet words told quiet → settled ≡ seen
     → IsErrorFor driven.nodes heard shown v (Some e) → heard ≡ messages → shown ≡ h → IsToldBehind quiet e now middle → Removes made settled middle after new → IsRun words told after old new r
 run_ill words told after old entered now middle new w seen settled kept made jobs messages quiet plan driven h heard shown v e r is driven_so none (listings, passed, p) asks_quiet world error_is heard_is shown_is tells removes =
     let d : IsDriven (start_with plan jobs entered w) plan h v now seen = subst (λ p. IsDriven (start_with plan jobs entered w) p h v now seen) driven_so.plan driven_so in
@@ -285,27 +293,6 @@ run_ill words told after old entered now middle new w seen settled kept made job
     let asked : IsAsked words told listings p.acts w plan jobs messages = ∣ p.answers ∣₁ in
     let refused : f.plan ≡ None → ∥ RefusedFor words told listings p.acts w e ∥₁ = λ no_plan. absurd (some_none plan no_plan) in
     let left = ends_ill words told listings plan jobs messages old entered w kept made none p h v now seen d settled after middle new removes messages quiet e decided tells in
-    let fits = answered jobs messages words told listings p.acts w (Err f) asked refused in
-    subst (λ q. IsRun words told after old new q) (sym same) (record {
-      jobs = jobs;
-      messages = messages;
-      listings = listings;
-      passed = passed;
-      acts = p.acts;
-      between = w;
-      settled = settled;
-      quiet = quiet;
-      quiet_is = ∣ asks_quiet ∣₁;
-      ran = tt;
-      asked = asked;
-      refused = refused;
-      answered = fits;
-      failed = left;
-      complete = served words told listings p.acts w settled after jobs messages quiet (Err f) old new fits left;
-      unplanned = λ no_plan. absurd (some_none plan no_plan);
-      code = refl;
-      favoured = memory_wanted listings p.acts settled after jobs messages quiet (Err f) old new left;
-      faults = faults_rise listings p.acts settled after jobs messages quiet (Err f) old new left;
-      misses = misses_rise listings p.acts settled after jobs messages quiet (Err f) old new left;
-      untouched = λ es grown calm. as_it_was words told listings plan jobs messages old entered w kept made none p h v now seen d settled after middle new removes tells.0 tells.1 world es grown calm;
-    })
+    subst (λ q. IsRun words told after old new q) (sym same)
+    (failed_run words told after old new jobs messages listings passed p.acts w settled quiet f ∣ asks_quiet ∣₁ asked refused left (λ no_plan. absurd (some_none plan no_plan)) refl
+    (λ es grown calm. as_it_was words told listings plan jobs messages old entered w kept made none p h v now seen d settled after middle new removes tells.0 tells.1 world es grown calm))

@@ -1,14 +1,11 @@
 -- The justfile in a place as a part of a preparation, from what making it a file answers and leaves.
-use Rattle.std.proofs.Common.{◌≡◌, ◌⊎◌, ◌++◌, inl, inr, ℕ, Bool, true, false, true≢false, List, [], ◌∷◌, map, Option, Some, None, Result, Ok, Err, refl, sym, ◌∙◌, ap, subst, append-nil}
+use Rattle.std.proofs.Common.{◌≡◌, ◌⊎◌, ◌++◌, inl, inr, ℕ, true, false, true≢false, List, [], ◌∷◌, map, Option, Result, Ok, Err, refl, sym, ◌∙◌, ap, subst, append-nil}
 use Rattle.std.specs.Prelude.{◌≢◌}
 use Rattle.std.specs.List.{list_any}
-use Rattle.just_path_text.specs.declared.environ.Environ.{Environ}
 use Rattle.just_host_record.specs.World.{World}
 use Rattle.just_host_record.specs.Looks.{dash}
-use Rattle.just_host_record.specs.Record.{is_failed, refused, text_or_empty}
-use Rattle.just_host_record.specs.declared.entry.Call.TheVariants as call
+use Rattle.just_host_record.specs.Record.{is_failed, text_or_empty}
 use Rattle.just_host_record.specs.declared.entry.Entry.{Entry}
-use Rattle.just_host_record.specs.declared.entry.HostFault.{HostFault}
 use Rattle.just_host_record.specs.declared.entry.HostFault.TheVariants as fault
 use Rattle.just_config.specs.declared.config.Config.{Config}
 use Rattle.just_env.specs.declared.search_error.SearchError.{SearchError}
@@ -17,8 +14,8 @@ use Rattle.just_search.specs.declared.search_result.Search.{Search}
 use Rattle.just_search.specs.declared.location.Location.{Location}
 use Rattle.just_search.specs.declared.location.Origin.{Origin}
 use Rattle.just_search.specs.declared.location.Origin.TheVariants as origin
-use Rattle.just_search.specs.Calls.{IsRefusal, made_entries, left_entries, entries_of as search_entries}
-use Rattle.just_search.specs.Files.{parent_of, file_in, Makes, Writes, WritesText, MakesFolders, Materializes}
+use Rattle.just_search.specs.Calls.{made_entries, left_entries, entries_of as search_entries}
+use Rattle.just_search.specs.Files.{parent_of, WritesText, MakesFolders, Materializes}
 use Rattle.just_search.specs.Texts.{GivesText}
 use Rattle.just_exec.specs.Refusals.{error_of_search}
 use Rattle.just_exec.specs.declared.error.Error.{Error}
@@ -32,8 +29,8 @@ use Rattle.just_cli_plan.specs.Pairs.{entries_of as entries_in}
 use Rattle.just_cli.specs.Options.{cache_beside, wanted_of}
 use Rattle.just_cli.specs.Preparing.{Performs}
 use Rattle.just_cli.specs.Taken.{TakesWanted}
-use Rattle.just_cli.specs.Words.{LocatedRequest, JustfileRequest, TakesFile}
-use Rattle.just_cli.proofs.Altering.{altered_same, altered_then, altered_made, altered_written, unmade, unwritten_same, quiet_first, quiet_rest}
+use Rattle.just_cli.specs.Words.{LocatedRequest, JustfileRequest, TakesFile, BeginsIn}
+use Rattle.just_cli.proofs.Altering.{altered_same, altered_then, altered_made, altered_written, unmade, unwritten_same}
 
 -- ---- folders as acts
 
@@ -123,7 +120,7 @@ module _ (config : Config) (place location : Location) (is_place : place ≡ loc
   IsMaterialized r = MakesFolders (Materializes told after (parent_of config) place) (parent_of config) kept keeps old new r
 
   abbrev Taken : Result (Wanted × List ℕ) Error → Type 0
-  Taken r = Performs {A = Wanted × List ℕ} (TakesWanted config location told) told after kept keeps old new r
+  Taken r = Performs {A = Wanted × List ℕ} (TakesWanted config location told) (BeginsIn config location told) told after kept keeps old new r
 
   at_location : (folders : List (List ℕ)) (r : Result Search SearchError) → Materializes told after (parent_of config) place folders r → Materializes told after (parent_of config) location folders r
   at_location folders r m = subst (λ (l : Location). Materializes told after (parent_of config) l folders r) is_place m
@@ -136,6 +133,7 @@ module _ (config : Config) (place location : Location) (is_place : place ≡ loc
     leaves = (made_entries folders, made_acts folders, append-nil (made_entries folders));
     folders = keep ∙ ap (λ (fs : List (List ℕ)). kept ++ fs) (sym (folders_of folders));
     answers = λ environ. (folders, s, refl, at_location folders (Ok s) m, path, wanted, refl);
+    begun = (folders, Ok s, refl, at_location folders (Ok s) m);
     still = λ none quiet. file_still told after (parent_of config) place folders (Ok s) m (no_folders folders none);
     alters = λ nodes alone quiet. subst (λ (fs : List (List ℕ)). IsAltered fs nodes told after) (sym (folders_of folders)) (file_alters told after (parent_of config) place nodes folders (Ok s) m quiet);
   }
@@ -149,6 +147,7 @@ module _ (config : Config) (place location : Location) (is_place : place ≡ loc
     leaves = (made_entries folders, [], made_acts folders, refl);
     folders = keep ∙ ap (λ (fs : List (List ℕ)). kept ++ fs) (sym (folders_of folders));
     answers = inl refl;
+    begun = (folders, Ok s, refl, at_location folders (Ok s) m);
     still = λ none quiet. file_still told after (parent_of config) place folders (Ok s) m (no_folders folders none);
     alters = λ nodes alone quiet. subst (λ (fs : List (List ℕ)). IsAltered fs nodes told after) (sym (folders_of folders)) (file_alters told after (parent_of config) place nodes folders (Ok s) m quiet);
   }
@@ -165,6 +164,7 @@ module _ (config : Config) (place location : Location) (is_place : place ≡ loc
     leaves = (made_entries folders, path_of told after (parent_of config) place f, made_acts folders, file_entries told after (parent_of config) place folders (Err f) m ∙ ap (λ x. made_entries folders ++ entries_in (path_of told after (parent_of config) place f) x) (sym is));
     folders = keep ∙ ap (λ (fs : List (List ℕ)). kept ++ fs) (sym (folders_of folders));
     answers = why folders f e m is (wants_or_not f);
+    begun = (folders, Err f, refl, at_location folders (Err f) m);
     still = λ none quiet. file_still told after (parent_of config) place folders (Err f) m (no_folders folders none);
     alters = λ nodes alone quiet. subst (λ (fs : List (List ℕ)). IsAltered fs nodes told after) (sym (folders_of folders)) (file_alters told after (parent_of config) place nodes folders (Err f) m quiet);
   }
@@ -175,7 +175,7 @@ takes_still told after acts q (Ok j) (folders, s, is, m, path, wanted, environ) 
 takes_still told after acts q (Err e) (folders, f, is, m, never, from) none = file_still told after (parent_of q.config) q.location folders (Err f) m (no_folders folders (sym is ∙ none))
 
 -- memory is wanting before
-pub taken_nothing : (config : Config) (location : Location) (told : Option World) (kept : List (List ℕ)) (old : List Entry) → Performs {A = Wanted × List ℕ} (TakesWanted config location told) told told kept kept old old (Err error.NoMemory)
+pub taken_nothing : (config : Config) (location : Location) (told : Option World) (kept : List (List ℕ)) (old : List Entry) → Performs {A = Wanted × List ℕ} (TakesWanted config location told) (BeginsIn config location told) told told kept kept old old (Err error.NoMemory)
 taken_nothing config location told kept old = record {
   acts = [];
   entries = [];
@@ -183,6 +183,7 @@ taken_nothing config location told kept old = record {
   leaves = ([], [], AreActs.none, refl);
   folders = sym (append-nil kept);
   answers = inl refl;
+  begun = ([], Err search.NoMemory, refl, Materializes.no_memory refl);
   still = λ none quiet. refl;
   alters = λ nodes alone quiet. altered_same [] nodes told told refl;
 }

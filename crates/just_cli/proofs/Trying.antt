@@ -1,10 +1,9 @@
 -- The justfiles that are tried one behind the other, as parts of a preparation, from what is asked of each.
-use Rattle.std.proofs.Common.{◌≡◌, ◌++◌, ◌⊎◌, inl, inr, ℕ, Bool, true, false, true≢false, List, [], Option, Some, None, Result, Ok, Err, MatchOption, refl, sym, ◌∙◌, ap, subst, append_assoc, append-nil}
+use Rattle.std.proofs.Common.{◌≡◌, ◌++◌, inl, inr, ℕ, Bool, true, false, true≢false, List, [], ◌∷◌, Option, Some, None, Result, Ok, Err, MatchOption, refl, sym, ◌∙◌, ap, subst, append_assoc, append-nil}
 use Rattle.std.specs.Prelude.{◌&&◌, if◌then◌else◌}
 use Rattle.just_host_record.specs.World.{World}
 use Rattle.just_host_record.specs.declared.entry.Entry.{Entry}
 use Rattle.just_env.specs.declared.search_error.SearchError.{SearchError}
-use Rattle.just_env.specs.declared.search_error.SearchError.TheVariants as search
 use Rattle.just_env.specs.Answers.{Answers as AnswersSearch, entries_of as search_entries}
 use Rattle.just_search.specs.declared.location.Location.{Location}
 use Rattle.just_search.specs.Fallback.{FallsBack}
@@ -19,8 +18,9 @@ use Rattle.just_cli.specs.Faults.{entries_of}
 use Rattle.just_cli.specs.Options.{is_lacking, is_missing, empty_outline}
 use Rattle.just_cli.specs.Preparing.{Answers, Performs}
 use Rattle.just_cli.specs.Words.{ConfigRequest, LocatedRequest}
-use Rattle.just_cli.specs.Request.{AnswersAt, at_place, TriesFrom, Tries}
-use Rattle.just_cli.specs.Taken.{PerformsFrom, FallsTo, FallsOn, PerformsFall, PerformsTries}
+use Rattle.just_cli.specs.Request.{AnswersAt, at_place, Tried, StandsBehind, acts_of, IsFirstAnswer, Tries, BeginsAt, BeginsFrom, BeginsTries}
+use Rattle.just_cli.specs.Taken.{TriesFrom, PerformsFrom, FallsTo, FallsOn, PerformsFall, PerformsTries}
+use Rattle.just_cli.proofs.Climbing.{first_of_climb}
 use Rattle.just_cli.proofs.Loading.{same_entries}
 use Rattle.just_cli.proofs.PlainSearch.{next_error}
 use Rattle.just_cli.proofs.Planless.{lacking_silent}
@@ -63,18 +63,28 @@ module _ (c : ConfigRequest) (location : Location) (told : Option World) (kept :
   abbrev From : List Act → Option World → Result Outline Error → Type 0
   From acts after r = TriesFrom c told acts after location r
 
+  -- what was begun of it, and from it on
+  abbrev BeginsIt : List Act → Option World → Type 0
+  BeginsIt acts after = BeginsAt told acts after (at_place c location)
+
+  abbrev Begins : List Act → Option World → Type 0
+  Begins acts after = BeginsFrom c told acts after location
+
+  from_it : (after : Option World) (acts : List Act) → BeginsIt acts after → Begins acts after
+  from_it after acts begins = ([], acts, begins, refl)
+
   -- ---- its answer stands
 
-  pub stands_planned : (after : Option World) (keeps : List (List ℕ)) (new : List Entry) (fallback : Bool) (o : Outline) → Performs (AsksIt fallback) told after kept keeps old new (Ok o) → PerformsFrom c location told after kept keeps old new (Ok o)
-  stands_planned after keeps new fallback o p = performs_as (AsksIt fallback) From told after kept keeps old new o o p (λ acts at. TriesFrom.stands told after acts location (Ok o) fallback at refl)
+  pub stands_planned : (after : Option World) (keeps : List (List ℕ)) (new : List Entry) (fallback : Bool) (o : Outline) → Performs (AsksIt fallback) BeginsIt told after kept keeps old new (Ok o) → PerformsFrom c location told after kept keeps old new (Ok o)
+  stands_planned after keeps new fallback o p = performs_as (AsksIt fallback) From BeginsIt Begins told after kept keeps old new o o p (λ acts at. TriesFrom.stands told after acts location (Ok o) fallback at refl) (from_it after)
 
-  module _ (after : Option World) (keeps : List (List ℕ)) (new : List Entry) (fallback may : Bool) (e : Error) (is : may ≡ (fallback && is_lacking e)) (p : Performs (AsksIt fallback) told after kept keeps old new (Err e)) where
+  module _ (after : Option World) (keeps : List (List ℕ)) (new : List Entry) (fallback may : Bool) (e : Error) (is : may ≡ (fallback && is_lacking e)) (p : Performs (AsksIt fallback) BeginsIt told after kept keeps old new (Err e)) where
     stays_so : (acts : List Act) → may ≡ false → OrMemory (λ x. AsksIt fallback acts after (Err x)) e → OrMemory (λ x. From acts after (Err x)) e
     stays_so acts stays (inl wants) = inl wants
     stays_so acts stays (inr at) = inr (TriesFrom.stands told after acts location (Err e) fallback at (and_false fallback (is_lacking e) (sym is ∙ stays)))
 
     pub stands_refused : may ≡ false → PerformsFrom c location told after kept keeps old new (Err e)
-    stands_refused stays = performs_lost (AsksIt fallback) From told after kept keeps old new e p (λ acts why. stays_so acts stays why)
+    stands_refused stays = performs_lost (AsksIt fallback) From BeginsIt Begins told after kept keeps old new e p (λ acts why. stays_so acts stays why) (from_it after)
 
     -- ---- another one is looked for behind it
 
@@ -94,19 +104,22 @@ module _ (c : ConfigRequest) (location : Location) (told : Option World) (kept :
       lacks_so acts (inl wants) = absurd (memory_lacks e wants lacked)
       lacks_so acts (inr at) = (subst (λ b. AnswersAt told acts after (at_place c location) (Err e) b) sets at, lacked)
 
-      lacks_part : Performs LacksIt told after kept keeps old new (Ok e)
-      lacks_part = performs_instead (AsksIt fallback) LacksIt told after kept keeps old new e e (λ parent. lacking_in parent e lacked) p lacks_so
+      lacks_part : Performs LacksIt Begins told after kept keeps old new (Ok e)
+      lacks_part = performs_instead (AsksIt fallback) LacksIt BeginsIt Begins told after kept keeps old new e e (λ parent. lacking_in parent e lacked) p lacks_so (from_it after)
 
       module _ (seen : Option World) (world : seen ≡ after) (last : List Entry) where
+        begins_seen : (acts : List Act) → Begins acts after → Begins acts seen
+        begins_seen acts begins = subst (λ w. BeginsFrom c told acts w location) (sym world) begins
+
         -- no other is found, or one is
         pub looked : (next : Option Location) → FallsBack after c.config location.working_directory (Ok next) → last ≡ new ++ []
             → MatchOption next (PerformsFrom c location told seen kept keeps old last (Err e)) (λ l. PerformsFall c location told seen kept keeps old last l)
         looked None falls same =
-            performs_looking LacksIt From told after seen kept keeps old new last e (Err e) lacks_part world ([], same, ([], tt, sym (lacking_silent e lacked)))
-            (λ acts at. inr (subst (λ w. TriesFrom c told acts w location (Err e)) (sym world) (TriesFrom.highest told after acts location e at.0 at.1 falls)))
+            performs_looking LacksIt From Begins Begins told after seen kept keeps old new last e (Err e) lacks_part world ([], same, ([], tt, sym (lacking_silent e lacked)))
+            (λ acts at. inr (subst (λ w. TriesFrom c told acts w location (Err e)) (sym world) (TriesFrom.highest told after acts location e at.0 at.1 falls))) begins_seen
         looked (Some next) falls same =
-            performs_looking LacksIt (FallsOn c location told) told after seen kept keeps old new last e (Ok next) lacks_part world ([], same, tt)
-            (λ acts at. subst (λ w. FallsTo c location told acts w next) (sym world) (e, at.0, at.1, falls))
+            performs_looking LacksIt (FallsOn c location told) Begins Begins told after seen kept keeps old new last e (Ok next) lacks_part world ([], same, tt)
+            (λ acts at. subst (λ w. FallsTo c location told acts w next) (sym world) (e, at.0, at.1, falls)) begins_seen
 
         unlooked_why : (acts : List Act) (f : SearchError) (d : Error) → LacksIt acts after (Ok e) → AnswersSearch (λ r. FallsBack after c.config location.working_directory r) (Err f) → d ≡ error_of_search f → OrMemory (λ x. From acts seen (Err x)) d
         unlooked_why acts f d at (inl wants) from = inl (from ∙ ap (λ g. error_of_search g) wants)
@@ -117,42 +130,65 @@ module _ (c : ConfigRequest) (location : Location) (told : Option World) (kept :
         pub unlooked : (f : SearchError) (d : Error) → AnswersSearch (λ r. FallsBack after c.config location.working_directory r) (Err f) → d ≡ error_of_search f → last ≡ new ++ search_entries f
             → PerformsFrom c location told seen kept keeps old last (Err d)
         unlooked f d falls from grew =
-            performs_looking LacksIt From told after seen kept keeps old new last e (Err d) lacks_part world
-            (entries_of d, grew ∙ ap (λ es. new ++ es) (sym (ap (λ x. entries_of x) from ∙ same_entries f (next_error after c.config location.working_directory f falls))), ([], tt, refl)) (λ acts at. unlooked_why acts f d at falls from)
+            performs_looking LacksIt From Begins Begins told after seen kept keeps old new last e (Err d) lacks_part world
+            (entries_of d, grew ∙ ap (λ es. new ++ es) (sym (ap (λ x. entries_of x) from ∙ same_entries f (next_error after c.config location.working_directory f falls))), ([], tt, refl)) (λ acts at. unlooked_why acts f d at falls from) begins_seen
 
 -- ---- from place to place
 
--- what is asked from this place on, behind these acts, is what is asked from the first place on
+-- what is asked from this place on, behind these acts, is what is asked from the first place on; and so is what is begun from it on
 abbrev pub Reaches : ConfigRequest → Location → Location → Option World → List Act → Option World → Result (Unit {0}) Error → Type 0
-Reaches c location place told acts now (Ok x) = (rest : List Act) (after : Option World) (r : Result Outline Error) → TriesFrom c now rest after place r → TriesFrom c told (acts ++ rest) after location r
+Reaches c location place told acts now (Ok x) =
+    ((rest : List Act) (after : Option World) (r : Result Outline Error) → TriesFrom c now rest after place r → TriesFrom c told (acts ++ rest) after location r)
+    × ((rest : List Act) (after : Option World) → BeginsFrom c now rest after place → BeginsFrom c told (acts ++ rest) after location)
 Reaches c location place told acts now (Err e) = ⊥
 
-pub reaches_itself : (c : ConfigRequest) (location : Location) (told : Option World) (kept : List (List ℕ)) (old : List Entry) → Performs (Reaches c location location told) told told kept kept old old (Ok tt)
-reaches_itself c location told kept old = performs_answer (Reaches c location location told) told told kept old old refl tt ([], sym (append-nil old), tt) (λ rest after r tries. tries)
+-- nothing of it is told of what was begun
+abbrev pub Anyhow : List Act → Option World → Type 0
+Anyhow acts after = Unit {0}
+
+pub reaches_itself : (c : ConfigRequest) (location : Location) (told : Option World) (kept : List (List ℕ)) (old : List Entry) → Performs (Reaches c location location told) Anyhow told told kept kept old old (Ok tt)
+reaches_itself c location told kept old = performs_answer (Reaches c location location told) Anyhow told told kept old old refl tt tt ([], sym (append-nil old), tt) (λ rest after r tries. tries, λ rest after begins. begins)
 
 -- the fall to that place
 abbrev Fell : ConfigRequest → Location → Option World → Location → List Act → Option World → Result (Unit {0}) Error → Type 0
 Fell c place between next acts later (Ok x) = FallsTo c place between acts later next
 Fell c place between next acts later (Err e) = ⊥
 
-module _ (c : ConfigRequest) (location place : Location) (told between after : Option World) (kept keep keeps : List (List ℕ)) (old middle new : List Entry) (p : Performs (Reaches c location place told) told between kept keep old middle (Ok tt)) where
+module _ (c : ConfigRequest) (location place : Location) (told between after : Option World) (kept keep keeps : List (List ℕ)) (old middle new : List Entry) (p : Performs (Reaches c location place told) Anyhow told between kept keep old middle (Ok tt)) where
   -- the answer
   answer_reached : (r : Result Outline Error) (acts more : List Act) → Reaches c location place told acts between (Ok tt) → Answers (λ x. TriesFrom c between more after place x) r → Answers (λ x. TriesFrom c told (acts ++ more) after location x) r
-  answer_reached (Ok o) acts more reach tries = reach more after (Ok o) tries
+  answer_reached (Ok o) acts more reach tries = reach.0 more after (Ok o) tries
   answer_reached (Err e) acts more reach (inl wants) = inl wants
-  answer_reached (Err e) acts more reach (inr tries) = inr (reach more after (Err e) tries)
+  answer_reached (Err e) acts more reach (inr tries) = inr (reach.0 more after (Err e) tries)
 
   pub reached : (r : Result Outline Error) → PerformsFrom c place between after keep keeps middle new r → PerformsFrom c location told after kept keeps old new r
   reached r q =
-      performs_then (Reaches c location place told) (λ acts later x. TriesFrom c between acts later place x) (λ acts later x. TriesFrom c told acts later location x) told between after kept keep keeps old middle new tt r p q
-      (λ acts more reach tries. answer_reached r acts more reach tries)
+      performs_then (Reaches c location place told) (λ acts later x. TriesFrom c between acts later place x) (λ acts later x. TriesFrom c told acts later location x) Anyhow (λ acts later. BeginsFrom c between acts later place) (λ acts later. BeginsFrom c told acts later location) told between after kept keep keeps old middle new tt r p q
+      (λ acts more reach tries. answer_reached r acts more reach tries) (λ acts more reach begins. reach.1 more after begins)
+
+  -- what is begun from the next place on is begun from this one on
+  begins_behind : (next : Location) (more : List Act) → FallsTo c place between more after next → (rest : List Act) (later : Option World) → BeginsFrom c after rest later next → BeginsFrom c between (more ++ rest) later place
+  begins_behind next more (e, at, lack, falls) rest later (before, some, comes, split) =
+      let one : Tried = record { item = Ok place; told = between; acts = more; after = after; answer = Err e; fallback = true } in (
+        one ∷ before,
+        some,
+        ((refl, refl, at), lack, (Ok next, StandsBehind.found place (Ok (Some next)) refl refl falls refl, comes)),
+        ap (λ l. more ++ l) split ∙ sym (append_assoc more (acts_of before) some),
+      )
+
+  next_reached : (next : Location) (acts more : List Act) → Reaches c location place told acts between (Ok tt) → FallsTo c place between more after next → Reaches c location next told (acts ++ more) after (Ok tt)
+  next_reached next acts more reach falls = (
+    λ rest later r tries.
+        subst (λ l. TriesFrom c told l later location r) (sym (append_assoc acts more rest)) (reach.0 (more ++ rest) later r (TriesFrom.falls between after later (more ++ rest) more rest place next falls.0 r falls.1 falls.2 falls.3 tries refl)),
+    λ rest later begins. subst (λ l. BeginsFrom c told l later location) (sym (append_assoc acts more rest)) (reach.1 (more ++ rest) later (begins_behind next more falls rest later begins)),
+  )
 
   -- the next place
-  pub reaches_next : (next : Location) → PerformsFall c place between after keep keeps middle new next → Performs (Reaches c location next told) told after kept keeps old new (Ok tt)
+  pub reaches_next : (next : Location) → PerformsFall c place between after keep keeps middle new next → Performs (Reaches c location next told) Anyhow told after kept keeps old new (Ok tt)
   reaches_next next q =
-      performs_then (Reaches c location place told) (Fell c place between next) (Reaches c location next told) told between after kept keep keeps old middle new tt (Ok tt) p (performs_as (FallsOn c place between) (Fell c place between next) between after keep keeps middle new next tt q (λ acts falls. falls))
-      (λ acts more reach falls. λ rest later r tries.
-      subst (λ l. TriesFrom c told l later location r) (sym (append_assoc acts more rest)) (reach (more ++ rest) later r (TriesFrom.falls between after later (more ++ rest) more rest place next falls.0 r falls.1 falls.2 falls.3 tries refl)))
+      performs_then (Reaches c location place told) (Fell c place between next) (Reaches c location next told) Anyhow Anyhow Anyhow told between after kept keep keeps old middle new tt (Ok tt) p
+      (performs_as (FallsOn c place between) (Fell c place between next) (λ acts later. BeginsFrom c between acts later place) Anyhow between after keep keeps middle new next tt q (λ acts falls. falls) (λ acts b. tt))
+      (λ acts more reach falls. next_reached next acts more reach falls) (λ acts more reach b. tt)
 
 -- ---- names that may be missing
 
@@ -160,24 +196,31 @@ module _ (q : LocatedRequest) (told after : Option World) (kept keeps : List (Li
   abbrev FromPlace : List Act → Option World → Result Outline Error → Type 0
   FromPlace acts later r = TriesFrom (record { config = q.config; environ = q.environ }) told acts later q.location r
 
+  abbrev BeginsPlace : List Act → Option World → Type 0
+  BeginsPlace acts later = BeginsTries told acts later q
+
   abbrev TriesIt : List Act → Option World → Result Outline Error → Type 0
   TriesIt acts later r = Tries told acts later q r
 
-  pub tries_planned : (o : Outline) → Performs FromPlace told after kept keeps old new (Ok o) → PerformsTries q told after kept keeps old new (Ok o)
-  tries_planned o p = performs_as FromPlace TriesIt told after kept keeps old new o o p (λ acts from. (Ok o, from, refl))
+  -- the answer of the climb is that of the first of those that are tried
+  first : (acts : List Act) (r : Result Outline Error) → FromPlace acts after r → IsFirstAnswer (record { config = q.config; environ = q.environ }) told acts after q.location r
+  first acts r from = first_of_climb (record { config = q.config; environ = q.environ }) told acts after q.location r from
 
-  module _ (e : Error) (may : Bool) (is : may ≡ (q.config.allow_missing && is_missing e)) (p : Performs FromPlace told after kept keeps old new (Err e)) where
+  pub tries_planned : (o : Outline) → Performs FromPlace BeginsPlace told after kept keeps old new (Ok o) → PerformsTries q told after kept keeps old new (Ok o)
+  tries_planned o p = performs_as FromPlace TriesIt BeginsPlace BeginsPlace told after kept keeps old new o o p (λ acts from. (Ok o, first acts (Ok o) from, refl)) (λ acts b. b)
+
+  module _ (e : Error) (may : Bool) (is : may ≡ (q.config.allow_missing && is_missing e)) (p : Performs FromPlace BeginsPlace told after kept keeps old new (Err e)) where
     allowed_so : (acts : List Act) → may ≡ true → (o : Outline) → o ≡ empty_outline q.config → OrMemory (λ x. FromPlace acts after (Err x)) e → TriesIt acts after (Ok o)
     allowed_so acts so o nothing (inl wants) = absurd (memory_there e wants (and_true q.config.allow_missing (is_missing e) (sym is ∙ so)).1)
-    allowed_so acts so o nothing (inr from) = (Err e, from, ap (λ x. Ok x) nothing ∙ ap (λ b. if b then Ok (empty_outline q.config) else Err e) (sym so ∙ is))
+    allowed_so acts so o nothing (inr from) = (Err e, first acts (Err e) from, ap (λ x. Ok x) nothing ∙ ap (λ b. if b then Ok (empty_outline q.config) else Err e) (sym so ∙ is))
 
     pub tries_allowed : may ≡ true → (o : Outline) → o ≡ empty_outline q.config → PerformsTries q told after kept keeps old new (Ok o)
     tries_allowed so o nothing =
-        performs_instead FromPlace TriesIt told after kept keeps old new e o (λ parent. missing_in parent e (and_true q.config.allow_missing (is_missing e) (sym is ∙ so)).1) p (λ acts from. allowed_so acts so o nothing from)
+        performs_instead FromPlace TriesIt BeginsPlace BeginsPlace told after kept keeps old new e o (λ parent. missing_in parent e (and_true q.config.allow_missing (is_missing e) (sym is ∙ so)).1) p (λ acts from. allowed_so acts so o nothing from) (λ acts b. b)
 
     refused_so : (acts : List Act) → may ≡ false → OrMemory (λ x. FromPlace acts after (Err x)) e → OrMemory (λ x. TriesIt acts after (Err x)) e
     refused_so acts stays (inl wants) = inl wants
-    refused_so acts stays (inr from) = inr (Err e, from, ap (λ b. if b then Ok (empty_outline q.config) else Err e) (sym stays ∙ is))
+    refused_so acts stays (inr from) = inr (Err e, first acts (Err e) from, ap (λ b. if b then Ok (empty_outline q.config) else Err e) (sym stays ∙ is))
 
     pub tries_refused : may ≡ false → PerformsTries q told after kept keeps old new (Err e)
-    tries_refused stays = performs_lost FromPlace TriesIt told after kept keeps old new e p (λ acts from. refused_so acts stays from)
+    tries_refused stays = performs_lost FromPlace TriesIt BeginsPlace BeginsPlace told after kept keeps old new e p (λ acts from. refused_so acts stays from) (λ acts b. b)

@@ -1,6 +1,6 @@
 -- Over a told world, where no temporary folder is made, the answer of the justfiles that are tried is that of the first in the whole list that lacks nothing,
 -- or of the last.
-use Rattle.std.proofs.Common.{◌≡◌, ◌++◌, ◌⊎◌, inl, inr, ℕ, Bool, true, false, true≢false, List, [], ◌∷◌, map, Option, Some, None, Result, Ok, Err, refl, sym, ◌∙◌, ap, subst}
+use Rattle.std.proofs.Common.{◌≡◌, ◌++◌, ◌⊎◌, inl, inr, Bool, true, false, true≢false, List, [], ◌∷◌, map, Option, Some, None, Result, Ok, Err, refl, sym, ◌∙◌, ap, subst}
 use Rattle.std.specs.Prelude.{◌&&◌}
 use Rattle.std.specs.List.{AllByRecursion}
 use Rattle.just_host_record.specs.World.{World}
@@ -17,9 +17,11 @@ use Rattle.just_cli_plan.proofs.Loading.{own_world}
 use Rattle.just_cli.specs.Acts.{Act, Behind}
 use Rattle.just_cli_plan.specs.Own.{is_fault, IsOwn}
 use Rattle.just_cli.specs.Options.{is_lacking, lacks}
-use Rattle.just_cli.specs.Words.{ConfigRequest, LocatedRequest, JustfileRequest, TakesFile}
-use Rattle.just_cli.specs.Request.{FindsProjectAt, PlansLoaded, AnswersAt, at_place, TriesFrom}
-use Rattle.just_cli.specs.Whole.{SetsFallback, AnswersItem, Lacks, AnswersFirst, IsFound}
+use Rattle.just_cli.specs.Words.{ConfigRequest, LocatedRequest}
+use Rattle.just_cli.specs.Request.{FindsProjectAt, PlansLoaded, AnswersAt, at_place}
+use Rattle.just_cli.specs.Taken.{TriesFrom}
+use Rattle.just_cli.specs.Whole.{SetsFallback, Lacks, AnswersFirst, IsFound}
+use Rattle.just_cli.proofs.Climbing.{beside_none}
 use Rattle.just_cli.proofs.OneLocation.{falls_one}
 use Rattle.just_cli.proofs.OneSearch.{own_search}
 use Rattle.just_cli.proofs.OneTried.{own_lacking, found_or_refused, none_or_one, one_next, one_error}
@@ -56,11 +58,6 @@ answer_still : (told after : Option World) (acts : List Act) (q : LocatedRequest
 answer_still told after acts q r fallback (AnswersAt.no_project e p is sets) own none = project_still told after acts q (Err e) p none
 answer_still told after acts q r fallback (AnswersAt.of_project p front back between finds plans split sets) own none =
     plan_still between after back p r plans own (sym (nil_back front back (none ∙ split))) ∙ project_still told between front q (Ok p) finds (sym (nil_front front back (none ∙ split)))
-
--- of an answer beside which nothing is tried: it lacks nothing, or sets no fallback
-beside_none : (lack fallback : Bool) → (lack && fallback) ≡ false → (lack ≡ false) ⊎ (fallback ≡ false)
-beside_none true fallback stays = inr stays
-beside_none false fallback stays = inl refl
 
 way_on : (lack : Bool) (fallback fb : Bool) (behind : List (Result Location SearchError)) → (lack ≡ false) ⊎ (fallback ≡ false) → fallback ≡ fb → (fb ≡ false → behind ≡ []) → (lack ≡ false) ⊎ (behind ≡ [])
 way_on lack fallback fb behind (inl stays) same alone = inl stays

@@ -41,6 +41,14 @@ pub data AreActs : List Act → List Entry → Type 0 where
 abbrev pub Step : Type 0 → Type 0 → Type 1
 Step A B = Option World → List Act → Option World → A → Result B Error → Type 0
 
+-- what was begun of a step over a world: these acts were taken, and that world is told then
+abbrev pub Begun : Type 0 → Type 1
+Begun A = Option World → List Act → Option World → A → Type 0
+
+-- nothing was begun
+abbrev pub NoAct : {A : Type 0} → Begun A
+NoAct told acts after x = (acts ≡ []) × (after ≡ told)
+
 -- a step that only looks
 abbrev pub Looks : {A B : Type 0} → (Option World → A → Result B Error → Type 0) → Step A B
 Looks gives told acts after x r = (acts ≡ []) × (after ≡ told) × gives told x r
@@ -50,3 +58,9 @@ Looks gives told acts after x r = (acts ≡ []) × (after ≡ told) × gives tol
 pub data Behind {A B C : Type 0} (first : Step A B) (second : Step B C) (told : Option World) (acts : List Act) (after : Option World) (x : A) (r : Result C Error) : Type 0 where
   refused : (e : Error) → first told acts after x (Err e) → r ≡ Err e → Behind first second told acts after x r
   both : (y : B) (front rest : List Act) (between : Option World) → first told front between x (Ok y) → second between rest after y r → acts ≡ front ++ rest → Behind first second told acts after x r
+
+-- Of two steps one behind the other the first was begun, or it found something, from which the second was begun.
+pub data BeginsBehind {A B : Type 0} (begins : Begun A) (first : Step A B) (second : Begun B) (told : Option World) (acts : List Act) (after : Option World) (x : A) : Type 0 where
+  at_first : begins told acts after x → BeginsBehind begins first second told acts after x
+  at_second : (y : B) (front rest : List Act) (between : Option World) → first told front between x (Ok y) → second between rest after y → acts ≡ front ++ rest
+      → BeginsBehind begins first second told acts after x

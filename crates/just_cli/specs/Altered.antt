@@ -1,8 +1,11 @@
 -- What temporary folders and caches make of a told world.
 use Rattle.std.specs.Prelude.{ℕ, ◌≡◌, List, [], ◌∷◌, Option, Some, None, Ok, MatchOption}
+use Rattle.std.specs.FinMap.{get}
 use Rattle.std.specs.List.{Contains}
+use Rattle.just_host_record.specs.declared.tree.Thing.TheVariants as thing
 use Rattle.just_host_record.specs.Changes.{place_written, DiffersAt}
 use Rattle.just_host_record.specs.Folders.{removed_place}
+use Rattle.just_host_record.specs.Sights.{Tree}
 use Rattle.just_host_record.specs.World.{World}
 use Rattle.just_sched_history.specs.declared.plan_node.PlanNode.{PlanNode}
 use Rattle.just_sched_history.specs.Touched.{Touches, IsTouched}
@@ -18,10 +21,14 @@ pub data LeadsTo (w : World) (path place : List ℕ) : Type 0 where
 abbrev pub IsLedTo : List (List ℕ) → World → List ℕ → Type 0
 IsLedTo folders w place = (folder : List ℕ) × (path : List ℕ) × Contains folders folder × IsWithin folder path × LeadsTo w path place
 
--- the worlds that changes where paths at or below these folders lead, and looks at entries of the nodes' caches and their saves, lead to
+-- no link is put anywhere: so no later change goes through one that wasn't there
+abbrev pub PutsNoLink : Tree → Tree → Type 0
+PutsNoLink old new = (place target : List ℕ) → get new place ≡ Some (thing.Link target) → get old place ≡ Some (thing.Link target)
+
+-- the worlds that changes where paths at or below these folders lead, none of which puts a link, and looks at entries of the nodes' caches and their saves, lead to
 pub data Alters (folders : List (List ℕ)) (nodes : List PlanNode) (w : World) : World → Type 0 where
   same : Alters folders nodes w w
-  within : (u v : World) → Alters folders nodes w u → DiffersAt (IsLedTo folders u) u v → Alters folders nodes w v
+  within : (u v : World) → Alters folders nodes w u → DiffersAt (IsLedTo folders u) u v → PutsNoLink u.tree v.tree → Alters folders nodes w v
   cached : (u v : World) → Alters folders nodes w u → Touches nodes u v → Alters folders nodes w v
 
 -- a world that isn't told stays so

@@ -22,8 +22,22 @@ use Rattle.just_cli.specs.Words.{ConfigRequest}
 
 -- whether a command asks for a new justfile
 abbrev pub is_init : Option Subcommand → Bool
+is_init (Some (command.Choose ws)) = false
+is_init (Some (command.Clean ws)) = false
+is_init (Some (command.Command ws)) = false
+is_init (Some (command.Dump ws)) = false
+is_init (Some (command.Edit ws)) = false
+is_init (Some (command.Evaluate ws)) = false
+is_init (Some (command.Fmt ws)) = false
+is_init (Some (command.Groups ws)) = false
 is_init (Some (command.Init ws)) = true
-is_init _ = false
+is_init (Some (command.List ws)) = false
+is_init (Some (command.Request ws)) = false
+is_init (Some (command.Show ws)) = false
+is_init (Some (command.Summary ws)) = false
+is_init (Some (command.Usage ws)) = false
+is_init (Some (command.Variables ws)) = false
+is_init None = false
 
 -- ---- what stands at a path
 
@@ -31,7 +45,8 @@ is_init _ = false
 abbrev pub is_written_to : Kind → Bool
 is_written_to kind.File = true
 is_written_to kind.Other = true
-is_written_to _ = false
+is_written_to kind.Folder = false
+is_written_to kind.Link = false
 
 abbrev pub is_file_found : Result Meta Miss → Bool
 is_file_found (Ok m) = is_written_to m.kind

@@ -44,21 +44,22 @@ Answers P (Ok x) = P (Ok x)
 Answers P (Err e) = OrMemory (λ f. P (Err f)) e
 
 -- A part of a preparation takes these acts, over a host that tells the first world before and the second behind: it answers what is given with them, or
--- want of memory; its temporary folders are kept behind those that were kept; its record gains what it leaves; and where no child was run to its end and no call
+-- want of memory, and was begun by them; its temporary folders are kept behind those that were kept; its record gains what it leaves; and where no child was run to its end and no call
 -- failed, a told world is as it was, but for paths at or below these folders.
-pub record Performs {A : Type 0} (gives : List Act → Option World → Result A Error → Type 0) (told after : Option World) (kept keeps : List (List ℕ)) (old new : List Entry) (r : Result A Error) : Type 0 where
+pub record Performs {A : Type 0} (gives : List Act → Option World → Result A Error → Type 0) (begins : List Act → Option World → Type 0) (told after : Option World) (kept keeps : List (List ℕ)) (old new : List Entry) (r : Result A Error) : Type 0 where
   pub acts : List Act
   pub entries : List Entry
   pub grew : new ≡ old ++ entries
   pub leaves : Leaves [] acts r entries
   pub folders : keeps ≡ kept ++ folders_in acts
   pub answers : Answers (gives acts after) r
+  pub begun : begins acts after
   pub still : acts ≡ [] → list_any is_failed entries ≡ false → after ≡ told
   pub alters : (nodes : List PlanNode) → captures_in acts ≡ [] → list_any is_failed entries ≡ false → IsAltered (folders_in acts) nodes told after
 
 -- the same behind listings that were passed over
-abbrev pub Prepares : {A : Type 0} → Type 0 → (List Entry → List Act → Option World → Result A Error → Type 0) → Option World → Option World → List (List ℕ) → List (List ℕ) → List Entry → List Entry → Result A Error → Type 0
-Prepares global asks told after kept keeps old new r = (listings : List Entry) × ArePassed global listings × Performs (asks listings) told after kept keeps (old ++ listings) new r
+abbrev pub Prepares : {A : Type 0} → Type 0 → (List Entry → List Act → Option World → Result A Error → Type 0) → (List Entry → List Act → Option World → Type 0) → Option World → Option World → List (List ℕ) → List (List ℕ) → List Entry → List Entry → Result A Error → Type 0
+Prepares global asks begins told after kept keeps old new r = (listings : List Entry) × ArePassed global listings × Performs (asks listings) (begins listings) told after kept keeps (old ++ listings) new r
 
 -- a plan, its job limit, if it has one, and of each node whether the message of its exit code is told, as they are asked for
 abbrev pub outlined : Result (Plan × Option NonZeroU64 × List Bool) Error → Result Outline Error

@@ -23,7 +23,7 @@ use Rattle.just_cli.specs.declared.task.Task.{Task}
 use Rattle.just_cli.specs.declared.task.Task.TheVariants as task
 use Rattle.just_cli_plan.specs.Own.{OrMemory}
 use Rattle.just_cli_plan.specs.Request.{outline_of}
-use Rattle.just_cli.specs.Request.{EnvironGiven, Serves, ServesNew, Asks, AsksNew, AsksGlobal}
+use Rattle.just_cli.specs.Request.{EnvironGiven, Serves, ServesNew, Asks, AsksNew, AsksGlobal, Begins, BeginsServes}
 use Rattle.just_cli.specs.Words.{ArgumentsRequest}
 use Rattle.just_exec.specs.Codes.{exit_code}
 use Rattle.just_exec.specs.declared.error.Error.TheVariants as error
@@ -58,14 +58,14 @@ pub record AsksQuiet (words : List (List ℕ)) (told : Option World) (quiet : Bo
 -- justfile misses, and nothing of a text; the temporary folders of a run are kept.
 abbrev pub IsTask : List (List ℕ) → Option World → Option World → List (List ℕ) → List (List ℕ) → List Entry → List Entry → Task → Type 0
 IsTask words told after kept keeps old new (task.Run p jobs messages quiet) =
-    Prepares (AsksGlobal words told) (Asks words told) told after kept keeps old new (Ok (outline_of p (option_map non_zero_u64_get jobs) messages)) × AsksQuiet words told quiet
+    Prepares (AsksGlobal words told) (Asks words told) (Begins words told) told after kept keeps old new (Ok (outline_of p (option_map non_zero_u64_get jobs) messages)) × AsksQuiet words told quiet
 IsTask words told after kept keeps old new (task.Init path quiet) = (after ≡ told) × (keeps ≡ kept) × GainsMisses old new × AsksNew words told path × AsksQuiet words told quiet
 IsTask words told after kept keeps old new (task.Show text) = (after ≡ told) × (keeps ≡ kept) × (new ≡ old) × IsQuestion words told text
 
 -- the arguments ask for that task; they ask for no text
 abbrev pub IsServed : Option World → Option World → ArgumentsRequest → List (List ℕ) → List (List ℕ) → List Entry → List Entry → Task → Type 0
 IsServed told after a kept keeps old new (task.Run p jobs messages quiet) =
-    Prepares (a.arguments.global_justfile ≡ true) (λ listings acts later r. Serves listings told acts later a r) told after kept keeps old new (Ok (outline_of p (option_map non_zero_u64_get jobs) messages)) × (quiet ≡ a.arguments.quiet)
+    Prepares (a.arguments.global_justfile ≡ true) (λ listings acts later r. Serves listings told acts later a r) (λ listings acts later. BeginsServes listings told acts later a) told after kept keeps old new (Ok (outline_of p (option_map non_zero_u64_get jobs) messages)) × (quiet ≡ a.arguments.quiet)
 IsServed told after a kept keeps old new (task.Init path quiet) = (after ≡ told) × (keeps ≡ kept) × GainsMisses old new × ServesNew told a (Ok path) × (quiet ≡ a.arguments.quiet)
 IsServed told after a kept keeps old new (task.Show text) = ⊥
 

@@ -20,7 +20,7 @@ use Rattle.just_sched_history.specs.Start.{run_over}
 use Rattle.just_sched_history.specs.State.{has_caught}
 use Rattle.just_sched_history.specs.Verdict.{IsVerdict, NoneDecides}
 use Rattle.just_cli_plan.specs.Caused.{IsCaused}
-use Rattle.just_search.specs.Removals.{RemovesAll, RemovesSome}
+use Rattle.just_search.specs.Removals.{RemovesAll, RemovesSome, InTurn, TriesFolder}
 use Rattle.just_cli.specs.Acts.{Act, folders_in}
 use Rattle.just_cli_plan.specs.Own.{is_fault, is_uncaptured}
 use Rattle.just_cli_plan.specs.Outcome.{IsErrorFor}
@@ -46,9 +46,11 @@ IsPrinted e es = (es ≡ entry.Printed stream.Err (error_text e ++ 10 ∷ []) �
 abbrev pub IsTold : Bool → Error → List Entry → Type 0
 IsTold quiet e es = ((tells quiet e ≡ true) × IsPrinted e es) ⊎ ((tells quiet e ≡ false) × (es ≡ []))
 
--- to remove each of these folders is tried, or the first of them where memory is wanting: what that makes of a told world and leaves in the record
+-- to remove each of these folders is tried, with what stands in it, or the first of them where memory is wanting: what that makes of a told world and leaves
+-- in the record
 abbrev pub Removes : List (List ℕ) → Option World → List Entry → Option World → List Entry → Type 0
-Removes folders told old after new = RemovesAll told old folders after new ⊎ RemovesSome told old folders after new
+Removes folders told old after new =
+    (RemovesAll told old folders after new × InTurn TriesFolder told old folders after new) ⊎ RemovesSome told old folders after new
 
 -- misses and failures alone
 abbrev pub AreRefusals : List Entry → Type 0
@@ -65,8 +67,20 @@ pub record EndsBehind (folders : List (List ℕ)) (tells : List Entry → Type 0
   pub removed : Removes folders settled (old ++ first) after (old ++ post)
 
 abbrev pub is_captured : Entry → Bool
+is_captured (entry.Missed path m) = false
+is_captured (entry.Failed c) = false
+is_captured (entry.Asked prompt answer) = false
+is_captured (entry.Summed path sum) = false
+is_captured (entry.Probed path outputs look) = false
+is_captured (entry.Checked outputs missing) = false
+is_captured (entry.Saved path) = false
+is_captured (entry.Started child spec) = false
+is_captured (entry.Ended child status) = false
 is_captured (entry.Captured spec input status output) = true
-is_captured _ = false
+is_captured (entry.Strayed child other) = false
+is_captured (entry.Signalled signal) = false
+is_captured (entry.Printed stream text) = false
+is_captured (entry.Made folder) = false
 
 -- no child was started or run to its end, and nothing failed
 pub record IsQuiet (es : List Entry) : Type 0 where

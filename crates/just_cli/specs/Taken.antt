@@ -1,5 +1,5 @@
 -- The file of a justfile in a place, as a part of a preparation.
-use Rattle.std.specs.Prelude.{ℕ, ◌≡◌, true, List, [], ◌∷◌, Option, Some, Result, Ok, Err}
+use Rattle.std.specs.Prelude.{ℕ, ◌≡◌, ◌&&◌, ◌++◌, Bool, true, false, List, [], ◌∷◌, Option, Some, None, Result, Ok, Err}
 use Rattle.just_path_text.specs.declared.environ.Environ.{Environ}
 use Rattle.just_host_record.specs.World.{World}
 use Rattle.just_config.specs.declared.config.Config.{Config}
@@ -8,13 +8,15 @@ use Rattle.just_exec.specs.declared.error.Error.{Error}
 use Rattle.just_cli_plan.specs.declared.wanted.Wanted.{Wanted}
 use Rattle.just_cli.specs.Acts.{Act}
 use Rattle.just_host_record.specs.declared.entry.Entry.{Entry}
+use Rattle.just_env.specs.declared.search_error.SearchError.{SearchError}
 use Rattle.just_search.specs.Fallback.{FallsBack}
+use Rattle.just_exec.specs.Refusals.{error_of_search}
 use Rattle.just_cli_plan.specs.Request.{Outline}
-use Rattle.just_cli.specs.Options.{is_lacking}
+use Rattle.just_cli.specs.Options.{is_lacking, lacks}
 use Rattle.just_cli.specs.Preparing.{Performs}
 use Rattle.just_lang_types.specs.declared.project.Justfile.{Justfile}
 use Rattle.just_lang_types.specs.Modules.{AreModules}
-use Rattle.just_cli.specs.Request.{PlansLoaded, AnswersAt, at_place, TriesFrom, Tries}
+use Rattle.just_cli.specs.Request.{PlansLoaded, AnswersAt, at_place, Tries, BeginsPairs, BeginsFrom, BeginsTries}
 use Rattle.just_cli.specs.Words.{ConfigRequest, LocatedRequest, TakesFile}
 
 -- whatever the environment is, the justfile in a place is taken as a file, of which that is asked
@@ -30,15 +32,32 @@ abbrev pub PlansIt : Wanted → Environ → Justfile → Option World → List A
 PlansIt wanted environ j told acts after r =
     (modules : List Justfile) × AreModules (j ∷ []) modules × PlansLoaded told acts after (record { wanted = wanted; environ = environ; justfile = j; modules = modules }) r
 
+-- what was begun of it
+abbrev pub BeginsIt : Wanted → Environ → Justfile → Option World → List Act → Option World → Type 0
+BeginsIt wanted environ j told acts after = (modules : List Justfile) → BeginsPairs told acts after (record { wanted = wanted; environ = environ; justfile = j; modules = modules })
+
 -- it makes no temporary folder
 abbrev pub PerformsPlan : Wanted → Environ → Justfile → Option World → Option World → List Entry → List Entry → Result Outline Error → Type 0
-PerformsPlan wanted environ j told after old new r = Performs (PlansIt wanted environ j told) told after [] [] old new r
+PerformsPlan wanted environ j told after old new r = Performs (PlansIt wanted environ j told) (BeginsIt wanted environ j told) told after [] [] old new r
 
 -- ---- the justfiles that are tried, as parts of a preparation
 
+-- The justfiles that are tried from a place on, and the answer of the last of them. Behind one that sets fallback and lacks what is asked for stands the
+-- next one, in the world that is told then. Nothing is looked at and no act is taken for one that stands behind the one that answers.
+pub data TriesFrom (c : ConfigRequest) : Option World → List Act → Option World → Location → Result Outline Error → Type 0 where
+  stands : (told after : Option World) (acts : List Act) (location : Location) (r : Result Outline Error) (fallback : Bool)
+      → AnswersAt told acts after (at_place c location) r fallback → (lacks r && fallback) ≡ false → TriesFrom c told acts after location r
+  highest : (told after : Option World) (acts : List Act) (location : Location) (e : Error) → AnswersAt told acts after (at_place c location) (Err e) true → is_lacking e ≡ true
+      → FallsBack after c.config location.working_directory (Ok None) → TriesFrom c told acts after location (Err e)
+  refused : (told after : Option World) (acts : List Act) (location : Location) (e : Error) (f : SearchError) → AnswersAt told acts after (at_place c location) (Err e) true → is_lacking e ≡ true
+      → FallsBack after c.config location.working_directory (Err f) → TriesFrom c told acts after location (Err (error_of_search f))
+  falls : (told between after : Option World) (acts front rest : List Act) (location next : Location) (e : Error) (r : Result Outline Error)
+      → AnswersAt told front between (at_place c location) (Err e) true → is_lacking e ≡ true → FallsBack between c.config location.working_directory (Ok (Some next))
+      → TriesFrom c between rest after next r → acts ≡ front ++ rest → TriesFrom c told acts after location r
+
 -- what is asked of them from a place on
 abbrev pub PerformsFrom : ConfigRequest → Location → Option World → Option World → List (List ℕ) → List (List ℕ) → List Entry → List Entry → Result Outline Error → Type 0
-PerformsFrom c location told after kept keeps old new r = Performs (λ acts later x. TriesFrom c told acts later location x) told after kept keeps old new r
+PerformsFrom c location told after kept keeps old new r = Performs (λ acts later x. TriesFrom c told acts later location x) (λ acts later. BeginsFrom c told acts later location) told after kept keeps old new r
 
 -- the justfile in a place sets fallback and lacks what is asked for, and the next one is tried
 abbrev pub FallsTo : ConfigRequest → Location → Option World → List Act → Option World → Location → Type 0
@@ -50,8 +69,8 @@ FallsOn c location told acts after (Ok next) = FallsTo c location told acts afte
 FallsOn c location told acts after (Err e) = ⊥
 
 abbrev pub PerformsFall : ConfigRequest → Location → Option World → Option World → List (List ℕ) → List (List ℕ) → List Entry → List Entry → Location → Type 0
-PerformsFall c location told after kept keeps old new next = Performs (FallsOn c location told) told after kept keeps old new (Ok next)
+PerformsFall c location told after kept keeps old new next = Performs (FallsOn c location told) (λ acts later. BeginsFrom c told acts later location) told after kept keeps old new (Ok next)
 
 -- what is asked of them, which the words may allow
 abbrev pub PerformsTries : LocatedRequest → Option World → Option World → List (List ℕ) → List (List ℕ) → List Entry → List Entry → Result Outline Error → Type 0
-PerformsTries q told after kept keeps old new r = Performs (λ acts later x. Tries told acts later q x) told after kept keeps old new r
+PerformsTries q told after kept keeps old new r = Performs (λ acts later x. Tries told acts later q x) (λ acts later. BeginsTries told acts later q) told after kept keeps old new r

@@ -21,7 +21,7 @@ use Rattle.just_exec.specs.declared.error.Error.TheVariants as error
 use Rattle.just_cli_plan.specs.declared.wanted.Wanted.{Wanted}
 use Rattle.just_search.specs.declared.search_result.Search.{Search}
 use Rattle.just_search.specs.Files.{parent_of, Materializes}
-use Rattle.just_cli.specs.Acts.{Act, Step}
+use Rattle.just_cli.specs.Acts.{Act, Step, Begun}
 use Rattle.just_cli.specs.Options.{not_built, cache_beside, wanted_of}
 use Rattle.just_cli_plan.specs.Steps.{Then}
 
@@ -111,3 +111,11 @@ TakesFile told acts after q (Ok j) =
 TakesFile told acts after q (Err e) =
     (folders : List (List ℕ)) × (f : SearchError) × (acts ≡ map Act.made folders) × Materializes told after (parent_of q.config) q.location folders (Err f)
     × (f ≢ search.NoMemory) × (e ≡ error_of_search f)
+
+-- what was begun of that in a place: at most the folder is made for its text
+abbrev pub BeginsIn : Config → Location → Option World → List Act → Option World → Type 0
+BeginsIn config location told acts after =
+    (folders : List (List ℕ)) × (r : Result Search SearchError) × (acts ≡ map Act.made folders) × Materializes told after (parent_of config) location folders r
+
+abbrev pub BeginsFile : Begun LocatedRequest
+BeginsFile told acts after q = BeginsIn q.config q.location told acts after

@@ -7,7 +7,7 @@ ghost use Rattle.just_cli.specs.Questions.{version_line, IsTask, IsServed};
 ghost use Rattle.just_cli.specs.Quiet.{AskQuiet};
 ghost use Rattle.just_cli.specs.Preparing.{Prepares};
 ghost use Rattle.just_cli_plan.specs.Request.{Outline, outline_of};
-ghost use Rattle.just_cli.specs.Request.{Serves, Asks, AsksGlobal};
+ghost use Rattle.just_cli.specs.Request.{Serves, Asks, AsksGlobal, Begins, BeginsServes};
 
 use super::configured::{configure, read};
 use super::given::{current_folder, environment, locate};
@@ -28,7 +28,7 @@ fn serve<H: Host>(
     made: &mut Vec<Utf8PathBuf>,
     host: &mut H,
 ) -> Result<Task, Error>
-    ensures { MatchResult result (IsServed (H.world host.old) (H.world host.new) (record { arguments = arguments; environ = environ.now }) made.old.items made.new.items (H.entries host.old) (H.entries host.new)) (λ e. Prepares {A = Outline} (arguments.global_justfile ≡ true) (λ ls acts later r. Serves ls (H.world host.old) acts later (record { arguments = arguments; environ = environ.now }) r) (H.world host.old) (H.world host.new) made.old.items made.new.items (H.entries host.old) (H.entries host.new) (Err e)) }
+    ensures { MatchResult result (IsServed (H.world host.old) (H.world host.new) (record { arguments = arguments; environ = environ.now }) made.old.items made.new.items (H.entries host.old) (H.entries host.new)) (λ e. Prepares {A = Outline} (arguments.global_justfile ≡ true) (λ ls acts later r. Serves ls (H.world host.old) acts later (record { arguments = arguments; environ = environ.now }) r) (λ ls acts later. BeginsServes ls (H.world host.old) acts later (record { arguments = arguments; environ = environ.now })) (H.world host.old) (H.world host.new) made.old.items made.new.items (H.entries host.old) (H.entries host.new) (Err e)) }
 {
     let quiet = arguments.quiet;
     let folder = match current_folder(host) {
@@ -43,25 +43,16 @@ fn serve<H: Host>(
         Err(error) => return Err(error),
     };
     if is_init(&config.subcommand) {
-        match find_free(alloc, host, &config) {
-            Ok(path) => {
-                drop(config);
-                return Ok(Task::Init(path, quiet));
-            }
-            Err(error) => {
-                drop(config);
-                return Err(error);
-            }
-        }
+        return match find_free(alloc, host, &config) {
+            Ok(path) => Ok(Task::Init(path, quiet)),
+            Err(error) => Err(error),
+        };
     }
     let location = match locate(alloc, host, &config) {
         Ok(location) => location,
-        Err(error) => {
-            drop(config);
-            return Err(error);
-        }
+        Err(error) => return Err(error),
     };
-    match plan_tried(alloc, environ, config, location, made, host) {
+    match plan_tried(alloc, environ, &config, location, made, host) {
         Ok((plan, jobs, messages)) => Ok(Task::Run(plan, jobs, messages, quiet)),
         Err(error) => Err(error),
     }
@@ -91,7 +82,7 @@ pub(crate) fn prepare<H: Host>(
     host: &mut H,
 ) -> Result<Task, (Error, bool)>
     ensures asked { IfOk result (IsTask (map (λ x. x.now) words.now) (H.world host.old) (H.world host.new) made.old.items made.new.items (H.entries host.old) (H.entries host.new)) }
-    ensures refused { IfErr result (λ e. Prepares {A = Outline} (AsksGlobal (map (λ w. w.now) words.now) (H.world host.old)) (Asks (map (λ w. w.now) words.now) (H.world host.old)) (H.world host.old) (H.world host.new) made.old.items made.new.items (H.entries host.old) (H.entries host.new) (Err e.0)) }
+    ensures refused { IfErr result (λ e. Prepares {A = Outline} (AsksGlobal (map (λ w. w.now) words.now) (H.world host.old)) (Asks (map (λ w. w.now) words.now) (H.world host.old)) (Begins (map (λ w. w.now) words.now) (H.world host.old)) (H.world host.old) (H.world host.new) made.old.items made.new.items (H.entries host.old) (H.entries host.new) (Err e.0)) }
     ensures quiet { IfErr result (λ e. AskQuiet (map (λ x. x.now) words.now) (H.world host.old) e.1 e.0) }
 {
     let environ = match environment(alloc, host) {

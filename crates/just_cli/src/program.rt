@@ -1,10 +1,12 @@
 //! The program: from its arguments to its exit status.
 
-ghost use Rattle.std.specs.Prelude.{◌≡◌, IfOk, IfErr, map, drop, string_bytes};
+ghost use Rattle.std.specs.Prelude.{◌≡◌, IfOk, map, drop, option_map, string_bytes};
 ghost use Rattle.std.specs.Vec.Iter.{into_iter_items};
+ghost use Rattle.just_host.specs.Real.{record_of};
 ghost use Rattle.just_cli.specs.Exit.{IsStatus, status_of, status_of_code as status_for};
 
 use super::{Ended, Failure, Report, run};
+use just_host::RealHost;
 use std::alloc::{AllocError, Global};
 use std::env::Args;
 use std::fs::File;
@@ -64,8 +66,8 @@ fn words_behind(alloc: Global, arguments: &[String]) -> Result<Vec<&str>, AllocE
     }
 }
 
-/// Runs what the arguments behind the first ask for, and answers the exit status.
-pub fn run_arguments<R>(rt: &R, alloc: Global, arguments: &[String]) -> u8
+/// Runs what the arguments behind the first ask for, and answers the exit status, and the host of the run, if there is one.
+pub fn run_arguments<R>(rt: &R, alloc: Global, arguments: &[String]) -> (u8, Option<RealHost<R>>)
 where
     R: Runtime
         + Files<File = File>
@@ -77,20 +79,19 @@ where
     R::Dir: Send,
     R::Reader: Send,
     R::A: Send,
-    ensures { IsStatus (map string_bytes (drop 1 arguments.now)) result }
+    ensures { IsStatus (map string_bytes (drop 1 arguments.now)) (option_map (λ host. record_of host) result.1) result.0 }
 {
     let Ok(words) = words_behind(alloc, arguments) else {
-        return NO_MEMORY;
+        return (NO_MEMORY, None);
     };
     match run(rt, alloc, words.as_slice()) {
         Ok(Ended { host, result }) => {
             let status = exit_status(&result);
             // The process ends behind it, by which the system takes all memory back at once.
-            forget(host);
             forget(result);
-            status
+            (status, Some(host))
         }
-        Err(_) => NO_MEMORY,
+        Err(_) => (NO_MEMORY, None),
     }
 }
 

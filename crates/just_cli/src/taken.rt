@@ -4,6 +4,7 @@ ghost use Rattle.std.specs.Prelude.{◌≡◌, IfOk};
 ghost use Rattle.just_cli.specs.Options.{cache_beside, wanted_of};
 ghost use Rattle.just_cli.specs.Preparing.{Performs};
 ghost use Rattle.just_cli.specs.Taken.{TakesWanted};
+ghost use Rattle.just_cli.specs.Words.{BeginsIn};
 
 use super::Error;
 use super::configured::wanted;
@@ -65,7 +66,7 @@ pub(crate) fn take<H: Host>(
     made: &mut Vec<Utf8PathBuf>,
     host: &mut H,
 ) -> Result<(Wanted, Utf8PathBuf), Error>
-    ensures { Performs (TakesWanted config.now location.now (H.world host.old)) (H.world host.old) (H.world host.new) made.old.items made.new.items (H.entries host.old) (H.entries host.new) result }
+    ensures { Performs (TakesWanted config.now location.now (H.world host.old)) (BeginsIn config.now location.now (H.world host.old)) (H.world host.old) (H.world host.new) made.old.items made.new.items (H.entries host.old) (H.entries host.new) result }
 {
     let place = match copied_location(location) {
         Ok(place) => place,

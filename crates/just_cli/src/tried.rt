@@ -11,7 +11,7 @@ ghost use Rattle.just_cli_plan.specs.Projects.{IsSound};
 ghost use Rattle.just_cli_plan.specs.Request.{outline_of};
 ghost use Rattle.just_cli.specs.Options.{is_lacking, is_missing, empty_outline};
 ghost use Rattle.just_cli.specs.Preparing.{AreMisses, EndsWith, Performs, outlined};
-ghost use Rattle.just_cli.specs.Request.{FindsProjectOf, AnswersAt};
+ghost use Rattle.just_cli.specs.Request.{FindsProjectOf, AnswersAt, BeginsAt};
 ghost use Rattle.just_cli.specs.Taken.{PerformsPlan, PerformsFrom, PerformsFall, PerformsTries};
 
 use super::Error;
@@ -22,10 +22,9 @@ use super::taken::take;
 use just_cli_plan::{Wanted, load_pairs, plan_of_project, project_of_sources};
 use just_config::Config;
 use just_host::Host;
-use just_lang_types::all_modules;
 use just_lang_types::project::Justfile;
 use just_path::{Utf8Path, Utf8PathBuf};
-use just_path_text::{Environ, NoMemory, Seq};
+use just_path_text::{Environ, Seq};
 use just_sched::Plan;
 use just_search::{Location, find_fallback};
 use std::alloc::Global;
@@ -70,11 +69,6 @@ fn plan_of<H: Host>(
     requires { IsSound project.now }
     ensures { PerformsPlan wanted.now environ.now project.now (H.world host.old) (H.world host.new) (H.entries host.old) (H.entries host.new) (outlined result) }
 {
-    // The clauses speak of the list of the project's modules: it is there.
-    let _modules = match all_modules(alloc, project) {
-        Ok(modules) => modules,
-        Err(NoMemory) => return Err(Error::NoMemory),
-    };
     let pairs = match load_pairs(alloc, host, project, environ, wanted) {
         Ok(pairs) => pairs,
         Err(error) => return Err(error),
@@ -95,7 +89,7 @@ fn plan_at<H: Host>(
     made: &mut Vec<Utf8PathBuf>,
     host: &mut H,
 ) -> (Result<Planned, Error>, bool)
-    ensures { Performs (λ acts after r. AnswersAt (H.world host.old) acts after (record { config = config.now; environ = environ.now; location = location.now }) r result.1) (H.world host.old) (H.world host.new) made.old.items made.new.items (H.entries host.old) (H.entries host.new) (outlined result.0) }
+    ensures { Performs (λ acts after r. AnswersAt (H.world host.old) acts after (record { config = config.now; environ = environ.now; location = location.now }) r result.1) (λ acts after. BeginsAt (H.world host.old) acts after (record { config = config.now; environ = environ.now; location = location.now })) (H.world host.old) (H.world host.new) made.old.items made.new.items (H.entries host.old) (H.entries host.new) (outlined result.0) }
 {
     let (wanted, path) = match take(alloc, config, location, made, host) {
         Ok(taken) => taken,
@@ -195,7 +189,7 @@ fn plan_nothing(alloc: Global, config: &Config) -> Planned
 
 /// The plan that is asked of the justfile in a place, and of those that are tried behind it; that of no node, where a name is missing and the words allow it. The
 /// record gains what asking them leaves.
-fn plan_allowed<H: Host>(
+pub(crate) fn plan_tried<H: Host>(
     alloc: Global,
     environ: &Environ,
     config: &Config,
@@ -215,20 +209,4 @@ fn plan_allowed<H: Host>(
             Err(error)
         }
     }
-}
-
-/// The same for a configuration that isn't used any more.
-pub(crate) fn plan_tried<H: Host>(
-    alloc: Global,
-    environ: &Environ,
-    config: Config,
-    location: Location,
-    made: &mut Vec<Utf8PathBuf>,
-    host: &mut H,
-) -> Result<Planned, Error>
-    ensures { PerformsTries (record { config = config; environ = environ.now; location = location }) (H.world host.old) (H.world host.new) made.old.items made.new.items (H.entries host.old) (H.entries host.new) (outlined result) }
-{
-    let planned = plan_allowed(alloc, environ, &config, location, made, host);
-    drop(config);
-    planned
 }
