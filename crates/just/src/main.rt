@@ -3,6 +3,7 @@
 
 use just_cli::{no_arguments, run_arguments};
 use std::alloc::{AllocError, Global};
+use std::mem::forget;
 use std::process::ExitCode;
 use std::{env, io};
 
@@ -26,7 +27,12 @@ fn keep_blocks(alloc: Global) {
 fn main(rt: HostRuntime) -> ExitCode {
     keep_blocks(rt.alloc());
     ExitCode::from(match arguments(&rt) {
-        Ok(all) => run_arguments(&rt, rt.alloc(), all.as_slice()),
+        Ok(all) => {
+            let (status, host) = run_arguments(&rt, rt.alloc(), all.as_slice());
+            // The process ends behind it, by which the system takes all memory back at once.
+            forget(host);
+            status
+        }
         Err(error) => no_arguments(&rt, &error),
     })
 }
