@@ -19,13 +19,6 @@ file_refused true false m place told (fault.Missed n) h = absurd cc
 file_refused false unnamed m place told (fault.Missed n) h = h
 file_refused found unnamed m place told fault.NoMemory h = tt
 
--- and a change of the files
-change_refused : {A : Type 0} (found unnamed : Bool) (m : Miss) (place : List ℕ) (told : Result Tree Miss) (files : Tree) (e : TreeFault) → ShowsPlace (cond found (cond unnamed (Err miss.NotFound) (Ok place)) (Err m)) (Err e) → ShowsTree {A = A} (cond found (cond unnamed (Err miss.NotFound) told) (Err m)) files (Err e)
-change_refused true true m place told files (fault.Missed n) h = h
-change_refused true false m place told files (fault.Missed n) h = absurd cc
-change_refused false unnamed m place told files (fault.Missed n) h = h
-change_refused found unnamed m place told files fault.NoMemory h = tt
-
 same_place : (p q : List ℕ) → ◌≡◌ {A = Result (List ℕ) Miss} (Ok p) (Ok q) → p ≡ q
 same_place p q e = cc
 
@@ -57,18 +50,8 @@ entry_made {A = A} tree files path place m unnamed p r is h shows =
     subst (λ b. ShowsTree (cond (is_not_found m) (cond b (Err miss.NotFound) (with_entry tree place)) (Err m)) files r) is
     (change_there (is_not_found m) unnamed m place p (λ q. with_entry tree q) files r h shows)
 
-pub entry_unmade : {A : Type 0} (tree files : Tree) (path place : List ℕ) (m : Miss) (unnamed : Bool) (e : TreeFault) → unnamed ≡ (is_empty path || asks_folder path) → ShowsPlace (place_to_make m unnamed place) (Err e) → ShowsTree {A = A} (cond (is_not_found m) (new_entry tree path place) (Err m)) files (Err e)
-entry_unmade {A = A} tree files path place m unnamed e is h =
-    subst (λ b. ShowsTree {A = A} (cond (is_not_found m) (cond b (Err miss.NotFound) (with_entry tree place)) (Err m)) files (Err e)) is
-    (change_refused (is_not_found m) unnamed m place (with_entry tree place) files e h)
-
 -- so is a new folder
 pub folder_made : {A : Type 0} (tree files : Tree) (path place : List ℕ) (m : Miss) (unnamed : Bool) (p : Place) (r : Result A TreeFault) → unnamed ≡ is_empty path → ShowsPlace (place_to_make m unnamed place) (Ok p) → ShowsTree (with_folders tree (length p.path) p.path) files r → ShowsTree (cond (is_not_found m) (new_folder tree path place) (Err m)) files r
 folder_made {A = A} tree files path place m unnamed p r is h shows =
     subst (λ b. ShowsTree (cond (is_not_found m) (cond b (Err miss.NotFound) (with_folders tree (length place) place)) (Err m)) files r) is
     (change_there (is_not_found m) unnamed m place p (λ q. with_folders tree (length q) q) files r h shows)
-
-pub folder_unmade : {A : Type 0} (tree files : Tree) (path place : List ℕ) (m : Miss) (unnamed : Bool) (e : TreeFault) → unnamed ≡ is_empty path → ShowsPlace (place_to_make m unnamed place) (Err e) → ShowsTree {A = A} (cond (is_not_found m) (new_folder tree path place) (Err m)) files (Err e)
-folder_unmade {A = A} tree files path place m unnamed e is h =
-    subst (λ b. ShowsTree {A = A} (cond (is_not_found m) (cond b (Err miss.NotFound) (with_folders tree (length place) place)) (Err m)) files (Err e)) is
-    (change_refused (is_not_found m) unnamed m place (with_folders tree (length place) place) files e h)

@@ -16,10 +16,16 @@ use just_path_text::{NoMemory, Text};
 use std::alloc::Global;
 
 /// Files, folders and links by their places, which are clean and absolute.
-#[derive(Debug, Drop)]
+#[derive(Debug)]
 pub struct Tree {
     pub(crate) things: Vec<(Place, Thing)>,
     pub ghost clean: { HasCleanPlaces (seen (files_in things.items)) },
+}
+
+impl Drop for Tree {
+    fn drop(self) {
+        let Tree { things: _ } = self;
+    }
 }
 
 impl Tree {

@@ -65,7 +65,7 @@ impl Tree {
     }
 
     /// Makes a folder where a path wasn't found.
-    #[tactic(auto, using(crate::proofs::Making::folder_made, crate::proofs::Making::folder_unmade))]
+    #[tactic(auto, using(crate::proofs::Making::folder_made))]
     fn folder_behind_miss(
         &mut self,
         alloc: Global,

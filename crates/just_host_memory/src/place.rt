@@ -10,11 +10,17 @@ use just_path_text::NoMemory;
 use std::alloc::Global;
 
 /// A clean absolute path.
-#[derive(Debug, Drop)]
+#[derive(Debug)]
 pub struct Place {
     /// The path; it begins with `/`, and has no `.`, no `..` and no empty component.
     pub path: Utf8PathBuf,
     pub ghost clean: { is_clean_absolute path ≡ true },
+}
+
+impl Drop for Place {
+    fn drop(self) {
+        let Place { path: _ } = self;
+    }
 }
 
 impl Place {
@@ -54,7 +60,7 @@ impl Place {
     pub fn into_path(self) -> Utf8PathBuf
         ensures { result ≡ self.path }
     {
-        let Place { path, .. } = self;
+        let Place { path } = self;
         path
     }
 }

@@ -211,7 +211,7 @@ impl Tree {
     }
 
     /// Makes a cache entry where a path wasn't found.
-    #[tactic(auto, using(crate::proofs::Making::entry_made, crate::proofs::Making::entry_unmade))]
+    #[tactic(auto, using(crate::proofs::Making::entry_made))]
     fn entry_behind_miss(
         &mut self,
         alloc: Global,
