@@ -16,7 +16,7 @@ use Rattle.just_host_record.specs.declared.entry.Status.{Status}
 use Rattle.just_host_record.specs.Record.{noted, IsMissOf}
 use Rattle.just_host_memory.specs.declared.sights.TreeFault.{TreeFault}
 use Rattle.just_host_memory.specs.declared.sights.TreeFault.TheVariants as tree_fault
-use Rattle.just_host_memory.specs.Playing.{ending_of, others, tree_after, next_call}
+use Rattle.just_host_memory.specs.Playing.{ending_of, leave_alone, others, tree_after, next_call, word_of}
 use Rattle.just_host_memory.specs.Trees.{files_of}
 use Rattle.just_host_record.specs.Logs.{entries_of, spare_of}
 use Rattle.just_host_record.specs.World.{World}
@@ -27,7 +27,7 @@ record_of h = entries_of h.log
 
 -- the world of a host in memory is what it holds
 abbrev pub world_of : MemHost → World
-world_of h = record { tree = files_of h.tree; current = h.folder.path; environ = h.environ.pairs; input = h.input }
+world_of h = record { tree = files_of h.tree; current = h.folder.path; environ = h.environ.pairs; input = h.input; harmless = λ spec. leave_alone h.endings.items (word_of spec) }
 
 -- a call of a path host appends what its note stands for, and leaves the rest
 pub record Went (a b : MemHost) (n : PathNote) : Type 0 where

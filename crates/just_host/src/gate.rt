@@ -18,11 +18,16 @@ const TURNS: u32 = 2_000_000_000;
 
 /// A host in memory whose child 0 is held in `wait` until child 1 was started. Where that doesn't happen within 2,000,000,000
 /// turns, nobody knows how child 0 has ended.
-#[derive(Drop)]
 pub struct GateHost {
     mem: MemHost,
     /// Whether child 1 was started.
     gate: Arc<AtomicBool>,
+}
+
+impl Drop for GateHost {
+    fn drop(self) {
+        let GateHost { mem: _, gate: _ } = self;
+    }
 }
 
 /// A child over a `GateHost`.

@@ -1,8 +1,10 @@
 //! The room of hosts: what a run touches of the outside, in memory (`MemHost`, `GateHost`) and over the system (`RealHost`). This crate hands the whole room on.
 #![tactic(auto)]
 
+mod children;
 mod gate;
 mod memory;
+mod notes;
 
 pub use gate::{GateChild, GateHost};
 pub use just_host_memory::{Ending, Plot, Tree};

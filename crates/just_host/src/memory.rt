@@ -1,43 +1,43 @@
 //! A host in memory, which does what its plot says.
-ghost use Rattle.std.specs.Prelude.{◌≡◌, ◌+◌, drop, ◌<◌, ◌≤◌, ℕ, List, [], ◌∷◌, ◌++◌, Option, Some, Ok, refl, option_map, IfOk, IfErr, IfSome, OnOk, OnErr, MatchResult, length, string_bytes};
+ghost use Rattle.std.specs.Prelude.{◌≡◌, ◌+◌, ◌<◌, ◌≤◌, List, [], ◌∷◌, ◌++◌, Option, Some, Ok, refl, option_map, IfOk, IfSome, OnOk, OnErr, length, string_bytes};
 ghost use Rattle.std.specs.FinMap as map;
 ghost use Rattle.just_path.specs.Path.{text_of};
 ghost use Rattle.just_path.specs.Comps.{slash};
-ghost use Rattle.just_path.specs.Host.{note_of, note_of_fault};
+ghost use Rattle.just_path.specs.Host.{note_of};
 ghost use Rattle.just_path.specs.View.{place_under, AreInOrder, AreNamesInOrder, Told, TellsItems, TellsNames, meta_told, canonical_told, link_told};
 ghost use Rattle.just_path.specs.declared.host.PathCall.{PathCall};
 ghost use Rattle.just_path.specs.declared.host.Miss.{Miss};
 ghost use Rattle.just_host_record.specs.declared.entry.Entry.{Entry};
 ghost use Rattle.just_host_record.specs.declared.entry.Status.{Status};
-ghost use Rattle.just_host_record.specs.declared.tree.Thing.{Thing};
 ghost use Rattle.just_host_record.specs.declared.outside.TheConstants.{MAX_BYTES};
-ghost use Rattle.just_host_record.specs.Record.{noted, gained, refused, IsOwn, NeverMissed, children, faults_of, misses_of, settled_entry, settled_answer, text_or_empty, script_folder, IsStartFault, IsCaptureFault};
-ghost use Rattle.just_host_record.specs.Logs.{entries_of, spare_of, HasRoom};
-ghost use Rattle.just_host_record.specs.World.{view_of, ReadTells, Touched, Leaves};
+ghost use Rattle.just_host_record.specs.Record.{gained, refused, IsOwn, NeverMissed, children, faults_of, misses_of, settled_entry, settled_answer, text_or_empty, script_folder, IsStartFault, IsCaptureFault};
+ghost use Rattle.just_host_record.specs.Logs.{spare_of};
+ghost use Rattle.just_host_record.specs.World.{view_of, ReadTells, Touched, Leaves, LeftAlone};
 ghost use Rattle.just_host_record.specs.Changes.{place_written, written, with_cache_entry, IsOfEntry, Changes};
-ghost use Rattle.just_host_record.specs.Folders.{TempTells, Removes, IsFresh};
+ghost use Rattle.just_host_record.specs.Folders.{TempTells, Removes};
 ghost use Rattle.just_host_record.specs.NewFolders.{with_folder, IsOfFolder};
 ghost use Rattle.just_host_record.specs.Scripts.{StartTells};
 ghost use Rattle.just_host_record.specs.Looks.{dash, TellsAnswer, told_input, told_sum, told_check, LookTells, ChecksTo};
-ghost use Rattle.just_host_memory.specs.Trees.{files_of, world_from};
-ghost use Rattle.just_host.specs.Mem.{record_of, world_of, Went, OnlyNotes, OnlyFiles, Answers, answer_in, Plays, Runs, IsFaultOf, IsHostFaultOf, IsFailureOf, IsTooLarge, OnlyMisses, is_struck, is_wait_struck, waited_for, FailsIf, PathFailsIf};
-ghost use Rattle.just_host_memory.specs.Playing.{next_call, word_of, ending_of, status_of, output_of, others, tree_after};
+ghost use Rattle.just_host_memory.specs.Trees.{files_of};
+ghost use Rattle.just_host.specs.Mem.{record_of, world_of, Went, OnlyNotes, OnlyFiles, Answers, answer_in, Plays, Runs, OnlyMisses, is_struck, is_wait_struck, waited_for, FailsIf, PathFailsIf};
+ghost use Rattle.just_host_memory.specs.Playing.{next_call, word_of, ending_of, leave_alone, status_of, output_of};
 ghost use Rattle.just_host_record.proofs.Laws.{counts_noted};
 
-use just_host_files::{copied_bytes, copies_of, path_or_empty};
-use just_host_memory::{
-    Ending, Faults, Place, Plot, Tree, TreeFault, copied_text, output_of, word_of,
+use super::children::{captured, started};
+use super::notes::{
+    copied, fail, next_answer, note_answer, note_fresh, ready_probe, ready_save, refuse,
+    refuse_call, use_answer,
 };
+use just_host_files::{copies_of, path_or_empty};
+use just_host_memory::{Ending, Faults, Place, Plot, Tree, TreeFault, copied_text};
 use just_host_record::{
-    Call, Entry, Host, HostFault, Log, Look, MAX_BYTES, Signal, Spec, Status, Stream, boxed_copy,
+    Call, Entry, Host, HostFault, Log, Look, MAX_BYTES, Signal, Spec, Status, Stream,
 };
-use just_lang_read::Boxed;
 use just_path::{Item, Meta, Miss, PathCall, PathFault, PathHost, Utf8Path, Utf8PathBuf};
 use just_path_text::{Environ, NoMemory, Seq, Text, TryClone};
 use std::alloc::Global;
 
 /// A host in memory, which does what its plot says. It tells its world.
-#[derive(Drop)]
 pub struct MemHost {
     pub(crate) alloc: Global,
     log: Log,
@@ -49,6 +49,23 @@ pub struct MemHost {
     answers: Vec<Text>,
     signals: Seq<(u32, Signal)>,
     faults: Faults,
+}
+
+impl Drop for MemHost {
+    fn drop(self) {
+        let MemHost {
+            alloc: _,
+            log: _,
+            tree: _,
+            folder: _,
+            environ: _,
+            input: _,
+            endings: _,
+            answers: _,
+            signals: _,
+            faults: _,
+        } = self;
+    }
 }
 
 /// A child over a `MemHost`.
@@ -76,7 +93,13 @@ impl MemHost {
     ) -> Result<MemHost, NoMemory>
         ensures entries { IfOk result (λ h. record_of h ≡ []) }
         ensures spare { IfOk result (λ h. spare_of h.log ≡ 0) }
-        ensures world { IfOk result (λ h. world_of h ≡ record { tree = files_of tree; current = place_under slash current; environ = environ.pairs; input = plot.input }) }
+        ensures world { IfOk result (λ h. world_of h ≡ record {
+          tree = files_of tree;
+          current = place_under slash current;
+          environ = environ.pairs;
+          input = plot.input;
+          harmless = λ spec. leave_alone plot.endings.items (word_of spec);
+        }) }
         ensures endings { IfOk result (λ h. h.endings.items ≡ plot.endings.items) }
         ensures answers { IfOk result (λ h. h.answers.items ≡ plot.answers) }
         ensures fails { IfOk result (λ h. h.faults.numbers ≡ plot.fails) }
@@ -116,258 +139,6 @@ impl MemHost {
         ensures { files_of result.now ≡ files_of self.now.tree }
     {
         &self.tree
-    }
-}
-
-/// A path of that text, unless memory is wanting.
-fn copied(alloc: Global, text: &str) -> Result<Utf8PathBuf, PathFault>
-    ensures { MatchResult result (λ p. p ≡ text.now) (λ f. f ≡ PathFault.NoMemory) }
-{
-    match Utf8PathBuf::from_str(alloc, text) {
-        Ok(path) => Ok(path),
-        Err(NoMemory) => Err(PathFault::NoMemory),
-    }
-}
-
-/// Notes that a tree has no answer for a path, and answers why.
-fn refuse(log: &mut Log, alloc: Global, path: Utf8Path<'_>, fault: TreeFault) -> PathFault
-    ensures entries { (call : PathCall) → entries_of log.new ≡ entries_of log.old ++ noted (note_of_fault call (text_of path.entry) result) }
-    ensures kind { IsFaultOf fault result }
-    ensures spare { spare_of log.new ≡ spare_of log.old }
-{
-    match fault {
-        TreeFault::Missed(miss) => log.path_miss(alloc, path, miss),
-        TreeFault::NoMemory => PathFault::NoMemory,
-    }
-}
-
-/// The same of a call of a host.
-fn refuse_call(log: &mut Log, alloc: Global, path: Utf8Path<'_>, fault: TreeFault) -> HostFault
-    ensures entries { entries_of log.new ≡ entries_of log.old ++ refused (text_of path.entry) result }
-    ensures kind { IsHostFaultOf fault result }
-    ensures spare { spare_of log.new ≡ spare_of log.old }
-{
-    match fault {
-        TreeFault::Missed(miss) => match log.miss(alloc, path, miss) {
-            Ok(()) => HostFault::Missed(miss),
-            Err(NoMemory) => HostFault::NoMemory,
-        },
-        TreeFault::NoMemory => HostFault::NoMemory,
-    }
-}
-
-/// Notes the failure of a call, and answers it.
-fn fail(log: &mut Log, call: Call) -> HostFault
-    ensures entries { (path : List ℕ) → entries_of log.new ≡ entries_of log.old ++ refused path result }
-    ensures kind { IsFailureOf call result }
-    ensures spare { spare_of log.new ≡ spare_of log.old }
-{
-    match log.failure(call) {
-        Ok(()) => HostFault::Failed(call),
-        Err(NoMemory) => HostFault::NoMemory,
-    }
-}
-
-/// The next answer, empty where there is none.
-fn next_answer(answers: &[Text]) -> &str
-    ensures { result.now ≡ answer_in answers.now }
-{
-    match answers {
-        [] => "",
-        [first, ..] => first.as_str(),
-    }
-}
-
-/// Drops the next answer, where there is one.
-fn use_answer(answers: &mut Vec<Text>)
-    ensures { answers.new.items ≡ drop 1 answers.old.items }
-{
-    if !answers.is_empty() {
-        answers.remove(0);
-    }
-}
-
-/// Notes an answer to a prompt, where there is memory for it, and answers it.
-fn note_answer(log: &mut Log, alloc: Global, prompt: &str, line: &str) -> Result<String, NoMemory>
-    ensures entries { IfOk result (λ s. entries_of log.new
-        ≡ entries_of log.old ++ Entry.Asked prompt.now (string_bytes s) ∷ []) }
-    ensures answer { IfOk result (λ s. string_bytes s ≡ line.now) }
-    ensures err { OnErr result (entries_of log.new ≡ entries_of log.old) }
-    ensures spare { spare_of log.new ≡ spare_of log.old }
-{
-    let answer = String::from_str(alloc, line)?;
-    let prompt = Text::from_str(alloc, prompt)?;
-    let noted = Text::from_str(alloc, line)?;
-    log.note(Entry::Asked(prompt, noted))?;
-    Ok(answer)
-}
-
-/// Makes a fresh folder in another one and notes it, where there is memory for it.
-fn note_fresh(
-    log: &mut Log,
-    tree: &mut Tree,
-    alloc: Global,
-    folder: Place,
-    prefix: &str,
-) -> Result<Utf8PathBuf, NoMemory>
-    ensures entries { IfOk result
-        (λ p. entries_of log.new ≡ entries_of log.old ++ Entry.Made p ∷ []) }
-    ensures fresh { IfOk result
-        (λ p. IsFresh (world_from folder.path (files_of tree.old)) folder.path prefix.now p) }
-    ensures made { IfOk result
-        (λ p. files_of tree.new ≡ map.insert (files_of tree.old) p Thing.Folder) }
-    ensures err { OnErr result (entries_of log.new ≡ entries_of log.old) }
-    ensures kept { OnErr result (files_of tree.new ≡ files_of tree.old) }
-    ensures spare { spare_of log.new ≡ spare_of log.old }
-{
-    log.ready()?;
-    let (made, copy) = tree.make_fresh(alloc, &folder, prefix)?;
-    log.append(Entry::Made(copy));
-    Ok(made)
-}
-
-/// Makes sure of the memory for the entry of a save, and answers the path of it.
-fn ready_save(log: &mut Log, alloc: Global, entry: Utf8Path<'_>) -> Result<Utf8PathBuf, NoMemory>
-    ensures path { IfOk result (λ p. p ≡ text_of entry.entry) }
-    ensures room { OnOk result (HasRoom log.new) }
-    ensures entries { entries_of log.new ≡ entries_of log.old }
-    ensures spare { spare_of log.new ≡ spare_of log.old }
-{
-    log.ready()?;
-    entry.to_path_buf(alloc)
-}
-
-/// Makes sure of the memory for the entry of a probe, and answers the paths of it.
-fn ready_probe(
-    log: &mut Log,
-    alloc: Global,
-    entry: Utf8Path<'_>,
-    outputs: &[Utf8PathBuf],
-) -> Result<(Utf8PathBuf, Seq<Utf8PathBuf>), NoMemory>
-    ensures path { IfOk result (λ r. r.0 ≡ text_of entry.entry) }
-    ensures outputs { IfOk result (λ r. r.1 ≡ outputs.now) }
-    ensures room { OnOk result (HasRoom log.new) }
-    ensures entries { entries_of log.new ≡ entries_of log.old }
-    ensures spare { spare_of log.new ≡ spare_of log.old }
-{
-    log.ready()?;
-    let path = entry.to_path_buf(alloc)?;
-    let copies = copies_of(alloc, outputs)?;
-    Ok((path, copies))
-}
-
-/// Makes sure of the memory for the entry of a captured child, and answers what it is made of.
-fn ready_capture(
-    log: &mut Log,
-    alloc: Global,
-    spec: &Spec,
-    input: &[u8],
-    output: &[u8],
-) -> Result<(Boxed<Spec>, (Seq<u8>, Seq<u8>)), NoMemory>
-    ensures spec { IfOk result (λ r. r.0 ≡ spec.now) }
-    ensures input { IfOk result (λ r. r.1.0 ≡ input.now) }
-    ensures output { IfOk result (λ r. r.1.1 ≡ output.now) }
-    ensures room { OnOk result (HasRoom log.new) }
-    ensures entries { entries_of log.new ≡ entries_of log.old }
-    ensures spare { spare_of log.new ≡ spare_of log.old }
-{
-    log.ready()?;
-    let fed = copied_bytes(alloc, input)?;
-    let noted = copied_bytes(alloc, output)?;
-    let copy = boxed_copy(alloc, spec)?;
-    Ok((copy, (fed, noted)))
-}
-
-/// The word of a child, and what it prints.
-fn output_with_word(
-    alloc: Global,
-    endings: &[Ending],
-    spec: &Spec,
-) -> Result<(String, Vec<u8>), NoMemory>
-    ensures word { IfOk result (λ r. string_bytes r.0 ≡ word_of spec.now) }
-    ensures output { IfOk result
-        (λ r. r.1.items ≡ output_of (ending_of (word_of spec.now) endings.now)) }
-{
-    let word = word_of(alloc, spec)?;
-    let output = output_of(alloc, endings, word.as_str())?;
-    Ok((word, output))
-}
-
-/// Runs a child to its end and notes it, unless it prints too much or memory is wanting.
-fn captured(
-    log: &mut Log,
-    tree: &mut Tree,
-    endings: &mut Vec<Ending>,
-    alloc: Global,
-    folder: &Place,
-    spec: &Spec,
-    input: &[u8],
-) -> Result<(Status, Vec<u8>), TreeFault>
-    ensures entries { IfOk result (λ r. entries_of log.new
-        ≡ entries_of log.old ++ Entry.Captured spec.now input.now r.0 r.1.items ∷ []) }
-    ensures limit { IfOk result (λ r. length r.1.items ≤ MAX_BYTES) }
-    ensures status { IfOk result
-        (λ r. r.0 ≡ status_of (ending_of (word_of spec.now) endings.old.items)) }
-    ensures output { IfOk result
-        (λ r. r.1.items ≡ output_of (ending_of (word_of spec.now) endings.old.items)) }
-    ensures effects { OnOk result (files_of tree.new ≡ tree_after folder.now.path
-        (files_of tree.old) (ending_of (word_of spec.now) endings.old.items)) }
-    ensures used { OnOk result (endings.new.items ≡ others (word_of spec.now) endings.old.items) }
-    ensures err { OnErr result (entries_of log.new ≡ entries_of log.old) }
-    ensures refusal { IfErr result IsTooLarge }
-    ensures files { OnErr result (files_of tree.new ≡ files_of tree.old) }
-    ensures kept { OnErr result (endings.new.items ≡ endings.old.items) }
-    ensures spare { spare_of log.new ≡ spare_of log.old }
-{
-    let Ok((word, output)) = output_with_word(alloc, endings.as_slice(), spec) else {
-        return Err(TreeFault::NoMemory);
-    };
-    if output.len() > MAX_BYTES {
-        return Err(TreeFault::Missed(Miss::TooLarge));
-    }
-    let Ok((copy, (fed, noted))) = ready_capture(log, alloc, spec, input, output.as_slice()) else {
-        return Err(TreeFault::NoMemory);
-    };
-    match tree.play(alloc, folder, endings, word.as_str()) {
-        Ok(status) => {
-            log.append(Entry::Captured(copy, fed, status, noted));
-            Ok((status, output))
-        }
-        Err(NoMemory) => Err(TreeFault::NoMemory),
-    }
-}
-
-/// Starts a child and notes it, where there is memory, and answers its number and how it ends.
-fn started(
-    log: &mut Log,
-    tree: &mut Tree,
-    endings: &mut Vec<Ending>,
-    alloc: Global,
-    folder: &Place,
-    spec: &Spec,
-) -> Result<(u32, Status), NoMemory>
-    ensures entries { IfOk result
-        (λ r. entries_of log.new ≡ entries_of log.old ++ Entry.Started r.0 spec.now ∷ []) }
-    ensures number { IfOk result (λ r. r.0 ≡ children (entries_of log.old)) }
-    ensures status { IfOk result
-        (λ r. r.1 ≡ status_of (ending_of (word_of spec.now) endings.old.items)) }
-    ensures effects { OnOk result (files_of tree.new ≡ tree_after folder.now.path
-        (files_of tree.old) (ending_of (word_of spec.now) endings.old.items)) }
-    ensures used { OnOk result (endings.new.items ≡ others (word_of spec.now) endings.old.items) }
-    ensures err { OnErr result (entries_of log.new ≡ entries_of log.old) }
-    ensures files { OnErr result (files_of tree.new ≡ files_of tree.old) }
-    ensures kept { OnErr result (endings.new.items ≡ endings.old.items) }
-    ensures spare { spare_of log.new ≡ spare_of log.old }
-{
-    if !log.can_number() {
-        return Err(NoMemory);
-    }
-    log.ready()?;
-    let word = word_of(alloc, spec)?;
-    let copy = boxed_copy(alloc, spec)?;
-    match tree.play(alloc, folder, endings, word.as_str()) {
-        Ok(status) => Ok((log.start(copy), status)),
-        Err(NoMemory) => Err(NoMemory),
     }
 }
 
@@ -782,6 +553,7 @@ impl Host for MemHost {
         ensures limit { IfOk result (λ r. length r.1.items ≤ MAX_BYTES) }
         ensures fault { IsCaptureFault input.now result }
         ensures leaves { Leaves (Some (world_of self.old)) (Some (world_of self.new)) result }
+        ensures alone { LeftAlone (Some (world_of self.old)) (Some (world_of self.new)) spec.now }
         ensures spare { spare_of self.new.log ≡ spare_of self.old.log }
         ensures fails { FailsIf (is_struck self.old.faults) result }
         ensures told { IfOk result (λ r. (r.0 ≡ status_of (ending_of (word_of spec.now) self.old.endings.items)) × (r.1.items ≡ output_of (ending_of (word_of spec.now) self.old.endings.items))) }
