@@ -4,16 +4,15 @@
 //! (`find`, `search`), of what is tried behind it (`find_fallback`, `search_parent_directory`), of a justfile in markdown (`materialize`), of one that
 //! is to be written and of the program of a name are made by `rows_requests`.
 
-use crate::agree::agree;
 use crate::changes::changed;
 use crate::hosts::memory;
 use crate::loading::loaded;
+use crate::shown::says;
 use just_host::{Host, HostFault};
 use just_lang_types::{Ast, AstItem, FileRef, Source, parse, references};
 use just_path::Utf8PathBuf;
 use just_path_text::{NoMemory, Text};
 use std::alloc::{AllocError, Global};
-use std::test::Fail;
 
 /// The source of a text, at a path in the folder `/p`.
 fn source(alloc: Global, text: &str) -> Result<Source, NoMemory> {
@@ -88,15 +87,15 @@ fn home(alloc: Global) -> Result<String, HostFault> {
 }
 
 #[test]
-fn every_call_answers(rt: HostRuntime) -> Result<(), Fail> {
+fn every_call_answers(rt: HostRuntime) {
     let alloc = rt.alloc();
     let items = items(alloc, "b: a\n  one\n\n   two\n\n# c\r\na:");
-    agree(&rt, items, "4 items, recipes in 1 7")?;
+    says(&rt, items, "4 items, recipes in 1 7");
     let files = files(alloc, "import 'a'\nmod? b\nmod c \"\\u{64}\"\n");
-    agree(&rt, files, "3 files [a] [] [d]")?;
-    agree(&rt, home(alloc), "/h")?;
+    says(&rt, files, "3 files [a] [] [d]");
+    says(&rt, home(alloc), "/h");
     let loaded = loaded(alloc, "import 'link'\na:\n");
-    agree(&rt, loaded, "2 sources, root Some(0)")?;
-    agree(&rt, changed(alloc, false), "A=y B- C=file E=x G=z ")?;
-    agree(&rt, changed(alloc, true), "A=y B- C=file D=x E=x G=z ")
+    says(&rt, loaded, "2 sources, root Some(0)");
+    says(&rt, changed(alloc, false), "A=y B- C=file E=x G=z ");
+    says(&rt, changed(alloc, true), "A=y B- C=file D=x E=x G=z ");
 }

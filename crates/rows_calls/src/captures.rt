@@ -2,6 +2,7 @@
 
 use crate::shown::says;
 use crate::told::told_in_memory;
+use just_exec_work::one_text;
 use just_host::{Ending, Host, HostFault, MAX_BYTES, Plot, RealHost, Spec, Status};
 use just_lang_read::Boxed;
 use just_path::Miss;
@@ -99,17 +100,10 @@ fn endings(alloc: Global) -> Result<Vec<Ending>, NoMemory> {
     Ok(endings)
 }
 
-/// The one answer.
-fn answers(alloc: Global) -> Result<Seq<Text>, NoMemory> {
-    let mut answers = Vec::new(alloc);
-    answers.push(Text::from_str(alloc, "yes")?)?;
-    Ok(Seq::from(answers))
-}
-
 /// A plot in which a child prints `out`, a prompt is answered once, and standard input is `in`.
 fn plot(alloc: Global) -> Result<Plot, NoMemory> {
     let input = Seq::from(Vec::from_slice(alloc, b"in")?);
-    let answers = answers(alloc)?;
+    let answers = one_text(alloc, "yes")?;
     let endings = endings(alloc)?;
     Ok(Plot {
         endings,

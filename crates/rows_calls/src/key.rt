@@ -1,6 +1,7 @@
 //! The key of a body, and texts.
 
 use just_cache::{CacheKey, KeyExecutor};
+use just_exec_work::one_text;
 use just_lang_read::Boxed;
 use just_lang_types::{Interpreter, Modulepath};
 use just_path_text::{NoMemory, Seq, Text};
@@ -15,24 +16,17 @@ pub(crate) fn texts(alloc: Global, words: &str) -> Result<Vec<Text>, NoMemory> {
     Ok(texts)
 }
 
-/// A list of one word.
-fn single(alloc: Global, word: &str) -> Result<Seq<Text>, NoMemory> {
-    let mut texts = Vec::new(alloc);
-    texts.push(Text::from_str(alloc, word)?)?;
-    Ok(Seq::from(texts))
-}
-
 /// What runs the script: `sh -eu`.
 fn executor(alloc: Global) -> Result<KeyExecutor, NoMemory> {
-    let arguments = single(alloc, "-eu")?;
+    let arguments = one_text(alloc, "-eu")?;
     let command = Text::from_str(alloc, "sh")?;
     Ok(KeyExecutor::Command(Interpreter { command, arguments }))
 }
 
 /// The key of the recipe `m`, whose script is `touch`.
 pub(crate) fn key(alloc: Global) -> Result<Boxed<CacheKey>, NoMemory> {
-    let body = single(alloc, "touch")?;
-    let components = single(alloc, "m")?;
+    let body = one_text(alloc, "touch")?;
+    let components = one_text(alloc, "m")?;
     let executor = executor(alloc)?;
     let key = CacheKey {
         body,

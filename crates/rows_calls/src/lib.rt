@@ -2,8 +2,6 @@
 #![tactic(auto)]
 
 #[cfg(test)]
-mod agree;
-#[cfg(test)]
 mod body;
 #[cfg(test)]
 mod caches;
