@@ -77,11 +77,16 @@ fn of_words(alloc: Global, words: &[&str], folder: Utf8PathBuf) -> Result<Config
     let environ = Environ {
         pairs: Seq::new(alloc),
     };
-    let Ok(Read::Go(arguments)) = read_words(alloc, words, &environ) else {
-        return Err(NoMemory);
-    };
-    let answer = Config::from_arguments(alloc, arguments, folder);
-    Ok(Configured { answer })
+    match read_words(alloc, words, &environ) {
+        Ok(Read::Go(arguments)) => {
+            let answer = Config::from_arguments(alloc, arguments, folder);
+            Ok(Configured { answer })
+        }
+        other => {
+            drop(other);
+            Err(NoMemory)
+        }
+    }
 }
 
 /// Whether two searches found the same file.
