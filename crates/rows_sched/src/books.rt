@@ -23,7 +23,7 @@ fn add_states<H: Host + Drop, P: Naming>(
     done: &str,
     desk: &Desk<H, P>,
 ) -> Result<(), AllocError> {
-    let bodies = desk.book.open_bodies();
+    let bodies = desk.open_bodies();
     write!(told, "{done} {bodies}:")?;
     for node in 0..desk.book.plan.nodes.len() {
         let state = desk.book.state(node as u32);

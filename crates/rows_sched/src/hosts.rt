@@ -12,13 +12,6 @@ pub fn no_environ(alloc: Global) -> Environ {
     }
 }
 
-/// That one text.
-pub fn one_text(alloc: Global, text: &str) -> Result<Seq<Text>, NoMemory> {
-    let mut texts = Vec::new(alloc);
-    texts.push(Text::from_str(alloc, text)?)?;
-    Ok(Seq::from(texts))
-}
-
 /// A host of these files in the folder `/`, over which that happens.
 fn host_of(alloc: Global, tree: Tree, plot: Plot) -> Result<MemHost, NoMemory> {
     let current = Utf8Path::new("/").to_path_buf(alloc)?;

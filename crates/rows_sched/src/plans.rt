@@ -1,8 +1,8 @@
 //! Plans of recipes of small justfiles.
 
-use super::hosts::{no_environ, one_text};
+use super::hosts::no_environ;
 use just_cli_plan::{DotenvAsk, Wanted, plan_of_project, project_of_sources};
-use just_exec_work::RunFlags;
+use just_exec_work::{RunFlags, one_text};
 use just_lang_types::Source;
 use just_path::Utf8Path;
 use just_path_text::{Environ, NoMemory, Seq, Text};
@@ -92,7 +92,8 @@ fn request_of(alloc: Global, text: &str, name: &str) -> Result<Request, NoMemory
     })
 }
 
-/// The plan that is asked for, which isn't refused.
+/// The plan that is asked for, which isn't refused. The call of `drop` stands in place of a walk through all fields of the justfile at
+/// the scope's end.
 fn planned(rt: &impl Abort, alloc: Global, request: &Request) -> Plan {
     let environ = &request.environ;
     let wanted = &request.wanted;
@@ -100,10 +101,12 @@ fn planned(rt: &impl Abort, alloc: Global, request: &Request) -> Plan {
         Ok(justfile) => justfile,
         Err(_) => panic!(rt; "no project"),
     };
-    match plan_of_project(alloc, &justfile, &[], environ, wanted) {
+    let plan = match plan_of_project(alloc, &justfile, &[], environ, wanted) {
         Ok((plan, _)) => plan,
         Err(_) => panic!(rt; "no plan"),
-    }
+    };
+    drop(justfile);
+    plan
 }
 
 /// The plan of a recipe of that justfile.
