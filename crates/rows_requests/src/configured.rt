@@ -56,9 +56,14 @@ fn of_words(
     environ: &Environ,
     folder: Utf8PathBuf,
 ) -> Result<Configured, Wrong> {
-    let Ok(Read::Go(arguments)) = read_words(alloc, words, environ) else {
-        return Err(Wrong::Form);
-    };
-    let answer = Config::from_arguments(alloc, arguments, folder);
-    Ok(Configured { answer })
+    match read_words(alloc, words, environ) {
+        Ok(Read::Go(arguments)) => {
+            let answer = Config::from_arguments(alloc, arguments, folder);
+            Ok(Configured { answer })
+        }
+        other => {
+            drop(other);
+            Err(Wrong::Form)
+        }
+    }
 }
