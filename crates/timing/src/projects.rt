@@ -114,7 +114,11 @@ fn node_count(alloc: Global, justfile: &Justfile, scopes: &Scopes, keys: &[Key])
     requires ends { (modules : List Justfile) → AreModules (justfile.now ∷ []) modules → AreEnding modules }
 {
     match closure(alloc, justfile, scopes, keys, false) {
-        Ok(closure) => Ok(closure.nodes.len() as u64),
+        Ok(closure) => {
+            let count = closure.nodes.len() as u64;
+            drop(closure);
+            Ok(count)
+        }
         Err(error) => {
             drop(error);
             Err(out_of_memory())
