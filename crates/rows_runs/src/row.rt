@@ -54,7 +54,14 @@ pub(crate) fn difference<R: Threads + Wait + Sync>(
     row: &str,
 ) -> Result<Option<String>, Wrong> {
     match Value::from_str(alloc, row) {
-        Ok(row) => difference_of(rt, alloc, &row),
-        Err(_) => Err(Wrong::Form),
+        Ok(row) => {
+            let difference = difference_of(rt, alloc, &row);
+            drop(row);
+            difference
+        }
+        Err(error) => {
+            drop(error);
+            Err(Wrong::Form)
+        }
     }
 }
