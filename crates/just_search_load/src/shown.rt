@@ -35,7 +35,7 @@ pub(crate) fn sees_file<H: Host>(
 }
 
 /// The names of what stands in a folder; none where there is no folder.
-#[tactic(auto, using(crate::proofs::Sights::lists_missed))]
+#[tactic(auto, using(just_env::proofs::Laws::gains_nothing, just_env::proofs::Laws::gains_before, just_env::proofs::Laws::gains_none, just_env::proofs::Laws::gains_then, crate::proofs::Listed::lists_names, crate::proofs::Sights::lists_missed, crate::proofs::Sights::gains_miss, crate::proofs::Sights::gains_same))]
 pub(crate) fn names_in<H: Host>(
     alloc: Global,
     host: &mut H,
