@@ -1,5 +1,5 @@
 -- What calls make of the world that a host in memory tells.
-use Rattle.std.proofs.Common.{ℕ, ◌≡◌, true, List, Some, refl, ap, ◌∙◌}
+use Rattle.std.proofs.Common.{ℕ, ◌≡◌, true, List, Some, refl, ap, ◌∙◌, Err, sym, subst}
 use Rattle.just_host_record.specs.declared.entry.Call.{Call}
 use Rattle.just_host_record.specs.declared.entry.HostFault.{HostFault}
 use Rattle.just_host_record.specs.declared.entry.HostFault.TheVariants as fault
@@ -8,6 +8,10 @@ use Rattle.just_host_record.specs.Sights.{Tree}
 use Rattle.just_host_record.specs.declared.entry.Spec.{Spec}
 use Rattle.just_host_record.specs.Record.{IsCaptureRefusal}
 use Rattle.just_host_record.specs.Scripts.{StartShows}
+use Rattle.just_host_record.specs.Changes.{with_tree}
+use Rattle.just_host_record.specs.Folders.{RemoveMiss, RemoveFault}
+use Rattle.just_host_memory.specs.Trees.{world_from}
+use Rattle.just_host_memory.specs.Removals.{RemovesFrom}
 use Rattle.just_host_memory.specs.declared.plot.Ending.{Ending}
 use Rattle.just_host_memory.specs.Playing.{ending_of, leave_alone, others, tree_after, word_of}
 use Rattle.just_host_memory.proofs.Harmless.{left_alone, as_before, stay_alone}
@@ -70,3 +74,14 @@ module _ (current : List ℕ) (environ : List (List ℕ × List ℕ)) (input : L
     -- whatever a child does, those that leave the files alone do so behind it
     pub stay_harmless : StayHarmless (told_with tree current environ input endings) (told_with after current environ input rest)
     stay_harmless spec h = ap (λ es. leave_alone es (word_of spec)) used ∙ stay_alone word (word_of spec) endings h
+
+-- what can't be removed stays, and so does the world
+pub removal_refused : (w : World) (files : Tree) (path : List ℕ) (f : TreeFault) (e : HostFault)
+    → RemovesFrom {A = Unit {0}} (world_from w.current w.tree) files path (Err f) → IsHostFaultOf f e → RemoveFault w (Some (with_tree w files)) path e
+removal_refused w files path (tree_fault.Missed m) (fault.Missed n) h is =
+    (subst (λ k. RemoveMiss w path k) (sym is) h.0, ap (λ t. Some (with_tree w t)) h.1)
+removal_refused w files path (tree_fault.Missed m) (fault.Failed c) h is = absurd is
+removal_refused w files path (tree_fault.Missed m) fault.NoMemory h is = ap (λ t. Some (with_tree w t)) h.1
+removal_refused w files path tree_fault.NoMemory (fault.Missed n) h is = absurd cc
+removal_refused w files path tree_fault.NoMemory (fault.Failed c) h is = absurd cc
+removal_refused w files path tree_fault.NoMemory fault.NoMemory h is = ap (λ t. Some (with_tree w t)) h
