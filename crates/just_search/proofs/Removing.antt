@@ -214,8 +214,8 @@ module _ (does : Item → Option World → List Entry → Option World → List 
   pub turned_start : (after : Option World) (new : List Entry) → ListsFor folder told old items new → after ≡ told → Turned 0 after new
   turned_start after new listed same = (new, listed, subst (λ w. InTurn does told new [] w new) (sym same) InTurn.none)
 
-  pub turned_end : (i : ℕ) (after : Option World) (new : List Entry) → length items ≤ i → Turned i after new → (middle : List Entry) × ListsFor folder told old items middle × InTurn does told middle items after new
-  turned_end i after new over (middle, listed, turn) = (middle, listed, turn_end does told middle items i after new over turn)
+  pub turned_end : (i : ℕ) (after : Option World) (new : List Entry) → length items ≤ i → Turned i after new → (all : List Item) × (middle : List Entry) × ListsFor folder told old all middle × InTurn does told middle all after new
+  turned_end i after new over (middle, listed, turn) = (items, middle, listed, turn_end does told middle items i after new over turn)
 
   module _ (i : ℕ) (item : Item) (between after : Option World) (now new : List Entry) where
     pub turned_more : i < length items → item ≡ get_or items i item → Turned i between now → does item between now after new → Turned (i + 1) after new

@@ -32,6 +32,7 @@ fn remove_at<H: Host>(host: &mut H, path: Utf8Path<'_>) -> Result<(), NoMemory>
 }
 
 /// What stands in a folder; nothing where it can't be listed.
+#[tactic(auto, using(crate::proofs::Removing::listed_missed, crate::proofs::Removing::listed_failed))]
 fn items_in<H: Host>(
     alloc: Global,
     host: &mut H,

@@ -1,29 +1,20 @@
 -- The items that stand in a folder; or none, where its listing is refused.
-use Rattle.std.proofs.Common.{rules}
 use Rattle.just_path.specs.Path.{text_of}
-use Rattle.just_search.proofs.Removing.{listed_told, listed_missed, listed_failed}
+use Rattle.just_search.proofs.Removing.{listed_told}
 use Rattle.just_search.proofs.removal.items_in.Goals as goal
 
 pub returns-in-Ok-clause-listed : goal.returns-in-Ok-clause-listed
 returns-in-Ok-clause-listed g c =
-    listed_told (text_of c.args.folder) (g.H.Host.world c.args.host.now) _ (g.H.Host.entries c.args.host.now) (g.H.Host.entries c.list.new.self) c.in-Ok.items (g.H.Host.view_is c.args.host.now) c.in-Ok.ensures.told (g.H.Host.went_entries _ _ _ c.in-Ok.ensures.went)
-
-pub returns-in-Err-Missed-clause-listed : goal.returns-in-Err-Missed-clause-listed
-returns-in-Err-Missed-clause-listed g c =
-    listed_missed (text_of c.args.folder) (g.H.Host.world c.args.host.now) _ (g.H.Host.entries c.args.host.now) (g.H.Host.entries c.list.new.self) _ _ (g.H.Host.view_is c.args.host.now) c.in-Err-Missed.ensures.told (g.H.Host.went_entries _ _ _ c.in-Err-Missed.ensures.went) (search rules)
-
-pub returns-in-Err-Failed-clause-listed : goal.returns-in-Err-Failed-clause-listed
-returns-in-Err-Failed-clause-listed g c =
-    listed_failed (text_of c.args.folder) (g.H.Host.world c.args.host.now) (g.H.Host.entries c.args.host.now) (g.H.Host.entries c.list.new.self) _ (g.H.Host.went_entries _ _ _ c.in-Err-Failed.ensures.went) (search rules)
+    listed_told (text_of c.args.folder) (g.H.Host.world c.args.host.now) _ (g.H.Host.entries c.args.host.now) (g.H.Host.entries c.list.new.self) c.in-Ok.items (g.met.H.Host.view_is c.args.host.now) c.in-Ok.ensures.told (g.met.H.Host.went_entries _ _ _ c.in-Ok.ensures.went)
 
 pub returns-in-Ok-clause-world : goal.returns-in-Ok-clause-world
-returns-in-Ok-clause-world g c = g.H.Host.went_world _ _ _ c.list.ensures.went
+returns-in-Ok-clause-world g c = g.met.H.Host.went_world _ _ _ c.list.ensures.went
 
 pub returns-in-Err-Missed-clause-world : goal.returns-in-Err-Missed-clause-world
-returns-in-Err-Missed-clause-world g c = g.H.Host.went_world _ _ _ c.list.ensures.went
+returns-in-Err-Missed-clause-world g c = g.met.H.Host.went_world _ _ _ c.list.ensures.went
 
 pub returns-in-Err-Failed-clause-world : goal.returns-in-Err-Failed-clause-world
-returns-in-Err-Failed-clause-world g c = g.H.Host.went_world _ _ _ c.list.ensures.went
+returns-in-Err-Failed-clause-world g c = g.met.H.Host.went_world _ _ _ c.list.ensures.went
 
-pub returns-clause-world : goal.returns-clause-world
-returns-clause-world g c = g.H.Host.went_world _ _ _ c.list.ensures.went
+pub returns-in-Err-NoMemory-clause-world : goal.returns-in-Err-NoMemory-clause-world
+returns-in-Err-NoMemory-clause-world g c = g.met.H.Host.went_world _ _ _ c.list.ensures.went

@@ -15,5 +15,5 @@ returns-in-Some-clause-tried g c =
 pub returns-in-Some-clause-stopped : goal.returns-in-Some-clause-stopped
 returns-in-Some-clause-stopped g c = kept_clears (text_of c.args.folder) (g.H.Host.world c.args.host.now) (g.H.Host.world c.remove_at.new.host) (g.H.Host.entries c.args.host.now) (g.H.Host.entries c.remove_at.new.host) c.remove_at.result c.remove_at.ensures.kept
 
-pub returns-clause-tried : goal.returns-clause-tried
-returns-clause-tried g c = TriesItem.passed (search rules) refl refl
+pub returns-in-None-clause-tried : goal.returns-in-None-clause-tried
+returns-in-None-clause-tried g c = TriesItem.passed (search rules) refl refl

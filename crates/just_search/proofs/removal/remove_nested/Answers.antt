@@ -16,12 +16,12 @@ pub returns-then-is_folder-clause-stopped : goal.returns-then-is_folder-clause-s
 returns-then-is_folder-clause-stopped g c =
     nested_stopped (text_of c.args.folder) c.in-Some.path c.args.item.now (g.H.Host.world c.args.host.now) (g.H.Host.world c.remove_inner.new.host) (g.H.Host.entries c.args.host.now) (g.H.Host.entries c.remove_inner.new.host) (search rules) c.remove_inner.result (rw c.as_path.ensures at c.remove_inner.ensures.stopped)
 
-pub returns-else-is_folder-clause-tried : goal.returns-else-is_folder-clause-tried
-returns-else-is_folder-clause-tried g c =
-    nested_tried (text_of c.args.folder) c.in-Some.path c.args.item.now (g.H.Host.world c.args.host.now) (g.H.Host.world c.remove_at.new.host) (g.H.Host.entries c.args.host.now) (g.H.Host.entries c.remove_at.new.host) (search rules) c.remove_at.result (sym c.is_folder.ensures ∙ c.if-is_folder.false) (rw c.as_path.ensures at c.remove_at.ensures.tried)
+pub returns-in-Some-clause-tried : goal.returns-in-Some-clause-tried
+returns-in-Some-clause-tried g c =
+    nested_tried (text_of c.args.folder) c.in-Some.path c.args.item.now (g.H.Host.world c.args.host.now) (g.H.Host.world c.remove_at.new.host) (g.H.Host.entries c.args.host.now) (g.H.Host.entries c.remove_at.new.host) (search rules) c.remove_at.result (sym c.is_folder.ensures ∙ c.if-is_folder.false) (rw c.as_path-else-is_folder.ensures at c.remove_at.ensures.tried)
 
-pub returns-else-is_folder-clause-stopped : goal.returns-else-is_folder-clause-stopped
-returns-else-is_folder-clause-stopped g c = kept_clears (text_of c.args.folder) (g.H.Host.world c.args.host.now) (g.H.Host.world c.remove_at.new.host) (g.H.Host.entries c.args.host.now) (g.H.Host.entries c.remove_at.new.host) c.remove_at.result c.remove_at.ensures.kept
+pub returns-in-Some-clause-stopped : goal.returns-in-Some-clause-stopped
+returns-in-Some-clause-stopped g c = kept_clears (text_of c.args.folder) (g.H.Host.world c.args.host.now) (g.H.Host.world c.remove_at.new.host) (g.H.Host.entries c.args.host.now) (g.H.Host.entries c.remove_at.new.host) c.remove_at.result c.remove_at.ensures.kept
 
 pub returns-clause-tried : goal.returns-clause-tried
 returns-clause-tried g c = TriesNested.passed (search rules) refl refl

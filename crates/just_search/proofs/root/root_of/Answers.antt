@@ -34,7 +34,7 @@ pub returns-clause-root : goal.returns-clause-root
 returns-clause-root g c =
     let over : ancestors_left c.folders.folders ≡ [] = search rules in
     answers_at (FindsRoot (g.H.Host.world c.args.host.now) c.args.ceiling.now (text_of c.args.start)) (Ok (text_of c.args.start)) _
-    (marks_over (g.H.Host.world c.args.host.now) c.args.ceiling.now (folders_from c.args.ceiling.now (text_of c.args.start)) (ancestors_left c.folders.folders) (text_of c.args.start) (text_of c.args.start) c.folders.invariant.along over refl) c.itself.ensures.root
+    (marks_over (g.H.Host.world c.args.host.now) c.args.ceiling.now (folders_from c.args.ceiling.now (text_of c.args.start)) (ancestors_left c.folders.folders) (text_of c.args.start) (text_of c.args.start) c.folders.invariant.along over refl) c.itself-2.ensures.root
 
 pub returns-in-Ok-Some-clause-entries : goal.returns-in-Ok-Some-clause-entries
 returns-in-Ok-Some-clause-entries g c = c.in-Ok-Some.ensures.entries ∙ ap (λ es. es ++ []) c.folders.invariant.entries
@@ -46,7 +46,7 @@ pub returns-then-is_ceiling-clause-entries : goal.returns-then-is_ceiling-clause
 returns-then-is_ceiling-clause-entries g c = told_nothing _ _ _ c.itself.ensures.unheard (c.in-Ok-None.ensures.entries ∙ ap (λ es. es ++ []) c.folders.invariant.entries)
 
 pub returns-clause-entries : goal.returns-clause-entries
-returns-clause-entries g c = told_nothing _ _ _ c.itself.ensures.unheard (c.folders.invariant.entries ∙ sym (append-nil _))
+returns-clause-entries g c = told_nothing _ _ _ c.itself-2.ensures.unheard (c.folders.invariant.entries ∙ sym (append-nil _))
 
 pub folders-init : goal.folders-init
 folders-init g c = record {
