@@ -1,0 +1,4 @@
+set dotenv-load
+
+a:
+	@echo "$A $B $C"
