@@ -5,6 +5,8 @@ use Rattle.just_search.proofs.TangledWriting.{file_itself}
 use Rattle.just_search.proofs.file.materialize.Goals as goal
 
 pub returns-in-File : goal.returns-in-File
-returns-in-File g c =
-    file_itself (g.H.Host.world c.args.host.now) (g.H.Host.world c.args.host.now) (parent_of c.args.config.now) c.args.location c.in-File.justfile c.args.made.now.items c.args.made.now.items (g.H.Host.entries c.args.host.now) (g.H.Host.entries c.args.host.now) _
-    refl refl refl c.in-File.is (search rules)
+returns-in-File g c = record {
+  materialized =
+      file_itself (g.H.Host.world c.args.host.now) (g.H.Host.world c.args.host.now) (parent_of c.args.config.now) c.args.location c.in-File.justfile c.args.made.now.items c.args.made.now.items (g.H.Host.entries c.args.host.now) (g.H.Host.entries c.args.host.now) _
+      refl refl refl c.in-File.is (search rules);
+}
