@@ -105,8 +105,8 @@ turn_clears folder does each told old xs after new (InTurn.another before x betw
     clears_then folder told between old middle here last (turn_clears folder does each told old before between middle turn) (each x between here middle last done)
 
 items_clear : (folder : List ℕ) (a b : Option World) (x y : List Entry) → TriesItems folder a x b y → Clears folder a x b y
-items_clear folder a b x y (items, middle, listed, turn) =
-    clears_then folder a a x middle b y (listed_clears folder a x items middle listed) (turn_clears folder (TriesItem folder) (item_clears folder) a middle items b y turn)
+items_clear folder a b x y (items, middle, shown, turn) =
+    clears_then folder a a x middle b y (listed_clears folder a x items middle shown) (turn_clears folder (TriesItem folder) (item_clears folder) a middle items b y turn)
 
 inner_clears : (path : List ℕ) (a b : Option World) (x y : List Entry) → TriesWithItems path a x b y → Clears path a x b y
 inner_clears path a b x y (between, middle, items, tried) =
@@ -118,8 +118,8 @@ nested_clears folder item a b x y (TriesNested.tried path at other tried) = one_
 nested_clears folder item a b x y (TriesNested.emptied path at is tries) = clears_in folder path a x b y (within_removed folder item.name path at) (inner_clears path a b x y tries)
 
 empties_clear : (folder : List ℕ) (a b : Option World) (x y : List Entry) → Empties folder a x b y → Clears folder a x b y
-empties_clear folder a b x y (items, middle, listed, turn) =
-    clears_then folder a a x middle b y (listed_clears folder a x items middle listed) (turn_clears folder (TriesNested folder) (nested_clears folder) a middle items b y turn)
+empties_clear folder a b x y (items, middle, shown, turn) =
+    clears_then folder a a x middle b y (listed_clears folder a x items middle shown) (turn_clears folder (TriesNested folder) (nested_clears folder) a middle items b y turn)
 
 -- ---- what a function answers of them
 
@@ -212,28 +212,28 @@ module _ (does : Item → Option World → List Entry → Option World → List 
   Turned i after new = (middle : List Entry) × ListsFor folder told old items middle × InTurn does told middle (take i items) after new
 
   pub turned_start : (after : Option World) (new : List Entry) → ListsFor folder told old items new → after ≡ told → Turned 0 after new
-  turned_start after new listed same = (new, listed, subst (λ w. InTurn does told new [] w new) (sym same) InTurn.none)
+  turned_start after new shown same = (new, shown, subst (λ w. InTurn does told new [] w new) (sym same) InTurn.none)
 
   pub turned_end : (i : ℕ) (after : Option World) (new : List Entry) → length items ≤ i → Turned i after new → (all : List Item) × (middle : List Entry) × ListsFor folder told old all middle × InTurn does told middle all after new
-  turned_end i after new over (middle, listed, turn) = (items, middle, listed, turn_end does told middle items i after new over turn)
+  turned_end i after new over (middle, shown, turn) = (items, middle, shown, turn_end does told middle items i after new over turn)
 
   module _ (i : ℕ) (item : Item) (between after : Option World) (now new : List Entry) where
     pub turned_more : i < length items → item ≡ get_or items i item → Turned i between now → does item between now after new → Turned (i + 1) after new
-    turned_more less is (middle, listed, turn) done = (middle, listed, turn_more does told middle items i item between after now new less is turn done)
+    turned_more less is (middle, shown, turn) done = (middle, shown, turn_more does told middle items i item between after now new less is turn done)
 
 pub items_stopped : {A E : Type 0} (folder : List ℕ) (told : Option World) (old : List Entry) (items : List Item) (i : ℕ) (between after : Option World) (now new : List Entry) (r : Result A E) → Turned (TriesItem folder) folder told old items i between now
     → Clears folder between now after new → OnErr r (Clears folder told old after new)
-items_stopped folder told old items i between after now new r (middle, listed, turn) clears =
+items_stopped folder told old items i between after now new r (middle, shown, turn) clears =
     on_err r (Clears folder told old after new)
     (clears_then folder told between old now after new
-    (clears_then folder told told old middle between now (listed_clears folder told old items middle listed) (turn_clears folder (TriesItem folder) (item_clears folder) told middle (take i items) between now turn)) clears)
+    (clears_then folder told told old middle between now (listed_clears folder told old items middle shown) (turn_clears folder (TriesItem folder) (item_clears folder) told middle (take i items) between now turn)) clears)
 
 pub nested_items_stopped : {A E : Type 0} (folder : List ℕ) (told : Option World) (old : List Entry) (items : List Item) (i : ℕ) (between after : Option World) (now new : List Entry) (r : Result A E) → Turned (TriesNested folder) folder told old items i between now
     → Clears folder between now after new → OnErr r (Clears folder told old after new)
-nested_items_stopped folder told old items i between after now new r (middle, listed, turn) clears =
+nested_items_stopped folder told old items i between after now new r (middle, shown, turn) clears =
     on_err r (Clears folder told old after new)
     (clears_then folder told between old now after new
-    (clears_then folder told told old middle between now (listed_clears folder told old items middle listed) (turn_clears folder (TriesNested folder) (nested_clears folder) told middle (take i items) between now turn)) clears)
+    (clears_then folder told told old middle between now (listed_clears folder told old items middle shown) (turn_clears folder (TriesNested folder) (nested_clears folder) told middle (take i items) between now turn)) clears)
 
 -- ---- folders
 

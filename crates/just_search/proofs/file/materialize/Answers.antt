@@ -4,7 +4,9 @@ use Rattle.just_search.specs.Files.{parent_of}
 use Rattle.just_search.proofs.TangledWriting.{file_itself}
 use Rattle.just_search.proofs.file.materialize.Goals as goal
 
-pub returns-in-File-clause-materialized : goal.returns-in-File-clause-materialized
-returns-in-File-clause-materialized g c =
-    file_itself (g.H.Host.world c.args.host.now) (g.H.Host.world c.args.host.now) (parent_of c.args.config.now) c.args.location c.in-File.justfile c.args.made.now.items c.args.made.now.items (g.H.Host.entries c.args.host.now) (g.H.Host.entries c.args.host.now) _
-    refl refl refl c.in-File.is (search rules)
+pub returns-in-File : goal.returns-in-File
+returns-in-File g c = record {
+  materialized =
+      file_itself (g.H.Host.world c.args.host.now) (g.H.Host.world c.args.host.now) (parent_of c.args.config.now) c.args.location c.in-File.justfile c.args.made.now.items c.args.made.now.items (g.H.Host.entries c.args.host.now) (g.H.Host.entries c.args.host.now) _
+      refl refl refl c.in-File.is (search rules);
+}

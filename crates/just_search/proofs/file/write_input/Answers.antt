@@ -5,7 +5,9 @@ use Rattle.just_search.specs.Files.{parent_of}
 use Rattle.just_search.proofs.TangledWriting.{reads}
 use Rattle.just_search.proofs.file.write_input.Goals as goal
 
-pub returns-in-Ok-clause-written : goal.returns-in-Ok-clause-written
-returns-in-Ok-clause-written g c =
-    reads (g.H.Host.world c.args.host.now) (parent_of c.args.config.now) origin.StandardInput c.args.working_directory c.args.made.now.items (g.H.Host.entries c.args.host.now) (g.H.Host.world c.text_of_input.new.host) (g.H.Host.world c.write_text.new.host) c.in-Ok.text
-    c.write_text.new.made.items (g.H.Host.entries c.text_of_input.new.host) (g.H.Host.entries c.write_text.new.host) c.write_text.result c.text_of_input.ensures.world (search rules) c.in-Ok.ensures.text c.write_text.ensures.written
+pub returns-in-Ok : goal.returns-in-Ok
+returns-in-Ok g c = record {
+  written =
+      reads (g.H.Host.world c.args.host.now) (parent_of c.args.config.now) origin.StandardInput c.args.working_directory c.args.made.now.items (g.H.Host.entries c.args.host.now) (g.H.Host.world c.text_of_input.new.host) (g.H.Host.world c.write_text.new.host) c.in-Ok.text
+      c.write_text.new.made.items (g.H.Host.entries c.text_of_input.new.host) (g.H.Host.entries c.write_text.new.host) c.write_text.result c.text_of_input.ensures.world (search rules) c.in-Ok.ensures.text c.write_text.ensures.written;
+}
