@@ -43,10 +43,10 @@ fn serve<H: Host>(
         Err(error) => return Err(error),
     };
     if is_init(&config.subcommand) {
-        return match find_free(alloc, host, &config) {
-            Ok(path) => Ok(Task::Init(path, quiet)),
-            Err(error) => Err(error),
-        };
+        match find_free(alloc, host, &config) {
+            Ok(path) => return Ok(Task::Init(path, quiet)),
+            Err(error) => return Err(error),
+        }
     }
     let location = match locate(alloc, host, &config) {
         Ok(location) => location,

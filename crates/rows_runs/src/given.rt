@@ -23,256 +23,324 @@ pub(crate) fn text<'a>(row: &'a Value, key: &str) -> Result<&'a str, Wrong> {
     }
 }
 
-/// The text that a value is.
-fn as_text(value: &Value) -> Result<&str, Wrong> {
-    match value {
-        Value::String(text) => Ok(text.as_str()),
-        _ => Err(Wrong::Form),
+/// What is read of a row. The first fault stays, and `finished` tells it: what is read needs no way out behind each of its parts.
+#[derive(Drop)]
+struct Reader {
+    alloc: Global,
+    fault: Option<Wrong>,
+}
+
+impl Reader {
+    /// Nothing read so far.
+    fn new(alloc: Global) -> Reader {
+        Reader { alloc, fault: None }
+    }
+
+    /// Notes a fault.
+    fn fail(&mut self, wrong: Wrong) {
+        if self.fault.is_none() {
+            self.fault = Some(wrong);
+        }
+    }
+
+    /// What was made of all that was read; the first fault, where there was one.
+    fn finished<T: Drop>(self, made: T) -> Result<T, Wrong> {
+        match self.fault {
+            None => Ok(made),
+            Some(wrong) => Err(wrong),
+        }
+    }
+
+    /// The text that a value is.
+    fn text<'a>(&mut self, value: &'a Value) -> &'a str {
+        match value {
+            Value::String(text) => text.as_str(),
+            _ => {
+                self.fail(Wrong::Form);
+                ""
+            }
+        }
+    }
+
+    /// A text, owned.
+    fn owned(&mut self, text: &str) -> Text {
+        match Text::from_str(self.alloc, text) {
+            Ok(text) => text,
+            Err(NoMemory) => {
+                self.fail(Wrong::NoMemory);
+                Text::from(String::new(self.alloc))
+            }
+        }
+    }
+
+    /// The bytes of a text.
+    fn bytes(&mut self, text: &str) -> Seq<u8> {
+        match Vec::from_slice(self.alloc, text.as_bytes()) {
+            Ok(bytes) => Seq::from(bytes),
+            Err(_) => {
+                self.fail(Wrong::NoMemory);
+                Seq::new(self.alloc)
+            }
+        }
+    }
+
+    /// Adds an item to a list.
+    fn push<T: Drop>(&mut self, all: &mut Vec<T>, item: T) {
+        if all.push(item).is_err() {
+            self.fail(Wrong::NoMemory);
+        }
+    }
+
+    /// Puts a thing into a tree.
+    fn put(&mut self, tree: &mut Tree, path: &str, thing: Thing) {
+        if tree.insert(self.alloc, path, thing).is_err() {
+            self.fail(Wrong::NoMemory);
+        }
     }
 }
 
 /// The number that a value is.
-fn as_number(value: &Value) -> Result<u32, Wrong> {
-    let Some(number) = value.as_u64() else {
-        return Err(Wrong::Form);
-    };
-    match u32::try_from(number) {
-        Ok(number) => Ok(number),
-        Err(_) => Err(Wrong::Form),
+fn number(reader: &mut Reader, value: &Value) -> u32 {
+    match u32::try_from(value.as_u64().unwrap_or(u64::MAX)) {
+        Ok(number) => number,
+        Err(_) => {
+            reader.fail(Wrong::Form);
+            0
+        }
     }
-}
-
-/// The text that a value is, owned.
-fn as_owned_text(alloc: Global, value: &Value) -> Result<Text, Wrong> {
-    Ok(Text::from_str(alloc, as_text(value)?)?)
 }
 
 /// The words of a row. It promises nothing beyond safety.
 pub(crate) fn words<'a>(alloc: Global, row: &'a Value) -> Result<Vec<&'a str>, Wrong> {
+    let mut reader = Reader::new(alloc);
     let mut words = Vec::new(alloc);
     for word in items(row, "words") {
-        words.push(as_text(word)?)?;
+        let word = reader.text(word);
+        reader.push(&mut words, word);
     }
-    Ok(words)
+    reader.finished(words)
 }
 
 /// The file of a text.
-fn file(alloc: Global, text: &str) -> Result<Thing, NoMemory> {
-    let bytes = Vec::from_slice(alloc, text.as_bytes())?;
-    Ok(Thing::File {
-        bytes: Seq::from(bytes),
+fn file(reader: &mut Reader, text: &str) -> Thing {
+    Thing::File {
+        bytes: reader.bytes(text),
         executable: false,
-    })
-}
-
-/// Puts a file into a tree.
-fn put_file(alloc: Global, tree: &mut Tree, path: &str, text: &str) -> Result<(), NoMemory> {
-    let file = file(alloc, text)?;
-    tree.insert(alloc, path, file)
+    }
 }
 
 /// Puts each folder above a path into a tree; the root is the one whose path is empty here.
-fn put_folders(alloc: Global, tree: &mut Tree, path: &str) -> Result<(), NoMemory> {
+fn put_folders(reader: &mut Reader, tree: &mut Tree, path: &str) {
     for (place, _) in path.match_indices("/") {
         let folder = match path.get(..place) {
             Some("") | None => "/",
             Some(folder) => folder,
         };
-        tree.insert(alloc, folder, Thing::Folder)?;
+        reader.put(tree, folder, Thing::Folder);
     }
-    Ok(())
 }
 
 /// Puts a file of a row into a tree, and each folder above it.
-fn put(alloc: Global, tree: &mut Tree, path: &str, file: &Value) -> Result<(), Wrong> {
-    let text = as_text(file)?;
-    put_folders(alloc, tree, path)?;
-    Ok(put_file(alloc, tree, path, text)?)
+fn put_file(reader: &mut Reader, tree: &mut Tree, path: &str, text: &Value) {
+    let text = reader.text(text);
+    put_folders(reader, tree, path);
+    let file = file(reader, text);
+    reader.put(tree, path, file);
+}
+
+/// The tree of some files, with the current folder and those above them.
+fn tree_read(reader: &mut Reader, current: &str, files: &Value) -> Tree {
+    let mut tree = Tree::new(reader.alloc);
+    reader.put(&mut tree, current, Thing::Folder);
+    match files {
+        Value::Object(files) => {
+            for (path, text) in files {
+                put_file(reader, &mut tree, path.as_str(), text);
+            }
+        }
+        _ => reader.fail(Wrong::Form),
+    }
+    tree
 }
 
 /// The tree of some files, with the current folder and those above them. It promises nothing beyond safety.
 pub(crate) fn tree(alloc: Global, current: &str, files: &Value) -> Result<Tree, Wrong> {
-    let Value::Object(files) = files else {
-        return Err(Wrong::Form);
-    };
-    let mut tree = Tree::new(alloc);
-    tree.insert(alloc, current, Thing::Folder)?;
-    for (path, file) in files {
-        put(alloc, &mut tree, path.as_str(), file)?;
-    }
-    Ok(tree)
+    let mut reader = Reader::new(alloc);
+    let tree = tree_read(&mut reader, current, files);
+    reader.finished(tree)
 }
 
 /// A pair of the environment.
-fn pair(alloc: Global, name: &str, value: &Value) -> Result<(Text, Text), Wrong> {
-    let value = as_owned_text(alloc, value)?;
-    Ok((Text::from_str(alloc, name)?, value))
+fn pair(reader: &mut Reader, name: &str, value: &Value) -> (Text, Text) {
+    let value = reader.text(value);
+    let name = reader.owned(name);
+    (name, reader.owned(value))
 }
 
 /// The environment of a row.
-fn environ(alloc: Global, row: &Value) -> Result<Environ, Wrong> {
-    let mut pairs = Vec::new(alloc);
+fn environ(reader: &mut Reader, row: &Value) -> Environ {
+    let mut pairs = Vec::new(reader.alloc);
     if let Some(Value::Object(values)) = row.get("environ") {
         for (name, value) in values {
-            pairs.push(pair(alloc, name.as_str(), value)?)?;
+            let pair = pair(reader, name.as_str(), value);
+            reader.push(&mut pairs, pair);
         }
     }
-    Ok(Environ {
+    Environ {
         pairs: Seq::from(pairs),
-    })
-}
-
-/// The status of a code.
-fn code(value: &Value) -> Result<Status, Wrong> {
-    let Some(code) = value.as_i64() else {
-        return Err(Wrong::Form);
-    };
-    match i32::try_from(code) {
-        Ok(code) => Ok(Status::Code(code)),
-        Err(_) => Err(Wrong::Form),
     }
 }
 
-/// The status of a signal, as a row writes it.
-fn signal(text: &str) -> Result<Status, Wrong> {
-    let Some(number) = text.strip_prefix("signal:") else {
-        return Err(Wrong::Form);
-    };
-    match number.parse::<i32>() {
-        Ok(number) => Ok(Status::Signal(number)),
-        Err(_) => Err(Wrong::Form),
+/// The status of a code; none, where it is no code.
+fn code(value: &Value) -> Option<Status> {
+    match i32::try_from(value.as_i64().unwrap_or(i64::MAX)) {
+        Ok(code) => Some(Status::Code(code)),
+        Err(_) => None,
     }
 }
 
-/// A status as a row writes it.
-fn status(value: &Value) -> Result<Status, Wrong> {
+/// The status of a signal, as a row writes it; none, where it is no signal.
+fn signal(text: &str) -> Option<Status> {
+    match text.strip_prefix("signal:").unwrap_or("").parse::<i32>() {
+        Ok(number) => Some(Status::Signal(number)),
+        Err(_) => None,
+    }
+}
+
+/// A status as a row writes it; none, where it is no status.
+fn status(value: &Value) -> Option<Status> {
     match value {
-        Value::String(text) if text.as_str() == "unknown" => Ok(Status::Unknown),
+        Value::String(text) if text.as_str() == "unknown" => Some(Status::Unknown),
         Value::String(text) => signal(text.as_str()),
         other => code(other),
     }
 }
 
+/// How a child ends.
+fn ended(reader: &mut Reader, value: &Value) -> Status {
+    match status(value) {
+        Some(status) => status,
+        None => {
+            reader.fail(Wrong::Form);
+            Status::Unknown
+        }
+    }
+}
+
 /// What a child does to a file: its text, or nothing where it goes.
-fn effect(alloc: Global, path: &str, text: &Value) -> Result<(Text, Option<Thing>), NoMemory> {
-    let path = Text::from_str(alloc, path)?;
+fn effect(reader: &mut Reader, path: &str, text: &Value) -> (Text, Option<Thing>) {
+    let path = reader.owned(path);
     match text {
-        Value::String(text) => Ok((path, Some(file(alloc, text.as_str())?))),
-        _ => Ok((path, None)),
+        Value::String(text) => (path, Some(file(reader, text.as_str()))),
+        _ => (path, None),
     }
 }
 
 /// What a child does to the files: the text of each path, or nothing where the file goes.
-fn effects(alloc: Global, files: Option<&Value>) -> Result<Vec<(Text, Option<Thing>)>, NoMemory> {
-    let mut effects = Vec::new(alloc);
+fn effects(reader: &mut Reader, files: Option<&Value>) -> Vec<(Text, Option<Thing>)> {
+    let mut effects = Vec::new(reader.alloc);
     if let Some(Value::Object(files)) = files {
         for (path, text) in files {
-            effects.push(effect(alloc, path.as_str(), text)?)?;
+            let effect = effect(reader, path.as_str(), text);
+            reader.push(&mut effects, effect);
         }
     }
-    Ok(effects)
+    effects
 }
 
 /// The bytes of a text; none where there is none.
-fn bytes(alloc: Global, text: Option<&Value>) -> Result<Seq<u8>, Wrong> {
+fn bytes(reader: &mut Reader, text: Option<&Value>) -> Seq<u8> {
     let text = match text {
-        Some(text) => as_text(text)?,
+        Some(text) => reader.text(text),
         None => "",
     };
-    Ok(Seq::from(Vec::from_slice(alloc, text.as_bytes())?))
+    reader.bytes(text)
 }
 
-/// The ending of a child's word: the word, its status, what it does to files, and what it prints, of which the last two may be left out.
-fn ending(alloc: Global, parts: &[Value]) -> Result<Ending, Wrong> {
-    let [word, ended, rest @ ..] = parts else {
-        return Err(Wrong::Form);
+/// Adds the ending of a child's word: the word, its status, what it does to files, and what it prints, of which the last two may be left out.
+fn push_ending(reader: &mut Reader, endings: &mut Vec<Ending>, parts: &[Value]) {
+    let [word, status, rest @ ..] = parts else {
+        reader.fail(Wrong::Form);
+        return;
     };
     if rest.len() > 2 {
-        return Err(Wrong::Form);
+        reader.fail(Wrong::Form);
     }
-    let status = status(ended)?;
-    let effects = effects(alloc, rest.first())?;
-    let output = bytes(alloc, rest.get(1))?;
-    Ok(Ending {
-        word: as_owned_text(alloc, word)?,
-        status,
-        output,
-        effects,
-    })
+    let word = reader.text(word);
+    let ending = Ending {
+        word: reader.owned(word),
+        status: ended(reader, status),
+        output: bytes(reader, rest.get(1)),
+        effects: effects(reader, rest.first()),
+    };
+    reader.push(endings, ending);
 }
 
 /// The endings of a row.
-fn endings(alloc: Global, row: &Value) -> Result<Vec<Ending>, Wrong> {
-    let mut endings = Vec::new(alloc);
+fn endings(reader: &mut Reader, row: &Value) -> Vec<Ending> {
+    let mut endings = Vec::new(reader.alloc);
     for parts in items(row, "endings") {
         match parts {
-            Value::Array(parts) => endings.push(ending(alloc, parts.as_slice())?)?,
-            _ => return Err(Wrong::Form),
+            Value::Array(parts) => push_ending(reader, &mut endings, parts.as_slice()),
+            _ => reader.fail(Wrong::Form),
         }
     }
-    Ok(endings)
+    endings
 }
 
 /// The lines that a prompt reads.
-fn answers(alloc: Global, row: &Value) -> Result<Seq<Text>, Wrong> {
-    let mut answers = Vec::new(alloc);
+fn answers(reader: &mut Reader, row: &Value) -> Seq<Text> {
+    let mut answers = Vec::new(reader.alloc);
     for answer in items(row, "answers") {
-        answers.push(as_owned_text(alloc, answer)?)?;
+        let answer = reader.text(answer);
+        let answer = reader.owned(answer);
+        reader.push(&mut answers, answer);
     }
-    Ok(Seq::from(answers))
+    Seq::from(answers)
 }
 
 /// The numbers of the calls that fail.
-fn fails(alloc: Global, row: &Value) -> Result<Seq<u32>, Wrong> {
-    let mut fails = Vec::new(alloc);
-    for number in items(row, "fails") {
-        fails.push(as_number(number)?)?;
+fn fails(reader: &mut Reader, row: &Value) -> Seq<u32> {
+    let mut fails = Vec::new(reader.alloc);
+    for value in items(row, "fails") {
+        let number = number(reader, value);
+        reader.push(&mut fails, number);
     }
-    Ok(Seq::from(fails))
+    Seq::from(fails)
 }
 
 /// What is to happen in a row.
-fn plot(alloc: Global, row: &Value) -> Result<Plot, Wrong> {
-    let endings = endings(alloc, row)?;
-    let answers = answers(alloc, row)?;
-    let input = bytes(alloc, row.get("input"))?;
-    Ok(Plot {
-        fails: fails(alloc, row)?,
-        endings,
-        answers,
-        input,
-        signals: Seq::new(alloc),
-    })
-}
-
-/// The tree of a row, in that folder.
-fn tree_of(alloc: Global, row: &Value, current: &str) -> Result<Tree, Wrong> {
-    match row.get("files") {
-        Some(files) => tree(alloc, current, files),
-        None => Err(Wrong::Form),
+fn plot(reader: &mut Reader, row: &Value) -> Plot {
+    Plot {
+        endings: endings(reader, row),
+        answers: answers(reader, row),
+        input: bytes(reader, row.get("input")),
+        fails: fails(reader, row),
+        signals: Seq::new(reader.alloc),
     }
 }
 
-/// A host in memory in that folder, over a tree and an environment, over which that happens.
-fn memory(
-    alloc: Global,
-    current: &str,
-    tree: Tree,
-    environ: Environ,
-    plot: Plot,
-) -> Result<MemHost, NoMemory> {
-    let current = Utf8PathBuf::from_str(alloc, current)?;
-    MemHost::new(alloc, tree, current, environ, plot)
+/// The tree of a row, in that folder.
+fn tree_of(reader: &mut Reader, row: &Value, current: &str) -> Tree {
+    match row.get("files") {
+        Some(files) => tree_read(reader, current, files),
+        None => {
+            reader.fail(Wrong::Form);
+            Tree::new(reader.alloc)
+        }
+    }
 }
 
 /// The host of a row. It promises nothing beyond safety.
 pub(crate) fn host(alloc: Global, row: &Value) -> Result<MemHost, Wrong> {
     let current = text(row, "current")?;
-    let environ = environ(alloc, row)?;
-    let tree = tree_of(alloc, row, current)?;
-    let plot = plot(alloc, row)?;
-    match memory(alloc, current, tree, environ, plot) {
-        Ok(host) => Ok(host),
+    let folder = Utf8PathBuf::from_str(alloc, current)?;
+    let mut reader = Reader::new(alloc);
+    let environ = environ(&mut reader, row);
+    let tree = tree_of(&mut reader, row, current);
+    let plot = plot(&mut reader, row);
+    match MemHost::new(alloc, tree, folder, environ, plot) {
+        Ok(host) => reader.finished(host),
         Err(NoMemory) => Err(Wrong::NoMemory),
     }
 }

@@ -20,8 +20,8 @@ returns-in-Ok-plan_tried g c =
     let located = c.in-Ok-locate.ensures.located in
     (place_tried _ _ _ _ _ _ c.in-Ok.ensures.gives _ c.in-Ok-configure.ensures.gives c.in-Ok-configure.ensures.config (sym c.is_init.ensures ∙ c.if-is_init.false) _ c.current_folder.ensures.world _ c.in-Ok.ensures.grew _ located.1 _ _ located.2 _ located.3 _ c.locate.ensures.world _ _ _ c.in-Ok-plan_tried.ensures, refl)
 
-pub returns-in-Err-plan_tried : goal.returns-in-Err-plan_tried
-returns-in-Err-plan_tried g c =
+pub returns : goal.returns
+returns g c =
     let located = c.in-Ok-locate.ensures.located in
     place_tried _ _ _ _ _ _ c.in-Ok.ensures.gives _ c.in-Ok-configure.ensures.gives c.in-Ok-configure.ensures.config (sym c.is_init.ensures ∙ c.if-is_init.false) _ c.current_folder.ensures.world _ c.in-Ok.ensures.grew _ located.1 _ _ located.2 _ located.3 _ c.locate.ensures.world _ _ _ c.in-Err-plan_tried.ensures
 
