@@ -7,7 +7,7 @@ use Rattle.std.proofs.Math.Seq.{drop-append_seam}
 use Rattle.just_lang_types.specs.declared.node.BodyLine.{BodyLine}
 use Rattle.just_exec_work.specs.Cuts.{is_newline}
 use Rattle.just_exec_work.specs.Shebangs.{keeps_shebang_lines}
-use Rattle.just_exec_work.specs.Scripts.{Runner, by_command, by_shebang, ended, shebang_count, shebang_lines, is_shebang_line, gap, placed, mark, script_text}
+use Rattle.just_exec_work.specs.Scripts.{Runner, by_command, by_shebang, ended, shebang_count, shebang_lines, is_shebang_line, gap, placed, byte_order_mark, script_text}
 use Rattle.just_exec_work.proofs.LastPieces.{neither}
 use Rattle.just_exec_work.specs.Lines.{lines_of, StandsAtNumber, AreRising, IsOneLine, KeepsNumbers}
 
@@ -138,5 +138,5 @@ pub script_keeps_numbers : (r : Runner) (ls : List BodyLine) (t : List ℕ) → 
 script_keeps_numbers r ls t h = subst (KeepsNumbers r ls) (sym h) (kept r)
   where
     kept : (r : Runner) → KeepsNumbers r ls (script_text r ls)
-    kept (by_command i) = λ rising lines. command_stands (mark (by_command i)) ls rising lines
+    kept (by_command i) = λ rising lines. command_stands (byte_order_mark (by_command i)) ls rising lines
     kept (by_shebang n) = λ rising lines. shebang_stands (keeps_shebang_lines n) ls rising lines

@@ -3,7 +3,7 @@ use Rattle.std.specs.Prelude.{◌≡◌, ℕ, ◌-◌, ◌<◌, false, List, [],
 use Rattle.std.specs.List.{list_any, slice_split, AllByRecursion}
 use Rattle.just_lang_types.specs.declared.node.BodyLine.{BodyLine}
 use Rattle.just_exec_work.specs.Cuts.{is_newline}
-use Rattle.just_exec_work.specs.Scripts.{Runner, mark, numbered}
+use Rattle.just_exec_work.specs.Scripts.{Runner, byte_order_mark, numbered}
 
 -- the lines of a text
 abbrev pub lines_of : List ℕ → List (List ℕ)
@@ -25,4 +25,4 @@ IsOneLine l = list_any is_newline l.text ≡ false
 -- Where the numbers of lines rise from 1 or more, and each text is one line, each line behind those of the shebang stands at its own
 -- number in the text behind the byte order mark.
 abbrev pub KeepsNumbers : Runner → List BodyLine → List ℕ → Type 0
-KeepsNumbers r lines text = AreRising 0 lines → AllByRecursion IsOneLine lines → AllByRecursion (StandsAtNumber (drop (length (mark r)) text)) (numbered r lines)
+KeepsNumbers r lines text = AreRising 0 lines → AllByRecursion IsOneLine lines → AllByRecursion (StandsAtNumber (drop (length (byte_order_mark r)) text)) (numbered r lines)

@@ -36,13 +36,13 @@ is_powershell_kind kind.Cmd = false
 is_powershell_kind kind.Other = false
 is_powershell_kind kind.Powershell = true
 
-abbrev pub needs_mark : Runner → Bool
-needs_mark (by_command i) = is_powershell_kind (kind_of i.command)
-needs_mark (by_shebang n) = false
+abbrev pub needs_bom : Runner → Bool
+needs_bom (by_command i) = is_powershell_kind (kind_of i.command)
+needs_bom (by_shebang n) = false
 
 -- the byte order mark, where the script begins with it
-abbrev pub mark : Runner → List ℕ
-mark r = if needs_mark r then 239 ∷ 187 ∷ 191 ∷ [] else []
+abbrev pub byte_order_mark : Runner → List ℕ
+byte_order_mark r = if needs_bom r then 239 ∷ 187 ∷ 191 ∷ [] else []
 
 -- ---- lines
 
@@ -81,5 +81,5 @@ numbered r lines = drop (lines_above r lines) lines
 
 -- the text of the script of a body
 abbrev pub script_text : Runner → List BodyLine → List ℕ
-script_text (by_command i) lines = mark (by_command i) ++ placed 0 lines
+script_text (by_command i) lines = byte_order_mark (by_command i) ++ placed 0 lines
 script_text (by_shebang n) lines = shebang_lines (keeps_shebang_lines n) (take_while is_shebang_line lines) ++ placed (shebang_count lines) (drop (shebang_count lines) lines)

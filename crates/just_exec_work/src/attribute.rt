@@ -29,7 +29,7 @@ impl Texts for Assembled {
 }
 
 /// The attribute of that name: the first.
-fn attribute_named<'a>(attributes: &'a [Attribute], name: &str) -> Option<&'a Attribute>
+pub fn attribute_named<'a>(attributes: &'a [Attribute], name: &str) -> Option<&'a Attribute>
     ensures { option_map (λ a. a.now) result ≡ attribute_named attributes.now name.now }
 {
     'attributes: for attribute in attributes {

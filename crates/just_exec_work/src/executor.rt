@@ -4,7 +4,7 @@ ghost use Rattle.std.specs.Prelude.{◌≡◌, IfOk, string_bytes};
 ghost use Rattle.std.specs.Option.{option_map};
 ghost use Rattle.just_exec_work.specs.Cuts.{last_piece};
 ghost use Rattle.just_exec_work.specs.Kinds.{kind_of};
-ghost use Rattle.just_exec_work.specs.Scripts.{runner_of, program, script_name, needs_mark, mark, script_text};
+ghost use Rattle.just_exec_work.specs.Scripts.{runner_of, program, script_name, needs_bom, byte_order_mark, script_text};
 ghost use Rattle.just_exec_work.specs.Lines.{KeepsNumbers};
 
 use super::cut::last_piece;
@@ -52,7 +52,7 @@ impl<'l> Executor<'l> {
     /// assert!(!Executor::Shebang(shebang).needs_bom());
     /// ```
     pub fn needs_bom(&self) -> bool
-        ensures { result ≡ needs_mark (runner_of self.now) }
+        ensures { result ≡ needs_bom (runner_of self.now) }
     {
         match self {
             Executor::Command(_) => self.shell_kind() == ShellKind::Powershell,
@@ -82,8 +82,8 @@ impl<'l> Executor<'l> {
     }
 
     /// The byte order mark, where the script begins with it.
-    fn mark(&self, alloc: Global) -> Result<Text, NoMemory>
-        ensures { IfOk result (λ t. t ≡ mark (runner_of self.now)) }
+    fn byte_order_mark(&self, alloc: Global) -> Result<Text, NoMemory>
+        ensures { IfOk result (λ t. t ≡ byte_order_mark (runner_of self.now)) }
     {
         let mark = if self.needs_bom() { "\u{FEFF}" } else { "" };
         Text::from_str(alloc, mark)
@@ -102,7 +102,7 @@ impl<'l> Executor<'l> {
         ensures numbers { IfOk result (λ t. KeepsNumbers (runner_of self.now) lines.now t) }
     {
         match self {
-            Executor::Command(_) => placed_behind(alloc, self.mark(alloc)?, 0, lines),
+            Executor::Command(_) => placed_behind(alloc, self.byte_order_mark(alloc)?, 0, lines),
             Executor::Shebang(shebang) => {
                 let (front, rest) = lines.split_at(shebang_count(lines));
                 let front_text = shebang_text(alloc, shebang.include_shebang_line(), front)?;

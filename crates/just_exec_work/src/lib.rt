@@ -31,7 +31,7 @@ mod steps;
 mod work;
 mod works;
 
-pub use attribute::{attribute_text, has_attribute, prints_code, read_attributes};
+pub use attribute::{attribute_named, attribute_text, has_attribute, prints_code, read_attributes};
 pub use copies::one_text;
 pub use error::CommandError;
 pub use executor::Executor;
