@@ -3,3 +3,4 @@ pub mod Laws
 mod ThreeTexts
 pub mod Writing
 pub mod MadeFolders
+pub mod Effects

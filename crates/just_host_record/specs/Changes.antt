@@ -10,12 +10,13 @@ use Rattle.just_host_record.specs.declared.entry.HostFault.{HostFault}
 use Rattle.just_host_record.specs.declared.entry.HostFault.TheVariants as fault
 use Rattle.just_host_record.specs.declared.tree.Thing.{Thing}
 use Rattle.just_host_record.specs.declared.tree.Thing.TheVariants as thing
+use Rattle.just_host_record.specs.Disk.{StaysUntold}
 use Rattle.just_host_record.specs.Sights.{Tree, seen}
 use Rattle.just_host_record.specs.World.{World, view_of}
 
 -- a world with another tree
 abbrev pub with_tree : World → Tree → World
-with_tree w tree = record { tree = tree; current = w.current; environ = w.environ; input = w.input; harmless = w.harmless }
+with_tree w tree = record { tree = tree; current = w.current; environ = w.environ; input = w.input; harmless = w.harmless; disk = w.disk }
 
 -- the folder that a place is in; the root is in itself
 abbrev pub folder_of : List ℕ → List ℕ
@@ -104,12 +105,13 @@ with_cache_entry w path = entry_found w path (canonical_told path (view_of w))
 abbrev pub IsOfEntry : World → List ℕ → List ℕ → Type 0
 IsOfEntry w path place = (place ≡ place_under w.current path) ⊎ (place ≡ folder_of (place_under w.current path))
 
--- two worlds that differ at most in what stands at these places
+-- two worlds that differ at most in what stands at these places, and in their disks
 pub record DiffersAt (places : List ℕ → Type 0) (v w : World) : Type 0 where
   pub tree : (place : List ℕ) → (places place → ⊥) → map.get w.tree place ≡ map.get v.tree place
   pub current : w.current ≡ v.current
   pub environ : w.environ ≡ v.environ
   pub input : w.input ≡ v.input
+  pub disk : StaysUntold v.disk w.disk
 
 abbrev pub FaultChanges : (World → Result Tree Miss) → (World → List ℕ → Type 0) → World → Option World → HostFault → Type 0
 FaultChanges change places w new (fault.Missed m) = (change w ≡ Err m) × (new ≡ Some w)

@@ -1,6 +1,7 @@
 -- Definitions of the outside.
 pub mod Record
 pub mod World
+pub mod Disk
 pub mod Sights
 pub mod Logs
 pub mod Signals
@@ -8,4 +9,5 @@ pub mod Changes
 pub mod Looks
 pub mod Folders
 pub mod NewFolders
+pub mod Effects
 pub mod Scripts

@@ -1,5 +1,5 @@
--- The world that a host may tell: its files, environment, current folder and standard input, and which children
--- leave the files alone.
+-- The world that a host may tell: its files, environment, current folder and standard input, which children
+-- leave the files alone, and its disk, where it tells one.
 use Rattle.std.specs.Prelude.{ℕ, ◌≡◌, nat_lt, if◌then◌else◌, Bool, true, List, length, Option, Some, None, Result, Ok, Err, MatchOption, string_bytes}
 use Rattle.std.specs.FinMap as map
 use Rattle.std.specs.Str.{is_utf8}
@@ -14,6 +14,7 @@ use Rattle.just_host_record.specs.declared.entry.Spec.{Spec}
 use Rattle.just_host_record.specs.declared.outside.TheConstants.{MAX_BYTES}
 use Rattle.just_host_record.specs.declared.tree.Thing.{Thing}
 use Rattle.just_host_record.specs.declared.tree.Thing.TheVariants as thing
+use Rattle.just_host_record.specs.Disk.{Disk, StaysUntold}
 use Rattle.just_host_record.specs.Sights.{Tree, seen}
 
 pub record World : Type 0 where
@@ -23,6 +24,8 @@ pub record World : Type 0 where
   pub input : List ℕ
   -- whether a child of that spec leaves the files alone where it is run to its end for what it prints
   pub harmless : Spec → Bool
+  -- what outlives a stop of the run; not every host tells it
+  pub disk : Option Disk
 
 -- a world as its paths see it
 abbrev pub view_of : World → View
@@ -61,11 +64,11 @@ ReadTells (Some w) path (Err e) = ReadShows w path e
 abbrev pub StayHarmless : World → World → Type 0
 StayHarmless v w = (spec : Spec) → v.harmless spec ≡ true → w.harmless spec ≡ true
 
--- A call that may have changed the files, and nothing else of the world; no child that leaves them alone does harm
--- behind it. A world that isn't told stays untold.
+-- A call that may have changed the files and the disk, and nothing else of the world; no child that leaves them alone does harm
+-- behind it. It may stop the telling of the disk. A world that isn't told stays untold, and so does a disk.
 abbrev pub Touched : Option World → Option World → Type 0
 Touched old new = MatchOption new (Unit {0}) (λ w. (v : World) × (old ≡ Some v) × (w.current ≡ v.current)
-    × (w.environ ≡ v.environ) × (w.input ≡ v.input) × StayHarmless v w)
+    × (w.environ ≡ v.environ) × (w.input ≡ v.input) × StayHarmless v w × StaysUntold v.disk w.disk)
 
 -- a child that leaves the files alone leaves a told world as it is
 abbrev pub LeftAlone : Option World → Option World → Spec → Type 0

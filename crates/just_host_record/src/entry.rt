@@ -6,7 +6,6 @@ use super::{ScriptText, Signal};
 use just_lang_read::Boxed;
 use just_path::{Miss, Utf8PathBuf};
 use just_path_text::{NoMemory, Seq, Text};
-use std::fmt;
 
 /// The calls of a host that can fail.
 #[derive(Clone, Copy, Debug, PartialEq, Eq)]
@@ -53,7 +52,7 @@ impl From<NoMemory> for HostFault {
 }
 
 /// Where a text is printed.
-#[derive(Clone, Copy, Debug)]
+#[derive(Clone, Copy)]
 pub enum Stream {
     Out,
     Err,
@@ -77,7 +76,6 @@ pub enum Look {
 }
 
 /// A script that a child runs: its text is written to a file called `name` in a fresh folder under `folder`.
-#[derive(Debug)]
 pub struct Script {
     pub folder: Option<Utf8PathBuf>,
     pub name: Text,
@@ -102,7 +100,6 @@ impl Drop for Script {
 
 /// A child as it is asked for: its program and words, its folder, and what changes in its environment
 /// (a name with no value is taken out).
-#[derive(Debug)]
 pub struct Spec {
     pub program: Text,
     pub arguments: Seq<Text>,
@@ -124,7 +121,6 @@ impl Drop for Spec {
 }
 
 /// One entry of a host's record: what was asked of the world, and what it answered.
-#[derive(Drop)]
 pub enum Entry {
     /// A path that wasn't found as it was asked for.
     Missed(Utf8PathBuf, Miss),
@@ -148,54 +144,14 @@ pub enum Entry {
     Made(Utf8PathBuf),
 }
 
-impl fmt::Debug for Entry {
-    /// As it is derived for an enum, but by the number of its variants' fields.
-    fn fmt<W: fmt::Write>(&self, f: &mut fmt::Formatter<W>) -> fmt::Result {
+impl Drop for Entry {
+    fn drop(self) {
         match self {
-            Entry::Missed(path, miss) => show_two(f, "Missed", path, miss),
-            Entry::Failed(call) => show_one(f, "Failed", call),
-            Entry::Asked(prompt, answer) => show_two(f, "Asked", prompt, answer),
-            Entry::Summed(path, sum) => show_two(f, "Summed", path, sum),
-            Entry::Probed(path, outputs, look) => f
-                .debug_tuple("Probed")
-                .field(path)
-                .field(outputs)
-                .field(look)
-                .finish(),
-            Entry::Checked(outputs, first) => show_two(f, "Checked", outputs, first),
-            Entry::Saved(path) => show_one(f, "Saved", path),
-            Entry::Started(child, spec) => show_two(f, "Started", child, spec),
-            Entry::Ended(child, status) => show_two(f, "Ended", child, status),
-            Entry::Captured(spec, input, status, output) => f
-                .debug_tuple("Captured")
-                .field(spec)
-                .field(input)
-                .field(status)
-                .field(output)
-                .finish(),
-            Entry::Strayed(child, other) => show_two(f, "Strayed", child, other),
-            Entry::Signalled(signal) => show_one(f, "Signalled", signal),
-            Entry::Printed(stream, text) => show_two(f, "Printed", stream, text),
-            Entry::Made(path) => show_one(f, "Made", path),
+            Entry::Missed(_, _) | Entry::Saved(_) | Entry::Made(_) => {}
+            Entry::Asked(_, _) | Entry::Printed(_, _) => {}
+            Entry::Summed(_, _) | Entry::Probed(_, _, _) | Entry::Checked(_, _) => {}
+            Entry::Started(_, _) | Entry::Captured(_, _, _, _) => {}
+            Entry::Failed(_) | Entry::Ended(_, _) | Entry::Strayed(_, _) | Entry::Signalled(_) => {}
         }
     }
-}
-
-/// Shows an entry with one field. No clause: nothing is claimed of what is shown for developers.
-fn show_one<A: fmt::Debug, W: fmt::Write>(
-    f: &mut fmt::Formatter<W>,
-    name: &str,
-    field: &A,
-) -> fmt::Result {
-    f.debug_tuple(name).field(field).finish()
-}
-
-/// Shows an entry with two fields. No clause: nothing is claimed of what is shown for developers.
-fn show_two<A: fmt::Debug, B: fmt::Debug, W: fmt::Write>(
-    f: &mut fmt::Formatter<W>,
-    name: &str,
-    first: &A,
-    second: &B,
-) -> fmt::Result {
-    f.debug_tuple(name).field(first).field(second).finish()
 }

@@ -8,6 +8,7 @@ ghost use Rattle.just_host_record.specs.declared.outside.TheConstants.{MAX_BYTES
 ghost use Rattle.just_host_record.specs.Record.{gained, IsOwn, NeverMissed, noted, children, faults_of, misses_of, settled_entry, settled_answer, text_or_empty, script_folder, IsStartFault, IsCaptureFault};
 ghost use Rattle.just_host_record.specs.World.{World, view_of, ReadTells, Touched, Leaves, LeftAlone};
 ghost use Rattle.just_host_record.specs.Changes.{place_written, written, with_cache_entry, IsOfEntry, Changes};
+ghost use Rattle.just_host_record.specs.Effects.{LeavesFiles, IsPutSomewhere, HasEntry, MakesFolder};
 ghost use Rattle.just_host_record.specs.Folders.{TempTells, Removes};
 ghost use Rattle.just_host_record.specs.NewFolders.{with_folder, IsOfFolder};
 ghost use Rattle.just_host_record.specs.Scripts.{StartTells};
@@ -87,6 +88,9 @@ pub trait Host: PathHost {
         ensures entries { entries self.new ≡ entries self.old ++ gained (text_of path.entry) (λ _. []) result }
         ensures own { IsOwn Call.Write result }
         ensures world { Changes (λ w. written w (text_of path.entry) bytes.now) (λ w place. place_written w (text_of path.entry) ≡ Ok place) (world self.old) (world self.new) result }
+        ensures puts { LeavesFiles
+            (λ w files. IsPutSomewhere w (text_of path.entry) bytes.now files)
+            (world self.old) (world self.new) result }
         ensures spare { spare self.new ≡ spare self.old };
 
     /// Makes a folder, and those above it, where they lack. Where something else stands, it isn't replaced.
@@ -94,6 +98,8 @@ pub trait Host: PathHost {
         ensures entries { entries self.new ≡ entries self.old ++ gained (text_of path.entry) (λ _. []) result }
         ensures own { IsOwn Call.MakeFolder result }
         ensures world { Changes (λ w. with_folder w (text_of path.entry)) (λ w place. IsOfFolder w (text_of path.entry) place) (world self.old) (world self.new) result }
+        ensures makes { LeavesFiles (λ w files. MakesFolder w (text_of path.entry) files)
+            (world self.old) (world self.new) result }
         ensures spare { spare self.new ≡ spare self.old };
 
     /// Makes a fresh folder in another one, else where the host keeps temporary folders. Its name begins with `prefix`.
@@ -137,6 +143,8 @@ pub trait Host: PathHost {
         ensures own { IsOwn Call.Probe result }
         ensures told { LookTells (world self.old) (text_of entry.entry) outputs.now result }
         ensures world { Changes (λ w. with_cache_entry w (text_of entry.entry)) (λ w place. IsOfEntry w (text_of entry.entry) place) (world self.old) (world self.new) result }
+        ensures has { LeavesFiles (λ w files. HasEntry w (text_of entry.entry) files)
+            (world self.old) (world self.new) result }
         ensures spare { spare self.new ≡ spare self.old };
 
     /// The number of the first output that isn't there. An output that can't be found for another reason is a miss, with its path.
@@ -153,6 +161,9 @@ pub trait Host: PathHost {
         ensures entries { entries self.new ≡ entries self.old ++ gained (text_of entry.entry) (λ _. Entry.Saved (text_of entry.entry) ∷ []) result }
         ensures own { IsOwn Call.Save result }
         ensures world { Changes (λ w. written w (text_of entry.entry) bytes.now) (λ w place. place_written w (text_of entry.entry) ≡ Ok place) (world self.old) (world self.new) result }
+        ensures puts { LeavesFiles
+            (λ w files. IsPutSomewhere w (text_of entry.entry) bytes.now files)
+            (world self.old) (world self.new) result }
         ensures spare { spare self.new ≡ spare self.old };
 
     /// Runs a child to its end, feeds it these bytes, and answers how it ended and what it printed. A child that stops reading is no fault. An

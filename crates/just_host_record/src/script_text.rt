@@ -13,7 +13,6 @@ use std::marker::Model;
 /// let text = ScriptText::new(Text::from_str(alloc, "#!/bin/sh\n")?, 3, Text::from_str(alloc, "ls\n")?);
 /// assert!(text.to_string(alloc)?.as_str() == "#!/bin/sh\n\n\n\nls\n");
 /// ```
-#[derive(Debug)]
 pub struct ScriptText {
     front: Text,
     blank_lines: usize,
