@@ -12,7 +12,7 @@ use Rattle.just_lang_types.specs.declared.recipe.Modulepath.{Modulepath}
 use Rattle.just_lang_types.specs.declared.scope.Scopes.{Scopes}
 use Rattle.just_lang_types.specs.declared.project.Justfile.{Justfile}
 use Rattle.just_lang_types.specs.Keys.{same_path}
-use Rattle.just_eval_closure.specs.Marks.{path_mark}
+use Rattle.just_eval_closure.specs.Hashes.{path_hash}
 use Rattle.just_eval_closure.specs.Numbers.{path_cmp}
 use Rattle.just_eval_closure.proofs.Equal.{same_path_is}
 use Rattle.just_eval_closure.proofs.Items.{found, all_in}
@@ -90,7 +90,7 @@ entered_before m e there path = pick (has_path path e) refl
     pick true h = something (indexed m path) (added e path) (subst (λ q. is_some (indexed m q) ≡ true) (same_path_is e.recipe.now.path path h) there)
     pick false h = sym (ap (λ o. or_else (indexed m path) o) (added_under e path false h) ∙ or_else_none (indexed m path))
 
--- where the mark gives nothing, the other entry counts
+-- where the hash gives nothing, the other entry counts
 other_counts : (path : Modulepath) (o : Option Entry) (e : Entry) → first_or path o None ≡ None → first_or path o (Some e) ≡ Some e
 other_counts path None e h = refl
 other_counts path (Some f) e h = pick (same_path f.recipe.now.path path) h
@@ -111,36 +111,36 @@ none_other path (Some f) other h = pick (same_path f.recipe.now.path path) h
 -- one whose path is new, and is kept by itself
 pub entered_other : (m i : Index) (e : Entry) (copy : Modulepath) → copy ≡ e.recipe.now.path → is_some (indexed m e.recipe.now.path) ≡ false → i.firsts ≡ m.firsts → Updates path_cmp m.others i.others copy (Some e) → Enters m e i
 entered_other m i e copy same new firsts updates path =
-    ap (λ f. first_or path (get_hashed nat_eq f (path_mark path)) (get path_cmp i.others path)) firsts ∙ ap (λ o. first_or path (get_hashed nat_eq m.firsts (path_mark path)) o) (updates.0 path ∙ ap (λ b. cond b (Some e) (get path_cmp m.others path)) (path_tie copy path ∙ ap (λ c. same_path c path) same)) ∙ pick (has_path path e) refl
+    ap (λ f. first_or path (get_hashed nat_eq f (path_hash path)) (get path_cmp i.others path)) firsts ∙ ap (λ o. first_or path (get_hashed nat_eq m.firsts (path_hash path)) o) (updates.0 path ∙ ap (λ b. cond b (Some e) (get path_cmp m.others path)) (path_tie copy path ∙ ap (λ c. same_path c path) same)) ∙ pick (has_path path e) refl
   where
-    pick : (b : Bool) → has_path path e ≡ b → first_or path (get_hashed nat_eq m.firsts (path_mark path)) (cond (has_path path e) (Some e) (get path_cmp m.others path)) ≡ or_else (indexed m path) (added e path)
+    pick : (b : Bool) → has_path path e ≡ b → first_or path (get_hashed nat_eq m.firsts (path_hash path)) (cond (has_path path e) (Some e) (get path_cmp m.others path)) ≡ or_else (indexed m path) (added e path)
     pick true h =
         let none : indexed m path ≡ None = nothing (indexed m path) (subst (λ q. is_some (indexed m q) ≡ false) (same_path_is e.recipe.now.path path h) new) in
-        let other = none_other path (get_hashed nat_eq m.firsts (path_mark path)) (get path_cmp m.others path) none in
-        ap (λ b. first_or path (get_hashed nat_eq m.firsts (path_mark path)) (cond b (Some e) (get path_cmp m.others path))) h ∙ other_counts path (get_hashed nat_eq m.firsts (path_mark path)) e (ap (λ o. first_or path (get_hashed nat_eq m.firsts (path_mark path)) o) (sym other) ∙ none) ∙ sym (ap (λ o. or_else o (added e path)) none ∙ added_under e path true h)
+        let other = none_other path (get_hashed nat_eq m.firsts (path_hash path)) (get path_cmp m.others path) none in
+        ap (λ b. first_or path (get_hashed nat_eq m.firsts (path_hash path)) (cond b (Some e) (get path_cmp m.others path))) h ∙ other_counts path (get_hashed nat_eq m.firsts (path_hash path)) e (ap (λ o. first_or path (get_hashed nat_eq m.firsts (path_hash path)) o) (sym other) ∙ none) ∙ sym (ap (λ o. or_else o (added e path)) none ∙ added_under e path true h)
     pick false h =
-        ap (λ b. first_or path (get_hashed nat_eq m.firsts (path_mark path)) (cond b (Some e) (get path_cmp m.others path))) h ∙ sym (ap (λ o. or_else (indexed m path) o) (added_under e path false h) ∙ or_else_none (indexed m path))
+        ap (λ b. first_or path (get_hashed nat_eq m.firsts (path_hash path)) (cond b (Some e) (get path_cmp m.others path))) h ∙ sym (ap (λ o. or_else (indexed m path) o) (added_under e path false h) ∙ or_else_none (indexed m path))
 
--- one whose mark is new
-pub entered_first : (m i : Index) (e : Entry) (mark : ℕ) → mark ≡ path_mark e.recipe.now.path → is_some (indexed m e.recipe.now.path) ≡ false → is_some (get_hashed nat_eq m.firsts mark) ≡ false → i.others ≡ m.others → HashUpdates nat_eq m.firsts i.firsts mark (Some e) → Enters m e i
-entered_first m i e mark same new free others updates path =
-    ap (λ f. first_or path (get_hashed nat_eq i.firsts (path_mark path)) (get path_cmp f path)) others ∙ ap (λ o. first_or path o (get path_cmp m.others path)) (updates.0 (path_mark path)) ∙ pick (has_path path e) refl (nat_eq mark (path_mark path)) refl
+-- one whose hash is new
+pub entered_first : (m i : Index) (e : Entry) (hash : ℕ) → hash ≡ path_hash e.recipe.now.path → is_some (indexed m e.recipe.now.path) ≡ false → is_some (get_hashed nat_eq m.firsts hash) ≡ false → i.others ≡ m.others → HashUpdates nat_eq m.firsts i.firsts hash (Some e) → Enters m e i
+entered_first m i e hash same new free others updates path =
+    ap (λ f. first_or path (get_hashed nat_eq i.firsts (path_hash path)) (get path_cmp f path)) others ∙ ap (λ o. first_or path o (get path_cmp m.others path)) (updates.0 (path_hash path)) ∙ pick (has_path path e) refl (nat_eq hash (path_hash path)) refl
   where
-    pick : (b : Bool) → has_path path e ≡ b → (c : Bool) → nat_eq mark (path_mark path) ≡ c → first_or path (cond (nat_eq mark (path_mark path)) (Some e) (get_hashed nat_eq m.firsts (path_mark path))) (get path_cmp m.others path) ≡ or_else (indexed m path) (added e path)
+    pick : (b : Bool) → has_path path e ≡ b → (c : Bool) → nat_eq hash (path_hash path) ≡ c → first_or path (cond (nat_eq hash (path_hash path)) (Some e) (get_hashed nat_eq m.firsts (path_hash path))) (get path_cmp m.others path) ≡ or_else (indexed m path) (added e path)
     pick true h true g =
         let none : indexed m path ≡ None = nothing (indexed m path) (subst (λ q. is_some (indexed m q) ≡ false) (same_path_is e.recipe.now.path path h) new) in
-        ap (λ c. first_or path (cond c (Some e) (get_hashed nat_eq m.firsts (path_mark path))) (get path_cmp m.others path)) g ∙ ap (λ b. if b then Some e else get path_cmp m.others path) h ∙ sym (ap (λ o. or_else o (added e path)) none ∙ added_under e path true h)
-    pick true h false g = absurd (no_test (sym (eq-eqb mark (path_mark path) (same ∙ ap (λ q. path_mark q) (same_path_is e.recipe.now.path path h))) ∙ g))
+        ap (λ c. first_or path (cond c (Some e) (get_hashed nat_eq m.firsts (path_hash path))) (get path_cmp m.others path)) g ∙ ap (λ b. if b then Some e else get path_cmp m.others path) h ∙ sym (ap (λ o. or_else o (added e path)) none ∙ added_under e path true h)
+    pick true h false g = absurd (no_test (sym (eq-eqb hash (path_hash path) (same ∙ ap (λ q. path_hash q) (same_path_is e.recipe.now.path path h))) ∙ g))
     pick false h true g =
-        let marks : mark ≡ path_mark path = eqb-true mark (path_mark path) g in
-        let none : get_hashed nat_eq m.firsts (path_mark path) ≡ None = ap (λ k. get_hashed nat_eq m.firsts k) (sym marks) ∙ nothing (get_hashed nat_eq m.firsts mark) free in
-        ap (λ c. first_or path (cond c (Some e) (get_hashed nat_eq m.firsts (path_mark path))) (get path_cmp m.others path)) g ∙ ap (λ b. if b then Some e else get path_cmp m.others path) h ∙ sym (ap (λ o. first_or path o (get path_cmp m.others path)) none) ∙ sym (ap (λ o. or_else (indexed m path) o) (added_under e path false h) ∙ or_else_none (indexed m path))
-    pick false h false g = ap (λ c. first_or path (cond c (Some e) (get_hashed nat_eq m.firsts (path_mark path))) (get path_cmp m.others path)) g ∙ sym (ap (λ o. or_else (indexed m path) o) (added_under e path false h) ∙ or_else_none (indexed m path))
+        let hashes : hash ≡ path_hash path = eqb-true hash (path_hash path) g in
+        let none : get_hashed nat_eq m.firsts (path_hash path) ≡ None = ap (λ k. get_hashed nat_eq m.firsts k) (sym hashes) ∙ nothing (get_hashed nat_eq m.firsts hash) free in
+        ap (λ c. first_or path (cond c (Some e) (get_hashed nat_eq m.firsts (path_hash path))) (get path_cmp m.others path)) g ∙ ap (λ b. if b then Some e else get path_cmp m.others path) h ∙ sym (ap (λ o. first_or path o (get path_cmp m.others path)) none) ∙ sym (ap (λ o. or_else (indexed m path) o) (added_under e path false h) ∙ or_else_none (indexed m path))
+    pick false h false g = ap (λ c. first_or path (cond c (Some e) (get_hashed nat_eq m.firsts (path_hash path))) (get path_cmp m.others path)) g ∙ sym (ap (λ o. or_else (indexed m path) o) (added_under e path false h) ∙ or_else_none (indexed m path))
 
 -- nothing is entered yet
 pub none_entered : (all : List Entry) (index : Index) → index.firsts.entries ≡ [] → index.others.entries ≡ [] → Indexes all 0 index
 none_entered all index none nothing path =
-    ap (λ es. or_else (first_or path (lookup (nat_eq (path_mark path)) es) (get path_cmp index.others path)) (find (has_path path) all)) none ∙ ap (λ es. or_else (lookup (is_at (path_cmp path)) es) (find (has_path path) all)) nothing
+    ap (λ es. or_else (first_or path (lookup (nat_eq (path_hash path)) es) (get path_cmp index.others path)) (find (has_path path) all)) none ∙ ap (λ es. or_else (lookup (is_at (path_cmp path)) es) (find (has_path path) all)) nothing
 
 -- all are
 pub all_entered : (all : List Entry) (n : ℕ) (index : Index) → length all ≤ n → Indexes all n index → AreFirst all index

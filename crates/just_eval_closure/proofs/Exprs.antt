@@ -19,6 +19,10 @@ pub if_ok : {T E : Type 0} (P Q : T → Type 0) (r : Result T E) → ((v : T) �
 if_ok P Q (Ok v) f h = f v h
 if_ok P Q (Err e) f h = tt
 
+-- what is said of the value of a call is said of that value
+pub said_of : {T E : Type 0} (P : T → Type 0) (r : Result T E) (v : T) → r ≡ Ok v → IfOk r P → P v
+said_of P r v e h = subst (λ x. IfOk x P) e h
+
 -- answers of comparisons, and a refusal of a value
 abbrev pub compared_text : Bool → Result Bool (List ℕ)
 compared_text b = Ok b

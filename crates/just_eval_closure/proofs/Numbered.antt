@@ -16,7 +16,7 @@ use Rattle.just_lang_types.specs.declared.key.Key.{Key}
 use Rattle.just_lang_types.specs.declared.key.Value.{Value}
 use Rattle.just_lang_types.specs.declared.place.Place.{Place}
 use Rattle.just_lang_types.specs.declared.recipe.Modulepath.{Modulepath}
-use Rattle.just_eval_closure.specs.Marks.{place_mark}
+use Rattle.just_eval_closure.specs.Hashes.{place_hash}
 use Rattle.just_eval_closure.specs.Numbers.{text_cmp, texts_cmp, value_cmp, path_cmp, key_cmp, place_cmp, number_in, is_there, first_or, AreNumbered}
 use Rattle.just_eval_closure.specs.Places.{place, is_place, is_listed, number_of, places_with}
 use Rattle.just_lang_types.specs.Keys.{same_path}
@@ -179,7 +179,7 @@ grown_by list x r k false false h g only =
 grown_new : (list : List Place) (x q : Place) → is_listed list x.round x.key ≡ false → number_in (list ++ x ∷ []) q.round q.key ≡ cond (is_place q.round q.key x) (Some (length list)) (number_in list q.round q.key)
 grown_new list x q new = grown_by list x q.round q.key _ _ refl refl (λ h. subst (λ y. is_listed list y.round y.key ≡ false) (is_place_is q.round q.key x h) new)
 
--- ---- by marks
+-- ---- by hashes
 
 -- the order ties exactly where the other is that of the place's key in its round
 there_is : (q x : Place) → is_eq (place_cmp q x) ≡ is_place q.round q.key x
@@ -204,7 +204,7 @@ there_last q x (y ∷ ys) (suc n) h g = ap (λ m. suc m) (there_last q x ys n h 
 last_there : (q x : Place) (list : List Place) → is_there q (slice_get (list ++ x ∷ []) (length list)) ≡ is_place q.round q.key x
 last_there q x list = ap (λ o. is_there q o) (at_last list x) ∙ there_is q x
 
--- another place leaves what its mark gives
+-- another place leaves what its hash gives
 first_more : (q x : Place) (list : List Place) (o other : Option ℕ) → is_place q.round q.key x ≡ false → first_or (list ++ x ∷ []) q o other ≡ first_or list q o other
 first_more q x list None other h = refl
 first_more q x list (Some n) other h = ap (λ b. if b then Some n else other) (there_more q x h list n)
@@ -218,7 +218,7 @@ choice : (b : Bool) (n m : ℕ) → (b ≡ true → n ≡ m) → (if b then Some
 choice true n m h = ap (λ k. Some k) (h refl)
 choice false n m h = refl
 
--- what the mark of a new place gives, where its number is kept by itself
+-- what the hash of a new place gives, where its number is kept by itself
 first_other : (q x : Place) (list : List Place) (o other : Option ℕ) → first_or list q o other ≡ None → first_or (list ++ x ∷ []) q o (Some (length list)) ≡ Some (length list)
 first_other q x list None other h = refl
 first_other q x list (Some n) other h =
@@ -227,42 +227,42 @@ first_other q x list (Some n) other h =
 -- a place whose number is kept by itself
 other_by : (list : List Place) (firsts : BTreeMap ℕ ℕ) (m n : BTreeMap Place ℕ) (x : Place) → AreNumbered list firsts m → Updates place_cmp m n x (Some (length list)) → is_listed list x.round x.key ≡ false → AreNumbered (list ++ x ∷ []) firsts n
 other_by list firsts m n x numbered updates new q =
-    ap (λ o. first_or (list ++ x ∷ []) q (get nat_cmp firsts (place_mark q)) o) (updates.0 q ∙ ap (λ b. cond b (Some (length list)) (get place_cmp m q)) (tie_is x q)) ∙ pick (is_place q.round q.key x) refl ∙ sym (grown_new list x q new)
+    ap (λ o. first_or (list ++ x ∷ []) q (get nat_cmp firsts (place_hash q)) o) (updates.0 q ∙ ap (λ b. cond b (Some (length list)) (get place_cmp m q)) (tie_is x q)) ∙ pick (is_place q.round q.key x) refl ∙ sym (grown_new list x q new)
   where
-    pick : (b : Bool) → is_place q.round q.key x ≡ b → first_or (list ++ x ∷ []) q (get nat_cmp firsts (place_mark q)) (cond b (Some (length list)) (get place_cmp m q)) ≡ cond (is_place q.round q.key x) (Some (length list)) (number_in list q.round q.key)
+    pick : (b : Bool) → is_place q.round q.key x ≡ b → first_or (list ++ x ∷ []) q (get nat_cmp firsts (place_hash q)) (cond b (Some (length list)) (get place_cmp m q)) ≡ cond (is_place q.round q.key x) (Some (length list)) (number_in list q.round q.key)
     pick true h =
-        first_other q x list (get nat_cmp firsts (place_mark q)) (get place_cmp m q) (numbered q ∙ number_absent list q.round q.key (subst (λ y. is_listed list y.round y.key ≡ false) (is_place_is q.round q.key x h) new)) ∙ ap (λ b. cond b (Some (length list)) (number_in list q.round q.key)) (sym h)
+        first_other q x list (get nat_cmp firsts (place_hash q)) (get place_cmp m q) (numbered q ∙ number_absent list q.round q.key (subst (λ y. is_listed list y.round y.key ≡ false) (is_place_is q.round q.key x h) new)) ∙ ap (λ b. cond b (Some (length list)) (number_in list q.round q.key)) (sym h)
     pick false h =
-        first_more q x list (get nat_cmp firsts (place_mark q)) (get place_cmp m q) h ∙ numbered q ∙ ap (λ b. cond b (Some (length list)) (number_in list q.round q.key)) (sym h)
+        first_more q x list (get nat_cmp firsts (place_hash q)) (get place_cmp m q) h ∙ numbered q ∙ ap (λ b. cond b (Some (length list)) (number_in list q.round q.key)) (sym h)
 
--- one whose number is kept by its mark, which is new
-first_by : (list : List Place) (m n : BTreeMap ℕ ℕ) (others : BTreeMap Place ℕ) (x : Place) → AreNumbered list m others → get nat_cmp m (place_mark x) ≡ None → Updates nat_cmp m n (place_mark x) (Some (length list)) → is_listed list x.round x.key ≡ false → AreNumbered (list ++ x ∷ []) n others
+-- one whose number is kept by its hash, which is new
+first_by : (list : List Place) (m n : BTreeMap ℕ ℕ) (others : BTreeMap Place ℕ) (x : Place) → AreNumbered list m others → get nat_cmp m (place_hash x) ≡ None → Updates nat_cmp m n (place_hash x) (Some (length list)) → is_listed list x.round x.key ≡ false → AreNumbered (list ++ x ∷ []) n others
 first_by list m n others x numbered free updates new q =
-    ap (λ o. first_or (list ++ x ∷ []) q o (get place_cmp others q)) (updates.0 (place_mark q)) ∙ pick (is_at (nat_cmp (place_mark x)) (place_mark q)) refl ∙ sym (grown_new list x q new)
+    ap (λ o. first_or (list ++ x ∷ []) q o (get place_cmp others q)) (updates.0 (place_hash q)) ∙ pick (is_at (nat_cmp (place_hash x)) (place_hash q)) refl ∙ sym (grown_new list x q new)
   where
     last : (b : Bool) → is_place q.round q.key x ≡ b → get place_cmp others q ≡ number_in list q.round q.key → (if b then Some (length list) else get place_cmp others q) ≡ cond (is_place q.round q.key x) (Some (length list)) (number_in list q.round q.key)
     last true h is = ap (λ b. cond b (Some (length list)) (number_in list q.round q.key)) (sym h)
     last false h is = is ∙ ap (λ b. cond b (Some (length list)) (number_in list q.round q.key)) (sym h)
 
-    differ : (b : Bool) → is_place q.round q.key x ≡ b → is_at (nat_cmp (place_mark x)) (place_mark q) ≡ false → is_place q.round q.key x ≡ false
+    differ : (b : Bool) → is_place q.round q.key x ≡ b → is_at (nat_cmp (place_hash x)) (place_hash q) ≡ false → is_place q.round q.key x ≡ false
     differ true h e =
         let same : x ≡ q = is_place_is q.round q.key x h in
-        absurd (apart (sym (ap (λ o. is_eq o) (number_itself (place_mark x))) ∙ ap (λ y. is_eq (nat_cmp (place_mark x) (place_mark y))) same ∙ e))
+        absurd (apart (sym (ap (λ o. is_eq o) (number_itself (place_hash x))) ∙ ap (λ y. is_eq (nat_cmp (place_hash x) (place_hash y))) same ∙ e))
     differ false h e = h
 
-    pick : (b : Bool) → is_at (nat_cmp (place_mark x)) (place_mark q) ≡ b → first_or (list ++ x ∷ []) q (cond b (Some (length list)) (get nat_cmp m (place_mark q))) (get place_cmp others q) ≡ cond (is_place q.round q.key x) (Some (length list)) (number_in list q.round q.key)
+    pick : (b : Bool) → is_at (nat_cmp (place_hash x)) (place_hash q) ≡ b → first_or (list ++ x ∷ []) q (cond b (Some (length list)) (get nat_cmp m (place_hash q))) (get place_cmp others q) ≡ cond (is_place q.round q.key x) (Some (length list)) (number_in list q.round q.key)
     pick true e =
-        let marks : place_mark x ≡ place_mark q = exact_unsigned (place_mark x) (place_mark q) (is_equal (nat_cmp (place_mark x) (place_mark q)) e) in
-        let is : get place_cmp others q ≡ number_in list q.round q.key = sym (ap (λ o. first_or list q o (get place_cmp others q)) (sym (ap (λ k. get nat_cmp m k) marks) ∙ free)) ∙ numbered q in
+        let hashes : place_hash x ≡ place_hash q = exact_unsigned (place_hash x) (place_hash q) (is_equal (nat_cmp (place_hash x) (place_hash q)) e) in
+        let is : get place_cmp others q ≡ number_in list q.round q.key = sym (ap (λ o. first_or list q o (get place_cmp others q)) (sym (ap (λ k. get nat_cmp m k) hashes) ∙ free)) ∙ numbered q in
         ap (λ b. if b then Some (length list) else get place_cmp others q) (last_there q x list) ∙ last (is_place q.round q.key x) refl is
     pick false e =
         let no = differ (is_place q.round q.key x) refl e in
-        first_more q x list (get nat_cmp m (place_mark q)) (get place_cmp others q) no ∙ numbered q ∙ ap (λ b. cond b (Some (length list)) (number_in list q.round q.key)) (sym no)
+        first_more q x list (get nat_cmp m (place_hash q)) (get place_cmp others q) no ∙ numbered q ∙ ap (λ b. cond b (Some (length list)) (number_in list q.round q.key)) (sym no)
 
 -- maps without entries are those of the empty list
 pub numbered_none : (firsts : BTreeMap ℕ ℕ) (others : BTreeMap Place ℕ) → firsts.entries ≡ [] → others.entries ≡ [] → AreNumbered [] firsts others
 numbered_none firsts others none nothing x =
-    ap (λ es. first_or [] x (lookup (is_at (nat_cmp (place_mark x))) es) (get place_cmp others x)) none ∙ ap (λ es. lookup (is_at (place_cmp x)) es) nothing
+    ap (λ es. first_or [] x (lookup (is_at (nat_cmp (place_hash x))) es) (get place_cmp others x)) none ∙ ap (λ es. lookup (is_at (place_cmp x)) es) nothing
 
 -- what a choice of a number says of its test
 found_by : (b : Bool) (n : ℕ) → is_some (if b then Some n else None) ≡ true → b ≡ true
@@ -333,11 +333,11 @@ numbered_other list new firsts m n x copy k numbered updates same number is fres
     let entered : Updates place_cmp m n (record { round = x.round; key = x.key }) (Some (length list)) = subst (λ j. Updates place_cmp m n (record { round = x.round; key = x.key }) (Some j)) number (subst (λ c. Updates place_cmp m n (record { round = x.round; key = c }) (Some k)) same updates) in
     subst (λ l. AreNumbered l firsts n) (sym is) (other_by list firsts m n x numbered entered fresh)
 
--- where its mark is new
-pub numbered_first : (list new : List Place) (m n : BTreeMap ℕ ℕ) (others : BTreeMap Place ℕ) (x : Place) (mark k : ℕ) → AreNumbered list m others → mark ≡ place_mark x → is_some (get nat_cmp m mark) ≡ false → Updates nat_cmp m n mark (Some k) → k ≡ length list → new ≡ list ++ x ∷ [] → is_listed list x.round x.key ≡ false → AreNumbered new n others
-numbered_first list new m n others x mark k numbered same free updates number is fresh =
-    let entered : Updates nat_cmp m n (place_mark x) (Some (length list)) = subst (λ j. Updates nat_cmp m n (place_mark x) (Some j)) number (subst (λ j. Updates nat_cmp m n j (Some k)) same updates) in
-    subst (λ l. AreNumbered l n others) (sym is) (first_by list m n others x numbered (nothing_at (get nat_cmp m (place_mark x)) (subst (λ j. is_some (get nat_cmp m j) ≡ false) same free)) entered fresh)
+-- where its hash is new
+pub numbered_first : (list new : List Place) (m n : BTreeMap ℕ ℕ) (others : BTreeMap Place ℕ) (x : Place) (hash k : ℕ) → AreNumbered list m others → hash ≡ place_hash x → is_some (get nat_cmp m hash) ≡ false → Updates nat_cmp m n hash (Some k) → k ≡ length list → new ≡ list ++ x ∷ [] → is_listed list x.round x.key ≡ false → AreNumbered new n others
+numbered_first list new m n others x hash k numbered same free updates number is fresh =
+    let entered : Updates nat_cmp m n (place_hash x) (Some (length list)) = subst (λ j. Updates nat_cmp m n (place_hash x) (Some j)) number (subst (λ j. Updates nat_cmp m n j (Some k)) same updates) in
+    subst (λ l. AreNumbered l n others) (sym is) (first_by list m n others x numbered (nothing_at (get nat_cmp m (place_hash x)) (subst (λ j. is_some (get nat_cmp m j) ≡ false) same free)) entered fresh)
   where
     nothing_at : (o : Option ℕ) → is_some o ≡ false → o ≡ None
     nothing_at None h = refl

@@ -6,7 +6,7 @@ use Rattle.just_path_text.specs.Environ.{or_else}
 use Rattle.just_lang_types.specs.declared.recipe.Modulepath.{Modulepath}
 use Rattle.just_lang_types.specs.declared.scope.Scopes.{Scopes}
 use Rattle.just_lang_types.specs.Keys.{same_path}
-use Rattle.just_eval_closure.specs.Marks.{path_mark}
+use Rattle.just_eval_closure.specs.Hashes.{path_hash}
 use Rattle.just_eval_closure.specs.Numbers.{path_cmp}
 use Rattle.just_eval_closure.specs.Scopes.{pairs_for, scope_of}
 use Rattle.just_eval_closure.specs.Dependencies.{levels_in}
@@ -30,14 +30,14 @@ IsFound scopes None (Some l) = ⊥
 IsFound scopes (Some f) None = ⊥
 IsFound scopes (Some f) (Some l) = (located_of f ≡ l) × Sees scopes f
 
--- the entry at the mark of a path, where it has the path, and else the other one
+-- the entry at the hash of a path, where it has the path, and else the other one
 abbrev pub first_or : Modulepath → Option Entry → Option Entry → Option Entry
 first_or path None other = other
 first_or path (Some e) other = if same_path e.recipe.now.path path then Some e else other
 
 -- the entry of a path
 abbrev pub indexed : Index → Modulepath → Option Entry
-indexed index path = first_or path (get_hashed nat_eq index.firsts (path_mark path)) (get path_cmp index.others path)
+indexed index path = first_or path (get_hashed nat_eq index.firsts (path_hash path)) (get path_cmp index.others path)
 
 -- the index finds for each path the first of these recipes that has it
 abbrev pub AreEntries : Scopes → List Located → Index → Type 0

@@ -2,7 +2,7 @@
 pub mod Places
 pub mod Visits
 pub mod WellFormed
-pub mod Marks
+pub mod Hashes
 pub mod Numbers
 pub mod Ran
 pub mod Pending

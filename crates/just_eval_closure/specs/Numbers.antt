@@ -9,7 +9,7 @@ use Rattle.just_lang_types.specs.declared.key.Key.{Key}
 use Rattle.just_lang_types.specs.declared.key.Value.{Value}
 use Rattle.just_lang_types.specs.declared.place.Place.{Place}
 use Rattle.just_lang_types.specs.declared.recipe.Modulepath.{Modulepath}
-use Rattle.just_eval_closure.specs.Marks.{place_mark}
+use Rattle.just_eval_closure.specs.Hashes.{place_hash}
 use Rattle.just_eval_closure.specs.Places.{is_listed, number_of}
 
 -- the order of texts by their bytes, and that of lists of texts
@@ -42,14 +42,14 @@ abbrev pub is_there : Place → Option Place → Bool
 is_there x None = false
 is_there x (Some y) = is_eq (place_cmp x y)
 
--- the number at the mark of a place, where the place stands there, and else the other one
+-- the number at the hash of a place, where the place stands there, and else the other one
 abbrev pub first_or : List Place → Place → Option ℕ → Option ℕ → Option ℕ
 first_or list x None other = other
 first_or list x (Some n) other = if is_there x (slice_get list n) then Some n else other
 
--- the number that two maps give a place: by its mark, or by the place itself where another one stands at the number of its mark
+-- the number that two maps give a place: by its hash, or by the place itself where another one stands at the number of its hash
 abbrev pub recorded : List Place → BTreeMap ℕ ℕ → BTreeMap Place ℕ → Place → Option ℕ
-recorded list firsts others x = first_or list x (get nat_cmp firsts (place_mark x)) (get place_cmp others x)
+recorded list firsts others x = first_or list x (get nat_cmp firsts (place_hash x)) (get place_cmp others x)
 
 -- the maps give the number of each place of the list, and nothing else
 abbrev pub AreNumbered : List Place → BTreeMap ℕ ℕ → BTreeMap Place ℕ → Type 0

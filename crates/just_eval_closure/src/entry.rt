@@ -16,12 +16,12 @@ pub struct Entry<'p> {
     pub pairs: &'p [(Text, Text)],
 }
 
-/// The first recipe of each path. Most are found by the marks of their paths alone, each in constant time; those of which another
-/// path has the mark are kept by their paths, and looking one up takes the logarithm of their number.
+/// The first recipe of each path. Most are found by the hashes of their paths alone, each in constant time; those of which another
+/// path has the hash are kept by their paths, and looking one up takes the logarithm of their number.
 #[derive(Drop)]
 pub struct Index<'p> {
-    /// The first recipe of each mark.
+    /// The first recipe of each hash.
     pub firsts: HashMap<u64, Entry<'p>>,
-    /// The first recipe of each path behind the first one of its mark.
+    /// The first recipe of each path behind the first one of its hash.
     pub others: BTreeMap<Modulepath, Entry<'p>>,
 }

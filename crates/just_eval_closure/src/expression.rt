@@ -75,21 +75,20 @@ pub fn value<N: Names>(
             ..
         } => {
             let left = value(alloc, names, env, left.get())?;
-            let right = value(alloc, names, env, right.get())?;
-            match holds(*comparison, left, right) {
+            match holds(*comparison, left, value(alloc, names, env, right.get()))? {
                 Ok(true) => value(alloc, names, env, consequent.get()),
                 Ok(false) => value(alloc, names, env, alternative.get()),
                 Err(name) => Ok(Err(name)),
             }
         }
-        Expr::Root(inside) => rooted(alloc, value(alloc, names, env, inside.get())?),
+        Expr::Root(inside) => rooted(alloc, value(alloc, names, env, inside.get())),
         Expr::Join(first, second) => {
             let first = value(alloc, names, env, first.get())?;
-            joined(alloc, first, "/", value(alloc, names, env, second.get())?)
+            joined(alloc, first, "/", value(alloc, names, env, second.get()))
         }
         Expr::Concat(first, second) => {
             let first = value(alloc, names, env, first.get())?;
-            joined(alloc, first, "", value(alloc, names, env, second.get())?)
+            joined(alloc, first, "", value(alloc, names, env, second.get()))
         }
         Expr::Literal(string) => literal(alloc, string),
         Expr::Variable(name) => names.meaning(alloc, &name.text),
@@ -147,18 +146,18 @@ fn found(alloc: Global, env: &Env<'_>, key: Result<Text, Text>) -> Result<Asked,
     }
 }
 
-/// Whether two values compare so, where there are both.
+/// Whether two values compare so, where there are both; the second one is that of a call, which may want memory.
 fn holds(
     comparison: Comparison,
     left: Result<Text, Text>,
-    right: Result<Text, Text>,
-) -> Result<bool, Text>
-    ensures { result ≡ compared_by comparison left right }
+    right: Result<Result<Text, Text>, NoMemory>,
+) -> Result<Result<bool, Text>, NoMemory>
+    ensures { IfOk result (λ c. (r : Valued) × (right ≡ Ok r) × (c ≡ compared_by comparison left r)) }
 {
-    match (left, right) {
-        (Ok(left), Ok(right)) => Ok(compares(comparison, left.as_str(), right.as_str())),
-        (Ok(_), Err(name)) => Err(name),
-        (Err(name), _) => Err(name),
+    match (left, right?) {
+        (Ok(left), Ok(right)) => Ok(Ok(compares(comparison, left.as_str(), right.as_str()))),
+        (Ok(_), Err(name)) => Ok(Err(name)),
+        (Err(name), _) => Ok(Err(name)),
     }
 }
 
@@ -172,26 +171,29 @@ fn compares(comparison: Comparison, some: &str, other: &str) -> bool
     }
 }
 
-/// A value behind a slash, where there is one.
-fn rooted(alloc: Global, inside: Result<Text, Text>) -> Result<Result<Text, Text>, NoMemory>
-    ensures { IfOk result (λ v. v ≡ rooted_value inside) }
+/// The value of a call behind a slash, where there is one.
+fn rooted(
+    alloc: Global,
+    inside: Result<Result<Text, Text>, NoMemory>,
+) -> Result<Result<Text, Text>, NoMemory>
+    ensures { IfOk result (λ v. (s : Valued) × (inside ≡ Ok s) × (v ≡ rooted_value s)) }
 {
-    match inside {
+    match inside? {
         Ok(text) => Ok(Ok(concatenation(alloc, "", "/", text.as_str())?)),
         Err(name) => Ok(Err(name)),
     }
 }
 
-/// Two values with a text between them, where there are both.
+/// Two values with a text between them, where there are both; the second one is that of a call, which may want memory.
 fn joined(
     alloc: Global,
     first: Result<Text, Text>,
     between: &str,
-    second: Result<Text, Text>,
+    second: Result<Result<Text, Text>, NoMemory>,
 ) -> Result<Result<Text, Text>, NoMemory>
-    ensures { IfOk result (λ v. v ≡ joined_value first between.now second) }
+    ensures { IfOk result (λ v. (s : Valued) × (second ≡ Ok s) × (v ≡ joined_value first between.now s)) }
 {
-    match (first, second) {
+    match (first, second?) {
         (Ok(first), Ok(second)) => {
             let text = concatenation(alloc, first.as_str(), between, second.as_str())?;
             Ok(Ok(text))

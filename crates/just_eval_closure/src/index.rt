@@ -4,7 +4,7 @@ ghost use Rattle.std.specs.Prelude.{◌≡◌, IfOk, OnOk};
 ghost use Rattle.just_eval_closure.specs.Entries.{indexed, Enters, AreFirst};
 
 use super::entry::{Entry, Index};
-use crate::path_mark;
+use super::hash::path_hash;
 use just_lang_types::Modulepath;
 use just_path_text::{NoMemory, TryClone};
 use std::alloc::Global;
@@ -15,7 +15,7 @@ impl<'p> Index<'p> {
     pub(crate) fn find(&self, path: &Modulepath) -> Option<Entry<'p>>
         ensures { result ≡ indexed self.now path.now }
     {
-        if let Some(first) = self.firsts.get(&path_mark(path)).copied() {
+        if let Some(first) = self.firsts.get(&path_hash(path)).copied() {
             if first.recipe.path.same(path) {
                 return Some(first);
             }
@@ -32,12 +32,12 @@ impl<'p> Index<'p> {
         if self.find(path).is_some() {
             return Ok(());
         }
-        let mark = path_mark(path);
-        if self.firsts.contains_key(&mark) {
+        let hash = path_hash(path);
+        if self.firsts.contains_key(&hash) {
             self.others.insert(path.try_clone()?, *entry)?;
             return Ok(());
         }
-        self.firsts.insert(mark, *entry)?;
+        self.firsts.insert(hash, *entry)?;
         Ok(())
     }
 }

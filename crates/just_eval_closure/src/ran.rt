@@ -5,14 +5,14 @@ ghost use Rattle.just_eval_closure.specs.Numbers.{AreNumbered};
 use just_lang_types::Place;
 use std::collections::BTreeMap;
 
-/// The places that got a number, in their order, and the number of each. Most are found by their marks alone; those whose mark is
+/// The places that got a number, in their order, and the number of each. Most are found by their hashes alone; those whose hash is
 /// that of a place before them are kept by themselves.
 #[derive(Drop)]
 pub(crate) struct Numbers {
     pub(crate) places: Vec<Place>,
-    /// The number of the first place of each mark.
+    /// The number of the first place of each hash.
     pub(crate) firsts: BTreeMap<u64, u32>,
-    /// The numbers of the places behind the first of their mark.
+    /// The numbers of the places behind the first of their hash.
     pub(crate) others: BTreeMap<Place, u32>,
 }
 

@@ -6,7 +6,7 @@ ghost use Rattle.just_eval_closure.specs.Places.{is_listed, number_of, places_wi
 ghost use Rattle.just_eval_closure.specs.Ran.{places_of};
 
 use super::Ran;
-use super::mark::place_mark;
+use super::hash::place_hash;
 use super::ran::Numbers;
 use just_lang_types::{Key, Place};
 use just_path_text::{NoMemory, TryClone};
@@ -90,7 +90,7 @@ impl Numbers {
     fn find(&self, place: &Place) -> Option<u32>
         ensures { result ≡ recorded self.now.places.items self.now.firsts self.now.others place.now }
     {
-        if let Some(number) = self.firsts.get(&place_mark(place)).copied() {
+        if let Some(number) = self.firsts.get(&place_hash(place)).copied() {
             if self.is_there(place, number) {
                 return Some(number);
             }
@@ -110,16 +110,16 @@ impl Numbers {
         let Ok(number) = u32::try_from(self.places.len()) else {
             return Err(NoMemory);
         };
-        let mark = place_mark(&place);
+        let hash = place_hash(&place);
         self.places.reserve(1)?;
-        if self.firsts.contains_key(&mark) {
+        if self.firsts.contains_key(&hash) {
             let copy = Place {
                 round: place.round,
                 key: place.key.try_clone()?,
             };
             self.others.insert(copy, number)?;
         } else {
-            self.firsts.insert(mark, number)?;
+            self.firsts.insert(hash, number)?;
         }
         self.places.push_reserved(place);
         Ok(number)

@@ -1,4 +1,4 @@
--- A recipe whose path is new, and is kept by itself or by its mark.
+-- A recipe whose path is new, and is kept by itself or by its hash.
 use Rattle.std.proofs.Common.{rules, ◌≡◌, nat_eq, false, is_some, refl, sym, ◌∙◌}
 use Rattle.std.specs.HashMap.{get}
 use Rattle.just_eval_closure.specs.Entries.{indexed}
@@ -17,5 +17,5 @@ returns c =
     let m = c.args.self.now in
     let e = c.args.entry.now in
     let new : is_some (indexed m e.recipe.now.path) ≡ false = search rules in
-    let free : is_some (get nat_eq m.firsts c.path_mark-mark.result) ≡ false = sym c.contains_key.ensures ∙ c.if-contains_key.false in
-    entered_first m (record { firsts = c.insert-2.new.self; others = m.others }) e c.path_mark-mark.result c.path_mark-mark.ensures new free refl c.in_ok-insert-2.ensures.updates
+    let free : is_some (get nat_eq m.firsts c.path_hash-hash.result) ≡ false = sym c.contains_key.ensures ∙ c.if-contains_key.false in
+    entered_first m (record { firsts = c.insert-2.new.self; others = m.others }) e c.path_hash-hash.result c.path_hash-hash.ensures new free refl c.in_ok-insert-2.ensures.updates

@@ -1,4 +1,4 @@
--- The register with a place more, whose number is kept by itself or by its mark.
+-- The register with a place more, whose number is kept by itself or by its hash.
 use Rattle.std.proofs.Common.{rules, ◌≡◌, ◌++◌, [], ◌∷◌, false, length, is_some, sym, ◌∙◌, subst}
 use Rattle.std.specs.BTreeMap.{get}
 use Rattle.std.specs.Ordering.{nat_cmp}
@@ -19,6 +19,6 @@ returns-clause-numbered c =
       | then-contains_key+in_ok-try_clone+in_ok-insert w ↦
           subst (λ s. AreNumbered new s.firsts s.others) (sym w.self-is) (numbered_other list new firsts others w.insert.new.self c.args.place w.in_ok-try_clone.field-0 c.in-Ok.number c.requires.numbered w.in_ok-insert.ensures.updates w.in_ok-try_clone.ensures number is c.requires.new)
       | else-contains_key+in_ok-insert-2 w ↦
-          let free : is_some (get nat_cmp firsts c.place_mark-mark.result) ≡ false = sym c.contains_key.ensures ∙ w.if-contains_key.false in
-          subst (λ s. AreNumbered new s.firsts s.others) (sym w.self-is) (numbered_first list new firsts w.insert-else-contains_key.new.self others c.args.place c.place_mark-mark.result c.in-Ok.number c.requires.numbered c.place_mark-mark.ensures free w.in_ok-insert-2.ensures.updates number is c.requires.new)
+          let free : is_some (get nat_cmp firsts c.place_hash-hash.result) ≡ false = sym c.contains_key.ensures ∙ w.if-contains_key.false in
+          subst (λ s. AreNumbered new s.firsts s.others) (sym w.self-is) (numbered_first list new firsts w.insert-else-contains_key.new.self others c.args.place c.place_hash-hash.result c.in-Ok.number c.requires.numbered c.place_hash-hash.ensures free w.in_ok-insert-2.ensures.updates number is c.requires.new)
     ]

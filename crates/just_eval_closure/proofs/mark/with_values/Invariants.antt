@@ -1,7 +1,0 @@
--- The values so far and those that are left are all.
-use Rattle.std.proofs.Common.{◌≡◌, drop}
-use Rattle.just_eval_closure.specs.Marks.{with_values}
-use Rattle.just_eval_closure.proofs.mark.with_values.Given as goal
-
-abbrev pub invariant-values : goal.invariant-values
-invariant-values l = with_values l.marked (drop l.value-index l.values) ≡ with_values l.mark l.values
