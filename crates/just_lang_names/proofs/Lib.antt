@@ -6,6 +6,7 @@ pub mod ChildLaws
 pub mod Inserts
 pub mod ScopeLaws
 pub mod LookupLaws
+pub mod Walks
 pub mod TargetLaws
 pub mod ArityLaws
 pub mod Sets

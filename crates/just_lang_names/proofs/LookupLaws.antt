@@ -11,7 +11,7 @@ use Rattle.just_lang_names.specs.declared.names.ModuleNames.{ModuleNames}
 use Rattle.just_lang_names.specs.declared.names.Names.{Names}
 use Rattle.just_lang_names.specs.declared.target.FoundRecipe.{FoundRecipe}
 use Rattle.just_lang_names.specs.Lookup.{child, is_absent, recipe_named}
-use Rattle.just_lang_names.specs.MarkedPlaces.{marked_place}
+use Rattle.just_lang_names.specs.HashedPlaces.{hashed_place}
 use Rattle.just_lang_names.specs.Names.{AreNames, layout_of, wins_of, child_in}
 use Rattle.just_lang_names.specs.Targets.{recipe_by, IsOf, IsFoundIn, IsFound}
 use Rattle.just_lang_names.proofs.PathLaws.{child_is}
@@ -56,7 +56,7 @@ pub recipe_from_place : (n : ModuleNames) (place : ℕ) (o : Option (ℕ × AstI
 recipe_from_place n place o h = ap (option_and_then recipe_in) h
 
 -- and the recipe at the place of a name
-pub recipe_from_name : (n : ModuleNames) (q : List ℕ) (o : Option ℕ) → o ≡ marked_place n.recipe_places q
+pub recipe_from_name : (n : ModuleNames) (q : List ℕ) (o : Option ℕ) → o ≡ hashed_place n.recipe_places q
     → option_and_then recipe_in (option_and_then (slice_get (entries n.recipes.items)) o) ≡ option_and_then recipe_in (recipe_by n q)
 recipe_from_name n q o h = ap (λ (k : Option ℕ). option_and_then recipe_in (option_and_then (slice_get (entries n.recipes.items)) k)) h
 

@@ -11,7 +11,7 @@ use Rattle.just_lang_spots.specs.Items.{item_name}
 use Rattle.just_lang_spots.specs.Standing.{Wins, has_name, named}
 use Rattle.just_lang_spots.proofs.LastPlaces.{some_last, named_is, in_range}
 use Rattle.just_lang_names.specs.declared.names.ModuleNames.{ModuleNames}
-use Rattle.just_lang_names.specs.MarkedPlaces.{marked_place}
+use Rattle.just_lang_names.specs.HashedPlaces.{hashed_place}
 use Rattle.just_lang_names.specs.Names.{IsModuleNames, AreModuleNames}
 use Rattle.just_lang_names.specs.Standing.{standing_recipe_items, absent_items}
 use Rattle.just_lang_names.specs.Targets.{recipe_by}
@@ -55,7 +55,7 @@ recipe_item_at wins files [] [] h k q = refl
 recipe_item_at wins files [] (n ∷ ns) h k q = absurd h
 recipe_item_at wins files (m ∷ ms) [] h k q = absurd h
 recipe_item_at wins files (m ∷ ms) (n ∷ ns) h zero q =
-    ap (λ xs. option_and_then (slice_get xs) (marked_place n.recipe_places q)) h.0.recipes_are
+    ap (λ xs. option_and_then (slice_get xs) (hashed_place n.recipe_places q)) h.0.recipes_are
     ∙ ap (option_and_then (slice_get (standing_recipe_items wins files m))) (h.0.recipe_places_are q)
     ∙ sym (named_is item_name q (standing_recipe_items wins files m))
 recipe_item_at wins files (m ∷ ms) (n ∷ ns) h (suc k) q = recipe_item_at wins files ms ns h.1 k q

@@ -9,5 +9,5 @@ pub mod Children
 pub mod Scopes
 pub mod Targets
 pub mod Arities
-pub mod Marks
-pub mod MarkedPlaces
+pub mod Hashes
+pub mod HashedPlaces

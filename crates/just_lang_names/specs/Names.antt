@@ -15,7 +15,7 @@ use Rattle.just_lang_names.specs.declared.paths.Paths.{Paths}
 use Rattle.just_lang_names.specs.declared.names.ModuleNames.{ModuleNames}
 use Rattle.just_lang_names.specs.declared.names.Names.{Names}
 use Rattle.just_lang_names.specs.Lookup.{module_at}
-use Rattle.just_lang_names.specs.MarkedPlaces.{IsMarkedIndex}
+use Rattle.just_lang_names.specs.HashedPlaces.{IsHashedIndex}
 use Rattle.just_lang_names.specs.Standing.{standing_recipe_items, standing_variable_items, absent_items}
 
 -- ---- the names of a module
@@ -23,7 +23,7 @@ use Rattle.just_lang_names.specs.Standing.{standing_recipe_items, standing_varia
 pub record IsModuleNames (wins : Wins) (files : List File) (m : Module) (names : ModuleNames) : Type 0 where
   pub items_are : entries names.items.items ≡ items_of_module files m
   pub recipes_are : entries names.recipes.items ≡ standing_recipe_items wins files m
-  pub recipe_places_are : IsMarkedIndex (standing_recipe_items wins files m) names.recipe_places
+  pub recipe_places_are : IsHashedIndex (standing_recipe_items wins files m) names.recipe_places
   pub variables_are : entries names.variables.items ≡ standing_variable_items wins files m
   pub variable_places_are : IsIndex (standing_variable_items wins files m) names.variable_places
   pub absent_places_are : IsIndex (absent_items files m) names.absent_places

@@ -18,7 +18,7 @@ use Rattle.just_lang_names.specs.declared.target.PathKind.{PathKind}
 use Rattle.just_lang_names.specs.declared.target.PathKind.TheVariants.{Dependency, Alias}
 use Rattle.just_lang_names.specs.declared.listed.ListedAlias.{ListedAlias}
 use Rattle.just_lang_names.specs.declared.listed.ListedDependency.{ListedDependency}
-use Rattle.just_lang_names.specs.MarkedPlaces.{marked_place}
+use Rattle.just_lang_names.specs.HashedPlaces.{hashed_place}
 use Rattle.just_lang_names.specs.Lookup.{Target, Found_recipe, Found_module, Found_absent, Found_nothing, dependency_end, alias_end, target_with}
 use Rattle.just_lang_names.specs.TargetSpots.{AliasIn, DependencyIn, aliases_in, dependencies_in}
 
@@ -37,7 +37,7 @@ recipe_at names number place = option_and_then (λ (n : ModuleNames). slice_get 
 
 -- the recipe of that name by its place in a table
 abbrev pub recipe_by : ModuleNames → List ℕ → Option (ℕ × AstItem)
-recipe_by n q = option_and_then (slice_get (entries n.recipes.items)) (marked_place n.recipe_places q)
+recipe_by n q = option_and_then (slice_get (entries n.recipes.items)) (hashed_place n.recipe_places q)
 
 -- a recipe with the number of its file
 abbrev pub found_recipe : FoundRecipe → ℕ × AstRecipe

@@ -3,9 +3,9 @@
 
 mod arity;
 mod children;
+mod hashed;
+mod hashes;
 mod listed;
-mod marked;
-mod marks;
 mod names;
 mod options;
 mod parameters;
@@ -16,8 +16,8 @@ mod targets;
 
 pub use arity::{Arities, Arity, arities_of};
 pub use children::Children;
+pub use hashed::HashedIndex;
 pub use listed::{ListedAlias, ListedDependency, all_aliases, all_dependencies};
-pub use marked::MarkedIndex;
 pub use names::{ModuleNames, Names, names_of};
 pub use paths::Paths;
 pub use scopes::first_undefined_variable;

@@ -6,7 +6,7 @@ ghost use Rattle.just_lang_names.specs.Names.{IsModuleNames, AreModuleNames, Are
 ghost use Rattle.just_lang_names.specs.Standing.{absent_items};
 
 use super::children::{Children, children_of, own_numbers};
-use super::marked::{MarkedIndex, marked_index_of};
+use super::hashed::{HashedIndex, hashed_index_of};
 use super::paths::{Paths, paths_of};
 use just_lang_layout::{File, Layout, Module, items_at, items_of_module};
 use just_lang_spots::{Entry, Index, index_of, standing_recipes, standing_variables};
@@ -18,7 +18,7 @@ pub struct ModuleNames<'a> {
     pub items: Vec<Entry<'a>>,
     pub recipes: Vec<Entry<'a>>,
     /// The places among `recipes`.
-    pub recipe_places: MarkedIndex<'a>,
+    pub recipe_places: HashedIndex<'a>,
     pub variables: Vec<Entry<'a>>,
     /// The places among `variables`.
     pub variable_places: Index<'a>,
@@ -92,7 +92,7 @@ fn module_names<'a>(
     let variables = standing_variables(alloc, winners, items.as_slice())?;
     let variable_places = index_of(alloc, variables.as_slice())?;
     let absent_places = absent_index(alloc, files, some_module)?;
-    let recipe_places = marked_index_of(alloc, recipes.as_slice())?;
+    let recipe_places = hashed_index_of(alloc, recipes.as_slice())?;
     Ok(ModuleNames {
         items,
         recipes,

@@ -1,9 +1,9 @@
-//! For each of some names the place of the last item that has it, found by the name's mark.
+//! For each of some names the place of the last item that has it, found by the name's hash.
 ghost use Rattle.std.specs.Prelude.{◌≡◌, IfOk, OnOk};
 ghost use Rattle.just_lang_spots.specs.Entries.{entries};
-ghost use Rattle.just_lang_names.specs.MarkedPlaces.{is_another, place_of, marked_place, Enters, IsMarkedIndex};
+ghost use Rattle.just_lang_names.specs.HashedPlaces.{is_another, place_of, hashed_place, Enters, IsHashedIndex};
 
-use super::marks::name_mark;
+use super::hashes::name_hash;
 use just_lang_spots::{Entry, item_name};
 use just_path_text::NoMemory;
 use std::alloc::Global;
@@ -16,18 +16,18 @@ struct NamedPlace<'a> {
     place: usize,
 }
 
-/// For each name the place of the last item of that name. Most are found by the marks of their names alone; those of which
-/// another name has the mark are kept by their names. Looking one up takes the logarithm of their number.
-pub struct MarkedIndex<'a> {
-    /// The first name of each mark.
+/// For each name the place of the last item of that name. Most are found by the hashes of their names alone; those of which
+/// another name has the hash are kept by their names. Looking one up takes the logarithm of their number.
+pub struct HashedIndex<'a> {
+    /// The first name of each hash.
     firsts: BTreeMap<u64, NamedPlace<'a>>,
-    /// The places of the names behind the first one of their marks.
+    /// The places of the names behind the first one of their hashes.
     others: BTreeMap<&'a str, usize>,
 }
 
-impl Drop for MarkedIndex<'_> {
+impl Drop for HashedIndex<'_> {
     fn drop(self) {
-        let MarkedIndex {
+        let HashedIndex {
             firsts: _,
             others: _,
         } = self;
@@ -35,13 +35,13 @@ impl Drop for MarkedIndex<'_> {
 }
 
 /// The places of the last ones of each name.
-pub(crate) fn marked_index_of<'a>(
+pub(crate) fn hashed_index_of<'a>(
     alloc: Global,
     items: &[Entry<'a>],
-) -> Result<MarkedIndex<'a>, NoMemory>
-    ensures { IfOk result (λ index. IsMarkedIndex (entries items.now) index) }
+) -> Result<HashedIndex<'a>, NoMemory>
+    ensures { IfOk result (λ index. IsHashedIndex (entries items.now) index) }
 {
-    let mut index = MarkedIndex {
+    let mut index = HashedIndex {
         firsts: BTreeMap::new(alloc),
         others: BTreeMap::new(alloc),
     };
@@ -51,7 +51,7 @@ pub(crate) fn marked_index_of<'a>(
     Ok(index)
 }
 
-/// Whether a name is kept under its mark, and isn't this one.
+/// Whether a name is kept under its hash, and isn't this one.
 fn is_another(name: &str, kept: Option<NamedPlace<'_>>) -> bool
     ensures { result ≡ is_another name.now kept.entry }
 {
@@ -71,12 +71,12 @@ fn place_of(name: &str, kept: Option<NamedPlace<'_>>) -> Option<usize>
     }
 }
 
-impl<'a> MarkedIndex<'a> {
+impl<'a> HashedIndex<'a> {
     /// The place of the last item of that name.
     pub fn place(&self, name: &str) -> Option<usize>
-        ensures { result ≡ marked_place self.now name.now }
+        ensures { result ≡ hashed_place self.now name.now }
     {
-        match place_of(name, self.firsts.get(&name_mark(name)).copied()) {
+        match place_of(name, self.firsts.get(&name_hash(name)).copied()) {
             Some(place) => Some(place),
             None => self.others.get(name).copied(),
         }
@@ -87,12 +87,12 @@ impl<'a> MarkedIndex<'a> {
     fn enter(&mut self, name: &'a str, place: usize) -> Result<(), NoMemory>
         ensures { OnOk result (Enters self.old name.now place self.new) }
     {
-        let mark = name_mark(name);
-        if is_another(name, self.firsts.get(&mark).copied()) {
+        let hash = name_hash(name);
+        if is_another(name, self.firsts.get(&hash).copied()) {
             self.others.insert(name, place)?;
             return Ok(());
         }
-        self.firsts.insert(mark, NamedPlace { name, place })?;
+        self.firsts.insert(hash, NamedPlace { name, place })?;
         Ok(())
     }
 }
