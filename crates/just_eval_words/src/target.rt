@@ -18,24 +18,50 @@ use just_lang_types::{Disabled, Recipe};
 use just_path_text::{NoMemory, Text, TryClone};
 use std::alloc::Global;
 
-/// The refusal of a recipe that can't be run.
-fn recipe_disabled(alloc: Global, name: &str, disabled: &Disabled) -> Result<LangError, NoMemory>
-    ensures { IfOk result (λ e. e ≡ error.RecipeDisabled name.now disabled.now.modules) }
+/// The refusal of a module that may be missing and is; want of memory, where there is none for its name.
+fn module_absent(alloc: Global, name: &str) -> LangError
+    ensures { result ≢ error.NoMemory → result ≡ error.ModuleAbsent name.now }
 {
-    Ok(LangError::RecipeDisabled {
-        recipe: Text::from_str(alloc, name)?,
-        modules: disabled.modules.try_clone()?,
-    })
+    match Text::from_str(alloc, name) {
+        Ok(module) => LangError::ModuleAbsent { module },
+        Err(NoMemory) => LangError::NoMemory,
+    }
 }
 
-/// The refusal of an alias of a recipe that can't be run.
-fn alias_disabled(alloc: Global, name: &str, disabled: &Disabled) -> Result<LangError, NoMemory>
-    ensures { IfOk result (λ e. e ≡ error.AliasDisabled name.now disabled.now.modules) }
+/// The refusal of a recipe that can't be run; want of memory, where there is none for its texts.
+fn recipe_disabled(alloc: Global, name: &str, disabled: &Disabled) -> LangError
+    ensures { result ≢ error.NoMemory → result ≡ error.RecipeDisabled name.now disabled.now.modules }
 {
-    Ok(LangError::AliasDisabled {
-        alias: Text::from_str(alloc, name)?,
-        modules: disabled.modules.try_clone()?,
-    })
+    let Ok(recipe) = Text::from_str(alloc, name) else {
+        return LangError::NoMemory;
+    };
+    match disabled.modules.try_clone() {
+        Ok(modules) => LangError::RecipeDisabled { recipe, modules },
+        Err(NoMemory) => LangError::NoMemory,
+    }
+}
+
+/// The refusal of an alias of a recipe that can't be run; want of memory, where there is none for its texts.
+fn alias_disabled(alloc: Global, name: &str, disabled: &Disabled) -> LangError
+    ensures { result ≢ error.NoMemory → result ≡ error.AliasDisabled name.now disabled.now.modules }
+{
+    let Ok(alias) = Text::from_str(alloc, name) else {
+        return LangError::NoMemory;
+    };
+    match disabled.modules.try_clone() {
+        Ok(modules) => LangError::AliasDisabled { alias, modules },
+        Err(NoMemory) => LangError::NoMemory,
+    }
+}
+
+/// The refusal of a word that leads to nothing; want of memory, where there is none for the word.
+fn unknown_recipe(alloc: Global, word: &str) -> LangError
+    ensures { result ≢ error.NoMemory → result ≡ error.UnknownRecipe word.now }
+{
+    match Text::from_str(alloc, word) {
+        Ok(recipe) => LangError::UnknownRecipe { recipe },
+        Err(NoMemory) => LangError::NoMemory,
+    }
 }
 
 /// What the last name of a word leads to in a module.
@@ -54,12 +80,10 @@ fn last_target<'p>(
         return Ok(Target::Module(inside));
     }
     if is_absent(justfile, name) {
-        return Err(LangError::ModuleAbsent {
-            module: Text::from_str(alloc, name)?,
-        });
+        return Err(module_absent(alloc, name));
     }
     if let Some(disabled) = disabled_at(justfile.disabled_recipes.as_slice(), name) {
-        return Err(recipe_disabled(alloc, name, disabled)?);
+        return Err(recipe_disabled(alloc, name, disabled));
     }
     if let Some(recipe) = recipe_in(justfile, name) {
         return Ok(Target::Recipe(Found {
@@ -68,13 +92,11 @@ fn last_target<'p>(
         }));
     }
     if let Some(disabled) = disabled_at(justfile.disabled_aliases.as_slice(), name) {
-        return Err(alias_disabled(alloc, name, disabled)?);
+        return Err(alias_disabled(alloc, name, disabled));
     }
     match aliased_recipe(modules, justfile, name) {
         Some(found) => Ok(Target::Recipe(found)),
-        None => Err(LangError::UnknownRecipe {
-            recipe: Text::from_str(alloc, word)?,
-        }),
+        None => Err(unknown_recipe(alloc, word)),
     }
 }
 
@@ -131,7 +153,7 @@ fn is_default(recipe: &Recipe) -> bool
 }
 
 /// The first of some recipes that is the default one.
-fn marked_default(recipes: &[Recipe]) -> Option<&Recipe>
+fn first_default(recipes: &[Recipe]) -> Option<&Recipe>
     ensures { option_copied result ≡ find is_default recipes.now }
 {
     'recipes: for recipe in recipes {
@@ -148,7 +170,7 @@ fn default_in(justfile: &Justfile) -> Option<&Recipe>
     ensures { option_copied result ≡ default_in justfile.now }
 {
     let recipes = justfile.recipes.as_slice();
-    if let Some(recipe) = marked_default(recipes) {
+    if let Some(recipe) = first_default(recipes) {
         return Some(recipe);
     }
     match recipes.split_first() {
@@ -169,7 +191,7 @@ fn default_of(alloc: Global, justfile: &Justfile) -> Result<Found<'_>, LangError
     let disabled = disabled_at(justfile.disabled_recipes.as_slice(), recipe.name.as_str());
     let least = least_words(recipe.parameters.as_slice());
     if let Some(disabled) = disabled {
-        return Err(recipe_disabled(alloc, recipe.name.as_str(), disabled)?);
+        return Err(recipe_disabled(alloc, recipe.name.as_str(), disabled));
     }
     if least != 0 {
         return Err(LangError::DefaultRecipeRequiresArguments {
