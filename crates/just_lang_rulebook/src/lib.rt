@@ -5,13 +5,13 @@ mod argument_kinds;
 mod attribute_kinds;
 mod behind;
 mod broken;
-mod broken_items;
 mod duplicate_aliases;
 mod duplicate_kinds;
 mod duplicate_names;
 mod files;
 mod given_name;
 mod guards;
+mod in_front;
 mod item_lists;
 mod items;
 mod line_front;
@@ -33,7 +33,6 @@ pub use attribute_kinds::{
 };
 pub use behind::first_broken_behind;
 pub use broken::{Broken, broken_at};
-pub use broken_items::first_broken_item;
 pub use duplicate_aliases::DuplicateAlias;
 pub use duplicate_kinds::{
     first_duplicate_alias, first_duplicate_parameter, first_duplicate_recipe,
@@ -42,6 +41,7 @@ pub use duplicate_kinds::{
 pub use duplicate_names::{DuplicateRecipe, DuplicateVariable};
 pub use files::{first_fault, first_source_limit};
 pub use guards::GuardAndInfallible;
+pub use in_front::first_broken_in_front;
 pub use item_lists::items_of_files;
 pub use items::first_in_items;
 pub use line_front::front;

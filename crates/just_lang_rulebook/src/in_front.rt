@@ -98,7 +98,7 @@ fn first_on_duplicates(
 /// The first broken rule of those in front of the rules on the names that are used: on files, settings, attributes, names that come
 /// again, and parameters. For each file `winners` has those that import it, straight or through others.
 #[tactic(auto, using(crate::proofs::Orders::behind_first, crate::proofs::Orders::behind_second))]
-pub fn first_broken_item(
+pub fn first_broken_in_front(
     alloc: Global,
     environ: &Environ,
     winners: &[Seq<usize>],
