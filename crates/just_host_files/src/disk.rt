@@ -1,5 +1,7 @@
-//! What is done to the system's files. An error that is a miss has the kind of one. No function here has a clause, since nothing is claimed of
-//! what the system does.
+//! What is done to the system's files. An error that is a miss has the kind of one. Nothing is claimed of what the system does.
+ghost use Rattle.std.specs.Prelude.{IfOk, option_map};
+ghost use Rattle.just_path.specs.Path.{text_of};
+ghost use Rattle.just_host_files.specs.Fresh.{IsTemporary};
 
 use super::fresh::fresh_folder;
 use just_host_record::{Look, MAX_SUMMED};
@@ -63,13 +65,15 @@ pub fn make_folder<F: Files>(files: &F, path: &str) -> io::Result<()> {
     }
 }
 
-/// Makes a fresh folder in another one, else in the system's for temporary files. Its name begins with `prefix`, and this user alone may use it. No clause: nothing is claimed of files.
+/// Makes a fresh folder in another one, else in the system's for temporary files. Its name begins with `prefix`, and this user alone may use it.
 pub fn temp_folder<R: Files + Env>(
     rt: &R,
     alloc: Global,
     parent: Option<Utf8Path<'_>>,
     prefix: &str,
-) -> io::Result<Utf8PathBuf> {
+) -> io::Result<Utf8PathBuf>
+    ensures { IfOk result (IsTemporary (option_map text_of parent.entry) prefix.now) }
+{
     match parent {
         Some(parent) => fresh_folder(rt, alloc, parent, prefix),
         None => {

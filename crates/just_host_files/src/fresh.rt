@@ -1,5 +1,7 @@
 //! Fresh folders of the system, and want of memory as an error of the system.
 ghost use Rattle.std.specs.Prelude.{◌≡◌, Ok, IfOk};
+ghost use Rattle.just_path.specs.Path.{text_of};
+ghost use Rattle.just_host_files.specs.Fresh.{IsNamedIn};
 
 use just_path::{Utf8Path, Utf8PathBuf};
 use just_path_text::NoMemory;
@@ -30,27 +32,29 @@ fn random_number<F: Files>(files: &F) -> io::Result<u64> {
 }
 
 /// A path in a folder whose name begins with `prefix`, and hardly stands there.
-/// No clause: nothing is claimed of what the system answers.
 fn random_path<F: Files>(
     files: &F,
     alloc: Global,
     parent: Utf8Path<'_>,
     prefix: &str,
-) -> io::Result<Utf8PathBuf> {
+) -> io::Result<Utf8PathBuf>
+    ensures { IfOk result (IsNamedIn (text_of parent.entry) prefix.now) }
+{
     let number = random_number(files)?;
     let name = format!(in alloc; "{prefix}{number:016x}")?;
     in_memory(parent.join(alloc, Utf8Path::new(name.as_str())))
 }
 
 /// Makes a fresh folder in another, which this user alone may use. Its name begins with `prefix`. Where each name that is tried is taken, the error is
-/// `AlreadyExists`.
-/// No clause: nothing is claimed of what the system answers.
+/// `AlreadyExists`. Nothing is claimed of what the system makes.
 pub fn fresh_folder<F: Files>(
     files: &F,
     alloc: Global,
     parent: Utf8Path<'_>,
     prefix: &str,
-) -> io::Result<Utf8PathBuf> {
+) -> io::Result<Utf8PathBuf>
+    ensures { IfOk result (IsNamedIn (text_of parent.entry) prefix.now) }
+{
     for _ in 0..ATTEMPTS {
         let folder = random_path(files, alloc, parent, prefix)?;
         match DirBuilder::new()

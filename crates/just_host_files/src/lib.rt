@@ -5,10 +5,12 @@ mod copies;
 pub mod disk;
 mod fresh;
 mod items;
+mod ready;
 pub mod system;
 mod text;
 
 pub use copies::{copied_bytes, copies_of, path_or_empty};
 pub use fresh::{fresh_folder, in_memory};
 pub use items::{is_name, name_behind, names_of, put_item};
+pub use ready::{ready_path, ready_probe};
 pub use text::text_of;
