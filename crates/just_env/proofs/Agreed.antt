@@ -291,11 +291,11 @@ module _ (environ : Pairs) (folder command : List ℕ) where
 
 module _ (environ : Pairs) (shell : Interpreter) (folder : List ℕ) where
   pub command_once : (told : Option World) (command : List ℕ) → SameFront (RunsCommand environ shell folder told command)
-  command_once told command cs ds xs ys r s (RunsCommand.captured c x p t g) own (RunsCommand.captured d y q u h) other is =
+  command_once told command cs ds xs ys r s (RunsCommand.captured c x p g) own (RunsCommand.captured d y q h) other is =
       let same : c ≡ d = cc in
       let left : xs ≡ ys = cc in
       (printed_by environ folder command c d same r s g h, ap (λ z. z ∷ []) same, left)
-  command_once told command cs ds xs ys r s (RunsCommand.captured c x p t g) own (RunsCommand.uncaptured io so) other is = absurd (true≢false other)
+  command_once told command cs ds xs ys r s (RunsCommand.captured c x p g) own (RunsCommand.uncaptured io so) other is = absurd (true≢false other)
   command_once told command cs ds xs ys r s (RunsCommand.uncaptured io so) own q other is = absurd (true≢false own)
 
   pub own_before : (pairs : Pairs) (r : Result Pairs EnvError) → IsOwn (before_pairs pairs r) → IsOwn r

@@ -102,8 +102,8 @@ module _ (environ : Pairs) (folder command : List ℕ) (ending : Status) where
 module _ (environ : Pairs) (shell : Interpreter) (folder : List ℕ) where
   command_alone : (told : Option World) (command : List ℕ) (cs ds ys : List Capture) (r s : Result Pairs EnvError) → RunsCommand environ shell folder told command cs r → IsUnrun r
       → RunsCommand environ shell folder told command ds s → IsOwn s → cs ≡ ds ++ ys → ⊥
-  command_alone told command cs ds ys r s (RunsCommand.captured c x p t g) lost q own is = printed_so environ folder command c.status c.output x g lost
-  command_alone told command cs ds ys r s (RunsCommand.uncaptured io so) lost (RunsCommand.captured d y q u h) own is = no_capture d ys is
+  command_alone told command cs ds ys r s (RunsCommand.captured c x p g) lost q own is = printed_so environ folder command c.status c.output x g lost
+  command_alone told command cs ds ys r s (RunsCommand.uncaptured io so) lost (RunsCommand.captured d y q h) own is = no_capture d ys is
   command_alone told command cs ds ys r s (RunsCommand.uncaptured io so) lost (RunsCommand.uncaptured jo to) own is = true≢false own
 
   unrun_before : (pairs : Pairs) (r : Result Pairs EnvError) → IsUnrun (before_pairs pairs r) → IsUnrun r

@@ -17,8 +17,8 @@ use Rattle.just_env.specs.declared.env_error.EnvError.TheVariants as error
 use Rattle.just_env.specs.declared.env_error.OutputError.{OutputError}
 use Rattle.just_env.specs.declared.env_error.OutputError.TheVariants as output
 use Rattle.just_env.specs.DotenvAnswers.{Answers, GainsAmong, Runs, entries_of}
-use Rattle.just_env.specs.Captures.{Capture, entry_of, told_behind, AreAmongMisses, LeavesWorld}
-use Rattle.just_env.specs.Commands.{command_spec, GivesPairs, ending_error, IsUncaptured, RunsCommand, RunsCommands, before_pairs, BeginsCommand, BeginsCommands}
+use Rattle.just_env.specs.Captures.{Capture, entries_of_capture, told_behind, AreAmongMisses}
+use Rattle.just_env.specs.Commands.{IsCaptured, GivesPairs, ending_error, IsUncaptured, RunsCommand, RunsCommands, before_pairs, BeginsCommand, BeginsCommands}
 use Rattle.just_env.proofs.Running.{error_stays, among_none, among_then, behind_append, run_refused_behind, run_short_behind}
 
 -- ---- what a child printed
@@ -100,16 +100,17 @@ module _ (environ : Pairs) (shell : Interpreter) (folder : List ℕ) (told : Opt
 
 module _ (environ : Pairs) (shell : Interpreter) (folder : List ℕ) (told after : Option World) (command : List ℕ) where
   -- it was run to its end
-  module _ (c : Capture) (is : c.spec ≡ command_spec shell folder command) (touched : LeavesWorld told c) (now : after ≡ c.after) (old new : List Entry) (gained : new ≡ old ++ entry_of c ∷ []) where
+  module _ (c : Capture) (is : IsCaptured shell folder told command c) (now : after ≡ c.after) (old new : List Entry) (gained : new ≡ old ++ entries_of_capture c) where
     among_one : GainsAmong (c ∷ []) old new
-    among_one = (entry_of c ∷ [], AreAmongMisses.a_child c [] [] AreAmongMisses.none, gained)
+    among_one =
+        (entries_of_capture c ++ [], AreAmongMisses.a_child c [] [] AreAmongMisses.none, gained ∙ ap (λ l. old ++ l) (sym (append-nil (entries_of_capture c))))
 
     pub ran_one : (r : Result Pairs EnvError) → Answers (GivesPairs environ folder command c.status c.output) r → IfErr r (λ e. entries_of [] e ≡ []) → Runs (RunsCommand environ shell folder told command) (BeginsCommand shell folder told command) told after old new r
-    ran_one (Ok pairs) gives unheard = (c ∷ [], RunsCommand.captured c (Ok pairs) is touched gives, among_one, now, BeginsCommand.a_child c is touched)
+    ran_one (Ok pairs) gives unheard = (c ∷ [], RunsCommand.captured c (Ok pairs) is gives, among_one, now, BeginsCommand.a_child c is)
     ran_one (Err e) (inl memory) unheard =
-        (c ∷ [], inl memory, (new, [], among_one, sym (append-nil new) ∙ ap (λ l. new ++ l) (sym unheard)), error_stays c.after after e now, BeginsCommand.a_child c is touched)
+        (c ∷ [], inl memory, (new, [], among_one, sym (append-nil new) ∙ ap (λ l. new ++ l) (sym unheard)), error_stays c.after after e now, BeginsCommand.a_child c is)
     ran_one (Err e) (inr gives) unheard =
-        (c ∷ [], inr (RunsCommand.captured c (Err e) is touched gives), (new, [], among_one, sym (append-nil new) ∙ ap (λ l. new ++ l) (sym unheard)), error_stays c.after after e now, BeginsCommand.a_child c is touched)
+        (c ∷ [], inr (RunsCommand.captured c (Err e) is gives), (new, [], among_one, sym (append-nil new) ∙ ap (λ l. new ++ l) (sym unheard)), error_stays c.after after e now, BeginsCommand.a_child c is)
 
   -- it wasn't
   pub ran_none : (io : HostFault) (named : List ℕ) (e : EnvError) (program : List ℕ) (old new : List Entry) → named ≡ command → e ≡ error.DotenvCommand named (output.Io io) → IsUncaptured io → FaultLeaves told after io

@@ -1,4 +1,4 @@
--- The lemmas of -- Laws of what surrounds a justfile, how dotenv files are loaded, and commands run for their pairs, what changes in an environment.
+-- The lemmas: how dotenv files are loaded, and commands run for their pairs; what changes in an environment.
 pub mod Laws
 pub mod Record
 pub mod Running

@@ -1,5 +1,5 @@
 -- What changes that are put one behind the other say of a name.
-use Rattle.std.proofs.Common.{◌≡◌, ℕ, Bool, true, false, cond, List, [], ◌∷◌, ◌++◌, map, Option, Some, None, option_map, bytes_eq, refl, sym, ap, ◌∙◌, subst}
+use Rattle.std.proofs.Common.{◌≡◌, ℕ, Bool, true, false, true≢false, cond, List, [], ◌∷◌, ◌++◌, map, Option, Some, None, option_map, bytes_eq, refl, sym, ap, ◌∙◌, subst}
 use Rattle.std.specs.Prelude.{◌||◌, if◌then◌else◌}
 use Rattle.std.specs.BTreeMap.{insert_entry}
 use Rattle.std.specs.List.{flat_map}
@@ -8,70 +8,47 @@ use Rattle.std.specs.Map.{lookup}
 use Rattle.std.specs.Ordering.{is_eq, match_ordering}
 use Rattle.std.specs.declared.cmp.Ordering.{Ordering}
 use Rattle.std.specs.declared.cmp.Ordering.TheVariants.{Less, Equal, Greater}
+use Rattle.std.proofs.lemmas.Cmp.{nat_list_eq_equiv}
+use Rattle.std.proofs.lemmas.Map.Lookups.{exact_bytes}
 use Rattle.std.proofs.lemmas.Map.Text.{is_eq-slice_cmp}
 use Rattle.std.proofs.lemmas.Slice.Eq.{bytes_eq-Decides}
 use Rattle.just_path_text.specs.Environ.{or_else, value_of}
 use Rattle.just_lang_types.specs.declared.scope.Level.{Level}
 use Rattle.just_env.specs.Changes.{Change, text_cmp, exports, put_all, gets, goes, level_changes, outer, changes, is_among, taken_out, level_says, levels_say, change, AreChanges}
 
--- ---- texts
-
-apart : true ≡ false → ⊥
-apart h = let no : ⊥ = cc in no
-
--- tests that imply each other give one answer
-one_answer : (a b : Bool) → (a ≡ true → b ≡ true) → (b ≡ true → a ≡ true) → a ≡ b
-one_answer true b f g = sym (f refl)
-one_answer false true f g = g refl
-one_answer false false f g = refl
-
-bytes_is : (a b : List ℕ) → bytes_eq a b ≡ true → a ≡ b
-bytes_is a b h = (bytes_eq-Decides a b).0 h
-
-bytes_self : (a : List ℕ) → bytes_eq a a ≡ true
-bytes_self a = (bytes_eq-Decides a a).1 refl
-
-bytes_turned : (a b : List ℕ) → bytes_eq a b ≡ bytes_eq b a
-bytes_turned a b =
-    one_answer (bytes_eq a b) (bytes_eq b a) (λ h. subst (λ c. bytes_eq c a ≡ true) (bytes_is a b h) (bytes_self a)) (λ h. subst (λ c. bytes_eq c b ≡ true) (bytes_is b a h) (bytes_self b))
-
--- texts that the order ties are equal, and those that it doesn't differ
-tied : (a b : List ℕ) → text_cmp a b ≡ Equal → bytes_eq a b ≡ true
-tied a b h = sym (is_eq-slice_cmp a b) ∙ ap (λ o. is_eq o) h
-
-behind : (a b : List ℕ) → text_cmp a b ≡ Greater → bytes_eq a b ≡ false
-behind a b h = sym (is_eq-slice_cmp a b) ∙ ap (λ o. is_eq o) h
-
 -- ---- one change
 
 -- two tests of which one alone passes
-swapped : (k e : Bool) (v w g : Option (Option (List ℕ))) → (e ≡ true → k ≡ false) → cond e w (cond k v g) ≡ cond k v (cond e w g)
-swapped true true v w g apart_are = absurd (apart (apart_are refl))
-swapped true false v w g apart_are = refl
-swapped false e v w g apart_are = refl
+swapped : {A : Type 0} (k e : Bool) (v w g : A) → (e ≡ true → k ≡ false) → cond e w (cond k v g) ≡ cond k v (cond e w g)
+swapped true true v w g alone = absurd (true≢false (alone refl))
+swapped true false v w g alone = refl
+swapped false e v w g alone = refl
 
--- a change that takes the place of one of its name
-taken : (k e : Bool) (v w g : Option (Option (List ℕ))) → k ≡ e → cond e v g ≡ cond k v (cond e w g)
+-- what takes the place of something of its name
+taken : {A : Type 0} (k e : Bool) (v w g : A) → k ≡ e → cond e v g ≡ cond k v (cond e w g)
 taken true true v w g h = refl
-taken true false v w g h = absurd (apart h)
-taken false true v w g h = absurd (apart (sym h))
+taken true false v w g h = absurd (true≢false h)
+taken false true v w g h = absurd (true≢false (sym h))
 taken false false v w g h = refl
+
+-- texts that the order doesn't tie differ
+behind : (a b : List ℕ) → text_cmp a b ≡ Greater → bytes_eq a b ≡ false
+behind a b h = sym (is_eq-slice_cmp a b) ∙ ap (λ o. is_eq o) h
 
 module _ (k name : List ℕ) (v : Option (List ℕ)) where
   -- by how its name and that of the first one stand
   entered_by : (e : Change) (es : List Change) (o : Ordering) → text_cmp k e.0 ≡ o → lookup (bytes_eq name) (insert_entry text_cmp es k v) ≡ cond (bytes_eq k name) (Some v) (lookup (bytes_eq name) es)
       → lookup (bytes_eq name) (match_ordering o ((k, v) ∷ e ∷ es) ((e.0, v) ∷ es) (e ∷ insert_entry text_cmp es k v)) ≡ cond (bytes_eq k name) (Some v) (cond (bytes_eq name e.0) (Some e.1) (lookup (bytes_eq name) es))
-  entered_by e es Less h others = ap (λ b. cond b (Some v) (cond (bytes_eq name e.0) (Some e.1) (lookup (bytes_eq name) es))) (bytes_turned name k)
+  entered_by e es Less h others = ap (λ b. cond b (Some v) (cond (bytes_eq name e.0) (Some e.1) (lookup (bytes_eq name) es))) (nat_list_eq_equiv.symm name k)
   entered_by e es Equal h others =
-      let same : k ≡ e.0 = bytes_is k e.0 (tied k e.0 h) in
-      taken (bytes_eq k name) (bytes_eq name e.0) (Some v) (Some e.1) (lookup (bytes_eq name) es) (ap (λ t. bytes_eq t name) same ∙ bytes_turned e.0 name)
+      taken (bytes_eq k name) (bytes_eq name e.0) (Some v) (Some e.1) (lookup (bytes_eq name) es) (ap (λ t. bytes_eq t name) (exact_bytes k e.0 h) ∙ nat_list_eq_equiv.symm e.0 name)
   entered_by e es Greater h others =
       ap (λ o. cond (bytes_eq name e.0) (Some e.1) o) others
-      ∙ swapped (bytes_eq k name) (bytes_eq name e.0) (Some v) (Some e.1) (lookup (bytes_eq name) es) (λ is. subst (λ t. bytes_eq k t ≡ false) (sym (bytes_is name e.0 is)) (behind k e.0 h))
+      ∙ swapped (bytes_eq k name) (bytes_eq name e.0) (Some v) (Some e.1) (lookup (bytes_eq name) es) (λ is. subst (λ t. bytes_eq k t ≡ false) (sym ((bytes_eq-Decides name e.0).0 is)) (behind k e.0 h))
 
   -- a change that is entered is what is said of its name, and of other names the same is said
   entered : (es : List Change) → lookup (bytes_eq name) (insert_entry text_cmp es k v) ≡ cond (bytes_eq k name) (Some v) (lookup (bytes_eq name) es)
-  entered [] = ap (λ b. cond b (Some v) None) (bytes_turned name k)
+  entered [] = ap (λ b. cond b (Some v) None) (nat_list_eq_equiv.symm name k)
   entered (e ∷ es) = entered_by e es (text_cmp k e.0) refl (entered es)
 
 -- ---- all changes

@@ -13,14 +13,16 @@ use Rattle.just_env.specs.declared.env_error.EnvError.{EnvError}
 use Rattle.just_env.specs.declared.env_error.EnvError.TheVariants as error
 use Rattle.just_env.specs.declared.env_error.OutputError.TheVariants as output
 use Rattle.just_env.specs.DotenvAnswers.{Answers, Gains, GainsAmong, GainsAll, ErrorLeaves, Leaves, Runs, entries_of}
-use Rattle.just_env.specs.Captures.{Capture, told_behind, AreAmongMisses}
+use Rattle.just_env.specs.Captures.{Capture, entries_of_capture, told_behind, AreAmongMisses}
 
 -- ---- the record
 
 among_append : (cs ds : List Capture) (es fs : List Entry) → AreAmongMisses cs es → AreAmongMisses ds fs → AreAmongMisses (cs ++ ds) (es ++ fs)
 among_append cs ds es fs AreAmongMisses.none h = h
 among_append cs ds es fs (AreAmongMisses.a_miss path m bs gs g) h = AreAmongMisses.a_miss path m (cs ++ ds) (gs ++ fs) (among_append cs ds gs fs g h)
-among_append cs ds es fs (AreAmongMisses.a_child c bs gs g) h = AreAmongMisses.a_child c (bs ++ ds) (gs ++ fs) (among_append bs ds gs fs g h)
+among_append cs ds es fs (AreAmongMisses.a_child c bs gs g) h =
+    subst (λ l. AreAmongMisses (c ∷ (bs ++ ds)) l) (sym (append_assoc (entries_of_capture c) gs fs))
+    (AreAmongMisses.a_child c (bs ++ ds) (gs ++ fs) (among_append bs ds gs fs g h))
 
 among_misses : (es : List Entry) → AllByRecursion (λ e. is_missed e ≡ true) es → AreAmongMisses [] es
 among_misses [] h = AreAmongMisses.none
@@ -56,7 +58,7 @@ behind_append told (c ∷ cs) ds = behind_append c.after cs ds
 
 pub untouched : (told : Option World) → Touched told told
 untouched None = tt
-untouched (Some w) = (w, refl, refl, refl, refl, λ spec h. h)
+untouched (Some w) = (w, refl, refl, refl, refl, λ spec h. h, λ e. e)
 
 -- a world that stays
 pub error_stays : (old new : Option World) (e : EnvError) → new ≡ old → ErrorLeaves old new e

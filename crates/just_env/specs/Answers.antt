@@ -31,7 +31,16 @@ GivesEnviron told (Err e) = Fails call.Environ [] e
 abbrev pub entries_of : SearchError → List Entry
 entries_of (error.FilesystemIo path io) = refused path io
 entries_of (error.Load path io) = refused path io
-entries_of _ = []
+entries_of error.GlobalJustfileInit = []
+entries_of error.GlobalJustfileNotFound = []
+entries_of error.InitWithJustfileFromStandardInput = []
+entries_of (error.JustfileHadNoParent path) = []
+entries_of (error.MultipleCandidates folder candidates) = []
+entries_of error.NotFound = []
+entries_of (error.StdinIo io) = []
+entries_of (error.TempdirIo io) = []
+entries_of (error.Lang e) = []
+entries_of error.NoMemory = []
 
 -- what a call of the host leaves of its answer: the entry of its refusal
 abbrev pub told_entries : {A : Type 0} → Result A SearchError → List Entry

@@ -1,24 +1,33 @@
 -- Children that are run to their end for what they print.
-use Rattle.std.specs.Prelude.{ℕ, List, [], ◌∷◌, Option, MatchOption}
+use Rattle.std.specs.Prelude.{ℕ, List, [], ◌∷◌, ◌++◌, Option, Some, None, MatchOption}
 use Rattle.just_path.specs.declared.host.Miss.{Miss}
 use Rattle.just_host_record.specs.declared.entry.Entry.{Entry}
 use Rattle.just_host_record.specs.declared.entry.Entry.TheVariants as entry
 use Rattle.just_host_record.specs.declared.entry.Spec.{Spec}
 use Rattle.just_host_record.specs.declared.entry.Status.{Status}
+use Rattle.just_host_record.specs.declared.signal.Signal.{Signal}
 use Rattle.just_host_record.specs.World.{World, Touched, LeftAlone}
 
--- a child that was run to its end: what it was asked for by, how it ended, what it printed, and the world that its host told behind it
+-- A child that was run to its end: what it was asked for by, what it was fed, how it ended, what it
+-- printed, the signal that its host told behind it, if it told one, and the world that it told then.
 pub record Capture : Type 0 where
   pub spec : Spec
+  pub input : List ℕ
   pub status : Status
   pub output : List ℕ
+  pub signal : Option Signal
   pub after : Option World
 
--- its entry in the record; nothing is fed to it
-abbrev pub entry_of : Capture → Entry
-entry_of c = entry.Captured c.spec [] c.status c.output
+-- the entry of a signal that was told, if one was
+abbrev pub entries_of_signal : Option Signal → List Entry
+entries_of_signal (Some signal) = entry.Signalled signal ∷ []
+entries_of_signal None = []
 
--- What such a child leaves of the world that was told before it: all but the files; and all of it, where the host tells of it that it
+-- its entries in the record: its own, and directly behind it that of the signal
+abbrev pub entries_of_capture : Capture → List Entry
+entries_of_capture c = entry.Captured c.spec c.input c.status c.output ∷ entries_of_signal c.signal
+
+-- What such a child leaves of the world that was told before it: all but the files and the disk; and all of it, where the host tells of it that it
 -- leaves the files alone.
 abbrev pub LeavesWorld : Option World → Capture → Type 0
 LeavesWorld told c = Touched told c.after × LeftAlone told c.after c.spec
@@ -37,4 +46,4 @@ AreTold (c ∷ cs) = MatchOption c.after ⊥ (λ w. Unit {0}) × AreTold cs
 pub data AreAmongMisses : List Capture → List Entry → Type 0 where
   none : AreAmongMisses [] []
   a_miss : (path : List ℕ) (m : Miss) (cs : List Capture) (es : List Entry) → AreAmongMisses cs es → AreAmongMisses cs (entry.Missed path m ∷ es)
-  a_child : (c : Capture) (cs : List Capture) (es : List Entry) → AreAmongMisses cs es → AreAmongMisses (c ∷ cs) (entry_of c ∷ es)
+  a_child : (c : Capture) (cs : List Capture) (es : List Entry) → AreAmongMisses cs es → AreAmongMisses (c ∷ cs) (entries_of_capture c ++ es)

@@ -44,9 +44,18 @@ IsUncaptured (fault.Missed m) = m ≡ miss.TooLarge
 IsUncaptured (fault.Failed c) = IsCaptureRefusal [] (fault.Failed c)
 IsUncaptured fault.NoMemory = ⊥
 
--- One command: its child is run to its end, and may touch the files as it runs, unless the host tells that it doesn't; or it isn't.
+-- A command's child was run to its end. It was fed nothing; it may have touched the files, unless the host tells that it
+-- leaves them alone; and no signal is told behind it, since a host isn't asked for signals.
+pub record IsCaptured (shell : Interpreter) (folder : List ℕ) (told : Option World) (command : List ℕ) (c : Capture)
+    : Type 0 where
+  pub spec : c.spec ≡ command_spec shell folder command
+  pub unfed : c.input ≡ []
+  pub unsignalled : c.signal ≡ None
+  pub left : LeavesWorld told c
+
+-- one command: its child is run to its end, or it isn't
 pub data RunsCommand (environ : Pairs) (shell : Interpreter) (folder : List ℕ) (told : Option World) (command : List ℕ) : List Capture → Result Pairs EnvError → Type 0 where
-  captured : (c : Capture) (r : Result Pairs EnvError) → c.spec ≡ command_spec shell folder command → LeavesWorld told c
+  captured : (c : Capture) (r : Result Pairs EnvError) → IsCaptured shell folder told command c
       → GivesPairs environ folder command c.status c.output r
       → RunsCommand environ shell folder told command (c ∷ []) r
   uncaptured : (io : HostFault) → IsUncaptured io → RunsCommand environ shell folder told command [] (Err (error.DotenvCommand command (output.Io io)))
@@ -69,7 +78,7 @@ pub data RunsCommands (environ : Pairs) (shell : Interpreter) (folder : List ℕ
 -- of one command: its child is run to its end, or it isn't
 pub data BeginsCommand (shell : Interpreter) (folder : List ℕ) (told : Option World) (command : List ℕ) : List Capture → Type 0 where
   nothing : BeginsCommand shell folder told command []
-  a_child : (c : Capture) → c.spec ≡ command_spec shell folder command → LeavesWorld told c → BeginsCommand shell folder told command (c ∷ [])
+  a_child : (c : Capture) → IsCaptured shell folder told command c → BeginsCommand shell folder told command (c ∷ [])
 
 -- of some commands, one behind the other: each but the last of those for which a child was run gave its pairs
 pub data BeginsCommands (environ : Pairs) (shell : Interpreter) (folder : List ℕ) : Option World → List (List ℕ) → List Capture → Type 0 where

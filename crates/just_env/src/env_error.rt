@@ -6,7 +6,7 @@ ghost use Rattle.just_env.specs.declared.env_error.EnvError.TheVariants.{NoMemor
 use just_host_record::HostFault;
 use just_path::Utf8PathBuf;
 use just_path_text::{NoMemory, Text};
-use std::alloc::{AllocError, AllocFailed};
+use std::alloc::AllocFailed;
 
 /// Why the output of a command isn't read.
 #[derive(Clone, Copy)]
@@ -49,14 +49,6 @@ impl From<NoMemory> for EnvError {
     ghost from_gives = { λ _ e. e ≡ OutOfMemory };
 
     fn from(_refused: NoMemory) -> EnvError {
-        EnvError::NoMemory
-    }
-}
-
-impl From<AllocError> for EnvError {
-    ghost from_gives = { λ _ e. e ≡ OutOfMemory };
-
-    fn from(_refused: AllocError) -> EnvError {
         EnvError::NoMemory
     }
 }

@@ -1,5 +1,5 @@
 -- The child is run to its end, and its output read; or it isn't.
-use Rattle.std.proofs.Common.{rules, Err, ◌≡◌, [], ◌∷◌, ◌++◌, refl, ap, sym, ◌∙◌}
+use Rattle.std.proofs.Common.{rules, None, Err, ◌≡◌, [], ◌++◌, refl, ap, sym, ◌∙◌}
 use Rattle.std.proofs.lemmas.List.{append-nil}
 use Rattle.just_path.specs.Path.{text_of}
 use Rattle.just_host_record.specs.World.{Touched, FaultLeaves, LeftAlone}
@@ -7,8 +7,8 @@ use Rattle.just_host_record.specs.Record.{refused}
 use Rattle.just_host_record.specs.declared.entry.HostFault.TheVariants as fault
 use Rattle.just_host_record.specs.declared.entry.Spec.{Spec}
 use Rattle.just_env.specs.declared.env_error.EnvError.TheVariants as error
-use Rattle.just_env.specs.Captures.{Capture, entry_of}
-use Rattle.just_env.specs.Commands.{command_spec, RunsCommand, BeginsCommand}
+use Rattle.just_env.specs.Captures.{Capture, entries_of_capture}
+use Rattle.just_env.specs.Commands.{command_spec, IsCaptured, RunsCommand, BeginsCommand}
 use Rattle.just_env.proofs.Commanding.{ran_one, ran_none}
 use Rattle.just_env.proofs.Running.{run_memory}
 use Rattle.just_env.proofs.Ends.{ends_short, ends_unheard}
@@ -26,12 +26,13 @@ returns-in_err-named-clause-ran g c =
 
 pub returns-in-Ok-clause-ran : goal.returns-in-Ok-clause-ran
 returns-in-Ok-clause-ran g c =
-    let k : Capture = record { spec = c.in_ok-spec.spec; status = c.in-Ok.ending; output = c.in-Ok.output.items; after = g.H.Host.world c.capture.new.self } in
+    let k : Capture = record { spec = c.in_ok-spec.spec; input = []; status = c.in-Ok.ending; output = c.in-Ok.output.items; signal = None; after = g.H.Host.world c.capture.new.self } in
     let is : c.in_ok-spec.spec ≡ command_spec c.args.shell.now (text_of c.args.folder) c.args.command.now = search rules in
     let touched : Touched (g.H.Host.world c.args.host.now) (g.H.Host.world c.capture.new.self) = search rules in
     let alone : LeftAlone (g.H.Host.world c.args.host.now) (g.H.Host.world c.capture.new.self) c.in_ok-spec.spec = search rules in
-    let gained : g.H.Host.entries c.capture.new.self ≡ g.H.Host.entries c.args.host.now ++ entry_of k ∷ [] = search rules in
-    ran_one c.args.environ.now.pairs c.args.shell.now (text_of c.args.folder) (g.H.Host.world c.args.host.now) (g.H.Host.world c.capture.new.self) c.args.command.now k is (touched, alone) refl (g.H.Host.entries c.args.host.now)
+    let captured : IsCaptured c.args.shell.now (text_of c.args.folder) (g.H.Host.world c.args.host.now) c.args.command.now k = record { spec = is; unfed = refl; unsignalled = refl; left = (touched, alone) } in
+    let gained : g.H.Host.entries c.capture.new.self ≡ g.H.Host.entries c.args.host.now ++ entries_of_capture k = search rules in
+    ran_one c.args.environ.now.pairs c.args.shell.now (text_of c.args.folder) (g.H.Host.world c.args.host.now) (g.H.Host.world c.capture.new.self) c.args.command.now k captured refl (g.H.Host.entries c.args.host.now)
     (g.H.Host.entries c.capture.new.self) gained c.pairs_of_output.result (search rules) c.pairs_of_output.ensures.unheard
 
 pub returns-in-Err-NoMemory-clause-ran : goal.returns-in-Err-NoMemory-clause-ran
