@@ -16,9 +16,10 @@ use just_lang_types::{BodyLine, Key, Scopes, Value};
 use just_path_text::Seq;
 use std::alloc::Global;
 
-/// The lines of a recipe whose parameters have these values.
+/// The lines of the body of a recipe whose parameters have these values, as they are run: those of a script each as it stands, any
+/// others with those that they go on with and without their sigils. Who found the recipe of a key in a [`Request`] asks here.
 #[tactic(auto, using(crate::proofs::Recipes::script_lines_are, crate::proofs::Recipes::command_lines_are))]
-fn lines_of_recipe(
+pub fn lines_of_recipe(
     alloc: Global,
     scopes: &Scopes,
     from: &Entry<'_>,
@@ -35,8 +36,8 @@ fn lines_of_recipe(
     command_lines(alloc, scopes, from, values, lines.as_slice())
 }
 
-/// The lines of the body of the recipe that a key names, as they are run: those of a script each as it stands, any others
-/// with those that they go on with and without their sigils. A variable of the environment that isn't there refuses them.
+/// The lines of the body of the recipe that a key names, as [`lines_of_recipe`] gives them; none where there is no recipe. A variable of
+/// the environment that isn't there refuses them.
 #[tactic(auto, using(crate::proofs::Recipes::no_recipe, crate::proofs::Recipes::recipe_there))]
 pub fn lines_of(alloc: Global, request: &Request<'_>, key: &Key) -> Result<Seq<BodyLine>, LangError>
     requires { IsIndexed request.now }

@@ -16,7 +16,7 @@ mod settled;
 mod sigils;
 mod text;
 
-pub use body::{body_lines, lines_of};
+pub use body::{body_lines, lines_of, lines_of_recipe};
 pub use ending::is_ending;
 pub use evaluation::evaluate;
 pub use just_eval_closure::{Ran, Request, closure, closure_within, dependencies};
