@@ -2,6 +2,7 @@
 #![tactic(auto)]
 
 mod before;
+mod check;
 mod circular;
 mod disabled;
 mod errors;
@@ -9,13 +10,13 @@ mod first;
 mod law;
 mod names;
 mod paths;
-mod project;
 mod recipe;
 mod rule;
 mod sources;
 mod tables;
 mod variable;
 
+pub use check::first_broken;
 pub use just_lang_syntax::unindent;
 pub use just_lang_types::{
     Alias, Argument, Assignment, Ast, AstDependency, AstItem, AstParameter, AstRecipe, Attribute,
@@ -28,5 +29,4 @@ pub use just_lang_types::{
 pub use just_path::{Utf8Path, Utf8PathBuf};
 pub use just_path_text::{Environ, NoMemory, Seq, Text};
 pub use law::projects_are_sound;
-pub use project::first_broken;
 pub use sources::assemble;

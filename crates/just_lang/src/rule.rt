@@ -7,7 +7,7 @@ ghost use Rattle.just_lang.specs.Rules.{IsFirstRule, IsFirstFurther};
 use super::circular::first_circular;
 use super::names::first_on_names;
 use super::recipe::Recipes;
-use just_lang_rulebook::{Broken, first_broken_behind, first_broken_item};
+use just_lang_rulebook::{Broken, first_broken_behind, first_broken_in_front};
 use just_path_text::{Environ, NoMemory};
 use std::alloc::Global;
 
@@ -45,7 +45,7 @@ pub(crate) fn first_rule(
     ensures { IfOk result (IsFirstRule environ.now.pairs (wins_of recipes.now.names.now) (layout_of recipes.now.names.now)) }
 {
     let names = recipes.names;
-    let front = first_broken_item(alloc, environ, names.winners, names.layout)?;
+    let front = first_broken_in_front(alloc, environ, names.winners, names.layout)?;
     if let Some(broken) = front {
         return Ok(Some(broken));
     }

@@ -38,22 +38,16 @@ fn add_variables(index: &Index<'_>, expr: &Expr, places: &mut Vec<usize>) -> Res
             add_variables(index, left.get(), places)?;
             add_variables(index, right.get(), places)?;
             add_variables(index, consequent.get(), places)?;
-            add_variables(index, alternative.get(), places)?;
-            Ok(())
+            add_variables(index, alternative.get(), places)
         }
-        Expr::Root(inside) | Expr::Group(inside) => {
-            add_variables(index, inside.get(), places)?;
-            Ok(())
-        }
+        Expr::Root(inside) | Expr::Group(inside) => add_variables(index, inside.get(), places),
         Expr::Join(first, second) => {
             add_variables(index, first.get(), places)?;
-            add_variables(index, second.get(), places)?;
-            Ok(())
+            add_variables(index, second.get(), places)
         }
         Expr::Concat(first, second) => {
             add_variables(index, first.get(), places)?;
-            add_variables(index, second.get(), places)?;
-            Ok(())
+            add_variables(index, second.get(), places)
         }
         Expr::Literal(_) => Ok(()),
         Expr::Variable(name) => add_variable(index, name, places),
@@ -61,10 +55,7 @@ fn add_variables(index: &Index<'_>, expr: &Expr, places: &mut Vec<usize>) -> Res
             add_variables(index, key.get(), places)?;
             match default {
                 None => Ok(()),
-                Some(default) => {
-                    add_variables(index, default.get(), places)?;
-                    Ok(())
-                }
+                Some(default) => add_variables(index, default.get(), places),
             }
         }
     }

@@ -1,7 +1,7 @@
 -- What the names break is what the layout breaks.
 use Rattle.std.proofs.lemmas.Result.{IfOk-weaker, IfErr-weaker}
 use Rattle.just_lang.proofs.ProjectLaws.{layout_has_none, layout_has_error}
-use Rattle.just_lang.proofs.project.check_winners.Goals as goal
+use Rattle.just_lang.proofs.check.check_winners.Goals as goal
 
 pub returns-clause-none : goal.returns-clause-none
 returns-clause-none c =

@@ -1,6 +1,6 @@
 -- The importers are those by the layout's imports.
 use Rattle.just_lang.proofs.ProjectLaws.{same_importers}
-use Rattle.just_lang.proofs.project.check_layout.Goals as goal
+use Rattle.just_lang.proofs.check.check_layout.Goals as goal
 
 pub check_winners-requires : goal.check_winners-requires
 check_winners-requires c =
