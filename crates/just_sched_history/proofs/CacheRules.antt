@@ -9,6 +9,7 @@ use Rattle.just_host_record.specs.declared.entry.Look.{Look}
 use Rattle.just_host_record.specs.World.{World}
 use Rattle.just_sched_history.specs.declared.event.Event.{Event}
 use Rattle.just_sched_history.specs.declared.event.Event.TheVariants as event
+use Rattle.just_sched_history.specs.declared.plan_node.PlanNode.{PlanNode}
 use Rattle.just_sched_history.specs.Cached.{looks, is_cached, seen_at, full_in, saw_full, are_one_class, class_is_open}
 use Rattle.just_sched_history.specs.CacheRule.{GoesByCacheRule, IsSkippedByLook}
 use Rattle.just_sched_history.specs.Legal.{Run, May, LegalFrom, IsLegal, IsComplete}
@@ -75,16 +76,16 @@ legal_part s first (x ∷ before) behind e l =
     ((l.0, r.0), subst (λ k. May s k e) (append_assoc first (x ∷ []) before) r.1)
 
 -- a full look stays full
-full_kept_at : (h : List Event) (e : Event) (n : ℕ) (o : Option (List (List ℕ) × Look)) → seen_at h n ≡ o → full_in o ≡ true → saw_full (h ++ e ∷ []) n ≡ true
-full_kept_at h e n None q full = absurd (cc)
-full_kept_at h e n (Some x) q full = ap full_in (seen_kept h e n x q) ∙ full
+full_kept_at : (nodes : List PlanNode) (h : List Event) (e : Event) (n : ℕ) (o : Option (List (List ℕ) × Look)) → seen_at h n ≡ o → full_in nodes n o ≡ true → saw_full nodes (h ++ e ∷ []) n ≡ true
+full_kept_at nodes h e n None q full = absurd (cc)
+full_kept_at nodes h e n (Some x) q full = ap (full_in nodes n) (seen_kept h e n x q) ∙ full
 
-full_kept : (h : List Event) (e : Event) (n : ℕ) → saw_full h n ≡ true → saw_full (h ++ e ∷ []) n ≡ true
-full_kept h e n full = full_kept_at h e n (seen_at h n) refl full
+full_kept : (nodes : List PlanNode) (h : List Event) (e : Event) (n : ℕ) → saw_full nodes h n ≡ true → saw_full nodes (h ++ e ∷ []) n ≡ true
+full_kept nodes h e n full = full_kept_at nodes h e n (seen_at h n) refl full
 
 -- a body is skipped where its look was full
-skipped_full : (s : Run) (h : List Event) (n : ℕ) → IsLegal s h → is_skipped h n ≡ true → saw_full h n ≡ true
-skipped_full s h n l = since s (skips n) (λ k. saw_full k n ≡ true) (λ k e f. full_kept k e n f) (λ k e legal may q. full_kept k e n (skip_due s k n e may q).1) h l
+skipped_full : (s : Run) (h : List Event) (n : ℕ) → IsLegal s h → is_skipped h n ≡ true → saw_full s.nodes h n ≡ true
+skipped_full s h n l = since s (skips n) (λ k. saw_full s.nodes k n ≡ true) (λ k e f. full_kept s.nodes k e n f) (λ k e legal may q. full_kept s.nodes k e n (skip_due s k n e may q).1) h l
 
 -- at its look no other open body was of its class
 alone_at : (s : Run) (h : List Event) (n : ℕ) → IsLegal s h → (before behind : List Event) (e : Event) → h ≡ before ++ e ∷ behind → looks n e ≡ true → (m : ℕ) → (m ≡ n → ⊥) → is_open before m ≡ true → are_one_class s.nodes m n ≡ false
@@ -97,7 +98,7 @@ pub goes_by_rule : (s : Run) (h : List Event) (n : ℕ) → IsLegal s h → is_c
 goes_by_rule s h n l c = record {
   once = looked_once s h n l;
   skipped = skipped_full s h n l;
-  begun = λ b. (looked_before_begun s h n l c b, excluded (saw_full h n) (is_begun h n) (full_unbegun s h n l) b);
+  begun = λ b. (looked_before_begun s h n l c b, excluded (saw_full s.nodes h n) (is_begun h n) (full_unbegun s h n l) b);
   alone = alone_at s h n l;
 }
 
@@ -119,19 +120,19 @@ module _ (s : Run) (h : List Event) (n : ℕ) (l : IsLegal s h) (c : IsComplete 
   over : (is_skipped h n || list_any (concludes_well n) h) ≡ true
   over = sym (any_or (skips n) (concludes_well n) h) ∙ finished_over s.nodes h n (c.all_finished n lt)
 
-  full_skipped : saw_full h n ≡ true → is_skipped h n ≡ true
+  full_skipped : saw_full s.nodes h n ≡ true → is_skipped h n ≡ true
   full_skipped full = one_passes (is_skipped h n) _ over (λ w. true≢false (sym (well_begun s h n l w) ∙ full_unbegun s h n l full))
 
-  unfull_begun : saw_full h n ≡ false → is_begun h n ≡ true
-  unfull_begun q = well_begun s h n l (other_passes (is_skipped h n) _ over (unless (is_skipped h n) (saw_full h n) (skipped_full s h n l) q))
+  unfull_begun : saw_full s.nodes h n ≡ false → is_begun h n ≡ true
+  unfull_begun q = well_begun s h n l (other_passes (is_skipped h n) _ over (unless (is_skipped h n) (saw_full s.nodes h n) (skipped_full s h n l) q))
 
-  begun_is : (b : Bool) → saw_full h n ≡ b → is_begun h n ≡ not b
+  begun_is : (b : Bool) → saw_full s.nodes h n ≡ b → is_begun h n ≡ not b
   begun_is true q = full_unbegun s h n l q
   begun_is false q = unfull_begun q
 
   -- in a complete history a body is skipped exactly where its look was full, and else begun
-  pub skipped_by_look : IsSkippedByLook h n
-  skipped_by_look = (same_truth (is_skipped h n) (saw_full h n) (skipped_full s h n l) full_skipped, begun_is (saw_full h n) refl)
+  pub skipped_by_look : IsSkippedByLook s.nodes h n
+  skipped_by_look = (same_truth (is_skipped h n) (saw_full s.nodes h n) (skipped_full s h n l) full_skipped, begun_is (saw_full s.nodes h n) refl)
 
 -- ---- the same of a run that is kept
 
@@ -147,6 +148,6 @@ module _ (s : Start) (h : List Event) (now : List Entry) (w : Option World) (kep
     alone = λ before behind e is q m ne o. ∥∥₁_elim kept (Bool-set _ _) (λ k. (goes_by_rule (run_of s) h n k.legal c).alone before behind e is q m ne o);
   }
 
-  pub kept_skipped : IsComplete (run_of s) h → (n : ℕ) → n < length s.plan.nodes → IsSkippedByLook h n
+  pub kept_skipped : IsComplete (run_of s) h → (n : ℕ) → n < length s.plan.nodes → IsSkippedByLook s.plan.nodes h n
   kept_skipped complete n lt =
       (∥∥₁_elim kept (Bool-set _ _) (λ k. (skipped_by_look (run_of s) h n k.legal complete lt).0), ∥∥₁_elim kept (Bool-set _ _) (λ k. (skipped_by_look (run_of s) h n k.legal complete lt).1))

@@ -4,6 +4,7 @@ use Rattle.std.specs.List.{cons_option}
 use Rattle.just_host_record.specs.declared.entry.Look.{Look}
 use Rattle.just_sched_history.specs.declared.event.Event.{Event}
 use Rattle.just_sched_history.specs.declared.event.Event.TheVariants as event
+use Rattle.just_sched_history.specs.declared.plan_node.PlanNode.{PlanNode}
 use Rattle.just_sched_history.specs.Cached.{looks, saves, look_of, is_looked_at, is_saved, seen_at, full_in, saw_full}
 use Rattle.just_sched_history.specs.State.{is_of, first}
 use Rattle.just_sched_history.proofs.Tests.{any_none, first_cons, first_kept, first_none, list_more, list_none}
@@ -20,13 +21,13 @@ looked_seen (event.Looked m sums seen ∷ h) n = looked_at (m == n) (is_looked_a
 looked_seen (_ ∷ h) n = looked_seen h n
 
 -- what is seen full is there
-full_some : (o : Option (List (List ℕ) × Look)) → full_in o ≡ true → is_some o ≡ true
-full_some None q = absurd (cc)
-full_some (Some x) q = refl
+full_some : (nodes : List PlanNode) (n : ℕ) (o : Option (List (List ℕ) × Look)) → full_in nodes n o ≡ true → is_some o ≡ true
+full_some nodes n None q = absurd (cc)
+full_some nodes n (Some x) q = refl
 
 -- a full look is a look
-pub full_looked : (h : List Event) (n : ℕ) → saw_full h n ≡ true → is_looked_at h n ≡ true
-full_looked h n q = sym (looked_seen h n) ∙ full_some (seen_at h n) q
+pub full_looked : (nodes : List PlanNode) (h : List Event) (n : ℕ) → saw_full nodes h n ≡ true → is_looked_at h n ≡ true
+full_looked nodes h n q = sym (looked_seen h n) ∙ full_some nodes n (seen_at h n) q
 
 -- an event that is no look of the node has nothing that was seen of it
 pub unseen : (n : ℕ) (e : Event) → looks n e ≡ false → look_of n e ≡ None
@@ -54,8 +55,8 @@ seen_new h e n q = ap first (list_more (look_of n) h e) ∙ first_none (filter_m
 pub seen_stays : (h : List Event) (e : Event) (n : ℕ) → look_of n e ≡ None → seen_at (h ++ e ∷ []) n ≡ seen_at h n
 seen_stays h e n q = ap first (list_none (look_of n) h e q)
 
-pub full_stays : (h : List Event) (e : Event) (n : ℕ) → looks n e ≡ false → saw_full (h ++ e ∷ []) n ≡ saw_full h n
-full_stays h e n q = ap full_in (seen_stays h e n (unseen n e q))
+pub full_stays : (nodes : List PlanNode) (h : List Event) (e : Event) (n : ℕ) → looks n e ≡ false → saw_full nodes (h ++ e ∷ []) n ≡ saw_full nodes h n
+full_stays nodes h e n q = ap (full_in nodes n) (seen_stays h e n (unseen n e q))
 
 pub looked_stays : (h : List Event) (e : Event) (n : ℕ) → looks n e ≡ false → is_looked_at (h ++ e ∷ []) n ≡ is_looked_at h n
 looked_stays h e n q = any_none (looks n) h e q

@@ -1,12 +1,16 @@
 -- The states of a node behind the events of its cache.
 use Rattle.std.proofs.Common.{◌≡◌, ℕ, ◌&&◌, ◌||◌, not, Bool, true, false, List, [], ◌∷◌, ◌++◌, Option, Some, None, is_some, MatchOption, refl, ap, sym, ◌∙◌, subst, eq-eqb}
+use Rattle.just_host_record.specs.declared.entry.Entry.{Entry}
 use Rattle.just_host_record.specs.declared.entry.Look.{Look}
 use Rattle.just_exec_work.specs.declared.work.Step.TheVariants as step
+use Rattle.just_sched_history.specs.declared.cache_plan.CachePlan.{CachePlan}
 use Rattle.just_sched_history.specs.declared.event.Event.{Event}
 use Rattle.just_sched_history.specs.declared.event.Event.TheVariants as event
 use Rattle.just_sched_history.specs.declared.plan_node.PlanNode.{PlanNode}
-use Rattle.just_sched_history.specs.Cached.{looks, saves, is_looked_at, is_saved, seen_at}
-use Rattle.just_sched_history.specs.Legal.{in_body}
+use Rattle.just_sched_history.specs.Cached.{looks, saves, is_cached, is_looked_at, is_saved, may_begin, saw_full, seen_at}
+use Rattle.just_sched_history.specs.Legal.{Run, in_body}
+use Rattle.just_sched_history.specs.Match.{begun_entries, OfBegun}
+use Rattle.just_sched_history.specs.Nodes.{cache_at}
 use Rattle.just_sched_history.specs.State.{skips, begins, is_begun, is_skipped, is_done, is_over, is_running, next_step}
 use Rattle.just_sched_history.proofs.CachedLaws.{looked_seen}
 use Rattle.just_sched_history.proofs.OneMore.{in_body_stays, running_stays}
@@ -35,6 +39,16 @@ save_did nodes h later n grew b begun still well =
       ap (λ k. next_step nodes k n) grew ∙ next_step_stays nodes h e n refl ∙ well,
       ap (λ k. is_saved k n) grew ∙ any_now (saves n) h e (eq-eqb n n refl),
     )
+
+-- a body that may be begun was looked at, where it has a cache; so there are sums with which the cache makes its entries, that is none
+pub begun_of : (s : Run) (h : List Event) (n : ℕ) (fact : List Entry → Type 0) → may_begin s.nodes h n ≡ true → fact [] → OfBegun s h n fact
+begun_of s h n fact may p =
+    by_cache (cache_at s.nodes n) (seen_at h n) (saw_full s.nodes h n) (subst (λ b. (not (is_cached s.nodes n) || (b && not (saw_full s.nodes h n))) ≡ true) (sym (looked_seen h n)) may)
+  where
+    by_cache : (o : Option CachePlan) (seen : Option (List (List ℕ) × Look)) (full : Bool) → (not (is_some o) || (is_some seen && not full)) ≡ true → MatchOption o (fact []) (λ c. MatchOption seen ⊥ (λ x. fact (begun_entries c x.0)))
+    by_cache None seen full q = p
+    by_cache (Some c) (Some x) full q = p
+    by_cache (Some c) None full q = absurd (cc)
 
 -- a body that was just skipped is over
 pub skip_over : (h later : List Event) (n : ℕ) → later ≡ h ++ event.Skipped n ∷ [] → is_over later n ≡ true

@@ -36,7 +36,7 @@ use Rattle.just_sched_history.proofs.Histories.{legal_holds, legal_more}
 use Rattle.just_sched_history.proofs.OneMore.{last_start_stays, last_started, reason_kept, reason_new, signal_kept, signal_new, statuses_ended, statuses_stay}
 use Rattle.just_sched_history.proofs.Others.{next_step_stays, starts_of, statuses_of}
 use Rattle.just_sched_history.proofs.Reasons.{reason_done, reason_due, reason_since}
-use Rattle.just_sched_history.proofs.Stretch.{matches_holds, option_there, sums_there}
+use Rattle.just_sched_history.proofs.Stretch.{begun_there, matches_holds, option_there, sums_there}
 use Rattle.just_sched_history.proofs.Tests.{any_kept, any_none, both, last_push, neither, not_true}
 
 -- ---- a history with its record
@@ -270,7 +270,10 @@ checked_shown fs outputs x e = subst (λ k. Contains k x) (sym e) (pushed (entry
 -- the part of a failed call shows the failure
 fault_shown : (s : Run) (h : List Event) (n : ℕ) (c : Call) (fs : List Entry) → FaultStandsFor s h n c fs → ShowsFailure c fs
 fault_shown s h n call.Ask fs b = inl (alone fs (entry.Failed call.Ask) b)
-fault_shown s h n call.Print fs b = inl (alone fs (entry.Failed call.Print) b.0)
+fault_shown s h n call.Print fs (inl b) =
+    let x = begun_there s h n (λ made. fs ≡ made ++ entry.Failed call.Print ∷ []) b.2 in
+    inl (subst (λ k. Contains k (entry.Failed call.Print)) (sym x.2) (pushed x.0 (entry.Failed call.Print)))
+fault_shown s h n call.Print fs (inr b) = inl (alone fs (entry.Failed call.Print) b.3)
 fault_shown s h n call.Temp fs b = inl (behind s h n (λ c. entry.Failed call.Temp) fs b).1
 fault_shown s h n call.Start fs b = inl (behind s h n (λ c. entry.Failed call.Start) fs b).1
 fault_shown s h n call.Wait fs (inl b) = inl (alone fs (entry.Failed call.Wait) b)

@@ -158,6 +158,6 @@ gave_due s h n (event.Gave m) may q = subst (λ k. (is_open h k ≡ true) × (is
 gave_due s h n _ may q = absurd (cc)
 
 -- a node that is skipped is in its body, and its look was full
-pub skip_due : (s : Run) (h : List Event) (n : ℕ) (e : Event) → May s h e → skips n e ≡ true → (in_body h n ≡ true) × (saw_full h n ≡ true)
-skip_due s h n (event.Skipped m) may q = subst (λ k. (in_body h k ≡ true) × (saw_full h k ≡ true)) (eqb-true m n q) may
+pub skip_due : (s : Run) (h : List Event) (n : ℕ) (e : Event) → May s h e → skips n e ≡ true → (in_body h n ≡ true) × (saw_full s.nodes h n ≡ true)
+skip_due s h n (event.Skipped m) may q = subst (λ k. (in_body h k ≡ true) × (saw_full s.nodes h k ≡ true)) (eqb-true m n q) may
 skip_due s h n _ may q = absurd (cc)

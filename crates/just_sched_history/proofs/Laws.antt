@@ -21,6 +21,7 @@ use Rattle.just_host_record.specs.World.{World}
 use Rattle.just_sched_history.specs.declared.plan_node.PlanNode.{PlanNode}
 use Rattle.just_sched_history.specs.CacheRule.{GoesByCacheRule, IsSkippedByLook}
 use Rattle.just_sched_history.specs.Cached.{is_cached, are_one_class}
+use Rattle.just_sched_history.specs.Effects.{IsMadeBy}
 use Rattle.just_sched_history.specs.Touched.{IsTouched, IsTouchedAt}
 use Rattle.just_sched_history.specs.Legal.{Run, IsLegal, IsComplete, all_starts}
 use Rattle.just_sched_history.specs.Match.{Matches}
@@ -29,7 +30,7 @@ use Rattle.just_sched_history.specs.State.{statuses, reason_of, next_step, caugh
 use Rattle.just_exec_work.specs.Steps.{after, commands_of}
 use Rattle.just_sched_history.proofs.CacheCauses.{input_shown, output_shown}
 use Rattle.just_sched_history.proofs.CacheRules.{each_apart, goes_by_rule, skipped_by_look}
-use Rattle.just_sched_history.proofs.Touching.{touched_told}
+use Rattle.just_sched_history.proofs.Touching.{made_touched, touched_told}
 use Rattle.just_sched_history.proofs.Causes.{last_end, status_failed, failed_code, guard_code, fault_caused, miss_caused, refusal_caused, signal_shown}
 use Rattle.just_sched_history.proofs.Grows.{grows_turn, move_apart, runs_on, others_open, closed_where}
 use Rattle.just_sched_history.proofs.Stretch.{matched_children, started}
@@ -102,6 +103,10 @@ rests_closed = closed_where
 pub turn_grows : (a b c : List Event) (n m k : ℕ) → m ≡ n → k ≡ m → GrowsBy a b m → GrowsOrCatches b c k → GrowsOrCatches a c n
 turn_grows = grows_turn
 
+-- What the events of a history make of a told world touches entries of the nodes' caches alone.
+pub made_touches : (s : Run) (h : List Event) (told new : Option World) → IsMadeBy s h told new → IsTouched s.nodes told new
+made_touches = made_touched
+
 -- What a run that started no child, and of which no call failed, leaves of a told world: it differs at most at the places of its caches.
 pub untouched_but_caches : (nodes : List PlanNode) (told new : Option World) → IsTouched nodes told new → IsTouchedAt nodes told new
 untouched_but_caches = touched_told
@@ -115,5 +120,5 @@ pub cache_rule : (s : Run) (h : List Event) (n : ℕ) → IsLegal s h → is_cac
 cache_rule = goes_by_rule
 
 -- In a complete history it is skipped exactly where its look was full, and else begun.
-pub cache_rule_complete : (s : Run) (h : List Event) (n : ℕ) → IsLegal s h → IsComplete s h → n < length s.nodes → IsSkippedByLook h n
+pub cache_rule_complete : (s : Run) (h : List Event) (n : ℕ) → IsLegal s h → IsComplete s h → n < length s.nodes → IsSkippedByLook s.nodes h n
 cache_rule_complete = skipped_by_look

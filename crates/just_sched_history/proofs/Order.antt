@@ -86,7 +86,7 @@ may_cached false looked full q m = absurd (cc)
 -- a cached body is begun once it was looked at
 pub looked_before_begun : (s : Run) (h : List Event) (n : ℕ) → IsLegal s h → is_cached s.nodes n ≡ true → is_begun h n ≡ true → is_looked_at h n ≡ true
 looked_before_begun s h n l c =
-    earlier s (begins n) (looks n) (λ k e legal m q. (may_cached (is_cached s.nodes n) (is_looked_at k n) (saw_full k n) c (begun_due s k n e m q).2).0) h l
+    earlier s (begins n) (looks n) (λ k e legal m q. (may_cached (is_cached s.nodes n) (is_looked_at k n) (saw_full s.nodes k n) c (begun_due s k n e m q).2).0) h l
 
 -- a cached body that wasn't looked at isn't begun
 pub unlooked_unbegun : (s : Run) (h : List Event) (n : ℕ) → IsLegal s h → is_cached s.nodes n ≡ true → is_looked_at h n ≡ false → is_begun h n ≡ false
@@ -98,19 +98,19 @@ look_no_begin n (event.Looked m sums seen) q = refl
 look_no_begin n _ q = absurd (cc)
 
 -- a body isn't begun behind a full look, by whether the event looks and begins
-full_by : (s : Run) (h : List Event) (n : ℕ) (e : Event) → IsLegal s h → May s h e → (saw_full h n ≡ true → is_begun h n ≡ false) → (a b : Bool) → looks n e ≡ a → begins n e ≡ b → saw_full (h ++ e ∷ []) n ≡ true → is_begun (h ++ e ∷ []) n ≡ false
+full_by : (s : Run) (h : List Event) (n : ℕ) (e : Event) → IsLegal s h → May s h e → (saw_full s.nodes h n ≡ true → is_begun h n ≡ false) → (a b : Bool) → looks n e ≡ a → begins n e ≡ b → saw_full s.nodes (h ++ e ∷ []) n ≡ true → is_begun (h ++ e ∷ []) n ≡ false
 full_by s h n e l may old true b q p full =
     let due = looked_due s h n e may q in
     any_none (begins n) h e (look_no_begin n e q) ∙ unlooked_unbegun s h n l due.1 due.2
 full_by s h n e l may old false true q p full =
-    let was = sym (full_stays h e n q) ∙ full in
-    let c = looked_cached s h n l (full_looked h n was) in
-    absurd (true≢false (sym was ∙ (may_cached (is_cached s.nodes n) (is_looked_at h n) (saw_full h n) c (begun_due s h n e may p).2).1))
-full_by s h n e l may old false false q p full = any_none (begins n) h e p ∙ old (sym (full_stays h e n q) ∙ full)
+    let was = sym (full_stays s.nodes h e n q) ∙ full in
+    let c = looked_cached s h n l (full_looked s.nodes h n was) in
+    absurd (true≢false (sym was ∙ (may_cached (is_cached s.nodes n) (is_looked_at h n) (saw_full s.nodes h n) c (begun_due s h n e may p).2).1))
+full_by s h n e l may old false false q p full = any_none (begins n) h e p ∙ old (sym (full_stays s.nodes h e n q) ∙ full)
 
 -- a body whose look was full isn't begun
-pub full_unbegun : (s : Run) (h : List Event) (n : ℕ) → IsLegal s h → saw_full h n ≡ true → is_begun h n ≡ false
-full_unbegun s h n l = legal_holds s (λ k. saw_full k n ≡ true → is_begun k n ≡ false) (λ q. refl) (λ k e legal old m. full_by s k n e legal m old (looks n e) (begins n e) refl refl) h l
+pub full_unbegun : (s : Run) (h : List Event) (n : ℕ) → IsLegal s h → saw_full s.nodes h n ≡ true → is_begun h n ≡ false
+full_unbegun s h n l = legal_holds s (λ k. saw_full s.nodes k n ≡ true → is_begun k n ≡ false) (λ q. refl) (λ k e legal old m. full_by s k n e legal m old (looks n e) (begins n e) refl refl) h l
 
 -- a skip isn't a begin
 skip_no_begin : (n : ℕ) (e : Event) → skips n e ≡ true → begins n e ≡ false

@@ -1,6 +1,7 @@
 -- What is known of the places, the lists and the flags stays so as more nodes are wanted and finished.
-use Rattle.std.proofs.Common.{◌≡◌, ℕ, ◌<◌, ◌⊎◌, ⊎_elim, Bool, true, false, List, [], length, map, sym, ◌∙◌, ap, subst, arith}
+use Rattle.std.proofs.Common.{◌≡◌, ℕ, ◌<◌, ◌≤◌, ◌⊎◌, ⊎_elim, not, Bool, true, false, List, [], length, map, sym, ◌∙◌, ap, subst, arith}
 use Rattle.std.proofs.lemmas.Grind.{get_or_default_zero}
+use Rattle.std.proofs.lemmas.List.Sums.{count_by-le-length}
 use Rattle.std.specs.Prelude.{slice_index, slice_index_or, Contains, vec_capacity}
 use Rattle.just_sched_history.specs.declared.event.Event.{Event}
 use Rattle.just_sched_history.specs.declared.plan_node.PlanNode.{PlanNode}
@@ -8,8 +9,8 @@ use Rattle.just_sched_history.specs.declared.progress.Progress.{Progress}
 use Rattle.just_sched_history.specs.Nodes.{priors_at, subsequents_at, parallel_at}
 use Rattle.just_sched_history.specs.State.{IsFinished, subsequent}
 use Rattle.just_sched_history.specs.Tables.{flag}
-use Rattle.just_sched_history.specs.Led.{IsRaised, IsBefore, MayFollow, AreUp, AreBefore}
-use Rattle.just_sched_history.specs.Progress.{IsPlaced, IsTold}
+use Rattle.just_sched_history.specs.Led.{IsRaised, IsBefore, MayFollow, AreUp, AreBefore, place_of}
+use Rattle.just_sched_history.specs.Progress.{dependents_at, IsPlaced, IsTold}
 use Rattle.just_sched_history.proofs.PlanLaws.{contains_at}
 use Rattle.just_sched_history.proofs.PriorsLed.{follow_any}
 use Rattle.just_sched_history.proofs.WantedLaws.{leads_weaker}
@@ -70,3 +71,26 @@ told_through nodes invocations h p q at lt up over_is finished_is confirmed_is o
       (follow_any p.finished.items (parallel_at nodes at) (subsequents_at nodes at) k next)))
       (only k raised);
 }
+
+-- ---- at the start
+
+-- no one stands before the first place of a list
+before_none : (finished wanted : List Bool) (xs : List ℕ) (place : ℕ) → place ≡ 0 → IsBefore finished wanted xs place
+before_none finished wanted xs place first = (omega (arith, first), λ j lt. absurd (omega (arith, lt, first)))
+
+-- where no list is begun and nothing is pending, each place is one up to which all are finished
+pub placed_blank : (nodes : List PlanNode) (invocations : List ℕ) (p : Progress) → p.invocations ≡ 0 → ((m : ℕ) → place_of p.priors.items m ≡ 0) → ((m : ℕ) → place_of p.subsequents.items m ≡ 0) → p.pending.items ≡ []
+    → length p.wanted.items ≤ vec_capacity p.pending → ((m q : ℕ) → Contains (priors_at nodes m) q → Contains (dependents_at p q) m) → ((m q : ℕ) → Contains (dependents_at p q) m → m < length nodes)
+    → IsPlaced nodes invocations p
+placed_blank nodes invocations p invoked priors subsequents none room dependents inside = record {
+  invoked = before_none p.finished.items p.wanted.items invocations p.invocations invoked;
+  priors = λ m. before_none p.finished.items p.wanted.items (priors_at nodes m) (place_of p.priors.items m) (priors m);
+  subsequents = λ m. before_none p.finished.items p.wanted.items (subsequents_at nodes m) (place_of p.subsequents.items m) (subsequents m);
+  listed = λ k at. absurd (no_member k (subst (λ (xs : List ℕ). Contains xs k) none at));
+  room = omega (arith, ap length none, room, count_by-le-length not p.wanted.items);
+  dependents = dependents;
+  inside = inside;
+}
+  where
+    no_member : (k : ℕ) → Contains [] k → ⊥
+    no_member k at = omega (arith, at.1)

@@ -8,7 +8,6 @@ use Rattle.just_host_record.specs.declared.entry.Call.TheVariants as call
 use Rattle.just_host_record.specs.declared.entry.Entry.{Entry}
 use Rattle.just_host_record.specs.declared.entry.Entry.TheVariants as entry
 use Rattle.just_host_record.specs.declared.entry.Look.{Look}
-use Rattle.just_host_record.specs.declared.entry.Stream.TheVariants as stream
 use Rattle.just_host_record.specs.Record.{children, is_failed, is_missed, is_started as is_child, script_folder}
 use Rattle.just_sched_history.specs.declared.event.Event.{Event}
 use Rattle.just_sched_history.specs.declared.event.Event.TheVariants as event
@@ -20,7 +19,7 @@ use Rattle.just_sched_history.specs.Nodes.{cache_at, prompt_at, banner_at, comma
 use Rattle.just_sched_history.specs.Legal.{Run, Due, Asked, Looked, Begun, Started, Ended, Saved, all_starts, is_start}
 use Rattle.just_sched_history.specs.declared.cache_plan.CachePlan.{CachePlan}
 use Rattle.just_sched_history.specs.Cached.{entry_of, seen_at}
-use Rattle.just_sched_history.specs.Match.{printed_entries, is_yes, started_entries, summed_entries, looked_entries, saved_entries, OfCache, OfSums, SumsFirst, BehindEcho, DueEntries, FailureStandsFor, FaultStandsFor, MissStandsFor, StandsFor, MatchesFrom, Matches}
+use Rattle.just_sched_history.specs.Match.{printed_entries, is_yes, started_entries, summed_entries, looked_entries, saved_entries, begun_entries, OfCache, OfSums, OfBegun, SumsFirst, BehindEcho, DueEntries, FailureStandsFor, FaultStandsFor, MissStandsFor, StandsFor, MatchesFrom, Matches}
 use Rattle.just_sched_history.proofs.Order.{none_zero}
 use Rattle.just_sched_history.proofs.Tests.{all_both, both, count_more, count_none, count_now}
 
@@ -90,6 +89,21 @@ sums_there s h n fact b =
     let x = option_there (λ (seen : List (List ℕ) × Look). fact c.0 seen.0) (seen_at h n) c.1 in
     (c.0, x.0.0, x.1)
 
+-- what holds of what a node's cache makes as the body begins holds of some quiet entries
+pub begun_there : (s : Run) (h : List Event) (n : ℕ) (fact : List Entry → Type 0) → OfBegun s h n fact → (made : List Entry) × (list_all is_quiet made ≡ true) × fact made
+begun_there s h n fact b = by_cache (cache_at s.nodes n) b
+  where
+    by_cache : (o : Option CachePlan) → MatchOption o (fact []) (λ c. MatchOption (seen_at h n) ⊥ (λ seen. fact (begun_entries c seen.0))) → (made : List Entry) × (list_all is_quiet made ≡ true) × fact made
+    by_cache None p = ([], refl, p)
+    by_cache (Some c) p =
+        let x = option_there (λ (seen : List (List ℕ) × Look). fact (begun_entries c seen.0)) (seen_at h n) p in
+        (begun_entries c x.0.0, refl, x.1)
+
+-- what each item of two lists passes, each passes of the one behind the other
+all_append : {A : Type 0} (p : A → Bool) (xs ys : List A) → list_all p xs ≡ true → list_all p ys ≡ true → list_all p (xs ++ ys) ≡ true
+all_append p [] ys a b = b
+all_append p (x ∷ xs) ys a b = let c = both (p x) (list_all p xs) a in all_both (p x) (list_all p (xs ++ ys)) c.0 (all_append p xs ys c.1 b)
+
 -- a test that no quiet entry passes, quiet entries fail
 quiet_passes_no : (p : Entry → Bool) → ((x : Entry) → is_quiet x ≡ true → p x ≡ false) → (fs : List Entry) → list_all is_quiet fs ≡ true → list_any p fs ≡ false
 quiet_passes_no p plain [] a = refl
@@ -147,7 +161,10 @@ miss_broke s h n _ m fs b = absurd b
 -- a call that failed stands for its failure, behind quiet entries
 pub fault_broke : (s : Run) (h : List Event) (n : ℕ) (c : Call) (fs : List Entry) → FaultStandsFor s h n c fs → EndsIn is_failed fs
 fault_broke s h n call.Ask fs b = broke_alone is_failed fs (entry.Failed call.Ask) refl b
-fault_broke s h n call.Print fs b = broke_alone is_failed fs (entry.Failed call.Print) refl b.0
+fault_broke s h n call.Print fs (inl b) =
+    let x = begun_there s h n (λ made. fs ≡ made ++ entry.Failed call.Print ∷ []) b.2 in
+    record { before = x.0; last = entry.Failed call.Print; is = x.2; printed = x.1; passes = refl }
+fault_broke s h n call.Print fs (inr b) = broke_alone is_failed fs (entry.Failed call.Print) refl b.3
 fault_broke s h n call.Temp fs b = broke_behind is_failed s h n (λ c. entry.Failed call.Temp) fs (λ c. refl) b
 fault_broke s h n call.Start fs b = broke_behind is_failed s h n (λ c. entry.Failed call.Start) fs (λ c. refl) b
 fault_broke s h n call.Wait fs (inl b) = broke_alone is_failed fs (entry.Failed call.Wait) refl b
@@ -160,11 +177,6 @@ fault_broke s h n call.Save fs b =
     broke_checked is_failed fs c.0.outputs (entry.Failed call.Save) refl c.1
 fault_broke s h n _ fs b = absurd b
 
--- a first part of a banner is quiet
-memory_banner : (text : List ℕ) (fs rest : List Entry) → printed_entries text ≡ fs ++ rest → (rest ≡ [] → ⊥) → list_all is_quiet fs ≡ true
-memory_banner [] fs rest e some = absurd (some (nothing_behind fs rest e))
-memory_banner (b ∷ bs) fs rest e some = front_quiet [] (entry.Printed stream.Err (b ∷ bs)) fs rest refl e some
-
 -- want of memory stands for quiet entries alone
 pub memory_quiet : (s : Run) (h : List Event) (n : ℕ) (d : Due) (fs rest all : List Entry) → DueEntries s h n d all → all ≡ fs ++ rest → (rest ≡ [] → ⊥) → list_all is_quiet fs ≡ true
 memory_quiet s h n Asked fs rest all due e some =
@@ -173,7 +185,10 @@ memory_quiet s h n Asked fs rest all due e some =
 memory_quiet s h n Looked fs rest all due e some =
     let c = option_there (λ c. (sums : List (List ℕ)) × (seen : Look) × (length sums ≡ length c.paths) × (all ≡ looked_entries c sums seen)) (cache_at s.nodes n) due in
     front_quiet (summed_entries c.0.paths c.1.0) (entry.Probed (entry_of c.0 c.1.0) c.0.outputs c.1.1) fs rest (summed_is c.0.paths c.1.0) (sym c.1.3 ∙ e) some
-memory_quiet s h n Begun fs rest all due e some = memory_banner (banner_at s.nodes n) fs rest (sym due ∙ e) some
+memory_quiet s h n Begun fs rest all due e some =
+    let banner = printed_entries (banner_at s.nodes n) in
+    let x = begun_there s h n (λ made. all ≡ made ++ banner) due in
+    all_front is_quiet fs rest (ap (λ k. list_all is_quiet k) (sym e ∙ x.2) ∙ all_append is_quiet x.0 banner x.1 (printed_is (banner_at s.nodes n)))
 memory_quiet s h n (Started i) fs rest all due e some =
     let c = option_there (λ c. (child : ℕ) × (all ≡ started_entries child c)) (command_at s.nodes n i) due in
     front_quiet (printed_entries c.0.echo) (entry.Started c.1.0 c.0.spec) fs rest (printed_is c.0.echo) (sym c.1.1 ∙ e) some
@@ -225,7 +240,10 @@ stands_children s h (event.Looked n sums seen) fs b =
     ap children c.1 ∙ count_none is_child (summed_entries c.0.paths sums) (entry.Probed (entry_of c.0 sums) c.0.outputs seen) refl
     ∙ none_zero is_child (summed_entries c.0.paths sums) (quiet_passes_no is_child quiet_no_child (summed_entries c.0.paths sums) (summed_is c.0.paths sums))
 stands_children s h (event.Skipped n) fs b = ap children b
-stands_children s h (event.Begun n) fs b = ap children b ∙ printed_children (banner_at s.nodes n)
+stands_children s h (event.Begun n) fs b =
+    let banner = printed_entries (banner_at s.nodes n) in
+    let x = begun_there s h n (λ made. fs ≡ made ++ banner) b in
+    ap children x.2 ∙ none_zero is_child (x.0 ++ banner) (quiet_passes_no is_child quiet_no_child (x.0 ++ banner) (all_append is_quiet x.0 banner x.1 (printed_is (banner_at s.nodes n))))
 stands_children s h (event.Started n i child) fs b =
     let c = option_there (λ c. fs ≡ started_entries child c) (command_at s.nodes n i) b in
     ap children c.1 ∙ count_now is_child (printed_entries c.0.echo) (entry.Started child c.0.spec) refl ∙ ap (λ k. k + 1) (printed_children c.0.echo)

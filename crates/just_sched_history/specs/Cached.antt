@@ -55,19 +55,23 @@ look_of n (event.Done m o) = None
 look_of n (event.Gave m) = None
 look_of n (event.Caught s) = None
 
--- the sums of an event that is a look; none of another
-abbrev pub sums_in : Option Event → List (List ℕ)
-sums_in (Some (event.Looked m sums seen)) = sums
-sums_in (Some (event.Asked m y)) = []
-sums_in (Some (event.Took m)) = []
-sums_in (Some (event.Skipped m)) = []
-sums_in (Some (event.Begun m)) = []
-sums_in (Some (event.Started m i c)) = []
-sums_in (Some (event.Ended m i c s)) = []
-sums_in (Some (event.Saved m)) = []
-sums_in (Some (event.Done m o)) = []
-sums_in (Some (event.Gave m)) = []
-sums_in (Some (event.Caught s)) = []
+-- the sums and the look of an event that is a look, of whichever node
+abbrev pub look_in : Event → Option (List (List ℕ) × Look)
+look_in (event.Looked m sums seen) = Some (sums, seen)
+look_in (event.Asked m y) = None
+look_in (event.Took m) = None
+look_in (event.Skipped m) = None
+look_in (event.Begun m) = None
+look_in (event.Started m i c) = None
+look_in (event.Ended m i c s) = None
+look_in (event.Saved m) = None
+look_in (event.Done m o) = None
+look_in (event.Gave m) = None
+look_in (event.Caught s) = None
+
+-- the sums of a look that may be there
+abbrev pub sums_in : Option (List (List ℕ) × Look) → List (List ℕ)
+sums_in (Some seen) = seen.0
 sums_in None = []
 
 -- ---- the states
@@ -88,20 +92,21 @@ is_full look.Full = true
 is_full look.Empty = false
 is_full (look.OutputMissing j) = false
 
-abbrev pub full_in : Option (List (List ℕ) × Look) → Bool
-full_in (Some seen) = is_full seen.1
-full_in None = false
+-- what was seen lets the node's body be skipped: its entry wasn't empty, and each of its outputs was there
+abbrev pub full_in : List PlanNode → ℕ → Option (List (List ℕ) × Look) → Bool
+full_in nodes n (Some seen) = is_full seen.1
+full_in nodes n None = false
 
--- its entry wasn't empty and each of its outputs was there, as it was looked at
-abbrev pub saw_full : List Event → ℕ → Bool
-saw_full h n = full_in (seen_at h n)
+-- so it was as its entry was looked at
+abbrev pub saw_full : List PlanNode → List Event → ℕ → Bool
+saw_full nodes h n = full_in nodes n (seen_at h n)
 
 abbrev pub is_cached : List PlanNode → ℕ → Bool
 is_cached nodes n = is_some (cache_at nodes n)
 
 -- no cache keeps its body from being begun: it has none, or was looked at with a look that isn't full
 abbrev pub may_begin : List PlanNode → List Event → ℕ → Bool
-may_begin nodes h n = not (is_cached nodes n) || (is_looked_at h n && not (saw_full h n))
+may_begin nodes h n = not (is_cached nodes n) || (is_looked_at h n && not (saw_full nodes h n))
 
 -- what a body that ended well owes its cache is done
 abbrev pub owes_nothing : List PlanNode → List Event → ℕ → Bool

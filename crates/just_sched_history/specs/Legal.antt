@@ -139,7 +139,7 @@ abbrev pub May : Run → List Event → Event → Type 0
 May s h (event.Asked n y) = IsDue s h n Asked × (has_caught h ≡ false)
 May s h (event.Took n) = IsReady s.nodes s.invocations h n × (has_caught h ≡ false) × MatchOption s.jobs (Unit {0}) (λ j. open_bodies s h < j) × (class_is_open s.nodes h n ≡ false)
 May s h (event.Looked n sums seen) = IsDue s h n Looked × (length sums ≡ length (paths_in (cache_at s.nodes n)))
-May s h (event.Skipped n) = (in_body h n ≡ true) × (saw_full h n ≡ true)
+May s h (event.Skipped n) = (in_body h n ≡ true) × (saw_full s.nodes h n ≡ true)
 May s h (event.Begun n) = IsDue s h n Begun
 May s h (event.Started n i c) = IsDue s h n (Started i) × (has_caught h ≡ false) × (c ≡ s.base + all_starts h)
 May s h (event.Ended n i c status) = IsDue s h n Ended × (last_start h n ≡ Some (i, c))

@@ -5,6 +5,7 @@ pub mod Cached
 pub mod Causes
 pub mod Classes
 pub mod Covered
+pub mod Effects
 pub mod Favourable
 pub mod Idle
 pub mod Led

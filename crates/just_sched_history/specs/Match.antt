@@ -46,6 +46,10 @@ looked_entries c sums seen = summed_entries c.paths sums ++ entry.Probed (entry_
 abbrev pub saved_entries : CachePlan → List (List ℕ) → List Entry
 saved_entries c sums = entry.Checked c.outputs None ∷ entry.Saved (entry_of c sums) ∷ []
 
+-- the entries of what a cache does as a body begins, before its banner, with the sums of its look: it does nothing
+abbrev pub begun_entries : CachePlan → List (List ℕ) → List Entry
+begun_entries c sums = []
+
 -- a fact of the cache of a node
 abbrev pub OfCache : Run → ℕ → (CachePlan → Type 0) → Type 0
 OfCache s n fact = MatchOption (cache_at s.nodes n) ⊥ fact
@@ -53,6 +57,15 @@ OfCache s n fact = MatchOption (cache_at s.nodes n) ⊥ fact
 -- a fact of it and of the sums of its look
 abbrev pub OfSums : Run → List Event → ℕ → (CachePlan → List (List ℕ) → Type 0) → Type 0
 OfSums s h n fact = OfCache s n (λ c. MatchOption (seen_at h n) ⊥ (λ seen. fact c seen.0))
+
+-- a fact of what a node's cache makes as the body begins; a node without a cache makes nothing
+abbrev pub OfBegun : Run → List Event → ℕ → (List Entry → Type 0) → Type 0
+OfBegun s h n fact =
+    MatchOption (cache_at s.nodes n) (fact []) (λ c. MatchOption (seen_at h n) ⊥ (λ seen. fact (begun_entries c seen.0)))
+
+-- the entries of a body that begins: what its cache makes, and its banner
+abbrev pub BeginsBy : Run → List Event → ℕ → List Entry → Type 0
+BeginsBy s h n es = OfBegun s h n (λ made. es ≡ made ++ printed_entries (banner_at s.nodes n))
 
 -- so many sums, of the first of a cache's inputs, and what they make
 abbrev pub SumsFirst : CachePlan → (ℕ → Type 0) → (List (List ℕ) → List Entry) → List Entry → Type 0
@@ -62,7 +75,7 @@ SumsFirst c many made es = (sums : List (List ℕ)) × many (length sums) × (es
 abbrev pub DueEntries : Run → List Event → ℕ → Due → List Entry → Type 0
 DueEntries s h n Asked es = MatchOption (prompt_at s.nodes n) ⊥ (λ p. (answer : List ℕ) × (es ≡ entry.Asked p answer ∷ []))
 DueEntries s h n Looked es = OfCache s n (λ c. (sums : List (List ℕ)) × (seen : Look) × (length sums ≡ length c.paths) × (es ≡ looked_entries c sums seen))
-DueEntries s h n Begun es = es ≡ printed_entries (banner_at s.nodes n)
+DueEntries s h n Begun es = BeginsBy s h n es
 DueEntries s h n (Started i) es = MatchOption (command_at s.nodes n i) ⊥ (λ c. (child : ℕ) × (es ≡ started_entries child c))
 DueEntries s h n Ended es = ⊥
 DueEntries s h n Saved es = OfSums s h n (λ c sums. es ≡ saved_entries c sums)
@@ -75,16 +88,25 @@ IsStranger h child = (n i : ℕ) → is_running h n ≡ true → last_start h n 
 abbrev pub BehindEcho : Run → List Event → ℕ → (Command → List Entry) → List Entry → Type 0
 BehindEcho s h n made es = (i : ℕ) × IsDue s h n (Started i) × MatchOption (command_at s.nodes n i) ⊥ (λ c. es ≡ printed_entries c.echo ++ made c)
 
--- what stands behind a text that failed to be printed: the banner as the body begins, or the echo of a command
-abbrev pub PrintFails : Run → List Event → ℕ → List Entry → Type 0
-PrintFails s h n es =
-    (es ≡ entry.Failed call.Print ∷ [])
-    × ((IsDue s h n Begun × (printed_entries (banner_at s.nodes n) ≢ [])) ⊎ ((i : ℕ) × IsDue s h n (Started i) × MatchOption (command_at s.nodes n i) ⊥ (λ c. printed_entries c.echo ≢ [])))
+-- the banner failed to be printed, behind what the cache had made as the body began
+abbrev pub BannerFails : Run → List Event → ℕ → List Entry → Type 0
+BannerFails s h n es =
+    IsDue s h n Begun
+    × (printed_entries (banner_at s.nodes n) ≢ [])
+    × OfBegun s h n (λ made. es ≡ made ++ entry.Failed call.Print ∷ [])
+
+-- the echo of a command failed to be printed
+abbrev pub EchoFails : Run → List Event → ℕ → List Entry → Type 0
+EchoFails s h n es =
+    (i : ℕ)
+    × IsDue s h n (Started i)
+    × MatchOption (command_at s.nodes n i) ⊥ (λ c. printed_entries c.echo ≢ [])
+    × (es ≡ entry.Failed call.Print ∷ [])
 
 -- the entries of a body that a failed call ended: what its due event had made before, and then the failure
 abbrev pub FaultStandsFor : Run → List Event → ℕ → Call → List Entry → Type 0
 FaultStandsFor s h n call.Ask es = es ≡ entry.Failed call.Ask ∷ []
-FaultStandsFor s h n call.Print es = PrintFails s h n es
+FaultStandsFor s h n call.Print es = BannerFails s h n es ⊎ EchoFails s h n es
 FaultStandsFor s h n call.Temp es = BehindEcho s h n (λ c. entry.Failed call.Temp ∷ []) es
 FaultStandsFor s h n call.Start es = BehindEcho s h n (λ c. entry.Failed call.Start ∷ []) es
 FaultStandsFor s h n call.Wait es =
@@ -148,7 +170,7 @@ StandsFor s h (event.Asked n y) es = MatchOption (prompt_at s.nodes n) ⊥ (λ p
 StandsFor s h (event.Took n) es = es ≡ []
 StandsFor s h (event.Looked n sums seen) es = OfCache s n (λ c. es ≡ looked_entries c sums seen)
 StandsFor s h (event.Skipped n) es = es ≡ []
-StandsFor s h (event.Begun n) es = es ≡ printed_entries (banner_at s.nodes n)
+StandsFor s h (event.Begun n) es = BeginsBy s h n es
 StandsFor s h (event.Started n i child) es = MatchOption (command_at s.nodes n i) ⊥ (λ c. es ≡ started_entries child c)
 StandsFor s h (event.Ended n i child status) es = es ≡ entry.Ended child status ∷ []
 StandsFor s h (event.Saved n) es = OfSums s h n (λ c sums. es ≡ saved_entries c sums)

@@ -1,5 +1,5 @@
 -- What a book's table says of each node.
-use Rattle.std.specs.Prelude.{ℕ, ◌≡◌, ◌+◌, ◌<◌, ◌||◌, true, cond, List, [], length, slice_get, slice_index_or, is_some, option_map, Bool, Option, Some, None}
+use Rattle.std.specs.Prelude.{ℕ, ◌≡◌, ◌+◌, ◌<◌, ◌||◌, true, cond, List, [], length, slice_get, slice_index_or, is_some, option_map, Option, Some, None}
 use Rattle.std.specs.List.{last_or}
 use Rattle.just_host_record.specs.declared.entry.Look.{Look}
 use Rattle.just_sched_history.specs.declared.event.Event.{Event}
@@ -7,7 +7,7 @@ use Rattle.just_sched_history.specs.declared.event.Event.TheVariants as event
 use Rattle.just_sched_history.specs.declared.plan_node.PlanNode.{PlanNode}
 use Rattle.just_sched_history.specs.declared.row.Row.{Row}
 use Rattle.just_sched_history.specs.declared.tables.Tables.{Tables}
-use Rattle.just_sched_history.specs.Cached.{saves, look_of, is_saved, seen_at, is_full}
+use Rattle.just_sched_history.specs.Cached.{saves, look_of, is_saved, seen_at}
 use Rattle.just_sched_history.specs.Classes.{AreClasses, AreOpen}
 use Rattle.just_sched_history.specs.Nodes.{prompt_at}
 use Rattle.just_sched_history.specs.Progress.{IsPlaced, IsClosedBut, IsTold}
@@ -15,10 +15,10 @@ use Rattle.just_sched_history.specs.Covered.{AreCoveredBy}
 use Rattle.just_sched_history.specs.State.{takes, gives, begins, skips, starts, start_count, concludes, concludes_well, status_of, start_of, reason_in, has_taken, has_given, is_begun, is_skipped, is_done, is_over_well, is_confirmed, statuses, last_start, reason_of}
 use Rattle.just_sched_history.specs.Tables.{flag, or_first}
 
--- where in the history the node's look is told, and whether that was full; none where its entry wasn't looked at
-abbrev pub IsLookRow : List Event → ℕ → Option (ℕ × Bool) → Type 0
+-- where in the history the node's look is told; none where its entry wasn't looked at
+abbrev pub IsLookRow : List Event → ℕ → Option ℕ → Type 0
 IsLookRow h n None = seen_at h n ≡ None
-IsLookRow h n (Some place) = (seen : List (List ℕ) × Look) × (seen_at h n ≡ Some seen) × (slice_get h place.0 ≡ Some (event.Looked n seen.0 seen.1)) × (place.1 ≡ is_full seen.1)
+IsLookRow h n (Some place) = (seen : List (List ℕ) × Look) × (seen_at h n ≡ Some seen) × (slice_get h place ≡ Some (event.Looked n seen.0 seen.1))
 
 -- the row says of the node what the history says
 pub record IsRow (h : List Event) (n : ℕ) (r : Row) : Type 0 where
@@ -53,7 +53,7 @@ pub record IsTurned (n place : ℕ) (e : Event) (old new : Row) : Type 0 where
   pub ended : new.ended ≡ old.ended + cond (is_some (status_of n e)) 1 0
   pub last : new.last ≡ or_first (status_of n e) old.last
   pub reason : new.reason ≡ or_first old.reason (reason_in n e)
-  pub look : new.look ≡ or_first old.look (option_map (λ seen. (place, is_full seen.1)) (look_of n e))
+  pub look : new.look ≡ or_first old.look (option_map (λ seen. place) (look_of n e))
   pub saved : new.saved ≡ (old.saved || saves n e)
 
 -- The tables of a book say of each node what the history says: its row, and how far the run has come; of what is to be

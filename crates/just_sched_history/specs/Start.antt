@@ -6,9 +6,9 @@ use Rattle.just_host_record.specs.Record.{children, is_failed}
 use Rattle.just_host_record.specs.World.{World}
 use Rattle.just_sched_history.specs.declared.event.Event.{Event}
 use Rattle.just_sched_history.specs.declared.plan.Plan.{Plan}
+use Rattle.just_sched_history.specs.Effects.{IsMadeBy}
 use Rattle.just_sched_history.specs.Legal.{Run, IsLegal, all_starts}
 use Rattle.just_sched_history.specs.Match.{Matches}
-use Rattle.just_sched_history.specs.Touched.{IsTouched}
 
 -- the plan, the job limit if there is one, and the host's record and told world
 pub record Start : Type 0 where
@@ -26,14 +26,14 @@ abbrev pub run_of : Start → Run
 run_of s = run_over s.plan s.jobs s.entries
 
 -- A history that was made since then, over a host whose record and told world are these now: the history is legal, it
--- matches what the record gained, and where no child was started and no call failed, the world is as it was but for entries of the nodes'
--- caches.
+-- matches what the record gained, and where no child was started and no call failed, the world is what the history's events make of the one at
+-- the start.
 pub record IsKept (s : Start) (h : List Event) (now : List Entry) (world : Option World) : Type 0 where
   pub legal : IsLegal (run_of s) h
   pub gained : List Entry
   pub grew : now ≡ s.entries ++ gained
   pub matches : Matches (run_of s) h gained
-  pub untouched : all_starts h ≡ 0 → list_any is_failed gained ≡ false → IsTouched s.plan.nodes s.world world
+  pub made : all_starts h ≡ 0 → list_any is_failed gained ≡ false → IsMadeBy (run_of s) h s.world world
 
 -- what a run is of that has this plan, this job limit and a host with this record and told world
 abbrev pub start_with : Plan → Option ℕ → List Entry → Option World → Start

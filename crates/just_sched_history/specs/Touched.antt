@@ -15,15 +15,16 @@ pub data Touches (nodes : List PlanNode) (w : World) : World → Type 0 where
   looked : (v : World) (n : ℕ) (c : CachePlan) (sums : List (List ℕ)) (tree : Tree) → Touches nodes w v → cache_at nodes n ≡ Some c → with_cache_entry v (entry_of c sums) ≡ Ok tree → Touches nodes w (with_tree v tree)
   saved : (v : World) (n : ℕ) (c : CachePlan) (sums : List (List ℕ)) (tree : Tree) → Touches nodes w v → cache_at nodes n ≡ Some c → written v (entry_of c sums) (saved_text c) ≡ Ok tree → Touches nodes w (with_tree v tree)
 
--- a told world after a call that changes files so, which it may leave as it was; a world that isn't told stays so
+-- a told world behind a call that makes these files of it; a world that isn't told stays so
 abbrev pub IsChangedBy : (World → Result Tree Miss) → Option World → Option World → Type 0
-IsChangedBy change told new = (new ≡ told) ⊎ ((w : World) × (tree : Tree) × (told ≡ Some w) × (change w ≡ Ok tree) × (new ≡ Some (with_tree w tree)))
+IsChangedBy change None new = new ≡ None
+IsChangedBy change (Some w) new = (tree : Tree) × (change w ≡ Ok tree) × (new ≡ Some (with_tree w tree))
 
--- a look at an entry made it, empty, where it lacked, or nothing
+-- a look at an entry made it, empty, where it lacked
 abbrev pub IsLooked : List ℕ → Option World → Option World → Type 0
 IsLooked path told new = IsChangedBy (λ w. with_cache_entry w path) told new
 
--- an entry was made to hold this text, or nothing was done
+-- an entry was made to hold this text
 abbrev pub IsWritten : List ℕ → List ℕ → Option World → Option World → Type 0
 IsWritten path text told new = IsChangedBy (λ w. written w path text) told new
 

@@ -1,7 +1,7 @@
 //! What a book notes in its tables, and what it reads there. Only the making of the tables takes memory.
 
 ghost use Rattle.std.specs.Prelude.{◌≡◌, ◌&&◌, not, ◌+◌, ◌<◌, ◌≤◌, ◌++◌, ◌∷◌, [], ℕ, true, false, length, vec_len, vec_capacity, slice_index_or, IfOk, IfSome, IfNone, is_some, Some, MatchOption};
-ghost use Rattle.just_sched_history.specs.Cached.{is_looked_at, seen_at, sums_in};
+ghost use Rattle.just_sched_history.specs.Cached.{is_looked_at, seen_at, look_in, sums_in, is_full, full_in, saw_full};
 ghost use Rattle.just_sched_history.specs.Classes.{KeepsClasses};
 ghost use Rattle.just_sched_history.specs.Rows.{IsNoted, IsTable};
 ghost use Rattle.just_sched_history.specs.Turns.{IsTurn};
@@ -23,7 +23,7 @@ use super::turn::Turn;
 use super::verdict::verdict_by;
 use super::{Event, NodeState, Outcome, Plan, Reason, Verdict};
 use crate::NumberSet;
-use just_host_record::Signal;
+use just_host_record::{Look, Signal};
 use just_path_text::NoMemory;
 use std::alloc::Global;
 
@@ -36,11 +36,32 @@ fn is_open(row: Row) -> bool
 
 /// The sums of an event that is a look; none of another.
 fn sums_in(event: &Event) -> &[[u8; 32]]
-    ensures { result.now ≡ sums_in (Some event.now) }
+    ensures { result.now ≡ sums_in (look_in event.now) }
 {
     match event {
         Event::Looked(_, sums, _) => sums.as_slice(),
         _ => &[],
+    }
+}
+
+/// Whether the entry wasn't empty and each output was there.
+fn is_full(seen: &Look) -> bool
+    ensures { result ≡ is_full seen.now }
+{
+    match seen {
+        Look::Full => true,
+        Look::Empty | Look::OutputMissing(_) => false,
+    }
+}
+
+/// Whether an event is a look that lets the node's body be skipped.
+fn shows_full(plan: &Plan, node: u32, event: &Event) -> bool
+    ensures { result ≡ full_in plan.now.nodes node (look_in event.now) }
+{
+    let _nodes = plan.nodes.len();
+    match event {
+        Event::Looked(_, _, seen) => is_full(seen),
+        _ => false,
     }
 }
 
@@ -165,11 +186,26 @@ impl Tables {
         requires looked { is_looked_at history.now node ≡ true }
         ensures { MatchOption (seen_at history.now node) ⊥ (λ seen. result.now ≡ seen.0) }
     {
-        let Some((place, _)) = self.row(node).look else {
+        let Some(place) = self.row(node).look else {
             unreachable!()
         };
         match history.get(place) {
             Some(event) => sums_in(event),
+            None => unreachable!(),
+        }
+    }
+
+    /// Whether the look of a node was full. It takes no memory.
+    pub fn saw_full(&self, plan: &Plan, history: &[Event], node: u32) -> bool
+        requires within { node < self.now.size }
+        requires table { ∥ IsTable history.now self.now.rows.items ∥₁ }
+        ensures { result ≡ saw_full plan.now.nodes history.now node }
+    {
+        let Some(place) = self.row(node).look else {
+            return false;
+        };
+        match history.get(place) {
+            Some(event) => shows_full(plan, node, event),
             None => unreachable!(),
         }
     }

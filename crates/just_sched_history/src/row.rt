@@ -3,12 +3,11 @@
 ghost use Rattle.std.specs.Prelude.{◌≡◌, ◌+◌, ◌<◌, ◌^◌, ◌&&◌, not, nat_lt, ◌++◌, ◌∷◌, [], ℕ, true, false, List, length, vec_len, slice_index_or};
 ghost use Rattle.just_sched_history.specs.declared.event.Event.{Event};
 ghost use Rattle.just_sched_history.specs.declared.row.Row.{Row};
-ghost use Rattle.just_sched_history.specs.Cached.{is_full};
 ghost use Rattle.just_sched_history.specs.State.{is_of, node_of};
 ghost use Rattle.just_sched_history.specs.Rows.{IsTable, IsTurned};
 
 use super::{Event, Outcome, Reason};
-use just_host_record::{Look, Status};
+use just_host_record::Status;
 
 /// What the events so far say of one node.
 #[derive(Clone, Copy)]
@@ -30,8 +29,8 @@ pub struct Row {
     pub last: Option<Status>,
     /// Why it failed, if it did.
     pub reason: Option<Reason>,
-    /// Where in the history its look is told, and whether that was full.
-    pub look: Option<(usize, bool)>,
+    /// Where in the history its look is told.
+    pub look: Option<usize>,
     pub saved: bool,
 }
 
@@ -51,16 +50,6 @@ pub(crate) const BLANK: Row = Row {
     look: None,
     saved: false,
 };
-
-/// Whether the entry wasn't empty and each output was there.
-fn is_full(seen: &Look) -> bool
-    ensures { result ≡ is_full seen.now }
-{
-    match seen {
-        Look::Full => true,
-        Look::Empty | Look::OutputMissing(_) => false,
-    }
-}
 
 /// The row of a node behind an event of it, which is told at that place.
 pub(crate) fn turned(row: Row, node: u32, place: usize, event: &Event) -> Row
@@ -96,9 +85,9 @@ pub(crate) fn turned(row: Row, node: u32, place: usize, event: &Event) -> Row
                 row.reason = Some(*reason);
             }
         }
-        Event::Looked(_, _, seen) => {
+        Event::Looked(_, _, _) => {
             if row.look.is_none() {
-                row.look = Some((place, is_full(seen)));
+                row.look = Some(place);
             }
         }
         Event::Saved(_) => row.saved = true,

@@ -1,5 +1,5 @@
 -- A node more is over well, and where its subsequents may go together all of them are wanted.
-use Rattle.std.proofs.Common.{◌≡◌, ℕ, ◌⊎◌, inl, inr, ⊎_elim, Bool, true, List, set, arith, subst, sym, ap, ◌∙◌, refl}
+use Rattle.std.proofs.Common.{◌≡◌, ℕ, ◌⊎◌, inl, inr, ⊎_elim, Bool, true, true≢false, List, set, arith, subst, sym, ap, ◌∙◌, refl}
 use Rattle.std.proofs.lemmas.List.{with_items_is}
 use Rattle.std.proofs.Math.ListN.{length-set}
 use Rattle.std.specs.Prelude.{Contains}
@@ -8,6 +8,7 @@ use Rattle.just_sched_history.specs.Nodes.{priors_at, subsequents_at, parallel_a
 use Rattle.just_sched_history.specs.Tables.{flag, InRange}
 use Rattle.just_sched_history.specs.Led.{IsRaised, IsLed, place_of}
 use Rattle.just_sched_history.proofs.Entering.{entered, told_entered, led_all}
+use Rattle.just_sched_history.proofs.Led.{raised_none}
 use Rattle.just_sched_history.proofs.Placing.{before_both, placed_on}
 use Rattle.just_sched_history.proofs.PlanLaws.{subsequents_read}
 use Rattle.just_sched_history.proofs.WantedLaws.{subsequents_within, parallel_read}
@@ -22,6 +23,37 @@ are c = subsequents_read c.args.plan.now.nodes c.as_slice.result.now c.args.node
 together : (c : After-as_slice-2) → parallel_at c.args.plan.now.nodes c.args.node ≡ true
 together c =
     sym (ap (λ x. x.parallel) c.index-as_slice-node.is ∙ parallel_read c.args.plan.now.nodes c.as_slice.result.now c.args.node c.index-as_slice-node.result c.as_slice.ensures c.requires.within) ∙ c.if-not-at.false
+
+-- ---- where they may not, only the node's own flag is raised
+
+pub returns-then-not-at-clause-placed : goal.returns-then-not-at-clause-placed
+returns-then-not-at-clause-placed c =
+    let old = c.requires.placed in
+    record { invoked = old.invoked; priors = old.priors; subsequents = old.subsequents; listed = old.listed; room = old.room; dependents = old.dependents; inside = old.inside }
+
+pub returns-then-not-at-clause-raised : goal.returns-then-not-at-clause-raised
+returns-then-not-at-clause-raised c = raised_none c.args.self.now.wanted.items c.args.self.now.pending.items
+
+pub returns-then-not-at-clause-closed : goal.returns-then-not-at-clause-closed
+returns-then-not-at-clause-closed c =
+    let plan = c.args.plan.now in
+    let self = c.args.self.now in
+    let flags = c.as_mut_slice-over in
+    let over = with_items_is self.over (set flags.result.now c.args.node true) (omega (arith, length-set flags.result.now c.args.node true, flags.ensures.len)) ∙ ap (λ xs. set xs c.args.node true) flags.ensures.value in
+    let apart = sym (ap (λ x. x.parallel) c.index-as_slice-node.is ∙ parallel_read plan.nodes c.as_slice.result.now c.args.node c.index-as_slice-node.result c.as_slice.ensures c.requires.within) ∙ c.if-not-at.true in
+    entered plan.nodes plan.invocations self _ c.args.node (omega (arith, c.requires.within, self.over_sized, c.requires.size)) over refl refl (raised_none self.wanted.items self.pending.items)
+    (λ all. absurd (true≢false (sym all ∙ apart))) c.requires.closed
+
+pub returns-then-not-at-clause-told : goal.returns-then-not-at-clause-told
+returns-then-not-at-clause-told c = λ h over done said are_wanted.
+    let plan = c.args.plan.now in
+    let self = c.args.self.now in
+    let flags = c.as_mut_slice-over in
+    let over_is = with_items_is self.over (set flags.result.now c.args.node true) (omega (arith, length-set flags.result.now c.args.node true, flags.ensures.len)) ∙ ap (λ xs. set xs c.args.node true) flags.ensures.value in
+    told_entered plan.nodes plan.invocations self _ c.args.node (omega (arith, c.requires.within, self.over_sized, c.requires.size)) over_is refl refl (raised_none self.wanted.items self.pending.items) h over done said are_wanted
+    (λ k up. inl up) (length-set self.over.items c.args.node true)
+
+-- ---- where they may
 
 pub want_all-requires-clause-within : goal.want_all-requires-clause-within
 want_all-requires-clause-within c =

@@ -1,4 +1,4 @@
-//! What a history says of one node, read by going over it. Nothing here takes memory.
+//! How a node and its commands ended, read by going over the history. Nothing here takes memory.
 
 ghost use Rattle.std.specs.Prelude.{◌≡◌, ◌^◌, Option, None, length};
 ghost use Rattle.std.specs.List.{last_or};

@@ -2,7 +2,7 @@
 use Rattle.std.proofs.Common.{◌≡◌, ◌+◌, ◌≤◌, drop, length}
 use Rattle.std.specs.Prelude.{filter_map}
 use Rattle.just_sched_history.specs.State.{status_of, statuses}
-use Rattle.just_sched_history.proofs.look.status_count.Given as goal
+use Rattle.just_sched_history.proofs.outcomes.status_count.Given as goal
 
 abbrev pub invariant-loop-event : goal.invariant-loop-event
 invariant-loop-event l = record {
