@@ -8,4 +8,3 @@ pub mod Harmless
 pub mod Climbs
 mod Making
 pub mod Effects
-pub mod MadeFolders

@@ -3,4 +3,3 @@ pub mod Files
 pub mod Trees
 pub mod Removals
 pub mod Playing
-pub mod Effects

@@ -1,5 +1,5 @@
 -- What a tree in memory is, and what its answers show.
-use Rattle.std.specs.Prelude.{ℕ, ◌≡◌, Bool, true, if◌then◌else◌, List, [], ◌∷◌, Result, Ok, Err}
+use Rattle.std.specs.Prelude.{ℕ, ◌≡◌, Bool, true, if◌then◌else◌, List, [], ◌∷◌, None, Result, Ok, Err}
 use Rattle.std.specs.FinMap as map
 use Rattle.just_path.specs.View.{View}
 use Rattle.just_path.specs.declared.host.Miss.{Miss}
@@ -38,7 +38,7 @@ place_to_make m unnamed place = if is_not_found m then (if unnamed then Err miss
 
 -- a world of which only its files and its current folder matter
 abbrev pub world_from : List ℕ → Tree → World
-world_from folder tree = record { tree = tree; current = folder; environ = []; input = []; harmless = λ spec. true }
+world_from folder tree = record { tree = tree; current = folder; environ = []; input = []; harmless = λ spec. true; disk = None }
 
 -- a tree after a call is the one that is told, and a miss the one that is told
 abbrev pub ShowsTree : {A : Type 0} → Result Tree Miss → Tree → Result A TreeFault → Type 0

@@ -3,8 +3,8 @@ ghost use Rattle.std.specs.Prelude.{◌≡◌, ◌+◌, ◌≤◌, Err, OnOk, On
 ghost use Rattle.just_path.specs.Path.{text_of};
 ghost use Rattle.just_path.specs.View.{place_under};
 ghost use Rattle.just_host_record.specs.Changes.{is_not_found};
+ghost use Rattle.just_host_record.specs.Effects.{MakesFolder};
 ghost use Rattle.just_host_record.specs.NewFolders.{with_folders, new_folder, with_folder};
-ghost use Rattle.just_host_memory.specs.Effects.{MakesFolder};
 ghost use Rattle.just_host_memory.specs.Files.{files_in};
 ghost use Rattle.just_host_memory.specs.Trees.{files_of, world_from, Shows, ShowsTree, with_folders_at};
 
@@ -83,7 +83,7 @@ impl Tree {
     }
 
     /// Makes a folder, with those above it, where a path leads to none.
-    #[tactic(auto, using(crate::proofs::MadeFolders::folder_makes, crate::proofs::MadeFolders::shown_makes))]
+    #[tactic(auto, using(just_host_record::proofs::MadeFolders::folder_makes, crate::proofs::Effects::shown_makes))]
     pub fn make_folder(
         &mut self,
         alloc: Global,

@@ -6,8 +6,8 @@ ghost use Rattle.just_path.specs.Comps.{is_empty};
 ghost use Rattle.just_path.specs.View.{place_under, asks_folder, absence};
 ghost use Rattle.just_host_record.specs.declared.tree.Thing.{Thing};
 ghost use Rattle.just_host_record.specs.Changes.{folder_of, holds_folder, is_open_place, is_not_found, file_at, new_place, place_written, runs, written, with_entry, new_entry, with_cache_entry};
+ghost use Rattle.just_host_record.specs.Effects.{IsPutSomewhere, HasEntry};
 ghost use Rattle.just_host_record.specs.Sights.{seen};
-ghost use Rattle.just_host_memory.specs.Effects.{IsPutSomewhere, HasEntry};
 ghost use Rattle.just_host_memory.specs.Trees.{files_of, world_from, place_to_make, ShowsPlace, ShowsTree};
 
 use super::files::put;
@@ -158,7 +158,7 @@ impl Tree {
     }
 
     /// Lets the file at a path hold these bytes.
-    #[tactic(auto, using(crate::proofs::Lookups::clean_things, crate::proofs::Effects::written_puts, crate::proofs::Effects::shown_puts))]
+    #[tactic(auto, using(crate::proofs::Lookups::clean_things, just_host_record::proofs::Effects::written_puts, crate::proofs::Effects::shown_puts))]
     pub fn write(
         &mut self,
         alloc: Global,
@@ -229,7 +229,7 @@ impl Tree {
     }
 
     /// Makes a cache entry, where no file is found at its path.
-    #[tactic(auto, using(crate::proofs::Effects::entry_has, crate::proofs::Effects::shown_has))]
+    #[tactic(auto, using(just_host_record::proofs::Effects::entry_has, crate::proofs::Effects::shown_has))]
     pub fn make_entry(
         &mut self,
         alloc: Global,
