@@ -5,7 +5,7 @@ ghost use Rattle.just_lang_shapes.specs.Parameters.{value_of, values_of, pattern
 use super::expansions::expanded_default;
 use super::keys::{keys_of, stands_alone, value_of, values_of};
 use just_lang_read::decimal;
-use just_lang_syntax::{Argument, AstParameter, Attribute, has_key};
+use just_lang_syntax::{Argument, AstParameter, Attribute, Expr, has_key};
 use just_lang_types::{Parameter, Pattern, Texts};
 use just_path_text::{NoMemory, Seq, Text, TryClone};
 use std::alloc::Global;
@@ -128,6 +128,87 @@ fn limits_of<T: Texts>(alloc: Global, texts: &T, keys: &[Argument]) -> Result<Li
     })
 }
 
+/// What a parameter's keys say of it.
+struct Keyed {
+    switches: Switches,
+    limits: Limits,
+}
+
+impl Drop for Keyed {
+    fn drop(self) {
+        let Keyed {
+            switches: _,
+            limits: _,
+        } = self;
+    }
+}
+
+impl Keyed {
+    /// The parameter that the keys are for, with that name and default.
+    fn parameter(
+        self,
+        parameter: &AstParameter,
+        name: Text,
+        default: Option<Expr>,
+        flag: bool,
+        multiple: bool,
+    ) -> Parameter
+        ensures { result ≡ record {
+          name = name;
+          kind = parameter.now.kind;
+          export = parameter.now.export;
+          default = default;
+          long = self.switches.long;
+          short = self.switches.short;
+          value = self.switches.value;
+          flag = flag;
+          multiple = multiple;
+          help = self.limits.help;
+          pattern = self.limits.pattern;
+          min = self.limits.min;
+          max = self.limits.max;
+        } }
+    {
+        let Keyed { switches, limits } = self;
+        Parameter {
+            name,
+            kind: parameter.kind,
+            export: parameter.export,
+            default,
+            long: switches.long,
+            short: switches.short,
+            value: switches.value,
+            flag,
+            multiple,
+            help: limits.help,
+            pattern: limits.pattern,
+            min: limits.min,
+            max: limits.max,
+        }
+    }
+}
+
+/// What these keys say of the parameter of that name.
+fn keyed_of<T: Texts>(
+    alloc: Global,
+    texts: &T,
+    name: &str,
+    keys: &[Argument],
+) -> Result<Keyed, NoMemory>
+    ensures long { IfOk result (λ k. k.switches.long ≡ long_of (T.text_of texts.now) name.now keys.now) }
+    ensures short { IfOk result (λ k. k.switches.short ≡ short_of (T.text_of texts.now) keys.now) }
+    ensures value { IfOk result (λ k. k.switches.value ≡ value_of (T.text_of texts.now) (codes "value") keys.now) }
+    ensures help { IfOk result (λ k. k.limits.help ≡ value_of (T.text_of texts.now) (codes "help") keys.now) }
+    ensures pattern { IfOk result (λ k. k.limits.pattern
+        ≡ pattern_of (values_of (T.text_of texts.now) (codes "pattern") keys.now)) }
+    ensures min { IfOk result (λ k. k.limits.min ≡ number_at (T.text_of texts.now) (codes "min") keys.now) }
+    ensures max { IfOk result (λ k. k.limits.max ≡ number_at (T.text_of texts.now) (codes "max") keys.now) }
+{
+    let limits = limits_of(alloc, texts, keys)?;
+    let switches = switches_of(alloc, texts, name, keys)?;
+    Ok(Keyed { switches, limits })
+}
+
 /// A parameter with what these keys say of it.
 fn parameter_with<T: Texts>(
     alloc: Global,
@@ -138,27 +219,13 @@ fn parameter_with<T: Texts>(
     ensures { IfOk result (λ p. p ≡ parameter_with (T.text_of texts.now) keys.now parameter.now) }
 {
     let called = parameter.name.text.as_str();
+    let keyed = keyed_of(alloc, texts, called, keys)?;
     let name = parameter.name.text.try_clone()?;
-    let limits = limits_of(alloc, texts, keys)?;
-    let switches = switches_of(alloc, texts, called, keys)?;
     let default = expanded_default(alloc, texts, &parameter.default)?;
     let flag = stands_alone("flag", keys);
     let multiple = stands_alone("multiple", keys);
-    Ok(Parameter {
-        name,
-        kind: parameter.kind,
-        export: parameter.export,
-        default,
-        long: switches.long,
-        short: switches.short,
-        value: switches.value,
-        flag,
-        multiple,
-        help: limits.help,
-        pattern: limits.pattern,
-        min: limits.min,
-        max: limits.max,
-    })
+    let made = keyed.parameter(parameter, name, default, flag, multiple);
+    Ok(made)
 }
 
 /// The parameters of a recipe with these attributes, in their order.
