@@ -1,4 +1,4 @@
 -- The lemmas of plans, errors.
 pub mod Caching
-pub mod KeyPlans
+pub mod RunPlans
 pub mod Paired

@@ -1,14 +1,11 @@
--- What the plan of a run says of the nodes of a closure.
-use Rattle.std.specs.Prelude.{◌≡◌, ◌≢◌, ℕ, false, List, [], ◌∷◌, Option, Some, None, Result, Ok, Err}
-use Rattle.just_lang_types.specs.declared.key.Key.{Key}
+-- What the plan of a run says of its nodes.
+use Rattle.std.specs.Prelude.{◌≡◌, ◌≢◌, ℕ, false, List, [], ◌∷◌, Option, None, Result, Ok, Err}
 use Rattle.just_lang_types.specs.declared.key.Value.{Value}
 use Rattle.just_lang_types.specs.declared.node.BodyLine.{BodyLine}
-use Rattle.just_lang_types.specs.declared.node.Node.{Node}
 use Rattle.just_lang_types.specs.declared.scope.Scopes.{Scopes}
 use Rattle.just_lang_types.specs.declared.project.Justfile.{Justfile, out-Justfile}
 use Rattle.just_lang_types.specs.declared.project.LangError.TheVariants as lang
-use Rattle.just_eval_closure.specs.Answers.{Answer}
-use Rattle.just_lang_types.specs.Modules.{path_of, settings_of, Located, recipe_at}
+use Rattle.just_lang_types.specs.Modules.{path_of, settings_of, Located}
 use Rattle.just_exec_work.specs.declared.error.CommandError.TheVariants as command
 use Rattle.just_exec_work.specs.declared.run_flags.RunFlags.{RunFlags}
 use Rattle.just_exec_work.specs.declared.work.Work.{Work}
@@ -65,21 +62,3 @@ no_plan = record { prompt = None; parallel = false; work = work.Empty; banner = 
 abbrev pub run_plan : Scopes → Located → Run → List ℕ → List BodyLine → PlanAnswer NodePlan
 run_plan scopes from run folder lines =
     then_plan (λ e. error.Command e) (recipe_work run lines) (λ w. then_plan (λ e. error.Lang e) (recipe_cache scopes from run folder lines w) (λ cache. Ok (node_plan run.flags from w cache)))
-
--- the same of a recipe that was found
-abbrev pub recipe_plan : RunFlags → List ℕ → Scopes → Option Located → List Value → List (List ℕ × Option (List ℕ)) → List BodyLine → PlanAnswer NodePlan
-recipe_plan flags folder scopes None values changes lines = Ok no_plan
-recipe_plan flags folder scopes (Some from) values changes lines = run_plan scopes from (running flags from values changes) folder lines
-
--- Plans in a project with these modules and scopes, in which the bodies of keys have these lines and their children these environments, and the entries
--- of caches stand in that folder.
-module _ (flags : RunFlags) (folder : List ℕ) (modules : List Justfile) (scopes : Scopes) (lines : Key → Answer (List BodyLine)) (changes : Key → List (List ℕ × Option (List ℕ))) where
-  abbrev pub key_plan : Key → PlanAnswer NodePlan
-  key_plan k = then_plan (λ e. error.Lang e) (lines k) (recipe_plan flags folder scopes (recipe_at modules k.recipe) k.arguments (changes k))
-
-  abbrev pub plan_of_node : Node → PlanAnswer NodePlan
-  plan_of_node n = key_plan n.key
-
-  -- one for each node, in order; the first refusal refuses all
-  abbrev pub node_plans : List Node → PlanAnswer (List NodePlan)
-  node_plans nodes = each_plan plan_of_node nodes

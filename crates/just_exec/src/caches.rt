@@ -10,7 +10,7 @@ ghost use Rattle.just_exec.specs.Caches.{cache_attribute, key_text_of, keyed_tex
 use super::NodeCache;
 use super::keys::{first_of, key_of};
 use just_eval_closure::{Entry, text_in_recipe};
-use just_exec_work::{Running, Work};
+use just_exec_work::{Running, Work, attribute_named};
 use just_host_record::{Script, Spec};
 use just_lang_syntax::{Argument, Attribute, Name};
 use just_lang_types::project::LangError;
@@ -23,12 +23,7 @@ use std::alloc::Global;
 fn cache_attribute(recipe: &Recipe) -> Option<&Attribute>
     ensures { option_map (λ a. a.now) result ≡ cache_attribute recipe.now }
 {
-    'attributes: for attribute in recipe.attributes.as_slice() {
-        if attribute.name.text.as_str() == "cache" {
-            return Some(attribute);
-        }
-    }
-    None
+    attribute_named(recipe.attributes.as_slice(), "cache")
 }
 
 /// The text of an argument's key.

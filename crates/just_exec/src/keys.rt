@@ -13,8 +13,8 @@ use just_path::Utf8PathBuf;
 use just_path_text::{NoMemory, Seq, Text, TryClone};
 use std::alloc::Global;
 
-/// The first of some texts.
-pub(crate) fn first_of(texts: &[Text]) -> Result<Option<Text>, NoMemory>
+/// The first of some texts, if there is one.
+pub fn first_of(texts: &[Text]) -> Result<Option<Text>, NoMemory>
     ensures { IfOk result (λ t. t ≡ first_of texts.now) }
 {
     match texts {

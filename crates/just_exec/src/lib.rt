@@ -4,12 +4,11 @@
 //! What a plan says of a node: what is asked before it, what its body has to run, what is printed in front of that, and by
 //! which cache the body may be skipped. Scripts, shells and the children of lines are those of `just_exec_work`, which are handed on here.
 //!
-//! The lines of bodies and the changes of the environment come through a trait, so that this crate doesn't depend on how they are
+//! The recipe, the lines of its body and the changes of the environment are given, so that this crate doesn't depend on how they are
 //! found.
 #![tactic(auto)]
 
 mod asked;
-mod bodies;
 mod caches;
 mod code;
 mod error;
@@ -28,14 +27,13 @@ mod sentences;
 mod told;
 
 pub use asked::{is_parallel, prompt};
-pub use bodies::Bodies;
 pub use error::Error;
 pub use heading::banner;
 pub use just_cache::{CacheKey, KeyExecutor};
 pub use just_config::{ConfigError, UnstableFeature};
 pub use just_config_words::{Usage, UsageKind};
 pub use just_env::{EnvError, OutputError, SearchError};
-pub use just_eval_closure::Request;
+pub use just_eval_closure::Entry;
 pub use just_exec_work::{
     Command, CommandError, Executor, RunAttributes, RunFlags, Running, Shebang, ShellKind, Step,
     Work, after, attribute_text, command, has_attribute, module_folder, prints_code,
@@ -50,8 +48,9 @@ pub use just_lang_types::{
 };
 pub use just_path::{Miss, Utf8Path, Utf8PathBuf};
 pub use just_path_text::{NoMemory, Seq, Text, TryClone};
-pub use lost::executor_error;
+pub use keys::first_of;
+pub use lost::{executor_error, spaced};
 pub use node_cache::NodeCache;
 pub use node_plan::NodePlan;
 pub use plan_error::PlanError;
-pub use plans::key_plan;
+pub use plans::{no_plan, run_plan, running};

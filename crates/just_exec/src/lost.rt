@@ -3,12 +3,11 @@
 ghost use Rattle.std.specs.Prelude.{◌≡◌, ◌++◌, IfOk, string_bytes};
 ghost use Rattle.std.specs.Option.{option_map};
 ghost use Rattle.just_exec_work.specs.Scripts.{runner_of};
-ghost use Rattle.just_exec.specs.Executors.{with_blanks, whole_command, runner_error, executor_error};
+ghost use Rattle.just_exec.specs.Executors.{with_blanks, spaced, runner_error, executor_error};
 
 use super::Error;
 use just_exec_work::Executor;
 use just_host_record::HostFault;
-use just_lang_types::Interpreter;
 use just_path_text::{NoMemory, Text};
 use std::alloc::Global;
 
@@ -23,12 +22,12 @@ fn add_with_blanks(text: &mut String, texts: &[Text]) -> Result<(), NoMemory>
     Ok(())
 }
 
-/// A command and its arguments, with a blank between two of them.
-fn whole_command(alloc: Global, interpreter: &Interpreter) -> Result<Text, NoMemory>
-    ensures { IfOk result (λ t. t ≡ whole_command interpreter.now) }
+/// A program and its arguments, with a blank between two of them.
+pub fn spaced(alloc: Global, program: &Text, arguments: &[Text]) -> Result<Text, NoMemory>
+    ensures { IfOk result (λ t. t ≡ spaced program.now arguments.now) }
 {
-    let mut text = String::from_str(alloc, interpreter.command.as_str())?;
-    add_with_blanks(&mut text, interpreter.arguments.as_slice())?;
+    let mut text = String::from_str(alloc, program.as_str())?;
+    add_with_blanks(&mut text, arguments)?;
     Ok(Text::from(text))
 }
 
@@ -55,7 +54,11 @@ fn runner_error(
     match executor {
         Executor::Command(interpreter) => Ok(Error::Script {
             recipe,
-            command: whole_command(alloc, interpreter)?,
+            command: spaced(
+                alloc,
+                &interpreter.command,
+                interpreter.arguments.as_slice(),
+            )?,
             io,
         }),
         Executor::Shebang(shebang) => Ok(Error::Shebang {

@@ -1,29 +1,28 @@
-//! The plans of keys.
+//! What the plan of a run says of its nodes.
 
-ghost use Rattle.std.specs.Prelude.{◌≡◌, IfOk, map};
+ghost use Rattle.std.specs.Prelude.{◌≡◌, IfOk};
 ghost use Rattle.just_path.specs.Path.{text_of};
 ghost use Rattle.just_exec_work.specs.Works.{run_of};
 ghost use Rattle.just_eval_closure.specs.Entries.{located_of, Sees};
-ghost use Rattle.just_eval_closure.specs.Requests.{IsIndexed};
 ghost use Rattle.just_exec.specs.Banners.{banner};
 ghost use Rattle.just_exec.specs.Caches.{IsPaired};
-ghost use Rattle.just_exec.specs.Plans.{GivesPlan, folder_in, running, node_plan, no_plan, run_plan, key_plan};
+ghost use Rattle.just_exec.specs.Plans.{GivesPlan, folder_in, running, node_plan, no_plan, run_plan};
 ghost use Rattle.just_exec.specs.Prompts.{prompt};
 
 use super::asked::{is_parallel, prompt};
 use super::caches::recipe_cache;
 use super::heading::banner;
-use super::{Bodies, NodeCache, NodePlan, PlanError};
-use just_eval_closure::{Entry, Request};
+use super::{NodeCache, NodePlan, PlanError};
+use just_eval_closure::Entry;
 use just_exec_work::{RunFlags, Running, Work, module_folder, recipe_work};
 use just_lang_types::project::Justfile;
-use just_lang_types::{BodyLine, Key, Recipe, Scopes, Value};
+use just_lang_types::{BodyLine, Recipe, Scopes, Value};
 use just_path::Utf8Path;
 use just_path_text::{NoMemory, Text};
 use std::alloc::Global;
 
-/// The plan of a path at which no recipe is.
-fn no_plan(alloc: Global) -> NodePlan
+/// The plan of a path at which no recipe is: nothing is run.
+pub fn no_plan(alloc: Global) -> NodePlan
     ensures { result ≡ no_plan }
 {
     NodePlan {
@@ -79,9 +78,9 @@ fn folder_of<'p>(flags: &'p RunFlags, parent: &'p Justfile) -> Utf8Path<'p>
     module_folder(working, &parent.module_path, parent.source.as_path())
 }
 
-/// A recipe in its module, as it is run.
-#[tactic(auto, using(crate::proofs::KeyPlans::running_is))]
-fn running<'r>(
+/// A recipe in its module, as it is run with these values of its parameters and these changes of its children's environment.
+#[tactic(auto, using(crate::proofs::RunPlans::running_is))]
+pub fn running<'r>(
     flags: &'r RunFlags,
     from: &Entry<'r>,
     values: &'r [Value],
@@ -99,9 +98,11 @@ fn running<'r>(
     }
 }
 
-/// The plan of a recipe that is run so, by the lines of its body.
-#[tactic(auto, using(crate::proofs::KeyPlans::run_planned))]
-fn run_plan(
+/// What the plan of a run says of a node of a recipe that is run so: what is asked before it, what its body has to run, by the lines of that, what
+/// is printed when it is begun, and its cache, whose entries stand in that folder. It is refused where its script names no interpreter, or its
+/// `cache` has no values.
+#[tactic(auto, using(crate::proofs::RunPlans::run_planned, crate::proofs::Paired::paired_cache))]
+pub fn run_plan(
     alloc: Global,
     scopes: &Scopes,
     from: &Entry<'_>,
@@ -110,38 +111,12 @@ fn run_plan(
     lines: &[BodyLine],
 ) -> Result<NodePlan, PlanError>
     requires { Sees scopes.now from.now }
-    ensures { GivesPlan (run_plan scopes.now (located_of from.now) (run_of run.now) (text_of folder.entry) lines.now) result }
+    ensures plan { GivesPlan (run_plan scopes.now (located_of from.now) (run_of run.now)
+        (text_of folder.entry) lines.now) result }
+    ensures paired { IfOk result (λ p. IsPaired p.cache) }
 {
     let work = recipe_work(alloc, run, lines)?;
     let cache = recipe_cache(alloc, scopes, from, run, folder, lines, &work)?;
     let texts = texts_of(alloc, run.flags, from.recipe)?;
     Ok(node_plan(run.flags, from, texts, work, cache))
-}
-
-/// What the plan of a run says of a node of that key: what is asked before it, what its body has to run, what is printed when it is
-/// begun, and its cache, whose entries stand in that folder. It is refused where its lines have no values, its script names no interpreter, or
-/// its `cache` has no values.
-#[tactic(auto, using(crate::proofs::KeyPlans::lines_refused, crate::proofs::KeyPlans::no_recipe))]
-pub fn key_plan<B: Bodies>(
-    alloc: Global,
-    request: &Request<'_>,
-    bodies: &B,
-    flags: &RunFlags,
-    folder: Utf8Path<'_>,
-    key: &Key,
-) -> Result<NodePlan, PlanError>
-    requires indexed { IsIndexed request.now }
-    requires known { B.known bodies.now }
-    ensures plan { GivesPlan (key_plan flags.now (text_of folder.entry) (map (λ m. m.now) request.now.modules.items) request.now.scopes.now (B.lines bodies.now) (B.changes bodies.now) key.now) result }
-    ensures paired { IfOk result (λ p. IsPaired p.cache) }
-{
-    let lines = bodies.lines(alloc, key)?;
-    let Some(from) = request.entry(&key.recipe) else {
-        return Ok(no_plan(alloc));
-    };
-    let changes = bodies.changes(alloc, key)?;
-    let values = key.arguments.as_slice();
-    let run = running(flags, &from, values, changes.as_slice());
-    let lines = lines.as_slice();
-    run_plan(alloc, request.scopes, &from, &run, folder, lines)
 }
