@@ -80,7 +80,7 @@ made_more s h e first old new is makes = makes_more s [] h e first old new is ma
 
 -- what a run that starts no child changes of a told world stands at the places of its caches
 pub touched_places : (nodes : List PlanNode) (w v : World) → Touches nodes w v → DiffersAt (IsCachePlace nodes w) w v
-touched_places nodes w _ same = record { tree = λ q apart. refl; current = refl; environ = refl; input = refl }
+touched_places nodes w _ same = record { tree = λ q apart. refl; current = refl; environ = refl; input = refl; disk = λ untold. untold }
 touched_places nodes w _ (looked u n c sums tree d at made) =
     let r = touched_places nodes w u d in
     record {
@@ -88,6 +88,7 @@ touched_places nodes w _ (looked u n c sums tree d at made) =
       current = r.current;
       environ = r.environ;
       input = r.input;
+      disk = r.disk;
     }
 touched_places nodes w _ (saved u n c sums tree d at made) =
     let r = touched_places nodes w u d in
@@ -96,6 +97,7 @@ touched_places nodes w _ (saved u n c sums tree d at made) =
       current = r.current;
       environ = r.environ;
       input = r.input;
+      disk = r.disk;
     }
 
 -- the same of a world that may not be told
