@@ -161,21 +161,6 @@ pub(crate) fn ready_text(log: &mut Log, alloc: Global, text: &str) -> Result<Tex
     Text::from_str(alloc, text)
 }
 
-/// Makes the log ready for an entry, and answers a copy of a path for it.
-pub(crate) fn ready_path(
-    log: &mut Log,
-    alloc: Global,
-    path: Utf8Path<'_>,
-) -> Result<Utf8PathBuf, NoMemory>
-    ensures copy { IfOk result (λ p. p ≡ text_of path.entry) }
-    ensures room { OnOk result (HasRoom log.new) }
-    ensures entries { entries_of log.new ≡ entries_of log.old }
-    ensures spare { spare_of log.new ≡ spare_of log.old }
-{
-    log.ready()?;
-    path.to_path_buf(alloc)
-}
-
 /// Makes the log ready for the entry of a check, and answers copies of its outputs.
 pub(crate) fn ready_check(
     log: &mut Log,
@@ -189,25 +174,6 @@ pub(crate) fn ready_check(
 {
     log.ready()?;
     copies_of(alloc, outputs)
-}
-
-/// Makes the log ready for the entry of a probe, and answers copies of the cache entry's path and of the outputs.
-pub(crate) fn ready_probe(
-    log: &mut Log,
-    alloc: Global,
-    entry: Utf8Path<'_>,
-    outputs: &[Utf8PathBuf],
-) -> Result<(Utf8PathBuf, Seq<Utf8PathBuf>), NoMemory>
-    ensures entry { IfOk result (λ r. r.0 ≡ text_of entry.entry) }
-    ensures outputs { IfOk result (λ r. r.1 ≡ outputs.now) }
-    ensures room { OnOk result (HasRoom log.new) }
-    ensures entries { entries_of log.new ≡ entries_of log.old }
-    ensures spare { spare_of log.new ≡ spare_of log.old }
-{
-    log.ready()?;
-    let copy = entry.to_path_buf(alloc)?;
-    let copies = copies_of(alloc, outputs)?;
-    Ok((copy, copies))
 }
 
 /// Makes the log ready for a captured child, and answers copies of what it is and of what is fed to it.
@@ -302,6 +268,7 @@ pub(crate) fn answer_temp(
     ensures entries { entries_of log.new ≡ entries_of log.old
         ++ gained (text_of parent.entry) (λ p. Entry.Made p ∷ []) result }
     ensures own { IsOwn Call.Temp result }
+    ensures answer { IfOk result (λ p. told ≡ Ok p) }
     ensures spare { spare_of log.new ≡ spare_of log.old }
 {
     match told {
@@ -329,6 +296,7 @@ pub(crate) fn answer_sum(
     ensures entries { entries_of log.new ≡ entries_of log.old
         ++ gained (text_of path.entry) (λ d. Entry.Summed (text_of path.entry) d ∷ []) result }
     ensures own { IsOwn Call.Sum result }
+    ensures answer { IfOk result (λ d. told ≡ Ok d) }
     ensures spare { spare_of log.new ≡ spare_of log.old }
 {
     match told {
@@ -355,6 +323,7 @@ pub(crate) fn answer_probe(
         ++ gained (text_of entry.entry)
         (λ x. Entry.Probed (text_of entry.entry) outputs x ∷ []) result }
     ensures own { IsOwn Call.Probe result }
+    ensures answer { IfOk result (λ x. told ≡ Ok x) }
     ensures spare { spare_of log.new ≡ spare_of log.old }
 {
     match told {
@@ -415,6 +384,7 @@ pub(crate) fn answer_save(
     ensures entries { entries_of log.new ≡ entries_of log.old
         ++ gained (text_of entry.entry) (λ _. Entry.Saved (text_of entry.entry) ∷ []) result }
     ensures own { IsOwn Call.Save result }
+    ensures answer { IfOk result (λ x. told ≡ Ok x) }
     ensures spare { spare_of log.new ≡ spare_of log.old }
 {
     match told {
@@ -436,6 +406,7 @@ pub(crate) fn answer_print(
     requires { HasRoom log.old }
     ensures entries { entries_of log.new ≡ entries_of log.old ++ gained [] (λ _. Entry.Printed stream text ∷ []) result }
     ensures own { IsOwn Call.Print result }
+    ensures answer { IfOk result (λ x. told ≡ Ok x) }
     ensures never_missed { NeverMissed result }
     ensures spare { spare_of log.new ≡ spare_of log.old }
 {

@@ -1,17 +1,18 @@
 //! The host of this process, over the system.
-ghost use Rattle.std.specs.Prelude.{◌≡◌, ◌++◌, ◌<◌, [], ◌∷◌, Ok, None, IfOk, IfSome, OnOk, refl, length};
+ghost use Rattle.std.specs.Prelude.{◌≡◌, ◌++◌, ◌<◌, [], ◌∷◌, Ok, None, IfOk, IfSome, OnOk, option_map, refl, length};
 ghost use Rattle.just_path.specs.Path.{text_of};
 ghost use Rattle.just_host_record.specs.declared.entry.Entry.{Entry};
-ghost use Rattle.just_host_record.specs.Record.{gained, IsStartFault, script_folder, text_or_empty, children, faults_of, misses_of};
+ghost use Rattle.just_host_record.specs.Record.{gained, IsOwn, IsStartFault, script_folder, text_or_empty, children, faults_of, misses_of};
 ghost use Rattle.just_host_record.specs.Logs.{entries_of, spare_of, started_of, HasRoom, LogWent};
 ghost use Rattle.just_host_record.proofs.Laws.{counts_noted};
+ghost use Rattle.just_host_files.specs.Fresh.{IsTemporary};
 ghost use Rattle.just_host_system.specs.Commands.{IsCommandOf};
 ghost use Rattle.just_host_system.specs.Real.{record_of, path_of};
 
 use super::answers::{
     answer, answer_ask, answer_check, answer_path, answer_print, answer_probe, answer_read,
-    answer_save, answer_sum, answer_temp, note_capture, ready_capture, ready_check, ready_path,
-    ready_probe, ready_start, ready_text, refuse, refuse_capture,
+    answer_save, answer_sum, answer_temp, note_capture, ready_capture, ready_check, ready_start,
+    ready_text, refuse, refuse_capture,
 };
 use super::capturing::capture;
 use super::child::{RealChild, RealDone};
@@ -19,10 +20,10 @@ use super::command::{command_at, command_of, names_shell};
 use super::script::{ScriptFile, place, remove};
 use super::shell::Shell;
 use just_host_files::disk::{self, is_absent};
-use just_host_files::path_or_empty;
 use just_host_files::system::{
     ask, canonical, here, list, look, names, pairs, read, read_text, show, target,
 };
+use just_host_files::{path_or_empty, ready_path, ready_probe};
 use just_host_record::{Call, Entry, Host, HostFault, Log, Look, Script, Spec, Status, Stream};
 use just_lang_read::Boxed;
 use just_path::{Item, Meta, PathCall, PathFault, PathHost, Utf8Path, Utf8PathBuf};
@@ -341,7 +342,14 @@ impl<R: Runtime + Files<File = File> + Processes<Started = SystemProcess>> Host 
         &mut self,
         parent: Option<Utf8Path<'_>>,
         prefix: &str,
-    ) -> Result<Utf8PathBuf, HostFault> {
+    ) -> Result<Utf8PathBuf, HostFault>
+        ensures entries { record_of self.new ≡ record_of self.old
+            ++ gained (text_or_empty (option_map text_of parent.entry))
+            (λ p. Entry.Made p ∷ []) result }
+        ensures own { IsOwn Call.Temp result }
+        ensures spare { spare_of self.new.log ≡ spare_of self.old.log }
+        ensures named { IfOk result (IsTemporary (option_map text_of parent.entry) prefix.now) }
+    {
         let Ok(()) = self.log.ready() else {
             return Err(HostFault::NoMemory);
         };
