@@ -1,9 +1,9 @@
 -- What calls make of the world that a host in memory tells.
-use Rattle.std.proofs.Common.{ℕ, ◌≡◌, true, List, Some, refl, ap, ◌∙◌, Err, sym, subst}
+use Rattle.std.proofs.Common.{ℕ, ◌≡◌, true, List, Some, None, refl, ap, ◌∙◌, Err, sym, subst}
 use Rattle.just_host_record.specs.declared.entry.Call.{Call}
 use Rattle.just_host_record.specs.declared.entry.HostFault.{HostFault}
 use Rattle.just_host_record.specs.declared.entry.HostFault.TheVariants as fault
-use Rattle.just_host_record.specs.World.{World, FaultLeaves, StayHarmless, LeftAlone}
+use Rattle.just_host_record.specs.World.{World, FaultLeaves, StayHarmless, LeftAlone, Touched}
 use Rattle.just_host_record.specs.Sights.{Tree}
 use Rattle.just_host_record.specs.declared.entry.Spec.{Spec}
 use Rattle.just_host_record.specs.Record.{IsCaptureRefusal}
@@ -29,6 +29,7 @@ failed_leaves w v call (fault.Failed c) is same = (
   ap (λ x. x.environ) same,
   ap (λ x. x.input) same,
   λ spec h. ap (λ x. x.harmless spec) same ∙ h,
+  λ none. ap (λ x. x.disk) same ∙ none,
 )
 failed_leaves w v call fault.NoMemory is same = ap (λ x. Some x) same
 
@@ -54,7 +55,7 @@ large_capture input tree_fault.NoMemory fault.NoMemory large is = tt
 -- the world of a host in memory with these files, and these endings to come
 abbrev pub told_with : Tree → List ℕ → List (List ℕ × List ℕ) → List ℕ → List Ending → World
 told_with tree current environ input endings =
-    record { tree = tree; current = current; environ = environ; input = input; harmless = λ spec. leave_alone endings (word_of spec) }
+    record { tree = tree; current = current; environ = environ; input = input; harmless = λ spec. leave_alone endings (word_of spec); disk = None }
 
 module _ (current : List ℕ) (environ : List (List ℕ × List ℕ)) (input : List ℕ) (tree after : Tree) (endings rest : List Ending) where
   -- a call that leaves the files and what is to come leaves the world
@@ -69,11 +70,15 @@ module _ (current : List ℕ) (environ : List (List ℕ × List ℕ)) (input : L
         let kept : (spec : Spec) → leave_alone rest (word_of spec) ≡ leave_alone endings (word_of spec) =
         λ spec. ap (λ es. leave_alone es (word_of spec)) used ∙ as_before word (word_of spec) endings h in
         let same : after ≡ tree = files ∙ left_alone word folder tree endings h in
-        λ i. Some (record { tree = same i; current = current; environ = environ; input = input; harmless = λ spec. kept spec i })
+        λ i. Some (record { tree = same i; current = current; environ = environ; input = input; harmless = λ spec. kept spec i; disk = None })
 
     -- whatever a child does, those that leave the files alone do so behind it
-    pub stay_harmless : StayHarmless (told_with tree current environ input endings) (told_with after current environ input rest)
+    stay_harmless : StayHarmless (told_with tree current environ input endings) (told_with after current environ input rest)
     stay_harmless spec h = ap (λ es. leave_alone es (word_of spec)) used ∙ stay_alone word (word_of spec) endings h
+
+    -- it changes no more than the files
+    pub files_alone : Touched (Some (told_with tree current environ input endings)) (Some (told_with after current environ input rest))
+    files_alone = (told_with tree current environ input endings, refl, refl, refl, refl, stay_harmless, λ none. none)
 
 -- what can't be removed stays, and so does the world
 pub removal_refused : (w : World) (files : Tree) (path : List ℕ) (f : TreeFault) (e : HostFault)

@@ -25,9 +25,9 @@ use Rattle.just_host_record.specs.World.{World}
 abbrev pub record_of : MemHost → List Entry
 record_of h = entries_of h.log
 
--- the world of a host in memory is what it holds
+-- the world of a host in memory is what it holds; it tells no disk
 abbrev pub world_of : MemHost → World
-world_of h = record { tree = files_of h.tree; current = h.folder.path; environ = h.environ.pairs; input = h.input; harmless = λ spec. leave_alone h.endings.items (word_of spec) }
+world_of h = record { tree = files_of h.tree; current = h.folder.path; environ = h.environ.pairs; input = h.input; harmless = λ spec. leave_alone h.endings.items (word_of spec); disk = None }
 
 -- a call of a path host appends what its note stands for, and leaves the rest
 pub record Went (a b : MemHost) (n : PathNote) : Type 0 where

@@ -1,5 +1,5 @@
 //! A host in memory, which does what its plot says.
-ghost use Rattle.std.specs.Prelude.{◌≡◌, ◌+◌, ◌<◌, ◌≤◌, List, [], ◌∷◌, ◌++◌, Option, Some, Ok, refl, option_map, IfOk, IfSome, OnOk, OnErr, length, string_bytes};
+ghost use Rattle.std.specs.Prelude.{◌≡◌, ◌+◌, ◌<◌, ◌≤◌, List, [], ◌∷◌, ◌++◌, Option, Some, None, Ok, refl, option_map, IfOk, IfSome, OnOk, OnErr, length, string_bytes};
 ghost use Rattle.std.specs.FinMap as map;
 ghost use Rattle.just_path.specs.Path.{text_of};
 ghost use Rattle.just_path.specs.Comps.{slash};
@@ -14,6 +14,7 @@ ghost use Rattle.just_host_record.specs.Record.{gained, refused, IsOwn, NeverMis
 ghost use Rattle.just_host_record.specs.Logs.{spare_of};
 ghost use Rattle.just_host_record.specs.World.{view_of, ReadTells, Touched, Leaves, LeftAlone};
 ghost use Rattle.just_host_record.specs.Changes.{place_written, written, with_cache_entry, IsOfEntry, Changes};
+ghost use Rattle.just_host_record.specs.Effects.{LeavesFiles, IsPutSomewhere, HasEntry, MakesFolder};
 ghost use Rattle.just_host_record.specs.Folders.{TempTells, Removes};
 ghost use Rattle.just_host_record.specs.NewFolders.{with_folder, IsOfFolder};
 ghost use Rattle.just_host_record.specs.Scripts.{StartTells};
@@ -25,10 +26,9 @@ ghost use Rattle.just_host_record.proofs.Laws.{counts_noted};
 
 use super::children::{captured, started};
 use super::notes::{
-    copied, fail, next_answer, note_answer, note_fresh, ready_probe, ready_save, refuse,
-    refuse_call, use_answer,
+    copied, fail, next_answer, note_answer, note_fresh, refuse, refuse_call, use_answer,
 };
-use just_host_files::{copies_of, path_or_empty};
+use just_host_files::{copies_of, path_or_empty, ready_path, ready_probe};
 use just_host_memory::{Ending, Faults, Place, Plot, Tree, TreeFault, copied_text};
 use just_host_record::{
     Call, Entry, Host, HostFault, Log, Look, MAX_BYTES, Signal, Spec, Status, Stream,
@@ -99,6 +99,7 @@ impl MemHost {
           environ = environ.pairs;
           input = plot.input;
           harmless = λ spec. leave_alone plot.endings.items (word_of spec);
+          disk = None;
         }) }
         ensures endings { IfOk result (λ h. h.endings.items ≡ plot.endings.items) }
         ensures answers { IfOk result (λ h. h.answers.items ≡ plot.answers) }
@@ -354,10 +355,14 @@ impl Host for MemHost {
         Ok(Environ { pairs })
     }
 
+    #[tactic(auto, using(just_host_record::proofs::Effects::written_puts))]
     fn write(&mut self, path: Utf8Path<'_>, bytes: &[u8]) -> Result<(), HostFault>
         ensures entries { record_of self.new ≡ record_of self.old ++ gained (text_of path.entry) (λ _. []) result }
         ensures own { IsOwn Call.Write result }
         ensures world { Changes (λ w. written w (text_of path.entry) bytes.now) (λ w place. place_written w (text_of path.entry) ≡ Ok place) (Some (world_of self.old)) (Some (world_of self.new)) result }
+        ensures puts { LeavesFiles
+            (λ w files. IsPutSomewhere w (text_of path.entry) bytes.now files)
+            (Some (world_of self.old)) (Some (world_of self.new)) result }
         ensures spare { spare_of self.new.log ≡ spare_of self.old.log }
         ensures fails { FailsIf (is_struck self.old.faults) result }
         ensures stays { OnlyFiles self.old self.new (next_call self.old.faults.calls) }
@@ -371,10 +376,13 @@ impl Host for MemHost {
         }
     }
 
+    #[tactic(auto, using(just_host_record::proofs::MadeFolders::folder_makes))]
     fn make_folder(&mut self, path: Utf8Path<'_>) -> Result<(), HostFault>
         ensures entries { record_of self.new ≡ record_of self.old ++ gained (text_of path.entry) (λ _. []) result }
         ensures own { IsOwn Call.MakeFolder result }
         ensures world { Changes (λ w. with_folder w (text_of path.entry)) (λ w place. IsOfFolder w (text_of path.entry) place) (Some (world_of self.old)) (Some (world_of self.new)) result }
+        ensures makes { LeavesFiles (λ w files. MakesFolder w (text_of path.entry) files)
+            (Some (world_of self.old)) (Some (world_of self.new)) result }
         ensures spare { spare_of self.new.log ≡ spare_of self.old.log }
         ensures fails { FailsIf (is_struck self.old.faults) result }
         ensures stays { OnlyFiles self.old self.new (next_call self.old.faults.calls) }
@@ -475,6 +483,8 @@ impl Host for MemHost {
         ensures own { IsOwn Call.Probe result }
         ensures told { LookTells (Some (world_of self.old)) (text_of entry.entry) outputs.now result }
         ensures world { Changes (λ w. with_cache_entry w (text_of entry.entry)) (λ w place. IsOfEntry w (text_of entry.entry) place) (Some (world_of self.old)) (Some (world_of self.new)) result }
+        ensures has { LeavesFiles (λ w files. HasEntry w (text_of entry.entry) files)
+            (Some (world_of self.old)) (Some (world_of self.new)) result }
         ensures spare { spare_of self.new.log ≡ spare_of self.old.log }
         ensures fails { FailsIf (is_struck self.old.faults) result }
         ensures stays { OnlyFiles self.old self.new (next_call self.old.faults.calls) }
@@ -525,10 +535,14 @@ impl Host for MemHost {
         }
     }
 
+    #[tactic(auto, using(just_host_record::proofs::Effects::written_puts))]
     fn save(&mut self, entry: Utf8Path<'_>, bytes: &[u8]) -> Result<(), HostFault>
         ensures entries { record_of self.new ≡ record_of self.old ++ gained (text_of entry.entry) (λ _. Entry.Saved (text_of entry.entry) ∷ []) result }
         ensures own { IsOwn Call.Save result }
         ensures world { Changes (λ w. written w (text_of entry.entry) bytes.now) (λ w place. place_written w (text_of entry.entry) ≡ Ok place) (Some (world_of self.old)) (Some (world_of self.new)) result }
+        ensures puts { LeavesFiles
+            (λ w files. IsPutSomewhere w (text_of entry.entry) bytes.now files)
+            (Some (world_of self.old)) (Some (world_of self.new)) result }
         ensures spare { spare_of self.new.log ≡ spare_of self.old.log }
         ensures fails { FailsIf (is_struck self.old.faults) result }
         ensures stays { OnlyFiles self.old self.new (next_call self.old.faults.calls) }
@@ -536,7 +550,7 @@ impl Host for MemHost {
         if self.faults.strike() {
             return Err(fail(&mut self.log, Call::Save));
         }
-        let Ok(path) = ready_save(&mut self.log, self.alloc, entry) else {
+        let Ok(path) = ready_path(&mut self.log, self.alloc, entry) else {
             return Err(HostFault::NoMemory);
         };
         match self.tree.write(self.alloc, &self.folder, entry, bytes) {

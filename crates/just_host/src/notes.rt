@@ -1,5 +1,5 @@
 //! What a host in memory notes of its calls, and how it refuses them.
-ghost use Rattle.std.specs.Prelude.{◌≡◌, drop, ℕ, List, [], ◌∷◌, ◌++◌, IfOk, OnOk, OnErr, MatchResult, string_bytes};
+ghost use Rattle.std.specs.Prelude.{◌≡◌, drop, ℕ, List, [], ◌∷◌, ◌++◌, IfOk, OnErr, MatchResult, string_bytes};
 ghost use Rattle.std.specs.FinMap as map;
 ghost use Rattle.just_path.specs.Path.{text_of};
 ghost use Rattle.just_path.specs.Host.{note_of_fault};
@@ -7,16 +7,15 @@ ghost use Rattle.just_path.specs.declared.host.PathCall.{PathCall};
 ghost use Rattle.just_host_record.specs.declared.entry.Entry.{Entry};
 ghost use Rattle.just_host_record.specs.declared.tree.Thing.{Thing};
 ghost use Rattle.just_host_record.specs.Record.{noted, refused};
-ghost use Rattle.just_host_record.specs.Logs.{entries_of, spare_of, HasRoom};
+ghost use Rattle.just_host_record.specs.Logs.{entries_of, spare_of};
 ghost use Rattle.just_host_record.specs.Folders.{IsFresh};
 ghost use Rattle.just_host_memory.specs.Trees.{files_of, world_from};
 ghost use Rattle.just_host.specs.Mem.{answer_in, IsFaultOf, IsHostFaultOf, IsFailureOf};
 
-use just_host_files::copies_of;
 use just_host_memory::{Place, Tree, TreeFault};
 use just_host_record::{Call, Entry, HostFault, Log};
 use just_path::{PathCall, PathFault, Utf8Path, Utf8PathBuf};
-use just_path_text::{NoMemory, Seq, Text};
+use just_path_text::{NoMemory, Text};
 use std::alloc::Global;
 
 /// A path of that text, unless memory is wanting.
@@ -139,38 +138,4 @@ pub(crate) fn note_fresh(
     let (made, copy) = tree.make_fresh(alloc, &folder, prefix)?;
     log.append(Entry::Made(copy));
     Ok(made)
-}
-
-/// Makes sure of the memory for the entry of a save, and answers the path of it.
-pub(crate) fn ready_save(
-    log: &mut Log,
-    alloc: Global,
-    entry: Utf8Path<'_>,
-) -> Result<Utf8PathBuf, NoMemory>
-    ensures path { IfOk result (λ p. p ≡ text_of entry.entry) }
-    ensures room { OnOk result (HasRoom log.new) }
-    ensures entries { entries_of log.new ≡ entries_of log.old }
-    ensures spare { spare_of log.new ≡ spare_of log.old }
-{
-    log.ready()?;
-    entry.to_path_buf(alloc)
-}
-
-/// Makes sure of the memory for the entry of a probe, and answers the paths of it.
-pub(crate) fn ready_probe(
-    log: &mut Log,
-    alloc: Global,
-    entry: Utf8Path<'_>,
-    outputs: &[Utf8PathBuf],
-) -> Result<(Utf8PathBuf, Seq<Utf8PathBuf>), NoMemory>
-    ensures path { IfOk result (λ r. r.0 ≡ text_of entry.entry) }
-    ensures outputs { IfOk result (λ r. r.1 ≡ outputs.now) }
-    ensures room { OnOk result (HasRoom log.new) }
-    ensures entries { entries_of log.new ≡ entries_of log.old }
-    ensures spare { spare_of log.new ≡ spare_of log.old }
-{
-    log.ready()?;
-    let path = entry.to_path_buf(alloc)?;
-    let copies = copies_of(alloc, outputs)?;
-    Ok((path, copies))
 }

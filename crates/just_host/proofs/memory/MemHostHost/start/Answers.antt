@@ -4,33 +4,21 @@ use Rattle.just_host_record.specs.declared.entry.Call.TheVariants as call
 use Rattle.just_host_memory.specs.Playing.{word_of}
 use Rattle.just_host_memory.specs.Trees.{files_of}
 use Rattle.just_host.specs.Mem.{world_of}
-use Rattle.just_host.proofs.Worlds.{failed_leaves, failed_shows, unchanged, stay_harmless}
+use Rattle.just_host.proofs.Worlds.{failed_leaves, failed_shows, unchanged, files_alone}
 use Rattle.just_host.proofs.memory.MemHostHost.start.Goals as goal
 
 pub returns-then-strike-clause-leaves : goal.returns-then-strike-clause-leaves
 returns-then-strike-clause-leaves c = failed_leaves (world_of c.args.self.now) (world_of c.args.self.now) call.Start c.fail.result c.fail.ensures.kind refl
 
 pub returns-then-fails-clause-leaves : goal.returns-then-fails-clause-leaves
-returns-then-fails-clause-leaves c = (
-  world_of c.args.self.now,
-  refl,
-  refl,
-  refl,
-  refl,
-  stay_harmless c.args.self.now.folder.path c.args.self.now.environ.pairs c.args.self.now.input (files_of c.args.self.now.tree) (files_of c.started.new.tree)
-      c.args.self.now.endings.items c.started.new.endings.items (word_of c.args.spec.now) c.in_ok-number.ensures.used,
-)
+returns-then-fails-clause-leaves c =
+    files_alone c.args.self.now.folder.path c.args.self.now.environ.pairs c.args.self.now.input (files_of c.args.self.now.tree) (files_of c.started.new.tree)
+    c.args.self.now.endings.items c.started.new.endings.items (word_of c.args.spec.now) c.in_ok-number.ensures.used
 
 pub returns-else-fails-clause-leaves : goal.returns-else-fails-clause-leaves
-returns-else-fails-clause-leaves c = (
-  world_of c.args.self.now,
-  refl,
-  refl,
-  refl,
-  refl,
-  stay_harmless c.args.self.now.folder.path c.args.self.now.environ.pairs c.args.self.now.input (files_of c.args.self.now.tree) (files_of c.started.new.tree)
-      c.args.self.now.endings.items c.started.new.endings.items (word_of c.args.spec.now) c.in_ok-number.ensures.used,
-)
+returns-else-fails-clause-leaves c =
+    files_alone c.args.self.now.folder.path c.args.self.now.environ.pairs c.args.self.now.input (files_of c.args.self.now.tree) (files_of c.started.new.tree)
+    c.args.self.now.endings.items c.started.new.endings.items (word_of c.args.spec.now) c.in_ok-number.ensures.used
 
 pub returns-then-strike-clause-shown : goal.returns-then-strike-clause-shown
 returns-then-strike-clause-shown c = failed_shows (world_of c.args.self.now) c.args.spec.now call.Start c.fail.result c.fail.ensures.kind
