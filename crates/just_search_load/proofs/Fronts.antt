@@ -1,6 +1,6 @@
 -- A text that is gone through byte by byte.
-use Rattle.std.proofs.Common.{◌≡◌, ℕ, suc, ◌+◌, ◌<◌, ◌≤◌, ◌||◌, ◌&&◌, Bool, true, false, cond, List, ◌∷◌, length, drop, get_or, drop-cons, sym, ap, ◌∙◌, arith}
-use Rattle.std.specs.List.{list_any, list_all, prefix_len}
+use Rattle.std.proofs.Common.{◌≡◌, ℕ, suc, ◌+◌, ◌<◌, ◌≤◌, Bool, true, false, cond, List, ◌∷◌, length, drop, get_or, drop-cons, sym, ap, ◌∙◌, arith}
+use Rattle.std.specs.List.{prefix_len}
 use Rattle.std.proofs.lemmas.List.{drop_all}
 
 module _ (p : ℕ → Bool) (t : List ℕ) (n : ℕ) (lt : n < length t) where
@@ -13,23 +13,11 @@ module _ (p : ℕ → Bool) (t : List ℕ) (n : ℕ) (lt : n < length t) where
   front_here : prefix_len p (drop n t) ≡ cond (p (get_or t n 0)) (1 + prefix_len p (drop (n + 1) t)) 0
   front_here = ap (prefix_len p) here
 
-  any_is : list_any p (drop n t) ≡ (p (get_or t n 0) || list_any p (drop (n + 1) t))
-  any_is = ap (list_any p) here
-
-  all_is : list_all p (drop n t) ≡ (p (get_or t n 0) && list_all p (drop (n + 1) t))
-  all_is = ap (list_all p) here
-
   module _ (h : p (get_or t n 0) ≡ true) where
     pub front_more : n + 1 + prefix_len p (drop (n + 1) t) ≡ n + prefix_len p (drop n t)
     front_more =
         let so : prefix_len p (drop n t) ≡ 1 + prefix_len p (drop (n + 1) t) = front_here ∙ ap (λ b. cond b (1 + prefix_len p (drop (n + 1) t)) 0) h in
         omega (arith, so)
-
-    pub any_here : list_any p (drop n t) ≡ true
-    any_here = any_is ∙ ap (λ b. b || list_any p (drop (n + 1) t)) h
-
-    pub all_more : list_all p (drop (n + 1) t) ≡ list_all p (drop n t)
-    all_more = sym (all_is ∙ ap (λ b. b && list_all p (drop (n + 1) t)) h)
 
   module _ (h : p (get_or t n 0) ≡ false) where
     pub front_ends : n + prefix_len p (drop n t) ≡ n
@@ -37,17 +25,5 @@ module _ (p : ℕ → Bool) (t : List ℕ) (n : ℕ) (lt : n < length t) where
         let so : prefix_len p (drop n t) ≡ 0 = front_here ∙ ap (λ b. cond b (1 + prefix_len p (drop (n + 1) t)) 0) h in
         omega (arith, so)
 
-    pub any_more : list_any p (drop (n + 1) t) ≡ list_any p (drop n t)
-    any_more = sym (any_is ∙ ap (λ b. b || list_any p (drop (n + 1) t)) h)
-
-    pub all_but : list_all p (drop n t) ≡ false
-    all_but = all_is ∙ ap (λ b. b && list_all p (drop (n + 1) t)) h
-
 pub front_all : (p : ℕ → Bool) (t : List ℕ) (n : ℕ) → length t ≤ n → n + prefix_len p (drop n t) ≡ n
 front_all p t n le = let so : prefix_len p (drop n t) ≡ 0 = ap (prefix_len p) (drop_all n t le) in omega (arith, so)
-
-pub any_none : (p : ℕ → Bool) (t : List ℕ) (n : ℕ) → length t ≤ n → list_any p (drop n t) ≡ false
-any_none p t n le = ap (list_any p) (drop_all n t le)
-
-pub all_none : (p : ℕ → Bool) (t : List ℕ) (n : ℕ) → length t ≤ n → list_all p (drop n t) ≡ true
-all_none p t n le = ap (list_all p) (drop_all n t le)

@@ -55,29 +55,17 @@ fn behind_run(sign: u8, line: &[u8]) -> &[u8]
 }
 
 /// Whether a sign stands in a text.
-#[tactic(auto, using(crate::proofs::Fronts::any_more, crate::proofs::Fronts::any_here, crate::proofs::Fronts::any_none))]
 fn has_sign(sign: u8, text: &[u8]) -> bool
     ensures { result ≡ list_any (is_sign sign) text.now }
 {
-    'bytes: for at in 0..text.len() {
-        if is_sign(sign, text[at]) {
-            return true;
-        }
-    }
-    false
+    text.contains(&sign)
 }
 
 /// Whether a text is of blanks alone.
-#[tactic(auto, using(crate::proofs::Fronts::all_more, crate::proofs::Fronts::all_but, crate::proofs::Fronts::all_none))]
 fn is_all_blank(text: &[u8]) -> bool
     ensures { result ≡ list_all is_blank text.now }
 {
-    'bytes: for at in 0..text.len() {
-        if !is_blank(text[at]) {
-            return false;
-        }
-    }
-    true
+    text.iter().all(|byte| is_blank(*byte))
 }
 
 /// How many blanks stand in front of a text.

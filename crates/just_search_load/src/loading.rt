@@ -274,7 +274,7 @@ impl Loader {
 
 /// Puts names on a stack, the first one on top.
 #[tactic(auto, using(crate::proofs::Skipped::turns_one))]
-fn turn(names: Vec<Utf8PathBuf>, pending: &mut Vec<Utf8PathBuf>) -> Result<(), NoMemory>
+fn stack_names(names: Vec<Utf8PathBuf>, pending: &mut Vec<Utf8PathBuf>) -> Result<(), NoMemory>
     ensures { OnOk result (to_load pending.new.items ≡ names.items ++ to_load pending.old.items) }
 {
     let mut names = names;
@@ -302,6 +302,6 @@ fn push_names<H: Host>(
         Ok(()) => {}
         Err(error) => return Err(error),
     }
-    turn(names, pending)?;
+    stack_names(names, pending)?;
     Ok(())
 }

@@ -55,7 +55,7 @@ fn push_line(text: &mut String, block: Option<Fence>, line: &str) -> Result<(), 
 
 /// The text of lines that are tangled one by one.
 #[tactic(auto, using(crate::proofs::Running::lines_begun, crate::proofs::Running::lines_more, crate::proofs::Running::lines_ended))]
-fn tangled(alloc: Global, lines: &[&str]) -> Result<String, NoMemory>
+fn tangle_lines(alloc: Global, lines: &[&str]) -> Result<String, NoMemory>
     ensures { IfOk result (λ text. string_bytes text ≡ text_of_lines (out_of None (map (λ line. line.now) lines.now))) }
 {
     let mut text = String::new(alloc);
@@ -78,5 +78,5 @@ pub fn tangle(alloc: Global, markdown: &str) -> Result<String, NoMemory>
     ensures { IfOk result (λ text. IsTangled markdown.now (string_bytes text)) }
 {
     let lines = lines_of(alloc, markdown)?;
-    tangled(alloc, lines.as_slice())
+    tangle_lines(alloc, lines.as_slice())
 }
