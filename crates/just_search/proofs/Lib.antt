@@ -1,4 +1,4 @@
--- The lemmas of searches, what is tried, looks for a program, where a justfile is to be written, -- Lemmas of temporary folders.
+-- The lemmas: of searches, of programs, of where a justfile is to be written, of temporary folders.
 pub mod Along
 pub mod Listings
 pub mod Listed
@@ -12,7 +12,7 @@ pub mod Names
 pub mod Rising
 pub mod Looks
 pub mod Writing
-pub mod TangledWriting
+pub mod Materializing
 pub mod Removing
 pub mod Items
 pub mod Placing

@@ -246,7 +246,7 @@ module _ (w : World) (path : List ℕ) (named : NamesItem path) (none : target_s
   writes_at : (after : Option World) (text : List ℕ) (r : Result (Unit {0}) HostFault) → WritesAt (Some w) after path text r → Moves (λ q. q ≡ cleaned path) (Some w) after
   writes_at after text (Ok x) (tree, is, now) =
       moves_to (λ q. q ≡ cleaned path) w (with_tree w tree) after now
-      (record { tree = λ q apart. written_elsewhere w path text tree is q (λ at. apart (written_is q at)); current = refl; environ = refl; input = refl })
+      (record { tree = λ q apart. written_elsewhere w path text tree is q (λ at. apart (written_is q at)); current = refl; environ = refl; input = refl; disk = λ e. e })
   writes_at after text (Err (fault.Missed m)) writes = moves_none (λ q. q ≡ cleaned path) (Some w) after writes.1
   writes_at after text (Err (fault.Failed c)) writes =
       moves_wider (λ place. place_written w path ≡ Ok place) (λ q. q ≡ cleaned path) (Some w) after (λ q at. written_is q at) (moves_failed (λ place. place_written w path ≡ Ok place) w after writes)
@@ -273,7 +273,7 @@ module _ (w : World) (wanted : Option (List ℕ)) (clean : IsCleanView (view_of 
       let absolute = parent_absolute w wanted f clean is in
       let tree = insert w.tree folder thing.Folder in (
         moves_to (IsInFolders (folder ∷ [])) w (with_tree w tree) after now
-            (record { tree = λ q apart. put_elsewhere w.tree folder q thing.Folder (λ e. apart (folder, folder, only folder, IsWithin.itself, e ∙ sym (made_clean w f folder absolute fresh))); current = refl; environ = refl; input = refl }),
+            (record { tree = λ q apart. put_elsewhere w.tree folder q thing.Folder (λ e. apart (folder, folder, only folder, IsWithin.itself, e ∙ sym (made_clean w f folder absolute fresh))); current = refl; environ = refl; input = refl; disk = λ e. e }),
         made_named w f folder absolute fresh,
       )
 

@@ -63,15 +63,15 @@ abbrev Places : Type 1
 Places = List ℕ → Type 0
 
 pub differs_none : (P : Places) (w : World) → DiffersAt P w w
-differs_none P w = record { tree = λ q apart. refl; current = refl; environ = refl; input = refl }
+differs_none P w = record { tree = λ q apart. refl; current = refl; environ = refl; input = refl; disk = λ e. e }
 
 pub differs_then : (P : Places) (u v w : World) → DiffersAt P u v → DiffersAt P v w → DiffersAt P u w
 differs_then P u v w one two =
-    record { tree = λ q apart. two.tree q apart ∙ one.tree q apart; current = two.current ∙ one.current; environ = two.environ ∙ one.environ; input = two.input ∙ one.input }
+    record { tree = λ q apart. two.tree q apart ∙ one.tree q apart; current = two.current ∙ one.current; environ = two.environ ∙ one.environ; input = two.input ∙ one.input; disk = λ e. two.disk (one.disk e) }
 
 pub differs_wider : (P Q : Places) (v w : World) → ((q : List ℕ) → P q → Q q) → DiffersAt P v w → DiffersAt Q v w
 differs_wider P Q v w wider one =
-    record { tree = λ q apart. one.tree q (λ p. apart (wider q p)); current = one.current; environ = one.environ; input = one.input }
+    record { tree = λ q apart. one.tree q (λ p. apart (wider q p)); current = one.current; environ = one.environ; input = one.input; disk = one.disk }
 
 -- a told world becomes another one, which differs in some places
 abbrev pub Moves : Places → Option World → Option World → Type 0
@@ -124,7 +124,7 @@ removed_elsewhere tree place q apart =
 removed_once : (w : World) (path : List ℕ) (after : Option World) (r : Result (Unit {0}) HostFault) → NamesItem path → Removes (Some w) after path r → Moves (λ q. q ≡ cleaned path) (Some w) after
 removed_once w path after (Ok x) named (place, at, nothing, is) =
     moves_to (λ q. q ≡ cleaned path) w (with_tree w (remove w.tree place)) after is
-    (record { tree = λ q apart. removed_elsewhere w.tree place q (λ e. apart (e ∙ removed_is w path place named at)); current = refl; environ = refl; input = refl })
+    (record { tree = λ q apart. removed_elsewhere w.tree place q (λ e. apart (e ∙ removed_is w path place named at)); current = refl; environ = refl; input = refl; disk = λ e. e })
 removed_once w path after (Err (fault.Missed m)) named removes = moves_none (λ q. q ≡ cleaned path) (Some w) after removes.1
 removed_once w path after (Err (fault.Failed c)) named removes =
     moves_wider (λ place. removed_place w path ≡ Ok place) (λ q. q ≡ cleaned path) (Some w) after (λ q at. removed_is w path q named at) (moves_failed (λ place. removed_place w path ≡ Ok place) w after removes)

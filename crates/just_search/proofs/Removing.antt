@@ -93,7 +93,7 @@ listed_clears folder told old items new (ListsFor.unlisted io fits) = Clears.a_l
 one_clears : (folder path : List ℕ) (a b : Option World) (x y : List Entry) → IsWithin folder path → IsTried path a x b y → Clears folder a x b y
 one_clears folder path a b x y within tried = Clears.a_removal a b x y path Clears.nothing within tried
 
-item_clears : (folder : List ℕ) (item : Item) (a b : Option World) (x y : List Entry) → TriesItem folder item a x b y → Clears folder a x b y
+pub item_clears : (folder : List ℕ) (item : Item) (a b : Option World) (x y : List Entry) → TriesItem folder item a x b y → Clears folder a x b y
 item_clears folder item a b x y (TriesItem.passed none world entries) = clears_kept folder a b x y world entries
 item_clears folder item a b x y (TriesItem.tried path at tried) = one_clears folder path a b x y (within_removed folder item.name path at) tried
 
@@ -112,7 +112,7 @@ inner_clears : (path : List ℕ) (a b : Option World) (x y : List Entry) → Tri
 inner_clears path a b x y (between, middle, items, tried) =
     clears_then path a between x middle b y (items_clear path a between x middle items) (one_clears path path between b middle y IsWithin.itself tried)
 
-nested_clears : (folder : List ℕ) (item : Item) (a b : Option World) (x y : List Entry) → TriesNested folder item a x b y → Clears folder a x b y
+pub nested_clears : (folder : List ℕ) (item : Item) (a b : Option World) (x y : List Entry) → TriesNested folder item a x b y → Clears folder a x b y
 nested_clears folder item a b x y (TriesNested.passed none world entries) = clears_kept folder a b x y world entries
 nested_clears folder item a b x y (TriesNested.tried path at other tried) = one_clears folder path a b x y (within_removed folder item.name path at) tried
 nested_clears folder item a b x y (TriesNested.emptied path at is tries) = clears_in folder path a x b y (within_removed folder item.name path at) (inner_clears path a b x y tries)
@@ -221,19 +221,13 @@ module _ (does : Item → Option World → List Entry → Option World → List 
     pub turned_more : i < length items → item ≡ get_or items i item → Turned i between now → does item between now after new → Turned (i + 1) after new
     turned_more less is (middle, shown, turn) done = (middle, shown, turn_more does told middle items i item between after now new less is turn done)
 
-pub items_stopped : {A E : Type 0} (folder : List ℕ) (told : Option World) (old : List Entry) (items : List Item) (i : ℕ) (between after : Option World) (now new : List Entry) (r : Result A E) → Turned (TriesItem folder) folder told old items i between now
-    → Clears folder between now after new → OnErr r (Clears folder told old after new)
-items_stopped folder told old items i between after now new r (middle, shown, turn) clears =
-    on_err r (Clears folder told old after new)
-    (clears_then folder told between old now after new
-    (clears_then folder told told old middle between now (listed_clears folder told old items middle shown) (turn_clears folder (TriesItem folder) (item_clears folder) told middle (take i items) between now turn)) clears)
-
-pub nested_items_stopped : {A E : Type 0} (folder : List ℕ) (told : Option World) (old : List Entry) (items : List Item) (i : ℕ) (between after : Option World) (now new : List Entry) (r : Result A E) → Turned (TriesNested folder) folder told old items i between now
-    → Clears folder between now after new → OnErr r (Clears folder told old after new)
-nested_items_stopped folder told old items i between after now new r (middle, shown, turn) clears =
-    on_err r (Clears folder told old after new)
-    (clears_then folder told between old now after new
-    (clears_then folder told told old middle between now (listed_clears folder told old items middle shown) (turn_clears folder (TriesNested folder) (nested_clears folder) told middle (take i items) between now turn)) clears)
+  -- memory is wanting for one of them
+  pub turned_stopped : {A E : Type 0} (each : (item : Item) (a b : Option World) (x y : List Entry) → does item a x b y → Clears folder a x b y) (i : ℕ) (between after : Option World) (now new : List Entry) (r : Result A E)
+      → Turned i between now → Clears folder between now after new → OnErr r (Clears folder told old after new)
+  turned_stopped each i between after now new r (middle, shown, turn) clears =
+      on_err r (Clears folder told old after new)
+      (clears_then folder told between old now after new
+      (clears_then folder told told old middle between now (listed_clears folder told old items middle shown) (turn_clears folder does each told middle (take i items) between now turn)) clears)
 
 -- ---- folders
 

@@ -30,7 +30,15 @@ abbrev pub entries_of : Option (List ℕ) → SearchError → List Entry
 entries_of parent (error.FilesystemIo path io) = refused path io
 entries_of parent (error.StdinIo io) = refused dash io
 entries_of parent (error.TempdirIo io) = refused (text_or_empty parent) io
-entries_of parent _ = []
+entries_of parent error.GlobalJustfileInit = []
+entries_of parent error.GlobalJustfileNotFound = []
+entries_of parent error.InitWithJustfileFromStandardInput = []
+entries_of parent (error.JustfileHadNoParent path) = []
+entries_of parent (error.MultipleCandidates folder candidates) = []
+entries_of parent error.NotFound = []
+entries_of parent (error.Load path io) = []
+entries_of parent (error.Lang e) = []
+entries_of parent error.NoMemory = []
 
 abbrev pub told_entries : {A : Type 0} → Option (List ℕ) → Result A SearchError → List Entry
 told_entries parent (Ok x) = []

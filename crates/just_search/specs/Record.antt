@@ -19,4 +19,8 @@ GainsLast old new r = (middle : List Entry) × GainsListings old middle × (new 
 -- that were refused.
 abbrev pub FindGains : {A : Type 0} → SearchConfig → List Entry → List Entry → Result A SearchError → Type 0
 FindGains search.GlobalJustfile old new r = GainsLast old new r
-FindGains _ old new r = new ≡ old ++ told_entries r
+FindGains search.FromInvocationDirectory old new r = new ≡ old ++ told_entries r
+FindGains (search.FromSearchDirectory folder) old new r = new ≡ old ++ told_entries r
+FindGains (search.StandardInput folder) old new r = new ≡ old ++ told_entries r
+FindGains (search.WithJustfile file) old new r = new ≡ old ++ told_entries r
+FindGains (search.WithJustfileAndWorkingDirectory file folder) old new r = new ≡ old ++ told_entries r

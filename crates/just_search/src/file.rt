@@ -40,7 +40,7 @@ fn as_path(folder: &Option<Utf8PathBuf>) -> Option<Utf8Path<'_>>
 }
 
 /// Writes a text to the file at a path.
-#[tactic(auto, using(crate::proofs::TangledWriting::done_as, crate::proofs::TangledWriting::error_as))]
+#[tactic(auto, using(crate::proofs::Materializing::done_as, crate::proofs::Materializing::error_as))]
 fn write_at<H: Host>(host: &mut H, path: Utf8Path<'_>, text: &[u8]) -> Result<(), HostFault>
     ensures done { IfOk result (λ _. IsWritten (H.world host.old) (H.world host.new) (text_of path.entry) text.now) }
     ensures refused { IfErr result (IsUnwritten (H.world host.old) (H.world host.new) (text_of path.entry) text.now) }
@@ -54,7 +54,7 @@ fn write_at<H: Host>(host: &mut H, path: Utf8Path<'_>, text: &[u8]) -> Result<()
 }
 
 /// Writes a text to the file in a temporary folder.
-#[tactic(auto, using(crate::proofs::TangledWriting::write_stays, crate::proofs::TangledWriting::write_done))]
+#[tactic(auto, using(crate::proofs::Materializing::write_stays, crate::proofs::Materializing::write_done))]
 fn write_file<H: Host>(
     alloc: Global,
     host: &mut H,
@@ -86,7 +86,7 @@ fn write_file<H: Host>(
 }
 
 /// Writes a text to the file in a temporary folder that is made for it, and keeps the folder's path.
-#[tactic(auto, using(crate::proofs::TangledWriting::nothing_written))]
+#[tactic(auto, using(crate::proofs::Materializing::nothing_written))]
 fn write_text<H: Host>(
     alloc: Global,
     host: &mut H,
@@ -116,7 +116,7 @@ fn write_text<H: Host>(
 }
 
 /// The justfile in a markdown file, written to the file in a temporary folder.
-#[tactic(auto, using(crate::proofs::TangledWriting::unread))]
+#[tactic(auto, using(crate::proofs::Materializing::unread))]
 fn write_markdown<H: Host>(
     alloc: Global,
     host: &mut H,
@@ -134,7 +134,7 @@ fn write_markdown<H: Host>(
 }
 
 /// The justfile on standard input, written to the file in a temporary folder.
-#[tactic(auto, using(crate::proofs::TangledWriting::unread))]
+#[tactic(auto, using(crate::proofs::Materializing::unread))]
 fn write_input<H: Host>(
     alloc: Global,
     host: &mut H,

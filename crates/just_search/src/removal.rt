@@ -142,7 +142,7 @@ fn remove_nested<H: Host>(
 }
 
 /// Removes the items of a folder, and the items of those that are folders.
-fn empty<H: Host>(alloc: Global, host: &mut H, folder: Utf8Path<'_>) -> Result<(), NoMemory>
+fn empty_folder<H: Host>(alloc: Global, host: &mut H, folder: Utf8Path<'_>) -> Result<(), NoMemory>
     ensures tried { OnOk result (Empties (text_of folder.entry)
         (H.world host.old) (H.entries host.old) (H.world host.new) (H.entries host.new)) }
     ensures stopped { OnErr result (Clears (text_of folder.entry)
@@ -162,7 +162,7 @@ fn remove_folder<H: Host>(alloc: Global, host: &mut H, folder: Utf8Path<'_>) -> 
     ensures stopped { OnErr result (Clears (text_of folder.entry)
         (H.world host.old) (H.entries host.old) (H.world host.new) (H.entries host.new)) }
 {
-    empty(alloc, host, folder)?;
+    empty_folder(alloc, host, folder)?;
     remove_at(host, folder)
 }
 

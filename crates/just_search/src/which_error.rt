@@ -5,7 +5,6 @@ ghost use Rattle.just_search.specs.declared.which_error.WhichError.TheVariants.{
 
 use just_path::PathFault;
 use just_path_text::NoMemory;
-use std::alloc::{AllocError, AllocFailed};
 
 /// Why a program can't be looked for.
 #[derive(Clone, Copy, Debug, PartialEq, Eq)]
@@ -23,22 +22,6 @@ impl From<NoMemory> for WhichError {
     ghost from_gives = { λ _ e. e ≡ OutOfMemory };
 
     fn from(_refused: NoMemory) -> WhichError {
-        WhichError::NoMemory
-    }
-}
-
-impl From<AllocError> for WhichError {
-    ghost from_gives = { λ _ e. e ≡ OutOfMemory };
-
-    fn from(_refused: AllocError) -> WhichError {
-        WhichError::NoMemory
-    }
-}
-
-impl<T: Drop> From<AllocFailed<T>> for WhichError {
-    ghost from_gives = { λ _ e. e ≡ OutOfMemory };
-
-    fn from(_refused: AllocFailed<T>) -> WhichError {
         WhichError::NoMemory
     }
 }

@@ -1,7 +1,7 @@
 -- A file is loaded itself.
 use Rattle.std.proofs.Common.{rules, refl}
 use Rattle.just_search.specs.Files.{parent_of}
-use Rattle.just_search.proofs.TangledWriting.{file_itself}
+use Rattle.just_search.proofs.Materializing.{file_itself}
 use Rattle.just_search.proofs.file.materialize.Goals as goal
 
 pub returns-in-File : goal.returns-in-File

@@ -2,7 +2,7 @@
 use Rattle.std.proofs.Common.{rules, ◌≡◌}
 use Rattle.just_host_record.specs.declared.entry.HostFault.TheVariants as fault
 use Rattle.just_search.specs.Files.{file_in, IsWritten, IsUnwritten}
-use Rattle.just_search.proofs.TangledWriting.{write_done, write_refused}
+use Rattle.just_search.proofs.Materializing.{write_done, write_refused}
 use Rattle.just_search.proofs.file.write_file.Goals as goal
 
 pub returns-in-Ok-clause-written : goal.returns-in-Ok-clause-written

@@ -2,7 +2,7 @@
 use Rattle.std.proofs.Common.{rules}
 use Rattle.just_search.specs.declared.location.Origin.TheVariants as origin
 use Rattle.just_search.specs.Files.{parent_of}
-use Rattle.just_search.proofs.TangledWriting.{reads}
+use Rattle.just_search.proofs.Materializing.{reads}
 use Rattle.just_search.proofs.file.write_input.Goals as goal
 
 pub returns-in-Ok : goal.returns-in-Ok

@@ -4,7 +4,7 @@ use Rattle.std.proofs.lemmas.List.{append-nil}
 use Rattle.just_path.specs.Path.{text_of}
 use Rattle.just_host_record.specs.declared.entry.HostFault.TheVariants as fault
 use Rattle.just_search.specs.Files.{parent_of, Makes}
-use Rattle.just_search.proofs.TangledWriting.{temp_stays, nothing_written, no_folder_made, all_written}
+use Rattle.just_search.proofs.Materializing.{temp_stays, nothing_written, no_folder_made, all_written}
 use Rattle.just_search.proofs.file.write_text.Goals as goal
 
 pub returns-in-Ok : goal.returns-in-Ok

@@ -2,7 +2,7 @@
 use Rattle.just_path.specs.Path.{text_of}
 use Rattle.just_search.specs.Removals.{TriesNested}
 use Rattle.just_search.proofs.Removing.{Turned}
-use Rattle.just_search.proofs.removal.empty.Given as goal
+use Rattle.just_search.proofs.removal.empty_folder.Given as goal
 
 abbrev pub invariant-items : goal.invariant-items
 invariant-items g l = record {

@@ -3,8 +3,8 @@ use Rattle.std.proofs.Common.{List, sym, subst}
 use Rattle.just_path.specs.Path.{text_of}
 use Rattle.just_path.specs.declared.meta.Item.{Item}
 use Rattle.just_search.specs.Removals.{Clears, ListsFor, TriesNested}
-use Rattle.just_search.proofs.Removing.{on_err, clears_kept, turned_start, turned_more, turned_end, nested_items_stopped}
-use Rattle.just_search.proofs.removal.empty.Goals as goal
+use Rattle.just_search.proofs.Removing.{on_err, clears_kept, turned_start, turned_more, turned_end, turned_stopped, nested_clears}
+use Rattle.just_search.proofs.removal.empty_folder.Goals as goal
 
 pub returns-in_err-listed-clause-stopped : goal.returns-in_err-listed-clause-stopped
 returns-in_err-listed-clause-stopped g c =
@@ -22,7 +22,7 @@ items-preserved g c = record {
 
 pub returns-in_err-remove_nested-clause-stopped : goal.returns-in_err-remove_nested-clause-stopped
 returns-in_err-remove_nested-clause-stopped g c =
-    nested_items_stopped (text_of c.args.folder) (g.H.Host.world c.args.host.now) (g.H.Host.entries c.args.host.now) c.as_slice-item-items.result.now c.items.item-index (g.H.Host.world c.items.host) (g.H.Host.world c.remove_nested.new.host) (g.H.Host.entries c.items.host) (g.H.Host.entries c.remove_nested.new.host) c.from_residual-in_err-remove_nested.result c.items.invariant.turned c.in_err-remove_nested.ensures.stopped
+    turned_stopped (TriesNested (text_of c.args.folder)) (text_of c.args.folder) (g.H.Host.world c.args.host.now) (g.H.Host.entries c.args.host.now) c.as_slice-item-items.result.now (nested_clears (text_of c.args.folder)) c.items.item-index (g.H.Host.world c.items.host) (g.H.Host.world c.remove_nested.new.host) (g.H.Host.entries c.items.host) (g.H.Host.entries c.remove_nested.new.host) c.from_residual-in_err-remove_nested.result c.items.invariant.turned c.in_err-remove_nested.ensures.stopped
 
 pub returns-clause-tried : goal.returns-clause-tried
 returns-clause-tried g c = turned_end (TriesNested (text_of c.args.folder)) (text_of c.args.folder) (g.H.Host.world c.args.host.now) (g.H.Host.entries c.args.host.now) c.as_slice-item-items.result.now c.items.item-index (g.H.Host.world c.items.host) (g.H.Host.entries c.items.host) c.items-test.false c.items.invariant.turned
