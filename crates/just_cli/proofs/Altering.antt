@@ -60,7 +60,7 @@ module _ (some all : List (List ℕ)) (among : (folder : List ℕ) → Contains 
   led_more w place (folder, path, has, within, leads) = (folder, path, among folder has, within, leads)
 
   differs_more : (u v : World) → DiffersAt (IsLedTo some u) u v → DiffersAt (IsLedTo all u) u v
-  differs_more u v d = record { tree = λ place apart. d.tree place (λ led. apart (led_more u place led)); current = d.current; environ = d.environ; input = d.input }
+  differs_more u v d = record { tree = λ place apart. d.tree place (λ led. apart (led_more u place led)); current = d.current; environ = d.environ; input = d.input; disk = d.disk }
 
   alters_more : (w v : World) → Alters some nodes w v → Alters all nodes w v
   alters_more w v Alters.same = Alters.same
@@ -118,7 +118,7 @@ altered_made nodes None after parent folder is = is
 altered_made nodes (Some w) after parent folder makes =
     subst (λ o. MatchOption o ⊥ (λ v. Alters (folder ∷ []) nodes w v)) (sym makes.1)
     (Alters.within w (with_tree w (insert w.tree folder thing.Folder)) Alters.same
-    (record { tree = λ q apart. put_elsewhere w.tree folder q thing.Folder (λ same. apart (folder, folder, has_first folder [], IsWithin.itself, LeadsTo.made same)); current = refl; environ = refl; input = refl })
+    (record { tree = λ q apart. put_elsewhere w.tree folder q thing.Folder (λ same. apart (folder, folder, has_first folder [], IsWithin.itself, LeadsTo.made same)); current = refl; environ = refl; input = refl; disk = λ e. e })
     (folder_no_link w.tree folder))
 
 -- none was made
@@ -134,7 +134,7 @@ altered_written nodes None after folder text is = is
 altered_written nodes (Some w) after folder text (tree, is, new) =
     subst (λ o. MatchOption o ⊥ (λ v. Alters (folder ∷ []) nodes w v)) (sym new)
     (Alters.within w (with_tree w tree) Alters.same
-    (record { tree = λ q apart. written_elsewhere w (file_in folder) text tree is q (λ to. apart (folder, file_in folder, has_first folder [], IsWithin.item folder (codes "justfile") IsWithin.itself refl, LeadsTo.written to)); current = refl; environ = refl; input = refl })
+    (record { tree = λ q apart. written_elsewhere w (file_in folder) text tree is q (λ to. apart (folder, file_in folder, has_first folder [], IsWithin.item folder (codes "justfile") IsWithin.itself refl, LeadsTo.written to)); current = refl; environ = refl; input = refl; disk = λ e. e })
     (written_no_link w (file_in folder) text tree is))
 
 -- none was, since it missed
@@ -200,7 +200,7 @@ module _ (folders : List (List ℕ)) (folder path : List ℕ) (has : Contains fo
   altered_removed nodes (Some w) after x (place, at, holds, is) =
       subst (λ o. MatchOption o ⊥ (λ v. Alters folders nodes w v)) (sym is)
       (Alters.within w (with_tree w (remove w.tree place)) Alters.same
-      (record { tree = λ q apart. removed_elsewhere w.tree place q (λ same. apart (folder, path, has, within, LeadsTo.removed (at ∙ ap (λ p. Ok p) (sym same)))); current = refl; environ = refl; input = refl })
+      (record { tree = λ q apart. removed_elsewhere w.tree place q (λ same. apart (folder, path, has, within, LeadsTo.removed (at ∙ ap (λ p. Ok p) (sym same)))); current = refl; environ = refl; input = refl; disk = λ e. e })
       (removed_no_link w.tree place))
 
   cleared_by : (told after : Option World) (old new : List Entry) (r : Result (Unit {0}) HostFault) → IsAnswered r → RemovesPath told after path r → new ≡ old ++ gained path (λ _. []) r → Clearing folders told old after new

@@ -6,11 +6,9 @@ use Rattle.just_config_words.specs.declared.arguments.Arguments.{Arguments}
 use Rattle.just_config_words.specs.declared.words.Read.TheVariants as read
 use Rattle.just_config_words.specs.Words.{Means}
 use Rattle.just_exec.specs.declared.error.Error.{Error}
-use Rattle.just_exec.specs.declared.error.Error.TheVariants as error
 use Rattle.just_cli_plan.specs.Own.{OrMemory}
-use Rattle.just_cli.specs.Questions.{AsksQuiet}
-use Rattle.just_cli.specs.Quiet.{AskQuiet, as_read, unread}
-use Rattle.just_cli.specs.Request.{EnvironGiven}
+use Rattle.just_cli.specs.Quiet.{AsksQuiet, AskQuiet, as_read, unread}
+use Rattle.just_cli.specs.Asked.{EnvironGiven}
 use Rattle.just_cli.specs.Words.{ReadsWords}
 
 module _ (words : List (List ℕ)) (told : Option World) where
@@ -34,7 +32,3 @@ module _ (words : List (List ℕ)) (told : Option World) where
 
     pub asks_quiet : (a : Arguments) (quiet : Bool) → Means words environ.pairs (Ok (read.Go a)) → quiet ≡ a.quiet → AsksQuiet words told quiet
     asks_quiet a quiet means is = record { environ = environ; arguments = a; given = given; means = means; quiet_is = is }
-
--- where memory is wanting, nothing is known of the words
-pub quiet_unread : (words : List (List ℕ)) (told : Option World) (e : Error) → e ≡ error.NoMemory → AskQuiet words told false e
-quiet_unread words told e is = unread refl (inl is)

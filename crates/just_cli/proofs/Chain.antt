@@ -1,12 +1,13 @@
 -- The chain of a request over a host, from what its calls answered.
-use Rattle.std.proofs.Common.{◌≡◌, ◌++◌, ◌∙◌, inl, inr, ℕ, Bool, true, false, true≢false, List, [], ◌∷◌, map, Option, Some, None, MatchOption, Result, Ok, Err, refl, sym, ap, subst, append_assoc, append-nil}
+use Rattle.std.proofs.Common.{◌≡◌, ◌++◌, ◌∙◌, inl, inr, ℕ, Bool, true, false, true≢false, List, [], ◌∷◌, map, Option, Result, Ok, Err, refl, sym, ap, subst, append_assoc, append-nil}
 use Rattle.just_path_text.specs.declared.environ.Environ.{Environ}
-use Rattle.just_host_record.specs.World.{World, Touched, FaultLeaves}
+use Rattle.just_host_record.specs.World.{World}
 use Rattle.just_host_record.specs.declared.entry.Entry.{Entry}
 use Rattle.just_lang_types.specs.declared.source.Source.{Source}
 use Rattle.just_env.specs.declared.search_error.SearchError.{SearchError}
 use Rattle.just_search_load.specs.Loads.{Loads}
 use Rattle.just_config_words.specs.declared.arguments.Arguments.{Arguments}
+use Rattle.just_config_words.specs.declared.words.Read.{Read}
 use Rattle.just_config_words.specs.declared.words.Read.TheVariants as read
 use Rattle.just_config_words.specs.Words.{Means}
 use Rattle.just_config.specs.declared.config.Config.{Config}
@@ -14,36 +15,39 @@ use Rattle.just_search.specs.declared.location.Location.{Location}
 use Rattle.just_exec.specs.Refusals.{error_of_search}
 use Rattle.just_exec.specs.declared.error.Error.{Error}
 use Rattle.just_cli_plan.specs.declared.wanted.Wanted.{Wanted}
-use Rattle.just_cli_plan.specs.Own.{OrMemory, uncaptured_by}
+use Rattle.just_cli_plan.specs.Own.{OrMemory, is_uncaptured}
 use Rattle.just_cli_plan.proofs.Listed.{modules_listed}
 use Rattle.just_lang_types.specs.declared.project.Justfile.{Justfile}
 use Rattle.just_lang_types.specs.declared.scope.DotenvOf.{DotenvOf}
 use Rattle.just_lang_types.specs.Modules.{AreModules, settings_of}
 use Rattle.std.specs.List.{list_any}
 use Rattle.just_host_record.specs.Record.{is_failed}
-use Rattle.just_host_record.specs.declared.entry.HostFault.{HostFault}
 use Rattle.just_host_record.specs.declared.entry.HostFault.TheVariants as fault
 use Rattle.just_env.specs.declared.env_error.OutputError.TheVariants as output
 use Rattle.just_env.specs.Captures.{Capture, told_behind, AreAmongMisses}
-use Rattle.just_env.proofs.Running.{untouched}
 use Rattle.just_exec.specs.declared.error.Error.TheVariants as error
 use Rattle.just_cli_plan.specs.Pairs.{LoadsPairs, BeginsLoading, Runs, Leaves, ErrorLeaves, entries_of as entries_in}
 use Rattle.just_cli.specs.Faults.{entries_of}
 use Rattle.just_cli_plan.specs.Request.{SourcesRequest, ProjectRequest, LoadedRequest, Outline, FindsProject, PlansProject}
-use Rattle.just_cli.specs.NewPath.{is_init}
+use Rattle.just_cli.specs.NewPath.{is_init, FindsFree}
 use Rattle.just_cli.specs.Acts.{Act, AreActs, folders_in, captures_in, Behind, BeginsBehind}
 use Rattle.just_cli.specs.Preparing.{AreMisses, EndsWith, Answers, Performs}
 use Rattle.just_cli.specs.Taken.{TakesWanted, PlansIt, BeginsIt, PerformsPlan}
-use Rattle.just_cli.specs.Request.{FindsProjectOf, AnswersAt, Tries, Searches, Decides, Serves, EnvironGiven, FolderGiven, Asks, AsksGlobal, BeginsAt, BeginsTries, BeginsServes, Begins as BeginsWords}
+use Rattle.just_cli.specs.declared.task.Other.TheVariants as no_run
+use Rattle.just_cli.specs.Asked.{Asked, as_run, Searches, Decides, Serves, EnvironGiven, FolderGiven, Asks, AsksGlobal, BeginsServes, Begins as BeginsWords}
+use Rattle.just_cli.specs.Request.{FindsProjectOf, AnswersAt, Tries, BeginsAt, BeginsTries}
 use Rattle.just_cli.proofs.Altering.{altered_same, quiet_rest}
 use Rattle.just_cli.proofs.Prepared.{left_nothing, performs_as, performs_lost, performs_looking, performs_then, performs_behind}
 use Rattle.just_cli_plan.specs.Steps.{stops, goes_on}
-use Rattle.just_cli.specs.Words.{WordsRequest, ArgumentsRequest, FolderRequest, ConfigRequest, LocatedRequest, JustfileRequest, ReadsWords, Configures, FindsLocation, BeginsIn}
+use Rattle.just_cli.specs.Words.{WordsRequest, ReadRequest, ArgumentsRequest, FolderRequest, ConfigRequest, LocatedRequest, JustfileRequest, ReadsWords, Configures, FindsLocation, BeginsIn}
 
 -- ---- what is known
 
 abbrev pub words_in : List (List ℕ) → Environ → WordsRequest
 words_in words environ = record { words = words; environ = environ }
+
+abbrev pub read_in : Read → Environ → ReadRequest
+read_in m environ = record { meaning = m; environ = environ }
 
 abbrev pub arguments_in : Arguments → Environ → ArgumentsRequest
 arguments_in a environ = record { arguments = a; environ = environ }
@@ -117,18 +121,10 @@ error_still old new path (error.DotenvCommand command (output.Io (fault.Failed c
 error_still old new path (error.DotenvCommand command (output.Io fault.NoMemory)) left quiet = left
 error_still old new path _ left quiet = left
 
--- a world that stays is touched at most, and so is one behind a refusal
-touched_same : (old new : Option World) → new ≡ old → Touched old new
-touched_same old new is = subst (λ w. Touched old w) (sym is) (untouched old)
-
-leaves_touched : (old new : Option World) (o : Option HostFault) → MatchOption o (new ≡ old) (λ io. FaultLeaves old new io) → Touched old new
-leaves_touched old new None left = touched_same old new left
-leaves_touched old new (Some (fault.Missed m)) left = touched_same old new left
-leaves_touched old new (Some (fault.Failed c)) left = left
-leaves_touched old new (Some fault.NoMemory) left = touched_same old new left
-
-error_touched : (old new : Option World) (e : Error) → ErrorLeaves old new e → Touched old new
-error_touched old new e left = leaves_touched old new (uncaptured_by e) left
+-- and so does one that doesn't tell that a child wasn't run to its end
+captured_still : (old new : Option World) (e : Error) → is_uncaptured e ≡ false → ErrorLeaves old new e → new ≡ old
+captured_still old new (error.DotenvCommand command (output.Io io)) captured left = absurd (true≢false captured)
+captured_still old new _ captured left = left
 
 module _ (told after : Option World) (old new : List Entry) (wanted : Wanted) (environ : Environ) (j : Justfile) where
   abbrev Begins : List Act → Option World → Type 0
@@ -146,7 +142,7 @@ module _ (told after : Option World) (old new : List Entry) (wanted : Wanted) (e
     leaves = (es, children_acts cs es are, refl);
     folders = sym (no_folders cs);
     answers = (cs, refl, loads, left);
-    begun = λ modules. (cs, refl, touched_same (told_behind told cs) after left, begun);
+    begun = λ modules. (cs, refl, left, begun);
     still = λ none quiet. left ∙ ap (λ (l : List Capture). told_behind told l) (no_captures cs none);
     alters = λ nodes alone quiet. altered_same (folders_in (map Act.captured cs)) nodes told after (left ∙ ap (λ (l : List Capture). told_behind told l) (sym (all_captured cs) ∙ alone));
   }
@@ -163,7 +159,7 @@ module _ (told after : Option World) (old new : List Entry) (wanted : Wanted) (e
     leaves = (es, path, children_acts cs es are, refl);
     folders = sym (no_folders cs);
     answers = or_pairs cs e why left;
-    begun = λ modules. (cs, refl, error_touched (told_behind told cs) after e left, begun);
+    begun = λ captured modules. (cs, refl, captured_still (told_behind told cs) after e captured left, begun);
     still = λ none quiet. error_still (told_behind told cs) after path e left (quiet_rest is_failed es (entries_in path e) quiet) ∙ ap (λ (l : List Capture). told_behind told l) (no_captures cs none);
     alters = λ nodes alone quiet.
         altered_same (folders_in (map Act.captured cs)) nodes told after
@@ -290,14 +286,23 @@ module _ (a : Arguments) (environ : Environ) (told : Option World) where
 
     module _ (config : Config) (configures : (environ : Environ) → Configures (folder_in a environ folder) (Ok (config_in config environ))) (listings : List Entry) where
       -- what is decided behind the configuration is the answer
-      pub decided : (acts : List Act) (after : Option World) (r : Result Outline Error) → Decides listings told acts after (config_in config environ) r → Serves listings told acts after (arguments_in a environ) r
+      decided : (acts : List Act) (after : Option World) (r : Result Asked Error) → Decides listings told acts after (config_in config environ) r → Serves listings told acts after (arguments_in a environ) r
       decided acts after r decides =
           Behind.both (folder_in a environ folder) [] acts told (refl, refl, (refl, refl, given)) (Behind.both (config_in config environ) [] acts told (refl, refl, configures environ) decides refl) refl
 
+      -- a new justfile is asked for at that path, or refused
+      module _ (asks : is_init config.subcommand ≡ true) where
+        pub new_path : (path : List ℕ) → FindsFree told config (Ok path) → Serves listings told [] told (arguments_in a environ) (Ok (Asked.other (no_run.Init path)))
+        new_path path finds = decided [] told (Ok (Asked.other (no_run.Init path))) (Decides.reads_none asks (refl, refl, (Ok path, finds, refl)))
+
+        pub no_path : (after : Option World) (e : Error) → after ≡ told → OrMemory (λ x. FindsFree told config (Err x)) e → RefusesRun told listings [] after a environ e
+        no_path after e world (inl wants) = inl wants
+        no_path after e world (inr why) = inr (decided [] after (Err e) (Decides.reads_none asks (refl, world, (Err e, why, refl))))
+
     module _ (config : Config) (configures : (environ : Environ) → Configures (folder_in a environ folder) (Ok (config_in config environ))) (plain : is_init config.subcommand ≡ false) (listings : List Entry) where
       -- what the search answers, and what stands behind it, is the answer
-      searched : (acts : List Act) (after : Option World) (r : Result Outline Error) → Searches listings told acts after (config_in config environ) r → Serves listings told acts after (arguments_in a environ) r
-      searched acts after r searches = decided config configures listings acts after r (Decides.runs plain searches)
+      searched : (acts : List Act) (after : Option World) (r : Result Asked Error) → Searches listings told acts after (config_in config environ) r → Serves listings told acts after (arguments_in a environ) r
+      searched acts after r searches = decided config configures listings acts after r (Decides.reads_one plain searches)
 
       -- the justfile isn't found
       pub no_location : (after : Option World) (e : Error) → after ≡ told → OrMemory (λ x. FindsLocation told listings config (Err x)) e → RefusesRun told listings [] after a environ e
@@ -305,9 +310,16 @@ module _ (a : Arguments) (environ : Environ) (told : Option World) where
       no_location after e world (inr lost) = inr (searched [] after (Err e) (Behind.refused e (refl, world, lost) refl))
 
       module _ (location : Location) (finds : FindsLocation told listings config (Ok location)) where
-        -- what is asked of it is the answer
-        pub tried_plan : (acts : List Act) (after : Option World) (r : Result Outline Error) → Tries told acts after (located_in config environ location) r → Serves listings told acts after (arguments_in a environ) r
-        tried_plan acts after r tries = searched acts after r (Behind.both (located_in config environ location) [] acts told (refl, refl, (refl, refl, finds)) tries refl)
+        -- what is asked of it is run
+        tried_answer : (acts : List Act) (after : Option World) (r : Result Outline Error) → Tries told acts after (located_in config environ location) r → Serves listings told acts after (arguments_in a environ) (as_run r)
+        tried_answer acts after r tries = searched acts after (as_run r) (Behind.both (located_in config environ location) [] acts told (refl, refl, (refl, refl, finds)) (r, tries, refl) refl)
+
+        pub tried_plan : (acts : List Act) (after : Option World) (o : Outline) → Tries told acts after (located_in config environ location) (Ok o) → Serves listings told acts after (arguments_in a environ) (Ok (Asked.run o))
+        tried_plan acts after o tries = tried_answer acts after (Ok o) tries
+
+        pub tried_refusal : (acts : List Act) (after : Option World) (e : Error) → OrMemory (λ x. Tries told acts after (located_in config environ location) (Err x)) e → RefusesRun told listings acts after a environ e
+        tried_refusal acts after e (inl wants) = inl wants
+        tried_refusal acts after e (inr tries) = inr (tried_answer acts after (Err e) tries)
 
         -- and what was begun of it was begun of the words' arguments
         pub tried_begun : (acts : List Act) (after : Option World) → BeginsTries told acts after (located_in config environ location) → BeginsServes listings told acts after (arguments_in a environ)
@@ -330,18 +342,27 @@ module _ (words : List (List ℕ)) (told : Option World) where
     no_words after e world (inl wants) listings = inl wants
     no_words after e world (inr faulty) listings = inr (Behind.both (words_in words environ) [] [] told (refl, refl, (refl, given)) (Behind.refused e (refl, world, faulty) refl) refl)
 
+    -- the help is asked for, or the version
+    pub asks_help : Means words environ.pairs (Ok read.Help) → Asks words told [] [] told (Ok (Asked.other no_run.Help))
+    asks_help means =
+        Behind.both (words_in words environ) [] [] told (refl, refl, (refl, given)) (Behind.both (read_in read.Help environ) [] [] told (refl, refl, (means, refl)) (refl, refl, refl) refl) refl
+
+    pub asks_version : Means words environ.pairs (Ok read.Version) → Asks words told [] [] told (Ok (Asked.other no_run.Version))
+    asks_version means =
+        Behind.both (words_in words environ) [] [] told (refl, refl, (refl, given)) (Behind.both (read_in read.Version environ) [] [] told (refl, refl, (means, refl)) (refl, refl, refl) refl) refl
+
     module _ (a : Arguments) (means : Means words environ.pairs (Ok (read.Go a))) (now : Option World) (same : now ≡ told) where
       -- what the arguments ask for is what the words ask for
-      pub words_ask : (listings : List Entry) (acts : List Act) (after : Option World) (r : Result Outline Error) → Serves listings now acts after (arguments_in a environ) r → Asks words told listings acts after r
+      pub words_ask : (listings : List Entry) (acts : List Act) (after : Option World) (r : Result Asked Error) → Serves listings now acts after (arguments_in a environ) r → Asks words told listings acts after r
       words_ask listings acts after r serves =
           Behind.both (words_in words environ) [] acts told (refl, refl, (refl, given))
-          (Behind.both (arguments_in a environ) [] acts told (refl, refl, (means, refl)) (subst (λ t. Serves listings t acts after (arguments_in a environ) r) same serves) refl) refl
+          (Behind.both (read_in (read.Go a) environ) [] acts told (refl, refl, (means, refl)) (subst (λ t. Serves listings t acts after (arguments_in a environ) r) same serves) refl) refl
 
       -- and what was begun of these was begun of the words
       pub words_begin : (listings : List Entry) (acts : List Act) (after : Option World) → BeginsServes listings now acts after (arguments_in a environ) → BeginsWords words told listings acts after
       words_begin listings acts after begins =
           BeginsBehind.at_second (words_in words environ) [] acts told (refl, refl, (refl, given))
-          (BeginsBehind.at_second (arguments_in a environ) [] acts told (refl, refl, (means, refl)) (subst (λ t. BeginsServes listings t acts after (arguments_in a environ)) same begins) refl) refl
+          (BeginsBehind.at_second (read_in (read.Go a) environ) [] acts told (refl, refl, (means, refl)) (subst (λ t. BeginsServes listings t acts after (arguments_in a environ)) same begins) refl) refl
 
       -- and they ask for the user's own justfile
       pub asks_global : a.global_justfile ≡ true → AsksGlobal words told

@@ -18,10 +18,8 @@ use Rattle.just_cli_plan.specs.Own.{OrMemory}
 use Rattle.just_cli.specs.declared.ended.Failure.{Failure}
 use Rattle.just_cli.specs.declared.ended.Report.{Report}
 use Rattle.just_cli.specs.Faults.{entries_of, print_error, write_error}
-use Rattle.just_cli.specs.Questions.{AsksQuiet, IsNothing}
+use Rattle.just_cli.specs.Questions.{IsNothing}
 use Rattle.just_cli.specs.Record.{EndsBefore, IsTold}
-use Rattle.just_cli.specs.Request.{AsksNew}
-use Rattle.just_cli.specs.Run.{IsEnded, by_init}
 use Rattle.just_cli.specs.Written.{written_line, told_line, Writes, IsUnwritten, TellsLine, IsWritten}
 use Rattle.just_cli.proofs.Prepared.{all_misses}
 use Rattle.just_cli.proofs.Runs.{ends_before}
@@ -133,9 +131,3 @@ module _ (path : List ℕ) (quiet : Bool) (old entered new : List Entry) (gains 
 
     pub new_behind : (r : Result Report Failure) → IsWritten path quiet told after entered new r → IsWritten path quiet told after old new r
     new_behind r is = record { written = written_behind r is.written; unwritten = unwritten_behind r is.unwritten }
-
--- a justfile that is written behind the reading of the words ends them
-pub new_ended : (words : List (List ℕ)) (told now after : Option World) (old entered new : List Entry) (path : List ℕ) (quiet : Bool) (r : Result Report Failure)
-    → GainsMisses old entered × AsksNew words told path × AsksQuiet words told quiet → now ≡ told → IsWritten path quiet now after entered new r → IsEnded words told after old new r
-new_ended words told now after old entered new path quiet r asks world_is is =
-    by_init path quiet asks.1 asks.2 (new_behind path quiet old entered new asks.0 told after r (subst (λ w. IsWritten path quiet w after entered new r) world_is is))

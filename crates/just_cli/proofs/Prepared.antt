@@ -1,5 +1,5 @@
 -- What parts of a preparation answer and leave, from the answers of their calls.
-use Rattle.std.proofs.Common.{◌≡◌, ◌++◌, inl, inr, ℕ, List, [], ◌∷◌, Option, Result, Ok, Err, refl, sym, ◌∙◌, ap, subst, append_assoc, append-nil}
+use Rattle.std.proofs.Common.{◌≡◌, ◌++◌, inl, inr, ℕ, false, List, [], ◌∷◌, Option, Result, Ok, Err, refl, sym, ◌∙◌, ap, subst, append_assoc, append-nil}
 use Rattle.std.specs.Prelude.{MatchResult}
 use Rattle.std.proofs.lemmas.List.Elements.{Contains-append_left, Contains-append_right}
 use Rattle.just_host_record.specs.World.{World}
@@ -8,12 +8,12 @@ use Rattle.just_host_record.specs.declared.entry.Entry.TheVariants as entry
 use Rattle.just_host_record.specs.Record.{is_failed}
 use Rattle.just_exec.specs.declared.error.Error.{Error}
 use Rattle.just_exec.specs.declared.error.Error.TheVariants as error
-use Rattle.just_cli_plan.specs.Own.{OrMemory}
-use Rattle.just_cli.specs.Acts.{Act, folders_in, captures_in, AreActs}
+use Rattle.just_cli_plan.specs.Own.{OrMemory, is_uncaptured}
+use Rattle.just_cli.specs.Acts.{Act, entries_of_act, folders_in, captures_in, AreActs}
 use Rattle.just_cli.specs.Altered.{IsAltered}
 use Rattle.just_cli_plan.specs.Pairs.{entries_of as entries_in}
 use Rattle.just_cli.specs.Faults.{entries_of}
-use Rattle.just_cli.specs.Preparing.{AreMisses, EndsWith, LeavesActs, Leaves, Answers, Performs, Prepares}
+use Rattle.just_cli.specs.Preparing.{AreMisses, EndsWith, LeavesActs, Leaves, Answers, UnlessUncaptured, Performs, Prepares}
 use Rattle.just_cli.specs.Request.{ArePassed}
 use Rattle.just_cli.proofs.Altering.{altered_same, altered_then, altered_more, quiet_first, quiet_rest}
 
@@ -71,7 +71,9 @@ no_rest (Act.captured c ∷ acts) more none = absurd (let no : ⊥ = cc in no)
 acts_append : (acts more : List Act) (es fs : List Entry) → AreActs acts es → AreActs more fs → AreActs (acts ++ more) (es ++ fs)
 acts_append acts more es fs AreActs.none b = b
 acts_append acts more es fs (AreActs.a_miss path m some rest a) b = AreActs.a_miss path m (some ++ more) (rest ++ fs) (acts_append some more rest fs a b)
-acts_append acts more es fs (AreActs.an_act x some rest a) b = AreActs.an_act x (some ++ more) (rest ++ fs) (acts_append some more rest fs a b)
+acts_append acts more es fs (AreActs.an_act x some rest a) b =
+    subst (λ l. AreActs (x ∷ (some ++ more)) l) (sym (append_assoc (entries_of_act x) rest fs))
+    (AreActs.an_act x (some ++ more) (rest ++ fs) (acts_append some more rest fs a b))
 
 misses_acts : (es : List Entry) → AreMisses es → AreActs [] es
 misses_acts [] h = AreActs.none
@@ -82,11 +84,22 @@ left_look : {A : Type 0} (r : Result A Error) (es : List Entry) → MatchResult 
 left_look (Ok x) es left = (es, misses_acts es left, refl)
 left_look (Err e) es left = (left.0, [], misses_acts left.0 left.1, left.2)
 
--- ---- a part that only looks
+-- ---- what was begun
 
 -- what was begun by some acts
 abbrev pub BegunBy : Type 1
 BegunBy = List Act → Option World → Type 0
+
+-- what holds anyhow, and what follows
+anyhow : {A : Type 0} (r : Result A Error) (claim : Type 0) → claim → UnlessUncaptured r claim
+anyhow (Ok x) claim so = so
+anyhow (Err e) claim so = λ captured. so
+
+follows : {A : Type 0} (r : Result A Error) (claim more : Type 0) → (claim → more) → UnlessUncaptured r claim → UnlessUncaptured r more
+follows (Ok x) claim more up so = up so
+follows (Err e) claim more up so = λ captured. up (so captured)
+
+-- ---- a part that only looks
 
 module _ {A : Type 0} (gives : List Act → Option World → Result A Error → Type 0) (begins : BegunBy) (told after : Option World) (kept : List (List ℕ)) (old new : List Entry) (world : after ≡ told) (begun : begins [] after) where
   looks_over : (r : Result A Error) (es : List Entry) → new ≡ old ++ es → Leaves [] [] r es → Answers (gives [] after) r → Performs gives begins told after kept kept old new r
@@ -97,7 +110,7 @@ module _ {A : Type 0} (gives : List Act → Option World → Result A Error → 
     leaves = leaves;
     folders = sym (append-nil kept);
     answers = answers;
-    begun = begun;
+    begun = anyhow r (begins [] after) begun;
     still = λ none quiet. world;
     alters = λ nodes alone quiet. altered_same [] nodes told after world;
   }
@@ -141,7 +154,7 @@ performs_then first second gives one two begins told between after kept keep kee
       leaves = leaves_then r p.acts q.acts p.entries q.entries p.leaves q.leaves;
       folders = q.folders ∙ (ap (λ fs. fs ++ folders_in q.acts) p.folders ∙ (append_assoc kept (folders_in p.acts) (folders_in q.acts) ∙ ap (λ fs. kept ++ fs) (sym all)));
       answers = both p.acts q.acts p.answers q.answers;
-      begun = more_begun p.acts q.acts p.answers q.begun;
+      begun = follows r (two q.acts after) (begins (p.acts ++ q.acts) after) (λ b. more_begun p.acts q.acts p.answers b) q.begun;
       still = λ none quiet. q.still (nil_rest p.acts q.acts none) (quiet_rest is_failed p.entries q.entries quiet) ∙ p.still (nil_first p.acts q.acts none) (quiet_first is_failed p.entries q.entries quiet);
       alters = λ nodes alone quiet.
           subst (λ fs. IsAltered fs nodes told after) (sym all)
@@ -161,27 +174,15 @@ performs_looking first gives one begins told between after kept keeps old middle
   leaves = subst (λ l. Leaves [] l r (p.entries ++ es)) (append-nil p.acts) (leaves_then r p.acts [] p.entries es p.leaves (left_look r es left));
   folders = p.folders;
   answers = more p.acts p.answers;
-  begun = more_begun p.acts p.begun;
+  begun = anyhow r (begins p.acts after) (more_begun p.acts p.begun);
   still = λ none quiet. world ∙ p.still none (quiet_first is_failed p.entries es quiet);
   alters = λ nodes alone quiet. subst (λ w. IsAltered (folders_in p.acts) nodes told w) (sym world) (p.alters nodes alone (quiet_first is_failed p.entries es quiet));
 }
-
-or_more : {A : Type 0} (one more : Result A Error → Type 0) → ((s : Result A Error) → one s → more s) → (e : Error) → OrMemory (λ x. one (Err x)) e → OrMemory (λ x. more (Err x)) e
-or_more one more over e (inl wants) = inl wants
-or_more one more over e (inr why) = inr (over (Err e) why)
 
 -- a part that keeps no folder, behind some that were kept
 pub performs_behind : {A : Type 0} (gives : List Act → Option World → Result A Error → Type 0) (begins : BegunBy) (told after : Option World) (kept : List (List ℕ)) (old new : List Entry) (r : Result A Error) → Performs gives begins told after [] [] old new r → Performs gives begins told after kept kept old new r
 performs_behind gives begins told after kept old new r p =
     record { acts = p.acts; entries = p.entries; grew = p.grew; leaves = p.leaves; folders = sym (append-nil kept) ∙ ap (λ (fs : List (List ℕ)). kept ++ fs) p.folders; answers = p.answers; begun = p.begun; still = p.still; alters = p.alters }
-
--- the same for what says more
-pub performs_more : {A : Type 0} (first gives : List Act → Option World → Result A Error → Type 0) (one begins : BegunBy) (told after : Option World) (kept keeps : List (List ℕ)) (old new : List Entry) (r : Result A Error) → ((acts : List Act) (s : Result A Error) → first acts after s → gives acts after s) → ((acts : List Act) → one acts after → begins acts after)
-    → Performs first one told after kept keeps old new r → Performs gives begins told after kept keeps old new r
-performs_more first gives one begins told after kept keeps old new (Ok x) over up p =
-    record { acts = p.acts; entries = p.entries; grew = p.grew; leaves = p.leaves; folders = p.folders; answers = over p.acts (Ok x) p.answers; begun = up p.acts p.begun; still = p.still; alters = p.alters }
-performs_more first gives one begins told after kept keeps old new (Err e) over up p =
-    record { acts = p.acts; entries = p.entries; grew = p.grew; leaves = p.leaves; folders = p.folders; answers = or_more (λ z. first p.acts after z) (λ z. gives p.acts after z) (λ z. over p.acts z) e p.answers; begun = up p.acts p.begun; still = p.still; alters = p.alters }
 
 -- the same acts for another answer
 pub performs_as : {A B : Type 0} (first : List Act → Option World → Result A Error → Type 0) (gives : List Act → Option World → Result B Error → Type 0) (one begins : BegunBy) (told after : Option World) (kept keeps : List (List ℕ)) (old new : List Entry) (x : A) (y : B)
@@ -192,20 +193,20 @@ performs_as first gives one begins told after kept keeps old new x y p more up =
 pub performs_lost : {A B : Type 0} (first : List Act → Option World → Result A Error → Type 0) (gives : List Act → Option World → Result B Error → Type 0) (one begins : BegunBy) (told after : Option World) (kept keeps : List (List ℕ)) (old new : List Entry) (e : Error)
     → Performs first one told after kept keeps old new (Err e) → ((acts : List Act) → OrMemory (λ x. first acts after (Err x)) e → OrMemory (λ x. gives acts after (Err x)) e) → ((acts : List Act) → one acts after → begins acts after) → Performs gives begins told after kept keeps old new (Err e)
 performs_lost first gives one begins told after kept keeps old new e p more up =
-    record { acts = p.acts; entries = p.entries; grew = p.grew; leaves = p.leaves; folders = p.folders; answers = more p.acts p.answers; begun = up p.acts p.begun; still = p.still; alters = p.alters }
+    record { acts = p.acts; entries = p.entries; grew = p.grew; leaves = p.leaves; folders = p.folders; answers = more p.acts p.answers; begun = λ captured. up p.acts (p.begun captured); still = p.still; alters = p.alters }
 
 -- an answer in the place of a refusal that is of no call
 pub performs_instead : {A B : Type 0} (first : List Act → Option World → Result A Error → Type 0) (gives : List Act → Option World → Result B Error → Type 0) (one begins : BegunBy) (told after : Option World) (kept keeps : List (List ℕ)) (old new : List Entry) (e : Error) (y : B)
-    → ((parent : List ℕ) → entries_in parent e ≡ []) → Performs first one told after kept keeps old new (Err e) → ((acts : List Act) → OrMemory (λ x. first acts after (Err x)) e → gives acts after (Ok y)) → ((acts : List Act) → one acts after → begins acts after)
+    → ((parent : List ℕ) → entries_in parent e ≡ []) → is_uncaptured e ≡ false → Performs first one told after kept keeps old new (Err e) → ((acts : List Act) → OrMemory (λ x. first acts after (Err x)) e → gives acts after (Ok y)) → ((acts : List Act) → one acts after → begins acts after)
     → Performs gives begins told after kept keeps old new (Ok y)
-performs_instead first gives one begins told after kept keeps old new e y silent p more up = record {
+performs_instead first gives one begins told after kept keeps old new e y silent captured p more up = record {
   acts = p.acts;
   entries = p.entries;
   grew = p.grew;
   leaves = (p.leaves.0, p.leaves.2, p.leaves.3 ∙ (ap (λ xs. p.leaves.0 ++ xs) (silent p.leaves.1) ∙ append-nil p.leaves.0));
   folders = p.folders;
   answers = more p.acts p.answers;
-  begun = up p.acts p.begun;
+  begun = up p.acts (p.begun captured);
   still = p.still;
   alters = p.alters;
 }
@@ -220,7 +221,7 @@ performs_short first gives begins told after kept keeps old new x e is p = recor
   leaves = (p.leaves.0, [], p.leaves.1, p.leaves.2 ∙ (sym (append-nil p.leaves.0) ∙ ap (λ z. p.leaves.0 ++ entries_in [] z) (sym is)));
   folders = p.folders;
   answers = inl is;
-  begun = p.begun;
+  begun = λ captured. p.begun;
   still = p.still;
   alters = p.alters;
 }
@@ -270,7 +271,7 @@ module _ {A : Type 0} (global wider : Type 0) (asks more : List Entry → List A
       leaves = p.leaves;
       folders = p.folders;
       answers = answers_over listings p.acts r p.answers;
-      begun = over_begun listings p.acts p.begun;
+      begun = follows r (one listings p.acts after) (begins listings p.acts after) (λ b. over_begun listings p.acts b) p.begun;
       still = λ none quiet. p.still none quiet ∙ world;
       alters = λ nodes alone quiet. subst (λ t. IsAltered (folders_in p.acts) nodes t after) world (p.alters nodes alone quiet);
     },

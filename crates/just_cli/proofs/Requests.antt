@@ -7,7 +7,10 @@ use Rattle.just_host_record.specs.declared.entry.Call.{Call}
 use Rattle.just_host_record.specs.declared.entry.Call.TheVariants as call
 use Rattle.just_host_record.specs.declared.entry.HostFault.{HostFault}
 use Rattle.just_host_record.specs.declared.entry.HostFault.TheVariants as fault
+use Rattle.just_config_words.specs.declared.usage.Usage.{Usage}
+use Rattle.just_config_words.specs.declared.words.Read.{Read}
 use Rattle.just_config_words.specs.declared.words.Read.TheVariants as read
+use Rattle.just_config_words.specs.Words.{IsSame}
 use Rattle.just_config_words.proofs.Laws.{one_meaning}
 use Rattle.just_exec.specs.declared.error.Error.{Error}
 use Rattle.just_exec.specs.declared.error.Error.TheVariants as error
@@ -16,16 +19,16 @@ use Rattle.just_env.specs.declared.search_error.SearchError.{SearchError}
 use Rattle.just_search.specs.declared.search_result.Search.{Search}
 use Rattle.just_search.specs.Files.{parent_of}
 use Rattle.just_cli.specs.Acts.{Act, AreToldBehind, Step, Looks, Behind}
-use Rattle.just_cli.proofs.Acting.{GivesOwnStep, looks_own, agrees_as, agrees_refusal, in_two, told_front, told_world, common, behind_own}
+use Rattle.just_cli.proofs.Acting.{Agrees, GivesOwnStep, looks_own, agrees_as, agrees_refusal, in_two, told_front, told_world, common, behind_own}
 use Rattle.just_cli.proofs.OneFile.{materializes_one}
 use Rattle.just_cli.specs.Faults.{CallGives, FaultFits, io_error, folder_error}
 use Rattle.just_host_record.specs.declared.entry.Entry.{Entry}
 use Rattle.just_config.specs.declared.config.Config.{Config}
 use Rattle.just_env.specs.Answers.{entries_of}
 use Rattle.just_search.specs.declared.location.Location.{Location}
-use Rattle.just_cli.specs.NewPath.{is_init, FindsNew}
+use Rattle.just_cli.specs.NewPath.{is_init}
 use Rattle.just_cli.specs.Options.{cache_beside, wanted_of, allowed}
-use Rattle.just_cli.specs.Words.{WordsRequest, ArgumentsRequest, FolderRequest, ConfigRequest, LocatedRequest, JustfileRequest, FindsEnviron, ReadsWords, FindsFolder, GivesConfig, IsBuilt, Configures, FindsLocation, FindsJustfile, TakesFile}
+use Rattle.just_cli.specs.Words.{WordsRequest, ReadRequest, ArgumentsRequest, FolderRequest, ConfigRequest, LocatedRequest, JustfileRequest, FindsEnviron, ReadsWords, FindsFolder, GivesConfig, IsBuilt, Configures, FindsLocation, FindsJustfile, TakesFile}
 use Rattle.just_exec.specs.Refusals.{error_of_search}
 use Rattle.just_lang_types.specs.Modules.{settings_of}
 use Rattle.just_cli_plan.proofs.AgreeLaws.{loads_agree}
@@ -36,7 +39,9 @@ use Rattle.std.proofs.lemmas.List.{append_cancel_left}
 use Rattle.just_cli_plan.proofs.Laws.{plans_agree}
 use Rattle.just_cli_plan.proofs.Requests.{finds_project}
 use Rattle.just_cli_plan.specs.Steps.{stops, goes_on}
-use Rattle.just_cli.specs.Request.{LoadsSources, EnvironGiven, FolderGiven, FindsProjectOf, FindsProjectAt, PlansLoaded, AnswersAt, Tries, Decides, Serves, Asks, NoneFailed}
+use Rattle.just_cli.specs.Asked.{Asked, as_run, as_new, EnvironGiven, FolderGiven, RunsTried, AsksNew, Decides, Serves, AsksAs, AsksRead, Asks}
+use Rattle.just_cli.specs.Request.{LoadsSources, FindsProjectOf, FindsProjectAt, PlansLoaded, AnswersAt, Tries, NoneFailed}
+use Rattle.just_cli.specs.declared.task.Other.TheVariants as no_run
 use Rattle.just_cli.proofs.Arguments.{arguments_one}
 use Rattle.just_cli.proofs.OneLocation.{by_one, own_unfailed}
 use Rattle.just_cli.proofs.Climbing.{climb_of_first}
@@ -95,15 +100,31 @@ module _ (w : World) where
   finds_folder k (Err e) (Ok b) p m q n = absurd (refused_or_found e b.folder (folder_own (Err e) (Ok b.folder) p m q.2 tt))
   finds_folder k (Err e) (Err f) p m q n = same_refusal e f (folder_own (Err e) (Err f) p m q n)
 
+-- what both mean is one thing
+read_one : (m n : Read) → IsSame (Ok m) (Ok n) → m ≡ n
+read_one (read.Go a) (read.Go b) same = ap (λ x. read.Go x) (arguments_one same.0 same.1 a b same.2 same.3)
+read_one (read.Go a) read.Help same = absurd same
+read_one (read.Go a) read.Version same = absurd same
+read_one read.Help (read.Go b) same = absurd same
+read_one read.Help read.Help same = refl
+read_one read.Help read.Version same = absurd same
+read_one read.Version (read.Go b) same = absurd same
+read_one read.Version read.Help same = absurd same
+read_one read.Version read.Version same = refl
+
+read_or_fault : (m : Read) (u : Usage) → IsSame (Ok m) (Err u) → ⊥
+read_or_fault (read.Go a) u same = same
+read_or_fault read.Help u same = same
+read_or_fault read.Version u same = same
+
 -- the words are read in one way
 reads_words : GivesOwn ReadsWords
 reads_words k (Ok a) (Ok b) p m q n =
-    let same = one_meaning k.words k.environ.pairs (Ok (read.Go a.arguments)) (Ok (read.Go b.arguments)) p.0 q.0 in
     ap (λ x. Ok x)
-    (ap (λ x. let z : ArgumentsRequest = record { arguments = x; environ = a.environ } in z) (arguments_one same.0 same.1 a.arguments b.arguments same.2 same.3)
-    ∙ ap (λ x. let z : ArgumentsRequest = record { arguments = b.arguments; environ = x } in z) (p.1 ∙ sym q.1))
-reads_words k (Ok a) (Err f) p m q n = absurd (one_meaning k.words k.environ.pairs (Ok (read.Go a.arguments)) (Err q.0) p.0 q.1)
-reads_words k (Err e) (Ok b) p m q n = absurd (one_meaning k.words k.environ.pairs (Err p.0) (Ok (read.Go b.arguments)) p.1 q.0)
+    (ap (λ x. let z : ReadRequest = record { meaning = x; environ = a.environ } in z) (read_one a.meaning b.meaning (one_meaning k.words k.environ.pairs (Ok a.meaning) (Ok b.meaning) p.0 q.0))
+    ∙ ap (λ x. let z : ReadRequest = record { meaning = b.meaning; environ = x } in z) (p.1 ∙ sym q.1))
+reads_words k (Ok a) (Err f) p m q n = absurd (read_or_fault a.meaning q.0 (one_meaning k.words k.environ.pairs (Ok a.meaning) (Err q.0) p.0 q.1))
+reads_words k (Err e) (Ok b) p m q n = absurd (read_or_fault b.meaning p.0 (one_meaning k.words k.environ.pairs (Ok b.meaning) (Err p.0) q.0 p.1))
 reads_words k (Err e) (Err f) p m q n = ap (λ x. Err x) (p.2 ∙ ap (λ u. error.Usage u) (one_meaning k.words k.environ.pairs (Err p.0) (Err q.0) p.1 q.1) ∙ sym q.2)
 
 -- arguments give one configuration, or are refused with one error
@@ -314,20 +335,47 @@ tries_own w acts more rest left after later q r s (x, p, is) own (y, o, at) othe
     let one = from_one c answers_one w acts more rest left after later q.location x y (climb_of_first c (Some w) acts after q.location x p) (own_answer q.config x r is own) (climb_of_first c (Some w) more later q.location y o) (own_answer q.config y s at other) all told in
     record { same = is ∙ (ap (λ z. allowed q.config z) one.same ∙ sym at); rests = one.rests; world = one.world; told = one.told; also = one.also }
 
--- the steps behind the configuration, over listings none of which failed
-abbrev pub SearchesUnfailed : Step ConfigRequest Outline
-SearchesUnfailed = Behind (Looks FindsUnfailed) Tries
+-- ---- behind the configuration
 
-data DecidesUnfailed (told : Option World) (acts : List Act) (after : Option World) (c : ConfigRequest) (r : Result Outline Error) : Type 0 where
-  runs : is_init c.config.subcommand ≡ false → SearchesUnfailed told acts after c r → DecidesUnfailed told acts after c r
-  not_new : (e : Error) → Looks FindsNew told acts after c (Err e) → r ≡ Err e → DecidesUnfailed told acts after c r
+-- what is run, or a new justfile, is determined where what it comes from is
+own_run : (x : Result Outline Error) (r : Result Asked Error) → r ≡ as_run x → IsOwn r → IsOwn x
+own_run (Ok o) r is own = tt
+own_run (Err e) r is own = subst (λ (z : Result Asked Error). IsOwn z) is own
+
+own_new : (x : Result (List ℕ) Error) (r : Result Asked Error) → r ≡ as_new x → IsOwn r → IsOwn x
+own_new (Ok path) r is own = tt
+own_new (Err e) r is own = subst (λ (z : Result Asked Error). IsOwn z) is own
+
+runs_own : GivesOwnStep RunsTried
+runs_own w acts more rest left after later q r s (x, p, is) own (y, o, at) other all told =
+    let one = tries_own w acts more rest left after later q x y p (own_run x r is own) o (own_run y s at other) all told in
+    record { same = is ∙ (ap (λ z. as_run z) one.same ∙ sym at); rests = one.rests; world = one.world; told = one.told; also = one.also }
+
+asks_new_own : (w : World) → GivesOwn (AsksNew (Some w))
+asks_new_own w k r s (x, p, is) own (y, q, at) other = is ∙ (ap (λ z. as_new z) (new_own w k.config x y p (own_new x r is own) q (own_new y s at other)) ∙ sym at)
+
+-- the steps behind the configuration, over listings none of which failed
+abbrev pub SearchesUnfailed : Step ConfigRequest Asked
+SearchesUnfailed = Behind (Looks FindsUnfailed) RunsTried
+
+data DecidesUnfailed (told : Option World) (acts : List Act) (after : Option World) (c : ConfigRequest) (r : Result Asked Error) : Type 0 where
+  reads_none : is_init c.config.subcommand ≡ true → Looks AsksNew told acts after c r → DecidesUnfailed told acts after c r
+  reads_one : is_init c.config.subcommand ≡ false → SearchesUnfailed told acts after c r → DecidesUnfailed told acts after c r
 
 -- and behind the words
-abbrev ServesUnfailed : Step ArgumentsRequest Outline
+abbrev ServesUnfailed : Step ArgumentsRequest Asked
 ServesUnfailed = Behind (Looks (λ told. FindsFolder (FolderGiven told))) (Behind (Looks (λ told. Configures)) DecidesUnfailed)
 
-abbrev AsksUnfailed : Step (List (List ℕ)) Outline
-AsksUnfailed = Behind (Looks (λ told. FindsEnviron (EnvironGiven told))) (Behind (Looks (λ told. ReadsWords)) ServesUnfailed)
+abbrev AsksAsUnfailed : Read → Environ → Option World → List Act → Option World → Result Asked Error → Type 0
+AsksAsUnfailed read.Help environ told acts after r = (acts ≡ []) × (after ≡ told) × (r ≡ Ok (Asked.other no_run.Help))
+AsksAsUnfailed read.Version environ told acts after r = (acts ≡ []) × (after ≡ told) × (r ≡ Ok (Asked.other no_run.Version))
+AsksAsUnfailed (read.Go a) environ told acts after r = ServesUnfailed told acts after (record { arguments = a; environ = environ }) r
+
+abbrev AsksReadUnfailed : Step ReadRequest Asked
+AsksReadUnfailed told acts after q r = AsksAsUnfailed q.meaning q.environ told acts after r
+
+abbrev AsksUnfailed : Step (List (List ℕ)) Asked
+AsksUnfailed = Behind (Looks (λ told. FindsEnviron (EnvironGiven told))) (Behind (Looks (λ told. ReadsWords)) AsksReadUnfailed)
 
 -- steps that answer more
 behind_more : {A B C : Type 0} (one other : Step A B) (two more : Step B C) → ((t : Option World) (acts : List Act) (u : Option World) (k : A) (r : Result B Error) → one t acts u k r → other t acts u k r)
@@ -336,47 +384,68 @@ behind_more one other two more f g t acts u k r (Behind.refused e p is) = Behind
 behind_more one other two more f g t acts u k r (Behind.both y front back between p rest is) = Behind.both y front back between (f t front between k (Ok y) p) (g between back u y r rest) is
 
 searches_own : GivesOwnStep SearchesUnfailed
-searches_own = behind_own (Looks FindsUnfailed) Tries (looks_own FindsUnfailed finds_justfile) tries_own
+searches_own = behind_own (Looks FindsUnfailed) RunsTried (looks_own FindsUnfailed finds_justfile) runs_own
 
 decides_own : GivesOwnStep DecidesUnfailed
-decides_own w acts more rest left after later c r s (DecidesUnfailed.runs is p) own (DecidesUnfailed.runs at q) other all told = searches_own w acts more rest left after later c r s p own q other all told
-decides_own w acts more rest left after later c r s (DecidesUnfailed.runs is p) own (DecidesUnfailed.not_new e (none, world, q) at) other all told = absurd (true≢false (sym q.0 ∙ is))
-decides_own w acts more rest left after later c r s (DecidesUnfailed.not_new e (none, world, p) is) own (DecidesUnfailed.runs at q) other all told = absurd (true≢false (sym p.0 ∙ at))
-decides_own w acts more rest left after later c r s (DecidesUnfailed.not_new d (none, world, p) is) own (DecidesUnfailed.not_new e (never, still, q) at) other all told = record {
-  same = is ∙ same_refusal d e (new_own w c.config (Err d) (Err e) p.1 (own_refused (List ℕ) r d is own) q.1 (own_refused (List ℕ) s e at other)) ∙ sym at;
-  rests = ap (λ l. l ++ rest) (sym none) ∙ (all ∙ ap (λ l. l ++ left) never);
-  world = w;
-  told = world;
-  also = still;
-}
+decides_own w acts more rest left after later c r s (DecidesUnfailed.reads_none is p) own (DecidesUnfailed.reads_none at q) other all told = looks_own AsksNew asks_new_own w acts more rest left after later c r s p own q other all told
+decides_own w acts more rest left after later c r s (DecidesUnfailed.reads_none is p) own (DecidesUnfailed.reads_one at q) other all told = absurd (true≢false (sym is ∙ at))
+decides_own w acts more rest left after later c r s (DecidesUnfailed.reads_one is p) own (DecidesUnfailed.reads_none at q) other all told = absurd (true≢false (sym at ∙ is))
+decides_own w acts more rest left after later c r s (DecidesUnfailed.reads_one is p) own (DecidesUnfailed.reads_one at q) other all told = searches_own w acts more rest left after later c r s p own q other all told
 
 serves_own : GivesOwnStep ServesUnfailed
 serves_own =
     behind_own (Looks (λ told. FindsFolder (FolderGiven told))) (Behind (Looks (λ told. Configures)) DecidesUnfailed) (looks_own (λ told. FindsFolder (FolderGiven told)) finds_folder)
     (behind_own (Looks (λ told. Configures)) DecidesUnfailed (looks_own (λ told. Configures) (λ w. configures)) decides_own)
 
+-- what only the words answer takes no act
+one_text : (w : World) (acts more rest left : List Act) (after later : Option World) (x : Asked) (r s : Result Asked Error) → (acts ≡ []) × (after ≡ Some w) × (r ≡ Ok x) → (more ≡ []) × (later ≡ Some w) × (s ≡ Ok x) → acts ++ rest ≡ more ++ left
+    → Agrees r s rest left after later
+one_text w acts more rest left after later x r s (none, world, is) (never, still, at) all = record {
+  same = is ∙ sym at;
+  rests = ap (λ l. l ++ rest) (sym none) ∙ (all ∙ ap (λ l. l ++ left) never);
+  world = w;
+  told = world;
+  also = still;
+}
+
+asks_as_own : (m : Read) (environ : Environ) (w : World) (acts more rest left : List Act) (after later : Option World) (r s : Result Asked Error) → AsksAsUnfailed m environ (Some w) acts after r → IsOwn r → AsksAsUnfailed m environ (Some w) more later s → IsOwn s
+    → acts ++ rest ≡ more ++ left → AreToldBehind (more ++ left) → Agrees r s rest left after later
+asks_as_own read.Help environ w acts more rest left after later r s p own q other all told = one_text w acts more rest left after later (Asked.other no_run.Help) r s p q all
+asks_as_own read.Version environ w acts more rest left after later r s p own q other all told = one_text w acts more rest left after later (Asked.other no_run.Version) r s p q all
+asks_as_own (read.Go a) environ w acts more rest left after later r s p own q other all told = serves_own w acts more rest left after later (record { arguments = a; environ = environ }) r s p own q other all told
+
+asks_read_own : GivesOwnStep AsksReadUnfailed
+asks_read_own w acts more rest left after later k r s p own q other all told = asks_as_own k.meaning k.environ w acts more rest left after later r s p own q other all told
+
 asks_own : GivesOwnStep AsksUnfailed
 asks_own =
-    behind_own (Looks (λ told. FindsEnviron (EnvironGiven told))) (Behind (Looks (λ told. ReadsWords)) ServesUnfailed) (looks_own (λ told. FindsEnviron (EnvironGiven told)) finds_environ)
-    (behind_own (Looks (λ told. ReadsWords)) ServesUnfailed (looks_own (λ told. ReadsWords) (λ w. reads_words)) serves_own)
+    behind_own (Looks (λ told. FindsEnviron (EnvironGiven told))) (Behind (Looks (λ told. ReadsWords)) AsksReadUnfailed) (looks_own (λ told. FindsEnviron (EnvironGiven told)) finds_environ)
+    (behind_own (Looks (λ told. ReadsWords)) AsksReadUnfailed (looks_own (λ told. ReadsWords) (λ w. reads_words)) asks_read_own)
 
 module _ (listings : List Entry) (none : NoneFailed listings) where
-  decides_more : (t : Option World) (acts : List Act) (u : Option World) (c : ConfigRequest) (r : Result Outline Error) → Decides listings t acts u c r → DecidesUnfailed t acts u c r
-  decides_more t acts u c r (Decides.runs is p) =
-      DecidesUnfailed.runs is
-      (behind_more (Looks (λ told. FindsJustfile (FindsLocation told listings))) (Looks FindsUnfailed) Tries Tries (λ t acts u k s p. (p.0, p.1, (listings, none, p.2))) (λ t acts u k s p. p) t acts u c r p)
-  decides_more t acts u c r (Decides.not_new e p is) = DecidesUnfailed.not_new e p is
+  decides_more : (t : Option World) (acts : List Act) (u : Option World) (c : ConfigRequest) (r : Result Asked Error) → Decides listings t acts u c r → DecidesUnfailed t acts u c r
+  decides_more t acts u c r (Decides.reads_none is p) = DecidesUnfailed.reads_none is p
+  decides_more t acts u c r (Decides.reads_one is p) =
+      DecidesUnfailed.reads_one is
+      (behind_more (Looks (λ told. FindsJustfile (FindsLocation told listings))) (Looks FindsUnfailed) RunsTried RunsTried (λ t acts u k s p. (p.0, p.1, (listings, none, p.2))) (λ t acts u k s p. p) t acts u c r p)
 
-  asks_unfailed : (words : List (List ℕ)) (told : Option World) (acts : List Act) (after : Option World) (r : Result Outline Error) → Asks words told listings acts after r → AsksUnfailed told acts after words r
+  serves_more : (t : Option World) (acts : List Act) (u : Option World) (a : ArgumentsRequest) (r : Result Asked Error) → Serves listings t acts u a r → ServesUnfailed t acts u a r
+  serves_more =
+      behind_more (Looks (λ told. FindsFolder (FolderGiven told))) (Looks (λ told. FindsFolder (FolderGiven told))) (Behind (Looks (λ told. Configures)) (Decides listings)) (Behind (Looks (λ told. Configures)) DecidesUnfailed) (λ t acts u k s p. p)
+      (behind_more (Looks (λ told. Configures)) (Looks (λ told. Configures)) (Decides listings) DecidesUnfailed (λ t acts u k s p. p) decides_more)
+
+  asks_as_more : (m : Read) (environ : Environ) (t : Option World) (acts : List Act) (u : Option World) (r : Result Asked Error) → AsksAs listings m environ t acts u r → AsksAsUnfailed m environ t acts u r
+  asks_as_more read.Help environ t acts u r p = p
+  asks_as_more read.Version environ t acts u r p = p
+  asks_as_more (read.Go a) environ t acts u r p = serves_more t acts u (record { arguments = a; environ = environ }) r p
+
+  asks_unfailed : (words : List (List ℕ)) (told : Option World) (acts : List Act) (after : Option World) (r : Result Asked Error) → Asks words told listings acts after r → AsksUnfailed told acts after words r
   asks_unfailed words told acts after r asks =
-      behind_more (Looks (λ told. FindsEnviron (EnvironGiven told))) (Looks (λ told. FindsEnviron (EnvironGiven told))) (Behind (Looks (λ told. ReadsWords)) (Serves listings)) (Behind (Looks (λ told. ReadsWords)) ServesUnfailed) (λ t acts u k s p. p)
-      (behind_more (Looks (λ told. ReadsWords)) (Looks (λ told. ReadsWords)) (Serves listings) ServesUnfailed (λ t acts u k s p. p)
-      (behind_more (Looks (λ told. FindsFolder (FolderGiven told))) (Looks (λ told. FindsFolder (FolderGiven told))) (Behind (Looks (λ told. Configures)) (Decides listings)) (Behind (Looks (λ told. Configures)) DecidesUnfailed) (λ t acts u k s p. p)
-      (behind_more (Looks (λ told. Configures)) (Looks (λ told. Configures)) (Decides listings) DecidesUnfailed (λ t acts u k s p. p) decides_more))) told acts after words r asks
+      behind_more (Looks (λ told. FindsEnviron (EnvironGiven told))) (Looks (λ told. FindsEnviron (EnvironGiven told))) (Behind (Looks (λ told. ReadsWords)) (AsksRead listings)) (Behind (Looks (λ told. ReadsWords)) AsksReadUnfailed) (λ t acts u k s p. p)
+      (behind_more (Looks (λ told. ReadsWords)) (Looks (λ told. ReadsWords)) (AsksRead listings) AsksReadUnfailed (λ t acts u k s p. p) (λ t acts u k s p. asks_as_more k.meaning k.environ t acts u s p)) told acts after words r asks
 
--- in a world and with these acts, behind whose children worlds are told, words ask for one thing: a run of one plan, or a refusal with one error, where no
--- listing failed
-pub one_answer : (words : List (List ℕ)) (w : World) (acts : List Act) → AreToldBehind acts → (ls ms : List Entry) (after later : Option World) (r s : Result Outline Error) → NoneFailed ls → NoneFailed ms → Asks words (Some w) ls acts after r → IsOwn r
+-- in a world and with these acts, behind whose children worlds are told, words ask for one thing, or are refused with one error, where no listing failed
+pub one_answer : (words : List (List ℕ)) (w : World) (acts : List Act) → AreToldBehind acts → (ls ms : List Entry) (after later : Option World) (r s : Result Asked Error) → NoneFailed ls → NoneFailed ms → Asks words (Some w) ls acts after r → IsOwn r
     → Asks words (Some w) ms acts later s → IsOwn s → r ≡ s
 one_answer words w acts told ls ms after later r s none never p m q n =
     (asks_own w acts acts [] [] after later words r s (asks_unfailed ls none words (Some w) acts after r p) m (asks_unfailed ms never words (Some w) acts later s q) n refl (subst (λ l. AreToldBehind l) (sym (append-nil acts)) told)).same

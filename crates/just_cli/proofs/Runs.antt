@@ -1,5 +1,5 @@
 -- A run keeps its promise: from what its steps, its drive, the telling of its error and the removal of its folders ensure.
-use Rattle.std.proofs.Common.{◌≡◌, ◌⊎◌, ◌++◌, inl, inr, ℕ, Bool, true, false, true≢false, List, [], ◌∷◌, Option, Some, None, Result, Ok, Err, MatchOption, refl, sym, ◌∙◌, ap, subst, append_assoc, append-nil}
+use Rattle.std.proofs.Common.{◌≡◌, ◌⊎◌, ◌++◌, inl, inr, ℕ, Bool, true, false, true≢false, List, [], ◌∷◌, Option, Some, None, Result, Ok, Err, refl, sym, ◌∙◌, ap, subst, append_assoc, append-nil}
 use Rattle.std.specs.List.{list_any}
 use Rattle.std.proofs.Math.Logic.{∥∥₁_map}
 use Rattle.std.proofs.lemmas.List.{append_cancel_left}
@@ -18,36 +18,36 @@ use Rattle.just_sched_history.specs.Start.{IsKept, run_over, run_of, start_with}
 use Rattle.just_sched_history.specs.State.{has_caught}
 use Rattle.just_sched_history.specs.Touched.{IsTouched}
 use Rattle.just_sched_history.specs.Verdict.{IsVerdict, NoneDecides}
-use Rattle.just_sched_history.proofs.Laws.{nothing_started}
+use Rattle.just_sched_history.proofs.Laws.{made_touches, nothing_started}
 use Rattle.just_cli.specs.declared.ended.Failure.{Failure}
 use Rattle.just_cli.specs.declared.ended.Report.{Report}
 use Rattle.just_exec.specs.declared.error.Error.{Error}
-use Rattle.just_cli_plan.specs.Own.{OrMemory}
+use Rattle.just_cli_plan.specs.Own.{OrMemory, is_uncaptured}
 use Rattle.just_cli_plan.specs.Outcome.{IsErrorFor}
 use Rattle.just_cli.specs.Acts.{Act, AreActs, folders_in, captures_in}
 use Rattle.just_cli.specs.Altered.{IsAltered, EndsAsItWas, StaysAsItWas}
 use Rattle.just_cli_plan.specs.Pairs.{entries_of as entries_in}
-use Rattle.just_cli.specs.Questions.{AsksQuiet}
-use Rattle.just_cli.specs.Quiet.{AskQuiet}
 use Rattle.just_cli.specs.Preparing.{EndsWith, LeavesActs, EndsActs, Performs, Prepares}
 use Rattle.just_cli.specs.Record.{GoByCacheRule, IsBook, IsTold, is_captured, IsQuiet, Removes, EndsWell, EndsIll, EndsUnopened, EndsBefore}
-use Rattle.just_cli_plan.specs.Request.{Outline, outline_of}
-use Rattle.just_cli.specs.Request.{Asks, AsksGlobal, ArePassed, IsAsked, RefusedFor, Begins}
-use Rattle.just_cli.specs.Run.{IsRun}
+use Rattle.just_cli_plan.specs.Request.{outline_of}
+use Rattle.just_cli.specs.Answered.{Asking, RefusedFor}
+use Rattle.just_cli.specs.Asked.{Asked}
+use Rattle.just_cli.specs.Request.{ArePassed}
+use Rattle.just_cli.specs.Run.{IsRun, IsRefused, refusal}
 use Rattle.just_exec.specs.Codes.{exit_code}
 use Rattle.just_cli.proofs.Altering.{quiet_first, quiet_rest, clearing, removes_none, behind_book, ends_as_it_was, stays_as_it_was}
-use Rattle.just_cli.proofs.Answered.{answered}
+use Rattle.just_cli.proofs.Answered.{AsksOneIn, is_found}
 use Rattle.just_cli_plan.proofs.OutcomeLaws.{error_caused, only_memory_left}
-use Rattle.just_cli.proofs.Falls.{Failed, faults_rise, misses_rise, memory_wanted}
-use Rattle.just_cli.proofs.Served.{served}
+use Rattle.just_cli.proofs.Falls.{faults_rise, misses_rise, memory_wanted}
+use Rattle.just_cli.proofs.Served.{refusal_served, failure_served, report_served}
 
 -- what was told behind some stretch
-abbrev IsToldBehind : Bool → Error → List Entry → List Entry → Type 0
+abbrev pub IsToldBehind : Bool → Error → List Entry → List Entry → Type 0
 IsToldBehind quiet e now new = (es : List Entry) × (new ≡ now ++ es) × IsTold quiet e es
 
 -- what is asked for is prepared
-abbrev Ready : List (List ℕ) → Option World → List Entry → Option World → List (List ℕ) → List (List ℕ) → List Entry → List Entry → Result Outline Error → Type 0
-Ready words told listings between kept made old entered r = Performs (Asks words told listings) (Begins words told listings) told between kept made (old ++ listings) entered r
+abbrev Ready : Asking → Option World → List Entry → Option World → List (List ℕ) → List (List ℕ) → List Entry → List Entry → Result Asked Error → Type 0
+Ready q told listings between kept made old entered r = Performs (q.asks listings) (q.begins listings) told between kept made (old ++ listings) entered r
 
 -- ---- where no run is asked for
 
@@ -84,45 +84,14 @@ no_acts [] none alone = refl
 no_acts (Act.made folder ∷ acts) none alone = absurd (let no : ⊥ = cc in no)
 no_acts (Act.captured c ∷ acts) none alone = absurd (let no : ⊥ = cc in no)
 
--- a run that failed, from what is shown of its failure
-failed_run : (words : List (List ℕ)) (told after : Option World) (old new : List Entry) (jobs : Option ℕ) (messages : List Bool) (listings : List Entry) → ArePassed (AsksGlobal words told) listings → (acts : List Act) (between settled : Option World) (quiet : Bool) (f : Failure)
-    → ∥ MatchOption f.plan (AskQuiet words told quiet f.error) (λ p. AsksQuiet words told quiet) ∥₁ → MatchOption f.plan (Unit {0}) (λ p. IsAsked words told listings acts between p jobs messages) → (f.plan ≡ None → ∥ RefusedFor words told listings acts between f.error ∥₁)
-    → Failed listings acts jobs messages quiet (Err f) settled after old new → (f.plan ≡ None → f.history ≡ []) → f.code ≡ exit_code f.error
-    → ((es : List Entry) → new ≡ old ++ es → IsQuiet es → MatchOption f.plan (StaysAsItWas (folders_in acts) told after) (λ p. ∥ EndsAsItWas (folders_in acts) p.nodes told after ∥₁)) → IsRun words told after old new (Err f)
-failed_run words told after old new jobs messages listings passed acts between settled quiet f asks_quiet asked refused left unplanned code untouched =
-    let fits = answered jobs messages words told listings acts between (Err f) asked refused in
-    record {
-      jobs = jobs;
-      messages = messages;
-      listings = listings;
-      passed = passed;
-      acts = acts;
-      between = between;
-      settled = settled;
-      quiet = quiet;
-      quiet_is = asks_quiet;
-      ran = tt;
-      asked = asked;
-      refused = refused;
-      answered = fits;
-      failed = left;
-      complete = served words told listings acts between settled after jobs messages quiet (Err f) old new fits left;
-      unplanned = unplanned;
-      code = code;
-      favoured = memory_wanted listings acts settled after jobs messages quiet (Err f) old new left;
-      faults = faults_rise listings acts settled after jobs messages quiet (Err f) old new left;
-      misses = misses_rise listings acts settled after jobs messages quiet (Err f) old new left;
-      untouched = untouched;
-    }
-
 -- ---- without a plan
 
--- a refusal of a request, or want of memory, as why there is no plan
-refused_for : (words : List (List ℕ)) (told : Option World) (listings : List Entry) (acts : List Act) (between : Option World) (e : Error) → OrMemory (λ f. Asks words told listings acts between (Err f)) e → Begins words told listings acts between → RefusedFor words told listings acts between e
-refused_for words told listings acts between e (inl wants) begun = inr (wants, begun)
-refused_for words told listings acts between e (inr asks) begun = inl asks
+-- a refusal of what is asked for, or want of memory, as why there is no plan
+refused_for : (q : Asking) (listings : List Entry) (acts : List Act) (between : Option World) (e : Error) → OrMemory (λ f. q.asks listings acts between (Err f)) e → (is_uncaptured e ≡ false → q.begins listings acts between) → RefusedFor q listings acts between e
+refused_for q listings acts between e (inl wants) begun = inr (wants, begun (ap is_uncaptured wants))
+refused_for q listings acts between e (inr asks) begun = inl asks
 
-module _ (words : List (List ℕ)) (told after : Option World) (old now middle new : List Entry) (quiet : Bool) (between settled : Option World) (kept made : List (List ℕ)) (none : kept ≡ []) (e : Error) (listings : List Entry) (p : Ready words told listings between kept made old now (Err e))
+module _ (q : Asking) (told after : Option World) (old now middle new : List Entry) (quiet : Bool) (between settled : Option World) (kept made : List (List ℕ)) (none : kept ≡ []) (e : Error) (listings : List Entry) (p : Ready q told listings between kept made old now (Err e))
     (tells : IsToldBehind quiet e now middle) (world : settled ≡ between) (removes : Removes made settled middle after new) where
   removes_here : Removes (folders_in p.acts) settled middle after new
   removes_here = subst (λ fs. Removes fs settled middle after new) (made_are kept made (folders_in p.acts) none p.folders) removes
@@ -155,21 +124,38 @@ module _ (words : List (List ℕ)) (told after : Option World) (old now middle n
       stays_as_it_was (folders_in p.acts) told between after (λ empty. p.still (no_acts p.acts empty alone) (quiet_first is_failed p.entries (tells.0 ++ c.0) still)) (p.alters [] alone (quiet_first is_failed p.entries (tells.0 ++ c.0) still)) (λ empty. (removes_none (folders_in p.acts) settled after middle new empty removes_here).0 ∙ world)
       (subst (λ w. IsAltered (folders_in p.acts) [] w after) world (c.3 [] (quiet_rest is_failed tells.0 c.0 (quiet_rest is_failed p.entries (tells.0 ++ c.0) still))))
 
-pub run_before : (words : List (List ℕ)) (told after : Option World) (old now middle new : List Entry) (quiet : Bool) (between settled : Option World) (kept made : List (List ℕ)) (r : Result Report Failure) (e : Error) (h : List Event)
-    → r ≡ Err (record { error = e; plan = None; history = h; code = exit_code e }) → h ≡ [] → kept ≡ [] → Prepares {A = Outline} (AsksGlobal words told) (Asks words told) (Begins words told) told between kept made old now (Err e) → AskQuiet words told quiet e
-    → IsToldBehind quiet e now middle → settled ≡ between → Removes made settled middle after new → IsRun words told after old new r
-run_before words told after old now middle new quiet between settled kept made r e h is no_history none (listings, passed, p) asks_quiet tells world removes =
-    let f : Failure = record { error = e; plan = None; history = h; code = exit_code e } in
-    let refused : f.plan ≡ None → ∥ RefusedFor words told listings p.acts between e ∥₁ = λ _. ∣ refused_for words told listings p.acts between e p.answers p.begun ∣₁ in
-    let left : ∥ EndsUnopened listings p.acts quiet e settled after old new ∥₁ = ∣ unopened words told after old now middle new quiet between settled kept made none e listings p tells world removes ∣₁ in
-    subst (λ q. IsRun words told after old new q) (sym is)
-    (failed_run words told after old new None [] listings passed p.acts between settled quiet f ∣ asks_quiet ∣₁ tt refused left (λ _. no_history) refl
-    (λ es grown calm. stays words told after old now middle new quiet between settled kept made none e listings p tells world removes es grown calm))
+  -- what is refused so
+  refused : AsksOneIn q told → ArePassed q.global listings → q.quiet_at quiet e → IsRefused q e told after old new (Err (refusal e))
+  refused one passed asks_quiet =
+      let found = is_found q told one listings passed p.acts between (Err e) (refused_for q listings p.acts between e p.answers p.begun) in
+      record {
+        listings = listings;
+        acts = p.acts;
+        between = between;
+        settled = settled;
+        found = found;
+        quiet = quiet;
+        quiet_is = asks_quiet;
+        failure = refl;
+        left = unopened;
+        complete = refusal_served q told listings p.acts between settled after quiet e old new found.answered unopened;
+        faults = faults_rise listings p.acts settled after None [] quiet (Err (refusal e)) old new ∣ unopened ∣₁;
+        misses = misses_rise listings p.acts settled after None [] quiet (Err (refusal e)) old new ∣ unopened ∣₁;
+        untouched = stays;
+      }
+
+-- a refusal before the book
+pub refused_before : (q : Asking) (told after : Option World) → AsksOneIn q told → (old now middle new : List Entry) (quiet : Bool) (between settled : Option World) (kept made : List (List ℕ)) (r : Result Report Failure) (e : Error) (h : List Event)
+    → r ≡ Err (record { error = e; plan = None; history = h; code = exit_code e }) → h ≡ [] → kept ≡ [] → Prepares {A = Asked} q.global q.asks q.begins told between kept made old now (Err e) → q.quiet_at quiet e
+    → IsToldBehind quiet e now middle → settled ≡ between → Removes made settled middle after new → IsRefused q e told after old new r
+refused_before q told after one old now middle new quiet between settled kept made r e h is no_history none (listings, passed, p) asks_quiet tells world removes =
+    let same : r ≡ Err (refusal e) = is ∙ ap (λ es. let x : Failure = record { error = e; plan = None; history = es; code = exit_code e } in Err x) no_history in
+    subst (λ x. IsRefused q e told after old new x) (sym same) (refused q told after old now middle new quiet between settled kept made none e listings p tells world removes one passed asks_quiet)
 
 -- ---- with a plan; behind what its preparation leaves the record is `entered`
 
-module _ (words : List (List ℕ)) (told : Option World) (listings : List Entry) (plan : Plan) (jobs : Option ℕ) (asked_messages : List Bool) (old entered : List Entry) (w : Option World) (kept made : List (List ℕ)) (none : kept ≡ [])
-    (p : Ready words told listings w kept made old entered (Ok (outline_of plan jobs asked_messages))) (h : List Event) (v : Verdict) (now : List Entry) (seen : Option World) (d : IsDriven (start_with plan jobs entered w) plan h v now seen) where
+module _ (q : Asking) (told : Option World) (listings : List Entry) (plan : Plan) (jobs : Option ℕ) (asked_messages : List Bool) (old entered : List Entry) (w : Option World) (kept made : List (List ℕ)) (none : kept ≡ [])
+    (p : Ready q told listings w kept made old entered (Ok (Asked.run (outline_of plan jobs asked_messages)))) (h : List Event) (v : Verdict) (now : List Entry) (seen : Option World) (d : IsDriven (start_with plan jobs entered w) plan h v now seen) where
   grew : entered ≡ old ++ (listings ++ p.entries)
   grew = p.grew ∙ append_assoc old listings p.entries
 
@@ -233,7 +219,7 @@ module _ (words : List (List ℕ)) (told : Option World) (listings : List Entry)
         (ap (λ l. list_any is_captured l) (sym p.leaves.2) ∙ quiet_first is_captured p.entries rest (quiet_rest is_captured listings (p.entries ++ rest) (ap (λ l. list_any is_captured l) (sym same) ∙ calm.no_capture))) in
         let still : list_any is_failed (p.entries ++ rest) ≡ false = quiet_rest is_failed listings (p.entries ++ rest) (ap (λ l. list_any is_failed l) (sym same) ∙ calm.no_failure) in
         let hush : list_any is_failed rest ≡ false = quiet_rest is_failed p.entries rest still in
-        let touched : IsTouched plan.nodes w seen = k.untouched (nothing_started (run_of (start_with plan jobs entered w)) h k.gained k.matches child) (quiet_first is_failed k.gained (first ++ c.0) hush) in
+        let touched : IsTouched plan.nodes w seen = made_touches (run_of (start_with plan jobs entered w)) h w seen (k.made (nothing_started (run_of (start_with plan jobs entered w)) h k.gained k.matches child) (quiet_first is_failed k.gained (first ++ c.0) hush)) in
         ends_as_it_was (folders_in p.acts) plan.nodes told w seen after (λ empty. p.still (no_acts p.acts empty alone) (quiet_first is_failed p.entries rest still)) (p.alters plan.nodes alone (quiet_first is_failed p.entries rest still)) touched
         (λ empty. (removes_none (folders_in p.acts) settled after middle new empty removes_so).0 ∙ world)
         (subst (λ x. IsAltered (folders_in p.acts) plan.nodes x after) world (c.3 plan.nodes (quiet_rest is_failed first c.0 (quiet_rest is_failed k.gained (first ++ c.0) hush)))))
@@ -245,54 +231,61 @@ went_well nodes messages shown (verdict.Failed n) is = absurd is
 went_well nodes messages shown (verdict.Interrupted signal) is = absurd (let no : ⊥ = cc in no)
 went_well nodes messages shown verdict.NoMemory is = absurd (let no : ⊥ = cc in no)
 
-some_none : {A : Type 0} (x : A) → Some x ≡ None → ⊥
-some_none x is = let no : ⊥ = cc in no
-
-pub run_well : (words : List (List ℕ)) (told after : Option World) (old entered now new : List Entry) (w seen : Option World) (kept made : List (List ℕ)) (jobs : Option ℕ) (messages : List Bool) (quiet : Bool) (plan driven : Plan) (h : List Event) (v : Verdict) (r : Result Report Failure) (nodes : List PlanNode) (heard : List Bool) (shown : List Event)
-    → r ≡ Ok (record { plan = driven; history = h }) → IsDriven (start_with plan jobs entered w) driven h v now seen → kept ≡ [] → Prepares (AsksGlobal words told) (Asks words told) (Begins words told) told w kept made old entered (Ok (outline_of plan jobs messages))
-    → IsErrorFor nodes heard shown v None → Removes made seen now after new → IsRun words told after old new r
-run_well words told after old entered now new w seen kept made jobs messages quiet plan driven h v r nodes heard shown is driven_so none (listings, passed, p) no_error removes =
+pub run_well : (q : Asking) (told after : Option World) → AsksOneIn q told → (old entered now new : List Entry) (w seen : Option World) (kept made : List (List ℕ)) (jobs : Option ℕ) (messages : List Bool) (quiet : Bool) (plan driven : Plan) (h : List Event) (v : Verdict) (r : Result Report Failure) (nodes : List PlanNode) (heard : List Bool) (shown : List Event)
+    → r ≡ Ok (record { plan = driven; history = h }) → IsDriven (start_with plan jobs entered w) driven h v now seen → kept ≡ [] → Prepares {A = Asked} q.global q.asks q.begins told w kept made old entered (Ok (Asked.run (outline_of plan jobs messages))) → q.quiet quiet
+    → IsErrorFor nodes heard shown v None → Removes made seen now after new → IsRun q (outline_of plan jobs messages) told after old new r
+run_well q told after one old entered now new w seen kept made jobs messages quiet plan driven h v r nodes heard shown is driven_so none (listings, passed, p) asks_quiet no_error removes =
     let d : IsDriven (start_with plan jobs entered w) plan h v now seen = subst (λ p. IsDriven (start_with plan jobs entered w) p h v now seen) driven_so.plan driven_so in
     let report : Report = record { plan = plan; history = h } in
     let same : r ≡ Ok report = is ∙ ap (λ p. let x : Report = record { plan = p; history = h } in Ok x) driven_so.plan in
-    let asked : IsAsked words told listings p.acts w plan jobs messages = ∣ p.answers ∣₁ in
-    let fits = answered jobs messages words told listings p.acts w (Ok report) asked tt in
-    subst (λ q. IsRun words told after old new q) (sym same) (record {
-      jobs = jobs;
-      messages = messages;
+    subst (λ x. IsRun q (outline_of plan jobs messages) told after old new x) (sym same) (record {
       listings = listings;
-      passed = passed;
       acts = p.acts;
       between = w;
       settled = seen;
+      found = is_found q told one listings passed p.acts w (Ok (Asked.run (outline_of plan jobs messages))) p.answers;
       quiet = quiet;
-      quiet_is = tt;
-      ran = ends_well words told listings plan jobs messages old entered w kept made none p h v now seen d seen after now new removes (went_well nodes heard shown v no_error) refl;
-      asked = asked;
-      refused = tt;
-      answered = fits;
+      quiet_is = asks_quiet;
+      plan = plan;
+      has_plan = refl;
+      outlined = refl;
+      ran = ends_well q told listings plan jobs messages old entered w kept made none p h v now seen d seen after now new removes (went_well nodes heard shown v no_error) refl;
       failed = tt;
-      complete = served words told listings p.acts w seen after jobs messages quiet (Ok report) old new fits tt;
-      unplanned = tt;
+      complete = report_served q told listings p.acts w jobs report old new;
       code = tt;
       favoured = tt;
       faults = tt;
       misses = tt;
-      untouched = λ es grown calm. as_it_was words told listings plan jobs messages old entered w kept made none p h v now seen d seen after now new removes [] (sym (append-nil now)) refl es grown calm;
+      untouched = λ es grown calm. as_it_was q told listings plan jobs messages old entered w kept made none p h v now seen d seen after now new removes [] (sym (append-nil now)) refl es grown calm;
     })
 
-pub run_ill : (words : List (List ℕ)) (told after : Option World) (old entered now middle new : List Entry) (w seen settled : Option World) (kept made : List (List ℕ)) (jobs : Option ℕ) (messages : List Bool) (quiet : Bool) (plan driven : Plan) (h : List Event) (heard : List Bool) (shown : List Event) (v : Verdict) (e : Error) (r : Result Report Failure)
+pub run_ill : (q : Asking) (told after : Option World) → AsksOneIn q told → (old entered now middle new : List Entry) (w seen settled : Option World) (kept made : List (List ℕ)) (jobs : Option ℕ) (messages : List Bool) (quiet : Bool) (plan driven : Plan) (h : List Event) (heard : List Bool) (shown : List Event) (v : Verdict) (e : Error) (r : Result Report Failure)
     → r ≡ Err (record { error = e; plan = Some driven; history = h; code = exit_code e }) → IsDriven (start_with plan jobs entered w) driven h v now seen → kept ≡ []
-    → Prepares (AsksGlobal words told) (Asks words told) (Begins words told) told w kept made old entered (Ok (outline_of plan jobs messages)) → AsksQuiet words told quiet → settled ≡ seen
-    → IsErrorFor driven.nodes heard shown v (Some e) → heard ≡ messages → shown ≡ h → IsToldBehind quiet e now middle → Removes made settled middle after new → IsRun words told after old new r
-run_ill words told after old entered now middle new w seen settled kept made jobs messages quiet plan driven h heard shown v e r is driven_so none (listings, passed, p) asks_quiet world error_is heard_is shown_is tells removes =
+    → Prepares {A = Asked} q.global q.asks q.begins told w kept made old entered (Ok (Asked.run (outline_of plan jobs messages))) → q.quiet quiet → settled ≡ seen
+    → IsErrorFor driven.nodes heard shown v (Some e) → heard ≡ messages → shown ≡ h → IsToldBehind quiet e now middle → Removes made settled middle after new → IsRun q (outline_of plan jobs messages) told after old new r
+run_ill q told after one old entered now middle new w seen settled kept made jobs messages quiet plan driven h heard shown v e r is driven_so none (listings, passed, p) asks_quiet world error_is heard_is shown_is tells removes =
     let d : IsDriven (start_with plan jobs entered w) plan h v now seen = subst (λ p. IsDriven (start_with plan jobs entered w) p h v now seen) driven_so.plan driven_so in
     let f : Failure = record { error = e; plan = Some plan; history = h; code = exit_code e } in
     let same : r ≡ Err f = is ∙ ap (λ p. let x : Failure = record { error = e; plan = Some p; history = h; code = exit_code e } in Err x) driven_so.plan in
     let decided : IsErrorFor plan.nodes messages h v (Some e) = subst (λ k. IsErrorFor plan.nodes messages k v (Some e)) shown_is (subst (λ ms. IsErrorFor plan.nodes ms shown v (Some e)) heard_is (subst (λ p. IsErrorFor p.nodes heard shown v (Some e)) driven_so.plan error_is)) in
-    let asked : IsAsked words told listings p.acts w plan jobs messages = ∣ p.answers ∣₁ in
-    let refused : f.plan ≡ None → ∥ RefusedFor words told listings p.acts w e ∥₁ = λ no_plan. absurd (some_none plan no_plan) in
-    let left = ends_ill words told listings plan jobs messages old entered w kept made none p h v now seen d settled after middle new removes messages quiet e decided tells in
-    subst (λ q. IsRun words told after old new q) (sym same)
-    (failed_run words told after old new jobs messages listings passed p.acts w settled quiet f ∣ asks_quiet ∣₁ asked refused left (λ no_plan. absurd (some_none plan no_plan)) refl
-    (λ es grown calm. as_it_was words told listings plan jobs messages old entered w kept made none p h v now seen d settled after middle new removes tells.0 tells.1 world es grown calm))
+    let left = ends_ill q told listings plan jobs messages old entered w kept made none p h v now seen d settled after middle new removes messages quiet e decided tells in
+    subst (λ x. IsRun q (outline_of plan jobs messages) told after old new x) (sym same) (record {
+      listings = listings;
+      acts = p.acts;
+      between = w;
+      settled = settled;
+      found = is_found q told one listings passed p.acts w (Ok (Asked.run (outline_of plan jobs messages))) p.answers;
+      quiet = quiet;
+      quiet_is = asks_quiet;
+      plan = plan;
+      has_plan = refl;
+      outlined = refl;
+      ran = tt;
+      failed = left;
+      complete = failure_served q told listings p.acts w settled after jobs messages quiet f plan old new refl left;
+      code = refl;
+      favoured = memory_wanted listings p.acts settled after jobs messages quiet (Err f) old new left plan refl;
+      faults = faults_rise listings p.acts settled after jobs messages quiet (Err f) old new left;
+      misses = misses_rise listings p.acts settled after jobs messages quiet (Err f) old new left;
+      untouched = λ es grown calm. as_it_was q told listings plan jobs messages old entered w kept made none p h v now seen d settled after middle new removes tells.0 tells.1 world es grown calm;
+    })

@@ -1,5 +1,5 @@
 -- Words that ask for a text get it, or the error of a print that failed.
-use Rattle.std.proofs.Common.{◌≡◌, ◌++◌, inl, inr, ℕ, false, List, [], Option, None, Result, Err, refl, sym, ◌∙◌, ap, subst}
+use Rattle.std.proofs.Common.{◌≡◌, ◌++◌, inl, inr, ℕ, false, List, [], Option, None, Result, Err, refl, sym, ◌∙◌, ap, subst, append-nil}
 use Rattle.just_host_record.specs.World.{World}
 use Rattle.just_host_record.specs.Record.{refused, IsOwnFault, IsNoMiss}
 use Rattle.just_host_record.specs.declared.entry.Call.TheVariants as call
@@ -13,9 +13,8 @@ use Rattle.just_exec.specs.declared.error.Error.{Error}
 use Rattle.just_exec.specs.declared.error.Error.TheVariants as error
 use Rattle.just_cli_plan.specs.Own.{OrMemory}
 use Rattle.just_cli.specs.Faults.{entries_of, print_error}
-use Rattle.just_cli.specs.Questions.{IsQuestion, IsShown}
+use Rattle.just_cli.specs.Questions.{IsShown}
 use Rattle.just_cli.specs.Record.{IsTold}
-use Rattle.just_cli.specs.Run.{IsEnded, by_text}
 use Rattle.just_exec.specs.Codes.{exit_code}
 use Rattle.just_cli.proofs.Runs.{ends_before}
 
@@ -42,8 +41,16 @@ unshown text told after old now new r io e h is no_history error_is own never gr
       world = world;
     })
 
--- a text that is shown behind the reading of the words ends them
-pub text_ended : (words : List (List ℕ)) (told now after : Option World) (old entered new : List Entry) (shown text : List ℕ) (r : Result Report Failure)
-    → IsQuestion words told text → shown ≡ text → now ≡ told → entered ≡ old → IsShown shown now after entered new r → IsEnded words told after old new r
-text_ended words told now after old entered new shown text r asks text_is world_is entries_are is =
-    by_text text asks (subst (λ t. IsShown t told after old new r) text_is (subst (λ w. IsShown shown w after old new r) world_is (subst (λ es. IsShown shown now after es new r) entries_are is)))
+-- nor was it where memory was wanting for it
+pub unprinted : (text : List ℕ) (told after : Option World) (old new : List Entry) (r : Result Report Failure) (e : Error) (h : List Event)
+    → r ≡ Err (record { error = e; plan = None; history = h; code = exit_code e }) → h ≡ [] → e ≡ error.NoMemory → (es : List Entry) × (new ≡ old ++ es) × IsTold false e es → after ≡ told → IsShown text told after old new r
+unprinted text told after old new r e h is no_history wants tells world =
+    subst (λ q. IsShown text told after old new q) (sym is) (record {
+      shown = tt;
+      unshown = (refl, no_history, refl, inl wants, ends_before [] false e old old new [] (sym (append-nil old)) ([], tt, sym (ap (λ x. entries_of x) wants)) tells);
+      world = world;
+    })
+
+-- a text that is shown is the one that it is
+pub shown_as : (shown line text : List ℕ) (told after : Option World) (old new : List Entry) (r : Result Report Failure) → shown ≡ line → line ≡ text → IsShown shown told after old new r → IsShown text told after old new r
+shown_as shown line text told after old new r is same shows = subst (λ t. IsShown t told after old new r) (is ∙ same) shows

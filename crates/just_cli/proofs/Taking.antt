@@ -147,7 +147,7 @@ module _ (config : Config) (place location : Location) (is_place : place ≡ loc
     leaves = (made_entries folders, [], made_acts folders, refl);
     folders = keep ∙ ap (λ (fs : List (List ℕ)). kept ++ fs) (sym (folders_of folders));
     answers = inl refl;
-    begun = (folders, Ok s, refl, at_location folders (Ok s) m);
+    begun = λ captured. (folders, Ok s, refl, at_location folders (Ok s) m);
     still = λ none quiet. file_still told after (parent_of config) place folders (Ok s) m (no_folders folders none);
     alters = λ nodes alone quiet. subst (λ (fs : List (List ℕ)). IsAltered fs nodes told after) (sym (folders_of folders)) (file_alters told after (parent_of config) place nodes folders (Ok s) m quiet);
   }
@@ -164,7 +164,7 @@ module _ (config : Config) (place location : Location) (is_place : place ≡ loc
     leaves = (made_entries folders, path_of told after (parent_of config) place f, made_acts folders, file_entries told after (parent_of config) place folders (Err f) m ∙ ap (λ x. made_entries folders ++ entries_in (path_of told after (parent_of config) place f) x) (sym is));
     folders = keep ∙ ap (λ (fs : List (List ℕ)). kept ++ fs) (sym (folders_of folders));
     answers = why folders f e m is (wants_or_not f);
-    begun = (folders, Err f, refl, at_location folders (Err f) m);
+    begun = λ captured. (folders, Err f, refl, at_location folders (Err f) m);
     still = λ none quiet. file_still told after (parent_of config) place folders (Err f) m (no_folders folders none);
     alters = λ nodes alone quiet. subst (λ (fs : List (List ℕ)). IsAltered fs nodes told after) (sym (folders_of folders)) (file_alters told after (parent_of config) place nodes folders (Err f) m quiet);
   }
@@ -183,7 +183,7 @@ taken_nothing config location told kept old = record {
   leaves = ([], [], AreActs.none, refl);
   folders = sym (append-nil kept);
   answers = inl refl;
-  begun = ([], Err search.NoMemory, refl, Materializes.no_memory refl);
+  begun = λ captured. ([], Err search.NoMemory, refl, Materializes.no_memory refl);
   still = λ none quiet. refl;
   alters = λ nodes alone quiet. altered_same [] nodes told told refl;
 }

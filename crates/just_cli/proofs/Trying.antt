@@ -10,7 +10,7 @@ use Rattle.just_search.specs.Fallback.{FallsBack}
 use Rattle.just_exec.specs.Refusals.{error_of_search}
 use Rattle.just_exec.specs.declared.error.Error.{Error}
 use Rattle.just_exec.specs.declared.error.Error.TheVariants as error
-use Rattle.just_cli_plan.specs.Own.{OrMemory}
+use Rattle.just_cli_plan.specs.Own.{OrMemory, is_uncaptured}
 use Rattle.just_cli_plan.specs.Request.{Outline}
 use Rattle.just_cli.specs.Acts.{Act}
 use Rattle.just_cli_plan.specs.Pairs.{entries_of as entries_in}
@@ -55,6 +55,18 @@ missing_in parent (error.UnknownRecipe recipe) is = refl
 missing_in parent (error.UnknownSubmodule path) is = refl
 missing_in parent (error.ModuleAbsent m) is = refl
 missing_in parent _ is = absurd (cc)
+
+-- nor of a child that wasn't run to its end
+lacking_captured : (e : Error) → is_lacking e ≡ true → is_uncaptured e ≡ false
+lacking_captured (error.UnknownRecipe recipe) is = refl
+lacking_captured (error.UnknownSubmodule path) is = refl
+lacking_captured _ is = absurd (cc)
+
+missing_captured : (e : Error) → is_missing e ≡ true → is_uncaptured e ≡ false
+missing_captured (error.UnknownRecipe recipe) is = refl
+missing_captured (error.UnknownSubmodule path) is = refl
+missing_captured (error.ModuleAbsent m) is = refl
+missing_captured _ is = absurd (cc)
 
 module _ (c : ConfigRequest) (location : Location) (told : Option World) (kept : List (List ℕ)) (old : List Entry) where
   abbrev AsksIt : Bool → List Act → Option World → Result Outline Error → Type 0
@@ -105,7 +117,7 @@ module _ (c : ConfigRequest) (location : Location) (told : Option World) (kept :
       lacks_so acts (inr at) = (subst (λ b. AnswersAt told acts after (at_place c location) (Err e) b) sets at, lacked)
 
       lacks_part : Performs LacksIt Begins told after kept keeps old new (Ok e)
-      lacks_part = performs_instead (AsksIt fallback) LacksIt BeginsIt Begins told after kept keeps old new e e (λ parent. lacking_in parent e lacked) p lacks_so (from_it after)
+      lacks_part = performs_instead (AsksIt fallback) LacksIt BeginsIt Begins told after kept keeps old new e e (λ parent. lacking_in parent e lacked) (lacking_captured e lacked) p lacks_so (from_it after)
 
       module _ (seen : Option World) (world : seen ≡ after) (last : List Entry) where
         begins_seen : (acts : List Act) → Begins acts after → Begins acts seen
@@ -216,7 +228,8 @@ module _ (q : LocatedRequest) (told after : Option World) (kept keeps : List (Li
 
     pub tries_allowed : may ≡ true → (o : Outline) → o ≡ empty_outline q.config → PerformsTries q told after kept keeps old new (Ok o)
     tries_allowed so o nothing =
-        performs_instead FromPlace TriesIt BeginsPlace BeginsPlace told after kept keeps old new e o (λ parent. missing_in parent e (and_true q.config.allow_missing (is_missing e) (sym is ∙ so)).1) p (λ acts from. allowed_so acts so o nothing from) (λ acts b. b)
+        let missing : is_missing e ≡ true = (and_true q.config.allow_missing (is_missing e) (sym is ∙ so)).1 in
+        performs_instead FromPlace TriesIt BeginsPlace BeginsPlace told after kept keeps old new e o (λ parent. missing_in parent e missing) (missing_captured e missing) p (λ acts from. allowed_so acts so o nothing from) (λ acts b. b)
 
     refused_so : (acts : List Act) → may ≡ false → OrMemory (λ x. FromPlace acts after (Err x)) e → OrMemory (λ x. TriesIt acts after (Err x)) e
     refused_so acts stays (inl wants) = inl wants

@@ -4,7 +4,7 @@ use Rattle.just_path.specs.declared.host.Miss.{Miss}
 use Rattle.just_host_record.specs.declared.entry.Entry.{Entry}
 use Rattle.just_host_record.specs.declared.entry.Entry.TheVariants as entry
 use Rattle.just_host_record.specs.World.{World}
-use Rattle.just_env.specs.Captures.{Capture, AreTold, entry_of as entry_of_capture}
+use Rattle.just_env.specs.Captures.{Capture, AreTold, entries_of_capture}
 use Rattle.just_exec.specs.declared.error.Error.{Error}
 
 -- a temporary folder was made, or a child was run to its end for what it printed
@@ -12,9 +12,10 @@ pub data Act : Type 0 where
   made : List ℕ → Act
   captured : Capture → Act
 
-abbrev pub entry_of : Act → Entry
-entry_of (Act.made folder) = entry.Made folder
-entry_of (Act.captured c) = entry_of_capture c
+-- its entries in the record; behind that of a child stands the entry of the signal that was told then, if one was
+abbrev pub entries_of_act : Act → List Entry
+entries_of_act (Act.made folder) = entry.Made folder ∷ []
+entries_of_act (Act.captured c) = entries_of_capture c
 
 -- the temporary folders among them, and the children
 abbrev pub folders_in : List Act → List (List ℕ)
@@ -35,7 +36,7 @@ AreToldBehind acts = AreTold (captures_in acts)
 pub data AreActs : List Act → List Entry → Type 0 where
   none : AreActs [] []
   a_miss : (path : List ℕ) (m : Miss) (acts : List Act) (es : List Entry) → AreActs acts es → AreActs acts (entry.Missed path m ∷ es)
-  an_act : (a : Act) (acts : List Act) (es : List Entry) → AreActs acts es → AreActs (a ∷ acts) (entry_of a ∷ es)
+  an_act : (a : Act) (acts : List Act) (es : List Entry) → AreActs acts es → AreActs (a ∷ acts) (entries_of_act a ++ es)
 
 -- a step over the world that is told before it: it takes these acts, that world is told behind it, and it answers so
 abbrev pub Step : Type 0 → Type 0 → Type 1

@@ -1,44 +1,81 @@
--- The answer to a request, over a told world.
-use Rattle.std.specs.Prelude.{ℕ, ◌≡◌, ◌⊎◌, Bool, true, List, Option, None, Result, Ok, Err, IfErr, MatchOption, MatchResult}
+-- What is asked of a host, and the answer that was found to it.
+use Rattle.std.specs.Prelude.{ℕ, ◌≡◌, ◌⊎◌, Bool, true, List, Option, Result, Ok, Err, IfErr, MatchOption}
 use Rattle.just_host_record.specs.declared.entry.Entry.{Entry}
 use Rattle.just_host_record.specs.World.{World}
 use Rattle.just_exec.specs.declared.error.Error.{Error}
 use Rattle.just_exec.specs.declared.error.Error.TheVariants as error
+use Rattle.just_cli_plan.specs.Own.{is_fault, is_too_big, is_uncaptured, IsOwn}
+use Rattle.just_cli_plan.specs.Request.{Outline}
 use Rattle.just_cli.specs.declared.ended.Failure.{Failure}
 use Rattle.just_cli.specs.declared.ended.Report.{Report}
-use Rattle.just_cli_plan.specs.Own.{is_too_big, is_uncaptured}
-use Rattle.just_cli.specs.Acts.{Act}
-use Rattle.just_cli_plan.specs.Own.{is_fault, IsOwn}
+use Rattle.just_cli.specs.Acts.{Act, AreToldBehind}
+use Rattle.just_cli.specs.Asked.{Asked, Asks, AsksGlobal, Begins}
+use Rattle.just_cli.specs.Quiet.{AsksQuiet, AskQuiet}
 use Rattle.just_cli.specs.Record.{Hindered}
-use Rattle.just_cli_plan.specs.Request.{Outline, outline_of}
-use Rattle.just_cli.specs.Request.{NoneFailed, Asks, AsksIn}
+use Rattle.just_cli.specs.Request.{ArePassed, NoneFailed}
 
--- the words are refused since a pattern of the project is too big for the library
-abbrev pub IsTooBig : List (List ℕ) → Option World → List Entry → List Act → Option World → Error → Type 0
-IsTooBig words told listings acts after e = (is_too_big e ≡ true) × Asks words told listings acts after (Err e)
+-- What is asked of a host that tells one world, if it tells any.
+pub record Asking : Type 1 where
+  -- that is asked for, or refused so, over listings that were passed over, with these acts, in the world that is told behind them
+  pub asks : List Entry → List Act → Option World → Result Asked Error → Type 0
+  -- so much of it was begun
+  pub begins : List Entry → List Act → Option World → Type 0
+  -- the user's own justfile is looked for
+  pub global : Type 0
+  -- quiet is asked for, or isn't; and so, where it is refused by that error
+  pub quiet : Bool → Type 0
+  pub quiet_at : Bool → Error → Type 0
 
--- An error that words and world don't determine: a call of the host failed, a child couldn't be run to its end, a pattern is too big for the library, or
--- memory is wanting.
-pub data IsBeside (words : List (List ℕ)) (told : Option World) (listings : List Entry) (acts : List Act) (after : Option World) (e : Error) : Type 0 where
-  call_failed : is_fault e ≡ true → Asks words told listings acts after (Err e) → IsBeside words told listings acts after e
-  uncaptured : is_uncaptured e ≡ true → Asks words told listings acts after (Err e) → IsBeside words told listings acts after e
-  too_big : IsTooBig words told listings acts after e → IsBeside words told listings acts after e
-  no_memory : e ≡ error.NoMemory → IsBeside words told listings acts after e
+-- it is asked by words
+abbrev pub asked_by : List (List ℕ) → Option World → Asking
+asked_by words told = record { asks = Asks words told; begins = Begins words told; global = AsksGlobal words told; quiet = AsksQuiet words told; quiet_at = AskQuiet words told }
 
--- A request that is a run gets its own plan; one that is a refusal gets no plan, and its own error. An error that is neither's may
--- come in the place of both.
-abbrev pub Fits : List (List ℕ) → Option World → List Entry → List Act → Option World → Option ℕ → List Bool → Result Report Failure → Result Outline Error → Type 0
-Fits words told listings acts after jobs messages answer (Ok p) =
-    MatchResult answer (λ r. ∥ outline_of r.plan jobs messages ≡ p ∥₁) (λ f. MatchOption f.plan (∥ IsBeside words told listings acts after f.error ∥₁) (λ q. ∥ outline_of q jobs messages ≡ p ∥₁))
-Fits words told listings acts after jobs messages answer (Err e) = MatchResult answer (λ r. ⊥) (λ f. (f.plan ≡ None) × ∥ (f.error ≡ e) ⊎ IsBeside words told listings acts after f.error ∥₁)
+-- with these acts that is asked for, behind each of whose children a world is told, where no listing failed
+abbrev pub AsksIn : Asking → List Act → Result Asked Error → Type 0
+AsksIn q acts r = (listings : List Entry) × (after : Option World) × AreToldBehind acts × NoneFailed listings × q.asks listings acts after r
 
--- the answer fits what the words ask for in the told world with these acts, where no listing for the user's own justfile failed
-abbrev pub IsAnswered : List (List ℕ) → Option World → List Entry → List Act → Option World → Option ℕ → List Bool → Result Report Failure → Type 0
-IsAnswered words told listings acts after jobs messages answer =
-    MatchOption told (Unit {0}) (λ w. NoneFailed listings → (asked : Result Outline Error) → AsksIn words w acts asked → IsOwn asked → Fits words told listings acts after jobs messages answer asked)
+-- ---- what was found to be asked for
 
--- Over a told world a request that is a run with these acts ends well, where no listing for the user's own justfile failed, unless memory is wanting, a
+-- why it is refused: what is asked, or a call of the host that it needs, is refused so; or memory is wanting, and these acts were taken for it so far
+abbrev pub RefusedFor : Asking → List Entry → List Act → Option World → Error → Type 0
+RefusedFor q listings acts after e = q.asks listings acts after (Err e) ⊎ ((e ≡ error.NoMemory) × q.begins listings acts after)
+
+abbrev pub AsksFor : Asking → List Entry → List Act → Option World → Result Asked Error → Type 0
+AsksFor q listings acts after (Ok x) = q.asks listings acts after (Ok x)
+AsksFor q listings acts after (Err e) = RefusedFor q listings acts after e
+
+-- it is refused since a pattern of the project is too big for the library
+abbrev pub IsTooBig : Asking → List Entry → List Act → Option World → Error → Type 0
+IsTooBig q listings acts after e = (is_too_big e ≡ true) × q.asks listings acts after (Err e)
+
+-- An error that what is asked and the world don't determine: a call of the host failed, a child couldn't be run to its end, a pattern is too big for the
+-- library, or memory is wanting.
+pub data IsBeside (q : Asking) (listings : List Entry) (acts : List Act) (after : Option World) (e : Error) : Type 0 where
+  call_failed : is_fault e ≡ true → q.asks listings acts after (Err e) → IsBeside q listings acts after e
+  uncaptured : is_uncaptured e ≡ true → q.asks listings acts after (Err e) → IsBeside q listings acts after e
+  too_big : IsTooBig q listings acts after e → IsBeside q listings acts after e
+  no_memory : e ≡ error.NoMemory → IsBeside q listings acts after e
+
+-- what was found is what is asked for; an error that isn't determined may come in its place
+abbrev pub Fits : Asking → List Entry → List Act → Option World → Result Asked Error → Result Asked Error → Type 0
+Fits q listings acts after (Ok x) asked = asked ≡ Ok x
+Fits q listings acts after (Err e) asked = (asked ≡ Err e) ⊎ IsBeside q listings acts after e
+
+-- it fits whatever is asked for in the told world with these acts, where no listing for the user's own justfile failed
+abbrev pub IsAnswered : Asking → Option World → List Entry → List Act → Option World → Result Asked Error → Type 0
+IsAnswered q told listings acts after found =
+    MatchOption told (Unit {0}) (λ w. NoneFailed listings → (asked : Result Asked Error) → AsksIn q acts asked → IsOwn asked → Fits q listings acts after found asked)
+
+-- That was found to be asked for, over these listings, which were passed over, with these acts, in the world that is told behind them.
+pub record IsFound (q : Asking) (told : Option World) (listings : List Entry) (acts : List Act) (after : Option World) (found : Result Asked Error) : Type 0 where
+  pub passed : ArePassed q.global listings
+  pub asked : AsksFor q listings acts after found
+  pub answered : IsAnswered q told listings acts after found
+
+-- ---- how a run is served
+
+-- Over a told world a run that is asked for with these acts ends well, where no listing for the user's own justfile failed, unless memory is wanting, a
 -- pattern is too big, or the record shows what stood against it.
-abbrev pub IsServed : List (List ℕ) → Option World → List Entry → List Act → Option World → Option ℕ → Result Report Failure → List Entry → List Entry → Type 0
-IsServed words told listings acts after jobs answer old new =
-    MatchOption told (Unit {0}) (λ w. NoneFailed listings → (p : Outline) → AsksIn words w acts (Ok p) → IfErr answer (λ f. ∥ (f.error ≡ error.NoMemory) ⊎ (IsTooBig words told listings acts after f.error ⊎ Hindered listings acts f jobs old new) ∥₁))
+abbrev pub IsServed : Asking → Option World → List Entry → List Act → Option World → Option ℕ → Result Report Failure → List Entry → List Entry → Type 0
+IsServed q told listings acts after jobs result old new =
+    MatchOption told (Unit {0}) (λ w. NoneFailed listings → (o : Outline) → AsksIn q acts (Ok (Asked.run o)) → IfErr result (λ f. ∥ (f.error ≡ error.NoMemory) ⊎ (IsTooBig q listings acts after f.error ⊎ Hindered listings acts f jobs old new) ∥₁))

@@ -2,10 +2,12 @@
 pub mod Acts
 pub mod Altered
 pub mod Answered
+pub mod Asked
 pub mod Exit
 pub mod Faults
 pub mod NewPath
 pub mod Options
+pub mod Other
 pub mod Preparing
 pub mod Questions
 pub mod Quiet
@@ -13,6 +15,7 @@ pub mod Record
 pub mod Request
 pub mod Run
 pub mod Taken
+pub mod Tasks
 pub mod Whole
 pub mod Words
 pub mod Written

@@ -18,7 +18,6 @@ use Rattle.just_exec.specs.Refusals.{error_of_search}
 use Rattle.just_exec.specs.declared.error.Error.{Error}
 use Rattle.just_exec.specs.declared.error.Error.TheVariants as error
 use Rattle.just_cli_plan.specs.Steps.{Then}
-use Rattle.just_cli.specs.Words.{ConfigRequest}
 
 -- whether a command asks for a new justfile
 abbrev pub is_init : Option Subcommand → Bool
@@ -75,7 +74,3 @@ IsFree told path (Err e) = ((e ≡ error.InitExists path) × ShowsFile told path
 -- the path where the new justfile of a configuration is written, or why none is
 abbrev pub FindsFree : Option World → Config → Result (List ℕ) Error → Type 0
 FindsFree told = Then (FindsPath told) (IsFree told)
-
--- the same for words that ask for a new justfile
-abbrev pub FindsNew : Option World → ConfigRequest → Result (List ℕ) Error → Type 0
-FindsNew told c r = (is_init c.config.subcommand ≡ true) × FindsFree told c.config r

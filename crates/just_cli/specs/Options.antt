@@ -13,7 +13,6 @@ use Rattle.just_exec_work.specs.declared.run_flags.RunFlags.{RunFlags}
 use Rattle.just_env.specs.declared.ask.DotenvAsk.{DotenvAsk}
 use Rattle.just_cache.specs.Places.{cache_folder}
 use Rattle.just_search.specs.Finding.{folder_of, given_path}
-use Rattle.just_cli_plan.specs.Forms.{word_if}
 use Rattle.just_cli_plan.specs.declared.wanted.Wanted.{Wanted}
 
 -- ---- what isn't built
@@ -22,13 +21,17 @@ abbrev pub is_any : List (List ℕ) → Bool
 is_any [] = false
 is_any (t ∷ ts) = true
 
+-- an option's word, where the option is given
+abbrev pub word_if : Bool → List ℕ → Option (List ℕ)
+word_if given word = if given then Some word else None
+
 -- the word of the first flag that isn't built
 abbrev pub flag_not_built : Config → Option (List ℕ)
 flag_not_built c =
     or_else (word_if c.default_list (codes "--default-list"))
     (word_if c.dry_run (codes "--dry-run"))
 
--- the word of a command; `--init` alone is built
+-- the word of a command
 abbrev pub command_word : Subcommand → List ℕ
 command_word (command.Choose ws) = codes "--choose"
 command_word (command.Clean ws) = codes "--clean"
@@ -46,10 +49,24 @@ command_word (command.Summary ws) = codes "--summary"
 command_word (command.Usage ws) = codes "--usage"
 command_word (command.Variables ws) = codes "--variables"
 
+-- the word of one that isn't built; `--init` alone is
 abbrev pub command_not_built : Option Subcommand → Option (List ℕ)
 command_not_built None = None
+command_not_built (Some (command.Choose ws)) = Some (command_word (command.Choose ws))
+command_not_built (Some (command.Clean ws)) = Some (command_word (command.Clean ws))
+command_not_built (Some (command.Command ws)) = Some (command_word (command.Command ws))
+command_not_built (Some (command.Dump ws)) = Some (command_word (command.Dump ws))
+command_not_built (Some (command.Edit ws)) = Some (command_word (command.Edit ws))
+command_not_built (Some (command.Evaluate ws)) = Some (command_word (command.Evaluate ws))
+command_not_built (Some (command.Fmt ws)) = Some (command_word (command.Fmt ws))
+command_not_built (Some (command.Groups ws)) = Some (command_word (command.Groups ws))
 command_not_built (Some (command.Init ws)) = None
-command_not_built (Some s) = Some (command_word s)
+command_not_built (Some (command.List ws)) = Some (command_word (command.List ws))
+command_not_built (Some (command.Request ws)) = Some (command_word (command.Request ws))
+command_not_built (Some (command.Show ws)) = Some (command_word (command.Show ws))
+command_not_built (Some (command.Summary ws)) = Some (command_word (command.Summary ws))
+command_not_built (Some (command.Usage ws)) = Some (command_word (command.Usage ws))
+command_not_built (Some (command.Variables ws)) = Some (command_word (command.Variables ws))
 
 -- the word of what isn't built, of the first in the order of the options
 abbrev pub not_built : Config → Option (List ℕ)

@@ -9,7 +9,7 @@ use Rattle.just_host_record.specs.World.{World}
 use Rattle.just_sched_history.specs.declared.plan.Plan.{Plan}
 use Rattle.just_sched_history.specs.declared.plan_node.PlanNode.{PlanNode}
 use Rattle.just_exec.specs.declared.error.Error.{Error}
-use Rattle.just_cli_plan.specs.Own.{OrMemory}
+use Rattle.just_cli_plan.specs.Own.{OrMemory, is_uncaptured}
 use Rattle.just_cli_plan.specs.Request.{Outline, outline_of}
 use Rattle.just_cli.specs.Acts.{Act, AreActs, folders_in, captures_in}
 use Rattle.just_cli.specs.Altered.{IsAltered}
@@ -43,6 +43,11 @@ abbrev pub Answers : {A : Type 0} → (Result A Error → Type 0) → Result A E
 Answers P (Ok x) = P (Ok x)
 Answers P (Err e) = OrMemory (λ f. P (Err f)) e
 
+-- a claim of an answer, and of a refusal that doesn't tell that a child wasn't run to its end
+abbrev pub UnlessUncaptured : {A : Type 0} → Result A Error → Type 0 → Type 0
+UnlessUncaptured (Ok x) claim = claim
+UnlessUncaptured (Err e) claim = is_uncaptured e ≡ false → claim
+
 -- A part of a preparation takes these acts, over a host that tells the first world before and the second behind: it answers what is given with them, or
 -- want of memory, and was begun by them; its temporary folders are kept behind those that were kept; its record gains what it leaves; and where no child was run to its end and no call
 -- failed, a told world is as it was, but for paths at or below these folders.
@@ -53,7 +58,7 @@ pub record Performs {A : Type 0} (gives : List Act → Option World → Result A
   pub leaves : Leaves [] acts r entries
   pub folders : keeps ≡ kept ++ folders_in acts
   pub answers : Answers (gives acts after) r
-  pub begun : begins acts after
+  pub begun : UnlessUncaptured r (begins acts after)
   pub still : acts ≡ [] → list_any is_failed entries ≡ false → after ≡ told
   pub alters : (nodes : List PlanNode) → captures_in acts ≡ [] → list_any is_failed entries ≡ false → IsAltered (folders_in acts) nodes told after
 

@@ -8,14 +8,22 @@ use Rattle.just_config_words.specs.Words.{Means}
 use Rattle.just_exec.specs.Codes.{prints, prints_always}
 use Rattle.just_exec.specs.declared.error.Error.{Error}
 use Rattle.just_exec.specs.declared.error.Error.TheVariants as error
-use Rattle.just_cli.specs.Request.{EnvironGiven}
+use Rattle.just_cli.specs.Asked.{EnvironGiven}
 use Rattle.just_cli.specs.Words.{ReadsWords}
 
 -- whether an error is told, where the words ask for quiet or don't
 abbrev pub tells : Bool → Error → Bool
 tells quiet e = prints e && (prints_always e || not quiet)
 
--- over a host that tells this world, if it tells one, the error comes before the words are read: the environment isn't there, or the
+-- over a host that tells this world, if it tells one, the words of a run or of a command ask for quiet, or don't
+pub record AsksQuiet (words : List (List ℕ)) (told : Option World) (quiet : Bool) : Type 0 where
+  pub environ : Environ
+  pub arguments : Arguments
+  pub given : EnvironGiven told (Ok environ)
+  pub means : Means words environ.pairs (Ok (read.Go arguments))
+  pub quiet_is : quiet ≡ arguments.quiet
+
+-- over such a host the error comes before the words are read: the environment isn't there, or the
 -- words are faulty; or memory is wanting
 abbrev pub ComesFirst : List (List ℕ) → Option World → Error → Type 0
 ComesFirst words told e =

@@ -108,7 +108,7 @@ pub record EndsWell (listings : List Entry) (acts : List Act) (plan : Plan) (job
   pub well : NoneDecides (run_over plan jobs (old ++ stretches.pre)) h
   pub complete : IsComplete (run_over plan jobs (old ++ stretches.pre)) h
   pub cached : GoByCacheRule (run_over plan jobs (old ++ stretches.pre)) h
-  pub skipped : (n : ℕ) → n < length plan.nodes → is_cached plan.nodes n ≡ true → IsSkippedByLook h n
+  pub skipped : (n : ℕ) → n < length plan.nodes → is_cached plan.nodes n ≡ true → IsSkippedByLook plan.nodes h n
   pub behind : EndsBehind (folders_in acts) (λ es. es ≡ []) settled after (old ++ (stretches.pre ++ stretches.mid)) stretches.post
 
 -- A run that failed: its error is that of the history's verdict, and the record shows its cause; a favourable record shows

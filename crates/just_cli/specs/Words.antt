@@ -5,7 +5,7 @@ use Rattle.just_host_record.specs.declared.entry.Entry.{Entry}
 use Rattle.just_host_record.specs.World.{World}
 use Rattle.just_config_words.specs.declared.arguments.Arguments.{Arguments}
 use Rattle.just_config_words.specs.declared.usage.Usage.{Usage}
-use Rattle.just_config_words.specs.declared.words.Read.TheVariants as read
+use Rattle.just_config_words.specs.declared.words.Read.{Read}
 use Rattle.just_config_words.specs.Words.{Means}
 use Rattle.just_config.specs.declared.config.Config.{Config}
 use Rattle.just_config.specs.declared.config_error.ConfigError.{ConfigError}
@@ -30,6 +30,11 @@ use Rattle.just_cli_plan.specs.Steps.{Then}
 -- the words, and the environment whose variables fill in what they leave out
 pub record WordsRequest : Type 0 where
   pub words : List (List ℕ)
+  pub environ : Environ
+
+-- what they are read as: arguments, or a question
+pub record ReadRequest : Type 0 where
+  pub meaning : Read
   pub environ : Environ
 
 -- the arguments that they mean
@@ -67,9 +72,9 @@ abbrev pub FindsEnviron : (Result Environ Error → Type 0) → List (List ℕ) 
 FindsEnviron environ words (Ok q) = (q.words ≡ words) × environ (Ok q.environ)
 FindsEnviron environ words (Err e) = environ (Err e)
 
--- the words mean these arguments, or are faulty; words that ask for the help or the version are no request
-abbrev pub ReadsWords : WordsRequest → Result ArgumentsRequest Error → Type 0
-ReadsWords q (Ok a) = Means q.words q.environ.pairs (Ok (read.Go a.arguments)) × (a.environ ≡ q.environ)
+-- the words mean that, or are faulty
+abbrev pub ReadsWords : WordsRequest → Result ReadRequest Error → Type 0
+ReadsWords q (Ok m) = Means q.words q.environ.pairs (Ok m.meaning) × (m.environ ≡ q.environ)
 ReadsWords q (Err e) = (u : Usage) × Means q.words q.environ.pairs (Err u) × (e ≡ error.Usage u)
 
 -- the arguments are given in the current folder, which is given so

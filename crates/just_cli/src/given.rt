@@ -12,7 +12,8 @@ ghost use Rattle.just_cli_plan.specs.Own.{OrMemory};
 ghost use Rattle.just_cli.specs.Faults.{entries_of, fault_of_path as host_fault, io_error as told_error, folder_error as told_folder};
 ghost use Rattle.just_config.specs.declared.search_config.SearchConfig.TheVariants.{GlobalJustfile};
 ghost use Rattle.just_cli.specs.Preparing.{AreMisses, EndsWith};
-ghost use Rattle.just_cli.specs.Request.{EnvironGiven, FolderGiven, ArePassed};
+ghost use Rattle.just_cli.specs.Asked.{EnvironGiven, FolderGiven};
+ghost use Rattle.just_cli.specs.Request.{ArePassed};
 ghost use Rattle.just_cli.specs.Words.{FindsLocation};
 
 use super::Error;

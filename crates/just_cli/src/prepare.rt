@@ -1,26 +1,22 @@
 //! From the words to the task: the steps of a request, in their order.
 
-ghost use Rattle.std.specs.Prelude.{◌≡◌, map, true, option_map, IfOk, IfErr, MatchResult, Ok, Err};
-ghost use Rattle.std.specs.Int.NonZero.{non_zero_u64_get};
-ghost use Rattle.just_config.specs.declared.help.TheConstants.{HELP};
-ghost use Rattle.just_cli.specs.Questions.{version_line, IsTask, IsServed};
+ghost use Rattle.std.specs.Prelude.{map, IfOk, IfErr, Err};
 ghost use Rattle.just_cli.specs.Quiet.{AskQuiet};
-ghost use Rattle.just_cli.specs.Preparing.{Prepares};
-ghost use Rattle.just_cli_plan.specs.Request.{Outline, outline_of};
-ghost use Rattle.just_cli.specs.Request.{Serves, Asks, AsksGlobal, Begins, BeginsServes};
+ghost use Rattle.just_cli.specs.Tasks.{IsTask, IsServed, PreparesWords};
 
+use super::Error;
 use super::configured::{configure, read};
 use super::given::{current_folder, environment, locate};
 use super::init::{find_free, is_init};
+use super::task::{Other, Task};
 use super::tried::plan_tried;
-use super::{Error, Task};
-use just_config::{Arguments, HELP, Read, Version};
+use just_config::{Arguments, Read};
 use just_host::Host;
 use just_path::Utf8PathBuf;
-use just_path_text::{Environ, NoMemory, Text};
+use just_path_text::Environ;
 use std::alloc::Global;
 
-/// The run or the new justfile that arguments ask for.
+/// What arguments ask for: a run, or what is no run.
 fn serve<H: Host>(
     alloc: Global,
     arguments: Arguments,
@@ -28,7 +24,7 @@ fn serve<H: Host>(
     made: &mut Vec<Utf8PathBuf>,
     host: &mut H,
 ) -> Result<Task, Error>
-    ensures { MatchResult result (IsServed (H.world host.old) (H.world host.new) (record { arguments = arguments; environ = environ.now }) made.old.items made.new.items (H.entries host.old) (H.entries host.new)) (λ e. Prepares {A = Outline} (arguments.global_justfile ≡ true) (λ ls acts later r. Serves ls (H.world host.old) acts later (record { arguments = arguments; environ = environ.now }) r) (λ ls acts later. BeginsServes ls (H.world host.old) acts later (record { arguments = arguments; environ = environ.now })) (H.world host.old) (H.world host.new) made.old.items made.new.items (H.entries host.old) (H.entries host.new) (Err e)) }
+    ensures { IsServed (H.world host.old) (H.world host.new) (record { arguments = arguments; environ = environ.now }) made.old.items made.new.items (H.entries host.old) (H.entries host.new) result }
 {
     let quiet = arguments.quiet;
     let folder = match current_folder(host) {
@@ -44,7 +40,7 @@ fn serve<H: Host>(
     };
     if is_init(&config.subcommand) {
         match find_free(alloc, host, &config) {
-            Ok(path) => return Ok(Task::Init(path, quiet)),
+            Ok(path) => return Ok(Task::Other(Other::Init(path), quiet)),
             Err(error) => return Err(error),
         }
     }
@@ -58,20 +54,6 @@ fn serve<H: Host>(
     }
 }
 
-/// The help.
-fn help(alloc: Global) -> Result<Text, NoMemory>
-    ensures { IfOk result (λ t. t ≡ HELP.now) }
-{
-    Text::from_str(alloc, HELP)
-}
-
-/// The line of the version.
-fn version(alloc: Global) -> Result<Text, NoMemory>
-    ensures { IfOk result (λ t. t ≡ version_line) }
-{
-    Ok(Text::from(format!(in alloc; "just {}\n", Version::current())?))
-}
-
 /// What the words ask for; or why they are refused, with whether they ask for quiet. The paths of temporary folders are put behind those in `made`: they are the
 /// caller's to remove. The record gains the entries of listings that were refused as the user's own justfile was looked for, those of the temporary
 /// folders, the misses of files that aren't there, and the entry of the refused call, where one was refused.
@@ -82,7 +64,7 @@ pub(crate) fn prepare<H: Host>(
     host: &mut H,
 ) -> Result<Task, (Error, bool)>
     ensures asked { IfOk result (IsTask (map (λ x. x.now) words.now) (H.world host.old) (H.world host.new) made.old.items made.new.items (H.entries host.old) (H.entries host.new)) }
-    ensures refused { IfErr result (λ e. Prepares {A = Outline} (AsksGlobal (map (λ w. w.now) words.now) (H.world host.old)) (Asks (map (λ w. w.now) words.now) (H.world host.old)) (Begins (map (λ w. w.now) words.now) (H.world host.old)) (H.world host.old) (H.world host.new) made.old.items made.new.items (H.entries host.old) (H.entries host.new) (Err e.0)) }
+    ensures refused { IfErr result (λ e. PreparesWords (map (λ x. x.now) words.now) (H.world host.old) (H.world host.new) made.old.items made.new.items (H.entries host.old) (H.entries host.new) (Err e.0)) }
     ensures quiet { IfErr result (λ e. AskQuiet (map (λ x. x.now) words.now) (H.world host.old) e.1 e.0) }
 {
     let environ = match environment(alloc, host) {
@@ -97,14 +79,8 @@ pub(crate) fn prepare<H: Host>(
                 Err(error) => Err((error, quiet)),
             }
         }
-        Ok(Read::Help) => match help(alloc) {
-            Ok(text) => Ok(Task::Show(text)),
-            Err(NoMemory) => Err((Error::NoMemory, false)),
-        },
-        Ok(Read::Version) => match version(alloc) {
-            Ok(text) => Ok(Task::Show(text)),
-            Err(NoMemory) => Err((Error::NoMemory, false)),
-        },
+        Ok(Read::Help) => Ok(Task::Other(Other::Help, false)),
+        Ok(Read::Version) => Ok(Task::Other(Other::Version, false)),
         Err(error) => Err((error, false)),
     }
 }

@@ -8,10 +8,10 @@ ghost use Rattle.just_cli.specs.Record.{Removes};
 ghost use Rattle.just_cli.specs.Run.{IsEnded};
 
 use super::failure::fail;
-use super::init::init;
+use super::other::do_other;
 use super::prepare::prepare;
-use super::show::show;
-use super::{Ended, Error, Report, Task};
+use super::task::Task;
+use super::{Ended, Error, Report};
 use just_cli_plan::error_for;
 use just_host::{Host, RealHost};
 use just_path::Utf8PathBuf;
@@ -39,8 +39,7 @@ fn run_made<R: Threads + Wait + Sync, H: Host + Send + Drop>(
     let mut made = Vec::new(alloc);
     let (plan, jobs, messages, quiet) = match prepare(alloc, words, &mut made, &mut host) {
         Ok(Task::Run(plan, jobs, messages, quiet)) => (plan, jobs, messages, quiet),
-        Ok(Task::Init(path, quiet)) => return (init(alloc, host, path, quiet), made),
-        Ok(Task::Show(text)) => return (show(alloc, host, text.as_str()), made),
+        Ok(Task::Other(other, quiet)) => return (do_other(alloc, host, other, quiet), made),
         Err((error, quiet)) => {
             return (fail(alloc, host, error, quiet, None, Seq::new(alloc)), made);
         }

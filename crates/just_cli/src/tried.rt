@@ -7,7 +7,7 @@ ghost use Rattle.just_host_record.specs.declared.entry.Entry.{Entry};
 ghost use Rattle.just_lang_types.specs.declared.project.Justfile.{Justfile};
 ghost use Rattle.just_lang_types.specs.Modules.{AreModules};
 ghost use Rattle.just_cli_plan.specs.Own.{OrMemory};
-ghost use Rattle.just_cli_plan.specs.Projects.{IsSound};
+ghost use Rattle.just_cli_plan.specs.Projects.{IsEnding};
 ghost use Rattle.just_cli_plan.specs.Request.{outline_of};
 ghost use Rattle.just_cli.specs.Options.{is_lacking, is_missing, empty_outline};
 ghost use Rattle.just_cli.specs.Preparing.{AreMisses, EndsWith, Performs, outlined};
@@ -43,7 +43,7 @@ fn project_of<H: Host>(
 ) -> Result<Justfile, Error>
     ensures grew { (es : List Entry) × (H.entries host.new ≡ H.entries host.old ++ es) × MatchResult result (λ _. AreMisses es) (λ e. EndsWith [] e es) }
     ensures world { H.world host.new ≡ H.world host.old }
-    ensures sound { IfOk result IsSound }
+    ensures ending { IfOk result IsEnding }
     ensures project { IfOk result (λ j. (modules : List Justfile) → AreModules (j ∷ []) modules → FindsProjectOf (H.world host.old) (record { wanted = wanted.now; environ = environ.now; justfile = text_of justfile.entry }) (Ok (record { wanted = wanted.now; environ = environ.now; justfile = j; modules = modules }))) }
     ensures refused { IfErr result (OrMemory (λ e. FindsProjectOf (H.world host.old) (record { wanted = wanted.now; environ = environ.now; justfile = text_of justfile.entry }) (Err e))) }
 {
@@ -66,7 +66,7 @@ fn plan_of<H: Host>(
     wanted: &Wanted,
     project: &Justfile,
 ) -> Result<Planned, Error>
-    requires { IsSound project.now }
+    requires { IsEnding project.now }
     ensures { PerformsPlan wanted.now environ.now project.now (H.world host.old) (H.world host.new) (H.entries host.old) (H.entries host.new) (outlined result) }
 {
     let pairs = match load_pairs(alloc, host, project, environ, wanted) {

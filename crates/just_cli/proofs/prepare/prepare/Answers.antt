@@ -1,7 +1,8 @@
 -- What the arguments ask for is what the words ask for; or the environment isn't there, or the words are faulty.
 use Rattle.std.proofs.Common.{refl}
 use Rattle.just_cli.proofs.Asking.{quiet_without_environ, quiet_without_words, quiet_of_words}
-use Rattle.just_cli.proofs.Serving.{environ_lost, unanswered, words_refused, words_served, words_unserved}
+use Rattle.just_cli.proofs.Chain.{asks_help, asks_version}
+use Rattle.just_cli.proofs.Serving.{environ_lost, words_refused, words_served, words_unserved}
 use Rattle.just_cli.proofs.prepare.prepare.Goals as goal
 
 pub returns-in-Err-clause-refused : goal.returns-in-Err-clause-refused
@@ -28,8 +29,8 @@ returns-clause-refused g c = words_refused _ _ _ _ _ c.in-Ok.ensures.gives _ _ _
 pub returns-clause-quiet : goal.returns-clause-quiet
 returns-clause-quiet g c = quiet_without_words _ _ _ c.in-Ok.ensures.gives _ c.in-Err-read.ensures.refused
 
-pub returns-in-Ok-Help-clause-refused : goal.returns-in-Ok-Help-clause-refused
-returns-in-Ok-Help-clause-refused g c = unanswered _ _ _ _ _ _ c.environment.ensures.world c.in-Ok.ensures.grew
+pub returns-in-Ok-Help-clause-asked : goal.returns-in-Ok-Help-clause-asked
+returns-in-Ok-Help-clause-asked g c = (c.environment.ensures.world, refl, c.in-Ok.ensures.grew, asks_help _ _ _ c.in-Ok.ensures.gives (rw c.in-Ok-Help.is at c.in-Ok-Help.ensures.read), tt)
 
-pub returns-in-Ok-Version-clause-refused : goal.returns-in-Ok-Version-clause-refused
-returns-in-Ok-Version-clause-refused g c = unanswered _ _ _ _ _ _ c.environment.ensures.world c.in-Ok.ensures.grew
+pub returns-in-Ok-Version-clause-asked : goal.returns-in-Ok-Version-clause-asked
+returns-in-Ok-Version-clause-asked g c = (c.environment.ensures.world, refl, c.in-Ok.ensures.grew, asks_version _ _ _ c.in-Ok.ensures.gives (rw c.in-Ok-Version.is at c.in-Ok-Version.ensures.read), tt)

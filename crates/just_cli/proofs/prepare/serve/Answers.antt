@@ -1,6 +1,6 @@
 -- Each step behind the words goes on from what the one before it found, or its refusal is the answer.
 use Rattle.std.proofs.Common.{[], refl, sym, ◌∙◌}
-use Rattle.just_cli.proofs.Serving.{folder_lost, configuration_refused, location_lost, place_tried, new_found, new_refused}
+use Rattle.just_cli.proofs.Serving.{folder_lost, configuration_refused, location_lost, place_planned, place_refused, new_found, new_refused}
 use Rattle.just_cli.proofs.prepare.serve.Goals as goal
 
 pub returns-in-Err : goal.returns-in-Err
@@ -18,12 +18,12 @@ returns-in-Err-locate g c =
 pub returns-in-Ok-plan_tried : goal.returns-in-Ok-plan_tried
 returns-in-Ok-plan_tried g c =
     let located = c.in-Ok-locate.ensures.located in
-    (place_tried _ _ _ _ _ _ c.in-Ok.ensures.gives _ c.in-Ok-configure.ensures.gives c.in-Ok-configure.ensures.config (sym c.is_init.ensures ∙ c.if-is_init.false) _ c.current_folder.ensures.world _ c.in-Ok.ensures.grew _ located.1 _ _ located.2 _ located.3 _ c.locate.ensures.world _ _ _ c.in-Ok-plan_tried.ensures, refl)
+    (place_planned _ _ _ _ _ _ c.in-Ok.ensures.gives _ c.in-Ok-configure.ensures.gives c.in-Ok-configure.ensures.config (sym c.is_init.ensures ∙ c.if-is_init.false) _ c.current_folder.ensures.world _ c.in-Ok.ensures.grew _ located.1 _ _ located.2 _ located.3 _ c.locate.ensures.world _ _ _ c.in-Ok-plan_tried.ensures, refl)
 
 pub returns : goal.returns
 returns g c =
     let located = c.in-Ok-locate.ensures.located in
-    place_tried _ _ _ _ _ _ c.in-Ok.ensures.gives _ c.in-Ok-configure.ensures.gives c.in-Ok-configure.ensures.config (sym c.is_init.ensures ∙ c.if-is_init.false) _ c.current_folder.ensures.world _ c.in-Ok.ensures.grew _ located.1 _ _ located.2 _ located.3 _ c.locate.ensures.world _ _ _ c.in-Err-plan_tried.ensures
+    place_refused _ _ _ _ _ _ c.in-Ok.ensures.gives _ c.in-Ok-configure.ensures.gives c.in-Ok-configure.ensures.config (sym c.is_init.ensures ∙ c.if-is_init.false) _ c.current_folder.ensures.world _ c.in-Ok.ensures.grew _ located.1 _ _ located.2 _ located.3 _ c.locate.ensures.world _ _ _ c.in-Err-plan_tried.ensures
 
 pub returns-in-Ok-find_free : goal.returns-in-Ok-find_free
 returns-in-Ok-find_free g c =

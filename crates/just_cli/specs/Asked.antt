@@ -1,0 +1,118 @@
+-- What words ask for: one chain of steps from the words to a run, to what is no run, or to a refusal.
+use Rattle.std.specs.Prelude.{ℕ, ◌≡◌, true, false, List, [], Option, option_map, Result, Ok, Err}
+use Rattle.just_path_text.specs.declared.environ.Environ.{Environ}
+use Rattle.just_path.specs.declared.host.Miss.{Miss}
+use Rattle.just_host_record.specs.declared.entry.Call.TheVariants as call
+use Rattle.just_host_record.specs.declared.entry.Entry.{Entry}
+use Rattle.just_host_record.specs.World.{World}
+use Rattle.just_config_words.specs.declared.arguments.Arguments.{Arguments}
+use Rattle.just_config_words.specs.declared.words.Read.{Read}
+use Rattle.just_config_words.specs.declared.words.Read.TheVariants as read
+use Rattle.just_config_words.specs.Words.{Means}
+use Rattle.just_exec.specs.declared.error.Error.{Error}
+use Rattle.just_cli_plan.specs.Request.{Outline}
+use Rattle.just_cli.specs.declared.task.Other.{Other}
+use Rattle.just_cli.specs.declared.task.Other.TheVariants as no_run
+use Rattle.just_cli.specs.Acts.{Act, Step, Begun, NoAct, Looks, Behind, BeginsBehind}
+use Rattle.just_cli.specs.Faults.{CallGives, io_error, folder_error}
+use Rattle.just_cli.specs.NewPath.{is_init, FindsFree}
+use Rattle.just_cli.specs.Request.{Tries, BeginsTries}
+use Rattle.just_cli.specs.Words.{ReadRequest, ArgumentsRequest, ConfigRequest, LocatedRequest, FindsEnviron, ReadsWords, FindsFolder, Configures, FindsLocation, FindsJustfile}
+
+-- What is asked for: what is no run; the list of the recipes; a run of that outline; or a dry run of it. Nothing asks for a list or a dry run yet.
+pub data Asked : Type 0 where
+  other : Other → Asked
+  listing : Asked
+  run : Outline → Asked
+  dry : Outline → Asked
+
+-- ---- the host's calls
+
+-- what a world shows of its environment and of its current folder
+abbrev pub environ_shown : World → Result Environ Miss
+environ_shown w = Ok (record { pairs = w.environ })
+
+abbrev pub folder_shown : World → Result (List ℕ) Miss
+folder_shown w = Ok w.current
+
+abbrev pub EnvironGiven : Option World → Result Environ Error → Type 0
+EnvironGiven told = CallGives call.Environ (io_error []) (option_map environ_shown told)
+
+abbrev pub FolderGiven : Option World → Result (List ℕ) Error → Type 0
+FolderGiven told = CallGives call.Current folder_error (option_map folder_shown told)
+
+-- ---- behind the configuration
+
+-- a run of what the justfiles answer that are tried
+abbrev pub as_run : Result Outline Error → Result Asked Error
+as_run (Ok o) = Ok (Asked.run o)
+as_run (Err e) = Err e
+
+abbrev pub RunsTried : Step LocatedRequest Asked
+RunsTried told acts after q r = (x : Result Outline Error) × Tries told acts after q x × (r ≡ as_run x)
+
+abbrev pub Searches : List Entry → Step ConfigRequest Asked
+Searches listings = Behind (Looks (λ told. FindsJustfile (FindsLocation told listings))) RunsTried
+
+-- a new justfile at the path that is free for it
+abbrev pub as_new : Result (List ℕ) Error → Result Asked Error
+as_new (Ok path) = Ok (Asked.other (no_run.Init path))
+as_new (Err e) = Err e
+
+abbrev pub AsksNew : Option World → ConfigRequest → Result Asked Error → Type 0
+AsksNew told c r = (x : Result (List ℕ) Error) × FindsFree told c.config x × (r ≡ as_new x)
+
+-- A command that reads no justfile is decided by itself, behind the configuration; else the justfile is searched.
+pub data Decides (listings : List Entry) (told : Option World) (acts : List Act) (after : Option World) (c : ConfigRequest) (r : Result Asked Error) : Type 0 where
+  reads_none : is_init c.config.subcommand ≡ true → Looks AsksNew told acts after c r → Decides listings told acts after c r
+  reads_one : is_init c.config.subcommand ≡ false → Searches listings told acts after c r → Decides listings told acts after c r
+
+-- ---- the whole chain
+
+-- the steps behind arguments
+abbrev pub Serves : List Entry → Step ArgumentsRequest Asked
+Serves listings = Behind (Looks (λ told. FindsFolder (FolderGiven told))) (Behind (Looks (λ told. Configures)) (Decides listings))
+
+-- what words ask for that are read so: the help and the version are asked for by the words alone
+abbrev pub AsksAs : List Entry → Read → Environ → Option World → List Act → Option World → Result Asked Error → Type 0
+AsksAs listings read.Help environ told acts after r = (acts ≡ []) × (after ≡ told) × (r ≡ Ok (Asked.other no_run.Help))
+AsksAs listings read.Version environ told acts after r = (acts ≡ []) × (after ≡ told) × (r ≡ Ok (Asked.other no_run.Version))
+AsksAs listings (read.Go a) environ told acts after r = Serves listings told acts after (record { arguments = a; environ = environ }) r
+
+abbrev pub AsksRead : List Entry → Step ReadRequest Asked
+AsksRead listings told acts after q r = AsksAs listings q.meaning q.environ told acts after r
+
+-- Over a host that tells the first world before and the second behind, if it tells any, which did these acts, and whose record gained these entries of
+-- listings that were refused as the user's own justfile was looked for, the words ask for that, or are refused so. A call of the host that fails is a
+-- refusal too, but a listing among these; over a host that tells no world its calls may answer anything.
+abbrev pub Asks : List (List ℕ) → Option World → List Entry → List Act → Option World → Result Asked Error → Type 0
+Asks words told listings acts after r =
+    Behind (Looks (λ told. FindsEnviron (EnvironGiven told))) (Behind (Looks (λ told. ReadsWords)) (AsksRead listings)) told acts after words r
+
+-- over such a host the words of a run ask for the user's own justfile
+abbrev pub AsksGlobal : List (List ℕ) → Option World → Type 0
+AsksGlobal words told = (environ : Environ) × (a : Arguments) × EnvironGiven told (Ok environ) × Means words environ.pairs (Ok (read.Go a)) × (a.global_justfile ≡ true)
+
+-- ---- what was begun, where memory was wanting
+
+-- of the steps behind the configuration, and behind arguments; a command that reads no justfile takes no act
+abbrev pub BeginsSearches : List Entry → Begun ConfigRequest
+BeginsSearches listings told acts after c =
+    (is_init c.config.subcommand ≡ false) × BeginsBehind NoAct (Looks (λ told. FindsJustfile (FindsLocation told listings))) BeginsTries told acts after c
+
+abbrev pub BeginsServes : List Entry → Begun ArgumentsRequest
+BeginsServes listings = BeginsBehind NoAct (Looks (λ told. FindsFolder (FolderGiven told))) (BeginsBehind NoAct (Looks (λ told. Configures)) (BeginsSearches listings))
+
+-- of what words ask for that are read so
+abbrev pub BeginsAs : List Entry → Read → Environ → Option World → List Act → Option World → Type 0
+BeginsAs listings read.Help environ told acts after = (acts ≡ []) × (after ≡ told)
+BeginsAs listings read.Version environ told acts after = (acts ≡ []) × (after ≡ told)
+BeginsAs listings (read.Go a) environ told acts after = BeginsServes listings told acts after (record { arguments = a; environ = environ })
+
+abbrev pub BeginsRead : List Entry → Begun ReadRequest
+BeginsRead listings told acts after q = BeginsAs listings q.meaning q.environ told acts after
+
+-- of what words ask for: so far it is what it would be with memory
+abbrev pub Begins : List (List ℕ) → Option World → List Entry → List Act → Option World → Type 0
+Begins words told listings acts after =
+    BeginsBehind NoAct (Looks (λ told. FindsEnviron (EnvironGiven told))) (BeginsBehind NoAct (Looks (λ told. ReadsWords)) (BeginsRead listings)) told acts after words

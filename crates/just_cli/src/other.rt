@@ -1,0 +1,44 @@
+//! What is done for words that ask for no run.
+
+ghost use Rattle.std.specs.Prelude.{◌≡◌, IfOk};
+ghost use Rattle.just_cli.specs.Other.{Does};
+ghost use Rattle.just_cli.specs.Questions.{version_line, IsShown};
+
+use super::failure::fail;
+use super::init::init;
+use super::show::show;
+use super::task::Other;
+use super::{Ended, Error};
+use just_config::{HELP, Version};
+use just_host::Host;
+use just_path_text::{NoMemory, Seq, Text};
+use std::alloc::Global;
+
+/// The line of the version.
+fn version(alloc: Global) -> Result<Text, NoMemory>
+    ensures { IfOk result (λ t. t ≡ version_line) }
+{
+    Ok(Text::from(format!(in alloc; "just {}\n", Version::current())?))
+}
+
+/// Prints the line of the version to standard output.
+#[tactic(auto, using(crate::proofs::Shown::shown_as, crate::proofs::Shown::unprinted))]
+fn show_version<H: Host>(alloc: Global, host: H) -> Ended<H>
+    ensures { IsShown version_line (H.world host) (H.world result.host) (H.entries host) (H.entries result.host) result.result }
+{
+    match version(alloc) {
+        Ok(line) => show(alloc, host, line.as_str()),
+        Err(NoMemory) => fail(alloc, host, Error::NoMemory, false, None, Seq::new(alloc)),
+    }
+}
+
+/// Does what words ask for that is no run: prints the help or the version to standard output, or writes a new justfile.
+pub(crate) fn do_other<H: Host>(alloc: Global, host: H, other: Other, quiet: bool) -> Ended<H>
+    ensures { Does other quiet (H.world host) (H.world result.host) (H.entries host) (H.entries result.host) result.result }
+{
+    match other {
+        Other::Help => show(alloc, host, HELP),
+        Other::Version => show_version(alloc, host),
+        Other::Init(path) => init(alloc, host, path, quiet),
+    }
+}
