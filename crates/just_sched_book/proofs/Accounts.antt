@@ -20,6 +20,7 @@ use Rattle.just_sched_history.specs.declared.event.Event.TheVariants as event
 use Rattle.just_sched_book.specs.Account.{IsAccount, taken_behind}
 use Rattle.just_sched_history.specs.Cached.{is_cached, is_looked_at}
 use Rattle.just_sched_history.specs.Legal.{Run, May, IsLegal, all_starts, open_bodies, in_body}
+use Rattle.just_sched_history.specs.Effects.{Makes}
 use Rattle.just_sched_history.specs.Match.{StandsFor}
 use Rattle.just_sched_history.specs.Room.{slots, settles, settle_count, total_commands}
 use Rattle.just_sched_history.specs.Start.{Start, IsKept, run_of}
@@ -35,7 +36,7 @@ use Rattle.just_sched_history.proofs.PlanShape.{IsFormed}
 use Rattle.just_sched_history.proofs.Range.{in_range}
 use Rattle.just_sched_history.proofs.Stretch.{fresh_start}
 use Rattle.just_sched_history.proofs.Tests.{neither, unless}
-use Rattle.just_sched_history.proofs.Touching.{Leads, leads_same, touched_on, untouched_yet}
+use Rattle.just_sched_history.proofs.Touching.{made_more}
 
 -- ---- one event more
 
@@ -47,16 +48,16 @@ none_failed es fs e = neither (list_any is_failed es) (list_any is_failed fs) (s
 none_started : (h : List Event) (e : Event) → all_starts (h ++ e ∷ []) ≡ 0 → all_starts h ≡ 0
 none_started h e z = omega (arith, all_starts_more h e)
 
--- a kept run goes on by an event and its entries; the world may have been touched where that is allowed
-kept_more : (s : Start) (h : List Event) (now fs new : List Entry) (w v : Option World) (e : Event) → IsKept s h now w → new ≡ now ++ fs → May (run_of s) h e → StandsFor (run_of s) h e fs → (all_starts (h ++ e ∷ []) ≡ 0 → list_any is_failed fs ≡ false → Leads s.plan.nodes w v) → IsKept s (h ++ e ∷ []) new v
-kept_more s h now fs new w v e k gained may stands same = record {
+-- a kept run goes on by an event, its entries, and what it makes of the world
+kept_more : (s : Start) (h : List Event) (now fs new : List Entry) (w v : Option World) (e : Event) → IsKept s h now w → new ≡ now ++ fs → May (run_of s) h e → StandsFor (run_of s) h e fs → (all_starts (h ++ e ∷ []) ≡ 0 → list_any is_failed fs ≡ false → Makes (run_of s) h e w v) → IsKept s (h ++ e ∷ []) new v
+kept_more s h now fs new w v e k gained may stands makes = record {
   legal = legal_more (run_of s) h e k.legal may;
   gained = k.gained ++ fs;
   grew = gained ∙ ap (λ x. x ++ fs) k.grew ∙ append_assoc s.entries k.gained fs;
   matches = matches_more (run_of s) h e k.gained fs k.matches stands;
-  untouched = λ z none.
+  made = λ z none.
       let parts = none_failed k.gained fs none in
-      touched_on s.plan.nodes s.world w v (k.untouched (none_started h e z) parts.0) (same z parts.1);
+      made_more (run_of s) h e s.world w v (k.made (none_started h e z) parts.0) (makes z parts.1);
 }
 
 -- how many bodies are open behind an event
@@ -175,27 +176,21 @@ module _ {s : Start} {h : List Event} {now : List Entry} {w : Option World} {spa
   pub fresh_child : children now ≡ children s.entries + all_starts h
   fresh_child = ∥∥₁_elim account (ℕ_set _ _) (λ a. ap children a.kept.grew ∙ fresh_start (run_of s) h s.entries a.kept.gained a.kept.matches)
 
-  -- the account is right behind an event that may come, with the entries that the event stands for
-  pub noted_leading : (later : List Event) (fs new : List Entry) (v : Option World) (left : ℕ) (e : Event) → later ≡ h ++ e ∷ [] → new ≡ now ++ fs → May (run_of s) h e → StandsFor (run_of s) h e fs
-      → (all_starts (h ++ e ∷ []) ≡ 0 → list_any is_failed fs ≡ false → Leads s.plan.nodes w v) → spare ≤ left + cond (settles e) 1 0 → signal_in e ≡ None
+  -- the account is right behind an event that may come, with the entries that the event stands for and the world that it makes
+  pub noted : (later : List Event) (fs new : List Entry) (v : Option World) (left : ℕ) (e : Event) → later ≡ h ++ e ∷ [] → new ≡ now ++ fs → May (run_of s) h e → StandsFor (run_of s) h e fs
+      → (all_starts (h ++ e ∷ []) ≡ 0 → list_any is_failed fs ≡ false → Makes (run_of s) h e w v) → spare ≤ left + cond (settles e) 1 0 → signal_in e ≡ None
       → ∥ IsAccount s later new v left (taken_behind e taken) caught ∥₁
-  noted_leading later fs new v left e grew gained may stands same room plain = subst (λ k. ∥ IsAccount s k new v left (taken_behind e taken) caught ∥₁) (sym grew) (∥∥₁_map account (λ a. record {
-    kept = kept_more s h now fs new w v e a.kept gained may stands same;
+  noted later fs new v left e grew gained may stands makes room plain = subst (λ k. ∥ IsAccount s k new v left (taken_behind e taken) caught ∥₁) (sym grew) (∥∥₁_map account (λ a. record {
+    kept = kept_more s h now fs new w v e a.kept gained may stands makes;
     spared = omega (arith, a.spared, room, settles_more h e);
     counted = ap (taken_behind e) a.counted ∙ sym (∥∥₁_elim s.plan.well (ℕ_set _ _) (λ f. open_behind (run_of s) h e f a.kept.legal may));
     bound = bound_behind (run_of s) h e taken a.counted may a.bound;
     signalled = a.signalled ∙ sym (signal_stays h e plain);
   }))
 
-  -- the same where the world stays as it is
-  pub noted : (later : List Event) (fs new : List Entry) (v : Option World) (left : ℕ) (e : Event) → later ≡ h ++ e ∷ [] → new ≡ now ++ fs → May (run_of s) h e → StandsFor (run_of s) h e fs
-      → (all_starts (h ++ e ∷ []) ≡ 0 → list_any is_failed fs ≡ false → v ≡ w) → spare ≤ left + cond (settles e) 1 0 → signal_in e ≡ None
-      → ∥ IsAccount s later new v left (taken_behind e taken) caught ∥₁
-  noted later fs new v left e grew gained may stands same room plain = noted_leading later fs new v left e grew gained may stands (λ z none. leads_same s.plan.nodes w v (same z none)) room plain
-
-  -- the same of an event that stands for no entries
-  pub noted_alone : (later : List Event) (e : Event) → later ≡ h ++ e ∷ [] → May (run_of s) h e → StandsFor (run_of s) h e [] → signal_in e ≡ None → ∥ IsAccount s later now w spare (taken_behind e taken) caught ∥₁
-  noted_alone later e grew may stands plain = noted later [] now w spare e grew (sym (append-nil now)) may stands (λ _ _. refl) (omega arith) plain
+  -- the same of an event that stands for no entries and leaves the world as it is
+  pub noted_alone : (later : List Event) (e : Event) → later ≡ h ++ e ∷ [] → May (run_of s) h e → StandsFor (run_of s) h e [] → Makes (run_of s) h e w w → signal_in e ≡ None → ∥ IsAccount s later now w spare (taken_behind e taken) caught ∥₁
+  noted_alone later e grew may stands still plain = noted later [] now w spare e grew (sym (append-nil now)) may stands (λ _ _. still) (omega arith) plain
 
   -- some body is open where one may give its job back
   pub some_taken : (n : ℕ) → May (run_of s) h (event.Gave n) → 1 ≤ taken
@@ -216,7 +211,7 @@ no_bound (Some j) = omega arith
 -- a book of no events yet has a right account where the host has room for each command's end
 pub account_none : (s : Start) (h : List Event) (now : List Entry) (w : Option World) (spare : ℕ) → h ≡ [] → now ≡ s.entries → w ≡ s.world → total_commands s.plan.nodes ≤ spare → ∥ IsAccount s h now w spare 0 None ∥₁
 account_none s h now w spare none same world enough = subst (λ k. ∥ IsAccount s k now w spare 0 None ∥₁) (sym none) (∣ record {
-  kept = record { legal = tt; gained = []; grew = same ∙ sym (append-nil s.entries); matches = refl; untouched = λ _ _. untouched_yet s.plan.nodes s.world w world };
+  kept = record { legal = tt; gained = []; grew = same ∙ sym (append-nil s.entries); matches = refl; made = λ _ _. world };
   spared = omega (arith, enough);
   counted = sym (none_open (range_with_len 0 (length s.plan.nodes)));
   bound = no_bound s.jobs;

@@ -56,7 +56,7 @@ module _ {s : Start} {h : List Event} {now : List Entry} {w : Option World} {spa
       noted account later fs new v left (event.Asked n true) grew gained (to_ask, calm) stands (λ _ _. same) (omega (arith, more)) refl
   answered_account later fs new v left false grew gained stands same more =
       noted_alone (noted account (h ++ event.Asked n false ∷ []) fs new v left (event.Asked n false) refl gained (to_ask, calm) stands (λ _ _. same) (omega (arith, more)) refl)
-      later (event.Done n refused) (no_events h later n grew) refused_may refl refl
+      later (event.Done n refused) (no_events h later n grew) refused_may refl refl refl
 
   -- the node took no job, so it isn't open, and runs nothing
   untaken_open : is_open h n ≡ false

@@ -1,5 +1,5 @@
 -- What the calls that a cache makes gain together, and what they make of a told world.
-use Rattle.std.proofs.Common.{◌≡◌, ℕ, inl, inr, false, List, [], ◌∷◌, ◌++◌, length, Option, Some, None, Result, Ok, Err, refl, ap, ap₂, sym, ◌∙◌, subst, append_assoc, append-nil, arith}
+use Rattle.std.proofs.Common.{◌≡◌, ℕ, inr, false, List, [], ◌∷◌, ◌++◌, length, Option, Some, None, Result, Ok, Err, ap, ap₂, sym, ◌∙◌, subst, append_assoc, append-nil, arith}
 use Rattle.std.specs.List.{list_any}
 use Rattle.std.proofs.lemmas.List.Folds.{list_any-append}
 use Rattle.just_path.specs.declared.host.Miss.{Miss}
@@ -15,15 +15,15 @@ use Rattle.just_sched_history.specs.declared.cache_plan.CachePlan.{CachePlan}
 use Rattle.just_sched_history.specs.declared.event.Reason.{Reason}
 use Rattle.just_sched_history.specs.declared.event.Reason.TheVariants as reason
 use Rattle.just_sched_history.specs.Cached.{entry_of}
-use Rattle.just_sched_book.specs.Gains.{ProbeGain, KeepGain, SaveGains, LookRefusal}
+use Rattle.just_sched_book.specs.Gains.{ProbeGain, KeepGain, SaveGains, LookRefusal, LeavesWorld}
 use Rattle.just_sched_history.specs.Match.{summed_entries, looked_entries}
 use Rattle.just_sched_history.specs.Touched.{IsChangedBy, IsLooked, IsWritten}
 use Rattle.just_sched_history.proofs.Tests.{neither}
 
 -- a call that was answered changed the files so
 pub changes_ok : {A : Type 0} (change : World → Result Tree Miss) (places : World → List ℕ → Type 0) (told new : Option World) (x : A) → Changes change places told new (Ok x) → IsChangedBy change told new
-changes_ok change places None new x is = inl is
-changes_ok change places (Some w) new x is = inr (w, is.0, refl, is.1, is.2)
+changes_ok change places None new x is = is
+changes_ok change places (Some w) new x is = is
 
 -- where nothing in two stretches failed, nothing in the second did
 pub second_calm : (es fs : List Entry) → list_any is_failed (es ++ fs) ≡ false → list_any is_failed fs ≡ false
@@ -41,14 +41,14 @@ keep_behind c sums path (Err _) fs at g = absurd g
 
 -- the two calls together
 pub saved_together : (c : CachePlan) (sums : List (List ℕ)) (path text : List ℕ) (r : Result (Unit {0}) Reason) (old mid new es fs : List Entry) (told here after : Option World)
-    → path ≡ entry_of c sums → mid ≡ old ++ es → es ≡ entry.Checked c.outputs None ∷ [] → here ≡ told → new ≡ mid ++ fs → KeepGain path r fs → (list_any is_failed fs ≡ false → IsWritten path text here after)
-    → (all : List Entry) × (new ≡ old ++ all) × SaveGains c sums r all × (list_any is_failed all ≡ false → IsWritten path text told after)
+    → path ≡ entry_of c sums → mid ≡ old ++ es → es ≡ entry.Checked c.outputs None ∷ [] → here ≡ told → new ≡ mid ++ fs → KeepGain path r fs → (list_any is_failed fs ≡ false → LeavesWorld (λ done. IsWritten path text) here after r)
+    → (all : List Entry) × (new ≡ old ++ all) × SaveGains c sums r all × (list_any is_failed all ≡ false → LeavesWorld (λ done. IsWritten path text) told after r)
 saved_together c sums path text r old mid new es fs told here after at first checked same second g calm =
     let are : es ++ fs ≡ entry.Checked c.outputs None ∷ fs = ap (λ k. k ++ fs) checked in (
       es ++ fs,
       second ∙ ap (λ k. k ++ fs) first ∙ append_assoc old es fs,
       subst (λ k. SaveGains c sums r k) (sym are) (keep_behind c sums path r fs at g),
-      λ none. subst (λ w. IsWritten path text w after) same (calm (second_calm es fs none)),
+      λ none. subst (λ w. LeavesWorld {A = Unit {0}} (λ done. IsWritten path text) w after r) same (calm (second_calm es fs none)),
     )
 
 -- ---- looking
@@ -60,20 +60,18 @@ look_behind c sums reason.NoMemory fs many g = (sums, omega (arith, many), ap (�
 look_behind c sums _ fs many g = absurd g
 
 module _ (c : CachePlan) (sums : List (List ℕ)) (old mid new es fs : List Entry) (told here after : Option World)
-    (first : mid ≡ old ++ es) (many : length sums ≡ length c.paths) (summed : es ≡ summed_entries c.paths sums) (same : here ≡ told) (second : new ≡ mid ++ fs)
-    (calm : list_any is_failed fs ≡ false → IsLooked (entry_of c sums) here after) where
+    (first : mid ≡ old ++ es) (many : length sums ≡ length c.paths) (summed : es ≡ summed_entries c.paths sums) (same : here ≡ told) (second : new ≡ mid ++ fs) where
   together : new ≡ old ++ (es ++ fs)
   together = second ∙ ap (λ k. k ++ fs) first ∙ append_assoc old es fs
 
-  changed : list_any is_failed (es ++ fs) ≡ false → (sums : List (List ℕ)) × IsLooked (entry_of c sums) told after
-  changed none = (sums, subst (λ w. IsLooked (entry_of c sums) w after) same (calm (second_calm es fs none)))
-
   -- the sums and the look together
-  pub looked_together : (seen : Look) → ProbeGain (entry_of c sums) c.outputs (Ok seen) fs
-      → (all : List Entry) × (new ≡ old ++ all) × ((length sums ≡ length c.paths) × (all ≡ looked_entries c sums seen)) × (list_any is_failed all ≡ false → (sums : List (List ℕ)) × IsLooked (entry_of c sums) told after)
-  looked_together seen g = (es ++ fs, together, (many, ap₂ (λ a b. a ++ b) summed g), changed)
+  pub looked_together : (seen : Look) → ProbeGain (entry_of c sums) c.outputs (Ok seen) fs → (list_any is_failed fs ≡ false → IsLooked (entry_of c sums) here after)
+      → (all : List Entry) × (new ≡ old ++ all) × ((length sums ≡ length c.paths) × (all ≡ looked_entries c sums seen)) × (list_any is_failed all ≡ false → IsLooked (entry_of c sums) told after)
+  looked_together seen g calm =
+      (es ++ fs, together, (many, ap₂ (λ a b. a ++ b) summed g), λ none. subst (λ w. IsLooked (entry_of c sums) w after) same (calm (second_calm es fs none)))
 
   -- the sums, and a look that was refused
-  pub unlooked_together : (r : Reason) → ProbeGain (entry_of c sums) c.outputs (Err r) fs
-      → (all : List Entry) × (new ≡ old ++ all) × LookRefusal c r all × (list_any is_failed all ≡ false → (sums : List (List ℕ)) × IsLooked (entry_of c sums) told after)
-  unlooked_together r g = (es ++ fs, together, subst (λ k. LookRefusal c r (k ++ fs)) (sym summed) (look_behind c sums r fs many g), changed)
+  pub unlooked_together : (r : Reason) → ProbeGain (entry_of c sums) c.outputs (Err r) fs → (list_any is_failed fs ≡ false → after ≡ here)
+      → (all : List Entry) × (new ≡ old ++ all) × LookRefusal c r all × (list_any is_failed all ≡ false → after ≡ told)
+  unlooked_together r g calm =
+      (es ++ fs, together, subst (λ k. LookRefusal c r (k ++ fs)) (sym summed) (look_behind c sums r fs many g), λ none. calm (second_calm es fs none) ∙ same)

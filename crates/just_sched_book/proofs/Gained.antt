@@ -14,12 +14,16 @@ use Rattle.just_sched_book.specs.Gains.{TellGains, AskGains, StartGains}
 use Rattle.just_sched_history.specs.Legal.{Run, Asked, Begun, Started, IsDue, May, all_starts}
 use Rattle.just_sched_history.specs.Match.{StandsFor, printed_entries, is_yes, started_entries}
 use Rattle.just_sched_history.specs.Nodes.{prompt_at, banner_at, command_at}
+use Rattle.just_sched_history.proofs.CachedMoves.{begun_of}
 use Rattle.just_sched_history.proofs.OneMore.{all_starts_more}
 
 -- a banner that couldn't be printed ends the body so
 pub begin_fails : (A : Type 0) (s : Run) (h : List Event) (n : ℕ) (r : Reason) (es : List Entry) → IsDue s h n Begun → TellGains {A = A} (banner_at s.nodes n) (Err r) es → May s h (event.Done n (outcome.Failed r)) × StandsFor s h (event.Done n (outcome.Failed r)) es
-begin_fails A s h n (reason.Fault call.Print) es due g = (inl due, (g.1, inl (due, g.0)))
-begin_fails A s h n reason.NoMemory es due g = ((Begun, due, λ e. cc), (Begun, printed_entries (banner_at s.nodes n), printed_entries (banner_at s.nodes n), due, refl, ap (λ x. x ++ printed_entries (banner_at s.nodes n)) (sym g.1), g.0))
+begin_fails A s h n (reason.Fault call.Print) es due g =
+    (inl due, inl (due, g.0, begun_of s h n (λ made. es ≡ made ++ entry.Failed call.Print ∷ []) due.2 g.1))
+begin_fails A s h n reason.NoMemory es due g =
+    let banner = printed_entries (banner_at s.nodes n) in
+    ((Begun, due, λ e. cc), (Begun, banner, banner, due, begun_of s h n (λ made. banner ≡ made ++ banner) due.2 refl, ap (λ x. x ++ banner) (sym g.1), g.0))
 begin_fails A s h n _ es due g = absurd g
 
 -- an answer stands for its entry
@@ -51,7 +55,7 @@ start_stands s h n i child c es q e = at_command (λ d. es ≡ started_entries c
 -- a start that broke ends the body so
 pub start_fails : {C : Type 0} (number : C → ℕ) (s : Run) (h : List Event) (n i : ℕ) (c : Command) (r : Reason) (es : List Entry) → IsDue s h n (Started i) → command_at s.nodes n i ≡ Some c → StartGains number c (Err r) es → May s h (event.Done n (outcome.Failed r)) × StandsFor s h (event.Done n (outcome.Failed r)) es
 start_fails number s h n i c (reason.Fault call.Print) es due q g =
-    (inr (i, due), (g.1, inr (i, due, at_command (λ d. printed_entries d.echo ≢ []) (command_at s.nodes n i) c q g.0)))
+    (inr (i, due), inr (i, due, at_command (λ d. printed_entries d.echo ≢ []) (command_at s.nodes n i) c q g.0, g.1))
 start_fails number s h n i c (reason.Fault call.Start) es due q g =
     ((i, due), (i, due, at_command (λ d. es ≡ printed_entries d.echo ++ entry.Failed call.Start ∷ []) (command_at s.nodes n i) c q g))
 start_fails number s h n i c (reason.Fault call.Temp) es due q g =

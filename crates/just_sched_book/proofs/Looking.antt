@@ -5,13 +5,16 @@ use Rattle.just_host_record.specs.declared.entry.Entry.{Entry}
 use Rattle.just_host_record.specs.declared.entry.Entry.TheVariants as entry
 use Rattle.just_host_record.specs.declared.entry.Look.{Look}
 use Rattle.just_host_record.specs.declared.entry.Look.TheVariants as look
+use Rattle.just_host_record.specs.World.{World}
 use Rattle.just_sched_history.specs.declared.cache_plan.CachePlan.{CachePlan}
 use Rattle.just_sched_history.specs.declared.event.Event.{Event}
 use Rattle.just_sched_history.specs.declared.event.Event.TheVariants as event
 use Rattle.just_sched_history.specs.declared.event.Outcome.TheVariants as outcome
 use Rattle.just_sched_history.specs.declared.event.Reason.{Reason}
 use Rattle.just_sched_history.specs.declared.event.Reason.TheVariants as reason
-use Rattle.just_sched_history.specs.Cached.{entry_of, seen_at}
+use Rattle.just_sched_history.specs.Cached.{entry_of, saved_text, seen_at}
+use Rattle.just_sched_history.specs.Effects.{Makes}
+use Rattle.just_sched_history.specs.Touched.{IsLooked, IsWritten}
 use Rattle.just_sched_book.specs.Gains.{SumRefusal, LookRefusal, SaveGains}
 use Rattle.just_sched_history.specs.Legal.{Run, Looked, Saved, IsDue, May}
 use Rattle.just_sched_history.specs.Match.{StandsFor, OfCache, summed_entries, looked_entries, saved_entries}
@@ -47,6 +50,10 @@ module _ (s : Run) (h : List Event) (n : ℕ) (c : CachePlan) (at : cache_at s.n
 
   pub look_stands : (sums : List (List ℕ)) (seen : Look) (es : List Entry) → es ≡ looked_entries c sums seen → StandsFor s h (event.Looked n sums seen) es
   look_stands sums seen es e = at_cache (λ d. es ≡ looked_entries d sums seen) (cache_at s.nodes n) c at e
+
+  -- and makes its entry, empty, where it lacked
+  pub look_makes : (sums : List (List ℕ)) (seen : Look) (old new : Option World) → IsLooked (entry_of c sums) old new → Makes s h (event.Looked n sums seen) old new
+  look_makes sums seen old new is = at_cache (λ d. IsLooked (entry_of d sums) old new) (cache_at s.nodes n) c at is
 
   -- want of memory stands for some sums
   memory_looked : (sums : List (List ℕ)) (es : List Entry) → IsDue s h n Looked → length sums ≤ length c.paths → es ≡ summed_entries c.paths sums → May s h (event.Done n (outcome.Failed reason.NoMemory)) × StandsFor s h (event.Done n (outcome.Failed reason.NoMemory)) es
@@ -88,6 +95,10 @@ module _ (s : Run) (h : List Event) (n : ℕ) (c : CachePlan) (at : cache_at s.n
     -- a saved entry stands for its entries
     pub save_stands : (es : List Entry) → es ≡ saved_entries c seen.0 → StandsFor s h (event.Saved n) es
     save_stands es e = of_sums (λ d sums. es ≡ saved_entries d sums) e
+
+    -- and makes the entry hold its text
+    pub save_makes : (sums : List (List ℕ)) (old new : Option World) → sums ≡ seen.0 → IsWritten (entry_of c sums) (saved_text c) old new → Makes s h (event.Saved n) old new
+    save_makes sums old new same is = of_sums (λ d sums. IsWritten (entry_of d sums) (saved_text d) old new) (subst (λ k. IsWritten (entry_of c k) (saved_text c) old new) same is)
 
     -- want of memory before the check, and behind it
     memory_saved : (es rest : List Entry) → IsDue s h n Saved → saved_entries c seen.0 ≡ es ++ rest → (rest ≢ []) → May s h (event.Done n (outcome.Failed reason.NoMemory)) × StandsFor s h (event.Done n (outcome.Failed reason.NoMemory)) es

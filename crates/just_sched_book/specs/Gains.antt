@@ -1,9 +1,10 @@
 -- What a host's record gains by the calls that a body's events stand for.
-use Rattle.std.specs.Prelude.{ℕ, ◌≡◌, ◌≢◌, ◌⊎◌, ◌<◌, ◌≤◌, Bool, codes, List, [], ◌∷◌, ◌++◌, length, slice_index_or, Contains, Some, None, Result, Ok, Err}
+use Rattle.std.specs.Prelude.{ℕ, ◌≡◌, ◌≢◌, ◌⊎◌, ◌<◌, ◌≤◌, Bool, codes, List, [], ◌∷◌, ◌++◌, length, slice_index_or, Contains, Option, Some, None, Result, Ok, Err}
 use Rattle.just_host_record.specs.declared.entry.Call.TheVariants as call
 use Rattle.just_host_record.specs.declared.entry.Entry.{Entry}
 use Rattle.just_host_record.specs.declared.entry.Entry.TheVariants as entry
 use Rattle.just_host_record.specs.Record.{script_folder}
+use Rattle.just_host_record.specs.World.{World}
 use Rattle.just_sched_history.specs.declared.event.Reason.{Reason}
 use Rattle.just_sched_history.specs.declared.event.Reason.TheVariants as reason
 use Rattle.just_exec_work.specs.declared.work.Command.{Command}
@@ -103,6 +104,11 @@ SaveGains c sums (Err (reason.Fault call.Check)) es = es ≡ entry.Failed call.C
 SaveGains c sums (Err (reason.Fault call.Save)) es = es ≡ entry.Checked c.outputs None ∷ entry.Failed call.Save ∷ []
 SaveGains c sums (Err reason.NoMemory) es = (es ≡ []) ⊎ (es ≡ entry.Checked c.outputs None ∷ [])
 SaveGains c sums (Err _) es = ⊥
+
+-- what a call made of a told world, where none failed: an answer changed it so, and a refusal left it as it was
+abbrev pub LeavesWorld : {A : Type 0} → (A → Option World → Option World → Type 0) → Option World → Option World → Result A Reason → Type 0
+LeavesWorld change old new (Ok x) = change x old new
+LeavesWorld change old new (Err e) = new ≡ old
 
 -- a fact where the call was refused
 abbrev pub IfRefused : {A : Type 0} → Result A Reason → Type 0 → Type 0

@@ -6,7 +6,7 @@ ghost use Rattle.just_path.specs.Path.{text_of};
 ghost use Rattle.just_host_record.specs.declared.entry.Entry.{Entry};
 ghost use Rattle.just_host_record.specs.Record.{is_failed};
 ghost use Rattle.just_sched_history.specs.Cached.{is_cached, entry_of, saved_text};
-ghost use Rattle.just_sched_book.specs.Gains.{SumGain, SumGains, LookGains, ProbeGain, SaveGains, CheckGain, KeepGain};
+ghost use Rattle.just_sched_book.specs.Gains.{SumGain, SumGains, LookGains, ProbeGain, SaveGains, CheckGain, KeepGain, LeavesWorld};
 ghost use Rattle.just_sched_history.specs.Nodes.{cache_at};
 ghost use Rattle.just_sched_history.specs.Touched.{IsLooked, IsWritten};
 
@@ -73,7 +73,7 @@ fn probe<H: Host>(
     outputs: &[Utf8PathBuf],
 ) -> Result<Look, Reason>
     ensures gains { (es : List Entry) × (H.entries host.new ≡ H.entries host.old ++ es) × ProbeGain (text_of entry.entry) outputs.now result es
-        × (list_any is_failed es ≡ false → IsLooked (text_of entry.entry) (H.world host.old) (H.world host.new)) }
+        × (list_any is_failed es ≡ false → LeavesWorld (λ seen. IsLooked (text_of entry.entry)) (H.world host.old) (H.world host.new) result) }
     ensures spare { H.spare host.new ≡ H.spare host.old }
 {
     match host.probe(entry, outputs) {
@@ -92,7 +92,7 @@ fn look_at<H: Host>(
     sums: &[[u8; 32]],
 ) -> Result<Look, Reason>
     ensures gains { (es : List Entry) × (H.entries host.new ≡ H.entries host.old ++ es) × ProbeGain (entry_of plan.now sums.now) plan.now.outputs result es
-        × (list_any is_failed es ≡ false → IsLooked (entry_of plan.now sums.now) (H.world host.old) (H.world host.new)) }
+        × (list_any is_failed es ≡ false → LeavesWorld (λ seen. IsLooked (entry_of plan.now sums.now)) (H.world host.old) (H.world host.new) result) }
     ensures spare { H.spare host.new ≡ H.spare host.old }
 {
     match entry_path_of(alloc, plan, sums) {
@@ -108,7 +108,7 @@ pub(crate) fn look<H: Host>(
     plan: &CachePlan,
 ) -> Result<(Seq<[u8; 32]>, Look), Reason>
     ensures gains { (es : List Entry) × (H.entries host.new ≡ H.entries host.old ++ es) × LookGains plan.now (λ seen. seen.0) (λ seen. seen.1) result es
-        × (list_any is_failed es ≡ false → (sums : List (List ℕ)) × IsLooked (entry_of plan.now sums) (H.world host.old) (H.world host.new)) }
+        × (list_any is_failed es ≡ false → LeavesWorld (λ seen. IsLooked (entry_of plan.now seen.0)) (H.world host.old) (H.world host.new) result) }
     ensures spare { H.spare host.new ≡ H.spare host.old }
 {
     let sums = match sum_all(alloc, host, plan.paths.as_slice()) {
@@ -139,7 +139,7 @@ fn check<H: Host>(host: &mut H, outputs: &[Utf8PathBuf]) -> Result<(), Reason>
 /// Makes an entry hold a text.
 fn keep<H: Host>(host: &mut H, entry: Utf8Path<'_>, text: &str) -> Result<(), Reason>
     ensures gains { (es : List Entry) × (H.entries host.new ≡ H.entries host.old ++ es) × KeepGain (text_of entry.entry) result es
-        × (list_any is_failed es ≡ false → IsWritten (text_of entry.entry) text.now (H.world host.old) (H.world host.new)) }
+        × (list_any is_failed es ≡ false → LeavesWorld (λ done. IsWritten (text_of entry.entry) text.now) (H.world host.old) (H.world host.new) result) }
     ensures spare { H.spare host.new ≡ H.spare host.old }
 {
     match host.save(entry, text.as_bytes()) {
@@ -158,7 +158,7 @@ fn check_and_keep<H: Host>(
     text: &str,
 ) -> Result<(), Reason>
     ensures gains { (sums : List (List ℕ)) → text_of entry.entry ≡ entry_of plan.now sums → (es : List Entry) × (H.entries host.new ≡ H.entries host.old ++ es) × SaveGains plan.now sums result es
-        × (list_any is_failed es ≡ false → IsWritten (text_of entry.entry) text.now (H.world host.old) (H.world host.new)) }
+        × (list_any is_failed es ≡ false → LeavesWorld (λ done. IsWritten (text_of entry.entry) text.now) (H.world host.old) (H.world host.new) result) }
     ensures spare { H.spare host.new ≡ H.spare host.old }
 {
     match check(host, plan.outputs.as_slice()) {
@@ -175,7 +175,7 @@ pub(crate) fn save<H: Host>(
     sums: &[[u8; 32]],
 ) -> Result<(), Reason>
     ensures gains { (es : List Entry) × (H.entries host.new ≡ H.entries host.old ++ es) × SaveGains plan.now sums.now result es
-        × (list_any is_failed es ≡ false → IsWritten (entry_of plan.now sums.now) (saved_text plan.now) (H.world host.old) (H.world host.new)) }
+        × (list_any is_failed es ≡ false → LeavesWorld (λ done. IsWritten (entry_of plan.now sums.now) (saved_text plan.now)) (H.world host.old) (H.world host.new) result) }
     ensures spare { H.spare host.new ≡ H.spare host.old }
 {
     let path = match entry_path_of(alloc, plan, sums) {

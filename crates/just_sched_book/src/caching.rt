@@ -33,12 +33,10 @@ impl<H: Host + Drop, P: Naming> Book<H, P> {
     /// Whether that look was full.
     fn saw_full(&self, node: u32) -> bool
         requires { is_open self.now.history.items node ≡ true }
-        ensures { result ≡ full_of self.now.history.items node }
+        ensures { result ≡ full_of P.start.plan.nodes self.now.history.items node }
     {
-        match self.tables.row(node).look {
-            Some((_, full)) => full,
-            None => false,
-        }
+        self.tables
+            .saw_full(&self.plan, self.history.as_slice(), node)
     }
 
     /// Whether the entry of the node's cache was saved.
@@ -109,7 +107,7 @@ impl<H: Host + Drop, P: Naming> Book<H, P> {
     /// Skips the node's body.
     fn skip(&mut self, node: u32)
         requires inside { in_body self.old.history.items node ≡ true }
-        requires full { full_of self.old.history.items node ≡ true }
+        requires full { full_of P.start.plan.nodes self.old.history.items node ≡ true }
         ensures plan { self.new.plan ≡ self.old.plan }
         ensures jobs { self.new.jobs ≡ self.old.jobs }
         ensures grown { GrowsBy self.old.history.items self.new.history.items node }

@@ -1,5 +1,5 @@
 -- A body is begun, or its banner couldn't be printed: the event may come with what was gained, and the account goes on.
-use Rattle.std.proofs.Common.{arith, refl, ◌∙◌, ap, subst, length, Err, eq-eqb}
+use Rattle.std.proofs.Common.{◌≡◌, ◌++◌, arith, refl, ◌∙◌, ap, subst, length, Err, eq-eqb}
 use Rattle.just_sched_book.specs.Gains.{TellGains}
 use Rattle.just_sched_history.specs.Match.{printed_entries}
 use Rattle.just_sched_history.specs.Nodes.{banner_at}
@@ -11,6 +11,7 @@ use Rattle.just_sched_history.proofs.Asking.{no_kept}
 use Rattle.just_sched_book.proofs.Gained.{begin_fails}
 use Rattle.just_sched_history.proofs.Grows.{grows_one}
 use Rattle.just_sched_book.proofs.Behind.{begin_did, open_as, over_now}
+use Rattle.just_sched_history.proofs.CachedMoves.{begun_of}
 use Rattle.just_sched_history.proofs.Due.{inside}
 use Rattle.just_sched_book.proofs.Tallies.{tally_more, tally_done, told_end}
 use Rattle.just_sched_book.proofs.book.Book.begin.Goals as goal
@@ -37,7 +38,8 @@ invariant_of-self-clause-account g c =
     let s = c.args.self.now in
     let at = c.banner.ensures ∙ ap (λ p. banner_at p.nodes c.args.node) s.plan_named in
     noted s.account _ c.in-Ok.ensures.gains.0 _ _ _ (event.Begun c.args.node) c.note.ensures.items c.in-Ok.ensures.gains.1 (c.requires.inside, c.requires.fresh, c.requires.may)
-    (c.in-Ok.ensures.gains.2 ∙ ap printed_entries at) (λ _ _. c.in-Ok.ensures.world) (omega (arith, c.in-Ok.ensures.spare)) refl
+    (begun_of (run_of g.P.Naming.start) s.history.items c.args.node (λ made. c.in-Ok.ensures.gains.0 ≡ made ++ printed_entries (banner_at g.P.Naming.start.plan.nodes c.args.node)) c.requires.may (c.in-Ok.ensures.gains.2 ∙ ap printed_entries at))
+    (λ _ _. c.in-Ok.ensures.world) (omega (arith, c.in-Ok.ensures.spare)) refl
 
 pub invariant_of-self-in-Err-clause-account : goal.invariant_of-self-in-Err-clause-account
 invariant_of-self-in-Err-clause-account g c =

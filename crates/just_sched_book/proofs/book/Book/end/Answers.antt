@@ -15,7 +15,7 @@ note-requires-clause-room g c =
     omega (arith, room_for s.account (event.Done c.args.node c.args.outcome) c.requires.may, s.roomy, s.history.ok.0)
 
 pub invariant_of-self-clause-account : goal.invariant_of-self-clause-account
-invariant_of-self-clause-account g c = noted_alone c.args.self.now.account _ (event.Done c.args.node c.args.outcome) c.note.ensures.items c.requires.may c.requires.stands refl
+invariant_of-self-clause-account g c = noted_alone c.args.self.now.account _ (event.Done c.args.node c.args.outcome) c.note.ensures.items c.requires.may c.requires.stands refl refl
 
 pub returns-clause-grown : goal.returns-clause-grown
 returns-clause-grown g c = grows_one c.args.self.now.history.items _ (event.Done c.args.node c.args.outcome) c.args.node c.note.ensures.items (eq-eqb c.args.node c.args.node refl)

@@ -1,14 +1,13 @@
 -- The entry was looked at, or a call of the host broke: the event may come with what was gained, and the account goes on.
 use Rattle.std.proofs.Common.{arith, length, refl, sym, ◌∙◌, ap, eq-eqb}
 use Rattle.just_sched_history.proofs.CachedMoves.{look_did}
-use Rattle.just_sched_book.proofs.Looking.{look_may, look_stands, look_fails}
-use Rattle.just_sched_history.proofs.Touching.{leads_looked}
+use Rattle.just_sched_book.proofs.Looking.{look_may, look_stands, look_makes, look_fails}
 use Rattle.just_sched_history.specs.Cached.{is_cached}
 use Rattle.just_sched_history.specs.Nodes.{cache_at}
 use Rattle.just_sched_history.specs.Start.{run_of}
 use Rattle.just_sched_history.specs.declared.event.Event.TheVariants as event
 use Rattle.just_sched_history.specs.declared.event.Outcome.TheVariants as outcome
-use Rattle.just_sched_book.proofs.Accounts.{node_in, room_for, noted_leading}
+use Rattle.just_sched_book.proofs.Accounts.{node_in, room_for, noted}
 use Rattle.just_sched_history.proofs.Asking.{no_kept}
 use Rattle.just_sched_book.proofs.Behind.{open_as, over_now}
 use Rattle.just_sched_history.proofs.Due.{inside}
@@ -41,17 +40,17 @@ pub invariant_of-self-clause-account : goal.invariant_of-self-clause-account
 invariant_of-self-clause-account g c =
     let s = c.args.self.now in
     let at = sym (ap (λ p. cache_at p.nodes c.args.node) s.plan_named) ∙ c.cache.ensures in
-    noted_leading s.account _ c.in-Ok.ensures.gains.0 _ _ _ (event.Looked c.args.node c.in-Ok.sums c.in-Ok.seen) c.note.ensures.items c.in-Ok.ensures.gains.1 (look_may (run_of g.P.Naming.start) s.history.items c.args.node c.cache.result.now at c.in-Ok.sums c.in-Ok.seen (c.requires.inside, c.requires.cached, c.requires.fresh) c.in-Ok.ensures.gains.2.0)
+    noted s.account _ c.in-Ok.ensures.gains.0 _ _ _ (event.Looked c.args.node c.in-Ok.sums c.in-Ok.seen) c.note.ensures.items c.in-Ok.ensures.gains.1 (look_may (run_of g.P.Naming.start) s.history.items c.args.node c.cache.result.now at c.in-Ok.sums c.in-Ok.seen (c.requires.inside, c.requires.cached, c.requires.fresh) c.in-Ok.ensures.gains.2.0)
     (look_stands (run_of g.P.Naming.start) s.history.items c.args.node c.cache.result.now at c.in-Ok.sums c.in-Ok.seen c.in-Ok.ensures.gains.0 c.in-Ok.ensures.gains.2.1)
-    (λ z none. let l = c.in-Ok.ensures.gains.3 none in leads_looked g.P.Naming.start.plan.nodes c.args.node c.cache.result.now l.0 _ _ at l.1) (omega (arith, c.in-Ok.ensures.spare)) refl
+    (λ z none. look_makes (run_of g.P.Naming.start) s.history.items c.args.node c.cache.result.now at c.in-Ok.sums c.in-Ok.seen _ _ (c.in-Ok.ensures.gains.3 none)) (omega (arith, c.in-Ok.ensures.spare)) refl
 
 pub invariant_of-self-in-Err-clause-account : goal.invariant_of-self-in-Err-clause-account
 invariant_of-self-in-Err-clause-account g c =
     let s = c.args.self.now in
     let at = sym (ap (λ p. cache_at p.nodes c.args.node) s.plan_named) ∙ c.cache.ensures in
     let fails = look_fails (run_of g.P.Naming.start) s.history.items c.args.node c.cache.result.now at c.in-Err.reason c.in-Err.ensures.gains.0 (c.requires.inside, c.requires.cached, c.requires.fresh) c.in-Err.ensures.gains.2 in
-    noted_leading s.account _ c.in-Err.ensures.gains.0 _ _ _ (event.Done c.args.node (outcome.Failed c.in-Err.reason)) c.note-in-Err.ensures.items c.in-Err.ensures.gains.1 fails.0 fails.1
-    (λ z none. let l = c.in-Err.ensures.gains.3 none in leads_looked g.P.Naming.start.plan.nodes c.args.node c.cache.result.now l.0 _ _ at l.1) (omega (arith, c.in-Err.ensures.spare)) refl
+    noted s.account _ c.in-Err.ensures.gains.0 _ _ _ (event.Done c.args.node (outcome.Failed c.in-Err.reason)) c.note-in-Err.ensures.items c.in-Err.ensures.gains.1 fails.0 fails.1
+    (λ z none. c.in-Err.ensures.gains.3 none) (omega (arith, c.in-Err.ensures.spare)) refl
 
 pub returns-in-Ok-clause-grown : goal.returns-in-Ok-clause-grown
 returns-in-Ok-clause-grown g c = grows_one c.args.self.now.history.items _ (event.Looked c.args.node c.in-Ok.sums c.in-Ok.seen) c.args.node c.note.ensures.items (eq-eqb c.args.node c.args.node refl)

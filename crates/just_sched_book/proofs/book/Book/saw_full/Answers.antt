@@ -1,21 +1,19 @@
--- It is noted in the node's row.
-use Rattle.std.proofs.Common.{ap, length, arith, sym, ◌∙◌}
-use Rattle.just_sched_book.proofs.Accounts.{node_in}
-use Rattle.just_sched_history.proofs.LookRows.{full_row, full_in_row}
+-- The tables tell it.
+use Rattle.std.proofs.Common.{ap, ap₂, length, arith, sym, subst, ◌∙◌}
+use Rattle.just_sched_history.specs.Cached.{saw_full}
+use Rattle.just_sched_history.specs.Rows.{IsTable}
 use Rattle.just_sched_history.proofs.TablesLaws.{rows_of}
+use Rattle.just_sched_book.proofs.Accounts.{node_in}
 use Rattle.just_sched_book.proofs.book.Book.saw_full.Goals as goal
 
-pub row-requires : goal.row-requires
-row-requires g c =
+pub saw_full-requires-clause-within : goal.saw_full-requires-clause-within
+saw_full-requires-clause-within g c =
     let s = c.args.self.now in
     omega (arith, node_in s.account c.args.node c.requires, s.sized, ap (λ p. length p.nodes) s.plan_named)
 
-pub returns-in-Some : goal.returns-in-Some
-returns-in-Some g c =
-    let s = c.args.self.now in
-    sym (ap full_row c.in-Some.is) ∙ full_in_row s.history.items s.tables.rows.items (rows_of s.noted) c.args.node c.row.result c.row.ensures.is c.row.ensures.within
+pub saw_full-requires-clause-table : goal.saw_full-requires-clause-table
+saw_full-requires-clause-table g c = subst (λ h. ∥ IsTable h c.args.self.now.tables.rows.items ∥₁) (sym c.as_slice.ensures.value) (rows_of c.args.self.now.noted)
 
-pub returns-in-None : goal.returns-in-None
-returns-in-None g c =
-    let s = c.args.self.now in
-    sym (ap full_row c.in-None.is) ∙ full_in_row s.history.items s.tables.rows.items (rows_of s.noted) c.args.node c.row.result c.row.ensures.is c.row.ensures.within
+pub returns : goal.returns
+returns g c =
+    c.saw_full.ensures ∙ ap₂ (λ p h. saw_full p.nodes h c.args.node) c.args.self.now.plan_named c.as_slice.ensures.value

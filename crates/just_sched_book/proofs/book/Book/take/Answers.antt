@@ -19,7 +19,7 @@ note-requires-clause-room g c =
     omega (arith, room_for s.account (event.Took c.args.node) (c.requires.ready, c.requires.calm, c.requires.free, c.requires.apart), s.roomy, s.history.ok.0)
 
 pub invariant_of-self-clause-account : goal.invariant_of-self-clause-account
-invariant_of-self-clause-account g c = noted_alone c.args.self.now.account _ (event.Took c.args.node) c.note.ensures.items (c.requires.ready, c.requires.calm, c.requires.free, c.requires.apart) refl refl
+invariant_of-self-clause-account g c = noted_alone c.args.self.now.account _ (event.Took c.args.node) c.note.ensures.items (c.requires.ready, c.requires.calm, c.requires.free, c.requires.apart) refl refl refl
 
 pub returns-clause-grown : goal.returns-clause-grown
 returns-clause-grown g c = grows_one c.args.self.now.history.items _ (event.Took c.args.node) c.args.node c.note.ensures.items (eq-eqb c.args.node c.args.node refl)
