@@ -20,7 +20,7 @@ use Rattle.just_sched_history.specs.Verdict.{IsVerdict}
 pub record IsDriven (s : Start) (p : Plan) (h : List Event) (v : Verdict) (now : List Entry) (world : Option World) : Type 0 where
   -- the plan came back as it was
   pub plan : p ≡ s.plan
-  -- the history is legal and matches what the record gained, and the world is as it was where nothing was started or failed
+  -- the history is legal and matches what the record gained, and the world is what its events make of it where nothing was started or failed
   pub kept : ∥ IsKept s h now world ∥₁
   -- no body is open
   pub closed : IsClosed (run_of s) h
@@ -35,4 +35,4 @@ pub record IsDriven (s : Start) (p : Plan) (h : List Event) (v : Verdict) (now :
   -- each cached body went by the cache rule
   pub cached : (n : ℕ) → is_cached s.plan.nodes n ≡ true → GoesByCacheRule (run_of s) h n
   -- and where all went well, it was skipped exactly where its look was full, and else begun
-  pub skipped : v ≡ ended.Well → (n : ℕ) → n < length s.plan.nodes → is_cached s.plan.nodes n ≡ true → IsSkippedByLook h n
+  pub skipped : v ≡ ended.Well → (n : ℕ) → n < length s.plan.nodes → is_cached s.plan.nodes n ≡ true → IsSkippedByLook s.plan.nodes h n
