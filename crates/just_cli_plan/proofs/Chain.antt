@@ -29,7 +29,7 @@ use Rattle.just_lang_types.specs.declared.unstable_feature.UnstableFeature.{Unst
 use Rattle.just_exec.specs.declared.error.Error.{Error}
 use Rattle.just_exec.specs.declared.error.Error.TheVariants as error
 use Rattle.just_cli_plan.specs.Own.{OrMemory}
-use Rattle.just_cli_plan.specs.Forms.{unstable_feature}
+use Rattle.just_cli_plan.specs.Features.{unstable_feature}
 use Rattle.just_cli_plan.specs.Planned.{planned, messages_of, plans_in, RefusesNodes}
 use Rattle.just_cli_plan.specs.Request.{SourcesRequest, ProjectRequest, LoadedRequest, ScopesRequest, KeysRequest, ClosureRequest, Outline, outline_of, AsksKeys, FindsProject, MakesPlan, PlansKeys, PlansProject}
 use Rattle.just_cli_plan.specs.Steps.{stops, goes_on}

@@ -2,13 +2,13 @@
 pub mod Alone
 pub mod Chain
 pub mod Found
+pub mod KeyPlans
 pub mod Laws
 pub mod Listed
 pub mod Loading
 pub mod PlanNodes
 pub mod Refusals
 pub mod Requests
-pub mod Sound
 pub mod Steps
 pub mod Caused
 pub mod OutcomeLaws

@@ -1,6 +1,6 @@
 -- The definitions of this crate.
 pub mod Agree
-pub mod Forms
+pub mod Features
 pub mod Own
 pub mod Pairs
 pub mod Planned

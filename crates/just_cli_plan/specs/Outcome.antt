@@ -1,5 +1,5 @@
 -- The error of a node that failed.
-use Rattle.std.specs.Prelude.{ℕ, ◌≡◌, ◌-◌, ◌⊎◌, Bool, true, false, if◌then◌else◌, ℤ, List, [], ◌∷◌, ◌++◌, codes, flat_map, length, slice_get, slice_index_or, Option, Some, None, MatchOption}
+use Rattle.std.specs.Prelude.{ℕ, ◌≡◌, ◌-◌, ◌⊎◌, Bool, true, false, if◌then◌else◌, ℤ, List, [], ◌∷◌, codes, length, slice_get, slice_index_or, Option, Some, None, MatchOption}
 use Rattle.std.specs.List.{last_or}
 use Rattle.std.specs.Option.{unwrap_or}
 use Rattle.just_path.specs.declared.host.Miss.{Miss}
@@ -28,6 +28,8 @@ use Rattle.just_exec_work.specs.declared.work.Command.{Command}
 use Rattle.just_exec_work.specs.declared.work.Work.{Work}
 use Rattle.just_exec_work.specs.declared.work.Work.TheVariants as work
 use Rattle.just_exec_work.specs.Steps.{commands_of}
+use Rattle.just_exec.specs.Caches.{first_of}
+use Rattle.just_exec.specs.Executors.{spaced}
 use Rattle.just_exec.specs.declared.error.Error.{Error}
 use Rattle.just_exec.specs.declared.error.Error.TheVariants as error
 
@@ -71,18 +73,6 @@ abbrev pub shell_of : PlanNode → List Status → List ℕ
 shell_of x ss = program_of (slice_get (commands_of x.work) (length ss))
 
 -- ---- what couldn't be started or waited for
-
--- texts, each with a blank in front
-abbrev pub with_blanks : List (List ℕ) → List ℕ
-with_blanks ts = flat_map (λ t. 32 ∷ t) ts
-
--- a program and its arguments, with a blank between two of them
-abbrev pub spaced : List ℕ → List (List ℕ) → List ℕ
-spaced program arguments = program ++ with_blanks arguments
-
-abbrev pub first_of : List (List ℕ) → Option (List ℕ)
-first_of [] = None
-first_of (t ∷ ts) = Some t
 
 -- a script that is run by itself is told by what its first line names, any other by its command and the command's arguments
 abbrev pub script_error : List ℕ → Spec → Option Script → HostFault → Error

@@ -5,5 +5,5 @@ use Rattle.just_lang_types.specs.Modules.{AreModules}
 use Rattle.just_cli_plan.specs.EndingProjects.{End}
 
 -- a justfile in whose modules no recipe leads to itself, and no variable
-abbrev pub IsSound : Justfile → Type 0
-IsSound j = (modules : List Justfile) → AreModules (j ∷ []) modules → End modules
+abbrev pub IsEnding : Justfile → Type 0
+IsEnding j = (modules : List Justfile) → AreModules (j ∷ []) modules → End modules

@@ -28,7 +28,7 @@ use Rattle.just_env.specs.Captures.{Capture}
 use Rattle.just_exec.specs.Refusals.{error_of_lang}
 use Rattle.just_exec.specs.declared.error.Error.{Error}
 use Rattle.just_exec.specs.declared.error.Error.TheVariants as error
-use Rattle.just_cli_plan.specs.Forms.{unstable_feature}
+use Rattle.just_cli_plan.specs.Features.{unstable_feature}
 use Rattle.just_cli_plan.specs.Pairs.{LoadsPairs}
 use Rattle.just_cli_plan.specs.Planned.{planned, messages_of, plans_in, error_of_plan}
 use Rattle.just_cli_plan.specs.Steps.{Then}

@@ -8,11 +8,11 @@ ghost use Rattle.just_eval_closure.specs.WellFormed.{IsWellFormed};
 ghost use Rattle.just_eval_closure.specs.Requests.{IsIndexed};
 ghost use Rattle.just_lang_types.specs.Modules.{AreModules};
 ghost use Rattle.just_cli_plan.specs.Own.{OrMemory};
-ghost use Rattle.just_cli_plan.specs.Projects.{IsSound};
+ghost use Rattle.just_cli_plan.specs.Projects.{IsEnding};
 ghost use Rattle.just_cli_plan.specs.Request.{outline_of, AsksKeys, MakesPlan, PlansKeys};
 
 use super::Wanted;
-use super::planning::plan_of;
+use super::closure_plan::plan_of;
 use just_eval_closure::{Request, closure_within};
 use just_eval_words::{invocations, within_one};
 use just_exec::Error;
@@ -69,7 +69,7 @@ pub(crate) fn plan_of_keys(
     scopes: &Scopes,
     wanted: &Wanted,
 ) -> Result<(Plan, Seq<bool>), Error>
-    requires { IsSound justfile.now }
+    requires { IsEnding justfile.now }
     ensures plan { IfOk result (λ p. (modules : List Justfile) → AreModules (justfile.now ∷ []) modules → PlansKeys (record { wanted = wanted.now; justfile = justfile.now; modules = modules; scopes = scopes.now }) (Ok (outline_of p.0 (option_map non_zero_u64_get wanted.now.jobs) p.1))) }
     ensures refused { IfErr result (OrMemory (λ e. (modules : List Justfile) → AreModules (justfile.now ∷ []) modules → PlansKeys (record { wanted = wanted.now; justfile = justfile.now; modules = modules; scopes = scopes.now }) (Err e))) }
 {

@@ -3,21 +3,21 @@
 #![tactic(auto)]
 
 mod agree;
-mod cached;
+mod cache_errors;
+mod closure_plan;
 mod ends;
-mod forms;
+mod features;
 mod keys;
 mod law;
 mod one;
 mod outcome;
 mod pairs;
-mod planning;
 mod project;
 mod wanted;
 
 pub use agree::{closures_agree, evaluations_agree, loads_agree};
 pub use ends::projects_end;
-pub use forms::not_built_error;
+pub use features::not_built_error;
 pub use just_env::DotenvAsk;
 pub use law::plans_agree;
 pub use one::projects_agree;

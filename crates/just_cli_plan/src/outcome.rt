@@ -1,14 +1,14 @@
 //! The error of a node that failed.
 
-ghost use Rattle.std.specs.Prelude.{◌≡◌, ◌++◌, true, [], None, codes, length, string_bytes, IfOk, IfErr};
+ghost use Rattle.std.specs.Prelude.{◌≡◌, true, [], None, codes, length, IfOk, IfErr};
 ghost use Rattle.std.specs.Option.{option_copied};
 ghost use Rattle.std.specs.List.{last_or};
 ghost use Rattle.just_host_record.specs.Record.{text_or_empty};
-ghost use Rattle.just_cli_plan.specs.Outcome.{shown_at, name_of as recipe_name, code_error as error_of_code, status_error as error_of_status, last_error as error_of_last, shell_of as node_shell, with_blanks, spaced, first_of, script_error as error_of_script, lost_error as error_of_lost, is_told, miss_error as error_of_miss, fault_error as error_of_fault, failure_error as error_of_failure, node_error, copies_text, IsToldAs, IsErrorFor};
+ghost use Rattle.just_cli_plan.specs.Outcome.{shown_at, name_of as recipe_name, code_error as error_of_code, status_error as error_of_status, last_error as error_of_last, shell_of as node_shell, script_error as error_of_script, lost_error as error_of_lost, is_told, miss_error as error_of_miss, fault_error as error_of_fault, failure_error as error_of_failure, node_error, copies_text, IsToldAs, IsErrorFor};
 ghost use Rattle.just_sched_history.specs.State.{statuses, reason_of as failure_of};
 
-use super::cached::{entry_seen, folder_error, input_error, output_at, saved_error};
-use just_exec::Error;
+use super::cache_errors::{entry_seen, folder_error, input_error, output_at, saved_error};
+use just_exec::{Error, first_of, spaced};
 use just_exec_work::{Command, Work, command};
 use just_host_record::{Call, HostFault, Spec, Status};
 use just_path::{Miss, Utf8PathBuf};
@@ -94,36 +94,6 @@ fn shell_of(
     match command(&node.work, status_count(history, number)) {
         Some(command) => command.spec.program.try_clone(),
         None => Text::from_str(alloc, ""),
-    }
-}
-
-/// Adds texts, each with a blank in front.
-fn add_with_blanks(text: &mut String, texts: &[Text]) -> Result<(), NoMemory>
-    ensures { IfOk result (λ u. string_bytes text.new ≡ string_bytes text.old ++ with_blanks texts.now) }
-{
-    'texts: for one in texts {
-        text.push(' ')?;
-        text.push_str(one.as_str())?;
-    }
-    Ok(())
-}
-
-/// A program and its arguments, with a blank between two of them.
-fn spaced(alloc: Global, program: &Text, arguments: &[Text]) -> Result<Text, NoMemory>
-    ensures { IfOk result (λ t. t ≡ spaced program.now arguments.now) }
-{
-    let mut text = String::from_str(alloc, program.as_str())?;
-    add_with_blanks(&mut text, arguments)?;
-    Ok(Text::from(text))
-}
-
-/// The first text, if there is one.
-fn first_of(texts: &[Text]) -> Result<Option<Text>, NoMemory>
-    ensures { IfOk result (λ t. t ≡ first_of texts.now) }
-{
-    match texts {
-        [] => Ok(None),
-        [text, ..] => Ok(Some(text.try_clone()?)),
     }
 }
 

@@ -10,12 +10,12 @@ ghost use Rattle.just_eval.specs.Evaluations.{IsEvaluation};
 ghost use Rattle.just_exec.specs.Refusals.{error_of_lang};
 ghost use Rattle.just_exec.specs.declared.error.Error.TheVariants as error;
 ghost use Rattle.just_cli_plan.specs.Own.{OrMemory};
-ghost use Rattle.just_cli_plan.specs.Forms.{unstable_feature as feature_used};
-ghost use Rattle.just_cli_plan.specs.Projects.{IsSound};
+ghost use Rattle.just_cli_plan.specs.Features.{unstable_feature as feature_used};
+ghost use Rattle.just_cli_plan.specs.Projects.{IsEnding};
 ghost use Rattle.just_cli_plan.specs.Request.{outline_of, FindsProject, PlansProject};
 
 use super::Wanted;
-use super::forms::unstable_feature;
+use super::features::unstable_feature;
 use super::keys::plan_of_keys;
 use crate::projects_end;
 use just_eval::evaluate;
@@ -58,7 +58,7 @@ fn scopes_of(
     environ: &Environ,
     wanted: &Wanted,
 ) -> Result<Scopes, Error>
-    requires { IsSound justfile.now }
+    requires { IsEnding justfile.now }
     ensures scopes { IfOk result (λ s. (modules : List Justfile) → AreModules (justfile.now ∷ []) modules → IsEvaluation modules dotenv.now environ.now wanted.now.overrides (Ok s)) }
     ensures refused { IfErr result (OrMemory (λ e. (l : LangError) × ((modules : List Justfile) → AreModules (justfile.now ∷ []) modules → IsEvaluation modules dotenv.now environ.now wanted.now.overrides (Err l)) × (e ≡ error_of_lang l))) }
 {
@@ -82,7 +82,7 @@ pub fn project_of_sources(
     wanted: &Wanted,
 ) -> Result<Justfile, Error>
     ensures project { IfOk result (λ j. (modules : List Justfile) → AreModules (j ∷ []) modules → FindsProject (record { wanted = wanted.now; environ = environ.now; sources = sources.now }) (Ok (record { wanted = wanted.now; environ = environ.now; justfile = j; modules = modules }))) }
-    ensures sound { IfOk result IsSound }
+    ensures ending { IfOk result IsEnding }
     ensures refused { IfErr result (OrMemory (λ e. FindsProject (record { wanted = wanted.now; environ = environ.now; sources = sources.now }) (Err e))) }
 {
     let justfile = match assemble(alloc, sources, environ) {
@@ -107,7 +107,7 @@ pub fn plan_of_project(
     environ: &Environ,
     wanted: &Wanted,
 ) -> Result<(Plan, Seq<bool>), Error>
-    requires { IsSound justfile.now }
+    requires { IsEnding justfile.now }
     ensures plan { IfOk result (λ p. (modules : List Justfile) → AreModules (justfile.now ∷ []) modules → PlansProject (record { wanted = wanted.now; environ = environ.now; justfile = justfile.now; modules = modules; dotenv = dotenv.now }) (Ok (outline_of p.0 (option_map non_zero_u64_get wanted.now.jobs) p.1))) }
     ensures refused { IfErr result (OrMemory (λ e. (modules : List Justfile) → AreModules (justfile.now ∷ []) modules → PlansProject (record { wanted = wanted.now; environ = environ.now; justfile = justfile.now; modules = modules; dotenv = dotenv.now }) (Err e))) }
 {

@@ -1,6 +1,6 @@
--- The justfile is checked behind the rules, and it is sound; or the rule that the sources break is the answer.
+-- The justfile is checked behind the rules, and it ends; or the rule that the sources break is the answer.
 use Rattle.just_cli_plan.proofs.Chain.{rules_refused, features_refused, project_found}
-use Rattle.just_cli_plan.proofs.Sound.{is_sound}
+use Rattle.just_cli_plan.proofs.EndingLaws.{is_ending}
 use Rattle.just_cli_plan.proofs.project.project_of_sources.Goals as goal
 
 pub returns-in-Err-clause-refused : goal.returns-in-Err-clause-refused
@@ -10,8 +10,8 @@ pub returns-in-Ok-check_project-clause-project : goal.returns-in-Ok-check_projec
 returns-in-Ok-check_project-clause-project c =
     project_found c.args.wanted.now c.args.environ.now c.args.sources.now c.in-Ok.justfile c.in-Ok.ensures.justfile c.in-Ok-check_project.ensures.stable
 
-pub returns-in-Ok-check_project-clause-sound : goal.returns-in-Ok-check_project-clause-sound
-returns-in-Ok-check_project-clause-sound c = is_sound c.projects_end.ensures _ _ _ c.in-Ok.ensures.justfile
+pub returns-in-Ok-check_project-clause-ending : goal.returns-in-Ok-check_project-clause-ending
+returns-in-Ok-check_project-clause-ending c = is_ending c.projects_end.ensures _ _ _ c.in-Ok.ensures.justfile
 
 pub returns-in-Err-check_project-clause-refused : goal.returns-in-Err-check_project-clause-refused
 returns-in-Err-check_project-clause-refused c =

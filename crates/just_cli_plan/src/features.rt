@@ -1,11 +1,11 @@
-//! Unstable features that a project uses, and the error of what isn't built.
+//! The unstable features that a project uses, and the error of what isn't built.
 
 ghost use Rattle.std.specs.Prelude.{◌≡◌, map};
 ghost use Rattle.std.specs.List.{list_any};
 ghost use Rattle.just_lang_types.specs.Modules.{recipes_of, settings_of};
 ghost use Rattle.just_exec.specs.declared.error.Error.TheVariants as error;
 ghost use Rattle.just_cli_plan.specs.Own.{OrMemory};
-ghost use Rattle.just_cli_plan.specs.Forms.{is_cached, feature_of, feature_in, unstable_feature};
+ghost use Rattle.just_cli_plan.specs.Features.{is_cached, feature_of, feature_in, unstable_feature};
 
 use just_config::UnstableFeature;
 use just_exec::Error;

@@ -5,7 +5,7 @@ use Rattle.just_exec_work.specs.Steps.{commands_of}
 use Rattle.just_sched_history.specs.declared.plan_node.PlanNode.{PlanNode}
 use Rattle.just_cli_plan.specs.Planned.{plan_for}
 use Rattle.just_cli_plan.proofs.PlanNodes.{made_more, node_more, all_pushed}
-use Rattle.just_cli_plan.proofs.planning.plan_nodes.Goals as goal
+use Rattle.just_cli_plan.proofs.closure_plan.plan_nodes.Goals as goal
 
 pub nodes-preserved : goal.nodes-preserved
 nodes-preserved c =

@@ -2,7 +2,7 @@
 use Rattle.std.proofs.Common.{◌^◌, map}
 use Rattle.just_cli_plan.specs.Planned.{node_planned}
 use Rattle.just_cli_plan.proofs.PlanNodes.{planned_nodes, well_planned, few_planned}
-use Rattle.just_cli_plan.proofs.planning.plan_of.Goals as goal
+use Rattle.just_cli_plan.proofs.closure_plan.plan_of.Goals as goal
 
 pub invariant_of-result-clause-well : goal.invariant_of-result-clause-well
 invariant_of-result-clause-well c = well_planned c.args.closure.nodes c.args.closure.invocations c.in-Ok.nodes c.in-Ok.ensures.nodes.0 c.requires.formed

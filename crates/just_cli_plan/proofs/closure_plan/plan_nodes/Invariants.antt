@@ -6,7 +6,7 @@ use Rattle.just_exec_work.specs.Steps.{commands_of}
 use Rattle.just_exec.specs.Plans.{each_plan}
 use Rattle.just_cli_plan.specs.Planned.{node_planned, plan_for}
 use Rattle.just_cli_plan.proofs.PlanNodes.{behind}
-use Rattle.just_cli_plan.proofs.planning.plan_nodes.Given as goal
+use Rattle.just_cli_plan.proofs.closure_plan.plan_nodes.Given as goal
 
 abbrev pub invariant-nodes : goal.invariant-nodes
 invariant-nodes l = record {

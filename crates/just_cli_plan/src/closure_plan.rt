@@ -1,62 +1,89 @@
 //! The plan of a closure.
 
-ghost use Rattle.std.specs.Prelude.{◌≡◌, ◌^◌, ◌<◌, List, length, zip, map, All, option_map, Ok, Err, IfOk, IfErr};
+ghost use Rattle.std.specs.Prelude.{◌≡◌, ◌^◌, ◌<◌, List, length, zip, map, All, Some, option_map, Ok, Err, IfOk, IfErr};
 ghost use Rattle.just_path.specs.Path.{text_of};
 ghost use Rattle.just_eval_closure.specs.WellFormed.{IsWellFormed};
-ghost use Rattle.just_eval_closure.specs.Entries.{located_of};
+ghost use Rattle.just_eval_closure.specs.Entries.{located_of, Sees};
 ghost use Rattle.just_eval_closure.specs.Requests.{IsIndexed};
-ghost use Rattle.just_eval.specs.Bodies.{body_lines};
 ghost use Rattle.just_exec.specs.declared.plan_error.PlanError.{PlanError};
 ghost use Rattle.just_exec.specs.declared.node_plan.NodePlan.{NodePlan};
 ghost use Rattle.just_exec_work.specs.Steps.{commands_of};
 ghost use Rattle.just_cli_plan.specs.Own.{OrMemory};
 ghost use Rattle.just_exec.specs.Caches.{IsPaired};
-ghost use Rattle.just_cli_plan.specs.Planned.{changes_of, cache_planned, node_planned, planned, message_at, messages_of, plan_for, plans_for, plans_in, error_of_command, error_of_plan, RefusesNodes};
+ghost use Rattle.just_exec.specs.Plans.{GivesPlan};
+ghost use Rattle.just_cli_plan.specs.Planned.{entry_changes, recipe_plan, key_plan, cache_planned, node_planned, planned, message_at, messages_of, plan_for, plans_for, plans_in, error_of_command, error_of_plan, RefusesNodes};
 
 use just_cache::{ClassText, class_with_place};
 use just_env::changes_of_recipe;
-use just_eval::lines_of;
+use just_eval::lines_of_recipe;
 use just_eval_closure::{Entry, Request, View};
-use just_exec::{Bodies, Error, NodeCache, NodePlan, PlanError, key_plan};
+use just_exec::{Error, NodeCache, NodePlan, PlanError, no_plan, run_plan, running};
 use just_exec_work::{CommandError, RunFlags, Work, prints_code};
 use just_lang_read::Boxed;
-use just_lang_types::project::LangError;
-use just_lang_types::{BodyLine, Closure, Key, Node};
+use just_lang_types::{Closure, Key, Node, Scopes, Value};
 use just_path::Utf8Path;
 use just_path_text::{NoMemory, Seq, Text};
 use just_sched_history::{CachePlan, Plan, PlanNode};
 use std::alloc::Global;
 
-/// What a project knows of the bodies of its recipes.
-#[derive(Clone, Copy)]
-struct ProjectBodies<'r, 'p> {
-    request: &'r Request<'p>,
+/// What changes in the environment of the children of a recipe that was found, whose parameters have these values.
+fn entry_changes(
+    alloc: Global,
+    from: &Entry<'_>,
+    values: &[Value],
+) -> Result<Seq<(Text, Option<Text>)>, NoMemory>
+    ensures { IfOk result (λ cs. cs ≡ entry_changes from.now values.now) }
+{
+    let sees = View {
+        levels: from.levels,
+        parameters: from.recipe.parameters.as_slice(),
+        values,
+    };
+    let unexports = from.parent.unexports.as_slice();
+    changes_of_recipe(alloc, from.pairs, sees, &from.parent.settings, unexports)
 }
 
-impl Bodies for ProjectBodies<'_, '_> {
-    ghost lines = { λ s key. body_lines (map (λ m. m.now) s.request.now.modules.items) s.request.now.scopes.now key };
+/// What is planned for a recipe that was found, whose parameters have these values.
+#[tactic(auto, using(crate::proofs::KeyPlans::lines_refused))]
+fn recipe_plan(
+    alloc: Global,
+    scopes: &Scopes,
+    from: &Entry<'_>,
+    flags: &RunFlags,
+    folder: Utf8Path<'_>,
+    values: &[Value],
+) -> Result<NodePlan, PlanError>
+    requires { Sees scopes.now from.now }
+    ensures plan { GivesPlan (recipe_plan flags.now (text_of folder.entry) scopes.now values.now
+        (Some (located_of from.now))) result }
+    ensures paired { IfOk result (λ p. IsPaired p.cache) }
+{
+    let lines = lines_of_recipe(alloc, scopes, from, values)?;
+    let changes = entry_changes(alloc, from, values)?;
+    let run = running(flags, from, values, changes.as_slice());
+    let lines = lines.as_slice();
+    run_plan(alloc, scopes, from, &run, folder, lines)
+}
 
-    ghost changes = { λ s key. changes_of (map (λ m. m.now) s.request.now.modules.items) s.request.now.scopes.now key };
-
-    ghost known = { λ s. IsIndexed s.request.now };
-
-    fn lines(&self, alloc: Global, key: &Key) -> Result<Seq<BodyLine>, LangError> {
-        lines_of(alloc, self.request, key)
-    }
-
-    #[tactic(auto, using(crate::proofs::Found::entry_change, crate::proofs::Found::no_changes))]
-    fn changes(&self, alloc: Global, key: &Key) -> Result<Seq<(Text, Option<Text>)>, NoMemory> {
-        let Some(from) = self.request.entry(&key.recipe) else {
-            return Ok(Seq::new(alloc));
-        };
-        let sees = View {
-            levels: from.levels,
-            parameters: from.recipe.parameters.as_slice(),
-            values: key.arguments.as_slice(),
-        };
-        let unexports = from.parent.unexports.as_slice();
-        changes_of_recipe(alloc, from.pairs, sees, &from.parent.settings, unexports)
-    }
+/// What is planned for a key. Its recipe is looked up once, and what was found is handed on.
+#[tactic(auto, using(crate::proofs::KeyPlans::no_recipe, crate::proofs::Found::found_sees))]
+fn key_plan(
+    alloc: Global,
+    request: &Request<'_>,
+    flags: &RunFlags,
+    folder: Utf8Path<'_>,
+    key: &Key,
+) -> Result<NodePlan, PlanError>
+    requires { IsIndexed request.now }
+    ensures plan { GivesPlan (key_plan flags.now (text_of folder.entry)
+        (map (λ m. m.now) request.now.modules.items) request.now.scopes.now key.now) result }
+    ensures paired { IfOk result (λ p. IsPaired p.cache) }
+{
+    let Some(from) = request.entry(&key.recipe) else {
+        return Ok(no_plan(alloc));
+    };
+    let values = key.arguments.as_slice();
+    recipe_plan(alloc, request.scopes, &from, flags, folder, values)
 }
 
 /// The error of a body that can't be run.
@@ -172,8 +199,7 @@ fn planned_node(
     ensures short { IfOk result (λ x. length (commands_of x.work) < 2 ^ 32) }
     ensures refused { IfErr result (OrMemory (λ e. (f : PlanError) × (plan_for flags.now (text_of folder.entry) (map (λ m. m.now) request.now.modules.items) request.now.scopes.now node ≡ Err f) × (e ≡ error_of_plan f))) }
 {
-    let bodies = ProjectBodies { request };
-    match key_plan(alloc, request, &bodies, flags, folder, &node.key) {
+    match key_plan(alloc, request, flags, folder, &node.key) {
         Ok(plan) => Ok(plan_node(alloc, node, plan)?),
         Err(error) => Err(plan_error(error)),
     }

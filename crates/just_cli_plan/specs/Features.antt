@@ -1,5 +1,5 @@
 -- Unstable features that a project uses.
-use Rattle.std.specs.Prelude.{ℕ, Bool, if◌then◌else◌, List, [], ◌∷◌, Option, Some, None, codes}
+use Rattle.std.specs.Prelude.{Bool, if◌then◌else◌, List, [], ◌∷◌, Option, Some, None, codes}
 use Rattle.std.specs.List.{list_any}
 use Rattle.just_path_text.specs.Environ.{or_else}
 use Rattle.just_lang_types.specs.declared.project.Justfile.{Justfile}
@@ -8,12 +8,6 @@ use Rattle.just_lang_types.specs.Modules.{recipes_of, settings_of}
 use Rattle.just_lang_types.specs.declared.unstable_feature.UnstableFeature.{UnstableFeature}
 use Rattle.just_lang_types.specs.declared.unstable_feature.UnstableFeature.TheVariants as feature
 use Rattle.just_exec_work.specs.Attributes.{has_attribute}
-
--- an option's word, where the option is given
-abbrev pub word_if : Bool → List ℕ → Option (List ℕ)
-word_if given word = if given then Some word else None
-
--- ---- unstable features
 
 abbrev pub is_cached : Recipe → Bool
 is_cached r = has_attribute r.attributes (codes "cache")
