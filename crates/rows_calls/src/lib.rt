@@ -16,6 +16,8 @@ mod changes;
 #[cfg(test)]
 mod digests;
 #[cfg(test)]
+mod executors;
+#[cfg(test)]
 mod graphs;
 #[cfg(test)]
 mod hosts;
