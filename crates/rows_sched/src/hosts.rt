@@ -6,6 +6,7 @@ use just_path_text::{Environ, NoMemory, Seq, Text};
 use std::alloc::Global;
 
 /// No variables.
+/// No clause: it serves tests alone.
 pub fn no_environ(alloc: Global) -> Environ {
     Environ {
         pairs: Seq::new(alloc),
@@ -66,6 +67,26 @@ fn empty(alloc: Global) -> Thing {
         bytes: Seq::new(alloc),
         executable: false,
     }
+}
+
+/// The folder `/` with a justfile of that text.
+fn justfile_tree(alloc: Global, text: &str) -> Result<Tree, NoMemory> {
+    let bytes = Vec::from_slice(alloc, text.as_bytes())?;
+    let justfile = Thing::File {
+        bytes: Seq::from(bytes),
+        executable: false,
+    };
+    let mut tree = Tree::new(alloc);
+    tree.insert(alloc, "/", Thing::Folder)?;
+    tree.insert(alloc, "/justfile", justfile)?;
+    Ok(tree)
+}
+
+/// A host in memory with a justfile of that text in its folder, over which nothing happens.
+/// No clause: it serves tests alone.
+pub fn with_justfile(alloc: Global, text: &str) -> Result<MemHost, NoMemory> {
+    let tree = justfile_tree(alloc, text)?;
+    host_of(alloc, tree, Plot::new(alloc))
 }
 
 /// The file `out` stands there.
