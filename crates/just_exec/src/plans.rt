@@ -101,7 +101,7 @@ pub fn running<'r>(
 /// What the plan of a run says of a node of a recipe that is run so: what is asked before it, what its body has to run, by the lines of that, what
 /// is printed when it is begun, and its cache, whose entries stand in that folder. It is refused where its script names no interpreter, or its
 /// `cache` has no values.
-#[tactic(auto, using(crate::proofs::RunPlans::run_planned, crate::proofs::Paired::paired_cache))]
+#[tactic(auto, using(crate::proofs::RunPlans::run_planned))]
 pub fn run_plan(
     alloc: Global,
     scopes: &Scopes,
