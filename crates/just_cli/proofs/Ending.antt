@@ -46,6 +46,10 @@ removed_so folders told after old new (Err e) all tried some = inr some
 
 -- ---- what is no run
 
+-- what was done is what is done for it
+pub does_so : (c d : Other) (quiet : Bool) (told after : Option World) (old new : List Entry) (r : Result Report Failure) → c ≡ d → Does d quiet told after old new r → Does c quiet told after old new r
+does_so c d quiet told after old new r is done = subst (λ o. Does o quiet told after old new r) (sym is) done
+
 -- what is done behind the reading of the words is done from their start on
 does_behind : (c : Other) (quiet : Bool) (told after : Option World) (old entered new : List Entry) (r : Result Report Failure) → LeavesFor c old entered → Does c quiet told after entered new r → Does c quiet told after old new r
 does_behind no_run.Help quiet told after old entered new r same done = subst (λ es. IsShown HELP.now told after es new r) same done

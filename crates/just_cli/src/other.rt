@@ -22,7 +22,6 @@ fn version(alloc: Global) -> Result<Text, NoMemory>
 }
 
 /// Prints the line of the version to standard output.
-#[tactic(auto, using(crate::proofs::Shown::shown_as, crate::proofs::Shown::unprinted))]
 fn show_version<H: Host>(alloc: Global, host: H) -> Ended<H>
     ensures { IsShown version_line (H.world host) (H.world result.host) (H.entries host) (H.entries result.host) result.result }
 {

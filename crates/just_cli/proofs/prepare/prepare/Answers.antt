@@ -30,7 +30,7 @@ pub returns-clause-quiet : goal.returns-clause-quiet
 returns-clause-quiet g c = quiet_without_words _ _ _ c.in-Ok.ensures.gives _ c.in-Err-read.ensures.refused
 
 pub returns-in-Ok-Help-clause-asked : goal.returns-in-Ok-Help-clause-asked
-returns-in-Ok-Help-clause-asked g c = (c.environment.ensures.world, refl, c.in-Ok.ensures.grew, asks_help _ _ _ c.in-Ok.ensures.gives (rw c.in-Ok-Help.is at c.in-Ok-Help.ensures.read), tt)
+returns-in-Ok-Help-clause-asked g c = (c.environment.ensures.world, refl, c.in-Ok.ensures.grew, asks_help _ _ _ c.in-Ok.ensures.gives (rw c.in-Ok-Help.field-0-is at c.in-Ok-Help.ensures.read), tt)
 
 pub returns-in-Ok-Version-clause-asked : goal.returns-in-Ok-Version-clause-asked
-returns-in-Ok-Version-clause-asked g c = (c.environment.ensures.world, refl, c.in-Ok.ensures.grew, asks_version _ _ _ c.in-Ok.ensures.gives (rw c.in-Ok-Version.is at c.in-Ok-Version.ensures.read), tt)
+returns-in-Ok-Version-clause-asked g c = (c.environment.ensures.world, refl, c.in-Ok.ensures.grew, asks_version _ _ _ c.in-Ok.ensures.gives (rw c.in-Ok-Version.field-0-is at c.in-Ok-Version.ensures.read), tt)
