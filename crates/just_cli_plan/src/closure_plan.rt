@@ -45,13 +45,13 @@ fn entry_changes(
 
 /// What is planned for a recipe that was found, whose parameters have these values.
 #[tactic(auto, using(crate::proofs::KeyPlans::lines_refused))]
-fn recipe_plan(
+fn recipe_plan<'r>(
     alloc: Global,
     scopes: &Scopes,
-    from: &Entry<'_>,
-    flags: &RunFlags,
+    from: &Entry<'r>,
+    flags: &'r RunFlags,
     folder: Utf8Path<'_>,
-    values: &[Value],
+    values: &'r [Value],
 ) -> Result<NodePlan, PlanError>
     requires { Sees scopes.now from.now }
     ensures plan { GivesPlan (recipe_plan flags.now (text_of folder.entry) scopes.now values.now
