@@ -60,7 +60,14 @@ fn recipe_plan<'r>(
 {
     let lines = lines_of_recipe(alloc, scopes, from, values)?;
     let changes = entry_changes(alloc, from, values)?;
-    let run = running(flags, from, values, changes.as_slice());
+    // Its references live as long as what changes does.
+    let found = Entry {
+        parent: from.parent,
+        recipe: from.recipe,
+        levels: from.levels,
+        pairs: from.pairs,
+    };
+    let run = running(flags, &found, values, changes.as_slice());
     let lines = lines.as_slice();
     run_plan(alloc, scopes, from, &run, folder, lines)
 }
