@@ -14,7 +14,7 @@ remembered() {
   [ -s "$choice" ] || return 0
   read -r program < "$choice"
   [ -x "$top/$program" ] || return 0
-  [ -z "$(find "$top/crates.txt" "$top/dist" "$top"/crates/just*/src -newer "$choice" -print -quit)" ] || return 0
+  [ -z "$(LC_ALL=C find "$top/crates.txt" "$top/dist" "$top"/crates/just*/src -newer "$choice" -print -quit)" ] || return 0
   exec "$top/$program" "$@"
 }
 
