@@ -54,7 +54,7 @@ fn status_at<H: Host>(
     outputs: &[Utf8PathBuf],
     host: &mut H,
 ) -> Result<CacheStatus, CacheError>
-    ensures status { GivesStatus (H.world host.old) (H.world host.new) (text_of path.entry) outputs.now recipe (H.entries host.old) (H.entries host.new) result }
+    ensures status { GivesStatus (H.told host.old).world (H.told host.new).world (text_of path.entry) outputs.now recipe (H.told host.old).entries (H.told host.new).entries result }
     ensures spare { H.spare host.new ≡ H.spare host.old }
 {
     let named = path.to_path_buf(alloc)?;
@@ -75,9 +75,9 @@ impl Cache {
         outputs: &[Utf8PathBuf],
         host: &mut H,
     ) -> Result<CacheStatus, CacheError>
-        ensures status { GivesStatus (H.world host.old) (H.world host.new) (entry_of_key (folder_of self.now) key.now) outputs.now key.now.recipe (H.entries host.old) (H.entries host.new) result }
+        ensures status { GivesStatus (H.told host.old).world (H.told host.new).world (entry_of_key (folder_of self.now) key.now) outputs.now key.now.recipe (H.told host.old).entries (H.told host.new).entries result }
         // So over a told world it is the status by the entry's bytes and the outputs.
-        ensures told { ShowsStatus (H.world host.old) (entry_of_key (folder_of self.now) key.now) outputs.now key.now.recipe result }
+        ensures told { ShowsStatus (H.told host.old).world (entry_of_key (folder_of self.now) key.now) outputs.now key.now.recipe result }
         ensures spare { H.spare host.new ≡ H.spare host.old }
     {
         let path = self.entry_of(alloc, key)?;

@@ -31,8 +31,8 @@ fn tells(quiet: bool, error: &Error) -> bool
 
 /// Tells the error on standard error, unless it is one that isn't told. A failed print changes nothing of the answer.
 fn tell<H: Host>(alloc: Global, host: &mut H, error: &Error, quiet: bool)
-    ensures told { (es : List Entry) × (H.entries host.new ≡ H.entries host.old ++ es) × IsTold quiet error.now es }
-    ensures world { H.world host.new ≡ H.world host.old }
+    ensures told { (es : List Entry) × ((H.told host.new).entries ≡ (H.told host.old).entries ++ es) × IsTold quiet error.now es }
+    ensures world { (H.told host.new).world ≡ (H.told host.old).world }
 {
     if !tells(quiet, error) {
         return;
@@ -55,8 +55,8 @@ pub(crate) fn fail<H: Host>(
     history: Seq<Event>,
 ) -> Ended<H>
     ensures failed { result.result ≡ Err (record { error = error; plan = plan; history = history; code = code_for error }) }
-    ensures told { (es : List Entry) × (H.entries result.host ≡ H.entries host ++ es) × IsTold quiet error es }
-    ensures world { H.world result.host ≡ H.world host }
+    ensures told { (es : List Entry) × ((H.told result.host).entries ≡ (H.told host).entries ++ es) × IsTold quiet error es }
+    ensures world { (H.told result.host).world ≡ (H.told host).world }
 {
     let mut host = host;
     tell(alloc, &mut host, &error, quiet);

@@ -59,10 +59,10 @@ fn folder_error(fault: HostFault) -> Error
 /// The environment.
 #[tactic(auto, using(crate::proofs::Calls::io_entries, crate::proofs::Calls::environ_refused))]
 pub(crate) fn environment<H: Host>(alloc: Global, host: &mut H) -> Result<Environ, Error>
-    ensures grew { MatchResult result (λ _. H.entries host.new ≡ H.entries host.old) (λ e. H.entries host.new ≡ H.entries host.old ++ entries_of e) }
-    ensures world { H.world host.new ≡ H.world host.old }
-    ensures gives { IfOk result (λ e. EnvironGiven (H.world host.old) (Ok e)) }
-    ensures refused { IfErr result (OrMemory (λ e. EnvironGiven (H.world host.old) (Err e))) }
+    ensures grew { MatchResult result (λ _. (H.told host.new).entries ≡ (H.told host.old).entries) (λ e. (H.told host.new).entries ≡ (H.told host.old).entries ++ entries_of e) }
+    ensures world { (H.told host.new).world ≡ (H.told host.old).world }
+    ensures gives { IfOk result (λ e. EnvironGiven (H.told host.old).world (Ok e)) }
+    ensures refused { IfErr result (OrMemory (λ e. EnvironGiven (H.told host.old).world (Err e))) }
 {
     match host.environ() {
         Ok(environ) => Ok(environ),
@@ -73,10 +73,10 @@ pub(crate) fn environment<H: Host>(alloc: Global, host: &mut H) -> Result<Enviro
 /// The current folder.
 #[tactic(auto, using(crate::proofs::Calls::folder_entries, crate::proofs::Calls::folder_refused))]
 pub(crate) fn current_folder<H: Host>(host: &mut H) -> Result<Utf8PathBuf, Error>
-    ensures grew { MatchResult result (λ _. H.entries host.new ≡ H.entries host.old) (λ e. H.entries host.new ≡ H.entries host.old ++ entries_of e) }
-    ensures world { H.world host.new ≡ H.world host.old }
-    ensures gives { IfOk result (λ f. FolderGiven (H.world host.old) (Ok f)) }
-    ensures refused { IfErr result (OrMemory (λ e. FolderGiven (H.world host.old) (Err e))) }
+    ensures grew { MatchResult result (λ _. (H.told host.new).entries ≡ (H.told host.old).entries) (λ e. (H.told host.new).entries ≡ (H.told host.old).entries ++ entries_of e) }
+    ensures world { (H.told host.new).world ≡ (H.told host.old).world }
+    ensures gives { IfOk result (λ f. FolderGiven (H.told host.old).world (Ok f)) }
+    ensures refused { IfErr result (OrMemory (λ e. FolderGiven (H.told host.old).world (Err e))) }
 {
     match host.current() {
         Ok(folder) => Ok(folder),
@@ -92,8 +92,8 @@ pub(crate) fn locate<H: Host>(
     host: &mut H,
     config: &Config,
 ) -> Result<Location, Error>
-    ensures located { MatchResult result (λ l. (listings : List Entry) × ArePassed (config.now.search_config ≡ GlobalJustfile) listings × (H.entries host.new ≡ H.entries host.old ++ listings) × FindsLocation (H.world host.old) listings config.now (Ok l)) (λ e. (listings : List Entry) × ArePassed (config.now.search_config ≡ GlobalJustfile) listings × (H.entries host.new ≡ H.entries host.old ++ (listings ++ entries_of e)) × OrMemory (λ x. FindsLocation (H.world host.old) listings config.now (Err x)) e) }
-    ensures world { H.world host.new ≡ H.world host.old }
+    ensures located { MatchResult result (λ l. (listings : List Entry) × ArePassed (config.now.search_config ≡ GlobalJustfile) listings × ((H.told host.new).entries ≡ (H.told host.old).entries ++ listings) × FindsLocation (H.told host.old).world listings config.now (Ok l)) (λ e. (listings : List Entry) × ArePassed (config.now.search_config ≡ GlobalJustfile) listings × ((H.told host.new).entries ≡ (H.told host.old).entries ++ (listings ++ entries_of e)) × OrMemory (λ x. FindsLocation (H.told host.old).world listings config.now (Err x)) e) }
+    ensures world { (H.told host.new).world ≡ (H.told host.old).world }
 {
     match find(alloc, config, host) {
         Ok(location) => Ok(location),
@@ -108,10 +108,10 @@ pub(crate) fn load<H: Host>(
     environ: &Environ,
     justfile: Utf8Path<'_>,
 ) -> Result<Loader, Error>
-    ensures grew { (es : List Entry) × (H.entries host.new ≡ H.entries host.old ++ es) × MatchResult result (λ _. AreMisses es) (λ e. EndsWith [] e es) }
-    ensures world { H.world host.new ≡ H.world host.old }
-    ensures sources { IfOk result (λ l. Loads (H.world host.old) environ.now.pairs [] (text_of justfile.entry ∷ []) (Ok (sources_of l))) }
-    ensures refused { IfErr result (OrMemory (λ e. (f : SearchError) × Loads (H.world host.old) environ.now.pairs [] (text_of justfile.entry ∷ []) (Err f) × (e ≡ error_of_search f))) }
+    ensures grew { (es : List Entry) × ((H.told host.new).entries ≡ (H.told host.old).entries ++ es) × MatchResult result (λ _. AreMisses es) (λ e. EndsWith [] e es) }
+    ensures world { (H.told host.new).world ≡ (H.told host.old).world }
+    ensures sources { IfOk result (λ l. Loads (H.told host.old).world environ.now.pairs [] (text_of justfile.entry ∷ []) (Ok (sources_of l))) }
+    ensures refused { IfErr result (OrMemory (λ e. (f : SearchError) × Loads (H.told host.old).world environ.now.pairs [] (text_of justfile.entry ∷ []) (Err f) × (e ≡ error_of_search f))) }
 {
     let mut loader = Loader::new(alloc);
     match loader.load_over(host, environ, justfile) {

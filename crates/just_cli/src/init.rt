@@ -43,10 +43,10 @@ fn is_written_to(kind: Kind) -> bool
 /// The path where a new justfile is to be written.
 #[tactic(auto, using(crate::proofs::NewPath::path_found, crate::proofs::NewPath::path_refused))]
 fn find_path<H: Host>(alloc: Global, host: &mut H, config: &Config) -> Result<Utf8PathBuf, Error>
-    ensures grew { MatchResult result (λ _. H.entries host.new ≡ H.entries host.old) (λ e. H.entries host.new ≡ H.entries host.old ++ entries_of e) }
-    ensures world { H.world host.new ≡ H.world host.old }
-    ensures path { IfOk result (λ p. FindsPath (H.world host.old) config.now (Ok p)) }
-    ensures refused { IfErr result (OrMemory (λ e. FindsPath (H.world host.old) config.now (Err e))) }
+    ensures grew { MatchResult result (λ _. (H.told host.new).entries ≡ (H.told host.old).entries) (λ e. (H.told host.new).entries ≡ (H.told host.old).entries ++ entries_of e) }
+    ensures world { (H.told host.new).world ≡ (H.told host.old).world }
+    ensures path { IfOk result (λ p. FindsPath (H.told host.old).world config.now (Ok p)) }
+    ensures refused { IfErr result (OrMemory (λ e. FindsPath (H.told host.old).world config.now (Err e))) }
 {
     match Search::init(alloc, config, host) {
         Ok(search) => Ok(search.justfile),
@@ -57,10 +57,10 @@ fn find_path<H: Host>(alloc: Global, host: &mut H, config: &Config) -> Result<Ut
 /// The path, where no file stands at it. The record gains the miss of a path at which nothing stands.
 #[tactic(auto, using(crate::proofs::NewPath::shows_found, crate::proofs::NewPath::shows_missed, crate::proofs::NewPath::leaves_nothing, crate::proofs::NewPath::leaves_miss, crate::proofs::NewPath::leaves_refusal))]
 fn if_free<H: Host>(host: &mut H, path: Utf8PathBuf) -> Result<Utf8PathBuf, Error>
-    ensures grew { (es : List Entry) × (H.entries host.new ≡ H.entries host.old ++ es) × MatchResult result (λ _. AreMisses es) (λ e. EndsWith [] e es) }
-    ensures world { H.world host.new ≡ H.world host.old }
-    ensures free { IfOk result (λ p. IsFree (H.world host.old) path (Ok p)) }
-    ensures refused { IfErr result (OrMemory (λ e. IsFree (H.world host.old) path (Err e))) }
+    ensures grew { (es : List Entry) × ((H.told host.new).entries ≡ (H.told host.old).entries ++ es) × MatchResult result (λ _. AreMisses es) (λ e. EndsWith [] e es) }
+    ensures world { (H.told host.new).world ≡ (H.told host.old).world }
+    ensures free { IfOk result (λ p. IsFree (H.told host.old).world path (Ok p)) }
+    ensures refused { IfErr result (OrMemory (λ e. IsFree (H.told host.old).world path (Err e))) }
 {
     match host.meta(path.as_path(), true) {
         Ok(meta) => if is_written_to(meta.kind) {
@@ -85,10 +85,10 @@ pub(crate) fn find_free<H: Host>(
     host: &mut H,
     config: &Config,
 ) -> Result<Utf8PathBuf, Error>
-    ensures grew { (es : List Entry) × (H.entries host.new ≡ H.entries host.old ++ es) × MatchResult result (λ _. AreMisses es) (λ e. EndsWith [] e es) }
-    ensures world { H.world host.new ≡ H.world host.old }
-    ensures free { IfOk result (λ p. FindsFree (H.world host.old) config.now (Ok p)) }
-    ensures refused { IfErr result (OrMemory (λ e. FindsFree (H.world host.old) config.now (Err e))) }
+    ensures grew { (es : List Entry) × ((H.told host.new).entries ≡ (H.told host.old).entries ++ es) × MatchResult result (λ _. AreMisses es) (λ e. EndsWith [] e es) }
+    ensures world { (H.told host.new).world ≡ (H.told host.old).world }
+    ensures free { IfOk result (λ p. FindsFree (H.told host.old).world config.now (Ok p)) }
+    ensures refused { IfErr result (OrMemory (λ e. FindsFree (H.told host.old).world config.now (Err e))) }
 {
     let path = match find_path(alloc, host, config) {
         Ok(path) => path,
@@ -123,9 +123,9 @@ fn write_error(justfile: Utf8PathBuf, fault: HostFault) -> Error
 /// Tells a line on standard error, unless the words ask for quiet.
 #[tactic(auto, using(crate::proofs::NewJustfile::line_quiet, crate::proofs::NewJustfile::line_told))]
 fn tell_line<H: Host>(host: &mut H, quiet: bool, line: &str) -> Result<(), Error>
-    ensures told { IfOk result (λ _. H.entries host.new ≡ H.entries host.old ++ told_line quiet line.now) }
-    ensures untold { IfErr result (λ e. (quiet ≡ false) × OrMemory (λ x. x ≡ NotPrinted (CallFailed PrintCall)) e × (H.entries host.new ≡ H.entries host.old ++ entries_of e)) }
-    ensures world { H.world host.new ≡ H.world host.old }
+    ensures told { IfOk result (λ _. (H.told host.new).entries ≡ (H.told host.old).entries ++ told_line quiet line.now) }
+    ensures untold { IfErr result (λ e. (quiet ≡ false) × OrMemory (λ x. x ≡ NotPrinted (CallFailed PrintCall)) e × ((H.told host.new).entries ≡ (H.told host.old).entries ++ entries_of e)) }
+    ensures world { (H.told host.new).world ≡ (H.told host.old).world }
 {
     if quiet {
         return Ok(());
@@ -138,8 +138,8 @@ fn tell_line<H: Host>(host: &mut H, quiet: bool, line: &str) -> Result<(), Error
 
 /// Writes the justfile at a path, and tells of it.
 fn write<H: Host>(alloc: Global, host: &mut H, path: Utf8PathBuf, quiet: bool) -> Result<(), Error>
-    ensures written { IfOk result (λ _. Writes path (H.world host.old) (H.world host.new) (Ok tt) × (H.entries host.new ≡ H.entries host.old ++ told_line quiet (written_line path))) }
-    ensures unwritten { IfErr result (λ e. IsUnwritten path quiet (H.world host.old) (H.world host.new) e × (H.entries host.new ≡ H.entries host.old ++ entries_of e)) }
+    ensures written { IfOk result (λ _. Writes path (H.told host.old).world (H.told host.new).world (Ok tt) × ((H.told host.new).entries ≡ (H.told host.old).entries ++ told_line quiet (written_line path))) }
+    ensures unwritten { IfErr result (λ e. IsUnwritten path quiet (H.told host.old).world (H.told host.new).world e × ((H.told host.new).entries ≡ (H.told host.old).entries ++ entries_of e)) }
 {
     let line = match written_line(alloc, path.as_str()) {
         Ok(line) => line,
@@ -153,7 +153,7 @@ fn write<H: Host>(alloc: Global, host: &mut H, path: Utf8PathBuf, quiet: bool) -
 
 /// Writes the justfile at a path, in the place of a run, and tells of it on standard error, unless the words ask for quiet.
 pub(crate) fn init<H: Host>(alloc: Global, host: H, path: Utf8PathBuf, quiet: bool) -> Ended<H>
-    ensures { IsWritten path quiet (H.world host) (H.world result.host) (H.entries host) (H.entries result.host) result.result }
+    ensures { IsWritten path quiet (H.told host).world (H.told result.host).world (H.told host).entries (H.told result.host).entries result.result }
 {
     let mut host = host;
     match write(alloc, &mut host, path, quiet) {

@@ -24,7 +24,7 @@ fn serve<H: Host>(
     made: &mut Vec<Utf8PathBuf>,
     host: &mut H,
 ) -> Result<Task, Error>
-    ensures { IsServed (H.world host.old) (H.world host.new) (record { arguments = arguments; environ = environ.now }) made.old.items made.new.items (H.entries host.old) (H.entries host.new) result }
+    ensures { IsServed (H.told host.old).world (H.told host.new).world (record { arguments = arguments; environ = environ.now }) made.old.items made.new.items (H.told host.old).entries (H.told host.new).entries result }
 {
     let quiet = arguments.quiet;
     let folder = match current_folder(host) {
@@ -63,9 +63,9 @@ pub(crate) fn prepare<H: Host>(
     made: &mut Vec<Utf8PathBuf>,
     host: &mut H,
 ) -> Result<Task, (Error, bool)>
-    ensures asked { IfOk result (IsTask (map (λ x. x.now) words.now) (H.world host.old) (H.world host.new) made.old.items made.new.items (H.entries host.old) (H.entries host.new)) }
-    ensures refused { IfErr result (λ e. PreparesWords (map (λ x. x.now) words.now) (H.world host.old) (H.world host.new) made.old.items made.new.items (H.entries host.old) (H.entries host.new) (Err e.0)) }
-    ensures quiet { IfErr result (λ e. AskQuiet (map (λ x. x.now) words.now) (H.world host.old) e.1 e.0) }
+    ensures asked { IfOk result (IsTask (map (λ x. x.now) words.now) (H.told host.old).world (H.told host.new).world made.old.items made.new.items (H.told host.old).entries (H.told host.new).entries) }
+    ensures refused { IfErr result (λ e. PreparesWords (map (λ x. x.now) words.now) (H.told host.old).world (H.told host.new).world made.old.items made.new.items (H.told host.old).entries (H.told host.new).entries (Err e.0)) }
+    ensures quiet { IfErr result (λ e. AskQuiet (map (λ x. x.now) words.now) (H.told host.old).world e.1 e.0) }
 {
     let environ = match environment(alloc, host) {
         Ok(environ) => environ,

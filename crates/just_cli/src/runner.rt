@@ -33,7 +33,7 @@ fn run_made<R: Threads + Wait + Sync, H: Host + Send + Drop>(
     host: H,
 ) -> (Ended<H>, Vec<Utf8PathBuf>)
     // Whatever their removal makes of the host, the run is ended then.
-    ensures { (after : Option World) (new : List Entry) → Removes result.1.items (H.world result.0.host) (H.entries result.0.host) after new → IsEnded (map (λ x. x.now) words.now) (H.world host) after (H.entries host) new result.0.result }
+    ensures { (after : Option World) (new : List Entry) → Removes result.1.items (H.told result.0.host).world (H.told result.0.host).entries after new → IsEnded (map (λ x. x.now) words.now) (H.told host).world after (H.told host).entries new result.0.result }
 {
     let mut host = host;
     let mut made = Vec::new(alloc);
@@ -86,7 +86,7 @@ pub fn run_with<R: Threads + Wait + Sync, H: Host + Send + Drop>(
     words: &[&str],
     host: H,
 ) -> Ended<H>
-    ensures { IsEnded (map (λ x. x.now) words.now) (H.world host) (H.world result.host) (H.entries host) (H.entries result.host) result.result }
+    ensures { IsEnded (map (λ x. x.now) words.now) (H.told host).world (H.told result.host).world (H.told host).entries (H.told result.host).entries result.result }
 {
     let (ended, made) = run_made(rt, alloc, words, host);
     let Ended { host, result } = ended;

@@ -41,11 +41,11 @@ fn project_of<H: Host>(
     wanted: &Wanted,
     justfile: Utf8Path<'_>,
 ) -> Result<Justfile, Error>
-    ensures grew { (es : List Entry) × (H.entries host.new ≡ H.entries host.old ++ es) × MatchResult result (λ _. AreMisses es) (λ e. EndsWith [] e es) }
-    ensures world { H.world host.new ≡ H.world host.old }
+    ensures grew { (es : List Entry) × ((H.told host.new).entries ≡ (H.told host.old).entries ++ es) × MatchResult result (λ _. AreMisses es) (λ e. EndsWith [] e es) }
+    ensures world { (H.told host.new).world ≡ (H.told host.old).world }
     ensures ending { IfOk result IsEnding }
-    ensures project { IfOk result (λ j. (modules : List Justfile) → AreModules (j ∷ []) modules → FindsProjectOf (H.world host.old) (record { wanted = wanted.now; environ = environ.now; justfile = text_of justfile.entry }) (Ok (record { wanted = wanted.now; environ = environ.now; justfile = j; modules = modules }))) }
-    ensures refused { IfErr result (OrMemory (λ e. FindsProjectOf (H.world host.old) (record { wanted = wanted.now; environ = environ.now; justfile = text_of justfile.entry }) (Err e))) }
+    ensures project { IfOk result (λ j. (modules : List Justfile) → AreModules (j ∷ []) modules → FindsProjectOf (H.told host.old).world (record { wanted = wanted.now; environ = environ.now; justfile = text_of justfile.entry }) (Ok (record { wanted = wanted.now; environ = environ.now; justfile = j; modules = modules }))) }
+    ensures refused { IfErr result (OrMemory (λ e. FindsProjectOf (H.told host.old).world (record { wanted = wanted.now; environ = environ.now; justfile = text_of justfile.entry }) (Err e))) }
 {
     let loader = match load(alloc, host, environ, justfile) {
         Ok(loader) => loader,
@@ -67,7 +67,7 @@ fn plan_of<H: Host>(
     project: &Justfile,
 ) -> Result<Planned, Error>
     requires { IsEnding project.now }
-    ensures { PerformsPlan wanted.now environ.now project.now (H.world host.old) (H.world host.new) (H.entries host.old) (H.entries host.new) (outlined result) }
+    ensures { PerformsPlan wanted.now environ.now project.now (H.told host.old).world (H.told host.new).world (H.told host.old).entries (H.told host.new).entries (outlined result) }
 {
     let pairs = match load_pairs(alloc, host, project, environ, wanted) {
         Ok(pairs) => pairs,
@@ -89,7 +89,7 @@ fn plan_at<H: Host>(
     made: &mut Vec<Utf8PathBuf>,
     host: &mut H,
 ) -> (Result<Planned, Error>, bool)
-    ensures { Performs (λ acts after r. AnswersAt (H.world host.old) acts after (record { config = config.now; environ = environ.now; location = location.now }) r result.1) (λ acts after. BeginsAt (H.world host.old) acts after (record { config = config.now; environ = environ.now; location = location.now })) (H.world host.old) (H.world host.new) made.old.items made.new.items (H.entries host.old) (H.entries host.new) (outlined result.0) }
+    ensures { Performs (λ acts after r. AnswersAt (H.told host.old).world acts after (record { config = config.now; environ = environ.now; location = location.now }) r result.1) (λ acts after. BeginsAt (H.told host.old).world acts after (record { config = config.now; environ = environ.now; location = location.now })) (H.told host.old).world (H.told host.new).world made.old.items made.new.items (H.told host.old).entries (H.told host.new).entries (outlined result.0) }
 {
     let (wanted, path) = match take(alloc, config, location, made, host) {
         Ok(taken) => taken,
@@ -126,7 +126,7 @@ fn plan_or_next<H: Host>(
     made: &mut Vec<Utf8PathBuf>,
     host: &mut H,
 ) -> Result<Planned, (Error, Option<Location>)>
-    ensures tries { MatchResult result (λ p. PerformsFrom (record { config = config.now; environ = environ.now }) location.now (H.world host.old) (H.world host.new) made.old.items made.new.items (H.entries host.old) (H.entries host.new) (outlined (Ok p))) (λ e. MatchOption e.1 (PerformsFrom (record { config = config.now; environ = environ.now }) location.now (H.world host.old) (H.world host.new) made.old.items made.new.items (H.entries host.old) (H.entries host.new) (Err e.0)) (λ l. PerformsFall (record { config = config.now; environ = environ.now }) location.now (H.world host.old) (H.world host.new) made.old.items made.new.items (H.entries host.old) (H.entries host.new) l)) }
+    ensures tries { MatchResult result (λ p. PerformsFrom (record { config = config.now; environ = environ.now }) location.now (H.told host.old).world (H.told host.new).world made.old.items made.new.items (H.told host.old).entries (H.told host.new).entries (outlined (Ok p))) (λ e. MatchOption e.1 (PerformsFrom (record { config = config.now; environ = environ.now }) location.now (H.told host.old).world (H.told host.new).world made.old.items made.new.items (H.told host.old).entries (H.told host.new).entries (Err e.0)) (λ l. PerformsFall (record { config = config.now; environ = environ.now }) location.now (H.told host.old).world (H.told host.new).world made.old.items made.new.items (H.told host.old).entries (H.told host.new).entries l)) }
     ensures higher { IfErr result (λ e. MatchOption e.1 (Unit {0}) (λ l. length l.working_directory < length location.now.working_directory)) }
 {
     let (planned, fallback) = plan_at(alloc, environ, config, location, made, host);
@@ -155,7 +155,7 @@ fn plan_from<H: Host>(
     made: &mut Vec<Utf8PathBuf>,
     host: &mut H,
 ) -> Result<Planned, Error>
-    ensures { PerformsFrom (record { config = config.now; environ = environ.now }) location (H.world host.old) (H.world host.new) made.old.items made.new.items (H.entries host.old) (H.entries host.new) (outlined result) }
+    ensures { PerformsFrom (record { config = config.now; environ = environ.now }) location (H.told host.old).world (H.told host.new).world made.old.items made.new.items (H.told host.old).entries (H.told host.new).entries (outlined result) }
 {
     let mut place = location;
     'places: loop {
@@ -197,7 +197,7 @@ pub(crate) fn plan_tried<H: Host>(
     made: &mut Vec<Utf8PathBuf>,
     host: &mut H,
 ) -> Result<Planned, Error>
-    ensures { PerformsTries (record { config = config.now; environ = environ.now; location = location }) (H.world host.old) (H.world host.new) made.old.items made.new.items (H.entries host.old) (H.entries host.new) (outlined result) }
+    ensures { PerformsTries (record { config = config.now; environ = environ.now; location = location }) (H.told host.old).world (H.told host.new).world made.old.items made.new.items (H.told host.old).entries (H.told host.new).entries (outlined result) }
 {
     match plan_from(alloc, environ, config, location, made, host) {
         Ok(planned) => Ok(planned),

@@ -24,9 +24,9 @@ fn climb<H: Host>(
     names: &[Text],
     start: Utf8Path<'_>,
 ) -> Result<Option<Pairs>, EnvError>
-    ensures found { Answers (First (LoadsUnder (H.world host.old) environ.now.pairs names.now) (ancestors_of (text_of start.entry))) result }
-    ensures gains { Gains (H.entries host.old) (H.entries host.new) result }
-    ensures world { H.world host.new ≡ H.world host.old }
+    ensures found { Answers (First (LoadsUnder (H.told host.old).world environ.now.pairs names.now) (ancestors_of (text_of start.entry))) result }
+    ensures gains { Gains (H.told host.old).entries (H.told host.new).entries result }
+    ensures world { (H.told host.new).world ≡ (H.told host.old).world }
 {
     let mut folders = start.ancestors();
     'folders: while let Some(folder) = folders.next() {
@@ -49,9 +49,9 @@ pub(crate) fn find_files<H: Host>(
     names: &[Text],
     folder: Utf8Path<'_>,
 ) -> Result<Option<Pairs>, EnvError>
-    ensures found { Answers (FindsFiles (H.world host.old) environ.now.pairs paths.now names.now (text_of folder.entry)) result }
-    ensures gains { Gains (H.entries host.old) (H.entries host.new) result }
-    ensures world { H.world host.new ≡ H.world host.old }
+    ensures found { Answers (FindsFiles (H.told host.old).world environ.now.pairs paths.now names.now (text_of folder.entry)) result }
+    ensures gains { Gains (H.told host.old).entries (H.told host.new).entries result }
+    ensures world { (H.told host.new).world ≡ (H.told host.old).world }
 {
     match load_files(alloc, host, environ, paths, folder) {
         Ok(Some(pairs)) => Ok(Some(pairs)),

@@ -126,8 +126,8 @@ fn run_command<H: Host>(
     folder: Utf8Path<'_>,
     command: &Text,
 ) -> Result<Pairs, EnvError>
-    ensures ran { Runs (RunsCommand environ.now.pairs shell.now (text_of folder.entry) (H.world host.old) command.now) (BeginsCommand shell.now (text_of folder.entry) (H.world host.old) command.now) (H.world host.old) (H.world host.new) (H.entries host.old) (H.entries host.new) result }
-    ensures program { EndsBy (λ p. p ≡ shell.now.command) (H.entries host.new) result }
+    ensures ran { Runs (RunsCommand environ.now.pairs shell.now (text_of folder.entry) (H.told host.old).world command.now) (BeginsCommand shell.now (text_of folder.entry) (H.told host.old).world command.now) (H.told host.old).world (H.told host.new).world (H.told host.old).entries (H.told host.new).entries result }
+    ensures program { EndsBy (λ p. p ≡ shell.now.command) (H.told host.new).entries result }
 {
     let spec = command_spec(alloc, shell, folder, command)?;
     let named = command.try_clone()?;
@@ -161,8 +161,8 @@ pub(crate) fn run_commands<H: Host>(
     folder: Utf8Path<'_>,
     commands: &[Text],
 ) -> Result<Pairs, EnvError>
-    ensures ran { Runs (RunsCommands environ.now.pairs shell.now (text_of folder.entry) (H.world host.old) commands.now) (BeginsCommands environ.now.pairs shell.now (text_of folder.entry) (H.world host.old) commands.now) (H.world host.old) (H.world host.new) (H.entries host.old) (H.entries host.new) result }
-    ensures program { EndsBy (λ p. p ≡ shell.now.command) (H.entries host.new) result }
+    ensures ran { Runs (RunsCommands environ.now.pairs shell.now (text_of folder.entry) (H.told host.old).world commands.now) (BeginsCommands environ.now.pairs shell.now (text_of folder.entry) (H.told host.old).world commands.now) (H.told host.old).world (H.told host.new).world (H.told host.old).entries (H.told host.new).entries result }
+    ensures program { EndsBy (λ p. p ≡ shell.now.command) (H.told host.new).entries result }
 {
     let mut pairs = Seq::new(alloc);
     'commands: for command in commands {

@@ -11,9 +11,9 @@ use std::alloc::Global;
 
 /// The environment of a host. A failure has the empty path.
 pub fn environment<H: Host>(alloc: Global, host: &mut H) -> Result<Environ, SearchError>
-    ensures environ { Answers (GivesEnviron (H.world host.old)) result }
-    ensures entries { H.entries host.new ≡ H.entries host.old ++ told_entries result }
-    ensures world { H.world host.new ≡ H.world host.old }
+    ensures environ { Answers (GivesEnviron (H.told host.old).world) result }
+    ensures entries { (H.told host.new).entries ≡ (H.told host.old).entries ++ told_entries result }
+    ensures world { (H.told host.new).world ≡ (H.told host.old).world }
 {
     match host.environ() {
         Ok(environ) => Ok(environ),

@@ -31,9 +31,9 @@ fn find_text<H: Host>(
     host: &mut H,
     path: Utf8Path<'_>,
 ) -> Result<Option<Text>, EnvError>
-    ensures text { Answers (FindsText (H.world host.old) (text_of path.entry)) result }
-    ensures gains { Gains (H.entries host.old) (H.entries host.new) result }
-    ensures world { H.world host.new ≡ H.world host.old }
+    ensures text { Answers (FindsText (H.told host.old).world (text_of path.entry)) result }
+    ensures gains { Gains (H.told host.old).entries (H.told host.new).entries result }
+    ensures world { (H.told host.new).world ≡ (H.told host.old).world }
 {
     let named = path.to_path_buf(alloc)?;
     match host.read(path) {
@@ -75,9 +75,9 @@ pub(crate) fn load_file<H: Host>(
     environ: &Environ,
     path: Utf8Path<'_>,
 ) -> Result<Option<Seq<(Text, Text)>>, EnvError>
-    ensures loaded { Answers (LoadsFile (H.world host.old) environ.now.pairs (text_of path.entry)) result }
-    ensures gains { Gains (H.entries host.old) (H.entries host.new) result }
-    ensures world { H.world host.new ≡ H.world host.old }
+    ensures loaded { Answers (LoadsFile (H.told host.old).world environ.now.pairs (text_of path.entry)) result }
+    ensures gains { Gains (H.told host.old).entries (H.told host.new).entries result }
+    ensures world { (H.told host.new).world ≡ (H.told host.old).world }
 {
     let named = path.to_path_buf(alloc)?;
     let text = match find_text(alloc, host, path) {

@@ -23,9 +23,9 @@ fn load_under<H: Host>(
     folder: Utf8Path<'_>,
     name: &Text,
 ) -> Result<Option<Pairs>, EnvError>
-    ensures loaded { Answers (LoadsFile (H.world host.old) environ.now.pairs (pushed (text_of folder.entry) name.now)) result }
-    ensures gains { Gains (H.entries host.old) (H.entries host.new) result }
-    ensures world { H.world host.new ≡ H.world host.old }
+    ensures loaded { Answers (LoadsFile (H.told host.old).world environ.now.pairs (pushed (text_of folder.entry) name.now)) result }
+    ensures gains { Gains (H.told host.old).entries (H.told host.new).entries result }
+    ensures world { (H.told host.new).world ≡ (H.told host.old).world }
 {
     let path = folder.join(alloc, Utf8Path::new(name.as_str()))?;
     load_file(alloc, host, environ, path.as_path())
@@ -39,9 +39,9 @@ pub(crate) fn load_files<H: Host>(
     names: &[Text],
     folder: Utf8Path<'_>,
 ) -> Result<Option<Pairs>, EnvError>
-    ensures loaded { Answers (LoadsUnder (H.world host.old) environ.now.pairs names.now (text_of folder.entry)) result }
-    ensures gains { Gains (H.entries host.old) (H.entries host.new) result }
-    ensures world { H.world host.new ≡ H.world host.old }
+    ensures loaded { Answers (LoadsUnder (H.told host.old).world environ.now.pairs names.now (text_of folder.entry)) result }
+    ensures gains { Gains (H.told host.old).entries (H.told host.new).entries result }
+    ensures world { (H.told host.new).world ≡ (H.told host.old).world }
 {
     let mut found: Option<Pairs> = None;
     'names: for name in names {

@@ -51,9 +51,9 @@ fn load_found<H: Host>(
     folder: Utf8Path<'_>,
     settings: &Settings,
 ) -> Result<Pairs, EnvError>
-    ensures loaded { Answers (λ r. FoundPairs (H.world host.old) ask.now environ.now.pairs (text_of folder.entry) settings.now r) result }
-    ensures gains { Gains (H.entries host.old) (H.entries host.new) result }
-    ensures world { H.world host.new ≡ H.world host.old }
+    ensures loaded { Answers (λ r. FoundPairs (H.told host.old).world ask.now environ.now.pairs (text_of folder.entry) settings.now r) result }
+    ensures gains { Gains (H.told host.old).entries (H.told host.new).entries result }
+    ensures world { (H.told host.new).world ≡ (H.told host.old).world }
 {
     let paths = paths_given(alloc, ask, settings)?;
     let names = names_wanted(alloc, ask, settings)?;
@@ -80,9 +80,9 @@ fn load_printed<H: Host>(
     settings: &Settings,
     commands: &Seq<Text>,
 ) -> Result<Pairs, EnvError>
-    ensures loaded { Runs (PrintedPairs (H.world host.old) flags.now environ.now.pairs (text_of folder.entry) settings.now commands.now) (BeginsCommands environ.now.pairs (shell flags.now settings.now) (text_of folder.entry) (H.world host.old) commands.now) (H.world host.old) (H.world host.new) (H.entries host.old) (H.entries host.new) result }
+    ensures loaded { Runs (PrintedPairs (H.told host.old).world flags.now environ.now.pairs (text_of folder.entry) settings.now commands.now) (BeginsCommands environ.now.pairs (shell flags.now settings.now) (text_of folder.entry) (H.told host.old).world commands.now) (H.told host.old).world (H.told host.new).world (H.told host.old).entries (H.told host.new).entries result }
     ensures program { EndsBy (λ p. p ≡ (shell flags.now settings.now).command)
-        (H.entries host.new) result }
+        (H.told host.new).entries result }
 {
     let shell = shell(alloc, flags, settings)?;
     match run_commands(alloc, host, environ, &shell, folder, commands.as_slice()) {
@@ -108,10 +108,10 @@ pub fn load_dotenv<H: Host>(
 ) -> Result<Pairs, EnvError>
     // The pairs are those that the module's settings and the words ask for, or the first refusal. The record gains the entries of the children that
     // were run to their end for them, misses among these, and the entry of the refused call; only these children may touch the files.
-    ensures loaded { Runs (LoadsOwn (H.world host.old) ask.now flags.now environ.now.pairs (text_of folder.entry) justfile.now) (BeginsOwn (H.world host.old) ask.now flags.now environ.now.pairs (text_of folder.entry) justfile.now) (H.world host.old) (H.world host.new) (H.entries host.old) (H.entries host.new) result }
+    ensures loaded { Runs (LoadsOwn (H.told host.old).world ask.now flags.now environ.now.pairs (text_of folder.entry) justfile.now) (BeginsOwn (H.told host.old).world ask.now flags.now environ.now.pairs (text_of folder.entry) justfile.now) (H.told host.old).world (H.told host.new).world (H.told host.old).entries (H.told host.new).entries result }
     // The entry of a refused child names the module's shell.
     ensures program { EndsBy (λ p. p ≡ shell_program flags.now justfile.now)
-        (H.entries host.new) result }
+        (H.told host.new).entries result }
 {
     let commands = commands_of(alloc, ask, justfile)?;
     match sources_of(ask, justfile, &commands) {

@@ -24,9 +24,9 @@ fn load_own<H: Host>(
     environ: &Environ,
     justfile: &Justfile,
 ) -> Result<Pairs, EnvError>
-    ensures loaded { Runs (LoadsOwn (H.world host.old) ask.now flags.now environ.now.pairs (folder_of flags.now.folder justfile.now) justfile.now) (BeginsOwn (H.world host.old) ask.now flags.now environ.now.pairs (folder_of flags.now.folder justfile.now) justfile.now) (H.world host.old) (H.world host.new) (H.entries host.old) (H.entries host.new) result }
+    ensures loaded { Runs (LoadsOwn (H.told host.old).world ask.now flags.now environ.now.pairs (folder_of flags.now.folder justfile.now) justfile.now) (BeginsOwn (H.told host.old).world ask.now flags.now environ.now.pairs (folder_of flags.now.folder justfile.now) justfile.now) (H.told host.old).world (H.told host.new).world (H.told host.old).entries (H.told host.new).entries result }
     ensures program { EndsBy (λ p. p ≡ shell_program flags.now justfile.now)
-        (H.entries host.new) result }
+        (H.told host.new).entries result }
 {
     let folder = module_folder(
         flags.folder.as_path(),
@@ -66,9 +66,9 @@ fn load_next<'j, H: Host>(
     next: Pending<'j>,
     pending: &mut Vec<Pending<'j>>,
 ) -> Result<DotenvOf, EnvError>
-    ensures loaded { Runs (LoadsNext (H.world host.old) ask.now flags.now environ.now.pairs next.entry.0.now next.entry.1 (seen pending.old.items) (seen pending.new.items)) (BeginsOwn (H.world host.old) ask.now flags.now environ.now.pairs (folder_of flags.now.folder next.entry.0.now) next.entry.0.now) (H.world host.old) (H.world host.new) (H.entries host.old) (H.entries host.new) result }
+    ensures loaded { Runs (LoadsNext (H.told host.old).world ask.now flags.now environ.now.pairs next.entry.0.now next.entry.1 (seen pending.old.items) (seen pending.new.items)) (BeginsOwn (H.told host.old).world ask.now flags.now environ.now.pairs (folder_of flags.now.folder next.entry.0.now) next.entry.0.now) (H.told host.old).world (H.told host.new).world (H.told host.old).entries (H.told host.new).entries result }
     ensures program { EndsBy (λ p. p ≡ shell_program flags.now next.entry.0.now)
-        (H.entries host.new) result }
+        (H.told host.new).entries result }
 {
     let (justfile, before) = next;
     let own = match load_own(alloc, host, ask, flags, environ, justfile) {
@@ -96,9 +96,9 @@ pub fn load_modules<H: Host>(
 ) -> Result<Seq<DotenvOf>, EnvError>
     // The pairs are those that the settings of the modules and the words ask for, or the first refusal. The record gains the entries of the children
     // that were run to their end for them, misses among these, and the entry of the refused call; only these children may touch the files.
-    ensures loaded { Runs (LoadsProject (H.world host.old) ask.now flags.now environ.now.pairs justfile.now) (BeginsProject (H.world host.old) ask.now flags.now environ.now.pairs justfile.now) (H.world host.old) (H.world host.new) (H.entries host.old) (H.entries host.new) result }
+    ensures loaded { Runs (LoadsProject (H.told host.old).world ask.now flags.now environ.now.pairs justfile.now) (BeginsProject (H.told host.old).world ask.now flags.now environ.now.pairs justfile.now) (H.told host.old).world (H.told host.new).world (H.told host.old).entries (H.told host.new).entries result }
     // The entry of a refused child names the shell of one of the modules.
-    ensures program { EndsBy (IsShellOf flags.now justfile.now) (H.entries host.new) result }
+    ensures program { EndsBy (IsShellOf flags.now justfile.now) (H.told host.new).entries result }
 {
     let mut loaded = Vec::new(alloc);
     let mut pending: Vec<Pending<'_>> = Vec::new(alloc);

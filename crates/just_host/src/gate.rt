@@ -114,11 +114,9 @@ impl Host for GateHost {
 
     type Done = MemDone;
 
-    ghost entries = { λ h. record_of h.mem };
+    ghost told = { λ h. record { entries = record_of h.mem; world = Some (world_of h.mem) } };
 
     ghost spare = { λ h. spare_of h.mem.log };
-
-    ghost world = { λ h. Some (world_of h.mem) };
 
     ghost child_number = { λ c. c.child.number };
 

@@ -259,11 +259,9 @@ impl Host for MemHost {
 
     type Done = MemDone;
 
-    ghost entries = { λ h. record_of h };
+    ghost told = { λ h. record { entries = record_of h; world = Some (world_of h) } };
 
     ghost spare = { λ h. spare_of h.log };
-
-    ghost world = { λ h. Some (world_of h) };
 
     ghost child_number = { λ c. c.number };
 

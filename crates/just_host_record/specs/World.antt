@@ -8,6 +8,7 @@ use Rattle.std.specs.declared.alloc.Global.{Global}
 use Rattle.just_path.specs.View.{View, canonical_told}
 use Rattle.just_path.specs.declared.host.Miss.{Miss}
 use Rattle.just_path.specs.declared.host.Miss.TheVariants as miss
+use Rattle.just_host_record.specs.declared.entry.Entry.{Entry}
 use Rattle.just_host_record.specs.declared.entry.HostFault.{HostFault}
 use Rattle.just_host_record.specs.declared.entry.HostFault.TheVariants as fault
 use Rattle.just_host_record.specs.declared.entry.Spec.{Spec}
@@ -26,6 +27,11 @@ pub record World : Type 0 where
   pub harmless : Spec → Bool
   -- what outlives a stop of the run; not every host tells it
   pub disk : Option Disk
+
+-- what a host tells at a moment: the record of what it was asked, in order, and the world, where it tells one
+pub record Moment : Type 0 where
+  pub entries : List Entry
+  pub world : Option World
 
 -- a world as its paths see it
 abbrev pub view_of : World → View

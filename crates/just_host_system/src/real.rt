@@ -287,11 +287,9 @@ impl<R: Runtime + Files<File = File> + Processes<Started = SystemProcess>> Host 
 
     type Done = RealDone;
 
-    ghost entries = { λ h. record_of h };
+    ghost told = { λ h. record { entries = record_of h; world = None } };
 
     ghost spare = { λ h. spare_of h.log };
-
-    ghost world = { λ h. None };
 
     ghost child_number = { λ c. c.number };
 

@@ -74,10 +74,10 @@ fn drive_named<H: Host + Send + Drop, P: Naming + Send + Sync, R: Threads + Wait
     requires ledger { (blank.name ≡ P.name) × (blank.parts ≡ P.parts) }
     requires parts { P.parts ≡ 65 }
     requires jobs { option_map non_zero_u64_get jobs ≡ P.start.jobs }
-    requires entries { H.entries host ≡ P.start.entries }
-    requires world { H.world host ≡ P.start.world }
-    ensures driven { IfOk result (λ d. IsDriven P.start d.plan d.history d.verdict (H.entries d.host) (H.world d.host)) }
-    ensures back { IfErr result (λ r. (H.entries r.0 ≡ H.entries host) × (H.world r.0 ≡ H.world host) × (r.1 ≡ plan)) }
+    requires entries { (H.told host).entries ≡ P.start.entries }
+    requires world { (H.told host).world ≡ P.start.world }
+    ensures driven { IfOk result (λ d. IsDriven P.start d.plan d.history d.verdict (H.told d.host).entries (H.told d.host).world) }
+    ensures back { IfErr result (λ r. ((H.told r.0).entries ≡ (H.told host).entries) × ((H.told r.0).world ≡ (H.told host).world) × (r.1 ≡ plan)) }
 {
     let workers = worker_count(&plan, jobs);
     let mut seats = match Vec::with_capacity(alloc, workers) {
@@ -106,8 +106,8 @@ pub fn drive<R: Threads + Wait + Sync, H: Host + Send + Drop>(
     host: H,
     jobs: Option<NonZeroU64>,
 ) -> Result<Driven<H>, (H, Plan)>
-    ensures driven { IfOk result (λ d. IsDriven (start_with plan (option_map non_zero_u64_get jobs) (H.entries host) (H.world host)) d.plan d.history d.verdict (H.entries d.host) (H.world d.host)) }
-    ensures back { IfErr result (λ r. (H.entries r.0 ≡ H.entries host) × (H.world r.0 ≡ H.world host) × (r.1 ≡ plan)) }
+    ensures driven { IfOk result (λ d. IsDriven (start_with plan (option_map non_zero_u64_get jobs) (H.told host).entries (H.told host).world) d.plan d.history d.verdict (H.told d.host).entries (H.told d.host).world) }
+    ensures back { IfErr result (λ r. ((H.told r.0).entries ≡ (H.told host).entries) × ((H.told r.0).world ≡ (H.told host).world) × (r.1 ≡ plan)) }
 {
     drive_named::<H, Brand, R>(rt, alloc, plan, Blank::new(65), host, jobs)
 }

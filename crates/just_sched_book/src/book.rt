@@ -59,7 +59,7 @@ pub struct Book<H: Host + Drop, P: Naming> {
     of: PhantomData<P>,
     pub ghost plan_named: { plan ≡ P.start.plan } by { Coded-set plan_code plan P.start.plan },
     pub ghost jobs_named: { option_map non_zero_u64_get jobs ≡ P.start.jobs } by { Prim.hlevel props },
-    ghost account: { ∥ IsAccount P.start history.items (H.entries host) (H.world host) (H.spare host) taken caught ∥₁ },
+    ghost account: { ∥ IsAccount P.start history.items (H.told host).entries (H.told host).world (H.spare host) taken caught ∥₁ },
     ghost roomy: { slots P.start.plan.nodes ≤ vec_capacity history },
     ghost sized: { tables.size ≡ length plan.nodes },
     ghost noted: { ∥ IsNoted plan.nodes plan.invocations history.items tables ∥₁ },
@@ -75,8 +75,8 @@ struct Room {
 
 /// Takes room for every event of a run of the plan.
 fn make_room<H: Host>(alloc: Global, plan: &Plan, host: &mut H) -> Result<Room, NoMemory>
-    ensures entries { H.entries host.new ≡ H.entries host.old }
-    ensures world { H.world host.new ≡ H.world host.old }
+    ensures entries { (H.told host.new).entries ≡ (H.told host.old).entries }
+    ensures world { (H.told host.new).world ≡ (H.told host.old).world }
     ensures empty { IfOk result (λ r. r.history.items ≡ []) }
     ensures room { IfOk result (λ r. slots plan.now.nodes ≤ vec_capacity r.history) }
     ensures spare { OnOk result (total_commands plan.now.nodes ≤ H.spare host.new) }
@@ -107,15 +107,15 @@ impl<H: Host + Drop, P: Naming> Book<H, P> {
         jobs: Option<NonZeroU64>,
     ) -> Result<(Book<H, P>, Seat<P>), (H, Named<P>)>
         requires jobs { option_map non_zero_u64_get jobs ≡ P.start.jobs }
-        requires entries { H.entries host ≡ P.start.entries }
-        requires world { H.world host ≡ P.start.world }
+        requires entries { (H.told host).entries ≡ P.start.entries }
+        requires world { (H.told host).world ≡ P.start.world }
         ensures empty { IfOk result (λ r. r.0.history.items ≡ []) }
         ensures plan { IfOk result (λ r. r.0.plan ≡ plan.plan) }
         ensures jobs { IfOk result (λ r. r.0.jobs ≡ jobs) }
         ensures seat { IfOk result (λ r. (r.1.share.parts ≡ P.parts) × (r.1.share.amount ≡ 0)) }
-        ensures entries { IfOk result (λ r. H.entries r.0.host ≡ H.entries host) }
-        ensures world { IfOk result (λ r. H.world r.0.host ≡ H.world host) }
-        ensures back { IfErr result (λ r. (H.entries r.0 ≡ H.entries host) × (H.world r.0 ≡ H.world host) × (r.1.plan ≡ plan.plan)) }
+        ensures entries { IfOk result (λ r. (H.told r.0.host).entries ≡ (H.told host).entries) }
+        ensures world { IfOk result (λ r. (H.told r.0.host).world ≡ (H.told host).world) }
+        ensures back { IfErr result (λ r. ((H.told r.0).entries ≡ (H.told host).entries) × ((H.told r.0).world ≡ (H.told host).world) × (r.1.plan ≡ plan.plan)) }
     {
         let mut host = host;
         match make_room(alloc, &plan.plan, &mut host) {
@@ -151,7 +151,7 @@ impl<H: Host + Drop, P: Naming> Book<H, P> {
     /// The history so far. It is legal, and matches what the host's record gained; so no two open bodies are of one class.
     pub fn history(&self) -> &[Event]
         ensures items { result.now ≡ self.now.history.items }
-        ensures kept { ∥ IsKept P.start result.now (H.entries self.now.host) (H.world self.now.host) ∥₁ }
+        ensures kept { ∥ IsKept P.start result.now (H.told self.now.host).entries (H.told self.now.host).world ∥₁ }
         ensures apart { (m n : ℕ) → (m ≡ n → ⊥) → is_open result.now m ≡ true → is_open result.now n ≡ true → are_one_class P.start.plan.nodes m n ≡ false }
     {
         self.history.as_slice()
@@ -196,7 +196,7 @@ impl<H: Host + Drop, P: Naming> Book<H, P> {
         ensures did { MatchNext result
             ((n : ℕ) × IsMove (run_of P.start) self.old.history.items self.new.history.items n × Rests self.new.history.items n)
             (λ node child. IsMove (run_of P.start) self.old.history.items self.new.history.items node × RunsWith self.new.history.items node child)
-            (λ i. (self.new.history.items ≡ self.old.history.items) × (H.entries self.new.host ≡ H.entries self.old.host)) }
+            (λ i. (self.new.history.items ≡ self.old.history.items) × ((H.told self.new.host).entries ≡ (H.told self.old.host).entries)) }
     {
         if self.is_caught() {
             return Next::Idle(Idle::Signal);
@@ -269,7 +269,7 @@ impl<H: Host + Drop, P: Naming> Book<H, P> {
         ensures host { result.host ≡ self.host }
         ensures plan { result.plan ≡ self.plan }
         ensures history { result.history ≡ self.history.items }
-        ensures kept { ∥ IsKept P.start result.history (H.entries result.host) (H.world result.host) ∥₁ }
+        ensures kept { ∥ IsKept P.start result.history (H.told result.host).entries (H.told result.host).world ∥₁ }
         ensures cached { (n : ℕ) → is_cached P.start.plan.nodes n ≡ true → GoesByCacheRule (run_of P.start) result.history n }
         ensures verdict { IsVerdict (run_of P.start) result.history result.verdict }
         ensures complete { result.verdict ≡ Verdict.Well → (HasWork (run_of P.start) result.history → ⊥) → IsComplete (run_of P.start) result.history }

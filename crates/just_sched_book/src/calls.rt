@@ -34,8 +34,8 @@ pub(crate) fn planned(plan: &Plan, node: u32, place: usize) -> Option<&Command>
 
 /// Prints a text to standard error, where it isn't empty.
 pub(crate) fn tell<H: Host>(host: &mut H, text: &str) -> Result<(), Reason>
-    ensures gains { (es : List Entry) × (H.entries host.new ≡ H.entries host.old ++ es) × TellGains text.now result es }
-    ensures world { H.world host.new ≡ H.world host.old }
+    ensures gains { (es : List Entry) × ((H.told host.new).entries ≡ (H.told host.old).entries ++ es) × TellGains text.now result es }
+    ensures world { (H.told host.new).world ≡ (H.told host.old).world }
     ensures spare { H.spare host.new ≡ H.spare host.old }
 {
     if text.is_empty() {
@@ -79,8 +79,8 @@ fn is_yes(answer: &str) -> bool
 
 /// Asks a prompt; whether the answer confirms.
 pub(crate) fn ask<H: Host>(host: &mut H, prompt: &str) -> Result<bool, Reason>
-    ensures gains { (es : List Entry) × (H.entries host.new ≡ H.entries host.old ++ es) × AskGains prompt.now result es }
-    ensures world { H.world host.new ≡ H.world host.old }
+    ensures gains { (es : List Entry) × ((H.told host.new).entries ≡ (H.told host.old).entries ++ es) × AskGains prompt.now result es }
+    ensures world { (H.told host.new).world ≡ (H.told host.old).world }
     ensures spare { H.spare host.new ≡ H.spare host.old }
 {
     match host.ask(prompt) {
@@ -93,9 +93,9 @@ pub(crate) fn ask<H: Host>(host: &mut H, prompt: &str) -> Result<bool, Reason>
 
 /// Prints a command's echo, and starts its child.
 pub(crate) fn start_child<H: Host>(host: &mut H, command: &Command) -> Result<H::Child, Reason>
-    ensures gains { (es : List Entry) × (H.entries host.new ≡ H.entries host.old ++ es) × StartGains H.child_number command.now result es
-        × IfRefused result (list_any is_failed es ≡ false → H.world host.new ≡ H.world host.old) }
-    ensures number { IfOk result (λ c. H.child_number c ≡ children (H.entries host.old)) }
+    ensures gains { (es : List Entry) × ((H.told host.new).entries ≡ (H.told host.old).entries ++ es) × StartGains H.child_number command.now result es
+        × IfRefused result (list_any is_failed es ≡ false → (H.told host.new).world ≡ (H.told host.old).world) }
+    ensures number { IfOk result (λ c. H.child_number c ≡ children (H.told host.old).entries) }
     ensures spare { H.spare host.new ≡ H.spare host.old }
 {
     if let Err(reason) = tell(host, command.echo.as_str()) {

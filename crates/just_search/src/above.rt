@@ -23,9 +23,9 @@ fn climb_above<H: Host>(
     config: &Config,
     folder: Utf8Path<'_>,
 ) -> Result<Utf8PathBuf, SearchError>
-    ensures found { Answers (FindsIn (H.world host.old) (wanted_names config.now) (folders_above config.now.ceiling (text_of folder.entry))) result }
-    ensures entries { H.entries host.new ≡ H.entries host.old ++ told_entries result }
-    ensures world { H.world host.new ≡ H.world host.old }
+    ensures found { Answers (FindsIn (H.told host.old).world (wanted_names config.now) (folders_above config.now.ceiling (text_of folder.entry))) result }
+    ensures entries { (H.told host.new).entries ≡ (H.told host.old).entries ++ told_entries result }
+    ensures world { (H.told host.new).world ≡ (H.told host.old).world }
 {
     let mut folders = folder.ancestors();
     match folders.next() {
@@ -48,9 +48,9 @@ pub fn find_above<H: Host>(
     config: &Config,
     host: &mut H,
 ) -> Result<Location, SearchError>
-    ensures found { Answers (FindsAbove (H.world host.old) config.now (text_of folder.entry)) result }
-    ensures entries { H.entries host.new ≡ H.entries host.old ++ told_entries result }
-    ensures world { H.world host.new ≡ H.world host.old }
+    ensures found { Answers (FindsAbove (H.told host.old).world config.now (text_of folder.entry)) result }
+    ensures entries { (H.told host.new).entries ≡ (H.told host.old).entries ++ told_entries result }
+    ensures world { (H.told host.new).world ≡ (H.told host.old).world }
 {
     match climb_above(alloc, host, config, folder) {
         Ok(file) => Ok(as_origin(alloc, file)?),

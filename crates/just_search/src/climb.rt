@@ -73,9 +73,9 @@ fn look_in<H: Host>(
     wanted: &[Text],
     folder: Utf8Path<'_>,
 ) -> Result<Option<Utf8PathBuf>, SearchError>
-    ensures looks { Answers (λ r. LooksIn (H.world host.old) wanted.now (text_of folder.entry) (answer_of r)) result }
-    ensures entries { H.entries host.new ≡ H.entries host.old ++ told_entries result }
-    ensures world { H.world host.new ≡ H.world host.old }
+    ensures looks { Answers (λ r. LooksIn (H.told host.old).world wanted.now (text_of folder.entry) (answer_of r)) result }
+    ensures entries { (H.told host.new).entries ≡ (H.told host.old).entries ++ told_entries result }
+    ensures world { (H.told host.new).world ≡ (H.told host.old).world }
 {
     let names = match names_in(alloc, host, folder) {
         Ok(names) => names,
@@ -94,9 +94,9 @@ pub(crate) fn climb<H: Host>(
     ceiling: &Option<Text>,
     folders: Utf8Ancestors<'_>,
 ) -> Result<Utf8PathBuf, SearchError>
-    ensures found { Answers (FindsIn (H.world host.old) wanted.now (up_to ceiling.now (ancestors_left folders.entry))) result }
-    ensures entries { H.entries host.new ≡ H.entries host.old ++ told_entries result }
-    ensures world { H.world host.new ≡ H.world host.old }
+    ensures found { Answers (FindsIn (H.told host.old).world wanted.now (up_to ceiling.now (ancestors_left folders.entry))) result }
+    ensures entries { (H.told host.new).entries ≡ (H.told host.old).entries ++ told_entries result }
+    ensures world { (H.told host.new).world ≡ (H.told host.old).world }
 {
     let mut folders = folders;
     'folders: while let Some(folder) = folders.next() {

@@ -51,10 +51,10 @@ pub fn find_fallback<H: Host>(
     config: &Config,
     host: &mut H,
 ) -> Result<Option<Location>, SearchError>
-    ensures found { Answers (FallsBack (H.world host.old) config.now (text_of folder.entry)) result }
+    ensures found { Answers (FallsBack (H.told host.old).world config.now (text_of folder.entry)) result }
     ensures higher { IfOk result (λ o. MatchOption o (Unit {0}) (λ l. length l.working_directory < length (text_of folder.entry))) }
-    ensures entries { H.entries host.new ≡ H.entries host.old ++ told_entries result }
-    ensures world { H.world host.new ≡ H.world host.old }
+    ensures entries { (H.told host.new).entries ≡ (H.told host.old).entries ++ told_entries result }
+    ensures world { (H.told host.new).world ≡ (H.told host.old).world }
 {
     if !is_search(&config.search_config) {
         return Ok(None);

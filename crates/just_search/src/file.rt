@@ -42,10 +42,10 @@ fn as_path(folder: &Option<Utf8PathBuf>) -> Option<Utf8Path<'_>>
 /// Writes a text to the file at a path.
 #[tactic(auto, using(crate::proofs::Materializing::done_as, crate::proofs::Materializing::error_as))]
 fn write_at<H: Host>(host: &mut H, path: Utf8Path<'_>, text: &[u8]) -> Result<(), HostFault>
-    ensures done { IfOk result (λ _. IsWritten (H.world host.old) (H.world host.new) (text_of path.entry) text.now) }
-    ensures refused { IfErr result (IsUnwritten (H.world host.old) (H.world host.new) (text_of path.entry) text.now) }
+    ensures done { IfOk result (λ _. IsWritten (H.told host.old).world (H.told host.new).world (text_of path.entry) text.now) }
+    ensures refused { IfErr result (IsUnwritten (H.told host.old).world (H.told host.new).world (text_of path.entry) text.now) }
     ensures own { IsOwn Write result }
-    ensures entries { H.entries host.new ≡ H.entries host.old ++ gained (text_of path.entry) (λ _. []) result }
+    ensures entries { (H.told host.new).entries ≡ (H.told host.old).entries ++ gained (text_of path.entry) (λ _. []) result }
 {
     match host.write(path, text) {
         Ok(()) => Ok(()),
@@ -62,8 +62,8 @@ fn write_file<H: Host>(
     text: &Text,
     working_directory: Utf8PathBuf,
 ) -> Result<Search, SearchError>
-    ensures written { WritesFile (H.world host.old) (H.world host.new) folder.now text.now working_directory result }
-    ensures entries { H.entries host.new ≡ H.entries host.old ++ told_entries None result }
+    ensures written { WritesFile (H.told host.old).world (H.told host.new).world folder.now text.now working_directory result }
+    ensures entries { (H.told host.new).entries ≡ (H.told host.old).entries ++ told_entries None result }
 {
     let tempdir = folder.try_clone()?;
     let justfile = folder.as_path().join(alloc, Utf8Path::new("justfile"))?;
@@ -95,7 +95,7 @@ fn write_text<H: Host>(
     text: &Text,
     working_directory: Utf8PathBuf,
 ) -> Result<Search, SearchError>
-    ensures written { MakesFolders (WritesText (H.world host.old) (H.world host.new) (parent_of config.now) text.now working_directory) (parent_of config.now) made.old.items made.new.items (H.entries host.old) (H.entries host.new) result }
+    ensures written { MakesFolders (WritesText (H.told host.old).world (H.told host.new).world (parent_of config.now) text.now working_directory) (parent_of config.now) made.old.items made.new.items (H.told host.old).entries (H.told host.new).entries result }
 {
     let parent = parent_of(alloc, config)?;
     made.reserve(1)?;
@@ -125,7 +125,7 @@ fn write_markdown<H: Host>(
     path: Utf8PathBuf,
     working_directory: Utf8PathBuf,
 ) -> Result<Search, SearchError>
-    ensures written { MakesFolders (Materializes (H.world host.old) (H.world host.new) (parent_of config.now) (record { origin = Markdown path; working_directory = working_directory })) (parent_of config.now) made.old.items made.new.items (H.entries host.old) (H.entries host.new) result }
+    ensures written { MakesFolders (Materializes (H.told host.old).world (H.told host.new).world (parent_of config.now) (record { origin = Markdown path; working_directory = working_directory })) (parent_of config.now) made.old.items made.new.items (H.told host.old).entries (H.told host.new).entries result }
 {
     match text_of_markdown(alloc, host, path) {
         Ok(text) => write_text(alloc, host, config, made, &text, working_directory),
@@ -142,7 +142,7 @@ fn write_input<H: Host>(
     made: &mut Vec<Utf8PathBuf>,
     working_directory: Utf8PathBuf,
 ) -> Result<Search, SearchError>
-    ensures written { MakesFolders (Materializes (H.world host.old) (H.world host.new) (parent_of config.now) (record { origin = StandardInput; working_directory = working_directory })) (parent_of config.now) made.old.items made.new.items (H.entries host.old) (H.entries host.new) result }
+    ensures written { MakesFolders (Materializes (H.told host.old).world (H.told host.new).world (parent_of config.now) (record { origin = StandardInput; working_directory = working_directory })) (parent_of config.now) made.old.items made.new.items (H.told host.old).entries (H.told host.new).entries result }
 {
     match text_of_input(host) {
         Ok(text) => write_text(alloc, host, config, made, &text, working_directory),
@@ -161,7 +161,7 @@ pub fn materialize<H: Host>(
     host: &mut H,
 ) -> Result<Search, SearchError>
     // The folders that were made are kept, with their entries in the record; behind these is that of the refused call.
-    ensures materialized { MakesFolders (Materializes (H.world host.old) (H.world host.new) (parent_of config.now) location) (parent_of config.now) made.old.items made.new.items (H.entries host.old) (H.entries host.new) result }
+    ensures materialized { MakesFolders (Materializes (H.told host.old).world (H.told host.new).world (parent_of config.now) location) (parent_of config.now) made.old.items made.new.items (H.told host.old).entries (H.told host.new).entries result }
 {
     let Location {
         origin,

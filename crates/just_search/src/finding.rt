@@ -165,10 +165,10 @@ pub(crate) fn climb_for<H: Host>(
     config: &Config,
     folders: Utf8Ancestors<'_>,
 ) -> Result<Utf8PathBuf, SearchError>
-    ensures found { Answers (FindsIn (H.world host.old) (wanted_names config.now)
+    ensures found { Answers (FindsIn (H.told host.old).world (wanted_names config.now)
         (up_to config.now.ceiling (ancestors_left folders.entry))) result }
-    ensures entries { H.entries host.new ≡ H.entries host.old ++ told_entries result }
-    ensures world { H.world host.new ≡ H.world host.old }
+    ensures entries { (H.told host.new).entries ≡ (H.told host.old).entries ++ told_entries result }
+    ensures world { (H.told host.new).world ≡ (H.told host.old).world }
 {
     let names = wanted_names(alloc, config)?;
     climb(alloc, host, names.as_slice(), &config.ceiling, folders)
@@ -182,9 +182,9 @@ fn find_from<H: Host>(
     config: &Config,
     start: Utf8Path<'_>,
 ) -> Result<Utf8PathBuf, SearchError>
-    ensures found { Answers (FindsIn (H.world host.old) (wanted_names config.now) (folders_from config.now.ceiling (text_of start.entry))) result }
-    ensures entries { H.entries host.new ≡ H.entries host.old ++ told_entries result }
-    ensures world { H.world host.new ≡ H.world host.old }
+    ensures found { Answers (FindsIn (H.told host.old).world (wanted_names config.now) (folders_from config.now.ceiling (text_of start.entry))) result }
+    ensures entries { (H.told host.new).entries ≡ (H.told host.old).entries ++ told_entries result }
+    ensures world { (H.told host.new).world ≡ (H.told host.old).world }
 {
     climb_for(alloc, host, config, start.ancestors())
 }
@@ -195,9 +195,9 @@ fn find_from_invocation<H: Host>(
     host: &mut H,
     config: &Config,
 ) -> Result<Location, SearchError>
-    ensures found { Answers (FindsFrom (H.world host.old) config.now config.now.invocation_directory as_origin) result }
-    ensures entries { H.entries host.new ≡ H.entries host.old ++ told_entries result }
-    ensures world { H.world host.new ≡ H.world host.old }
+    ensures found { Answers (FindsFrom (H.told host.old).world config.now config.now.invocation_directory as_origin) result }
+    ensures entries { (H.told host.new).entries ≡ (H.told host.old).entries ++ told_entries result }
+    ensures world { (H.told host.new).world ≡ (H.told host.old).world }
 {
     let start = config.invocation_directory.as_path();
     match find_from(alloc, host, config, start) {
@@ -213,9 +213,9 @@ fn find_file_from<H: Host>(
     config: &Config,
     start: Utf8Path<'_>,
 ) -> Result<Location, SearchError>
-    ensures found { Answers (FindsFrom (H.world host.old) config.now (text_of start.entry) as_file) result }
-    ensures entries { H.entries host.new ≡ H.entries host.old ++ told_entries result }
-    ensures world { H.world host.new ≡ H.world host.old }
+    ensures found { Answers (FindsFrom (H.told host.old).world config.now (text_of start.entry) as_file) result }
+    ensures entries { (H.told host.new).entries ≡ (H.told host.old).entries ++ told_entries result }
+    ensures world { (H.told host.new).world ≡ (H.told host.old).world }
 {
     match find_from(alloc, host, config, start) {
         Ok(file) => Ok(as_file(alloc, file)?),
@@ -231,9 +231,9 @@ fn find_from_folder<H: Host>(
     config: &Config,
     folder: &Utf8PathBuf,
 ) -> Result<Location, SearchError>
-    ensures found { Answers (FindsFrom (H.world host.old) config.now (given_path config.now folder.now) as_file) result }
-    ensures entries { H.entries host.new ≡ H.entries host.old ++ told_entries result }
-    ensures world { H.world host.new ≡ H.world host.old }
+    ensures found { Answers (FindsFrom (H.told host.old).world config.now (given_path config.now folder.now) as_file) result }
+    ensures entries { (H.told host.new).entries ≡ (H.told host.old).entries ++ told_entries result }
+    ensures world { (H.told host.new).world ≡ (H.told host.old).world }
 {
     let start = given_path(alloc, config, folder)?;
     find_file_from(alloc, host, config, start.as_path())
@@ -247,9 +247,9 @@ fn find_own_over<H: Host>(
     config: &Config,
     environ: &Environ,
 ) -> Result<Location, SearchError>
-    ensures found { Answers (λ r. Leaves (λ gained. FindsOwnOver (H.world host.old) config.now environ.now.pairs gained r) (H.entries host.old) (H.entries host.new)) result }
-    ensures entries { GainsLast (H.entries host.old) (H.entries host.new) result }
-    ensures world { H.world host.new ≡ H.world host.old }
+    ensures found { Answers (λ r. Leaves (λ gained. FindsOwnOver (H.told host.old).world config.now environ.now.pairs gained r) (H.told host.old).entries (H.told host.new).entries) result }
+    ensures entries { GainsLast (H.told host.old).entries (H.told host.new).entries result }
+    ensures world { (H.told host.new).world ≡ (H.told host.old).world }
 {
     let file = match own_justfile(alloc, host, environ) {
         Ok(file) => file,
@@ -268,9 +268,9 @@ fn find_own_over<H: Host>(
 /// The user's own justfile, with the root of the project that the program was called in.
 #[tactic(auto, using(crate::proofs::Owning::last_alone, crate::proofs::Owning::last_behind))]
 fn find_own<H: Host>(alloc: Global, host: &mut H, config: &Config) -> Result<Location, SearchError>
-    ensures found { Answers (λ r. Leaves (λ gained. FindsOwn (H.world host.old) config.now gained r) (H.entries host.old) (H.entries host.new)) result }
-    ensures entries { GainsLast (H.entries host.old) (H.entries host.new) result }
-    ensures world { H.world host.new ≡ H.world host.old }
+    ensures found { Answers (λ r. Leaves (λ gained. FindsOwn (H.told host.old).world config.now gained r) (H.told host.old).entries (H.told host.new).entries) result }
+    ensures entries { GainsLast (H.told host.old).entries (H.told host.new).entries result }
+    ensures world { (H.told host.new).world ≡ (H.told host.old).world }
 {
     match environment(alloc, host) {
         Ok(environ) => find_own_over(alloc, host, config, &environ),
@@ -313,9 +313,9 @@ fn find_by<H: Host>(
     setting: &SearchConfig,
     host: &mut H,
 ) -> Result<Location, SearchError>
-    ensures found { Answers (FindsBy (H.world host.old) config.now setting.now (H.entries host.old) (H.entries host.new)) result }
-    ensures entries { FindGains setting.now (H.entries host.old) (H.entries host.new) result }
-    ensures world { H.world host.new ≡ H.world host.old }
+    ensures found { Answers (FindsBy (H.told host.old).world config.now setting.now (H.told host.old).entries (H.told host.new).entries) result }
+    ensures entries { FindGains setting.now (H.told host.old).entries (H.told host.new).entries result }
+    ensures world { (H.told host.new).world ≡ (H.told host.old).world }
 {
     match setting {
         SearchConfig::FromInvocationDirectory => find_from_invocation(alloc, host, config),
@@ -332,9 +332,9 @@ fn find_by<H: Host>(
 /// Where the justfile of a configuration is: in the first folder upwards that has one candidate, at a place of the user's own, on standard
 /// input, or where it is given. Nothing is read of it.
 pub fn find<H: Host>(alloc: Global, config: &Config, host: &mut H) -> Result<Location, SearchError>
-    ensures found { Answers (Finds (H.world host.old) config.now (H.entries host.old) (H.entries host.new)) result }
-    ensures entries { FindGains config.now.search_config (H.entries host.old) (H.entries host.new) result }
-    ensures world { H.world host.new ≡ H.world host.old }
+    ensures found { Answers (Finds (H.told host.old).world config.now (H.told host.old).entries (H.told host.new).entries) result }
+    ensures entries { FindGains config.now.search_config (H.told host.old).entries (H.told host.new).entries result }
+    ensures world { (H.told host.new).world ≡ (H.told host.old).world }
 {
     find_by(alloc, config, &config.search_config, host)
 }

@@ -133,9 +133,9 @@ fn look_at<H: Host>(
     host: &mut H,
     place: &Place,
 ) -> Result<Option<Utf8PathBuf>, NoMemory>
-    ensures looks { IfOk result (λ path. Leaves (λ gained. LooksAtPlace (H.world host.old) place.now gained path) (H.entries host.old) (H.entries host.new)) }
-    ensures entries { GainsListings (H.entries host.old) (H.entries host.new) }
-    ensures world { H.world host.new ≡ H.world host.old }
+    ensures looks { IfOk result (λ path. Leaves (λ gained. LooksAtPlace (H.told host.old).world place.now gained path) (H.told host.old).entries (H.told host.new).entries) }
+    ensures entries { GainsListings (H.told host.old).entries (H.told host.new).entries }
+    ensures world { (H.told host.new).world ≡ (H.told host.old).world }
 {
     match names_in(alloc, host, place.folder.as_path()) {
         Ok(names) => path_at(alloc, place, names.as_slice()),
@@ -149,10 +149,10 @@ fn first_place<H: Host>(
     host: &mut H,
     places: &[Place],
 ) -> Result<Utf8PathBuf, SearchError>
-    ensures found { Answers (λ r. Leaves (λ gained. FindsAmong (H.world host.old) places.now gained r) (H.entries host.old) (H.entries host.new)) result }
+    ensures found { Answers (λ r. Leaves (λ gained. FindsAmong (H.told host.old).world places.now gained r) (H.told host.old).entries (H.told host.new).entries) result }
     ensures unheard { IfErr result (λ e. entries_of e ≡ []) }
-    ensures entries { GainsListings (H.entries host.old) (H.entries host.new) }
-    ensures world { H.world host.new ≡ H.world host.old }
+    ensures entries { GainsListings (H.told host.old).entries (H.told host.new).entries }
+    ensures world { (H.told host.new).world ≡ (H.told host.old).world }
 {
     'places: for place in places {
         if let Some(path) = look_at(alloc, host, place)? {
@@ -169,10 +169,10 @@ pub(crate) fn own_justfile<H: Host>(
     host: &mut H,
     environ: &Environ,
 ) -> Result<Utf8PathBuf, SearchError>
-    ensures found { Answers (λ r. Leaves (λ gained. FindsGlobal (H.world host.old) environ.now.pairs gained r) (H.entries host.old) (H.entries host.new)) result }
+    ensures found { Answers (λ r. Leaves (λ gained. FindsGlobal (H.told host.old).world environ.now.pairs gained r) (H.told host.old).entries (H.told host.new).entries) result }
     ensures unheard { IfErr result (λ e. entries_of e ≡ []) }
-    ensures entries { GainsListings (H.entries host.old) (H.entries host.new) }
-    ensures world { H.world host.new ≡ H.world host.old }
+    ensures entries { GainsListings (H.told host.old).entries (H.told host.new).entries }
+    ensures world { (H.told host.new).world ≡ (H.told host.old).world }
 {
     let places = global_places(alloc, environ)?;
     first_place(alloc, host, places.as_slice())

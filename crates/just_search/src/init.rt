@@ -42,9 +42,9 @@ fn init_in<H: Host>(
     config: &Config,
     start: Utf8Path<'_>,
 ) -> Result<Search, SearchError>
-    ensures found { Answers (InitsIn (H.world host.old) config.now (text_of start.entry)) result }
-    ensures entries { H.entries host.new ≡ H.entries host.old ++ told_entries result }
-    ensures world { H.world host.new ≡ H.world host.old }
+    ensures found { Answers (InitsIn (H.told host.old).world config.now (text_of start.entry)) result }
+    ensures entries { (H.told host.new).entries ≡ (H.told host.old).entries ++ told_entries result }
+    ensures world { (H.told host.new).world ≡ (H.told host.old).world }
 {
     match root_of(alloc, host, &config.ceiling, start) {
         Ok(root) => {
@@ -90,9 +90,9 @@ fn init_in_folder<H: Host>(
     config: &Config,
     folder: &Utf8PathBuf,
 ) -> Result<Search, SearchError>
-    ensures found { Answers (InitsIn (H.world host.old) config.now (given_path config.now folder.now)) result }
-    ensures entries { H.entries host.new ≡ H.entries host.old ++ told_entries result }
-    ensures world { H.world host.new ≡ H.world host.old }
+    ensures found { Answers (InitsIn (H.told host.old).world config.now (given_path config.now folder.now)) result }
+    ensures entries { (H.told host.new).entries ≡ (H.told host.old).entries ++ told_entries result }
+    ensures world { (H.told host.new).world ≡ (H.told host.old).world }
 {
     let start = given_path(alloc, config, folder)?;
     init_in(alloc, host, config, start.as_path())
@@ -106,9 +106,9 @@ fn init_by<H: Host>(
     setting: &SearchConfig,
     host: &mut H,
 ) -> Result<Search, SearchError>
-    ensures found { Answers (InitsBy (H.world host.old) config.now setting.now) result }
-    ensures entries { H.entries host.new ≡ H.entries host.old ++ told_entries result }
-    ensures world { H.world host.new ≡ H.world host.old }
+    ensures found { Answers (InitsBy (H.told host.old).world config.now setting.now) result }
+    ensures entries { (H.told host.new).entries ≡ (H.told host.old).entries ++ told_entries result }
+    ensures world { (H.told host.new).world ≡ (H.told host.old).world }
 {
     match setting {
         SearchConfig::FromInvocationDirectory => init_in(
@@ -135,9 +135,9 @@ impl Search {
         config: &Config,
         host: &mut H,
     ) -> Result<Search, SearchError>
-        ensures found { Answers (Inits (H.world host.old) config.now) result }
-        ensures entries { H.entries host.new ≡ H.entries host.old ++ told_entries result }
-        ensures world { H.world host.new ≡ H.world host.old }
+        ensures found { Answers (Inits (H.told host.old).world config.now) result }
+        ensures entries { (H.told host.new).entries ≡ (H.told host.old).entries ++ told_entries result }
+        ensures world { (H.told host.new).world ≡ (H.told host.old).world }
     {
         init_by(alloc, config, &config.search_config, host)
     }

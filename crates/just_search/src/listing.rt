@@ -34,9 +34,9 @@ pub(crate) fn names_in<H: Host>(
     host: &mut H,
     folder: Utf8Path<'_>,
 ) -> Result<Seq<Text>, SearchError>
-    ensures names { Answers (ListsFolder (H.world host.old) (text_of folder.entry)) result }
-    ensures entries { H.entries host.new ≡ H.entries host.old ++ told_entries result }
-    ensures world { H.world host.new ≡ H.world host.old }
+    ensures names { Answers (ListsFolder (H.told host.old).world (text_of folder.entry)) result }
+    ensures entries { (H.told host.new).entries ≡ (H.told host.old).entries ++ told_entries result }
+    ensures world { (H.told host.new).world ≡ (H.told host.old).world }
 {
     let path = folder.to_path_buf(alloc)?;
     match host.names(folder) {

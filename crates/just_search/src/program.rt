@@ -106,10 +106,10 @@ fn is_program(meta: &Meta) -> bool
 /// Looks whether an executable file stands where a path leads.
 #[tactic(auto, using(crate::proofs::Looks::program_told, crate::proofs::Looks::program_missed, crate::proofs::Looks::looks_missed, crate::proofs::Looks::looks_same, crate::proofs::Looks::looks_without_memory, crate::proofs::Looks::looks_failed))]
 fn sees_program<H: Host>(host: &mut H, path: Utf8Path<'_>) -> Result<bool, WhichError>
-    ensures seen { IfOk result (SeesProgram (H.world host.old) (text_of path.entry)) }
+    ensures seen { IfOk result (SeesProgram (H.told host.old).world (text_of path.entry)) }
     ensures refused { IfErr result (λ e. (e ≡ OutOfMemory) ⊎ (e ≡ Fault Failed)) }
-    ensures entries { GainsLooks (H.entries host.old) (H.entries host.new) result }
-    ensures world { H.world host.new ≡ H.world host.old }
+    ensures entries { GainsLooks (H.told host.old).entries (H.told host.new).entries result }
+    ensures world { (H.told host.new).world ≡ (H.told host.old).world }
 {
     match path.metadata(host) {
         Ok(meta) => Ok(is_program(&meta)),
@@ -124,9 +124,9 @@ fn first_program<H: Host>(
     host: &mut H,
     paths: &[Utf8PathBuf],
 ) -> Result<Option<Utf8PathBuf>, WhichError>
-    ensures located { Locates (H.world host.old) (Ok paths.now) result }
-    ensures entries { GainsLooks (H.entries host.old) (H.entries host.new) result }
-    ensures world { H.world host.new ≡ H.world host.old }
+    ensures located { Locates (H.told host.old).world (Ok paths.now) result }
+    ensures entries { GainsLooks (H.told host.old).entries (H.told host.new).entries result }
+    ensures world { (H.told host.new).world ≡ (H.told host.old).world }
 {
     'paths: for path in paths {
         match sees_program(host, path.as_path()) {
@@ -148,10 +148,10 @@ pub fn which<H: Host>(
     environ: &Environ,
     host: &mut H,
 ) -> Result<Option<String>, WhichError>
-    ensures located { IfOk result (λ found. LocatesAmong (H.world host.old) (program_paths (text_of folder.entry) name.now (value_of (codes "PATH") environ.now.pairs)) (Ok (option_map string_bytes found))) }
-    ensures refused { IfErr result (λ e. (e ≡ OutOfMemory) ⊎ LocatesAmong (H.world host.old) (program_paths (text_of folder.entry) name.now (value_of (codes "PATH") environ.now.pairs)) (Err e)) }
-    ensures entries { GainsLooks (H.entries host.old) (H.entries host.new) result }
-    ensures world { H.world host.new ≡ H.world host.old }
+    ensures located { IfOk result (λ found. LocatesAmong (H.told host.old).world (program_paths (text_of folder.entry) name.now (value_of (codes "PATH") environ.now.pairs)) (Ok (option_map string_bytes found))) }
+    ensures refused { IfErr result (λ e. (e ≡ OutOfMemory) ⊎ LocatesAmong (H.told host.old).world (program_paths (text_of folder.entry) name.now (value_of (codes "PATH") environ.now.pairs)) (Err e)) }
+    ensures entries { GainsLooks (H.told host.old).entries (H.told host.new).entries result }
+    ensures world { (H.told host.new).world ≡ (H.told host.old).world }
 {
     match program_paths(alloc, folder, name, environ) {
         Ok(paths) => match first_program(host, paths.as_slice()) {

@@ -51,9 +51,9 @@ fn look_for_mark<H: Host>(
     host: &mut H,
     folder: Utf8Path<'_>,
 ) -> Result<Option<Utf8PathBuf>, SearchError>
-    ensures looks { Answers (λ r. LooksForMark (H.world host.old) (text_of folder.entry) (answer_of r)) result }
-    ensures entries { H.entries host.new ≡ H.entries host.old ++ told_entries result }
-    ensures world { H.world host.new ≡ H.world host.old }
+    ensures looks { Answers (λ r. LooksForMark (H.told host.old).world (text_of folder.entry) (answer_of r)) result }
+    ensures entries { (H.told host.new).entries ≡ (H.told host.old).entries ++ told_entries result }
+    ensures world { (H.told host.new).world ≡ (H.told host.old).world }
 {
     match names_in(alloc, host, folder) {
         Ok(names) => if_marked(alloc, folder, names.as_slice()),
@@ -76,9 +76,9 @@ pub fn root_of<H: Host>(
     ceiling: &Option<Text>,
     start: Utf8Path<'_>,
 ) -> Result<Utf8PathBuf, SearchError>
-    ensures root { Answers (FindsRoot (H.world host.old) ceiling.now (text_of start.entry)) result }
-    ensures entries { H.entries host.new ≡ H.entries host.old ++ told_entries result }
-    ensures world { H.world host.new ≡ H.world host.old }
+    ensures root { Answers (FindsRoot (H.told host.old).world ceiling.now (text_of start.entry)) result }
+    ensures entries { (H.told host.new).entries ≡ (H.told host.old).entries ++ told_entries result }
+    ensures world { (H.told host.new).world ≡ (H.told host.old).world }
 {
     let mut folders = start.ancestors();
     'folders: while let Some(folder) = folders.next() {

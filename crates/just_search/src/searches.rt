@@ -21,7 +21,7 @@ pub fn search<H: Host>(
     made: &mut Vec<Utf8PathBuf>,
     host: &mut H,
 ) -> Result<Search, SearchError>
-    ensures searched { Searches (H.world host.old) (H.world host.new) config.now made.old.items made.new.items (H.entries host.old) (H.entries host.new) result }
+    ensures searched { Searches (H.told host.old).world (H.told host.new).world config.now made.old.items made.new.items (H.told host.old).entries (H.told host.new).entries result }
 {
     match find(alloc, config, host) {
         Ok(location) => materialize(alloc, location, config, made, host),
@@ -41,7 +41,7 @@ pub fn search_parent_directory<H: Host>(
     made: &mut Vec<Utf8PathBuf>,
     host: &mut H,
 ) -> Result<Search, SearchError>
-    ensures searched { SearchesAbove (H.world host.old) (H.world host.new) config.now found.now.working_directory made.old.items made.new.items (H.entries host.old) (H.entries host.new) result }
+    ensures searched { SearchesAbove (H.told host.old).world (H.told host.new).world config.now found.now.working_directory made.old.items made.new.items (H.told host.old).entries (H.told host.new).entries result }
     ensures higher { IfOk result (λ s. length s.working_directory < length found.now.working_directory) }
 {
     let folder = found.working_directory.as_path();

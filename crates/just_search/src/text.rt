@@ -19,9 +19,9 @@ pub(crate) fn text_of_markdown<H: Host>(
     host: &mut H,
     path: Utf8PathBuf,
 ) -> Result<Text, SearchError>
-    ensures text { Answers (GivesText (H.world host.old) (Markdown path)) result }
-    ensures entries { H.entries host.new ≡ H.entries host.old ++ told_entries None result }
-    ensures world { H.world host.new ≡ H.world host.old }
+    ensures text { Answers (GivesText (H.told host.old).world (Markdown path)) result }
+    ensures entries { (H.told host.new).entries ≡ (H.told host.old).entries ++ told_entries None result }
+    ensures world { (H.told host.new).world ≡ (H.told host.old).world }
 {
     match host.read(path.as_path()) {
         Ok(markdown) => Ok(Text::from(tangle(alloc, markdown.as_str())?)),
@@ -39,9 +39,9 @@ pub(crate) fn text_of_markdown<H: Host>(
 
 /// The text of standard input.
 pub(crate) fn text_of_input<H: Host>(host: &mut H) -> Result<Text, SearchError>
-    ensures text { Answers (GivesText (H.world host.old) StandardInput) result }
-    ensures entries { H.entries host.new ≡ H.entries host.old ++ told_entries None result }
-    ensures world { H.world host.new ≡ H.world host.old }
+    ensures text { Answers (GivesText (H.told host.old).world StandardInput) result }
+    ensures entries { (H.told host.new).entries ≡ (H.told host.old).entries ++ told_entries None result }
+    ensures world { (H.told host.new).world ≡ (H.told host.old).world }
 {
     match host.input() {
         Ok(text) => Ok(Text::from(text)),

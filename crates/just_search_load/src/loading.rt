@@ -43,10 +43,10 @@ fn read_source<H: Host>(
     path: Utf8PathBuf,
 ) -> Result<Source, SearchError>
     ensures source { IfOk result (λ s. s ≡ source_at path s.text) }
-    ensures text { IfOk result (λ s. ReadsText (H.world host.old) path (Ok s.text)) }
-    ensures refused { IfErr result (λ e. (e ≡ OutOfMemory) ⊎ ReadsText (H.world host.old) path (Err e)) }
-    ensures entries { H.entries host.new ≡ H.entries host.old ++ told_entries result }
-    ensures world { H.world host.new ≡ H.world host.old }
+    ensures text { IfOk result (λ s. ReadsText (H.told host.old).world path (Ok s.text)) }
+    ensures refused { IfErr result (λ e. (e ≡ OutOfMemory) ⊎ ReadsText (H.told host.old).world path (Err e)) }
+    ensures entries { (H.told host.new).entries ≡ (H.told host.old).entries ++ told_entries result }
+    ensures world { (H.told host.new).world ≡ (H.told host.old).world }
 {
     match read_text(alloc, host, path.as_path()) {
         Ok(text) => Ok(source_of(alloc, path, text)?),
@@ -120,11 +120,11 @@ impl Loader {
     #[tactic(auto, using(crate::proofs::Numbered::number_last, crate::proofs::Numbered::one_before, crate::proofs::Numbered::one_now))]
     pub fn load<H: Host>(&mut self, host: &mut H, path: Utf8Path<'_>) -> Result<u32, SearchError>
         ensures number { IfOk result (λ n. number_of (sources_of self.new) (text_of path.entry) ≡ Some n) }
-        ensures loaded { OnOk result (LoadsOne (H.world host.old) (sources_of self.old) (text_of path.entry) (sources_of self.new)) }
-        ensures refused { IfErr result (λ e. (e ≡ OutOfMemory) ⊎ ((number_of (sources_of self.old) (text_of path.entry) ≡ None) × ReadsText (H.world host.old) (text_of path.entry) (Err e))) }
+        ensures loaded { OnOk result (LoadsOne (H.told host.old).world (sources_of self.old) (text_of path.entry) (sources_of self.new)) }
+        ensures refused { IfErr result (λ e. (e ≡ OutOfMemory) ⊎ ((number_of (sources_of self.old) (text_of path.entry) ≡ None) × ReadsText (H.told host.old).world (text_of path.entry) (Err e))) }
         ensures same { OnErr result (sources_of self.new ≡ sources_of self.old) }
-        ensures entries { H.entries host.new ≡ H.entries host.old ++ told_entries result }
-        ensures world { H.world host.new ≡ H.world host.old }
+        ensures entries { (H.told host.new).entries ≡ (H.told host.old).entries ++ told_entries result }
+        ensures world { (H.told host.new).world ≡ (H.told host.old).world }
     {
         let alloc = self.inside.alloc;
         let place = Text::from(path.clean(alloc)?.into_string());
@@ -164,12 +164,12 @@ impl Loader {
     ) -> Result<(), SearchError>
         requires place { place ≡ cleaned path }
         requires new { number_at (sources_of self.old) place ≡ None }
-        ensures turns { Turns (H.world host.old) environ.now.pairs (sources_of self.old) path (to_load pending.old.items) (sources_of self.new) (to_load pending.new.items) result }
+        ensures turns { Turns (H.told host.old).world environ.now.pairs (sources_of self.old) path (to_load pending.old.items) (sources_of self.new) (to_load pending.new.items) result }
         ensures more { OnOk result (length (sources_of self.new) ≡ length (sources_of self.old) + 1) }
         ensures small { OnOk result (length (sources_of self.old) < 4294967296) }
         ensures grown { IsGrown (sources_of self.old) (sources_of self.new) }
-        ensures gains { Gains (H.entries host.old) (H.entries host.new) result }
-        ensures world { H.world host.new ≡ H.world host.old }
+        ensures gains { Gains (H.told host.old).entries (H.told host.new).entries result }
+        ensures world { (H.told host.new).world ≡ (H.told host.old).world }
     {
         let alloc = self.inside.alloc;
         let source = match read_source(alloc, host, path) {
@@ -192,10 +192,10 @@ impl Loader {
         environ: &Environ,
         pending: Vec<Utf8PathBuf>,
     ) -> Result<(), SearchError>
-        ensures ends { Ends (Loads (H.world host.old) environ.now.pairs (sources_of self.old) (to_load pending.items)) (sources_of self.new) result }
+        ensures ends { Ends (Loads (H.told host.old).world environ.now.pairs (sources_of self.old) (to_load pending.items)) (sources_of self.new) result }
         ensures grown { IsGrown (sources_of self.old) (sources_of self.new) }
-        ensures gains { Gains (H.entries host.old) (H.entries host.new) result }
-        ensures world { H.world host.new ≡ H.world host.old }
+        ensures gains { Gains (H.told host.old).entries (H.told host.new).entries result }
+        ensures world { (H.told host.new).world ≡ (H.told host.old).world }
     {
         let mut pending = pending;
         'paths: while let Some((path, place)) = self.next(&mut pending)? {
@@ -215,10 +215,10 @@ impl Loader {
         environ: &Environ,
         root: Utf8Path<'_>,
     ) -> Result<(), SearchError>
-        ensures ends { Ends (Loads (H.world host.old) environ.now.pairs (sources_of self.old) (text_of root.entry ∷ [])) (sources_of self.new) result }
+        ensures ends { Ends (Loads (H.told host.old).world environ.now.pairs (sources_of self.old) (text_of root.entry ∷ [])) (sources_of self.new) result }
         ensures grown { IsGrown (sources_of self.old) (sources_of self.new) }
-        ensures gains { Gains (H.entries host.old) (H.entries host.new) result }
-        ensures world { H.world host.new ≡ H.world host.old }
+        ensures gains { Gains (H.told host.old).entries (H.told host.new).entries result }
+        ensures world { (H.told host.new).world ≡ (H.told host.old).world }
     {
         let alloc = self.inside.alloc;
         let mut pending = Vec::new(alloc);
@@ -237,11 +237,11 @@ impl Loader {
         root: Utf8Path<'_>,
     ) -> Result<(), SearchError>
         // The sources are those that the root leads to over the environment, or the first refusal.
-        ensures ends { Ends (Loads (H.world host.old) environ.now.pairs (sources_of self.old) (text_of root.entry ∷ [])) (sources_of self.new) result }
+        ensures ends { Ends (Loads (H.told host.old).world environ.now.pairs (sources_of self.old) (text_of root.entry ∷ [])) (sources_of self.new) result }
         ensures same { OnErr result (sources_of self.new ≡ sources_of self.old) }
         // The record gains misses, and the entry of the refused call.
-        ensures gains { Gains (H.entries host.old) (H.entries host.new) result }
-        ensures world { H.world host.new ≡ H.world host.old }
+        ensures gains { Gains (H.told host.old).entries (H.told host.new).entries result }
+        ensures world { (H.told host.new).world ≡ (H.told host.old).world }
     {
         let known = self.inside.sources.len();
         match self.load_root(host, environ, root) {
@@ -257,13 +257,13 @@ impl Loader {
     #[tactic(auto, using(just_env::proofs::Laws::gains_nothing, just_env::proofs::Laws::gains_before, just_env::proofs::Laws::gains_none, just_env::proofs::Laws::gains_then, just_env::proofs::Laws::gains_one, crate::proofs::Rooted::root_given, crate::proofs::Rooted::root_unread))]
     pub fn load_all<H: Host>(&mut self, host: &mut H, root: Utf8Path<'_>) -> Result<(), SearchError>
         // The sources are those that the root leads to over the host's environment, or the first refusal.
-        ensures ends { Ends (LoadsAll (H.world host.old) (sources_of self.old) (text_of root.entry)) (sources_of self.new) result }
+        ensures ends { Ends (LoadsAll (H.told host.old).world (sources_of self.old) (text_of root.entry)) (sources_of self.new) result }
         // So those that are new are what the root leads to, each once.
-        ensures whole { OnOk result (IsWhole (H.world host.old) (sources_of self.old) (text_of root.entry) (sources_of self.new)) }
+        ensures whole { OnOk result (IsWhole (H.told host.old).world (sources_of self.old) (text_of root.entry) (sources_of self.new)) }
         ensures same { OnErr result (sources_of self.new ≡ sources_of self.old) }
         // The record gains misses, and the entry of the refused call.
-        ensures gains { Gains (H.entries host.old) (H.entries host.new) result }
-        ensures world { H.world host.new ≡ H.world host.old }
+        ensures gains { Gains (H.told host.old).entries (H.told host.new).entries result }
+        ensures world { (H.told host.new).world ≡ (H.told host.old).world }
     {
         match environment(self.inside.alloc, host) {
             Ok(environ) => self.load_over(host, &environ, root),
@@ -293,9 +293,9 @@ fn push_names<H: Host>(
     source: &Source,
     pending: &mut Vec<Utf8PathBuf>,
 ) -> Result<(), SearchError>
-    ensures names { AddsNames (SourceNames (H.world host.old) environ.now.pairs source.now) (to_load pending.old.items) (to_load pending.new.items) result }
-    ensures gains { Gains (H.entries host.old) (H.entries host.new) result }
-    ensures world { H.world host.new ≡ H.world host.old }
+    ensures names { AddsNames (SourceNames (H.told host.old).world environ.now.pairs source.now) (to_load pending.old.items) (to_load pending.new.items) result }
+    ensures gains { Gains (H.told host.old).entries (H.told host.new).entries result }
+    ensures world { (H.told host.new).world ≡ (H.told host.old).world }
 {
     let mut names = Vec::new(alloc);
     match add_source(alloc, host, environ, source, &mut names) {

@@ -25,9 +25,9 @@ fn add_named<H: Host>(
     string: &StringLiteral,
     found: &mut Vec<Utf8PathBuf>,
 ) -> Result<(), SearchError>
-    ensures added { Adds (NamesFile (H.world host.old) environ.now.pairs root.now string.now) found.old.items found.new.items result }
-    ensures gains { Gains (H.entries host.old) (H.entries host.new) result }
-    ensures world { H.world host.new ≡ H.world host.old }
+    ensures added { Adds (NamesFile (H.told host.old).world environ.now.pairs root.now string.now) found.old.items found.new.items result }
+    ensures gains { Gains (H.told host.old).entries (H.told host.new).entries result }
+    ensures world { (H.told host.new).world ≡ (H.told host.old).world }
 {
     let Some(text) = meaning(alloc, environ, string)? else {
         return Ok(());
@@ -49,9 +49,9 @@ fn add_module<H: Host>(
     string: &Option<StringLiteral>,
     found: &mut Vec<Utf8PathBuf>,
 ) -> Result<(), SearchError>
-    ensures added { Adds (ModuleNames (H.world host.old) environ.now.pairs root.now name.now string.now) found.old.items found.new.items result }
-    ensures gains { Gains (H.entries host.old) (H.entries host.new) result }
-    ensures world { H.world host.new ≡ H.world host.old }
+    ensures added { Adds (ModuleNames (H.told host.old).world environ.now.pairs root.now name.now string.now) found.old.items found.new.items result }
+    ensures gains { Gains (H.told host.old).entries (H.told host.new).entries result }
+    ensures world { (H.told host.new).world ≡ (H.told host.old).world }
 {
     match string {
         Some(string) => add_named(alloc, host, environ, root, string, found),
@@ -72,9 +72,9 @@ fn add_item<H: Host>(
     item: &AstItem,
     found: &mut Vec<Utf8PathBuf>,
 ) -> Result<(), SearchError>
-    ensures added { Adds (ItemNames (H.world host.old) environ.now.pairs root.now item.now) found.old.items found.new.items result }
-    ensures gains { Gains (H.entries host.old) (H.entries host.new) result }
-    ensures world { H.world host.new ≡ H.world host.old }
+    ensures added { Adds (ItemNames (H.told host.old).world environ.now.pairs root.now item.now) found.old.items found.new.items result }
+    ensures gains { Gains (H.told host.old).entries (H.told host.new).entries result }
+    ensures world { (H.told host.new).world ≡ (H.told host.old).world }
 {
     match item {
         AstItem::Import { path, .. } => add_named(alloc, host, environ, root, path, found),
@@ -94,9 +94,9 @@ fn add_items<H: Host>(
     items: &[AstItem],
     found: &mut Vec<Utf8PathBuf>,
 ) -> Result<(), SearchError>
-    ensures added { Adds (Gathers (ItemNames (H.world host.old) environ.now.pairs root.now) items.now) found.old.items found.new.items result }
-    ensures gains { Gains (H.entries host.old) (H.entries host.new) result }
-    ensures world { H.world host.new ≡ H.world host.old }
+    ensures added { Adds (Gathers (ItemNames (H.told host.old).world environ.now.pairs root.now) items.now) found.old.items found.new.items result }
+    ensures gains { Gains (H.told host.old).entries (H.told host.new).entries result }
+    ensures world { (H.told host.new).world ≡ (H.told host.old).world }
 {
     'items: for item in items {
         match add_item(alloc, host, environ, root, item, found) {
@@ -128,9 +128,9 @@ pub(crate) fn add_source<H: Host>(
     source: &Source,
     found: &mut Vec<Utf8PathBuf>,
 ) -> Result<(), SearchError>
-    ensures added { Adds (SourceNames (H.world host.old) environ.now.pairs source.now) found.old.items found.new.items result }
-    ensures gains { Gains (H.entries host.old) (H.entries host.new) result }
-    ensures world { H.world host.new ≡ H.world host.old }
+    ensures added { Adds (SourceNames (H.told host.old).world environ.now.pairs source.now) found.old.items found.new.items result }
+    ensures gains { Gains (H.told host.old).entries (H.told host.new).entries result }
+    ensures world { (H.told host.new).world ≡ (H.told host.old).world }
 {
     let text = source.text.as_str();
     if !text.contains("import") && !text.contains("mod") {

@@ -20,9 +20,9 @@ pub(crate) fn add_present<H: Host>(
     path: &Utf8PathBuf,
     found: &mut Vec<Utf8PathBuf>,
 ) -> Result<(), SearchError>
-    ensures added { Adds (IfPresent (H.world host.old) path.now) found.old.items found.new.items result }
-    ensures gains { Gains (H.entries host.old) (H.entries host.new) result }
-    ensures world { H.world host.new ≡ H.world host.old }
+    ensures added { Adds (IfPresent (H.told host.old).world path.now) found.old.items found.new.items result }
+    ensures gains { Gains (H.told host.old).entries (H.told host.new).entries result }
+    ensures world { (H.told host.new).world ≡ (H.told host.old).world }
 {
     if sees_file(alloc, host, path.as_path())? {
         found.push(path.try_clone()?)?;
@@ -37,9 +37,9 @@ pub(crate) fn add_all_present<H: Host>(
     paths: &[Utf8PathBuf],
     found: &mut Vec<Utf8PathBuf>,
 ) -> Result<(), SearchError>
-    ensures added { Adds (Gathers (IfPresent (H.world host.old)) paths.now) found.old.items found.new.items result }
-    ensures gains { Gains (H.entries host.old) (H.entries host.new) result }
-    ensures world { H.world host.new ≡ H.world host.old }
+    ensures added { Adds (Gathers (IfPresent (H.told host.old).world) paths.now) found.old.items found.new.items result }
+    ensures gains { Gains (H.told host.old).entries (H.told host.new).entries result }
+    ensures world { (H.told host.new).world ≡ (H.told host.old).world }
 {
     'paths: for path in paths {
         match add_present(alloc, host, path, found) {
@@ -111,9 +111,9 @@ pub(crate) fn add_module_files<H: Host>(
     base: &Utf8PathBuf,
     found: &mut Vec<Utf8PathBuf>,
 ) -> Result<(), SearchError>
-    ensures added { Adds (ModuleFiles (H.world host.old) base.now) found.old.items found.new.items result }
-    ensures gains { Gains (H.entries host.old) (H.entries host.new) result }
-    ensures world { H.world host.new ≡ H.world host.old }
+    ensures added { Adds (ModuleFiles (H.told host.old).world base.now) found.old.items found.new.items result }
+    ensures gains { Gains (H.told host.old).entries (H.told host.new).entries result }
+    ensures world { (H.told host.new).world ≡ (H.told host.old).world }
 {
     let names = match names_in(alloc, host, base.as_path()) {
         Ok(names) => names,

@@ -18,9 +18,9 @@ pub(crate) fn sees_file<H: Host>(
     host: &mut H,
     path: Utf8Path<'_>,
 ) -> Result<bool, SearchError>
-    ensures seen { Answers (SeesFile (H.world host.old) (text_of path.entry)) result }
-    ensures gains { Gains (H.entries host.old) (H.entries host.new) result }
-    ensures world { H.world host.new ≡ H.world host.old }
+    ensures seen { Answers (SeesFile (H.told host.old).world (text_of path.entry)) result }
+    ensures gains { Gains (H.told host.old).entries (H.told host.new).entries result }
+    ensures world { (H.told host.new).world ≡ (H.told host.old).world }
 {
     let named = path.to_path_buf(alloc)?;
     match path.metadata(host) {
@@ -41,9 +41,9 @@ pub(crate) fn names_in<H: Host>(
     host: &mut H,
     path: Utf8Path<'_>,
 ) -> Result<Seq<Text>, SearchError>
-    ensures names { Answers (ListsNames (H.world host.old) (text_of path.entry)) result }
-    ensures gains { Gains (H.entries host.old) (H.entries host.new) result }
-    ensures world { H.world host.new ≡ H.world host.old }
+    ensures names { Answers (ListsNames (H.told host.old).world (text_of path.entry)) result }
+    ensures gains { Gains (H.told host.old).entries (H.told host.new).entries result }
+    ensures world { (H.told host.new).world ≡ (H.told host.old).world }
 {
     let named = path.to_path_buf(alloc)?;
     match host.names(path) {
@@ -63,9 +63,9 @@ pub(crate) fn read_text<H: Host>(
     host: &mut H,
     path: Utf8Path<'_>,
 ) -> Result<Text, SearchError>
-    ensures text { Answers (ReadsText (H.world host.old) (text_of path.entry)) result }
-    ensures entries { H.entries host.new ≡ H.entries host.old ++ told_entries result }
-    ensures world { H.world host.new ≡ H.world host.old }
+    ensures text { Answers (ReadsText (H.told host.old).world (text_of path.entry)) result }
+    ensures entries { (H.told host.new).entries ≡ (H.told host.old).entries ++ told_entries result }
+    ensures world { (H.told host.new).world ≡ (H.told host.old).world }
 {
     let named = path.to_path_buf(alloc)?;
     match host.read(path) {

@@ -6,7 +6,7 @@ use Rattle.just_cache.proofs.sums.sums_of.Given as goal
 
 abbrev pub invariant-names : goal.invariant-names
 invariant-names g l = record {
-  summed : AreSummed (g.H.Host.world l.fn.host) (text_of l.folder) (take l.name-index l.names) l.given.items (g.H.Host.entries l.fn.host) (g.H.Host.entries l.host);
-  world : g.H.Host.world l.host ≡ g.H.Host.world l.fn.host;
+  summed : AreSummed (g.H.Host.told l.fn.host).world (text_of l.folder) (take l.name-index l.names) l.given.items (g.H.Host.told l.fn.host).entries (g.H.Host.told l.host).entries;
+  world : (g.H.Host.told l.host).world ≡ (g.H.Host.told l.fn.host).world;
   spare : g.H.Host.spare l.host ≡ g.H.Host.spare l.fn.host;
 }

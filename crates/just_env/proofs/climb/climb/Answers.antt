@@ -10,7 +10,7 @@ pub returns-in-Ok-Some-clause-found : goal.returns-in-Ok-Some-clause-found
 returns-in-Ok-Some-clause-found g c =
     let steps : ancestors_left c.folders.folders ≡ text_of c.in-Some.folder ∷ ancestors_left c.next.new.self = search rules in
     let some : c.in-Ok-Some.field-0 ≡ Some c.in-Ok-Some.pairs = search rules in
-    climb_found (g.H.Host.world c.args.host.now) (g.H.Host.world c.folders.host) c.args.environ.now.pairs c.args.names.now (ancestors_of (text_of c.args.start)) (ancestors_left c.folders.folders) (ancestors_left c.next.new.self)
+    climb_found (g.H.Host.told c.args.host.now).world (g.H.Host.told c.folders.host).world c.args.environ.now.pairs c.args.names.now (ancestors_of (text_of c.args.start)) (ancestors_left c.folders.folders) (ancestors_left c.next.new.self)
     (text_of c.in-Some.folder) c.folders.invariant.world c.folders.invariant.along steps c.in-Ok-Some.field-0 c.in-Ok-Some.pairs c.in-Ok-Some.ensures.loaded some
 
 pub folders-preserved : goal.folders-preserved
@@ -18,7 +18,7 @@ folders-preserved g c =
     let steps : ancestors_left c.folders.folders ≡ text_of c.in-Some.folder ∷ ancestors_left c.next.new.self = search rules in
     let none : c.in-Ok-None.field-0 ≡ None = search rules in
     record {
-      along = climb_next (g.H.Host.world c.args.host.now) (g.H.Host.world c.folders.host) c.args.environ.now.pairs c.args.names.now (ancestors_of (text_of c.args.start)) (ancestors_left c.folders.folders) (ancestors_left c.next.new.self)
+      along = climb_next (g.H.Host.told c.args.host.now).world (g.H.Host.told c.folders.host).world c.args.environ.now.pairs c.args.names.now (ancestors_of (text_of c.args.start)) (ancestors_left c.folders.folders) (ancestors_left c.next.new.self)
           (text_of c.in-Some.folder) c.folders.invariant.world c.folders.invariant.along steps c.in-Ok-None.field-0 c.in-Ok-None.ensures.loaded none;
       gains = misses_then _ _ _ c.folders.invariant.gains c.in-Ok-None.ensures.gains;
       world = c.load_files.ensures.world ∙ c.folders.invariant.world;
@@ -27,13 +27,13 @@ folders-preserved g c =
 pub returns-in-Err-clause-found : goal.returns-in-Err-clause-found
 returns-in-Err-clause-found g c =
     let steps : ancestors_left c.folders.folders ≡ text_of c.in-Some.folder ∷ ancestors_left c.next.new.self = search rules in
-    climb_refused (g.H.Host.world c.args.host.now) (g.H.Host.world c.folders.host) c.args.environ.now.pairs c.args.names.now (ancestors_of (text_of c.args.start)) (ancestors_left c.folders.folders) (ancestors_left c.next.new.self)
+    climb_refused (g.H.Host.told c.args.host.now).world (g.H.Host.told c.folders.host).world c.args.environ.now.pairs c.args.names.now (ancestors_of (text_of c.args.start)) (ancestors_left c.folders.folders) (ancestors_left c.next.new.self)
     (text_of c.in-Some.folder) c.folders.invariant.world c.folders.invariant.along steps c.in-Err.error c.in-Err.ensures.loaded
 
 pub folders-init : goal.folders-init
 folders-init g c = record {
-  along = climb_start (g.H.Host.world c.args.host.now) (g.H.Host.world c.args.host.now) c.args.environ.now.pairs c.args.names.now (text_of c.args.start) (ancestors_left c.ancestors-folders.result) (search rules);
-  gains = gains_none (g.H.Host.entries c.args.host.now);
+  along = climb_start (g.H.Host.told c.args.host.now).world (g.H.Host.told c.args.host.now).world c.args.environ.now.pairs c.args.names.now (text_of c.args.start) (ancestors_left c.ancestors-folders.result) (search rules);
+  gains = gains_none (g.H.Host.told c.args.host.now).entries;
   world = refl;
 }
 
@@ -54,7 +54,7 @@ returns-in-Err-clause-world g c = c.load_files.ensures.world ∙ c.folders.invar
 pub returns-clause-found : goal.returns-clause-found
 returns-clause-found g c =
     let over : ancestors_left c.folders.folders ≡ [] = search rules in
-    climb_over (g.H.Host.world c.args.host.now) (g.H.Host.world c.folders.host) c.args.environ.now.pairs c.args.names.now (ancestors_of (text_of c.args.start)) (ancestors_left c.folders.folders) c.folders.invariant.along over
+    climb_over (g.H.Host.told c.args.host.now).world (g.H.Host.told c.folders.host).world c.args.environ.now.pairs c.args.names.now (ancestors_of (text_of c.args.start)) (ancestors_left c.folders.folders) c.folders.invariant.along over
 
 pub returns-clause-gains : goal.returns-clause-gains
 returns-clause-gains g c = c.folders.invariant.gains

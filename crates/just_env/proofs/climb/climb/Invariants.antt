@@ -9,9 +9,9 @@ use Rattle.just_env.proofs.climb.climb.Given as goal
 
 abbrev pub invariant-folders : goal.invariant-folders
 invariant-folders g l = record {
-  along : Along (LoadsUnder (g.H.Host.world l.fn.host) l.environ.pairs l.names) (ancestors_of (text_of l.fn.start)) (ancestors_left l.folders);
-  gains : GainsMisses (g.H.Host.entries l.fn.host) (g.H.Host.entries l.host);
-  world : g.H.Host.world l.host ≡ g.H.Host.world l.fn.host;
+  along : Along (LoadsUnder (g.H.Host.told l.fn.host).world l.environ.pairs l.names) (ancestors_of (text_of l.fn.start)) (ancestors_left l.folders);
+  gains : GainsMisses (g.H.Host.told l.fn.host).entries (g.H.Host.told l.host).entries;
+  world : (g.H.Host.told l.host).world ≡ (g.H.Host.told l.fn.host).world;
 }
 
 abbrev pub decreases-folders : goal.decreases-folders

@@ -11,12 +11,12 @@ returns-in_err-found-in-Ok-clause-gains g c = gains_before _ _ _ (misses_then _ 
 
 pub returns-in-Err-clause-loaded : goal.returns-in-Err-clause-loaded
 returns-in-Err-clause-loaded g c =
-    loaded_refused (g.H.Host.world c.args.host.now) (g.H.Host.world c.names.host) c.args.environ.now.pairs (text_of c.args.folder) c.args.names.now c.names.name-index c.name-item.result c.names.found
+    loaded_refused (g.H.Host.told c.args.host.now).world (g.H.Host.told c.names.host).world c.args.environ.now.pairs (text_of c.args.folder) c.args.names.now c.names.name-index c.name-item.result c.names.found
     c.names.invariant.world c.names-test.true c.name-item.is c.names.invariant.loaded c.in-Err.error c.in-Err.ensures.loaded
 
 pub names-preserved : goal.names-preserved
 names-preserved g c = record {
-  loaded = loaded_one (g.H.Host.world c.args.host.now) (g.H.Host.world c.names.host) c.args.environ.now.pairs (text_of c.args.folder) c.args.names.now c.names.name-index c.name-item.result c.names.found
+  loaded = loaded_one (g.H.Host.told c.args.host.now).world (g.H.Host.told c.names.host).world c.args.environ.now.pairs (text_of c.args.folder) c.args.names.now c.names.name-index c.name-item.result c.names.found
       c.names.invariant.world c.names-test.true c.name-item.is c.names.invariant.loaded c.in-Ok.more c.in_ok-found-in-Ok.found c.in-Ok.ensures.loaded c.in_ok-found-in-Ok.ensures;
   gains = misses_then _ _ _ c.names.invariant.gains c.in-Ok.ensures.gains;
   world = c.load_under.ensures.world ∙ c.names.invariant.world;
@@ -25,12 +25,12 @@ names-preserved g c = record {
 pub returns-clause-loaded : goal.returns-clause-loaded
 returns-clause-loaded g c =
     let last : length c.args.names.now ≤ c.names.name-index = let h = c.names-test.false in omega (arith, h) in
-    loaded_all (g.H.Host.world c.args.host.now) c.args.environ.now.pairs (text_of c.args.folder) c.args.names.now c.names.name-index c.names.found last c.names.invariant.loaded
+    loaded_all (g.H.Host.told c.args.host.now).world c.args.environ.now.pairs (text_of c.args.folder) c.args.names.now c.names.name-index c.names.found last c.names.invariant.loaded
 
 pub names-init : goal.names-init
 names-init g c = record {
-  loaded = loaded_none (g.H.Host.world c.args.host.now) c.args.environ.now.pairs (text_of c.args.folder) c.args.names.now;
-  gains = gains_none (g.H.Host.entries c.args.host.now);
+  loaded = loaded_none (g.H.Host.told c.args.host.now).world c.args.environ.now.pairs (text_of c.args.folder) c.args.names.now;
+  gains = gains_none (g.H.Host.told c.args.host.now).entries;
   world = refl;
 }
 

@@ -7,7 +7,7 @@ use Rattle.just_env.proofs.files.load_files.Given as goal
 
 abbrev pub invariant-names : goal.invariant-names
 invariant-names g l = record {
-  loaded : Loaded (g.H.Host.world l.fn.host) l.environ.pairs (text_of l.folder) l.names l.name-index l.found;
-  gains : GainsMisses (g.H.Host.entries l.fn.host) (g.H.Host.entries l.host);
-  world : g.H.Host.world l.host ≡ g.H.Host.world l.fn.host;
+  loaded : Loaded (g.H.Host.told l.fn.host).world l.environ.pairs (text_of l.folder) l.names l.name-index l.found;
+  gains : GainsMisses (g.H.Host.told l.fn.host).entries (g.H.Host.told l.host).entries;
+  world : (g.H.Host.told l.host).world ≡ (g.H.Host.told l.fn.host).world;
 }

@@ -13,7 +13,7 @@ returns-in_err-names-clause-gains g c = gains_nothing _ _ (search rules)
 
 pub returns-in-Ok-clause-loaded : goal.returns-in-Ok-clause-loaded
 returns-in-Ok-clause-loaded g c =
-    found_pairs (g.H.Host.world c.args.host.now) c.args.ask.now c.args.environ.now.pairs (text_of c.args.folder) c.args.settings.now c.as_slice.result.now c.as_slice-2.result.now (c.as_slice.ensures ∙ c.in_ok-paths.ensures)
+    found_pairs (g.H.Host.told c.args.host.now).world c.args.ask.now c.args.environ.now.pairs (text_of c.args.folder) c.args.settings.now c.as_slice.result.now c.as_slice-2.result.now (c.as_slice.ensures ∙ c.in_ok-paths.ensures)
     (c.as_slice-2.ensures ∙ c.in_ok-names.ensures) c.in-Ok.found c.pairs_of_found.result c.in-Ok.ensures.found c.pairs_of_found.ensures.pairs
 
 pub returns-in-Ok-clause-gains : goal.returns-in-Ok-clause-gains
@@ -21,7 +21,7 @@ returns-in-Ok-clause-gains g c = gains_unheard _ _ _ c.in-Ok.ensures.gains c.pai
 
 pub returns-clause-loaded : goal.returns-clause-loaded
 returns-clause-loaded g c =
-    found_refused (g.H.Host.world c.args.host.now) c.args.ask.now c.args.environ.now.pairs (text_of c.args.folder) c.args.settings.now c.as_slice.result.now c.as_slice-2.result.now (c.as_slice.ensures ∙ c.in_ok-paths.ensures)
+    found_refused (g.H.Host.told c.args.host.now).world c.args.ask.now c.args.environ.now.pairs (text_of c.args.folder) c.args.settings.now c.as_slice.result.now c.as_slice-2.result.now (c.as_slice.ensures ∙ c.in_ok-paths.ensures)
     (c.as_slice-2.ensures ∙ c.in_ok-names.ensures) c.in-Err.error c.in-Err.ensures.found
 
 pub returns-clause-gains : goal.returns-clause-gains

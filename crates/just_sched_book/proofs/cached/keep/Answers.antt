@@ -8,4 +8,4 @@ use Rattle.just_sched_book.proofs.cached.keep.Goals as goal
 
 pub returns-in-Ok-clause-gains : goal.returns-in-Ok-clause-gains
 returns-in-Ok-clause-gains g c =
-    (entry.Saved (text_of c.args.entry) ∷ [], c.in-Ok.ensures.entries, refl, λ none. subst (λ t. IsWritten (text_of c.args.entry) t (g.H.Host.world c.args.host.now) (g.H.Host.world c.save.new.self)) c.as_bytes.ensures.value (changes_ok _ _ (g.H.Host.world c.args.host.now) (g.H.Host.world c.save.new.self) _ c.in-Ok.ensures.world))
+    (entry.Saved (text_of c.args.entry) ∷ [], c.in-Ok.ensures.entries, refl, λ none. subst (λ t. IsWritten (text_of c.args.entry) t (g.H.Host.told c.args.host.now).world (g.H.Host.told c.save.new.self).world) c.as_bytes.ensures.value (changes_ok _ _ (g.H.Host.told c.args.host.now).world (g.H.Host.told c.save.new.self).world _ c.in-Ok.ensures.world))

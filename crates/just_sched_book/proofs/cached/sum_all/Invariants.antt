@@ -6,8 +6,8 @@ use Rattle.just_sched_book.proofs.cached.sum_all.Given as goal
 
 abbrev pub invariant-paths : goal.invariant-paths
 invariant-paths g l = record {
-  summed : AreSummedSo l.paths l.at l.sums.items (g.H.Host.entries l.fn.host) (g.H.Host.entries l.host);
+  summed : AreSummedSo l.paths l.at l.sums.items (g.H.Host.told l.fn.host).entries (g.H.Host.told l.host).entries;
   room : length l.paths ≤ vec_capacity l.sums;
-  world : g.H.Host.world l.host ≡ g.H.Host.world l.fn.host;
+  world : (g.H.Host.told l.host).world ≡ (g.H.Host.told l.fn.host).world;
   spare : g.H.Host.spare l.host ≡ g.H.Host.spare l.fn.host;
 }

@@ -7,9 +7,9 @@ use Rattle.just_search.proofs.climb.climb.Given as goal
 
 abbrev pub invariant-folders : goal.invariant-folders
 invariant-folders g l = record {
-  along : Along (LooksIn (g.H.Host.world l.fn.host) l.wanted) (up_to l.ceiling (ancestors_left l.fn.folders)) (up_to l.ceiling (ancestors_left l.folders));
-  entries : g.H.Host.entries l.host ≡ g.H.Host.entries l.fn.host;
-  world : g.H.Host.world l.host ≡ g.H.Host.world l.fn.host;
+  along : Along (LooksIn (g.H.Host.told l.fn.host).world l.wanted) (up_to l.ceiling (ancestors_left l.fn.folders)) (up_to l.ceiling (ancestors_left l.folders));
+  entries : (g.H.Host.told l.host).entries ≡ (g.H.Host.told l.fn.host).entries;
+  world : (g.H.Host.told l.host).world ≡ (g.H.Host.told l.fn.host).world;
 }
 
 abbrev pub decreases-folders : goal.decreases-folders

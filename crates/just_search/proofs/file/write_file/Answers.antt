@@ -8,11 +8,11 @@ use Rattle.just_search.proofs.file.write_file.Goals as goal
 pub returns-in-Ok-clause-written : goal.returns-in-Ok-clause-written
 returns-in-Ok-clause-written g c =
     let at : c.in_ok-justfile.justfile ≡ file_in c.args.folder.now = search rules in
-    let writes : IsWritten (g.H.Host.world c.args.host.now) (g.H.Host.world c.write_at.new.host) c.in_ok-justfile.justfile c.args.text.now = search rules in
-    write_done (g.H.Host.world c.args.host.now) (g.H.Host.world c.write_at.new.host) c.args.folder.now c.args.text.now c.args.working_directory c.in_ok-justfile.justfile _ at (search rules) writes
+    let writes : IsWritten (g.H.Host.told c.args.host.now).world (g.H.Host.told c.write_at.new.host).world c.in_ok-justfile.justfile c.args.text.now = search rules in
+    write_done (g.H.Host.told c.args.host.now).world (g.H.Host.told c.write_at.new.host).world c.args.folder.now c.args.text.now c.args.working_directory c.in_ok-justfile.justfile _ at (search rules) writes
 
 pub returns-in-Err-Failed-clause-written : goal.returns-in-Err-Failed-clause-written
 returns-in-Err-Failed-clause-written g c =
     let at : c.in_ok-justfile.justfile ≡ file_in c.args.folder.now = search rules in
-    let writes : IsUnwritten (g.H.Host.world c.args.host.now) (g.H.Host.world c.write_at.new.host) c.in_ok-justfile.justfile c.args.text.now (fault.Failed c.in-Err-Failed.call) = search rules in
-    write_refused (g.H.Host.world c.args.host.now) (g.H.Host.world c.write_at.new.host) c.args.folder.now c.args.text.now c.args.working_directory c.in_ok-justfile.justfile (fault.Failed c.in-Err-Failed.call) _ at (search rules) (search rules) writes
+    let writes : IsUnwritten (g.H.Host.told c.args.host.now).world (g.H.Host.told c.write_at.new.host).world c.in_ok-justfile.justfile c.args.text.now (fault.Failed c.in-Err-Failed.call) = search rules in
+    write_refused (g.H.Host.told c.args.host.now).world (g.H.Host.told c.write_at.new.host).world c.args.folder.now c.args.text.now c.args.working_directory c.in_ok-justfile.justfile (fault.Failed c.in-Err-Failed.call) _ at (search rules) (search rules) writes

@@ -6,7 +6,7 @@ use Rattle.just_search.proofs.global.first_place.Given as goal
 
 abbrev pub invariant-places : goal.invariant-places
 invariant-places g l = record {
-  passed : Passed (g.H.Host.world l.fn.host) l.places (drop l.place-index l.places) (g.H.Host.entries l.fn.host) (g.H.Host.entries l.host);
-  entries : GainsListings (g.H.Host.entries l.fn.host) (g.H.Host.entries l.host);
-  world : g.H.Host.world l.host ≡ g.H.Host.world l.fn.host;
+  passed : Passed (g.H.Host.told l.fn.host).world l.places (drop l.place-index l.places) (g.H.Host.told l.fn.host).entries (g.H.Host.told l.host).entries;
+  entries : GainsListings (g.H.Host.told l.fn.host).entries (g.H.Host.told l.host).entries;
+  world : (g.H.Host.told l.host).world ≡ (g.H.Host.told l.fn.host).world;
 }

@@ -7,4 +7,4 @@ pub returns-in-FromInvocationDirectory-clause-found :
     goal.returns-in-FromInvocationDirectory-clause-found
 returns-in-FromInvocationDirectory-clause-found g c =
     rw c.in-FromInvocationDirectory.is
-    (inits_at (g.H.Host.world c.args.host.now) c.args.config.now (text_of c.as_path.result) c.args.config.now.invocation_directory c.init_in.result c.as_path.ensures c.init_in.ensures.found)
+    (inits_at (g.H.Host.told c.args.host.now).world c.args.config.now (text_of c.as_path.result) c.args.config.now.invocation_directory c.init_in.result c.as_path.ensures c.init_in.ensures.found)

@@ -5,7 +5,7 @@ use Rattle.just_search.proofs.listing.names_in.Goals as goal
 
 pub returns-in-Ok-clause-names : goal.returns-in-Ok-clause-names
 returns-in-Ok-clause-names g c =
-    lists_names (g.H.Host.world c.args.host.now) _ (text_of c.args.folder) c.in-Ok.names (g.met.H.Host.view_is c.args.host.now) c.in-Ok.ensures.told c.in-Ok.ensures.order
+    lists_names (g.H.Host.told c.args.host.now).world _ (text_of c.args.folder) c.in-Ok.names (g.met.H.Host.view_is c.args.host.now) c.in-Ok.ensures.told c.in-Ok.ensures.order
 
 pub returns-in-Ok-clause-entries : goal.returns-in-Ok-clause-entries
 returns-in-Ok-clause-entries g c = g.met.H.Host.went_entries _ _ _ c.in-Ok.ensures.went
@@ -15,11 +15,11 @@ returns-in-Ok-clause-world g c = g.met.H.Host.went_world _ _ _ c.names.ensures.w
 
 pub returns-in-Err-clause-names : goal.returns-in-Err-clause-names
 returns-in-Err-clause-names g c =
-    lists_refused (g.H.Host.world c.args.host.now) _ (text_of c.args.folder) c.in_ok-path.path c.in-Err.fault c.listing_error.result (g.met.H.Host.view_is c.args.host.now) c.in-Err.ensures.told c.in_ok-path.ensures c.listing_error.ensures
+    lists_refused (g.H.Host.told c.args.host.now).world _ (text_of c.args.folder) c.in_ok-path.path c.in-Err.fault c.listing_error.result (g.met.H.Host.view_is c.args.host.now) c.in-Err.ensures.told c.in_ok-path.ensures c.listing_error.ensures
 
 pub returns-in-Err-clause-entries : goal.returns-in-Err-clause-entries
 returns-in-Err-clause-entries g c =
-    refused_entries (g.H.Host.entries c.args.host.now) (g.H.Host.entries c.names.new.self) (text_of c.args.folder) c.in_ok-path.path c.in-Err.fault c.listing_error.result (g.met.H.Host.went_entries _ _ _ c.in-Err.ensures.went) c.in_ok-path.ensures c.listing_error.ensures
+    refused_entries (g.H.Host.told c.args.host.now).entries (g.H.Host.told c.names.new.self).entries (text_of c.args.folder) c.in_ok-path.path c.in-Err.fault c.listing_error.result (g.met.H.Host.went_entries _ _ _ c.in-Err.ensures.went) c.in_ok-path.ensures c.listing_error.ensures
 
 pub returns-in-Err-clause-world : goal.returns-in-Err-clause-world
 returns-in-Err-clause-world g c = g.met.H.Host.went_world _ _ _ c.names.ensures.went

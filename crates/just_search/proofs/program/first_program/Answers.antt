@@ -10,19 +10,19 @@ use Rattle.just_search.proofs.program.first_program.Goals as goal
 pub returns-in_err-try_clone-in-Ok-true-clause-entries : goal.returns-in_err-try_clone-in-Ok-true-clause-entries
 returns-in_err-try_clone-in-Ok-true-clause-entries g c =
     let wanting : IsErrAnd c.from_residual.result (λ e. e ≡ OutOfMemory) = search rules in
-    looks_wanting (g.H.Host.entries c.args.host.now) (g.H.Host.entries c.paths.host) (g.H.Host.entries c.sees_program.new.host) c.from_residual.result c.paths.invariant.gains c.in-Ok-true.ensures.entries wanting
+    looks_wanting (g.H.Host.told c.args.host.now).entries (g.H.Host.told c.paths.host).entries (g.H.Host.told c.sees_program.new.host).entries c.from_residual.result c.paths.invariant.gains c.in-Ok-true.ensures.entries wanting
 
 pub returns-in-Ok-true-clause-located : goal.returns-in-Ok-true-clause-located
 returns-in-Ok-true-clause-located g c =
-    program_found (g.H.Host.world c.args.host.now) (g.H.Host.world c.paths.host) c.args.paths.now c.paths.path-index c.path-item.result c.in_ok-try_clone-in-Ok-true.field-0 c.paths.invariant.world c.paths-test.true c.path-item.is c.paths.invariant.along
+    program_found (g.H.Host.told c.args.host.now).world (g.H.Host.told c.paths.host).world c.args.paths.now c.paths.path-index c.path-item.result c.in_ok-try_clone-in-Ok-true.field-0 c.paths.invariant.world c.paths-test.true c.path-item.is c.paths.invariant.along
     (rw c.as_path.ensures at rw c.in-Ok-true.field-0-test at c.in-Ok-true.ensures.seen) c.in_ok-try_clone-in-Ok-true.ensures
 
 pub returns-in-Err-clause-located : goal.returns-in-Err-clause-located
-returns-in-Err-clause-located g c = program_refused (g.H.Host.world c.args.host.now) c.args.paths.now c.paths.path-index c.path-item.result c.in-Err.error c.paths-test.true c.path-item.is c.paths.invariant.along c.in-Err.ensures.refused
+returns-in-Err-clause-located g c = program_refused (g.H.Host.told c.args.host.now).world c.args.paths.now c.paths.path-index c.path-item.result c.in-Err.error c.paths-test.true c.path-item.is c.paths.invariant.along c.in-Err.ensures.refused
 
 pub paths-preserved : goal.paths-preserved
 paths-preserved g c = record {
-  along = program_passed (g.H.Host.world c.args.host.now) (g.H.Host.world c.paths.host) c.args.paths.now c.paths.path-index c.path-item.result c.paths.invariant.world c.paths-test.true c.path-item.is c.paths.invariant.along (rw c.as_path.ensures at rw c.in-Ok-false.field-0-test at c.in-Ok-false.ensures.seen);
+  along = program_passed (g.H.Host.told c.args.host.now).world (g.H.Host.told c.paths.host).world c.args.paths.now c.paths.path-index c.path-item.result c.paths.invariant.world c.paths-test.true c.path-item.is c.paths.invariant.along (rw c.as_path.ensures at rw c.in-Ok-false.field-0-test at c.in-Ok-false.ensures.seen);
   gains = misses_then _ _ _ c.paths.invariant.gains c.in-Ok-false.ensures.entries;
   world = c.sees_program.ensures.world ∙ c.paths.invariant.world;
 }
@@ -30,7 +30,7 @@ paths-preserved g c = record {
 pub paths-init : goal.paths-init
 paths-init g c = record {
   along = along_start _ c.args.paths.now;
-  gains = gains_none (g.H.Host.entries c.args.host.now);
+  gains = gains_none (g.H.Host.told c.args.host.now).entries;
   world = refl;
 }
 
@@ -43,7 +43,7 @@ returns-in-Err-clause-entries g c =
     (h.0, misses_then _ _ _ c.paths.invariant.gains h.1, h.2)
 
 pub returns-clause-located : goal.returns-clause-located
-returns-clause-located g c = program_nowhere (g.H.Host.world c.args.host.now) c.args.paths.now c.paths.path-index c.paths-test.false c.paths.invariant.along
+returns-clause-located g c = program_nowhere (g.H.Host.told c.args.host.now).world c.args.paths.now c.paths.path-index c.paths-test.false c.paths.invariant.along
 
 pub returns-clause-entries : goal.returns-clause-entries
 returns-clause-entries g c = c.paths.invariant.gains

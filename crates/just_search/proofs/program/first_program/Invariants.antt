@@ -7,7 +7,7 @@ use Rattle.just_search.proofs.program.first_program.Given as goal
 
 abbrev pub invariant-paths : goal.invariant-paths
 invariant-paths g l = record {
-  along : Along (LooksAtProgram (g.H.Host.world l.fn.host)) l.paths (drop l.path-index l.paths);
-  gains : GainsMisses (g.H.Host.entries l.fn.host) (g.H.Host.entries l.host);
-  world : g.H.Host.world l.host ≡ g.H.Host.world l.fn.host;
+  along : Along (LooksAtProgram (g.H.Host.told l.fn.host).world) l.paths (drop l.path-index l.paths);
+  gains : GainsMisses (g.H.Host.told l.fn.host).entries (g.H.Host.told l.host).entries;
+  world : (g.H.Host.told l.host).world ≡ (g.H.Host.told l.fn.host).world;
 }

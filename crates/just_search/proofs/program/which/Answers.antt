@@ -8,7 +8,7 @@ use Rattle.just_search.proofs.program.which.Goals as goal
 
 pub returns-in-Ok-clause-refused : goal.returns-in-Ok-clause-refused
 returns-in-Ok-clause-refused g c =
-    which_refused (g.H.Host.world c.args.host.now) (program_paths (text_of c.args.folder) c.args.name.now (value_of (codes "PATH") c.args.environ.now.pairs)) c.as_slice.result.now c.in-Err-first_program.error (c.in-Ok.ensures.paths ∙ ap (λ xs. Ok xs) (sym c.as_slice.ensures.value)) c.in-Err-first_program.ensures.located
+    which_refused (g.H.Host.told c.args.host.now).world (program_paths (text_of c.args.folder) c.args.name.now (value_of (codes "PATH") c.args.environ.now.pairs)) c.as_slice.result.now c.in-Err-first_program.error (c.in-Ok.ensures.paths ∙ ap (λ xs. Ok xs) (sym c.as_slice.ensures.value)) c.in-Err-first_program.ensures.located
 
 pub returns-clause-entries : goal.returns-clause-entries
-returns-clause-entries g c = looks_nothing (g.H.Host.entries c.args.host.now) c.in-Err.error c.in-Err.ensures.unheard
+returns-clause-entries g c = looks_nothing (g.H.Host.told c.args.host.now).entries c.in-Err.error c.in-Err.ensures.unheard

@@ -5,7 +5,7 @@ use Rattle.just_search.proofs.removal.items_in.Goals as goal
 
 pub returns-in-Ok-clause-listed : goal.returns-in-Ok-clause-listed
 returns-in-Ok-clause-listed g c =
-    listed_told (text_of c.args.folder) (g.H.Host.world c.args.host.now) _ (g.H.Host.entries c.args.host.now) (g.H.Host.entries c.list.new.self) c.in-Ok.items (g.met.H.Host.view_is c.args.host.now) c.in-Ok.ensures.told (g.met.H.Host.went_entries _ _ _ c.in-Ok.ensures.went)
+    listed_told (text_of c.args.folder) (g.H.Host.told c.args.host.now).world _ (g.H.Host.told c.args.host.now).entries (g.H.Host.told c.list.new.self).entries c.in-Ok.items (g.met.H.Host.view_is c.args.host.now) c.in-Ok.ensures.told (g.met.H.Host.went_entries _ _ _ c.in-Ok.ensures.went)
 
 pub returns-in-Ok-clause-world : goal.returns-in-Ok-clause-world
 returns-in-Ok-clause-world g c = g.met.H.Host.went_world _ _ _ c.list.ensures.went

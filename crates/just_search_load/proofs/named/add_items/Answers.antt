@@ -9,13 +9,13 @@ use Rattle.just_search_load.proofs.named.add_items.Goals as goal
 
 pub returns-in-Err-clause-added : goal.returns-in-Err-clause-added
 returns-in-Err-clause-added g c =
-    let names = ItemNames (g.H.Host.world c.args.host.now) c.args.environ.now.pairs c.args.root.now in
+    let names = ItemNames (g.H.Host.told c.args.host.now).world c.args.environ.now.pairs c.args.root.now in
     added_refused names c.args.items.now c.items.item-index c.item-item.result c.args.found.now.items c.items.found.items c.add_item.new.found.items c.in-Err.error c.items-test.true c.item-item.is c.items.invariant.added
     (subst (λ t. Adds (ItemNames t c.args.environ.now.pairs c.args.root.now c.item-item.result) c.items.found.items c.add_item.new.found.items (Err c.in-Err.error)) c.items.invariant.world c.in-Err.ensures.added)
 
 pub items-preserved : goal.items-preserved
 items-preserved g c =
-    let names = ItemNames (g.H.Host.world c.args.host.now) c.args.environ.now.pairs c.args.root.now in
+    let names = ItemNames (g.H.Host.told c.args.host.now).world c.args.environ.now.pairs c.args.root.now in
     record {
       added = added_one names c.args.items.now c.items.item-index c.item-item.result c.args.found.now.items c.items.found.items c.add_item.new.found.items c.items-test.true c.item-item.is c.items.invariant.added
           (subst (λ t. Adds (ItemNames t c.args.environ.now.pairs c.args.root.now c.item-item.result) c.items.found.items c.add_item.new.found.items (Ok tt)) c.items.invariant.world c.in-Ok.ensures.added);
@@ -25,13 +25,13 @@ items-preserved g c =
 
 pub returns-clause-added : goal.returns-clause-added
 returns-clause-added g c =
-    let names = ItemNames (g.H.Host.world c.args.host.now) c.args.environ.now.pairs c.args.root.now in
+    let names = ItemNames (g.H.Host.told c.args.host.now).world c.args.environ.now.pairs c.args.root.now in
     added_all names c.args.items.now c.items.item-index c.args.found.now.items c.items.found.items c.items-test.false c.items.invariant.added
 
 pub items-init : goal.items-init
 items-init g c = record {
-  added = added_none (ItemNames (g.H.Host.world c.args.host.now) c.args.environ.now.pairs c.args.root.now) c.args.items.now c.args.found.now.items;
-  gains = gains_none (g.H.Host.entries c.args.host.now);
+  added = added_none (ItemNames (g.H.Host.told c.args.host.now).world c.args.environ.now.pairs c.args.root.now) c.args.items.now c.args.found.now.items;
+  gains = gains_none (g.H.Host.told c.args.host.now).entries;
   world = refl;
 }
 

@@ -7,7 +7,7 @@ use Rattle.just_search_load.proofs.named.add_items.Given as goal
 
 abbrev pub invariant-items : goal.invariant-items
 invariant-items g l = record {
-  added : Added (ItemNames (g.H.Host.world l.fn.host) l.environ.pairs l.root) l.items l.item-index l.fn.found.items l.found.items;
-  gains : GainsMisses (g.H.Host.entries l.fn.host) (g.H.Host.entries l.host);
-  world : g.H.Host.world l.host ≡ g.H.Host.world l.fn.host;
+  added : Added (ItemNames (g.H.Host.told l.fn.host).world l.environ.pairs l.root) l.items l.item-index l.fn.found.items l.found.items;
+  gains : GainsMisses (g.H.Host.told l.fn.host).entries (g.H.Host.told l.host).entries;
+  world : (g.H.Host.told l.host).world ≡ (g.H.Host.told l.fn.host).world;
 }

@@ -9,4 +9,4 @@ pub returns-clause-added : goal.returns-clause-added
 returns-clause-added g c =
     let means = rw c.in-Some.is at c.in_ok-text.ensures.means in
     let none : path_under (home_of c.args.environ.now.pairs) c.args.root.now c.in-Some.text ≡ None = first_of (cc, search rules) in
-    adds_no_path (g.H.Host.world c.args.host.now) c.args.environ.now.pairs c.args.root.now c.args.string.now c.in-Some.text c.args.found.now.items means none
+    adds_no_path (g.H.Host.told c.args.host.now).world c.args.environ.now.pairs c.args.root.now c.args.string.now c.in-Some.text c.args.found.now.items means none

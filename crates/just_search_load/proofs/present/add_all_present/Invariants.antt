@@ -7,7 +7,7 @@ use Rattle.just_search_load.proofs.present.add_all_present.Given as goal
 
 abbrev pub invariant-paths : goal.invariant-paths
 invariant-paths g l = record {
-  added : Added (IfPresent (g.H.Host.world l.fn.host)) l.paths l.path-index l.fn.found.items l.found.items;
-  gains : GainsMisses (g.H.Host.entries l.fn.host) (g.H.Host.entries l.host);
-  world : g.H.Host.world l.host ≡ g.H.Host.world l.fn.host;
+  added : Added (IfPresent (g.H.Host.told l.fn.host).world) l.paths l.path-index l.fn.found.items l.found.items;
+  gains : GainsMisses (g.H.Host.told l.fn.host).entries (g.H.Host.told l.host).entries;
+  world : (g.H.Host.told l.host).world ≡ (g.H.Host.told l.fn.host).world;
 }

@@ -5,4 +5,4 @@ use Rattle.just_search_load.proofs.present.add_module_files.Goals as goal
 
 pub returns-in-Err-clause-added : goal.returns-in-Err-clause-added
 returns-in-Err-clause-added g c =
-    adds_no_folder (g.H.Host.world c.args.host.now) c.args.base.now (text_of c.as_path.result) c.in-Err.error c.as_path.ensures c.in-Err.ensures.names
+    adds_no_folder (g.H.Host.told c.args.host.now).world c.args.base.now (text_of c.as_path.result) c.in-Err.error c.as_path.ensures c.in-Err.ensures.names

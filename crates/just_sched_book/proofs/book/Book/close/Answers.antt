@@ -26,7 +26,7 @@ verdict-verdict-requires-clause-caught g c = signalled_of c.args.self.account �
 pub returns-clause-kept : goal.returns-clause-kept
 returns-clause-kept g c =
     let s = c.args.self in
-    subst (λ h. ∥ IsKept g.P.Naming.start h (g.H.Host.entries s.host) (g.H.Host.world s.host) ∥₁) (sym c.from.ensures) (kept_of s.account)
+    subst (λ h. ∥ IsKept g.P.Naming.start h (g.H.Host.told s.host).entries (g.H.Host.told s.host).world ∥₁) (sym c.from.ensures) (kept_of s.account)
 
 pub returns-clause-verdict : goal.returns-clause-verdict
 returns-clause-verdict g c =

@@ -9,19 +9,19 @@ use Rattle.just_search_load.proofs.loader.Loader.load_next.Goals as goal
 
 pub returns-in-Err-clause-turns : goal.returns-in-Err-clause-turns
 returns-in-Err-clause-turns g c =
-    turns_unread (g.H.Host.world c.args.host.now) c.args.environ.now.pairs (sources_of c.args.self.now) c.args.path c.args.place (to_load c.args.pending.now.items) c.in-Err.error c.requires.place c.requires.new c.in-Err.ensures.refused
+    turns_unread (g.H.Host.told c.args.host.now).world c.args.environ.now.pairs (sources_of c.args.self.now) c.args.path c.args.place (to_load c.args.pending.now.items) c.in-Err.error c.requires.place c.requires.new c.in-Err.ensures.refused
 
 pub returns-in-Err-push_names-clause-turns : goal.returns-in-Err-push_names-clause-turns
 returns-in-Err-push_names-clause-turns g c =
-    turns_unseen (g.H.Host.world c.args.host.now) c.args.environ.now.pairs _ (sources_of c.args.self.now) c.args.path c.args.place c.in-Ok.source (to_load c.args.pending.now.items) c.in-Err-push_names.error c.read_source.ensures.world c.requires.place c.requires.new
+    turns_unseen (g.H.Host.told c.args.host.now).world c.args.environ.now.pairs _ (sources_of c.args.self.now) c.args.path c.args.place c.in-Ok.source (to_load c.args.pending.now.items) c.in-Err-push_names.error c.read_source.ensures.world c.requires.place c.requires.new
     c.in-Ok.ensures.source c.in-Ok.ensures.text c.in-Err-push_names.ensures.names
 
 pub returns-in_err-keep-clause-gains : goal.returns-in_err-keep-clause-gains
 returns-in_err-keep-clause-gains g c =
-    let gained : GainsMisses (g.H.Host.entries c.args.host.now) (g.H.Host.entries c.push_names.new.host) = misses_after _ _ _ c.in-Ok.ensures.entries c.in-Ok-push_names.ensures.gains in
+    let gained : GainsMisses (g.H.Host.told c.args.host.now).entries (g.H.Host.told c.push_names.new.host).entries = misses_after _ _ _ c.in-Ok.ensures.entries c.in-Ok-push_names.ensures.gains in
     gains_before _ _ _ gained (search rules)
 
 pub returns-clause-turns : goal.returns-clause-turns
 returns-clause-turns g c =
-    turns_loaded (g.H.Host.world c.args.host.now) c.args.environ.now.pairs _ (sources_of c.args.self.now) _ c.args.path c.args.place c.in-Ok.source (to_load c.args.pending.now.items) (to_load c.push_names.new.pending.items) c.read_source.ensures.world c.requires.place c.requires.new
+    turns_loaded (g.H.Host.told c.args.host.now).world c.args.environ.now.pairs _ (sources_of c.args.self.now) _ c.args.path c.args.place c.in-Ok.source (to_load c.args.pending.now.items) (to_load c.push_names.new.pending.items) c.read_source.ensures.world c.requires.place c.requires.new
     c.in-Ok.ensures.source c.in-Ok.ensures.text c.in-Ok-push_names.ensures.names c.in_ok-keep.ensures.kept

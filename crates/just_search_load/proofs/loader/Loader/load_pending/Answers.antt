@@ -11,7 +11,7 @@ pub paths-preserved : goal.paths-preserved
 paths-preserved g c =
     let next = rw c.in-Some.is at c.in_ok-path.ensures in
     record {
-      continues = continues_next (g.H.Host.world c.args.host.now) c.args.environ.now.pairs _ (sources_of c.args.self.now) (sources_of c.paths.self) (sources_of c.load_next.new.self) (to_load c.args.pending.items) c.paths.pending.items (to_load c.load_next.new.pending.items) _ _ c.paths.invariant.world c.paths.invariant.continues next.2 c.in-Ok.ensures.turns;
+      continues = continues_next (g.H.Host.told c.args.host.now).world c.args.environ.now.pairs _ (sources_of c.args.self.now) (sources_of c.paths.self) (sources_of c.load_next.new.self) (to_load c.args.pending.items) c.paths.pending.items (to_load c.load_next.new.pending.items) _ _ c.paths.invariant.world c.paths.invariant.continues next.2 c.in-Ok.ensures.turns;
       grown = grown_then _ _ _ c.paths.invariant.grown c.in-Ok.ensures.grown;
       gains = misses_then _ _ _ c.paths.invariant.gains c.in-Ok.ensures.gains;
       world = c.load_next.ensures.world ∙ c.paths.invariant.world;
@@ -20,8 +20,8 @@ paths-preserved g c =
 pub returns-in-Err-clause-ends : goal.returns-in-Err-clause-ends
 returns-in-Err-clause-ends g c =
     let next = rw c.in-Some.is at c.in_ok-path.ensures in
-    continues_refused (g.H.Host.world c.args.host.now) c.args.environ.now.pairs _ (sources_of c.args.self.now) (sources_of c.paths.self) (to_load c.args.pending.items) c.paths.pending.items _ _ c.in-Err.error c.paths.invariant.world c.paths.invariant.continues next.2 c.in-Err.ensures.turns
+    continues_refused (g.H.Host.told c.args.host.now).world c.args.environ.now.pairs _ (sources_of c.args.self.now) (sources_of c.paths.self) (to_load c.args.pending.items) c.paths.pending.items _ _ c.in-Err.error c.paths.invariant.world c.paths.invariant.continues next.2 c.in-Err.ensures.turns
 
 pub returns-clause-ends : goal.returns-clause-ends
 returns-clause-ends g c =
-    continues_end (g.H.Host.world c.args.host.now) c.args.environ.now.pairs (sources_of c.args.self.now) (sources_of c.paths.self) (to_load c.args.pending.items) c.paths.pending.items c.paths.invariant.continues (rw c.in_default.is at c.in_ok-path.ensures)
+    continues_end (g.H.Host.told c.args.host.now).world c.args.environ.now.pairs (sources_of c.args.self.now) (sources_of c.paths.self) (to_load c.args.pending.items) c.paths.pending.items c.paths.invariant.continues (rw c.in_default.is at c.in_ok-path.ensures)

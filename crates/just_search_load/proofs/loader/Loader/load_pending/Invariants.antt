@@ -8,10 +8,10 @@ use Rattle.just_search_load.proofs.loader.Loader.load_pending.Given as goal
 
 abbrev pub invariant-paths : goal.invariant-paths
 invariant-paths g l = record {
-  continues : Continues (g.H.Host.world l.fn.host) l.environ.pairs (sources_of l.fn.self) (to_load l.fn.pending.items) (sources_of l.self) (to_load l.pending.items);
+  continues : Continues (g.H.Host.told l.fn.host).world l.environ.pairs (sources_of l.fn.self) (to_load l.fn.pending.items) (sources_of l.self) (to_load l.pending.items);
   grown : IsGrown (sources_of l.fn.self) (sources_of l.self);
-  gains : GainsMisses (g.H.Host.entries l.fn.host) (g.H.Host.entries l.host);
-  world : g.H.Host.world l.host ≡ g.H.Host.world l.fn.host;
+  gains : GainsMisses (g.H.Host.told l.fn.host).entries (g.H.Host.told l.host).entries;
+  world : (g.H.Host.told l.host).world ≡ (g.H.Host.told l.fn.host).world;
 }
 
 abbrev pub decreases-paths : goal.decreases-paths
