@@ -4,3 +4,4 @@ mod ThreeTexts
 pub mod Writing
 pub mod MadeFolders
 pub mod Effects
+pub mod Moments
