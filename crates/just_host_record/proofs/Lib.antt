@@ -5,3 +5,4 @@ pub mod Writing
 pub mod MadeFolders
 pub mod Effects
 pub mod Moments
+pub mod Pairs
