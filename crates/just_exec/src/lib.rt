@@ -39,12 +39,12 @@ pub use just_exec_work::{
     Work, after, attribute_text, command, has_attribute, module_folder, prints_code,
     read_attributes, recipe_work, shell, step_behind,
 };
-pub use just_host_record::{Call, HostFault, Script, Signal, Spec, Status};
+pub use just_host_record::{Call, HostFault, Script, ScriptText, Signal, Spec, Status};
 pub use just_lang_read::Boxed;
 pub use just_lang_types::project::{Justfile, LangError};
 pub use just_lang_types::{
-    BodyLine, CompileError, CompileKind, DotenvOf, Interpreter, Key, Modulepath, Parameter, Recipe,
-    Scopes, Settings, Switch, Value,
+    Attribute, BodyLine, CompileError, CompileKind, DotenvOf, Interpreter, Key, Modulepath,
+    Parameter, Recipe, Scopes, Settings, Switch, Value,
 };
 pub use just_path::{Miss, Utf8Path, Utf8PathBuf};
 pub use just_path_text::{NoMemory, Seq, Text, TryClone};
