@@ -1,78 +1,29 @@
 -- Pairs that are put one behind the other: of each name the last one stays.
-use Rattle.std.proofs.Common.{◌≡◌, ℕ, Bool, true, false, true≢false, cond, List, [], ◌∷◌, ◌++◌, map, append_assoc, append-nil, nat_cmp, Option, Some, None, bytes_eq, refl, sym, ap, ◌∙◌, subst}
+use Rattle.std.proofs.Common.{◌≡◌, ℕ, cond, List, [], ◌∷◌, ◌++◌, map, append_assoc, append-nil, nat_cmp, Some, None, bytes_eq, refl, sym, ap, ◌∙◌, subst}
 use Rattle.serde_json.specs.Data.{string, object, Members, no_members, member, put}
 use Rattle.std.specs.BTreeMap.{BTreeMap, insert_entry, IsOrdered}
 use Rattle.std.specs.Cmp.Lexicographic.{slice_cmp}
 use Rattle.std.specs.List.{AllByRecursion}
 use Rattle.std.specs.List.Sorted.{IsStrictlySortedBy}
 use Rattle.std.specs.Map.{lookup}
-use Rattle.std.specs.Ordering.{is_eq, match_ordering, ordering_reverse}
+use Rattle.std.specs.Ordering.{match_ordering, ordering_reverse}
 use Rattle.std.specs.declared.cmp.Ordering.{Ordering}
 use Rattle.std.specs.declared.cmp.Ordering.TheVariants.{Less, Equal, Greater}
-use Rattle.std.proofs.lemmas.Cmp.{nat_list_cmp_total, nat_list_eq_equiv}
-use Rattle.std.proofs.lemmas.Map.Lookups.{exact_bytes}
-use Rattle.std.proofs.lemmas.Map.Text.{is_eq-slice_cmp}
-use Rattle.std.proofs.lemmas.Slice.Eq.{bytes_eq-Decides}
+use Rattle.std.proofs.lemmas.Cmp.{nat_list_cmp_total}
 use Rattle.just_path_text.specs.Environ.{or_else, value_of}
+use Rattle.just_host_record.proofs.Pairs.{entered, or_moved, or_none, or_chosen}
 use Rattle.just_cache.specs.Members.{object_by, object_of_inputs}
 use Rattle.just_cache.specs.Readable.{AreInOrder}
 use Rattle.just_cache.specs.Maps.{text_cmp, put_all, AreLast}
 
--- ---- one pair
-
--- two tests of which one alone passes
-swapped : {A : Type 0} (k e : Bool) (v w g : A) → (e ≡ true → k ≡ false) → cond e w (cond k v g) ≡ cond k v (cond e w g)
-swapped true true v w g alone = absurd (true≢false (alone refl))
-swapped true false v w g alone = refl
-swapped false e v w g alone = refl
-
--- what takes the place of something of its name
-taken : {A : Type 0} (k e : Bool) (v w g : A) → k ≡ e → cond e v g ≡ cond k v (cond e w g)
-taken true true v w g h = refl
-taken true false v w g h = absurd (true≢false h)
-taken false true v w g h = absurd (true≢false (sym h))
-taken false false v w g h = refl
-
--- texts that the order doesn't tie differ
-behind : (a b : List ℕ) → text_cmp a b ≡ Greater → bytes_eq a b ≡ false
-behind a b h = sym (is_eq-slice_cmp a b) ∙ ap (λ o. is_eq o) h
-
-module _ (k name v : List ℕ) where
-  -- by how its name and that of the first one stand
-  entered_by : (e : List ℕ × List ℕ) (es : List (List ℕ × List ℕ)) (o : Ordering) → text_cmp k e.0 ≡ o → lookup (bytes_eq name) (insert_entry text_cmp es k v) ≡ cond (bytes_eq k name) (Some v) (lookup (bytes_eq name) es)
-      → lookup (bytes_eq name) (match_ordering o ((k, v) ∷ e ∷ es) ((e.0, v) ∷ es) (e ∷ insert_entry text_cmp es k v)) ≡ cond (bytes_eq k name) (Some v) (cond (bytes_eq name e.0) (Some e.1) (lookup (bytes_eq name) es))
-  entered_by e es Less h others = ap (λ b. cond b (Some v) (cond (bytes_eq name e.0) (Some e.1) (lookup (bytes_eq name) es))) (nat_list_eq_equiv.symm name k)
-  entered_by e es Equal h others =
-      taken (bytes_eq k name) (bytes_eq name e.0) (Some v) (Some e.1) (lookup (bytes_eq name) es) (ap (λ t. bytes_eq t name) (exact_bytes k e.0 h) ∙ nat_list_eq_equiv.symm e.0 name)
-  entered_by e es Greater h others =
-      ap (λ o. cond (bytes_eq name e.0) (Some e.1) o) others
-      ∙ swapped (bytes_eq k name) (bytes_eq name e.0) (Some v) (Some e.1) (lookup (bytes_eq name) es) (λ is. subst (λ t. bytes_eq k t ≡ false) (sym ((bytes_eq-Decides name e.0).0 is)) (behind k e.0 h))
-
-  -- a pair that is entered is found at its name, and of other names the same is found
-  entered : (es : List (List ℕ × List ℕ)) → lookup (bytes_eq name) (insert_entry text_cmp es k v) ≡ cond (bytes_eq k name) (Some v) (lookup (bytes_eq name) es)
-  entered [] = ap (λ b. cond b (Some v) None) (nat_list_eq_equiv.symm name k)
-  entered (e ∷ es) = entered_by e es (text_cmp k e.0) refl (entered es)
-
 -- ---- all pairs
-
-or_moved : (a b c : Option (List ℕ)) → or_else a (or_else b c) ≡ or_else (or_else a b) c
-or_moved None b c = refl
-or_moved (Some x) b c = refl
-
-or_none : (a : Option (List ℕ)) → or_else a None ≡ a
-or_none None = refl
-or_none (Some x) = refl
-
-chosen : (b : Bool) (v : List ℕ) (g : Option (List ℕ)) → cond b (Some v) g ≡ or_else (cond b (Some v) None) g
-chosen true v g = refl
-chosen false v g = refl
 
 -- of the pairs that are put each name's last one is found
 put_found : (done ps : List (List ℕ × List ℕ)) (name : List ℕ) → lookup (bytes_eq name) (put_all done ps) ≡ or_else (value_of name ps) (lookup (bytes_eq name) done)
 put_found done [] name = refl
 put_found done (p ∷ ps) name =
     put_found (insert_entry text_cmp done p.0 p.1) ps name
-    ∙ ap (λ g. or_else (value_of name ps) g) (entered p.0 name p.1 done ∙ chosen (bytes_eq p.0 name) p.1 (lookup (bytes_eq name) done))
+    ∙ ap (λ g. or_else (value_of name ps) g) (entered p.0 name p.1 done ∙ or_chosen (bytes_eq p.0 name) p.1 (lookup (bytes_eq name) done))
     ∙ or_moved (value_of name ps) (cond (bytes_eq p.0 name) (Some p.1) None) (lookup (bytes_eq name) done)
 
 -- ---- the object of pairs

@@ -2,7 +2,6 @@
 use Rattle.std.specs.Prelude.{ℕ, ◌≡◌, List, [], ◌∷◌, ◌++◌, Option, Result, Ok, Err, MatchOption}
 use Rattle.just_lang_types.specs.declared.recipe.Modulepath.{Modulepath}
 use Rattle.just_host_record.specs.declared.entry.Call.TheVariants as call
-use Rattle.just_host_record.specs.declared.entry.Entry.{Entry}
 use Rattle.just_host_record.specs.declared.entry.Entry.TheVariants as entry
 use Rattle.just_host_record.specs.declared.entry.HostFault.{HostFault}
 use Rattle.just_host_record.specs.declared.entry.Look.{Look}
@@ -10,7 +9,7 @@ use Rattle.just_host_record.specs.declared.entry.Look.TheVariants as look
 use Rattle.just_host_record.specs.Changes.{Changes, IsOfEntry, with_cache_entry, place_written, written}
 use Rattle.just_host_record.specs.Looks.{LookTells, look_at, told_bytes}
 use Rattle.just_host_record.specs.Record.{gained, IsOwn}
-use Rattle.just_host_record.specs.World.{World, view_of}
+use Rattle.just_host_record.specs.World.{Moment, World, view_of}
 use Rattle.just_cache.specs.declared.cache_error.CacheError.{CacheError}
 use Rattle.just_cache.specs.declared.status.CacheStatus.{CacheStatus}
 use Rattle.just_cache.specs.declared.status.CacheStatus.TheVariants as status
@@ -20,11 +19,11 @@ use Rattle.just_cache.specs.Errors.{entry_error}
 
 -- a look at an entry and outputs, as the host answered: the record gained it or its refusal, a told world shows it, and nothing of
 -- that world is changed but that the entry and its folder are there
-pub record IsProbed (told after : Option World) (path : List ℕ) (outputs : List (List ℕ)) (old new : List Entry) (answer : Result Look HostFault) : Type 0 where
-  pub entries : new ≡ old ++ gained path (λ l. entry.Probed path outputs l ∷ []) answer
+pub record IsProbed (before after : Moment) (path : List ℕ) (outputs : List (List ℕ)) (answer : Result Look HostFault) : Type 0 where
+  pub entries : after.entries ≡ before.entries ++ gained path (λ l. entry.Probed path outputs l ∷ []) answer
   pub own : IsOwn call.Probe answer
-  pub shown : LookTells told path outputs answer
-  pub world : Changes (λ w. with_cache_entry w path) (λ w place. IsOfEntry w path place) told after answer
+  pub shown : LookTells before.world path outputs answer
+  pub world : Changes (λ w. with_cache_entry w path) (λ w place. IsOfEntry w path place) before.world after.world answer
 
 -- a hit exactly where the entry isn't empty and each output is there; else the lock of that entry for that recipe
 abbrev pub status_of : List ℕ → Modulepath → Look → CacheStatus
@@ -37,9 +36,9 @@ status_told path recipe (Ok l) = Ok (status_of path recipe l)
 status_told path recipe (Err f) = Err (entry_error path f)
 
 -- the status of an entry by one look
-pub record GivesStatus (told after : Option World) (path : List ℕ) (outputs : List (List ℕ)) (recipe : Modulepath) (old new : List Entry) (result : Result CacheStatus CacheError) : Type 0 where
+pub record GivesStatus (before after : Moment) (path : List ℕ) (outputs : List (List ℕ)) (recipe : Modulepath) (result : Result CacheStatus CacheError) : Type 0 where
   pub answer : Result Look HostFault
-  pub probed : IsProbed told after path outputs old new answer
+  pub probed : IsProbed before after path outputs answer
   pub status : result ≡ status_told path recipe answer
 
 -- over a told world the status is the one by the bytes of the entry and the outputs
@@ -51,16 +50,16 @@ ShowsStatus told path outputs recipe (Err e) = Unit {0}
 
 -- an entry that is to hold these bytes, as the host answered: the record gained it or its refusal, and nothing of a told world is
 -- changed but that entry
-pub record IsSaved (told after : Option World) (path bytes : List ℕ) (old new : List Entry) (answer : Result (Unit {0}) HostFault) : Type 0 where
-  pub entries : new ≡ old ++ gained path (λ _. entry.Saved path ∷ []) answer
+pub record IsSaved (before after : Moment) (path bytes : List ℕ) (answer : Result (Unit {0}) HostFault) : Type 0 where
+  pub entries : after.entries ≡ before.entries ++ gained path (λ _. entry.Saved path ∷ []) answer
   pub own : IsOwn call.Save answer
-  pub world : Changes (λ w. written w path bytes) (λ w place. place_written w path ≡ Ok place) told after answer
+  pub world : Changes (λ w. written w path bytes) (λ w place. place_written w path ≡ Ok place) before.world after.world answer
 
 abbrev pub saved_told : List ℕ → Result (Unit {0}) HostFault → Result (Unit {0}) CacheError
 saved_told path (Ok done) = Ok done
 saved_told path (Err f) = Err (entry_error path f)
 
-pub record Saves (told after : Option World) (path bytes : List ℕ) (old new : List Entry) (result : Result (Unit {0}) CacheError) : Type 0 where
+pub record Saves (before after : Moment) (path bytes : List ℕ) (result : Result (Unit {0}) CacheError) : Type 0 where
   pub answer : Result (Unit {0}) HostFault
-  pub saved : IsSaved told after path bytes old new answer
+  pub saved : IsSaved before after path bytes answer
   pub result_is : result ≡ saved_told path answer

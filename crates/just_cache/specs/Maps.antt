@@ -1,5 +1,5 @@
 -- The inputs of a key: names with the digits of their files' sums, as an ordered map.
-use Rattle.std.specs.Prelude.{ℕ, ◌≡◌, ◌⊎◌, List, [], ◌∷◌, map, Option, Result, Ok, Err, bytes_eq}
+use Rattle.std.specs.Prelude.{ℕ, ◌≡◌, ◌⊎◌, List, [], ◌∷◌, map, Result, Ok, Err, bytes_eq}
 use Rattle.std.specs.BTreeMap.{insert_entry}
 use Rattle.std.specs.Cmp.Lexicographic.{slice_cmp}
 use Rattle.std.specs.Map.{lookup}
@@ -7,8 +7,7 @@ use Rattle.std.specs.Ordering.{nat_cmp}
 use Rattle.std.specs.declared.cmp.Ordering.{Ordering}
 use Rattle.hex.specs.Hex.{encode_lower}
 use Rattle.just_path_text.specs.Environ.{value_of}
-use Rattle.just_host_record.specs.declared.entry.Entry.{Entry}
-use Rattle.just_host_record.specs.World.{World}
+use Rattle.just_host_record.specs.World.{Moment}
 use Rattle.just_cache.specs.Members.{object_of_inputs}
 use Rattle.just_cache.specs.Readable.{AreInOrder}
 use Rattle.just_cache.specs.declared.cache_error.CacheError.{CacheError}
@@ -36,6 +35,8 @@ pub record AreLast (given pairs : List (List ℕ × List ℕ)) : Type 0 where
   pub object : object_of_inputs pairs ≡ object_of_inputs given
 
 -- the sums of the names, each name once with its last sum; else the first refusal, or want of memory behind the sums
-abbrev pub GivesInputs : Option World → List ℕ → List (List ℕ) → List Entry → List Entry → Result (List (List ℕ × List ℕ)) CacheError → Type 0
-GivesInputs told folder names old new (Ok pairs) = (given : List (List ℕ × List ℕ)) × AreSummed told folder names given old new × AreLast (map with_digits given) pairs
-GivesInputs told folder names old new (Err e) = IsRefused told folder names old new e ⊎ ((given : List (List ℕ × List ℕ)) × AreSummed told folder names given old new × (e ≡ error.NoMemory))
+abbrev pub GivesInputs : Moment → Moment → List ℕ → List (List ℕ) → Result (List (List ℕ × List ℕ)) CacheError → Type 0
+GivesInputs before after folder names (Ok pairs) =
+    (given : List (List ℕ × List ℕ)) × AreSummed before after folder names given × AreLast (map with_digits given) pairs
+GivesInputs before after folder names (Err e) =
+    IsRefused before after folder names e ⊎ ((given : List (List ℕ × List ℕ)) × AreSummed before after folder names given × (e ≡ error.NoMemory))

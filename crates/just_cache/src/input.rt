@@ -27,8 +27,8 @@ pub fn inputs<H: Host>(
     folder: Utf8Path<'_>,
     host: &mut H,
 ) -> Result<Seq<(Text, Text)>, CacheError>
-    ensures inputs { GivesInputs (H.told host.old).world (text_of folder.entry) names.now (H.told host.old).entries (H.told host.new).entries result }
-    ensures world { (H.told host.new).world ≡ (H.told host.old).world }
+    ensures inputs { GivesInputs (H.told host.old) (H.told host.new) (text_of folder.entry)
+        names.now result }
     ensures spare { H.spare host.new ≡ H.spare host.old }
 {
     let given = match sums_of(alloc, host, folder, names) {

@@ -36,7 +36,7 @@ pub use class::ClassText;
 pub use digests::digest;
 pub use entry::CacheEntry;
 pub use input::inputs;
-pub use just_host_record::{Host, HostFault};
+pub use just_host_record::{Call, Host, HostFault};
 pub use just_lang_types::{Interpreter, Modulepath};
 pub use just_path::{Miss, Utf8Path, Utf8PathBuf};
 pub use just_path_text::{NoMemory, Seq, Text, TryClone};

@@ -29,7 +29,7 @@ fn save_text<H: Host>(
     text: &str,
     host: &mut H,
 ) -> Result<(), CacheError>
-    ensures saved { Saves (H.told host.old).world (H.told host.new).world (text_of path.entry) text.now (H.told host.old).entries (H.told host.new).entries result }
+    ensures saved { Saves (H.told host.old) (H.told host.new) (text_of path.entry) text.now result }
     ensures spare { H.spare host.new ≡ H.spare host.old }
 {
     let named = path.to_path_buf(alloc)?;
@@ -47,7 +47,8 @@ impl CacheLock {
     /// ```
     #[tactic(auto, using(crate::proofs::Told::save_unasked, crate::proofs::Told::save_moved))]
     pub fn save<H: Host>(self, alloc: Global, host: &mut H) -> Result<(), CacheError>
-        ensures saved { Saves (H.told host.old).world (H.told host.new).world self.path (entry_text (record { recipe = self.recipe })) (H.told host.old).entries (H.told host.new).entries result }
+        ensures saved { Saves (H.told host.old) (H.told host.new) self.path
+            (entry_text (record { recipe = self.recipe })) result }
         ensures spare { H.spare host.new ≡ H.spare host.old }
     {
         let CacheLock { path, recipe } = self;

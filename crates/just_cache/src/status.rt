@@ -54,7 +54,8 @@ fn status_at<H: Host>(
     outputs: &[Utf8PathBuf],
     host: &mut H,
 ) -> Result<CacheStatus, CacheError>
-    ensures status { GivesStatus (H.told host.old).world (H.told host.new).world (text_of path.entry) outputs.now recipe (H.told host.old).entries (H.told host.new).entries result }
+    ensures status { GivesStatus (H.told host.old) (H.told host.new) (text_of path.entry)
+        outputs.now recipe result }
     ensures spare { H.spare host.new ≡ H.spare host.old }
 {
     let named = path.to_path_buf(alloc)?;
@@ -75,7 +76,8 @@ impl Cache {
         outputs: &[Utf8PathBuf],
         host: &mut H,
     ) -> Result<CacheStatus, CacheError>
-        ensures status { GivesStatus (H.told host.old).world (H.told host.new).world (entry_of_key (folder_of self.now) key.now) outputs.now key.now.recipe (H.told host.old).entries (H.told host.new).entries result }
+        ensures status { GivesStatus (H.told host.old) (H.told host.new)
+            (entry_of_key (folder_of self.now) key.now) outputs.now key.now.recipe result }
         // So over a told world it is the status by the entry's bytes and the outputs.
         ensures told { ShowsStatus (H.told host.old).world (entry_of_key (folder_of self.now) key.now) outputs.now key.now.recipe result }
         ensures spare { H.spare host.new ≡ H.spare host.old }

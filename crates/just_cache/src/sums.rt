@@ -41,8 +41,7 @@ fn input_error(path: Utf8PathBuf, fault: HostFault) -> CacheError
 /// The sum of the file where a path leads.
 #[tactic(auto, using(crate::proofs::Steps::sum_unasked))]
 fn sum_of<H: Host>(alloc: Global, host: &mut H, path: Utf8Path<'_>) -> Result<[u8; 32], CacheError>
-    ensures sum { GivesSum (H.told host.old).world (text_of path.entry) (H.told host.old).entries (H.told host.new).entries result }
-    ensures world { (H.told host.new).world ≡ (H.told host.old).world }
+    ensures sum { GivesSum (H.told host.old) (H.told host.new) (text_of path.entry) result }
     ensures spare { H.spare host.new ≡ H.spare host.old }
 {
     let named = path.to_path_buf(alloc)?;
@@ -61,8 +60,8 @@ fn add_sum<H: Host>(
     name: &Text,
     given: &mut Vec<Given>,
 ) -> Result<(), CacheError>
-    ensures added { AddsSum (H.told host.old).world (text_of folder.entry) name.now (H.told host.old).entries (H.told host.new).entries given.old.items given.new.items result }
-    ensures world { (H.told host.new).world ≡ (H.told host.old).world }
+    ensures added { AddsSum (H.told host.old) (H.told host.new) (text_of folder.entry) name.now
+        given.old.items given.new.items result }
     ensures spare { H.spare host.new ≡ H.spare host.old }
 {
     given.reserve(1)?;
@@ -83,8 +82,8 @@ pub(crate) fn sums_of<H: Host>(
     folder: Utf8Path<'_>,
     names: &[Text],
 ) -> Result<Vec<Given>, CacheError>
-    ensures sums { GivesSums (H.told host.old).world (text_of folder.entry) names.now (H.told host.old).entries (H.told host.new).entries result }
-    ensures world { (H.told host.new).world ≡ (H.told host.old).world }
+    ensures sums { GivesSums (H.told host.old) (H.told host.new) (text_of folder.entry) names.now
+        result }
     ensures spare { H.spare host.new ≡ H.spare host.old }
 {
     let mut given = Vec::new(alloc);

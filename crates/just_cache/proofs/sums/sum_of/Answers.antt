@@ -5,5 +5,5 @@ use Rattle.just_cache.proofs.sums.sum_of.Goals as goal
 
 pub returns-in-Err-clause-sum : goal.returns-in-Err-clause-sum
 returns-in-Err-clause-sum g c =
-    sum_refused (g.H.Host.told c.args.host.now).world (text_of c.args.path) _ _ c.in-Err.fault _ _ c.in_ok-named.ensures c.input_error.ensures
-    (record { entries = c.in-Err.ensures.entries; own = c.in-Err.ensures.own; shown = c.in-Err.ensures.told })
+    sum_refused (g.H.Host.told c.args.host.now) _ (text_of c.args.path) c.in-Err.fault _ _ c.in_ok-named.ensures c.input_error.ensures
+    (record { entries = c.in-Err.ensures.entries; own = c.in-Err.ensures.own; shown = c.in-Err.ensures.told; world = c.in-Err.ensures.world })

@@ -6,7 +6,6 @@ use Rattle.just_cache.proofs.sums.sums_of.Given as goal
 
 abbrev pub invariant-names : goal.invariant-names
 invariant-names g l = record {
-  summed : AreSummed (g.H.Host.told l.fn.host).world (text_of l.folder) (take l.name-index l.names) l.given.items (g.H.Host.told l.fn.host).entries (g.H.Host.told l.host).entries;
-  world : (g.H.Host.told l.host).world ≡ (g.H.Host.told l.fn.host).world;
+  summed : AreSummed (g.H.Host.told l.fn.host) (g.H.Host.told l.host) (text_of l.folder) (take l.name-index l.names) l.given.items;
   spare : g.H.Host.spare l.host ≡ g.H.Host.spare l.fn.host;
 }

@@ -9,4 +9,4 @@ use Rattle.just_cache.proofs.lock.CacheLock.save.Goals as goal
 pub returns-clause-saved : goal.returns-clause-saved
 returns-clause-saved g c =
     let same : c.as_str.result.now ≡ entry_text (record { recipe = c.args.self.recipe }) = first_of (cc, grind (arith, common_steps)) in
-    save_moved (g.H.Host.told c.args.host.now).world _ (text_of c.as_path.result) c.args.self.path c.as_str.result.now (entry_text (record { recipe = c.args.self.recipe })) _ _ _ c.save_text.ensures.saved c.as_path.ensures same
+    save_moved (g.H.Host.told c.args.host.now) _ (text_of c.as_path.result) c.args.self.path c.as_str.result.now (entry_text (record { recipe = c.args.self.recipe })) _ c.save_text.ensures.saved c.as_path.ensures same
