@@ -5,11 +5,10 @@ use Rattle.std.specs.Str.{is_utf8, IsUtf8}
 use Rattle.std.proofs.lemmas.Str.{is_utf8-from_IsUtf8}
 use Rattle.std.proofs.lemmas.List.{append-nil, drop_more}
 use Rattle.just_lang_types.specs.declared.settings.Interpreter.{Interpreter}
-use Rattle.just_host_record.specs.declared.entry.Entry.{Entry}
 use Rattle.just_host_record.specs.declared.entry.HostFault.{HostFault}
 use Rattle.just_host_record.specs.Record.{refused}
 use Rattle.just_host_record.specs.declared.entry.Status.{Status}
-use Rattle.just_host_record.specs.World.{World, FaultLeaves}
+use Rattle.just_host_record.specs.World.{Moment, World, FaultLeaves}
 use Rattle.just_dotenv.specs.File.{Gives, Stops}
 use Rattle.just_dotenv.specs.Meaning.{Pairs}
 use Rattle.just_env.specs.declared.env_error.EnvError.{EnvError}
@@ -98,70 +97,84 @@ module _ (environ : Pairs) (shell : Interpreter) (folder : List ℕ) (told : Opt
 
 -- ---- one child
 
-module _ (environ : Pairs) (shell : Interpreter) (folder : List ℕ) (told after : Option World) (command : List ℕ) where
+module _ (environ : Pairs) (shell : Interpreter) (folder : List ℕ) (before after : Moment) (command : List ℕ) where
   -- it was run to its end
-  module _ (c : Capture) (is : IsCaptured shell folder told command c) (now : after ≡ c.after) (old new : List Entry) (gained : new ≡ old ++ entries_of_capture c) where
-    among_one : GainsAmong (c ∷ []) old new
+  module _ (c : Capture) (is : IsCaptured shell folder before.world command c) (now : after.world ≡ c.after) (gained : after.entries ≡ before.entries ++ entries_of_capture c) where
+    among_one : GainsAmong (c ∷ []) before.entries after.entries
     among_one =
-        (entries_of_capture c ++ [], AreAmongMisses.a_child c [] [] AreAmongMisses.none, gained ∙ ap (λ l. old ++ l) (sym (append-nil (entries_of_capture c))))
+        (entries_of_capture c ++ [], AreAmongMisses.a_child c [] [] AreAmongMisses.none, gained ∙ ap (λ l. before.entries ++ l) (sym (append-nil (entries_of_capture c))))
 
-    pub ran_one : (r : Result Pairs EnvError) → Answers (GivesPairs environ folder command c.status c.output) r → IfErr r (λ e. entries_of [] e ≡ []) → Runs (RunsCommand environ shell folder told command) (BeginsCommand shell folder told command) told after old new r
+    no_entry : (e : EnvError) → entries_of [] e ≡ [] → after.entries ≡ after.entries ++ entries_of [] e
+    no_entry e unheard = sym (append-nil after.entries) ∙ ap (λ l. after.entries ++ l) (sym unheard)
+
+    pub ran_one : (r : Result Pairs EnvError) → Answers (GivesPairs environ folder command c.status c.output) r → IfErr r (λ e. entries_of [] e ≡ [])
+        → Runs (RunsCommand environ shell folder before.world command) (BeginsCommand shell folder before.world command) before after r
     ran_one (Ok pairs) gives unheard = (c ∷ [], RunsCommand.captured c (Ok pairs) is gives, among_one, now, BeginsCommand.a_child c is)
     ran_one (Err e) (inl memory) unheard =
-        (c ∷ [], inl memory, (new, [], among_one, sym (append-nil new) ∙ ap (λ l. new ++ l) (sym unheard)), error_stays c.after after e now, BeginsCommand.a_child c is)
+        (c ∷ [], inl memory, (after.entries, [], among_one, no_entry e unheard), error_stays c.after after.world e now, BeginsCommand.a_child c is)
     ran_one (Err e) (inr gives) unheard =
-        (c ∷ [], inr (RunsCommand.captured c (Err e) is gives), (new, [], among_one, sym (append-nil new) ∙ ap (λ l. new ++ l) (sym unheard)), error_stays c.after after e now, BeginsCommand.a_child c is)
+        (c ∷ [], inr (RunsCommand.captured c (Err e) is gives), (after.entries, [], among_one, no_entry e unheard), error_stays c.after after.world e now, BeginsCommand.a_child c is)
 
   -- it wasn't
-  pub ran_none : (io : HostFault) (named : List ℕ) (e : EnvError) (program : List ℕ) (old new : List Entry) → named ≡ command → e ≡ error.DotenvCommand named (output.Io io) → IsUncaptured io → FaultLeaves told after io
-      → new ≡ old ++ refused program io → Runs (RunsCommand environ shell folder told command) (BeginsCommand shell folder told command) told after old new (Err e)
-  ran_none io named e program old new at so refuses leaves gained =
+  pub ran_none : (io : HostFault) (named : List ℕ) (e : EnvError) (program : List ℕ) → named ≡ command → e ≡ error.DotenvCommand named (output.Io io) → IsUncaptured io → FaultLeaves before.world after.world io
+      → after.entries ≡ before.entries ++ refused program io → Runs (RunsCommand environ shell folder before.world command) (BeginsCommand shell folder before.world command) before after (Err e)
+  ran_none io named e program at so refuses leaves gained =
       let same : e ≡ error.DotenvCommand command (output.Io io) = so ∙ ap (λ k. error.DotenvCommand k (output.Io io)) at in
-      subst (λ x. Runs (RunsCommand environ shell folder told command) (BeginsCommand shell folder told command) told after old new (Err x)) (sym same)
-      ([], inr (RunsCommand.uncaptured io refuses), (old, program, among_none old, gained), leaves, BeginsCommand.nothing)
+      subst (λ x. Runs (RunsCommand environ shell folder before.world command) (BeginsCommand shell folder before.world command) before after (Err x)) (sym same)
+      ([], inr (RunsCommand.uncaptured io refuses), (before.entries, program, among_none before.entries, gained), leaves, BeginsCommand.nothing)
 
 -- ---- the loop over commands
 
-module _ (environ : Pairs) (shell : Interpreter) (folder : List ℕ) (told : Option World) (commands : List (List ℕ)) (old : List Entry) where
+module _ (environ : Pairs) (shell : Interpreter) (folder : List ℕ) (before : Moment) (commands : List (List ℕ)) where
   -- children were run for the commands so far, whatever those that are left come to
-  abbrev pub RanOn : Option World → List (List ℕ) → Pairs → List Entry → Type 0
-  RanOn now left done entries = (cs : List Capture) × LeadsOn environ shell folder told commands now left cs done × GainsAmong cs old entries × (now ≡ told_behind told cs)
+  abbrev pub RanOn : Moment → List (List ℕ) → Pairs → Type 0
+  RanOn now left done =
+      (cs : List Capture) × LeadsOn environ shell folder before.world commands now.world left cs done × GainsAmong cs before.entries now.entries × (now.world ≡ told_behind before.world cs)
 
-  pub on_start : (done : Pairs) → done ≡ [] → RanOn told commands done old
-  on_start done none = subst (λ p. RanOn told commands p old) (sym none) ([], on_first environ shell folder told commands, among_none old, refl)
+  pub on_start : (done : Pairs) → done ≡ [] → RanOn before commands done
+  on_start done none = subst (λ p. RanOn before commands p) (sym none) ([], on_first environ shell folder before.world commands, among_none before.entries, refl)
 
-  pub on_end : (now : Option World) (i : ℕ) (done : Pairs) (entries : List Entry) → length commands ≤ i → RanOn now (drop i commands) done entries → Runs (RunsCommands environ shell folder told commands) (BeginsCommands environ shell folder told commands) told now old entries (Ok done)
-  on_end now i done entries last (cs, leads, gained, is) =
-      (cs, on_all environ shell folder told commands now cs done (subst (λ l. LeadsOn environ shell folder told commands now l cs done) (drop_of_length-le commands last) leads), gained, is, all_begun environ shell folder told commands now (drop i commands) cs done leads)
+  pub on_end : (now : Moment) (i : ℕ) (done : Pairs) → length commands ≤ i → RanOn now (drop i commands) done
+      → Runs (RunsCommands environ shell folder before.world commands) (BeginsCommands environ shell folder before.world commands) before now (Ok done)
+  on_end now i done last (cs, leads, gained, is) = (
+    cs,
+    on_all environ shell folder before.world commands now.world cs done (subst (λ l. LeadsOn environ shell folder before.world commands now.world l cs done) (drop_of_length-le commands last) leads),
+    gained,
+    is,
+    all_begun environ shell folder before.world commands now.world (drop i commands) cs done leads,
+  )
 
-  module _ (now after : Option World) (i : ℕ) (command : List ℕ) (done : Pairs) (middle new : List Entry) (less : i < length commands) (here : command ≡ get_or commands i command)
-      (ran : RanOn now (drop i commands) done middle) where
+  module _ (now after : Moment) (i : ℕ) (command : List ℕ) (done : Pairs) (less : i < length commands) (here : command ≡ get_or commands i command) (ran : RanOn now (drop i commands) done) where
     left : drop i commands ≡ command ∷ drop (i + 1) commands
     left = drop_more commands i command less ∙ ap (λ c. c ∷ drop (i + 1) commands) (sym here)
 
-    leads : LeadsOn environ shell folder told commands now (command ∷ drop (i + 1) commands) ran.0 done
-    leads = subst (λ l. LeadsOn environ shell folder told commands now l ran.0 done) left ran.1
+    leads : LeadsOn environ shell folder before.world commands now.world (command ∷ drop (i + 1) commands) ran.0 done
+    leads = subst (λ l. LeadsOn environ shell folder before.world commands now.world l ran.0 done) left ran.1
 
-    pub on_more : (pairs all : Pairs) → Runs (RunsCommand environ shell folder now command) (BeginsCommand shell folder now command) now after middle new (Ok pairs) → all ≡ done ++ pairs → RanOn after (drop (i + 1) commands) all new
+    pub on_more : (pairs all : Pairs) → Runs (RunsCommand environ shell folder now.world command) (BeginsCommand shell folder now.world command) now after (Ok pairs) → all ≡ done ++ pairs → RanOn after (drop (i + 1) commands) all
     on_more pairs all (ds, runs, gained, is, begun) so =
-        let next : LeadsOn environ shell folder told commands (told_behind now ds) (drop (i + 1) commands) (ran.0 ++ ds) (done ++ pairs) =
-        on_next environ shell folder told commands now command (drop (i + 1) commands) ran.0 ds done pairs leads runs in (
+        let next : LeadsOn environ shell folder before.world commands (told_behind now.world ds) (drop (i + 1) commands) (ran.0 ++ ds) (done ++ pairs) =
+        on_next environ shell folder before.world commands now.world command (drop (i + 1) commands) ran.0 ds done pairs leads runs in (
           ran.0 ++ ds,
-          subst (λ w. LeadsOn environ shell folder told commands w (drop (i + 1) commands) (ran.0 ++ ds) all) (sym is) (subst (λ p. LeadsOn environ shell folder told commands (told_behind now ds) (drop (i + 1) commands) (ran.0 ++ ds) p) (sym so) next),
-          among_then ran.0 ds old middle new ran.2 gained,
-          is ∙ ap (λ w. told_behind w ds) ran.3 ∙ sym (behind_append told ran.0 ds),
+          subst (λ w. LeadsOn environ shell folder before.world commands w (drop (i + 1) commands) (ran.0 ++ ds) all) (sym is)
+              (subst (λ p. LeadsOn environ shell folder before.world commands (told_behind now.world ds) (drop (i + 1) commands) (ran.0 ++ ds) p) (sym so) next),
+          among_then ran.0 ds before.entries now.entries after.entries ran.2 gained,
+          is ∙ ap (λ w. told_behind w ds) ran.3 ∙ sym (behind_append before.world ran.0 ds),
         )
 
-    begun_here : (ds : List Capture) → BeginsCommand shell folder now command ds → BeginsCommands environ shell folder told commands (ran.0 ++ ds)
-    begun_here ds begins = on_begun environ shell folder told commands now command (drop (i + 1) commands) ran.0 ds done leads begins
+    begun_here : (ds : List Capture) → BeginsCommand shell folder now.world command ds → BeginsCommands environ shell folder before.world commands (ran.0 ++ ds)
+    begun_here ds begins = on_begun environ shell folder before.world commands now.world command (drop (i + 1) commands) ran.0 ds done leads begins
 
-    pub on_error : (e : EnvError) → Runs (RunsCommand environ shell folder now command) (BeginsCommand shell folder now command) now after middle new (Err e)
-        → Runs (RunsCommands environ shell folder told commands) (BeginsCommands environ shell folder told commands) told after old new (Err e)
+    pub on_error : (e : EnvError) → Runs (RunsCommand environ shell folder now.world command) (BeginsCommand shell folder now.world command) now after (Err e)
+        → Runs (RunsCommands environ shell folder before.world commands) (BeginsCommands environ shell folder before.world commands) before after (Err e)
     on_error e runs =
-        run_refused_behind (RunsCommands environ shell folder told commands) (BeginsCommands environ shell folder told commands) told after old new ran.0 middle now ran.2 ran.3 (RunsCommand environ shell folder now command) (BeginsCommand shell folder now command) e runs
-        (λ ds refuses. on_refused environ shell folder told commands now command (drop (i + 1) commands) ran.0 ds done e leads refuses) begun_here
+        run_refused_behind (RunsCommands environ shell folder before.world commands) (BeginsCommands environ shell folder before.world commands) before after ran.0 now ran.2 ran.3
+        (RunsCommand environ shell folder now.world command) (BeginsCommand shell folder now.world command) e runs
+        (λ ds refuses. on_refused environ shell folder before.world commands now.world command (drop (i + 1) commands) ran.0 ds done e leads refuses) begun_here
 
-    pub on_short : (pairs : Pairs) (r : Result Pairs EnvError) → Runs (RunsCommand environ shell folder now command) (BeginsCommand shell folder now command) now after middle new (Ok pairs) → IsErrAnd r (λ e. e ≡ error.NoMemory)
-        → Runs (RunsCommands environ shell folder told commands) (BeginsCommands environ shell folder told commands) told after old new r
+    pub on_short : (pairs : Pairs) (r : Result Pairs EnvError) → Runs (RunsCommand environ shell folder now.world command) (BeginsCommand shell folder now.world command) now after (Ok pairs) → IsErrAnd r (λ e. e ≡ error.NoMemory)
+        → Runs (RunsCommands environ shell folder before.world commands) (BeginsCommands environ shell folder before.world commands) before after r
     on_short pairs (Ok x) runs memory = absurd memory
-    on_short pairs (Err e) runs memory = run_short_behind (RunsCommands environ shell folder told commands) (BeginsCommands environ shell folder told commands) told after old new ran.0 middle now ran.2 ran.3 runs.0 e runs.2 runs.3 memory (begun_here runs.0 runs.4)
+    on_short pairs (Err e) runs memory =
+        run_short_behind (RunsCommands environ shell folder before.world commands) (BeginsCommands environ shell folder before.world commands) before after ran.0 now ran.2 ran.3
+        runs.0 e runs.2 runs.3 memory (begun_here runs.0 runs.4)

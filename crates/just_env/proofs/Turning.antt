@@ -2,8 +2,7 @@
 use Rattle.std.proofs.Common.{◌≡◌, ◌<◌, List, [], ◌∷◌, ◌++◌, map, reverse, Option, Bor, refl, ap, sym, ◌∙◌, subst, append_assoc}
 use Rattle.std.specs.Prelude.{Result, Ok, Err, IsErrAnd}
 use Rattle.std.proofs.lemmas.List.{append-nil, map-append, reverse-append, reverse-reverse}
-use Rattle.just_host_record.specs.declared.entry.Entry.{Entry}
-use Rattle.just_host_record.specs.World.{World}
+use Rattle.just_host_record.specs.World.{Moment, World}
 use Rattle.just_dotenv.specs.Meaning.{Pairs}
 use Rattle.just_lang_types.specs.declared.project.Justfile.{Justfile}
 use Rattle.just_lang_types.specs.declared.scope.DotenvOf.{DotenvOf}
@@ -132,44 +131,56 @@ top ps us p popped = ap seen popped ∙ seen_more us p
 
 -- ---- the loop over modules
 
-module _ (ask : DotenvAsk) (flags : RunFlags) (environ : Pairs) (told : Option World) (j : Justfile) (old : List Entry) where
+module _ (ask : DotenvAsk) (flags : RunFlags) (environ : Pairs) (before : Moment) (j : Justfile) where
   -- children were run for what is loaded, whatever the modules on the stack come to
-  abbrev pub LoadedOn : Option World → Following → List DotenvOf → List Entry → Type 0
-  LoadedOn now pending done entries = (cs : List Capture) × Leads ask flags environ told (following [] (j ∷ [])) now pending cs done × GainsAmong cs old entries × (now ≡ told_behind told cs)
+  abbrev pub LoadedOn : Moment → Following → List DotenvOf → Type 0
+  LoadedOn now pending done =
+      (cs : List Capture) × Leads ask flags environ before.world (following [] (j ∷ [])) now.world pending cs done × GainsAmong cs before.entries now.entries × (now.world ≡ told_behind before.world cs)
 
-  pub on_start : (pending : Following) (done : List DotenvOf) → pending ≡ (j, []) ∷ [] → done ≡ [] → LoadedOn told pending done old
-  on_start pending done is none = subst (λ l. LoadedOn told pending l old) (sym none) ([], leads_first ask flags environ told j pending is, among_none old, refl)
+  pub on_start : (pending : Following) (done : List DotenvOf) → pending ≡ (j, []) ∷ [] → done ≡ [] → LoadedOn before pending done
+  on_start pending done is none = subst (λ l. LoadedOn before pending l) (sym none) ([], leads_first ask flags environ before.world j pending is, among_none before.entries, refl)
 
-  pub on_end : (now : Option World) (pending : Following) (done all : List DotenvOf) (entries : List Entry) → pending ≡ [] → all ≡ done → LoadedOn now pending done entries
-      → Runs (LoadsProject told ask flags environ j) (BeginsProject told ask flags environ j) told now old entries (Ok all)
-  on_end now pending done all entries none same (cs, leads, gained, is) =
-      subst (λ l. Runs (LoadsProject told ask flags environ j) (BeginsProject told ask flags environ j) told now old entries (Ok l)) (sym same)
-      (cs, leads_all ask flags environ told now (following [] (j ∷ [])) pending cs done none leads, gained, is, all_begun ask flags environ told now (following [] (j ∷ [])) pending cs done leads)
+  pub on_end : (now : Moment) (pending : Following) (done all : List DotenvOf) → pending ≡ [] → all ≡ done → LoadedOn now pending done
+      → Runs (LoadsProject before.world ask flags environ j) (BeginsProject before.world ask flags environ j) before now (Ok all)
+  on_end now pending done all none same (cs, leads, gained, is) =
+      subst (λ l. Runs (LoadsProject before.world ask flags environ j) (BeginsProject before.world ask flags environ j) before now (Ok l)) (sym same) (
+        cs,
+        leads_all ask flags environ before.world now.world (following [] (j ∷ [])) pending cs done none leads,
+        gained,
+        is,
+        all_begun ask flags environ before.world now.world (following [] (j ∷ [])) pending cs done leads,
+      )
 
   -- a module is taken from the stack
-  module _ (now after : Option World) (ps us qs : Following) (k : Justfile) (before : Pairs) (done : List DotenvOf) (middle new : List Entry) (is : ps ≡ us ++ (k, before) ∷ []) (loaded : LoadedOn now ps done middle) where
-    pub on_more : (one : DotenvOf) (all : List DotenvOf) → Runs (LoadsNext now ask flags environ k before us qs) (BeginsOwn now ask flags environ (folder_of flags.folder k) k) now after middle new (Ok one) → all ≡ done ++ one ∷ [] → LoadedOn after qs all new
+  module _ (now after : Moment) (ps us qs : Following) (k : Justfile) (pairs : Pairs) (done : List DotenvOf) (is : ps ≡ us ++ (k, pairs) ∷ []) (loaded : LoadedOn now ps done) where
+    pub on_more : (one : DotenvOf) (all : List DotenvOf) → Runs (LoadsNext now.world ask flags environ k pairs us qs) (BeginsOwn now.world ask flags environ (folder_of flags.folder k) k) now after (Ok one) → all ≡ done ++ one ∷ []
+        → LoadedOn after qs all
     on_more one all (ds, next, gained, world, begun) so =
-        let leads : Leads ask flags environ told (following [] (j ∷ [])) (told_behind now ds) qs (loaded.0 ++ ds) (done ++ one ∷ []) =
-        leads_next ask flags environ told now (following [] (j ∷ [])) ps us qs loaded.0 ds done k before is loaded.1 one next in (
+        let leads : Leads ask flags environ before.world (following [] (j ∷ [])) (told_behind now.world ds) qs (loaded.0 ++ ds) (done ++ one ∷ []) =
+        leads_next ask flags environ before.world now.world (following [] (j ∷ [])) ps us qs loaded.0 ds done k pairs is loaded.1 one next in (
           loaded.0 ++ ds,
-          subst (λ w. Leads ask flags environ told (following [] (j ∷ [])) w qs (loaded.0 ++ ds) all) (sym world) (subst (λ l. Leads ask flags environ told (following [] (j ∷ [])) (told_behind now ds) qs (loaded.0 ++ ds) l) (sym so) leads),
-          among_then loaded.0 ds old middle new loaded.2 gained,
-          world ∙ ap (λ w. told_behind w ds) loaded.3 ∙ sym (behind_append told loaded.0 ds),
+          subst (λ w. Leads ask flags environ before.world (following [] (j ∷ [])) w qs (loaded.0 ++ ds) all) (sym world)
+              (subst (λ l. Leads ask flags environ before.world (following [] (j ∷ [])) (told_behind now.world ds) qs (loaded.0 ++ ds) l) (sym so) leads),
+          among_then loaded.0 ds before.entries now.entries after.entries loaded.2 gained,
+          world ∙ ap (λ w. told_behind w ds) loaded.3 ∙ sym (behind_append before.world loaded.0 ds),
         )
 
-    pub on_fewer : (one : DotenvOf) → Runs (LoadsNext now ask flags environ k before us qs) (BeginsOwn now ask flags environ (folder_of flags.folder k) k) now after middle new (Ok one) → weights (modules_in qs) < weights (modules_in ps)
-    on_fewer one (ds, next, gained, world, begun) = fewer_left ask flags environ told now (following [] (j ∷ [])) ps us qs loaded.0 ds done k before is loaded.1 one next
+    pub on_fewer : (one : DotenvOf) → Runs (LoadsNext now.world ask flags environ k pairs us qs) (BeginsOwn now.world ask flags environ (folder_of flags.folder k) k) now after (Ok one) → weights (modules_in qs) < weights (modules_in ps)
+    on_fewer one (ds, next, gained, world, begun) = fewer_left ask flags environ before.world now.world (following [] (j ∷ [])) ps us qs loaded.0 ds done k pairs is loaded.1 one next
 
-    begun_here : (ds : List Capture) → BeginsOwn now ask flags environ (folder_of flags.folder k) k ds → BeginsProject told ask flags environ j (loaded.0 ++ ds)
-    begun_here ds begins = leads_begun ask flags environ told now (following [] (j ∷ [])) ps us qs loaded.0 ds done k before is loaded.1 begins
+    begun_here : (ds : List Capture) → BeginsOwn now.world ask flags environ (folder_of flags.folder k) k ds → BeginsProject before.world ask flags environ j (loaded.0 ++ ds)
+    begun_here ds begins = leads_begun ask flags environ before.world now.world (following [] (j ∷ [])) ps us qs loaded.0 ds done k pairs is loaded.1 begins
 
-    pub on_error : (e : EnvError) → Runs (LoadsNext now ask flags environ k before us qs) (BeginsOwn now ask flags environ (folder_of flags.folder k) k) now after middle new (Err e) → Runs (LoadsProject told ask flags environ j) (BeginsProject told ask flags environ j) told after old new (Err e)
+    pub on_error : (e : EnvError) → Runs (LoadsNext now.world ask flags environ k pairs us qs) (BeginsOwn now.world ask flags environ (folder_of flags.folder k) k) now after (Err e)
+        → Runs (LoadsProject before.world ask flags environ j) (BeginsProject before.world ask flags environ j) before after (Err e)
     on_error e runs =
-        run_refused_behind (LoadsProject told ask flags environ j) (BeginsProject told ask flags environ j) told after old new loaded.0 middle now loaded.2 loaded.3 (LoadsNext now ask flags environ k before us qs) (BeginsOwn now ask flags environ (folder_of flags.folder k) k) e runs
-        (λ ds refuses. leads_refused ask flags environ told now (following [] (j ∷ [])) ps us qs loaded.0 ds done k before is loaded.1 e refuses) begun_here
+        run_refused_behind (LoadsProject before.world ask flags environ j) (BeginsProject before.world ask flags environ j) before after loaded.0 now loaded.2 loaded.3
+        (LoadsNext now.world ask flags environ k pairs us qs) (BeginsOwn now.world ask flags environ (folder_of flags.folder k) k) e runs
+        (λ ds refuses. leads_refused ask flags environ before.world now.world (following [] (j ∷ [])) ps us qs loaded.0 ds done k pairs is loaded.1 e refuses) begun_here
 
-    pub on_short : (one : DotenvOf) (r : Result (List DotenvOf) EnvError) → Runs (LoadsNext now ask flags environ k before us qs) (BeginsOwn now ask flags environ (folder_of flags.folder k) k) now after middle new (Ok one) → IsErrAnd r (λ e. e ≡ error.NoMemory)
-        → Runs (LoadsProject told ask flags environ j) (BeginsProject told ask flags environ j) told after old new r
+    pub on_short : (one : DotenvOf) (r : Result (List DotenvOf) EnvError) → Runs (LoadsNext now.world ask flags environ k pairs us qs) (BeginsOwn now.world ask flags environ (folder_of flags.folder k) k) now after (Ok one) → IsErrAnd r (λ e. e ≡ error.NoMemory)
+        → Runs (LoadsProject before.world ask flags environ j) (BeginsProject before.world ask flags environ j) before after r
     on_short one (Ok x) runs memory = absurd memory
-    on_short one (Err e) runs memory = run_short_behind (LoadsProject told ask flags environ j) (BeginsProject told ask flags environ j) told after old new loaded.0 middle now loaded.2 loaded.3 runs.0 e runs.2 runs.3 memory (begun_here runs.0 runs.4)
+    on_short one (Err e) runs memory =
+        run_short_behind (LoadsProject before.world ask flags environ j) (BeginsProject before.world ask flags environ j) before after loaded.0 now loaded.2 loaded.3
+        runs.0 e runs.2 runs.3 memory (begun_here runs.0 runs.4)

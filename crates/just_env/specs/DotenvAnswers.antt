@@ -2,7 +2,7 @@
 use Rattle.std.specs.Prelude.{ℕ, ◌≡◌, ◌⊎◌, List, [], ◌++◌, Option, Result, Ok, Err}
 use Rattle.just_host_record.specs.declared.entry.Entry.{Entry}
 use Rattle.just_host_record.specs.Record.{refused}
-use Rattle.just_host_record.specs.World.{World, FaultLeaves}
+use Rattle.just_host_record.specs.World.{Moment, World, FaultLeaves}
 use Rattle.just_env.specs.Answers.{GainsMisses}
 use Rattle.just_env.specs.declared.env_error.EnvError.{EnvError}
 use Rattle.just_env.specs.declared.env_error.EnvError.TheVariants as error
@@ -65,5 +65,6 @@ Leaves old cs new (Err e) = ErrorLeaves (told_behind old cs) new e
 
 -- An answer, with some children that were run to their end for it, and were begun so, whatever the answer is; and what it leaves in the record and of the
 -- world.
-abbrev pub Runs : {A : Type 0} → (List Capture → Result A EnvError → Type 0) → (List Capture → Type 0) → Option World → Option World → List Entry → List Entry → Result A EnvError → Type 0
-Runs P begins told after old new r = (cs : List Capture) × Answers (P cs) r × GainsAll cs old new r × Leaves told cs after r × begins cs
+abbrev pub Runs : {A : Type 0} → (List Capture → Result A EnvError → Type 0) → (List Capture → Type 0) → Moment → Moment → Result A EnvError → Type 0
+Runs gives begins before after r =
+    (cs : List Capture) × Answers (gives cs) r × GainsAll cs before.entries after.entries r × Leaves before.world cs after.world r × begins cs

@@ -126,7 +126,11 @@ fn run_command<H: Host>(
     folder: Utf8Path<'_>,
     command: &Text,
 ) -> Result<Pairs, EnvError>
-    ensures ran { Runs (RunsCommand environ.now.pairs shell.now (text_of folder.entry) (H.told host.old).world command.now) (BeginsCommand shell.now (text_of folder.entry) (H.told host.old).world command.now) (H.told host.old).world (H.told host.new).world (H.told host.old).entries (H.told host.new).entries result }
+    ensures ran { Runs
+        (RunsCommand environ.now.pairs shell.now (text_of folder.entry)
+        (H.told host.old).world command.now)
+        (BeginsCommand shell.now (text_of folder.entry) (H.told host.old).world command.now)
+        (H.told host.old) (H.told host.new) result }
     ensures program { EndsBy (λ p. p ≡ shell.now.command) (H.told host.new).entries result }
 {
     let spec = command_spec(alloc, shell, folder, command)?;
@@ -161,7 +165,12 @@ pub(crate) fn run_commands<H: Host>(
     folder: Utf8Path<'_>,
     commands: &[Text],
 ) -> Result<Pairs, EnvError>
-    ensures ran { Runs (RunsCommands environ.now.pairs shell.now (text_of folder.entry) (H.told host.old).world commands.now) (BeginsCommands environ.now.pairs shell.now (text_of folder.entry) (H.told host.old).world commands.now) (H.told host.old).world (H.told host.new).world (H.told host.old).entries (H.told host.new).entries result }
+    ensures ran { Runs
+        (RunsCommands environ.now.pairs shell.now (text_of folder.entry)
+        (H.told host.old).world commands.now)
+        (BeginsCommands environ.now.pairs shell.now (text_of folder.entry)
+        (H.told host.old).world commands.now)
+        (H.told host.old) (H.told host.new) result }
     ensures program { EndsBy (λ p. p ≡ shell.now.command) (H.told host.new).entries result }
 {
     let mut pairs = Seq::new(alloc);

@@ -80,7 +80,12 @@ fn load_printed<H: Host>(
     settings: &Settings,
     commands: &Seq<Text>,
 ) -> Result<Pairs, EnvError>
-    ensures loaded { Runs (PrintedPairs (H.told host.old).world flags.now environ.now.pairs (text_of folder.entry) settings.now commands.now) (BeginsCommands environ.now.pairs (shell flags.now settings.now) (text_of folder.entry) (H.told host.old).world commands.now) (H.told host.old).world (H.told host.new).world (H.told host.old).entries (H.told host.new).entries result }
+    ensures loaded { Runs
+        (PrintedPairs (H.told host.old).world flags.now environ.now.pairs (text_of folder.entry)
+        settings.now commands.now)
+        (BeginsCommands environ.now.pairs (shell flags.now settings.now) (text_of folder.entry)
+        (H.told host.old).world commands.now)
+        (H.told host.old) (H.told host.new) result }
     ensures program { EndsBy (λ p. p ≡ (shell flags.now settings.now).command)
         (H.told host.new).entries result }
 {
@@ -108,7 +113,12 @@ pub fn load_dotenv<H: Host>(
 ) -> Result<Pairs, EnvError>
     // The pairs are those that the module's settings and the words ask for, or the first refusal. The record gains the entries of the children that
     // were run to their end for them, misses among these, and the entry of the refused call; only these children may touch the files.
-    ensures loaded { Runs (LoadsOwn (H.told host.old).world ask.now flags.now environ.now.pairs (text_of folder.entry) justfile.now) (BeginsOwn (H.told host.old).world ask.now flags.now environ.now.pairs (text_of folder.entry) justfile.now) (H.told host.old).world (H.told host.new).world (H.told host.old).entries (H.told host.new).entries result }
+    ensures loaded { Runs
+        (LoadsOwn (H.told host.old).world ask.now flags.now environ.now.pairs (text_of folder.entry)
+        justfile.now)
+        (BeginsOwn (H.told host.old).world ask.now flags.now environ.now.pairs
+        (text_of folder.entry) justfile.now)
+        (H.told host.old) (H.told host.new) result }
     // The entry of a refused child names the module's shell.
     ensures program { EndsBy (λ p. p ≡ shell_program flags.now justfile.now)
         (H.told host.new).entries result }

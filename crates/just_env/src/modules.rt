@@ -24,7 +24,12 @@ fn load_own<H: Host>(
     environ: &Environ,
     justfile: &Justfile,
 ) -> Result<Pairs, EnvError>
-    ensures loaded { Runs (LoadsOwn (H.told host.old).world ask.now flags.now environ.now.pairs (folder_of flags.now.folder justfile.now) justfile.now) (BeginsOwn (H.told host.old).world ask.now flags.now environ.now.pairs (folder_of flags.now.folder justfile.now) justfile.now) (H.told host.old).world (H.told host.new).world (H.told host.old).entries (H.told host.new).entries result }
+    ensures loaded { Runs
+        (LoadsOwn (H.told host.old).world ask.now flags.now environ.now.pairs
+        (folder_of flags.now.folder justfile.now) justfile.now)
+        (BeginsOwn (H.told host.old).world ask.now flags.now environ.now.pairs
+        (folder_of flags.now.folder justfile.now) justfile.now)
+        (H.told host.old) (H.told host.new) result }
     ensures program { EndsBy (λ p. p ≡ shell_program flags.now justfile.now)
         (H.told host.new).entries result }
 {
@@ -66,7 +71,12 @@ fn load_next<'j, H: Host>(
     next: Pending<'j>,
     pending: &mut Vec<Pending<'j>>,
 ) -> Result<DotenvOf, EnvError>
-    ensures loaded { Runs (LoadsNext (H.told host.old).world ask.now flags.now environ.now.pairs next.entry.0.now next.entry.1 (seen pending.old.items) (seen pending.new.items)) (BeginsOwn (H.told host.old).world ask.now flags.now environ.now.pairs (folder_of flags.now.folder next.entry.0.now) next.entry.0.now) (H.told host.old).world (H.told host.new).world (H.told host.old).entries (H.told host.new).entries result }
+    ensures loaded { Runs
+        (LoadsNext (H.told host.old).world ask.now flags.now environ.now.pairs next.entry.0.now
+        next.entry.1 (seen pending.old.items) (seen pending.new.items))
+        (BeginsOwn (H.told host.old).world ask.now flags.now environ.now.pairs
+        (folder_of flags.now.folder next.entry.0.now) next.entry.0.now)
+        (H.told host.old) (H.told host.new) result }
     ensures program { EndsBy (λ p. p ≡ shell_program flags.now next.entry.0.now)
         (H.told host.new).entries result }
 {
@@ -96,7 +106,10 @@ pub fn load_modules<H: Host>(
 ) -> Result<Seq<DotenvOf>, EnvError>
     // The pairs are those that the settings of the modules and the words ask for, or the first refusal. The record gains the entries of the children
     // that were run to their end for them, misses among these, and the entry of the refused call; only these children may touch the files.
-    ensures loaded { Runs (LoadsProject (H.told host.old).world ask.now flags.now environ.now.pairs justfile.now) (BeginsProject (H.told host.old).world ask.now flags.now environ.now.pairs justfile.now) (H.told host.old).world (H.told host.new).world (H.told host.old).entries (H.told host.new).entries result }
+    ensures loaded { Runs
+        (LoadsProject (H.told host.old).world ask.now flags.now environ.now.pairs justfile.now)
+        (BeginsProject (H.told host.old).world ask.now flags.now environ.now.pairs justfile.now)
+        (H.told host.old) (H.told host.new) result }
     // The entry of a refused child names the shell of one of the modules.
     ensures program { EndsBy (IsShellOf flags.now justfile.now) (H.told host.new).entries result }
 {

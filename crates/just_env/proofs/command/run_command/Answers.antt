@@ -16,13 +16,11 @@ use Rattle.just_env.proofs.command.run_command.Goals as goal
 
 pub returns-in_err-spec-clause-ran : goal.returns-in_err-spec-clause-ran
 returns-in_err-spec-clause-ran g c =
-    run_memory (RunsCommand c.args.environ.now.pairs c.args.shell.now (text_of c.args.folder) (g.H.Host.told c.args.host.now).world c.args.command.now) (BeginsCommand c.args.shell.now (text_of c.args.folder) (g.H.Host.told c.args.host.now).world c.args.command.now) (g.H.Host.told c.args.host.now).world (g.H.Host.told c.args.host.now).world
-    (g.H.Host.told c.args.host.now).entries (g.H.Host.told c.args.host.now).entries _ refl refl (search rules) BeginsCommand.nothing
+    run_memory (RunsCommand c.args.environ.now.pairs c.args.shell.now (text_of c.args.folder) (g.H.Host.told c.args.host.now).world c.args.command.now) (BeginsCommand c.args.shell.now (text_of c.args.folder) (g.H.Host.told c.args.host.now).world c.args.command.now) (g.H.Host.told c.args.host.now) (g.H.Host.told c.args.host.now) _ refl refl (search rules) BeginsCommand.nothing
 
 pub returns-in_err-named-clause-ran : goal.returns-in_err-named-clause-ran
 returns-in_err-named-clause-ran g c =
-    run_memory (RunsCommand c.args.environ.now.pairs c.args.shell.now (text_of c.args.folder) (g.H.Host.told c.args.host.now).world c.args.command.now) (BeginsCommand c.args.shell.now (text_of c.args.folder) (g.H.Host.told c.args.host.now).world c.args.command.now) (g.H.Host.told c.args.host.now).world (g.H.Host.told c.args.host.now).world
-    (g.H.Host.told c.args.host.now).entries (g.H.Host.told c.args.host.now).entries _ refl refl (search rules) BeginsCommand.nothing
+    run_memory (RunsCommand c.args.environ.now.pairs c.args.shell.now (text_of c.args.folder) (g.H.Host.told c.args.host.now).world c.args.command.now) (BeginsCommand c.args.shell.now (text_of c.args.folder) (g.H.Host.told c.args.host.now).world c.args.command.now) (g.H.Host.told c.args.host.now) (g.H.Host.told c.args.host.now) _ refl refl (search rules) BeginsCommand.nothing
 
 pub returns-in-Ok-clause-ran : goal.returns-in-Ok-clause-ran
 returns-in-Ok-clause-ran g c =
@@ -32,29 +30,27 @@ returns-in-Ok-clause-ran g c =
     let alone : LeftAlone (g.H.Host.told c.args.host.now).world (g.H.Host.told c.capture.new.self).world c.in_ok-spec.spec = search rules in
     let captured : IsCaptured c.args.shell.now (text_of c.args.folder) (g.H.Host.told c.args.host.now).world c.args.command.now k = record { spec = is; unfed = refl; unsignalled = refl; left = (touched, alone) } in
     let gained : (g.H.Host.told c.capture.new.self).entries ≡ (g.H.Host.told c.args.host.now).entries ++ entries_of_capture k = search rules in
-    ran_one c.args.environ.now.pairs c.args.shell.now (text_of c.args.folder) (g.H.Host.told c.args.host.now).world (g.H.Host.told c.capture.new.self).world c.args.command.now k captured refl (g.H.Host.told c.args.host.now).entries
-    (g.H.Host.told c.capture.new.self).entries gained c.pairs_of_output.result (search rules) c.pairs_of_output.ensures.unheard
+    ran_one c.args.environ.now.pairs c.args.shell.now (text_of c.args.folder) (g.H.Host.told c.args.host.now) (g.H.Host.told c.capture.new.self) c.args.command.now k captured refl gained c.pairs_of_output.result (search rules) c.pairs_of_output.ensures.unheard
 
 pub returns-in-Err-NoMemory-clause-ran : goal.returns-in-Err-NoMemory-clause-ran
 returns-in-Err-NoMemory-clause-ran g c =
     let world : (g.H.Host.told c.capture.new.self).world ≡ (g.H.Host.told c.args.host.now).world = search rules in
     let entries : (g.H.Host.told c.capture.new.self).entries ≡ (g.H.Host.told c.args.host.now).entries ++ [] = search rules in
-    run_memory (RunsCommand c.args.environ.now.pairs c.args.shell.now (text_of c.args.folder) (g.H.Host.told c.args.host.now).world c.args.command.now) (BeginsCommand c.args.shell.now (text_of c.args.folder) (g.H.Host.told c.args.host.now).world c.args.command.now) (g.H.Host.told c.args.host.now).world (g.H.Host.told c.capture.new.self).world
-    (g.H.Host.told c.args.host.now).entries (g.H.Host.told c.capture.new.self).entries (Err error.NoMemory) world (entries ∙ append-nil (g.H.Host.told c.args.host.now).entries) refl BeginsCommand.nothing
+    run_memory (RunsCommand c.args.environ.now.pairs c.args.shell.now (text_of c.args.folder) (g.H.Host.told c.args.host.now).world c.args.command.now) (BeginsCommand c.args.shell.now (text_of c.args.folder) (g.H.Host.told c.args.host.now).world c.args.command.now) (g.H.Host.told c.args.host.now) (g.H.Host.told c.capture.new.self) (Err error.NoMemory) world (entries ∙ append-nil (g.H.Host.told c.args.host.now).entries) refl BeginsCommand.nothing
 
 pub returns-in-Err-Failed-clause-ran : goal.returns-in-Err-Failed-clause-ran
 returns-in-Err-Failed-clause-ran g c =
     let leaves : FaultLeaves (g.H.Host.told c.args.host.now).world (g.H.Host.told c.capture.new.self).world (fault.Failed c.in-Err-Failed.call) = search rules in
     let entries : (g.H.Host.told c.capture.new.self).entries ≡ (g.H.Host.told c.args.host.now).entries ++ refused c.in_ok-spec.spec.program (fault.Failed c.in-Err-Failed.call) = search rules in
-    ran_none c.args.environ.now.pairs c.args.shell.now (text_of c.args.folder) (g.H.Host.told c.args.host.now).world (g.H.Host.told c.capture.new.self).world c.args.command.now (fault.Failed c.in-Err-Failed.call) c.in_ok-named.named _
-    c.in_ok-spec.spec.program (g.H.Host.told c.args.host.now).entries (g.H.Host.told c.capture.new.self).entries (search rules) (search rules) (search rules) leaves entries
+    ran_none c.args.environ.now.pairs c.args.shell.now (text_of c.args.folder) (g.H.Host.told c.args.host.now) (g.H.Host.told c.capture.new.self) c.args.command.now (fault.Failed c.in-Err-Failed.call) c.in_ok-named.named _
+    c.in_ok-spec.spec.program (search rules) (search rules) (search rules) leaves entries
 
 pub returns-clause-ran : goal.returns-clause-ran
 returns-clause-ran g c =
     let leaves : FaultLeaves (g.H.Host.told c.args.host.now).world (g.H.Host.told c.capture.new.self).world (fault.Missed c.in-Err-Missed.miss) = search rules in
     let entries : (g.H.Host.told c.capture.new.self).entries ≡ (g.H.Host.told c.args.host.now).entries ++ refused c.in_ok-spec.spec.program (fault.Missed c.in-Err-Missed.miss) = search rules in
-    ran_none c.args.environ.now.pairs c.args.shell.now (text_of c.args.folder) (g.H.Host.told c.args.host.now).world (g.H.Host.told c.capture.new.self).world c.args.command.now (fault.Missed c.in-Err-Missed.miss) c.in_ok-named.named _
-    c.in_ok-spec.spec.program (g.H.Host.told c.args.host.now).entries (g.H.Host.told c.capture.new.self).entries (search rules) (search rules) (search rules) leaves entries
+    ran_none c.args.environ.now.pairs c.args.shell.now (text_of c.args.folder) (g.H.Host.told c.args.host.now) (g.H.Host.told c.capture.new.self) c.args.command.now (fault.Missed c.in-Err-Missed.miss) c.in_ok-named.named _
+    c.in_ok-spec.spec.program (search rules) (search rules) (search rules) leaves entries
 
 pub returns-in_err-spec-clause-program : goal.returns-in_err-spec-clause-program
 returns-in_err-spec-clause-program g c = ends_short (λ p. p ≡ c.args.shell.now.command) c.args.shell.now.command refl _ _ (search rules)

@@ -7,33 +7,32 @@ use Rattle.just_env.proofs.command.run_commands.Goals as goal
 
 pub commands-init : goal.commands-init
 commands-init g c = record {
-  ran = on_start c.args.environ.now.pairs c.args.shell.now (text_of c.args.folder) (g.H.Host.told c.args.host.now).world c.args.commands.now (g.H.Host.told c.args.host.now).entries _ (search rules);
+  ran = on_start c.args.environ.now.pairs c.args.shell.now (text_of c.args.folder) (g.H.Host.told c.args.host.now) c.args.commands.now _ (search rules);
 }
 
 pub commands-preserved : goal.commands-preserved
 commands-preserved g c = record {
-  ran = on_more c.args.environ.now.pairs c.args.shell.now (text_of c.args.folder) (g.H.Host.told c.args.host.now).world c.args.commands.now (g.H.Host.told c.args.host.now).entries (g.H.Host.told c.commands.host).world (g.H.Host.told c.run_command.new.host).world
-      c.commands.command-index c.command-item.result c.commands.pairs (g.H.Host.told c.commands.host).entries (g.H.Host.told c.run_command.new.host).entries c.commands-test.true c.command-item.is c.commands.invariant.ran
+  ran = on_more c.args.environ.now.pairs c.args.shell.now (text_of c.args.folder) (g.H.Host.told c.args.host.now) c.args.commands.now (g.H.Host.told c.commands.host) (g.H.Host.told c.run_command.new.host)
+      c.commands.command-index c.command-item.result c.commands.pairs c.commands-test.true c.command-item.is c.commands.invariant.ran
       c.in-Ok.more c.in_ok-pairs-in-Ok.pairs c.in-Ok.ensures.ran c.in_ok-pairs-in-Ok.ensures;
 }
 
 pub returns-in_err-pairs-in-Ok-clause-ran : goal.returns-in_err-pairs-in-Ok-clause-ran
 returns-in_err-pairs-in-Ok-clause-ran g c =
-    on_short c.args.environ.now.pairs c.args.shell.now (text_of c.args.folder) (g.H.Host.told c.args.host.now).world c.args.commands.now (g.H.Host.told c.args.host.now).entries (g.H.Host.told c.commands.host).world (g.H.Host.told c.run_command.new.host).world
-    c.commands.command-index c.command-item.result c.commands.pairs (g.H.Host.told c.commands.host).entries (g.H.Host.told c.run_command.new.host).entries c.commands-test.true c.command-item.is c.commands.invariant.ran
+    on_short c.args.environ.now.pairs c.args.shell.now (text_of c.args.folder) (g.H.Host.told c.args.host.now) c.args.commands.now (g.H.Host.told c.commands.host) (g.H.Host.told c.run_command.new.host)
+    c.commands.command-index c.command-item.result c.commands.pairs c.commands-test.true c.command-item.is c.commands.invariant.ran
     c.in-Ok.more _ c.in-Ok.ensures.ran (search rules)
 
 pub returns-in-Err-clause-ran : goal.returns-in-Err-clause-ran
 returns-in-Err-clause-ran g c =
-    on_error c.args.environ.now.pairs c.args.shell.now (text_of c.args.folder) (g.H.Host.told c.args.host.now).world c.args.commands.now (g.H.Host.told c.args.host.now).entries (g.H.Host.told c.commands.host).world (g.H.Host.told c.run_command.new.host).world
-    c.commands.command-index c.command-item.result c.commands.pairs (g.H.Host.told c.commands.host).entries (g.H.Host.told c.run_command.new.host).entries c.commands-test.true c.command-item.is c.commands.invariant.ran
+    on_error c.args.environ.now.pairs c.args.shell.now (text_of c.args.folder) (g.H.Host.told c.args.host.now) c.args.commands.now (g.H.Host.told c.commands.host) (g.H.Host.told c.run_command.new.host)
+    c.commands.command-index c.command-item.result c.commands.pairs c.commands-test.true c.command-item.is c.commands.invariant.ran
     c.in-Err.error c.in-Err.ensures.ran
 
 pub returns-clause-ran : goal.returns-clause-ran
 returns-clause-ran g c =
     let last : length c.args.commands.now ≤ c.commands.command-index = let h = c.commands-test.false in omega (arith, h) in
-    on_end c.args.environ.now.pairs c.args.shell.now (text_of c.args.folder) (g.H.Host.told c.args.host.now).world c.args.commands.now (g.H.Host.told c.args.host.now).entries (g.H.Host.told c.commands.host).world c.commands.command-index c.commands.pairs
-    (g.H.Host.told c.commands.host).entries last c.commands.invariant.ran
+    on_end c.args.environ.now.pairs c.args.shell.now (text_of c.args.folder) (g.H.Host.told c.args.host.now) c.args.commands.now (g.H.Host.told c.commands.host) c.commands.command-index c.commands.pairs last c.commands.invariant.ran
 
 pub returns-in_err-pairs-in-Ok-clause-program : goal.returns-in_err-pairs-in-Ok-clause-program
 returns-in_err-pairs-in-Ok-clause-program g c = ends_short (λ p. p ≡ c.args.shell.now.command) c.args.shell.now.command refl _ _ (search rules)

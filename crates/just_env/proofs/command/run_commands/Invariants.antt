@@ -6,5 +6,5 @@ use Rattle.just_env.proofs.command.run_commands.Given as goal
 
 abbrev pub invariant-commands : goal.invariant-commands
 invariant-commands g l = record {
-  ran : RanOn l.environ.pairs l.shell (text_of l.folder) (g.H.Host.told l.fn.host).world l.commands (g.H.Host.told l.fn.host).entries (g.H.Host.told l.host).world (drop l.command-index l.commands) l.pairs (g.H.Host.told l.host).entries;
+  ran : RanOn l.environ.pairs l.shell (text_of l.folder) (g.H.Host.told l.fn.host) l.commands (g.H.Host.told l.host) (drop l.command-index l.commands) l.pairs;
 }

@@ -20,22 +20,19 @@ use Rattle.just_env.proofs.module.load_dotenv.Goals as goal
 
 pub returns-in_err-commands-clause-loaded : goal.returns-in_err-commands-clause-loaded
 returns-in_err-commands-clause-loaded g c =
-    run_memory (LoadsOwn (g.H.Host.told c.args.host.now).world c.args.ask.now c.args.flags.now c.args.environ.now.pairs (text_of c.args.folder) c.args.justfile.now) (BeginsOwn (g.H.Host.told c.args.host.now).world c.args.ask.now c.args.flags.now c.args.environ.now.pairs (text_of c.args.folder) c.args.justfile.now) (g.H.Host.told c.args.host.now).world (g.H.Host.told c.args.host.now).world
-    (g.H.Host.told c.args.host.now).entries (g.H.Host.told c.args.host.now).entries _ refl refl (search rules) (inl refl)
+    run_memory (LoadsOwn (g.H.Host.told c.args.host.now).world c.args.ask.now c.args.flags.now c.args.environ.now.pairs (text_of c.args.folder) c.args.justfile.now) (BeginsOwn (g.H.Host.told c.args.host.now).world c.args.ask.now c.args.flags.now c.args.environ.now.pairs (text_of c.args.folder) c.args.justfile.now) (g.H.Host.told c.args.host.now) (g.H.Host.told c.args.host.now) _ refl refl (search rules) (inl refl)
 
 pub returns-in-Ok-Nothing-clause-loaded : goal.returns-in-Ok-Nothing-clause-loaded
 returns-in-Ok-Nothing-clause-loaded g c =
     let is : ◌≡◌ {A = Result Sources EnvError} (Ok sources.Nothing) (sources_of c.args.ask.now c.args.justfile.now) = search rules in
-    run_still (LoadsOwn (g.H.Host.told c.args.host.now).world c.args.ask.now c.args.flags.now c.args.environ.now.pairs (text_of c.args.folder) c.args.justfile.now) (BeginsOwn (g.H.Host.told c.args.host.now).world c.args.ask.now c.args.flags.now c.args.environ.now.pairs (text_of c.args.folder) c.args.justfile.now) (g.H.Host.told c.args.host.now).world (g.H.Host.told c.args.host.now).world
-    (g.H.Host.told c.args.host.now).entries (g.H.Host.told c.args.host.now).entries (Ok c.new.result)
+    run_still (LoadsOwn (g.H.Host.told c.args.host.now).world c.args.ask.now c.args.flags.now c.args.environ.now.pairs (text_of c.args.folder) c.args.justfile.now) (BeginsOwn (g.H.Host.told c.args.host.now).world c.args.ask.now c.args.flags.now c.args.environ.now.pairs (text_of c.args.folder) c.args.justfile.now) (g.H.Host.told c.args.host.now) (g.H.Host.told c.args.host.now) (Ok c.new.result)
     (own_nothing (g.H.Host.told c.args.host.now).world c.args.ask.now c.args.flags.now c.args.environ.now.pairs (text_of c.args.folder) c.args.justfile.now c.new.result is (search rules)) (gains_none (g.H.Host.told c.args.host.now).entries) refl (inl refl)
 
 pub returns-in-Ok-Commands-clause-loaded : goal.returns-in-Ok-Commands-clause-loaded
 returns-in-Ok-Commands-clause-loaded g c =
     let is : ◌≡◌ {A = Result Sources EnvError} (Ok sources.Commands) (sources_of c.args.ask.now c.args.justfile.now) = search rules in
     let asked : c.in_ok-commands.commands ≡ commands_of c.args.ask.now c.args.justfile.now = search rules in
-    run_map (LoadsOwn (g.H.Host.told c.args.host.now).world c.args.ask.now c.args.flags.now c.args.environ.now.pairs (text_of c.args.folder) c.args.justfile.now) (BeginsOwn (g.H.Host.told c.args.host.now).world c.args.ask.now c.args.flags.now c.args.environ.now.pairs (text_of c.args.folder) c.args.justfile.now) (g.H.Host.told c.args.host.now).world (g.H.Host.told c.load_printed.new.host).world
-    (g.H.Host.told c.args.host.now).entries (g.H.Host.told c.load_printed.new.host).entries
+    run_map (LoadsOwn (g.H.Host.told c.args.host.now).world c.args.ask.now c.args.flags.now c.args.environ.now.pairs (text_of c.args.folder) c.args.justfile.now) (BeginsOwn (g.H.Host.told c.args.host.now).world c.args.ask.now c.args.flags.now c.args.environ.now.pairs (text_of c.args.folder) c.args.justfile.now) (g.H.Host.told c.args.host.now) (g.H.Host.told c.load_printed.new.host)
     (PrintedPairs (g.H.Host.told c.args.host.now).world c.args.flags.now c.args.environ.now.pairs (text_of c.args.folder) (settings_of c.args.justfile.now) c.in_ok-commands.commands)
     (BeginsCommands c.args.environ.now.pairs (shell c.args.flags.now (settings_of c.args.justfile.now)) (text_of c.args.folder) (g.H.Host.told c.args.host.now).world c.in_ok-commands.commands) c.load_printed.result
     (own_printed (g.H.Host.told c.args.host.now).world c.args.ask.now c.args.flags.now c.args.environ.now.pairs (text_of c.args.folder) c.args.justfile.now (settings_of c.args.justfile.now) c.in_ok-commands.commands is (search rules) asked)
@@ -45,16 +42,14 @@ returns-in-Ok-Commands-clause-loaded g c =
 pub returns-in-Ok-Files-clause-loaded : goal.returns-in-Ok-Files-clause-loaded
 returns-in-Ok-Files-clause-loaded g c =
     let is : ◌≡◌ {A = Result Sources EnvError} (Ok sources.Files) (sources_of c.args.ask.now c.args.justfile.now) = search rules in
-    run_still (LoadsOwn (g.H.Host.told c.args.host.now).world c.args.ask.now c.args.flags.now c.args.environ.now.pairs (text_of c.args.folder) c.args.justfile.now) (BeginsOwn (g.H.Host.told c.args.host.now).world c.args.ask.now c.args.flags.now c.args.environ.now.pairs (text_of c.args.folder) c.args.justfile.now) (g.H.Host.told c.args.host.now).world (g.H.Host.told c.load_found.new.host).world
-    (g.H.Host.told c.args.host.now).entries (g.H.Host.told c.load_found.new.host).entries c.load_found.result
+    run_still (LoadsOwn (g.H.Host.told c.args.host.now).world c.args.ask.now c.args.flags.now c.args.environ.now.pairs (text_of c.args.folder) c.args.justfile.now) (BeginsOwn (g.H.Host.told c.args.host.now).world c.args.ask.now c.args.flags.now c.args.environ.now.pairs (text_of c.args.folder) c.args.justfile.now) (g.H.Host.told c.args.host.now) (g.H.Host.told c.load_found.new.host) c.load_found.result
     (own_found (g.H.Host.told c.args.host.now).world c.args.ask.now c.args.flags.now c.args.environ.now.pairs (text_of c.args.folder) c.args.justfile.now (settings_of c.args.justfile.now) c.load_found.result is (search rules) c.load_found.ensures.loaded)
     c.load_found.ensures.gains c.load_found.ensures.world (inl refl)
 
 pub returns-clause-loaded : goal.returns-clause-loaded
 returns-clause-loaded g c =
     let is : ◌≡◌ {A = Result Sources EnvError} (Err c.in-Err.error) (sources_of c.args.ask.now c.args.justfile.now) = search rules in
-    run_still (LoadsOwn (g.H.Host.told c.args.host.now).world c.args.ask.now c.args.flags.now c.args.environ.now.pairs (text_of c.args.folder) c.args.justfile.now) (BeginsOwn (g.H.Host.told c.args.host.now).world c.args.ask.now c.args.flags.now c.args.environ.now.pairs (text_of c.args.folder) c.args.justfile.now) (g.H.Host.told c.args.host.now).world (g.H.Host.told c.args.host.now).world
-    (g.H.Host.told c.args.host.now).entries (g.H.Host.told c.args.host.now).entries (Err c.in-Err.error)
+    run_still (LoadsOwn (g.H.Host.told c.args.host.now).world c.args.ask.now c.args.flags.now c.args.environ.now.pairs (text_of c.args.folder) c.args.justfile.now) (BeginsOwn (g.H.Host.told c.args.host.now).world c.args.ask.now c.args.flags.now c.args.environ.now.pairs (text_of c.args.folder) c.args.justfile.now) (g.H.Host.told c.args.host.now) (g.H.Host.told c.args.host.now) (Err c.in-Err.error)
     (inr (own_refused (g.H.Host.told c.args.host.now).world c.args.ask.now c.args.flags.now c.args.environ.now.pairs (text_of c.args.folder) c.args.justfile.now c.in-Err.error is))
     (gains_error (g.H.Host.told c.args.host.now).entries (g.H.Host.told c.args.host.now).entries c.in-Err.error (gains_none (g.H.Host.told c.args.host.now).entries) c.in-Err.ensures.unheard) refl (inl refl)
 

@@ -14,15 +14,13 @@ use Rattle.just_env.proofs.module.load_printed.Goals as goal
 
 pub returns-in_err-shell-clause-loaded : goal.returns-in_err-shell-clause-loaded
 returns-in_err-shell-clause-loaded g c =
-    run_memory (PrintedPairs (g.H.Host.told c.args.host.now).world c.args.flags.now c.args.environ.now.pairs (text_of c.args.folder) c.args.settings.now c.args.commands.now) (BeginsCommands c.args.environ.now.pairs (shell c.args.flags.now c.args.settings.now) (text_of c.args.folder) (g.H.Host.told c.args.host.now).world c.args.commands.now) (g.H.Host.told c.args.host.now).world (g.H.Host.told c.args.host.now).world
-    (g.H.Host.told c.args.host.now).entries (g.H.Host.told c.args.host.now).entries _ refl refl (search rules) (BeginsCommands.nothing_more _ _)
+    run_memory (PrintedPairs (g.H.Host.told c.args.host.now).world c.args.flags.now c.args.environ.now.pairs (text_of c.args.folder) c.args.settings.now c.args.commands.now) (BeginsCommands c.args.environ.now.pairs (shell c.args.flags.now c.args.settings.now) (text_of c.args.folder) (g.H.Host.told c.args.host.now).world c.args.commands.now) (g.H.Host.told c.args.host.now) (g.H.Host.told c.args.host.now) _ refl refl (search rules) (BeginsCommands.nothing_more _ _)
 
 pub returns-in_err-kept-in-Ok-clause-loaded : goal.returns-in_err-kept-in-Ok-clause-loaded
 returns-in_err-kept-in-Ok-clause-loaded g c =
     let is : c.in_ok-shell.shell ≡ shell c.args.flags.now c.args.settings.now = search rules in
     let are : c.as_slice.result.now ≡ c.args.commands.now = search rules in
-    run_short (PrintedPairs (g.H.Host.told c.args.host.now).world c.args.flags.now c.args.environ.now.pairs (text_of c.args.folder) c.args.settings.now c.args.commands.now) (BeginsCommands c.args.environ.now.pairs (shell c.args.flags.now c.args.settings.now) (text_of c.args.folder) (g.H.Host.told c.args.host.now).world c.args.commands.now) (g.H.Host.told c.args.host.now).world (g.H.Host.told c.run_commands.new.host).world
-    (g.H.Host.told c.args.host.now).entries (g.H.Host.told c.run_commands.new.host).entries
+    run_short (PrintedPairs (g.H.Host.told c.args.host.now).world c.args.flags.now c.args.environ.now.pairs (text_of c.args.folder) c.args.settings.now c.args.commands.now) (BeginsCommands c.args.environ.now.pairs (shell c.args.flags.now c.args.settings.now) (text_of c.args.folder) (g.H.Host.told c.args.host.now).world c.args.commands.now) (g.H.Host.told c.args.host.now) (g.H.Host.told c.run_commands.new.host)
     (RunsCommands c.args.environ.now.pairs c.in_ok-shell.shell (text_of c.args.folder) (g.H.Host.told c.args.host.now).world c.as_slice.result.now) (BeginsCommands c.args.environ.now.pairs c.in_ok-shell.shell (text_of c.args.folder) (g.H.Host.told c.args.host.now).world c.as_slice.result.now)
     (λ cs begins. begun_by_shell (g.H.Host.told c.args.host.now).world c.args.flags.now c.args.environ.now.pairs (text_of c.args.folder) c.args.settings.now c.args.commands.now c.in_ok-shell.shell c.as_slice.result.now cs is are begins) c.in-Ok.pairs _ c.in-Ok.ensures.ran (search rules)
 
@@ -30,8 +28,7 @@ pub returns-in-Ok-clause-loaded : goal.returns-in-Ok-clause-loaded
 returns-in-Ok-clause-loaded g c =
     let is : c.in_ok-shell.shell ≡ shell c.args.flags.now c.args.settings.now = search rules in
     let are : c.as_slice.result.now ≡ c.args.commands.now = search rules in
-    run_ok (PrintedPairs (g.H.Host.told c.args.host.now).world c.args.flags.now c.args.environ.now.pairs (text_of c.args.folder) c.args.settings.now c.args.commands.now) (BeginsCommands c.args.environ.now.pairs (shell c.args.flags.now c.args.settings.now) (text_of c.args.folder) (g.H.Host.told c.args.host.now).world c.args.commands.now) (g.H.Host.told c.args.host.now).world (g.H.Host.told c.run_commands.new.host).world
-    (g.H.Host.told c.args.host.now).entries (g.H.Host.told c.run_commands.new.host).entries
+    run_ok (PrintedPairs (g.H.Host.told c.args.host.now).world c.args.flags.now c.args.environ.now.pairs (text_of c.args.folder) c.args.settings.now c.args.commands.now) (BeginsCommands c.args.environ.now.pairs (shell c.args.flags.now c.args.settings.now) (text_of c.args.folder) (g.H.Host.told c.args.host.now).world c.args.commands.now) (g.H.Host.told c.args.host.now) (g.H.Host.told c.run_commands.new.host)
     (RunsCommands c.args.environ.now.pairs c.in_ok-shell.shell (text_of c.args.folder) (g.H.Host.told c.args.host.now).world c.as_slice.result.now) (BeginsCommands c.args.environ.now.pairs c.in_ok-shell.shell (text_of c.args.folder) (g.H.Host.told c.args.host.now).world c.as_slice.result.now)
     (λ cs begins. begun_by_shell (g.H.Host.told c.args.host.now).world c.args.flags.now c.args.environ.now.pairs (text_of c.args.folder) c.args.settings.now c.args.commands.now c.in_ok-shell.shell c.as_slice.result.now cs is are begins) c.in-Ok.pairs c.in_ok-kept-in-Ok.kept c.in-Ok.ensures.ran
     (λ cs runs. printed_kept (g.H.Host.told c.args.host.now).world c.args.flags.now c.args.environ.now.pairs (text_of c.args.folder) c.args.settings.now c.args.commands.now c.in_ok-shell.shell c.as_slice.result.now cs is are
@@ -41,8 +38,7 @@ pub returns-clause-loaded : goal.returns-clause-loaded
 returns-clause-loaded g c =
     let is : c.in_ok-shell.shell ≡ shell c.args.flags.now c.args.settings.now = search rules in
     let are : c.as_slice.result.now ≡ c.args.commands.now = search rules in
-    run_refused (PrintedPairs (g.H.Host.told c.args.host.now).world c.args.flags.now c.args.environ.now.pairs (text_of c.args.folder) c.args.settings.now c.args.commands.now) (BeginsCommands c.args.environ.now.pairs (shell c.args.flags.now c.args.settings.now) (text_of c.args.folder) (g.H.Host.told c.args.host.now).world c.args.commands.now) (g.H.Host.told c.args.host.now).world (g.H.Host.told c.run_commands.new.host).world
-    (g.H.Host.told c.args.host.now).entries (g.H.Host.told c.run_commands.new.host).entries
+    run_refused (PrintedPairs (g.H.Host.told c.args.host.now).world c.args.flags.now c.args.environ.now.pairs (text_of c.args.folder) c.args.settings.now c.args.commands.now) (BeginsCommands c.args.environ.now.pairs (shell c.args.flags.now c.args.settings.now) (text_of c.args.folder) (g.H.Host.told c.args.host.now).world c.args.commands.now) (g.H.Host.told c.args.host.now) (g.H.Host.told c.run_commands.new.host)
     (RunsCommands c.args.environ.now.pairs c.in_ok-shell.shell (text_of c.args.folder) (g.H.Host.told c.args.host.now).world c.as_slice.result.now) (BeginsCommands c.args.environ.now.pairs c.in_ok-shell.shell (text_of c.args.folder) (g.H.Host.told c.args.host.now).world c.as_slice.result.now)
     (λ cs begins. begun_by_shell (g.H.Host.told c.args.host.now).world c.args.flags.now c.args.environ.now.pairs (text_of c.args.folder) c.args.settings.now c.args.commands.now c.in_ok-shell.shell c.as_slice.result.now cs is are begins) c.in-Err.error c.in-Err.ensures.ran
     (λ cs runs. printed_refused (g.H.Host.told c.args.host.now).world c.args.flags.now c.args.environ.now.pairs (text_of c.args.folder) c.args.settings.now c.args.commands.now c.in_ok-shell.shell c.as_slice.result.now cs is are c.in-Err.error runs)

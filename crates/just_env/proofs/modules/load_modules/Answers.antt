@@ -9,12 +9,11 @@ use Rattle.just_env.proofs.modules.load_modules.Goals as goal
 
 pub returns-in_err-push-clause-loaded : goal.returns-in_err-push-clause-loaded
 returns-in_err-push-clause-loaded g c =
-    run_memory (LoadsProject (g.H.Host.told c.args.host.now).world c.args.ask.now c.args.flags.now c.args.environ.now.pairs c.args.justfile.now) (BeginsProject (g.H.Host.told c.args.host.now).world c.args.ask.now c.args.flags.now c.args.environ.now.pairs c.args.justfile.now) (g.H.Host.told c.args.host.now).world (g.H.Host.told c.args.host.now).world
-    (g.H.Host.told c.args.host.now).entries (g.H.Host.told c.args.host.now).entries _ refl refl (search rules) (BeginsModules.nothing_more _ _)
+    run_memory (LoadsProject (g.H.Host.told c.args.host.now).world c.args.ask.now c.args.flags.now c.args.environ.now.pairs c.args.justfile.now) (BeginsProject (g.H.Host.told c.args.host.now).world c.args.ask.now c.args.flags.now c.args.environ.now.pairs c.args.justfile.now) (g.H.Host.told c.args.host.now) (g.H.Host.told c.args.host.now) _ refl refl (search rules) (BeginsModules.nothing_more _ _)
 
 pub modules-init : goal.modules-init
 modules-init g c = record {
-  ran = on_start c.args.ask.now c.args.flags.now c.args.environ.now.pairs (g.H.Host.told c.args.host.now).world c.args.justfile.now (g.H.Host.told c.args.host.now).entries (seen c.push.new.self.items)
+  ran = on_start c.args.ask.now c.args.flags.now c.args.environ.now.pairs (g.H.Host.told c.args.host.now) c.args.justfile.now (seen c.push.new.self.items)
       c.new-loaded.result.items (search rules) (search rules);
   within =
       let first : seen c.push.new.self.items ≡ (c.args.justfile.now, []) ∷ [] = search rules in
@@ -24,8 +23,8 @@ modules-init g c = record {
 pub modules-smaller : goal.modules-smaller
 modules-smaller g c =
     let popped : c.modules.pending.items ≡ c.pop.new.self.items ++ c.in-Some.next ∷ [] = search rules in
-    on_fewer c.args.ask.now c.args.flags.now c.args.environ.now.pairs (g.H.Host.told c.args.host.now).world c.args.justfile.now (g.H.Host.told c.args.host.now).entries (g.H.Host.told c.modules.host).world (g.H.Host.told c.load_next.new.host).world (seen c.modules.pending.items) (seen c.pop.new.self.items)
-    (seen c.load_next.new.pending.items) c.in-Some.next.0.now c.in-Some.next.1 c.modules.loaded.items (g.H.Host.told c.modules.host).entries (g.H.Host.told c.load_next.new.host).entries (top c.modules.pending.items c.pop.new.self.items c.in-Some.next popped)
+    on_fewer c.args.ask.now c.args.flags.now c.args.environ.now.pairs (g.H.Host.told c.args.host.now) c.args.justfile.now (g.H.Host.told c.modules.host) (g.H.Host.told c.load_next.new.host) (seen c.modules.pending.items) (seen c.pop.new.self.items)
+    (seen c.load_next.new.pending.items) c.in-Some.next.0.now c.in-Some.next.1 c.modules.loaded.items (top c.modules.pending.items c.pop.new.self.items c.in-Some.next popped)
     c.modules.invariant.ran c.in-Ok.one c.in-Ok.ensures.loaded
 
 pub modules-preserved : goal.modules-preserved
@@ -33,8 +32,8 @@ modules-preserved g c =
     let popped : c.modules.pending.items ≡ c.pop.new.self.items ++ c.in-Some.next ∷ [] = search rules in
     let grown : c.push-in-Ok.new.self.items ≡ c.modules.loaded.items ++ c.in-Ok.one ∷ [] = search rules in
     record {
-      ran = on_more c.args.ask.now c.args.flags.now c.args.environ.now.pairs (g.H.Host.told c.args.host.now).world c.args.justfile.now (g.H.Host.told c.args.host.now).entries (g.H.Host.told c.modules.host).world (g.H.Host.told c.load_next.new.host).world (seen c.modules.pending.items) (seen c.pop.new.self.items)
-          (seen c.load_next.new.pending.items) c.in-Some.next.0.now c.in-Some.next.1 c.modules.loaded.items (g.H.Host.told c.modules.host).entries (g.H.Host.told c.load_next.new.host).entries (top c.modules.pending.items c.pop.new.self.items c.in-Some.next popped)
+      ran = on_more c.args.ask.now c.args.flags.now c.args.environ.now.pairs (g.H.Host.told c.args.host.now) c.args.justfile.now (g.H.Host.told c.modules.host) (g.H.Host.told c.load_next.new.host) (seen c.modules.pending.items) (seen c.pop.new.self.items)
+          (seen c.load_next.new.pending.items) c.in-Some.next.0.now c.in-Some.next.1 c.modules.loaded.items (top c.modules.pending.items c.pop.new.self.items c.in-Some.next popped)
           c.modules.invariant.ran c.in-Ok.one c.push-in-Ok.new.self.items c.in-Ok.ensures.loaded grown;
       within = next_within c.args.justfile.now (seen c.modules.pending.items) (seen c.pop.new.self.items) c.in-Some.next.0.now c.in-Some.next.1 (top c.modules.pending.items c.pop.new.self.items c.in-Some.next popped) c.modules.invariant.within (seen c.load_next.new.pending.items)
           (c.in-Some.next.1 ++ c.in-Ok.ensures.loaded.1.0) c.in-Ok.ensures.loaded.1.3;
@@ -43,21 +42,21 @@ modules-preserved g c =
 pub returns-in_err-push-in-Ok-clause-loaded : goal.returns-in_err-push-in-Ok-clause-loaded
 returns-in_err-push-in-Ok-clause-loaded g c =
     let popped : c.modules.pending.items ≡ c.pop.new.self.items ++ c.in-Some.next ∷ [] = search rules in
-    on_short c.args.ask.now c.args.flags.now c.args.environ.now.pairs (g.H.Host.told c.args.host.now).world c.args.justfile.now (g.H.Host.told c.args.host.now).entries (g.H.Host.told c.modules.host).world (g.H.Host.told c.load_next.new.host).world (seen c.modules.pending.items) (seen c.pop.new.self.items)
-    (seen c.load_next.new.pending.items) c.in-Some.next.0.now c.in-Some.next.1 c.modules.loaded.items (g.H.Host.told c.modules.host).entries (g.H.Host.told c.load_next.new.host).entries (top c.modules.pending.items c.pop.new.self.items c.in-Some.next popped)
+    on_short c.args.ask.now c.args.flags.now c.args.environ.now.pairs (g.H.Host.told c.args.host.now) c.args.justfile.now (g.H.Host.told c.modules.host) (g.H.Host.told c.load_next.new.host) (seen c.modules.pending.items) (seen c.pop.new.self.items)
+    (seen c.load_next.new.pending.items) c.in-Some.next.0.now c.in-Some.next.1 c.modules.loaded.items (top c.modules.pending.items c.pop.new.self.items c.in-Some.next popped)
     c.modules.invariant.ran c.in-Ok.one _ c.in-Ok.ensures.loaded (search rules)
 
 pub returns-in-Err-clause-loaded : goal.returns-in-Err-clause-loaded
 returns-in-Err-clause-loaded g c =
     let popped : c.modules.pending.items ≡ c.pop.new.self.items ++ c.in-Some.next ∷ [] = search rules in
-    on_error c.args.ask.now c.args.flags.now c.args.environ.now.pairs (g.H.Host.told c.args.host.now).world c.args.justfile.now (g.H.Host.told c.args.host.now).entries (g.H.Host.told c.modules.host).world (g.H.Host.told c.load_next.new.host).world (seen c.modules.pending.items) (seen c.pop.new.self.items)
-    (seen c.load_next.new.pending.items) c.in-Some.next.0.now c.in-Some.next.1 c.modules.loaded.items (g.H.Host.told c.modules.host).entries (g.H.Host.told c.load_next.new.host).entries (top c.modules.pending.items c.pop.new.self.items c.in-Some.next popped)
+    on_error c.args.ask.now c.args.flags.now c.args.environ.now.pairs (g.H.Host.told c.args.host.now) c.args.justfile.now (g.H.Host.told c.modules.host) (g.H.Host.told c.load_next.new.host) (seen c.modules.pending.items) (seen c.pop.new.self.items)
+    (seen c.load_next.new.pending.items) c.in-Some.next.0.now c.in-Some.next.1 c.modules.loaded.items (top c.modules.pending.items c.pop.new.self.items c.in-Some.next popped)
     c.modules.invariant.ran c.in-Err.error c.in-Err.ensures.loaded
 
 pub returns-clause-loaded : goal.returns-clause-loaded
 returns-clause-loaded g c =
-    on_end c.args.ask.now c.args.flags.now c.args.environ.now.pairs (g.H.Host.told c.args.host.now).world c.args.justfile.now (g.H.Host.told c.args.host.now).entries (g.H.Host.told c.modules.host).world (seen c.modules.pending.items) c.modules.loaded.items c.from.result
-    (g.H.Host.told c.modules.host).entries (search rules) (search rules) c.modules.invariant.ran
+    on_end c.args.ask.now c.args.flags.now c.args.environ.now.pairs (g.H.Host.told c.args.host.now) c.args.justfile.now (g.H.Host.told c.modules.host) (seen c.modules.pending.items) c.modules.loaded.items c.from.result
+    (search rules) (search rules) c.modules.invariant.ran
 
 pub returns-in_err-push-clause-program : goal.returns-in_err-push-clause-program
 returns-in_err-push-clause-program g c = ends_root c.args.flags.now c.args.justfile.now _ _ (search rules)

@@ -7,7 +7,7 @@ use Rattle.just_env.proofs.modules.load_modules.Given as goal
 
 abbrev pub invariant-modules : goal.invariant-modules
 invariant-modules g l = record {
-  ran : LoadedOn l.ask l.flags l.environ.pairs (g.H.Host.told l.fn.host).world l.justfile (g.H.Host.told l.fn.host).entries (g.H.Host.told l.host).world (seen l.pending.items) l.loaded.items (g.H.Host.told l.host).entries;
+  ran : LoadedOn l.ask l.flags l.environ.pairs (g.H.Host.told l.fn.host) l.justfile (g.H.Host.told l.host) (seen l.pending.items) l.loaded.items;
   within : AreWithin l.justfile (seen l.pending.items);
 }
 
