@@ -4,9 +4,8 @@ use Rattle.std.specs.List.{list_any}
 use Rattle.std.proofs.Math.Bool.{Bool-set}
 use Rattle.std.proofs.Math.Bridge.{le_prop}
 use Rattle.std.proofs.Math.Logic.{∥∥₁_elim}
-use Rattle.just_host_record.specs.declared.entry.Entry.{Entry}
 use Rattle.just_host_record.specs.declared.entry.Look.{Look}
-use Rattle.just_host_record.specs.World.{World}
+use Rattle.just_host_record.specs.World.{Moment}
 use Rattle.just_sched_history.specs.declared.event.Event.{Event}
 use Rattle.just_sched_history.specs.declared.event.Event.TheVariants as event
 use Rattle.just_sched_history.specs.declared.plan_node.PlanNode.{PlanNode}
@@ -136,7 +135,7 @@ module _ (s : Run) (h : List Event) (n : ℕ) (l : IsLegal s h) (c : IsComplete 
 
 -- ---- the same of a run that is kept
 
-module _ (s : Start) (h : List Event) (now : List Entry) (w : Option World) (kept : ∥ IsKept s h now w ∥₁) where
+module _ (s : Start) (h : List Event) (now : Moment) (kept : ∥ IsKept s h now ∥₁) where
   pub kept_apart : EachApart (run_of s) h
   kept_apart m n ne p q = ∥∥₁_elim kept (Bool-set _ _) (λ k. each_apart (run_of s) h k.legal m n ne p q)
 
