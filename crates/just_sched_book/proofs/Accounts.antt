@@ -14,7 +14,7 @@ use Rattle.just_host_record.specs.contracts.signal.Signal as signal_contract
 use Rattle.just_host_record.specs.declared.entry.Entry.{Entry}
 use Rattle.just_host_record.specs.declared.signal.Signal.{Signal}
 use Rattle.just_host_record.specs.Record.{children, is_failed}
-use Rattle.just_host_record.specs.World.{World}
+use Rattle.just_host_record.specs.World.{Moment}
 use Rattle.just_sched_history.specs.declared.event.Event.{Event}
 use Rattle.just_sched_history.specs.declared.event.Event.TheVariants as event
 use Rattle.just_sched_book.specs.Account.{IsAccount, taken_behind}
@@ -49,15 +49,16 @@ none_started : (h : List Event) (e : Event) → all_starts (h ++ e ∷ []) ≡ 0
 none_started h e z = omega (arith, all_starts_more h e)
 
 -- a kept run goes on by an event, its entries, and what it makes of the world
-kept_more : (s : Start) (h : List Event) (now fs new : List Entry) (w v : Option World) (e : Event) → IsKept s h now w → new ≡ now ++ fs → May (run_of s) h e → StandsFor (run_of s) h e fs → (all_starts (h ++ e ∷ []) ≡ 0 → list_any is_failed fs ≡ false → Makes (run_of s) h e w v) → IsKept s (h ++ e ∷ []) new v
-kept_more s h now fs new w v e k gained may stands makes = record {
+kept_more : (s : Start) (h : List Event) (now : Moment) (fs : List Entry) (after : Moment) (e : Event) → IsKept s h now → after.entries ≡ now.entries ++ fs → May (run_of s) h e → StandsFor (run_of s) h e fs
+    → (all_starts (h ++ e ∷ []) ≡ 0 → list_any is_failed fs ≡ false → Makes (run_of s) h e now.world after.world) → IsKept s (h ++ e ∷ []) after
+kept_more s h now fs after e k gained may stands makes = record {
   legal = legal_more (run_of s) h e k.legal may;
   gained = k.gained ++ fs;
-  grew = gained ∙ ap (λ x. x ++ fs) k.grew ∙ append_assoc s.entries k.gained fs;
+  grew = gained ∙ ap (λ x. x ++ fs) k.grew ∙ append_assoc s.told.entries k.gained fs;
   matches = matches_more (run_of s) h e k.gained fs k.matches stands;
   made = λ z none.
       let parts = none_failed k.gained fs none in
-      made_more (run_of s) h e s.world w v (k.made (none_started h e z) parts.0) (makes z parts.1);
+      made_more (run_of s) h e s.told.world now.world after.world (k.made (none_started h e z) parts.0) (makes z parts.1);
 }
 
 -- how many bodies are open behind an event
@@ -92,9 +93,9 @@ signals_set = Coded-set (coded_option signal_contract.the_row.coded)
 
 -- ---- what an account gives
 
-module _ {s : Start} {h : List Event} {now : List Entry} {w : Option World} {spare taken : ℕ} {caught : Option Signal} (account : ∥ IsAccount s h now w spare taken caught ∥₁) where
+module _ {s : Start} {h : List Event} {now : Moment} {spare taken : ℕ} {caught : Option Signal} (account : ∥ IsAccount s h now spare taken caught ∥₁) where
   -- the history is kept
-  pub kept_of : ∥ IsKept s h now w ∥₁
+  pub kept_of : ∥ IsKept s h now ∥₁
   kept_of = ∥∥₁_map account (λ a. a.kept)
 
   -- so many bodies are open
@@ -173,15 +174,15 @@ module _ {s : Start} {h : List Event} {now : List Entry} {w : Option World} {spa
   over_rests n o = ∥∥₁_elim account (Bool-set _ _) (λ a. over_still (run_of s) h n a.kept.legal o)
 
   -- the number of the next child
-  pub fresh_child : children now ≡ children s.entries + all_starts h
-  fresh_child = ∥∥₁_elim account (ℕ_set _ _) (λ a. ap children a.kept.grew ∙ fresh_start (run_of s) h s.entries a.kept.gained a.kept.matches)
+  pub fresh_child : children now.entries ≡ children s.told.entries + all_starts h
+  fresh_child = ∥∥₁_elim account (ℕ_set _ _) (λ a. ap children a.kept.grew ∙ fresh_start (run_of s) h s.told.entries a.kept.gained a.kept.matches)
 
   -- the account is right behind an event that may come, with the entries that the event stands for and the world that it makes
-  pub noted : (later : List Event) (fs new : List Entry) (v : Option World) (left : ℕ) (e : Event) → later ≡ h ++ e ∷ [] → new ≡ now ++ fs → May (run_of s) h e → StandsFor (run_of s) h e fs
-      → (all_starts (h ++ e ∷ []) ≡ 0 → list_any is_failed fs ≡ false → Makes (run_of s) h e w v) → spare ≤ left + cond (settles e) 1 0 → signal_in e ≡ None
-      → ∥ IsAccount s later new v left (taken_behind e taken) caught ∥₁
-  noted later fs new v left e grew gained may stands makes room plain = subst (λ k. ∥ IsAccount s k new v left (taken_behind e taken) caught ∥₁) (sym grew) (∥∥₁_map account (λ a. record {
-    kept = kept_more s h now fs new w v e a.kept gained may stands makes;
+  pub noted : (later : List Event) (fs : List Entry) (after : Moment) (left : ℕ) (e : Event) → later ≡ h ++ e ∷ [] → after.entries ≡ now.entries ++ fs → May (run_of s) h e → StandsFor (run_of s) h e fs
+      → (all_starts (h ++ e ∷ []) ≡ 0 → list_any is_failed fs ≡ false → Makes (run_of s) h e now.world after.world) → spare ≤ left + cond (settles e) 1 0 → signal_in e ≡ None
+      → ∥ IsAccount s later after left (taken_behind e taken) caught ∥₁
+  noted later fs after left e grew gained may stands makes room plain = subst (λ k. ∥ IsAccount s k after left (taken_behind e taken) caught ∥₁) (sym grew) (∥∥₁_map account (λ a. record {
+    kept = kept_more s h now fs after e a.kept gained may stands makes;
     spared = omega (arith, a.spared, room, settles_more h e);
     counted = ap (taken_behind e) a.counted ∙ sym (∥∥₁_elim s.plan.well (ℕ_set _ _) (λ f. open_behind (run_of s) h e f a.kept.legal may));
     bound = bound_behind (run_of s) h e taken a.counted may a.bound;
@@ -189,8 +190,8 @@ module _ {s : Start} {h : List Event} {now : List Entry} {w : Option World} {spa
   }))
 
   -- the same of an event that stands for no entries and leaves the world as it is
-  pub noted_alone : (later : List Event) (e : Event) → later ≡ h ++ e ∷ [] → May (run_of s) h e → StandsFor (run_of s) h e [] → Makes (run_of s) h e w w → signal_in e ≡ None → ∥ IsAccount s later now w spare (taken_behind e taken) caught ∥₁
-  noted_alone later e grew may stands still plain = noted later [] now w spare e grew (sym (append-nil now)) may stands (λ _ _. still) (omega arith) plain
+  pub noted_alone : (later : List Event) (e : Event) → later ≡ h ++ e ∷ [] → May (run_of s) h e → StandsFor (run_of s) h e [] → Makes (run_of s) h e now.world now.world → signal_in e ≡ None → ∥ IsAccount s later now spare (taken_behind e taken) caught ∥₁
+  noted_alone later e grew may stands still plain = noted later [] now spare e grew (sym (append-nil now.entries)) may stands (λ _ _. still) (omega arith) plain
 
   -- some body is open where one may give its job back
   pub some_taken : (n : ℕ) → May (run_of s) h (event.Gave n) → 1 ≤ taken
@@ -209,9 +210,9 @@ no_bound None = tt
 no_bound (Some j) = omega arith
 
 -- a book of no events yet has a right account where the host has room for each command's end
-pub account_none : (s : Start) (h : List Event) (now : List Entry) (w : Option World) (spare : ℕ) → h ≡ [] → now ≡ s.entries → w ≡ s.world → total_commands s.plan.nodes ≤ spare → ∥ IsAccount s h now w spare 0 None ∥₁
-account_none s h now w spare none same world enough = subst (λ k. ∥ IsAccount s k now w spare 0 None ∥₁) (sym none) (∣ record {
-  kept = record { legal = tt; gained = []; grew = same ∙ sym (append-nil s.entries); matches = refl; made = λ _ _. world };
+pub account_none : (s : Start) (h : List Event) (now : Moment) (spare : ℕ) → h ≡ [] → now ≡ s.told → total_commands s.plan.nodes ≤ spare → ∥ IsAccount s h now spare 0 None ∥₁
+account_none s h now spare none same enough = subst (λ k. ∥ IsAccount s k now spare 0 None ∥₁) (sym none) (∣ record {
+  kept = record { legal = tt; gained = []; grew = ap (λ m. m.entries) same ∙ sym (append-nil s.told.entries); matches = refl; made = λ _ _. ap (λ m. m.world) same };
   spared = omega (arith, enough);
   counted = sym (none_open (range_with_len 0 (length s.plan.nodes)));
   bound = no_bound s.jobs;

@@ -4,7 +4,7 @@ use Rattle.std.proofs.Math.Bridge.{le_prop}
 use Rattle.std.proofs.Math.Logic.{∥∥₁_elim}
 use Rattle.just_host_record.specs.declared.entry.Entry.{Entry}
 use Rattle.just_host_record.specs.declared.signal.Signal.{Signal}
-use Rattle.just_host_record.specs.World.{World}
+use Rattle.just_host_record.specs.World.{Moment}
 use Rattle.just_sched_history.specs.declared.event.Event.{Event}
 use Rattle.just_sched_history.specs.declared.event.Event.TheVariants as event
 use Rattle.just_sched_history.specs.declared.event.Outcome.{Outcome}
@@ -36,7 +36,7 @@ refused = outcome.Failed reason.NotConfirmed
 no_events : (h later : List Event) (n : ℕ) → later ≡ h ++ answer_events n false → later ≡ (h ++ event.Asked n false ∷ []) ++ event.Done n refused ∷ []
 no_events h later n grew = grew ∙ sym (append_assoc h (event.Asked n false ∷ []) (event.Done n refused ∷ []))
 
-module _ {s : Start} {h : List Event} {now : List Entry} {w : Option World} {spare taken : ℕ} {caught : Option Signal} (account : ∥ IsAccount s h now w spare taken caught ∥₁)
+module _ {s : Start} {h : List Event} {now : Moment} {spare taken : ℕ} {caught : Option Signal} (account : ∥ IsAccount s h now spare taken caught ∥₁)
     (n : ℕ) (to_ask : IsToAsk s.plan.nodes s.plan.invocations h n) (calm : has_caught h ≡ false) where
   -- a node that was answered by a no may be done by that
   refused_may : May (run_of s) (h ++ event.Asked n false ∷ []) (event.Done n refused)
@@ -50,12 +50,12 @@ module _ {s : Start} {h : List Event} {now : List Entry} {w : Option World} {spa
       omega (arith, fits, length-append h (event.Asked n false ∷ []))))
 
   -- the account is right behind them, with the entry that the answer stands for
-  pub answered_account : (later : List Event) (fs new : List Entry) (v : Option World) (left : ℕ) (y : Bool) → later ≡ h ++ answer_events n y → new ≡ now ++ fs → StandsFor (run_of s) h (event.Asked n y) fs → v ≡ w → spare ≤ left
-      → ∥ IsAccount s later new v left taken caught ∥₁
-  answered_account later fs new v left true grew gained stands same more =
-      noted account later fs new v left (event.Asked n true) grew gained (to_ask, calm) stands (λ _ _. same) (omega (arith, more)) refl
-  answered_account later fs new v left false grew gained stands same more =
-      noted_alone (noted account (h ++ event.Asked n false ∷ []) fs new v left (event.Asked n false) refl gained (to_ask, calm) stands (λ _ _. same) (omega (arith, more)) refl)
+  pub answered_account : (later : List Event) (fs : List Entry) (after : Moment) (left : ℕ) (y : Bool) → later ≡ h ++ answer_events n y → after.entries ≡ now.entries ++ fs → StandsFor (run_of s) h (event.Asked n y) fs → after.world ≡ now.world → spare ≤ left
+      → ∥ IsAccount s later after left taken caught ∥₁
+  answered_account later fs after left true grew gained stands same more =
+      noted account later fs after left (event.Asked n true) grew gained (to_ask, calm) stands (λ _ _. same) (omega (arith, more)) refl
+  answered_account later fs after left false grew gained stands same more =
+      noted_alone (noted account (h ++ event.Asked n false ∷ []) fs after left (event.Asked n false) refl gained (to_ask, calm) stands (λ _ _. same) (omega (arith, more)) refl)
       later (event.Done n refused) (no_events h later n grew) refused_may refl refl refl
 
   -- the node took no job, so it isn't open, and runs nothing

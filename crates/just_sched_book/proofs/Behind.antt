@@ -5,10 +5,9 @@ use Rattle.std.proofs.Math.Bridge.{le_prop}
 use Rattle.std.proofs.Math.Logic.{∥∥₁_elim}
 use Rattle.std.proofs.lemmas.List.Sums.{sum_by-cons}
 use Rattle.std.proofs.lemmas.Option.{slice_get_within, get_or_from_slice_get}
-use Rattle.just_host_record.specs.declared.entry.Entry.{Entry}
 use Rattle.just_host_record.specs.declared.entry.Status.{Status}
 use Rattle.just_host_record.specs.declared.signal.Signal.{Signal}
-use Rattle.just_host_record.specs.World.{World}
+use Rattle.just_host_record.specs.World.{Moment}
 use Rattle.just_sched_history.specs.declared.event.Event.{Event}
 use Rattle.just_sched_history.specs.declared.event.Event.TheVariants as event
 use Rattle.just_sched_history.specs.declared.event.Outcome.{Outcome}
@@ -85,7 +84,7 @@ fits_at nodes n i (Some x) q all lt =
 pub place_fits : (s : Start) (h : List Event) (n i : ℕ) → IsDue (run_of s) h n (Started i) → i < 2 ^ 32
 place_fits s h n i due = ∥∥₁_elim s.plan.short le_prop (λ all. fits_at s.plan.nodes n i (slice_get s.plan.nodes n) refl all (due_start (run_of s) h n i due).1)
 
-module _ {s : Start} {h : List Event} {now : List Entry} {w : Option World} {spare taken : ℕ} {caught : Option Signal} (account : ∥ IsAccount s h now w spare taken caught ∥₁) where
+module _ {s : Start} {h : List Event} {now : Moment} {spare taken : ℕ} {caught : Option Signal} (account : ∥ IsAccount s h now spare taken caught ∥₁) where
   -- a node that just started a command runs with its child
   pub started_runs : (later : List Event) (n i child : ℕ) → later ≡ h ++ event.Started n i child ∷ [] → in_body h n ≡ true → is_running h n ≡ false → RunsWith later n child
   started_runs later n i child grew b still =

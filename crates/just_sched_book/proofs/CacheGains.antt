@@ -10,12 +10,12 @@ use Rattle.just_host_record.specs.declared.entry.Entry.TheVariants as entry
 use Rattle.just_host_record.specs.declared.entry.Look.{Look}
 use Rattle.just_host_record.specs.Record.{is_failed}
 use Rattle.just_host_record.specs.Sights.{Tree}
-use Rattle.just_host_record.specs.World.{World}
+use Rattle.just_host_record.specs.World.{World, Moment}
 use Rattle.just_sched_history.specs.declared.cache_plan.CachePlan.{CachePlan}
 use Rattle.just_sched_history.specs.declared.event.Reason.{Reason}
 use Rattle.just_sched_history.specs.declared.event.Reason.TheVariants as reason
 use Rattle.just_sched_history.specs.Cached.{entry_of}
-use Rattle.just_sched_book.specs.Gains.{ProbeGain, KeepGain, SaveGains, LookRefusal, LeavesWorld}
+use Rattle.just_sched_book.specs.Gains.{GainsAndLeaves, ProbeGain, KeepGain, SaveGains, LookRefusal, LeavesWorld}
 use Rattle.just_sched_history.specs.Match.{summed_entries, looked_entries}
 use Rattle.just_sched_history.specs.Touched.{IsChangedBy, IsLooked, IsWritten}
 use Rattle.just_sched_history.proofs.Tests.{neither}
@@ -40,15 +40,16 @@ keep_behind c sums path (Err reason.NoMemory) fs at g = inr (ap (λ k. entry.Che
 keep_behind c sums path (Err _) fs at g = absurd g
 
 -- the two calls together
-pub saved_together : (c : CachePlan) (sums : List (List ℕ)) (path text : List ℕ) (r : Result (Unit {0}) Reason) (old mid new es fs : List Entry) (told here after : Option World)
-    → path ≡ entry_of c sums → mid ≡ old ++ es → es ≡ entry.Checked c.outputs None ∷ [] → here ≡ told → new ≡ mid ++ fs → KeepGain path r fs → (list_any is_failed fs ≡ false → LeavesWorld (λ done. IsWritten path text) here after r)
-    → (all : List Entry) × (new ≡ old ++ all) × SaveGains c sums r all × (list_any is_failed all ≡ false → LeavesWorld (λ done. IsWritten path text) told after r)
-saved_together c sums path text r old mid new es fs told here after at first checked same second g calm =
+pub saved_together : (c : CachePlan) (sums : List (List ℕ)) (path text : List ℕ) (r : Result (Unit {0}) Reason) (before between after : Moment) (es fs : List Entry)
+    → path ≡ entry_of c sums → between.entries ≡ before.entries ++ es → es ≡ entry.Checked c.outputs None ∷ [] → between.world ≡ before.world → after.entries ≡ between.entries ++ fs
+    → KeepGain path r fs → (list_any is_failed fs ≡ false → LeavesWorld (λ done. IsWritten path text) r between.world after.world)
+    → GainsAndLeaves before after (SaveGains c sums r) (LeavesWorld (λ done. IsWritten path text) r)
+saved_together c sums path text r before between after es fs at first checked same second g calm =
     let are : es ++ fs ≡ entry.Checked c.outputs None ∷ fs = ap (λ k. k ++ fs) checked in (
       es ++ fs,
-      second ∙ ap (λ k. k ++ fs) first ∙ append_assoc old es fs,
+      second ∙ ap (λ k. k ++ fs) first ∙ append_assoc before.entries es fs,
       subst (λ k. SaveGains c sums r k) (sym are) (keep_behind c sums path r fs at g),
-      λ none. subst (λ w. LeavesWorld {A = Unit {0}} (λ done. IsWritten path text) w after r) same (calm (second_calm es fs none)),
+      λ none. subst (λ w. LeavesWorld {A = Unit {0}} (λ done. IsWritten path text) r w after.world) same (calm (second_calm es fs none)),
     )
 
 -- ---- looking
@@ -59,19 +60,19 @@ look_behind c sums (reason.Fault call.Probe) fs many g = (sums, many, ap (λ k. 
 look_behind c sums reason.NoMemory fs many g = (sums, omega (arith, many), ap (λ k. summed_entries c.paths sums ++ k) g ∙ append-nil (summed_entries c.paths sums))
 look_behind c sums _ fs many g = absurd g
 
-module _ (c : CachePlan) (sums : List (List ℕ)) (old mid new es fs : List Entry) (told here after : Option World)
-    (first : mid ≡ old ++ es) (many : length sums ≡ length c.paths) (summed : es ≡ summed_entries c.paths sums) (same : here ≡ told) (second : new ≡ mid ++ fs) where
-  together : new ≡ old ++ (es ++ fs)
-  together = second ∙ ap (λ k. k ++ fs) first ∙ append_assoc old es fs
+module _ (c : CachePlan) (sums : List (List ℕ)) (before between after : Moment) (es fs : List Entry) (first : between.entries ≡ before.entries ++ es)
+    (many : length sums ≡ length c.paths) (summed : es ≡ summed_entries c.paths sums) (same : between.world ≡ before.world) (second : after.entries ≡ between.entries ++ fs) where
+  together : after.entries ≡ before.entries ++ (es ++ fs)
+  together = second ∙ ap (λ k. k ++ fs) first ∙ append_assoc before.entries es fs
 
   -- the sums and the look together
-  pub looked_together : (seen : Look) → ProbeGain (entry_of c sums) c.outputs (Ok seen) fs → (list_any is_failed fs ≡ false → IsLooked (entry_of c sums) here after)
-      → (all : List Entry) × (new ≡ old ++ all) × ((length sums ≡ length c.paths) × (all ≡ looked_entries c sums seen)) × (list_any is_failed all ≡ false → IsLooked (entry_of c sums) told after)
+  pub looked_together : (seen : Look) → ProbeGain (entry_of c sums) c.outputs (Ok seen) fs → (list_any is_failed fs ≡ false → IsLooked (entry_of c sums) between.world after.world)
+      → GainsAndLeaves before after (λ all. (length sums ≡ length c.paths) × (all ≡ looked_entries c sums seen)) (IsLooked (entry_of c sums))
   looked_together seen g calm =
-      (es ++ fs, together, (many, ap₂ (λ a b. a ++ b) summed g), λ none. subst (λ w. IsLooked (entry_of c sums) w after) same (calm (second_calm es fs none)))
+      (es ++ fs, together, (many, ap₂ (λ a b. a ++ b) summed g), λ none. subst (λ w. IsLooked (entry_of c sums) w after.world) same (calm (second_calm es fs none)))
 
   -- the sums, and a look that was refused
-  pub unlooked_together : (r : Reason) → ProbeGain (entry_of c sums) c.outputs (Err r) fs → (list_any is_failed fs ≡ false → after ≡ here)
-      → (all : List Entry) × (new ≡ old ++ all) × LookRefusal c r all × (list_any is_failed all ≡ false → after ≡ told)
+  pub unlooked_together : (r : Reason) → ProbeGain (entry_of c sums) c.outputs (Err r) fs → (list_any is_failed fs ≡ false → after.world ≡ between.world)
+      → GainsAndLeaves before after (LookRefusal c r) (λ old new. new ≡ old)
   unlooked_together r g calm =
       (es ++ fs, together, subst (λ k. LookRefusal c r (k ++ fs)) (sym summed) (look_behind c sums r fs many g), λ none. calm (second_calm es fs none) ∙ same)

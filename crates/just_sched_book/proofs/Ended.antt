@@ -4,8 +4,7 @@ use Rattle.std.proofs.Math.Logic.{∥∥₁_elim}
 use Rattle.std.specs.Prelude.{List}
 use Rattle.std.specs.Int.NonZero.{non_zero_u64_get}
 use Rattle.std.specs.declared.num.NonZeroU64.{NonZeroU64}
-use Rattle.just_host_record.specs.World.{World}
-use Rattle.just_host_record.specs.declared.entry.Entry.{Entry}
+use Rattle.just_host_record.specs.World.{Moment}
 use Rattle.just_sched_history.specs.declared.event.Event.{Event}
 use Rattle.just_sched_history.specs.declared.event.Idle.{Idle}
 use Rattle.just_sched_history.specs.declared.event.Idle.TheVariants as idle
@@ -58,17 +57,17 @@ all_done s h formed answered legal closed calm well nothing =
     ∥∥₁_elim formed (complete_prop s h) (λ f. complete s h f legal closed (no_reason s h legal well calm) answered calm nothing)
 
 -- a body's end without a failure that decides, where nothing is left to do, is the end of all
-ended_complete : (s : Start) (h : List Event) (now : List Entry) (w : Option World) → ∥ IsKept s h now w ∥₁ → EachNoIsDone h → IsClosed (run_of s) h → NoneDecides (run_of s) h → has_caught h ≡ false → (has_caught h ≡ true) ⊎ (HasWork (run_of s) h → ⊥) → IsComplete (run_of s) h
-ended_complete s h now w kept answered closed none calm (inl c) = absurd (true≢false (sym c ∙ calm))
-ended_complete s h now w kept answered closed none calm (inr nothing) =
+ended_complete : (s : Start) (h : List Event) (now : Moment) → ∥ IsKept s h now ∥₁ → EachNoIsDone h → IsClosed (run_of s) h → NoneDecides (run_of s) h → has_caught h ≡ false → (has_caught h ≡ true) ⊎ (HasWork (run_of s) h → ⊥) → IsComplete (run_of s) h
+ended_complete s h now kept answered closed none calm (inl c) = absurd (true≢false (sym c ∙ calm))
+ended_complete s h now kept answered closed none calm (inr nothing) =
     ∥∥₁_elim kept (complete_prop (run_of s) h) (λ k. all_done (run_of s) h s.plan.well answered k.legal closed calm none nothing)
 
 -- a run that went well, and in which nothing is left to do, is complete
-pub well_complete : (s : Start) (h : List Event) (now : List Entry) (w : Option World) (v : Verdict)
-    → ∥ IsKept s h now w ∥₁ → EachNoIsDone h → IsClosed (run_of s) h → (has_caught h ≡ true) ⊎ (HasWork (run_of s) h → ⊥) → IsVerdict (run_of s) h v → v ≡ verdict.Well → IsComplete (run_of s) h
-well_complete s h now w v kept answered closed left judged well = well_by (subst (λ x. IsVerdict (run_of s) h x) well judged)
+pub well_complete : (s : Start) (h : List Event) (now : Moment) (v : Verdict)
+    → ∥ IsKept s h now ∥₁ → EachNoIsDone h → IsClosed (run_of s) h → (has_caught h ≡ true) ⊎ (HasWork (run_of s) h → ⊥) → IsVerdict (run_of s) h v → v ≡ verdict.Well → IsComplete (run_of s) h
+well_complete s h now v kept answered closed left judged well = well_by (subst (λ x. IsVerdict (run_of s) h x) well judged)
   where
     -- a run that went well is complete, by what its verdict says
     well_by : IsVerdict (run_of s) h verdict.Well → IsComplete (run_of s) h
-    well_by (none, inl calm) = ended_complete s h now w kept answered closed none calm left
+    well_by (none, inl calm) = ended_complete s h now kept answered closed none calm left
     well_by (none, inr complete) = complete

@@ -7,10 +7,9 @@ use Rattle.std.proofs.Math.Logic.{∥∥₁_elim}
 use Rattle.std.proofs.Math.Nat.{ℕ_set}
 use Rattle.just_host_record.specs.declared.entry.Call.{Call}
 use Rattle.just_host_record.specs.declared.entry.Call.TheVariants as call
-use Rattle.just_host_record.specs.declared.entry.Entry.{Entry}
 use Rattle.just_host_record.specs.declared.outside.Host
 use Rattle.just_host_record.specs.declared.signal.Signal.{Signal}
-use Rattle.just_host_record.specs.World.{World}
+use Rattle.just_host_record.specs.World.{Moment}
 use Rattle.just_path.specs.declared.host.PathHost
 use Rattle.just_sched_history.specs.declared.event.Event.{Event}
 use Rattle.just_sched_history.specs.declared.event.Event.TheVariants as event
@@ -214,7 +213,7 @@ none_counted_at s h n true q lt z =
     absurd (omega (arith, z, sum_lt (λ k. 0) (λ k. cond (is_running h k) 1 0) n 0 (length s.nodes) (λ k low high. omega arith) (omega arith) (omega (arith, lt)) (omega (arith, ap {B = ℕ} (λ b. cond b 1 0) q)), sum_zero (length s.nodes) 0))
 none_counted_at s h n false q lt z = q
 
-module _ {s : Start} {h : List Event} {now : List Entry} {w : Option World} {spare taken : ℕ} {caught : Option Signal} (account : ∥ IsAccount s h now w spare taken caught ∥₁) where
+module _ {s : Start} {h : List Event} {now : Moment} {spare taken : ℕ} {caught : Option Signal} (account : ∥ IsAccount s h now spare taken caught ∥₁) where
   -- the commands that were started are those that were settled and those that run
   pub balanced : settle_count h + running_bodies (run_of s) h ≡ all_starts h
   balanced = ∥∥₁_elim s.plan.well (ℕ_set _ _) (λ f. ∥∥₁_elim account (ℕ_set _ _) (λ a. all_balanced (run_of s) h f a.kept.legal))
@@ -293,7 +292,7 @@ pub one_child : (h : List Event) (n a b : ℕ) → RunsWith h n a → RunsWith h
 one_child h n a b p q = ap child_in (sym p.started ∙ q.started)
 
 -- where each open body runs and none is counted, none is open
-module _ {s : Start} {h : List Event} {now : List Entry} {w : Option World} {spare taken : ℕ} {caught : Option Signal} (account : ∥ IsAccount s h now w spare taken caught ∥₁) where
+module _ {s : Start} {h : List Event} {now : Moment} {spare taken : ℕ} {caught : Option Signal} (account : ∥ IsAccount s h now spare taken caught ∥₁) where
   -- by a test
   none_open_at : (n : ℕ) (b : Bool) → is_open h n ≡ b → EachOpenRuns h → running_bodies (run_of s) h ≡ 0 → is_open h n ≡ false
   none_open_at n true q each z = absurd (true≢false (sym (each n q) ∙ none_runs account n z))

@@ -1,8 +1,7 @@
 -- What a book holds of its run.
 use Rattle.std.specs.Prelude.{ℕ, ◌≡◌, ◌+◌, ◌-◌, ◌≤◌, List, Option, MatchOption}
-use Rattle.just_host_record.specs.declared.entry.Entry.{Entry}
 use Rattle.just_host_record.specs.declared.signal.Signal.{Signal}
-use Rattle.just_host_record.specs.World.{World}
+use Rattle.just_host_record.specs.World.{Moment}
 use Rattle.just_sched_history.specs.declared.event.Event.{Event}
 use Rattle.just_sched_history.specs.declared.event.Event.TheVariants as event
 use Rattle.just_sched_history.specs.Legal.{open_bodies}
@@ -10,11 +9,11 @@ use Rattle.just_sched_history.specs.Room.{total_commands, settle_count}
 use Rattle.just_sched_history.specs.Start.{Start, IsKept, run_of}
 use Rattle.just_sched_history.specs.State.{caught_signal}
 
--- A book's account of its run is right: the history is kept over a host with this record and told world, the host has spare
--- room for the end of each command that may still be started, so many bodies are open and no more than there are jobs, and
--- this signal was caught first, if any was.
-pub record IsAccount (s : Start) (h : List Event) (now : List Entry) (world : Option World) (spare taken : ℕ) (caught : Option Signal) : Type 0 where
-  pub kept : IsKept s h now world
+-- A book's account of its run is right: the history is kept over a host that tells this now, the host has spare room for
+-- the end of each command that may still be started, so many bodies are open and no more than there are jobs, and this
+-- signal was caught first, if any was.
+pub record IsAccount (s : Start) (h : List Event) (now : Moment) (spare taken : ℕ) (caught : Option Signal) : Type 0 where
+  pub kept : IsKept s h now
   pub spared : total_commands s.plan.nodes ≤ spare + settle_count h
   pub counted : taken ≡ open_bodies (run_of s) h
   pub bound : MatchOption s.jobs (Unit {0}) (λ j. taken ≤ j)

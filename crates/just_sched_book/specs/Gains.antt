@@ -1,10 +1,11 @@
 -- What a host's record gains by the calls that a body's events stand for.
-use Rattle.std.specs.Prelude.{ℕ, ◌≡◌, ◌≢◌, ◌⊎◌, ◌<◌, ◌≤◌, Bool, codes, List, [], ◌∷◌, ◌++◌, length, slice_index_or, Contains, Option, Some, None, Result, Ok, Err}
+use Rattle.std.specs.Prelude.{ℕ, ◌≡◌, ◌≢◌, ◌⊎◌, ◌<◌, ◌≤◌, Bool, false, codes, List, [], ◌∷◌, ◌++◌, length, slice_index_or, Contains, Option, Some, None, Result, Ok, Err}
+use Rattle.std.specs.List.{list_any}
 use Rattle.just_host_record.specs.declared.entry.Call.TheVariants as call
 use Rattle.just_host_record.specs.declared.entry.Entry.{Entry}
 use Rattle.just_host_record.specs.declared.entry.Entry.TheVariants as entry
-use Rattle.just_host_record.specs.Record.{script_folder}
-use Rattle.just_host_record.specs.World.{World}
+use Rattle.just_host_record.specs.Record.{is_failed, script_folder}
+use Rattle.just_host_record.specs.World.{World, Moment}
 use Rattle.just_sched_history.specs.declared.event.Reason.{Reason}
 use Rattle.just_sched_history.specs.declared.event.Reason.TheVariants as reason
 use Rattle.just_exec_work.specs.declared.work.Command.{Command}
@@ -12,6 +13,16 @@ use Rattle.just_host_record.specs.declared.entry.Look.{Look}
 use Rattle.just_sched_history.specs.declared.cache_plan.CachePlan.{CachePlan}
 use Rattle.just_sched_history.specs.Cached.{entry_of}
 use Rattle.just_sched_history.specs.Match.{printed_entries, is_yes, started_entries, summed_entries, looked_entries, saved_entries}
+
+-- from one moment to another the record gained entries of this kind
+abbrev pub Gains : Moment → Moment → (List Entry → Type 0) → Type 0
+Gains before after kind = (es : List Entry) × (after.entries ≡ before.entries ++ es) × kind es
+
+-- the same, and where none of them tells a failure, the world was left so
+abbrev pub GainsAndLeaves : Moment → Moment → (List Entry → Type 0) → (Option World → Option World → Type 0) → Type 0
+GainsAndLeaves before after kind leaves =
+    (es : List Entry) × (after.entries ≡ before.entries ++ es) × kind es
+    × (list_any is_failed es ≡ false → leaves before.world after.world)
 
 -- what the record gains by a text that is printed to standard error
 abbrev pub TellGains : {A : Type 0} → List ℕ → Result A Reason → List Entry → Type 0
@@ -106,9 +117,9 @@ SaveGains c sums (Err reason.NoMemory) es = (es ≡ []) ⊎ (es ≡ entry.Checke
 SaveGains c sums (Err _) es = ⊥
 
 -- what a call made of a told world, where none failed: an answer changed it so, and a refusal left it as it was
-abbrev pub LeavesWorld : {A : Type 0} → (A → Option World → Option World → Type 0) → Option World → Option World → Result A Reason → Type 0
-LeavesWorld change old new (Ok x) = change x old new
-LeavesWorld change old new (Err e) = new ≡ old
+abbrev pub LeavesWorld : {A : Type 0} → (A → Option World → Option World → Type 0) → Result A Reason → Option World → Option World → Type 0
+LeavesWorld change (Ok x) old new = change x old new
+LeavesWorld change (Err e) old new = new ≡ old
 
 -- a fact where the call was refused
 abbrev pub IfRefused : {A : Type 0} → Result A Reason → Type 0 → Type 0

@@ -1,4 +1,4 @@
--- The run of nothing, over a host with no record.
+-- The run of nothing, over a host that told nothing.
 use Rattle.std.specs.Prelude.{◌<◌, ◌^◌, All, [], length, None}
 use Rattle.std.proofs.Common.{arith, lit<}
 use Rattle.just_eval_closure.specs.WellFormed.{IsWellFormed}
@@ -26,6 +26,5 @@ abbrev pub nowhere : Start
 nowhere = record {
   plan = record { nodes = []; invocations = []; well = ∣ nothing_formed ∣₁; few = lit< tt; short = ∣ nothing_short ∣₁ };
   jobs = None;
-  entries = [];
-  world = None;
+  told = record { entries = []; world = None };
 }

@@ -59,7 +59,7 @@ pub struct Book<H: Host + Drop, P: Naming> {
     of: PhantomData<P>,
     pub ghost plan_named: { plan ≡ P.start.plan } by { Coded-set plan_code plan P.start.plan },
     pub ghost jobs_named: { option_map non_zero_u64_get jobs ≡ P.start.jobs } by { Prim.hlevel props },
-    ghost account: { ∥ IsAccount P.start history.items (H.told host).entries (H.told host).world (H.spare host) taken caught ∥₁ },
+    ghost account: { ∥ IsAccount P.start history.items (H.told host) (H.spare host) taken caught ∥₁ },
     ghost roomy: { slots P.start.plan.nodes ≤ vec_capacity history },
     ghost sized: { tables.size ≡ length plan.nodes },
     ghost noted: { ∥ IsNoted plan.nodes plan.invocations history.items tables ∥₁ },
@@ -107,15 +107,13 @@ impl<H: Host + Drop, P: Naming> Book<H, P> {
         jobs: Option<NonZeroU64>,
     ) -> Result<(Book<H, P>, Seat<P>), (H, Named<P>)>
         requires jobs { option_map non_zero_u64_get jobs ≡ P.start.jobs }
-        requires entries { (H.told host).entries ≡ P.start.entries }
-        requires world { (H.told host).world ≡ P.start.world }
+        requires told { H.told host ≡ P.start.told }
         ensures empty { IfOk result (λ r. r.0.history.items ≡ []) }
         ensures plan { IfOk result (λ r. r.0.plan ≡ plan.plan) }
         ensures jobs { IfOk result (λ r. r.0.jobs ≡ jobs) }
         ensures seat { IfOk result (λ r. (r.1.share.parts ≡ P.parts) × (r.1.share.amount ≡ 0)) }
-        ensures entries { IfOk result (λ r. (H.told r.0.host).entries ≡ (H.told host).entries) }
-        ensures world { IfOk result (λ r. (H.told r.0.host).world ≡ (H.told host).world) }
-        ensures back { IfErr result (λ r. ((H.told r.0).entries ≡ (H.told host).entries) × ((H.told r.0).world ≡ (H.told host).world) × (r.1.plan ≡ plan.plan)) }
+        ensures told { IfOk result (λ r. H.told r.0.host ≡ H.told host) }
+        ensures back { IfErr result (λ r. (H.told r.0 ≡ H.told host) × (r.1.plan ≡ plan.plan)) }
     {
         let mut host = host;
         match make_room(alloc, &plan.plan, &mut host) {
@@ -151,7 +149,7 @@ impl<H: Host + Drop, P: Naming> Book<H, P> {
     /// The history so far. It is legal, and matches what the host's record gained; so no two open bodies are of one class.
     pub fn history(&self) -> &[Event]
         ensures items { result.now ≡ self.now.history.items }
-        ensures kept { ∥ IsKept P.start result.now (H.told self.now.host).entries (H.told self.now.host).world ∥₁ }
+        ensures kept { ∥ IsKept P.start result.now (H.told self.now.host) ∥₁ }
         ensures apart { (m n : ℕ) → (m ≡ n → ⊥) → is_open result.now m ≡ true → is_open result.now n ≡ true → are_one_class P.start.plan.nodes m n ≡ false }
     {
         self.history.as_slice()
@@ -269,7 +267,7 @@ impl<H: Host + Drop, P: Naming> Book<H, P> {
         ensures host { result.host ≡ self.host }
         ensures plan { result.plan ≡ self.plan }
         ensures history { result.history ≡ self.history.items }
-        ensures kept { ∥ IsKept P.start result.history (H.told result.host).entries (H.told result.host).world ∥₁ }
+        ensures kept { ∥ IsKept P.start result.history (H.told result.host) ∥₁ }
         ensures cached { (n : ℕ) → is_cached P.start.plan.nodes n ≡ true → GoesByCacheRule (run_of P.start) result.history n }
         ensures verdict { IsVerdict (run_of P.start) result.history result.verdict }
         ensures complete { result.verdict ≡ Verdict.Well → (HasWork (run_of P.start) result.history → ⊥) → IsComplete (run_of P.start) result.history }

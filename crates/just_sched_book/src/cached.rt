@@ -1,12 +1,9 @@
 //! The calls of a host that the cache of a body makes.
 
-ghost use Rattle.std.specs.Prelude.{◌≡◌, ◌<◌, ◌^◌, ◌++◌, ℕ, List, length, Some, false, true};
-ghost use Rattle.std.specs.List.{list_any};
+ghost use Rattle.std.specs.Prelude.{◌≡◌, ◌<◌, ◌^◌, ℕ, List, length, Some, true};
 ghost use Rattle.just_path.specs.Path.{text_of};
-ghost use Rattle.just_host_record.specs.declared.entry.Entry.{Entry};
-ghost use Rattle.just_host_record.specs.Record.{is_failed};
 ghost use Rattle.just_sched_history.specs.Cached.{is_cached, entry_of, saved_text};
-ghost use Rattle.just_sched_book.specs.Gains.{SumGain, SumGains, LookGains, ProbeGain, SaveGains, CheckGain, KeepGain, LeavesWorld};
+ghost use Rattle.just_sched_book.specs.Gains.{Gains, GainsAndLeaves, SumGain, SumGains, LookGains, ProbeGain, SaveGains, CheckGain, KeepGain, LeavesWorld};
 ghost use Rattle.just_sched_history.specs.Nodes.{cache_at};
 ghost use Rattle.just_sched_history.specs.Touched.{IsLooked, IsWritten};
 
@@ -30,7 +27,8 @@ pub(crate) fn cache(plan: &Plan, node: u32) -> &CachePlan
 
 /// The sum of the file at a path, the input at that place.
 fn sum_at<H: Host>(host: &mut H, path: Utf8Path<'_>, place: u32) -> Result<[u8; 32], Reason>
-    ensures gains { (es : List Entry) × ((H.told host.new).entries ≡ (H.told host.old).entries ++ es) × SumGain (text_of path.entry) place (λ sum. sum) result es }
+    ensures gains { Gains (H.told host.old) (H.told host.new)
+        (SumGain (text_of path.entry) place (λ sum. sum) result) }
     ensures world { (H.told host.new).world ≡ (H.told host.old).world }
     ensures spare { H.spare host.new ≡ H.spare host.old }
 {
@@ -49,7 +47,8 @@ fn sum_all<H: Host>(
     paths: &[Utf8PathBuf],
 ) -> Result<Vec<[u8; 32]>, Reason>
     requires { length paths.now < 2 ^ 32 }
-    ensures gains { (es : List Entry) × ((H.told host.new).entries ≡ (H.told host.old).entries ++ es) × SumGains paths.now (λ v. v.items) result es }
+    ensures gains { Gains (H.told host.old) (H.told host.new)
+        (SumGains paths.now (λ v. v.items) result) }
     ensures world { (H.told host.new).world ≡ (H.told host.old).world }
     ensures spare { H.spare host.new ≡ H.spare host.old }
 {
@@ -72,8 +71,9 @@ fn probe<H: Host>(
     entry: Utf8Path<'_>,
     outputs: &[Utf8PathBuf],
 ) -> Result<Look, Reason>
-    ensures gains { (es : List Entry) × ((H.told host.new).entries ≡ (H.told host.old).entries ++ es) × ProbeGain (text_of entry.entry) outputs.now result es
-        × (list_any is_failed es ≡ false → LeavesWorld (λ seen. IsLooked (text_of entry.entry)) (H.told host.old).world (H.told host.new).world result) }
+    ensures gains { GainsAndLeaves (H.told host.old) (H.told host.new)
+        (ProbeGain (text_of entry.entry) outputs.now result)
+        (LeavesWorld (λ seen. IsLooked (text_of entry.entry)) result) }
     ensures spare { H.spare host.new ≡ H.spare host.old }
 {
     match host.probe(entry, outputs) {
@@ -91,8 +91,9 @@ fn look_at<H: Host>(
     plan: &CachePlan,
     sums: &[[u8; 32]],
 ) -> Result<Look, Reason>
-    ensures gains { (es : List Entry) × ((H.told host.new).entries ≡ (H.told host.old).entries ++ es) × ProbeGain (entry_of plan.now sums.now) plan.now.outputs result es
-        × (list_any is_failed es ≡ false → LeavesWorld (λ seen. IsLooked (entry_of plan.now sums.now)) (H.told host.old).world (H.told host.new).world result) }
+    ensures gains { GainsAndLeaves (H.told host.old) (H.told host.new)
+        (ProbeGain (entry_of plan.now sums.now) plan.now.outputs result)
+        (LeavesWorld (λ seen. IsLooked (entry_of plan.now sums.now)) result) }
     ensures spare { H.spare host.new ≡ H.spare host.old }
 {
     match entry_path_of(alloc, plan, sums) {
@@ -107,8 +108,9 @@ pub(crate) fn look<H: Host>(
     host: &mut H,
     plan: &CachePlan,
 ) -> Result<(Seq<[u8; 32]>, Look), Reason>
-    ensures gains { (es : List Entry) × ((H.told host.new).entries ≡ (H.told host.old).entries ++ es) × LookGains plan.now (λ seen. seen.0) (λ seen. seen.1) result es
-        × (list_any is_failed es ≡ false → LeavesWorld (λ seen. IsLooked (entry_of plan.now seen.0)) (H.told host.old).world (H.told host.new).world result) }
+    ensures gains { GainsAndLeaves (H.told host.old) (H.told host.new)
+        (LookGains plan.now (λ seen. seen.0) (λ seen. seen.1) result)
+        (LeavesWorld (λ seen. IsLooked (entry_of plan.now seen.0)) result) }
     ensures spare { H.spare host.new ≡ H.spare host.old }
 {
     let sums = match sum_all(alloc, host, plan.paths.as_slice()) {
@@ -123,7 +125,7 @@ pub(crate) fn look<H: Host>(
 
 /// Whether each output is there.
 fn check<H: Host>(host: &mut H, outputs: &[Utf8PathBuf]) -> Result<(), Reason>
-    ensures gains { (es : List Entry) × ((H.told host.new).entries ≡ (H.told host.old).entries ++ es) × CheckGain outputs.now result es }
+    ensures gains { Gains (H.told host.old) (H.told host.new) (CheckGain outputs.now result) }
     ensures world { (H.told host.new).world ≡ (H.told host.old).world }
     ensures spare { H.spare host.new ≡ H.spare host.old }
 {
@@ -138,8 +140,9 @@ fn check<H: Host>(host: &mut H, outputs: &[Utf8PathBuf]) -> Result<(), Reason>
 
 /// Makes an entry hold a text.
 fn keep<H: Host>(host: &mut H, entry: Utf8Path<'_>, text: &str) -> Result<(), Reason>
-    ensures gains { (es : List Entry) × ((H.told host.new).entries ≡ (H.told host.old).entries ++ es) × KeepGain (text_of entry.entry) result es
-        × (list_any is_failed es ≡ false → LeavesWorld (λ done. IsWritten (text_of entry.entry) text.now) (H.told host.old).world (H.told host.new).world result) }
+    ensures gains { GainsAndLeaves (H.told host.old) (H.told host.new)
+        (KeepGain (text_of entry.entry) result)
+        (LeavesWorld (λ done. IsWritten (text_of entry.entry) text.now) result) }
     ensures spare { H.spare host.new ≡ H.spare host.old }
 {
     match host.save(entry, text.as_bytes()) {
@@ -157,8 +160,10 @@ fn check_and_keep<H: Host>(
     entry: Utf8Path<'_>,
     text: &str,
 ) -> Result<(), Reason>
-    ensures gains { (sums : List (List ℕ)) → text_of entry.entry ≡ entry_of plan.now sums → (es : List Entry) × ((H.told host.new).entries ≡ (H.told host.old).entries ++ es) × SaveGains plan.now sums result es
-        × (list_any is_failed es ≡ false → LeavesWorld (λ done. IsWritten (text_of entry.entry) text.now) (H.told host.old).world (H.told host.new).world result) }
+    ensures gains { (sums : List (List ℕ)) → text_of entry.entry ≡ entry_of plan.now sums
+        → GainsAndLeaves (H.told host.old) (H.told host.new)
+        (SaveGains plan.now sums result)
+        (LeavesWorld (λ done. IsWritten (text_of entry.entry) text.now) result) }
     ensures spare { H.spare host.new ≡ H.spare host.old }
 {
     match check(host, plan.outputs.as_slice()) {
@@ -174,8 +179,9 @@ pub(crate) fn save<H: Host>(
     plan: &CachePlan,
     sums: &[[u8; 32]],
 ) -> Result<(), Reason>
-    ensures gains { (es : List Entry) × ((H.told host.new).entries ≡ (H.told host.old).entries ++ es) × SaveGains plan.now sums.now result es
-        × (list_any is_failed es ≡ false → LeavesWorld (λ done. IsWritten (entry_of plan.now sums.now) (saved_text plan.now)) (H.told host.old).world (H.told host.new).world result) }
+    ensures gains { GainsAndLeaves (H.told host.old) (H.told host.new)
+        (SaveGains plan.now sums.now result)
+        (LeavesWorld (λ done. IsWritten (entry_of plan.now sums.now) (saved_text plan.now)) result) }
     ensures spare { H.spare host.new ≡ H.spare host.old }
 {
     let path = match entry_path_of(alloc, plan, sums) {

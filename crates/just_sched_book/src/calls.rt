@@ -1,6 +1,6 @@
 //! The calls of a host that the events of a body stand for.
 
-ghost use Rattle.std.specs.Prelude.{◌≡◌, ◌<◌, ◌++◌, List, [], length, Option, Some, is_some, true, false, IfOk};
+ghost use Rattle.std.specs.Prelude.{◌≡◌, ◌<◌, ◌++◌, List, length, Option, Some, is_some, true, false, IfOk};
 ghost use Rattle.std.specs.List.{list_any};
 ghost use Rattle.std.specs.Option.{option_copied};
 ghost use Rattle.std.specs.Str.{str_eq_ignore_ascii_case};
@@ -8,7 +8,7 @@ ghost use Rattle.just_host_record.specs.declared.entry.Entry.{Entry};
 ghost use Rattle.just_host_record.specs.Record.{children, is_failed};
 ghost use Rattle.just_sched_history.specs.Match.{is_yes as confirms};
 ghost use Rattle.just_sched_history.specs.Nodes.{prompt_at, banner_at, command_at};
-ghost use Rattle.just_sched_book.specs.Gains.{TellGains, AskGains, StartGains, IfRefused};
+ghost use Rattle.just_sched_book.specs.Gains.{Gains, TellGains, AskGains, StartGains, IfRefused};
 
 use just_exec_work::command;
 use just_host_record::{Call, Host, HostFault, Stream};
@@ -34,7 +34,7 @@ pub(crate) fn planned(plan: &Plan, node: u32, place: usize) -> Option<&Command>
 
 /// Prints a text to standard error, where it isn't empty.
 pub(crate) fn tell<H: Host>(host: &mut H, text: &str) -> Result<(), Reason>
-    ensures gains { (es : List Entry) × ((H.told host.new).entries ≡ (H.told host.old).entries ++ es) × TellGains text.now result es }
+    ensures gains { Gains (H.told host.old) (H.told host.new) (TellGains text.now result) }
     ensures world { (H.told host.new).world ≡ (H.told host.old).world }
     ensures spare { H.spare host.new ≡ H.spare host.old }
 {
@@ -79,7 +79,7 @@ fn is_yes(answer: &str) -> bool
 
 /// Asks a prompt; whether the answer confirms.
 pub(crate) fn ask<H: Host>(host: &mut H, prompt: &str) -> Result<bool, Reason>
-    ensures gains { (es : List Entry) × ((H.told host.new).entries ≡ (H.told host.old).entries ++ es) × AskGains prompt.now result es }
+    ensures gains { Gains (H.told host.old) (H.told host.new) (AskGains prompt.now result) }
     ensures world { (H.told host.new).world ≡ (H.told host.old).world }
     ensures spare { H.spare host.new ≡ H.spare host.old }
 {
@@ -93,7 +93,8 @@ pub(crate) fn ask<H: Host>(host: &mut H, prompt: &str) -> Result<bool, Reason>
 
 /// Prints a command's echo, and starts its child.
 pub(crate) fn start_child<H: Host>(host: &mut H, command: &Command) -> Result<H::Child, Reason>
-    ensures gains { (es : List Entry) × ((H.told host.new).entries ≡ (H.told host.old).entries ++ es) × StartGains H.child_number command.now result es
+    ensures gains { (es : List Entry) × ((H.told host.new).entries ≡ (H.told host.old).entries ++ es)
+        × StartGains H.child_number command.now result es
         × IfRefused result (list_any is_failed es ≡ false → (H.told host.new).world ≡ (H.told host.old).world) }
     ensures number { IfOk result (λ c. H.child_number c ≡ children (H.told host.old).entries) }
     ensures spare { H.spare host.new ≡ H.spare host.old }

@@ -15,8 +15,7 @@ returns-in-Ok-look_at-clause-gains g c =
     let same : c.as_slice-2.result.now ≡ c.from.result = c.as_slice-2.ensures.value ∙ sym c.from.ensures in
     let first = c.in-Ok.ensures.gains in
     let second = c.in-Ok-look_at.ensures.gains in
-    looked_together plan c.from.result (g.H.Host.told c.args.host.now).entries (g.H.Host.told c.sum_all.new.host).entries (g.H.Host.told c.look_at.new.host).entries first.0 second.0
-    (g.H.Host.told c.args.host.now).world (g.H.Host.told c.sum_all.new.host).world (g.H.Host.told c.look_at.new.host).world
+    looked_together plan c.from.result (g.H.Host.told c.args.host.now) (g.H.Host.told c.sum_all.new.host) (g.H.Host.told c.look_at.new.host) first.0 second.0
     first.1 (ap length c.from.ensures ∙ first.2.0 ∙ ap length c.as_slice.ensures) (first.2.1 ∙ ap₂ summed_entries c.as_slice.ensures (sym c.from.ensures)) c.in-Ok.ensures.world second.1
     c.in-Ok-look_at.seen (subst (λ s. ProbeGain (entry_of plan s) plan.outputs (Ok c.in-Ok-look_at.seen) second.0) same second.2)
     (subst (λ s. list_any is_failed second.0 ≡ false → IsLooked (entry_of plan s) (g.H.Host.told c.sum_all.new.host).world (g.H.Host.told c.look_at.new.host).world) same second.3)
@@ -27,7 +26,6 @@ returns-in-Err-look_at-clause-gains g c =
     let same : c.as_slice-2.result.now ≡ c.in-Ok.sums.items = c.as_slice-2.ensures.value in
     let first = c.in-Ok.ensures.gains in
     let second = c.in-Err-look_at.ensures.gains in
-    unlooked_together plan c.in-Ok.sums.items (g.H.Host.told c.args.host.now).entries (g.H.Host.told c.sum_all.new.host).entries (g.H.Host.told c.look_at.new.host).entries first.0 second.0
-    (g.H.Host.told c.args.host.now).world (g.H.Host.told c.sum_all.new.host).world (g.H.Host.told c.look_at.new.host).world
+    unlooked_together plan c.in-Ok.sums.items (g.H.Host.told c.args.host.now) (g.H.Host.told c.sum_all.new.host) (g.H.Host.told c.look_at.new.host) first.0 second.0
     first.1 (first.2.0 ∙ ap length c.as_slice.ensures) (first.2.1 ∙ ap (λ p. summed_entries p c.in-Ok.sums.items) c.as_slice.ensures) c.in-Ok.ensures.world second.1
     c.in-Err-look_at.reason (subst (λ s. ProbeGain (entry_of plan s) plan.outputs (Err c.in-Err-look_at.reason) second.0) same second.2) second.3

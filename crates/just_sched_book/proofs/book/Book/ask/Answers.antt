@@ -35,7 +35,7 @@ pub invariant_of-self-clause-account : goal.invariant_of-self-clause-account
 invariant_of-self-clause-account g c =
     let s = c.args.self.now in
     let at = sym (ap (λ p. prompt_at p.nodes c.args.node) s.plan_named) ∙ c.prompt.ensures in
-    answered_account s.account c.args.node c.requires.to_ask c.requires.calm _ c.in-Ok.ensures.gains.0 _ _ _ c.in-Ok.said c.note_answer.ensures.items c.in-Ok.ensures.gains.1
+    answered_account s.account c.args.node c.requires.to_ask c.requires.calm _ c.in-Ok.ensures.gains.0 _ _ c.in-Ok.said c.note_answer.ensures.items c.in-Ok.ensures.gains.1
     (ask_stands (run_of g.P.Naming.start) s.history.items c.args.node c.prompt.result.now c.in-Ok.said c.in-Ok.ensures.gains.0 at c.in-Ok.ensures.gains.2) c.in-Ok.ensures.world (omega (arith, c.in-Ok.ensures.spare))
 
 pub invariant_of-self-in-Err-clause-account : goal.invariant_of-self-in-Err-clause-account
@@ -43,7 +43,7 @@ invariant_of-self-in-Err-clause-account g c =
     let s = c.args.self.now in
     let at = sym (ap (λ p. prompt_at p.nodes c.args.node) s.plan_named) ∙ c.prompt.ensures in
     let fails = ask_fails (run_of g.P.Naming.start) s.history.items c.args.node c.prompt.result.now c.in-Err.reason c.in-Err.ensures.gains.0 c.requires.to_ask at c.in-Err.ensures.gains.2 in
-    noted s.account _ c.in-Err.ensures.gains.0 _ _ _ (event.Done c.args.node (outcome.Failed c.in-Err.reason)) c.note.ensures.items c.in-Err.ensures.gains.1 fails.0 fails.1
+    noted s.account _ c.in-Err.ensures.gains.0 _ _ (event.Done c.args.node (outcome.Failed c.in-Err.reason)) c.note.ensures.items c.in-Err.ensures.gains.1 fails.0 fails.1
     (λ _ _. c.in-Err.ensures.world) (omega (arith, c.in-Err.ensures.spare)) refl
 
 pub invariant_of-self-clause-answered : goal.invariant_of-self-clause-answered

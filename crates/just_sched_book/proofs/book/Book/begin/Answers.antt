@@ -37,7 +37,7 @@ pub invariant_of-self-clause-account : goal.invariant_of-self-clause-account
 invariant_of-self-clause-account g c =
     let s = c.args.self.now in
     let at = c.banner.ensures ∙ ap (λ p. banner_at p.nodes c.args.node) s.plan_named in
-    noted s.account _ c.in-Ok.ensures.gains.0 _ _ _ (event.Begun c.args.node) c.note.ensures.items c.in-Ok.ensures.gains.1 (c.requires.inside, c.requires.fresh, c.requires.may)
+    noted s.account _ c.in-Ok.ensures.gains.0 _ _ (event.Begun c.args.node) c.note.ensures.items c.in-Ok.ensures.gains.1 (c.requires.inside, c.requires.fresh, c.requires.may)
     (begun_of (run_of g.P.Naming.start) s.history.items c.args.node (λ made. c.in-Ok.ensures.gains.0 ≡ made ++ printed_entries (banner_at g.P.Naming.start.plan.nodes c.args.node)) c.requires.may (c.in-Ok.ensures.gains.2 ∙ ap printed_entries at))
     (λ _ _. c.in-Ok.ensures.world) (omega (arith, c.in-Ok.ensures.spare)) refl
 
@@ -46,7 +46,7 @@ invariant_of-self-in-Err-clause-account g c =
     let s = c.args.self.now in
     let at = c.banner.ensures ∙ ap (λ p. banner_at p.nodes c.args.node) s.plan_named in
     let fails = begin_fails (Unit {0}) (run_of g.P.Naming.start) s.history.items c.args.node c.in-Err.reason c.in-Err.ensures.gains.0 (c.requires.inside, c.requires.fresh, c.requires.may) (subst (λ b. TellGains {A = Unit {0}} b (Err c.in-Err.reason) c.in-Err.ensures.gains.0) at c.in-Err.ensures.gains.2) in
-    noted s.account _ c.in-Err.ensures.gains.0 _ _ _ (event.Done c.args.node (outcome.Failed c.in-Err.reason)) c.note-in-Err.ensures.items c.in-Err.ensures.gains.1 fails.0 fails.1
+    noted s.account _ c.in-Err.ensures.gains.0 _ _ (event.Done c.args.node (outcome.Failed c.in-Err.reason)) c.note-in-Err.ensures.items c.in-Err.ensures.gains.1 fails.0 fails.1
     (λ _ _. c.in-Err.ensures.world) (omega (arith, c.in-Err.ensures.spare)) refl
 
 pub returns-in-Ok-clause-grown : goal.returns-in-Ok-clause-grown

@@ -26,7 +26,7 @@ verdict-verdict-requires-clause-caught g c = signalled_of c.args.self.account �
 pub returns-clause-kept : goal.returns-clause-kept
 returns-clause-kept g c =
     let s = c.args.self in
-    subst (λ h. ∥ IsKept g.P.Naming.start h (g.H.Host.told s.host).entries (g.H.Host.told s.host).world ∥₁) (sym c.from.ensures) (kept_of s.account)
+    subst (λ h. ∥ IsKept g.P.Naming.start h (g.H.Host.told s.host) ∥₁) (sym c.from.ensures) (kept_of s.account)
 
 pub returns-clause-verdict : goal.returns-clause-verdict
 returns-clause-verdict g c =
@@ -34,7 +34,7 @@ returns-clause-verdict g c =
 
 pub returns-clause-complete : goal.returns-clause-complete
 returns-clause-complete g c = λ well nothing.
-    well_complete g.P.Naming.start _ _ _ c.verdict-verdict.result (returns-clause-kept g c) (subst EachNoIsDone (sym c.from.ensures) c.args.self.answered) (λ n lt. ap (λ h. is_open h n) c.from.ensures ∙ c.requires n lt) (inr nothing) (returns-clause-verdict g c) well
+    well_complete g.P.Naming.start _ _ c.verdict-verdict.result (returns-clause-kept g c) (subst EachNoIsDone (sym c.from.ensures) c.args.self.answered) (λ n lt. ap (λ h. is_open h n) c.from.ensures ∙ c.requires n lt) (inr nothing) (returns-clause-verdict g c) well
 
 pub returns-clause-cached : goal.returns-clause-cached
-returns-clause-cached g c = kept_rule g.P.Naming.start _ _ _ (returns-clause-kept g c)
+returns-clause-cached g c = kept_rule g.P.Naming.start _ _ (returns-clause-kept g c)

@@ -41,4 +41,4 @@ invariant_of-self-clause-answered g c = no_kept c.args.self.now.history.items _ 
 pub note-requires-clause-classes : goal.note-requires-clause-classes
 note-requires-clause-classes g c =
     let s = c.args.self.now in
-    λ m ne o. ap (λ p. are_one_class p.nodes m c.args.node) s.plan_named ∙ kept_apart g.P.Naming.start s.history.items _ _ (kept_of s.account) m c.args.node ne o c.requires.opened
+    λ m ne o. ap (λ p. are_one_class p.nodes m c.args.node) s.plan_named ∙ kept_apart g.P.Naming.start s.history.items _ (kept_of s.account) m c.args.node ne o c.requires.opened

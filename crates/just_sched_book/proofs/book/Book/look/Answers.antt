@@ -40,7 +40,7 @@ pub invariant_of-self-clause-account : goal.invariant_of-self-clause-account
 invariant_of-self-clause-account g c =
     let s = c.args.self.now in
     let at = sym (ap (λ p. cache_at p.nodes c.args.node) s.plan_named) ∙ c.cache.ensures in
-    noted s.account _ c.in-Ok.ensures.gains.0 _ _ _ (event.Looked c.args.node c.in-Ok.sums c.in-Ok.seen) c.note.ensures.items c.in-Ok.ensures.gains.1 (look_may (run_of g.P.Naming.start) s.history.items c.args.node c.cache.result.now at c.in-Ok.sums c.in-Ok.seen (c.requires.inside, c.requires.cached, c.requires.fresh) c.in-Ok.ensures.gains.2.0)
+    noted s.account _ c.in-Ok.ensures.gains.0 _ _ (event.Looked c.args.node c.in-Ok.sums c.in-Ok.seen) c.note.ensures.items c.in-Ok.ensures.gains.1 (look_may (run_of g.P.Naming.start) s.history.items c.args.node c.cache.result.now at c.in-Ok.sums c.in-Ok.seen (c.requires.inside, c.requires.cached, c.requires.fresh) c.in-Ok.ensures.gains.2.0)
     (look_stands (run_of g.P.Naming.start) s.history.items c.args.node c.cache.result.now at c.in-Ok.sums c.in-Ok.seen c.in-Ok.ensures.gains.0 c.in-Ok.ensures.gains.2.1)
     (λ z none. look_makes (run_of g.P.Naming.start) s.history.items c.args.node c.cache.result.now at c.in-Ok.sums c.in-Ok.seen _ _ (c.in-Ok.ensures.gains.3 none)) (omega (arith, c.in-Ok.ensures.spare)) refl
 
@@ -49,7 +49,7 @@ invariant_of-self-in-Err-clause-account g c =
     let s = c.args.self.now in
     let at = sym (ap (λ p. cache_at p.nodes c.args.node) s.plan_named) ∙ c.cache.ensures in
     let fails = look_fails (run_of g.P.Naming.start) s.history.items c.args.node c.cache.result.now at c.in-Err.reason c.in-Err.ensures.gains.0 (c.requires.inside, c.requires.cached, c.requires.fresh) c.in-Err.ensures.gains.2 in
-    noted s.account _ c.in-Err.ensures.gains.0 _ _ _ (event.Done c.args.node (outcome.Failed c.in-Err.reason)) c.note-in-Err.ensures.items c.in-Err.ensures.gains.1 fails.0 fails.1
+    noted s.account _ c.in-Err.ensures.gains.0 _ _ (event.Done c.args.node (outcome.Failed c.in-Err.reason)) c.note-in-Err.ensures.items c.in-Err.ensures.gains.1 fails.0 fails.1
     (λ z none. c.in-Err.ensures.gains.3 none) (omega (arith, c.in-Err.ensures.spare)) refl
 
 pub returns-in-Ok-clause-grown : goal.returns-in-Ok-clause-grown

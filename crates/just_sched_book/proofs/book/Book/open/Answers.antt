@@ -1,5 +1,6 @@
 -- A book of no events yet has a right account, and room for all.
-use Rattle.std.proofs.Common.{◌≡◌, ◌+◌, arith, ap, sym, ◌∙◌, subst, length}
+use Rattle.std.proofs.Common.{◌≡◌, ◌+◌, arith, refl, ap, sym, ◌∙◌, subst, length}
+use Rattle.just_host_record.proofs.Moments.{moment_by}
 use Rattle.just_sched_history.specs.Legal.{all_starts}
 use Rattle.just_sched_history.specs.Room.{slots, total_commands, settle_count}
 use Rattle.just_sched_history.specs.Rows.{IsNoted}
@@ -10,7 +11,7 @@ use Rattle.just_sched_book.proofs.book.Book.open.Goals as goal
 
 pub invariant_of-book-clause-account : goal.invariant_of-book-clause-account
 invariant_of-book-clause-account g c =
-    account_none g.P.Naming.start c.in-Ok.field-0.history.items _ _ _ c.in-Ok.ensures.empty (c.in-Ok.ensures.entries ∙ c.requires.entries) (c.in-Ok.ensures.world ∙ c.requires.world)
+    account_none g.P.Naming.start c.in-Ok.field-0.history.items _ _ c.in-Ok.ensures.empty (moment_by _ _ c.in-Ok.ensures.entries c.in-Ok.ensures.world ∙ c.requires.told)
     (omega (arith, c.in-Ok.ensures.spare, ap (λ p. total_commands p.nodes) c.args.plan.named))
 
 pub invariant_of-book-clause-roomy : goal.invariant_of-book-clause-roomy
@@ -30,3 +31,9 @@ invariant_of-book-clause-tallied g c =
 
 pub invariant_of-book-clause-answered : goal.invariant_of-book-clause-answered
 invariant_of-book-clause-answered g c = subst EachNoIsDone (sym c.in-Ok.ensures.empty) (λ n a. absurd (cc a))
+
+pub returns-in-Ok-clause-told : goal.returns-in-Ok-clause-told
+returns-in-Ok-clause-told g c = moment_by _ _ c.in-Ok.ensures.entries c.in-Ok.ensures.world
+
+pub returns-in-Err-clause-back : goal.returns-in-Err-clause-back
+returns-in-Err-clause-back g c = (moment_by _ _ c.in-Err.ensures.entries c.in-Err.ensures.world, refl)

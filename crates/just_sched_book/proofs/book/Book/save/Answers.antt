@@ -43,7 +43,7 @@ pub invariant_of-self-clause-account : goal.invariant_of-self-clause-account
 invariant_of-self-clause-account g c =
     let s = c.args.self.now in
     let at = sym (ap (λ p. cache_at p.nodes c.args.node) s.plan_named) ∙ c.cache.ensures in
-    noted s.account _ c.in-Ok.ensures.gains.0 _ _ _ (event.Saved c.args.node) c.note.ensures.items c.in-Ok.ensures.gains.1 ((c.requires.inside, c.requires.begun, c.requires.still, c.requires.well, c.requires.cached, c.requires.fresh))
+    noted s.account _ c.in-Ok.ensures.gains.0 _ _ (event.Saved c.args.node) c.note.ensures.items c.in-Ok.ensures.gains.1 ((c.requires.inside, c.requires.begun, c.requires.still, c.requires.well, c.requires.cached, c.requires.fresh))
     (let seen = (seen_of s.history.items c.args.node (looked_here s.account c.args.node c.requires.cached c.requires.begun)).0 in let seen_is = (seen_of s.history.items c.args.node (looked_here s.account c.args.node c.requires.cached c.requires.begun)).1 in save_stands (run_of g.P.Naming.start) s.history.items c.args.node c.cache.result.now at seen seen_is c.in-Ok.ensures.gains.0 (subst (λ k. SaveGains c.cache.result.now k (Ok tt) c.in-Ok.ensures.gains.0) (sums_are s.history.items _ c.args.node c.seen_sums-sums.result.now seen c.as_slice.ensures.value seen_is c.seen_sums-sums.ensures) c.in-Ok.ensures.gains.2))
     (λ z none. let seen = seen_of s.history.items c.args.node (looked_here s.account c.args.node c.requires.cached c.requires.begun) in save_makes (run_of g.P.Naming.start) s.history.items c.args.node c.cache.result.now at seen.0 seen.1 c.seen_sums-sums.result.now _ _ (sums_are s.history.items _ c.args.node c.seen_sums-sums.result.now seen.0 c.as_slice.ensures.value seen.1 c.seen_sums-sums.ensures) (c.in-Ok.ensures.gains.3 none)) (omega (arith, c.in-Ok.ensures.spare)) refl
 
@@ -52,7 +52,7 @@ invariant_of-self-in-Err-clause-account g c =
     let s = c.args.self.now in
     let at = sym (ap (λ p. cache_at p.nodes c.args.node) s.plan_named) ∙ c.cache.ensures in
     let fails = let seen = (seen_of s.history.items c.args.node (looked_here s.account c.args.node c.requires.cached c.requires.begun)).0 in let seen_is = (seen_of s.history.items c.args.node (looked_here s.account c.args.node c.requires.cached c.requires.begun)).1 in save_fails (run_of g.P.Naming.start) s.history.items c.args.node c.cache.result.now at seen seen_is c.in-Err.reason c.in-Err.ensures.gains.0 (c.requires.inside, c.requires.begun, c.requires.still, c.requires.well, c.requires.cached, c.requires.fresh) (subst (λ k. SaveGains c.cache.result.now k (Err c.in-Err.reason) c.in-Err.ensures.gains.0) (sums_are s.history.items _ c.args.node c.seen_sums-sums.result.now seen c.as_slice.ensures.value seen_is c.seen_sums-sums.ensures) c.in-Err.ensures.gains.2) in
-    noted s.account _ c.in-Err.ensures.gains.0 _ _ _ (event.Done c.args.node (outcome.Failed c.in-Err.reason)) c.note-in-Err.ensures.items c.in-Err.ensures.gains.1 fails.0 fails.1
+    noted s.account _ c.in-Err.ensures.gains.0 _ _ (event.Done c.args.node (outcome.Failed c.in-Err.reason)) c.note-in-Err.ensures.items c.in-Err.ensures.gains.1 fails.0 fails.1
     (λ z none. c.in-Err.ensures.gains.3 none) (omega (arith, c.in-Err.ensures.spare)) refl
 
 pub returns-in-Ok-clause-grown : goal.returns-in-Ok-clause-grown

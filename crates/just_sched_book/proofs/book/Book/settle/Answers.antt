@@ -31,7 +31,7 @@ note-requires-in-Err-clause-room g c =
 pub invariant_of-self-clause-account : goal.invariant_of-self-clause-account
 invariant_of-self-clause-account g c =
     let s = c.args.self.now in
-    noted s.account _ _ _ _ _ (event.Ended c.args.node c.place-place.result c.args.child c.in-Ok.status) c.note.ensures.items c.in-Ok.ensures.entries
+    noted s.account _ _ _ _ (event.Ended c.args.node c.place-place.result c.args.child c.in-Ok.status) c.note.ensures.items c.in-Ok.ensures.entries
     ((inside_running s.account c.args.node c.requires.runs.runs, c.requires.runs.runs), c.requires.runs.started ∙ ap (λ i. Some (i, c.args.child)) (sym (c.place-place.ensures _ _ c.requires.runs.started)))
     (settled_ok c.args.child (g.H.Host.done_number c.args.ended) (g.H.Host.waited c.args.ended) c.in-Ok.status c.in-Ok.ensures.answer)
     (λ z none. absurd (running_started s.history.items (event.Ended c.args.node c.place-place.result c.args.child c.in-Ok.status) c.args.node c.requires.runs.runs z)) (omega (arith, c.in-Ok.ensures.spare)) refl
@@ -40,7 +40,7 @@ pub invariant_of-self-in-Err-clause-account : goal.invariant_of-self-in-Err-clau
 invariant_of-self-in-Err-clause-account g c =
     let s = c.args.self.now in
     let e = event.Done c.args.node (outcome.Failed (reason.Fault call.Wait)) in
-    noted s.account _ _ _ _ _ e c.note-in-Err.ensures.items c.in-Err.ensures.entries (inside_running s.account c.args.node c.requires.runs.runs, c.requires.runs.runs)
+    noted s.account _ _ _ _ e c.note-in-Err.ensures.items c.in-Err.ensures.entries (inside_running s.account c.args.node c.requires.runs.runs, c.requires.runs.runs)
     (settled_err (run_of g.P.Naming.start) s.history.items c.args.node c.requires.runs.place c.args.child (g.H.Host.done_number c.args.ended) (g.H.Host.waited c.args.ended) c.in-Err.field-0 c.requires.runs.started c.requires.own c.in-Err.ensures.answer)
     (λ z none. absurd (running_started s.history.items e c.args.node c.requires.runs.runs z)) (omega (arith, c.in-Err.ensures.spare)) refl
 

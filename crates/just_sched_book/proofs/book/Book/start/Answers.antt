@@ -34,7 +34,7 @@ note-requires-in-Err-clause-room g c =
 pub invariant_of-self-clause-account : goal.invariant_of-self-clause-account
 invariant_of-self-clause-account g c =
     let s = c.args.self.now in
-    noted s.account _ c.in-Ok.ensures.gains.0 _ _ _ (event.Started c.args.node c.args.place c.number-child.result) c.note.ensures.items c.in-Ok.ensures.gains.1
+    noted s.account _ c.in-Ok.ensures.gains.0 _ _ (event.Started c.args.node c.args.place c.number-child.result) c.note.ensures.items c.in-Ok.ensures.gains.1
     ((c.requires.inside, c.requires.begun, c.requires.still, c.requires.due), c.requires.calm, c.number-child.ensures ∙ c.in-Ok.ensures.number ∙ fresh_child s.account)
     (start_stands (run_of g.P.Naming.start) s.history.items c.args.node c.args.place c.number-child.result c.in-Some.command.now c.in-Ok.ensures.gains.0 (sym (c.in-Some.ensures ∙ ap (λ p. command_at p.nodes c.args.node c.args.place) s.plan_named)) (c.in-Ok.ensures.gains.2 ∙ ap (λ k. started_entries k c.in-Some.command.now) (sym c.number-child.ensures)))
     (λ z none. absurd (started_not_none s.history.items c.args.node c.args.place c.number-child.result z)) (omega (arith, c.in-Ok.ensures.spare)) refl
@@ -43,7 +43,7 @@ pub invariant_of-self-in-Err-clause-account : goal.invariant_of-self-in-Err-clau
 invariant_of-self-in-Err-clause-account g c =
     let s = c.args.self.now in
     let fails = start_fails g.H.Host.child_number (run_of g.P.Naming.start) s.history.items c.args.node c.args.place c.in-Some.command.now c.in-Err.reason c.in-Err.ensures.gains.0 (c.requires.inside, c.requires.begun, c.requires.still, c.requires.due) (sym (c.in-Some.ensures ∙ ap (λ p. command_at p.nodes c.args.node c.args.place) s.plan_named)) c.in-Err.ensures.gains.2 in
-    noted s.account _ c.in-Err.ensures.gains.0 _ _ _ (event.Done c.args.node (outcome.Failed c.in-Err.reason)) c.note-in-Err.ensures.items c.in-Err.ensures.gains.1 fails.0 fails.1
+    noted s.account _ c.in-Err.ensures.gains.0 _ _ (event.Done c.args.node (outcome.Failed c.in-Err.reason)) c.note-in-Err.ensures.items c.in-Err.ensures.gains.1 fails.0 fails.1
     (λ z none. c.in-Err.ensures.gains.3 none) (omega (arith, c.in-Err.ensures.spare)) refl
 
 pub returns-in-Ok-clause-grown : goal.returns-in-Ok-clause-grown
