@@ -1,8 +1,7 @@
 -- The dotenv pairs of a project, as an answer of a run.
 use Rattle.std.proofs.Common.{◌≡◌, ◌⊎◌, inl, inr, ◌++◌, ℕ, false, true≢false, List, Option, Result, Ok, Err, refl, sym, ◌∙◌, ap, subst}
 use Rattle.just_path_text.specs.declared.environ.Environ.{Environ}
-use Rattle.just_host_record.specs.declared.entry.Entry.{Entry}
-use Rattle.just_host_record.specs.World.{World}
+use Rattle.just_host_record.specs.World.{World, Moment}
 use Rattle.just_lang_types.specs.declared.project.Justfile.{Justfile}
 use Rattle.just_lang_types.specs.declared.scope.DotenvOf.{DotenvOf}
 use Rattle.just_env.specs.declared.env_error.EnvError.{EnvError}
@@ -44,26 +43,28 @@ same_world old new (env.DotenvCommand command output.Utf8) left = left
 same_world old new (env.Io io file) left = left
 same_world old new env.NoMemory left = left
 
-module _ (told after : Option World) (old new : List Entry) (wanted : Wanted) (environ : Environ) (j : Justfile) where
+module _ (before after : Moment) (wanted : Wanted) (environ : Environ) (j : Justfile) where
   abbrev Loads : List Capture → Result (List DotenvOf) EnvError → Type 0
-  Loads cs r = LoadsProject told wanted.dotenv wanted.flags environ.pairs j cs r
+  Loads cs r = LoadsProject before.world wanted.dotenv wanted.flags environ.pairs j cs r
 
   -- the pairs
-  pub pairs_loaded : (pairs : List DotenvOf) → RunsEnv Loads (BeginsLoading told wanted environ j) told after old new (Ok pairs) → Runs (LoadsPairs told wanted environ j) (BeginsLoading told wanted environ j) told after old new (Ok pairs)
+  pub pairs_loaded : (pairs : List DotenvOf) → RunsEnv Loads (BeginsLoading before.world wanted environ j) before after (Ok pairs)
+      → Runs (LoadsPairs before.world wanted environ j) (BeginsLoading before.world wanted environ j) before after (Ok pairs)
   pairs_loaded pairs runs = runs
 
-  why : (cs : List Capture) (f : EnvError) (e : Error) → e ≡ error_of_env f → (f ≡ env.NoMemory) ⊎ Loads cs (Err f) → OrMemory (λ x. LoadsPairs told wanted environ j cs (Err x)) e
+  why : (cs : List Capture) (f : EnvError) (e : Error) → e ≡ error_of_env f → (f ≡ env.NoMemory) ⊎ Loads cs (Err f) → OrMemory (λ x. LoadsPairs before.world wanted environ j cs (Err x)) e
   why cs f e is (inl wants) = inl (is ∙ ap (λ x. error_of_env x) wants)
   why cs f e is (inr loads) = inr (f, loads, is)
 
   -- or why there are none
-  pub pairs_refused : (f : EnvError) (e : Error) → e ≡ error_of_env f → RunsEnv {A = List DotenvOf} Loads (BeginsLoading told wanted environ j) told after old new (Err f)
-      → Runs {A = List DotenvOf} (LoadsPairs told wanted environ j) (BeginsLoading told wanted environ j) told after old new (Err e)
+  pub pairs_refused : (f : EnvError) (e : Error) → e ≡ error_of_env f
+      → RunsEnv {A = List DotenvOf} Loads (BeginsLoading before.world wanted environ j) before after (Err f)
+      → Runs {A = List DotenvOf} (LoadsPairs before.world wanted environ j) (BeginsLoading before.world wanted environ j) before after (Err e)
   pairs_refused f e is (cs, answer, (middle, path, gains, grew), left, begun) = (
     cs,
     why cs f e is answer,
     (middle, path, gains, grew ∙ ap (λ es. middle ++ es) (same_entries path f ∙ sym (ap (λ x. entries_of path x) is))),
-    subst (λ x. ErrorLeaves (told_behind told cs) after x) (sym is) (same_world (told_behind told cs) after f left),
+    subst (λ x. ErrorLeaves (told_behind before.world cs) after.world x) (sym is) (same_world (told_behind before.world cs) after.world f left),
     begun,
   )
 

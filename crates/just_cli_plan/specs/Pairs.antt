@@ -6,7 +6,7 @@ use Rattle.just_lang_types.specs.declared.scope.DotenvOf.{DotenvOf}
 use Rattle.just_host_record.specs.declared.entry.Entry.{Entry}
 use Rattle.just_host_record.specs.declared.entry.HostFault.{HostFault}
 use Rattle.just_host_record.specs.Record.{refused}
-use Rattle.just_host_record.specs.World.{World, FaultLeaves}
+use Rattle.just_host_record.specs.World.{World, Moment, FaultLeaves}
 use Rattle.just_env.specs.declared.env_error.EnvError.{EnvError}
 use Rattle.just_env.specs.DotenvAnswers.{GainsAmong}
 use Rattle.just_env.specs.Captures.{Capture, told_behind}
@@ -57,5 +57,8 @@ Answers P (Ok x) = P (Ok x)
 Answers P (Err e) = OrMemory (λ f. P (Err f)) e
 
 -- An answer, with some children that were run to their end for it, and were begun so; and what it leaves in the record and of the world.
-abbrev pub Runs : {A : Type 0} → (List Capture → Result A Error → Type 0) → (List Capture → Type 0) → Option World → Option World → List Entry → List Entry → Result A Error → Type 0
-Runs P begins told after old new r = (cs : List Capture) × Answers (P cs) r × Gains cs old new r × Leaves told cs after r × begins cs
+abbrev pub Runs : {A : Type 0} → (List Capture → Result A Error → Type 0) → (List Capture → Type 0)
+    → Moment → Moment → Result A Error → Type 0
+Runs P begins before after r =
+    (cs : List Capture) × Answers (P cs) r × Gains cs before.entries after.entries r
+    × Leaves before.world cs after.world r × begins cs

@@ -22,7 +22,10 @@ pub fn load_pairs<H: Host>(
     // The pairs are those that the settings of the modules and the words ask for, or the first refusal. The record gains the entries of the children that were
     // run to their end for them, misses among these, and the entry of the refused call; only these children may touch the files. They are those
     // that the commands of the modules start, in their order, want of memory too.
-    ensures loaded { Runs (LoadsPairs (H.told host.old).world wanted.now environ.now justfile.now) (BeginsLoading (H.told host.old).world wanted.now environ.now justfile.now) (H.told host.old).world (H.told host.new).world (H.told host.old).entries (H.told host.new).entries result }
+    ensures loaded { Runs
+        (LoadsPairs (H.told host.old).world wanted.now environ.now justfile.now)
+        (BeginsLoading (H.told host.old).world wanted.now environ.now justfile.now)
+        (H.told host.old) (H.told host.new) result }
 {
     match load_modules(
         alloc,
