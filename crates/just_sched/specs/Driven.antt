@@ -1,7 +1,6 @@
 -- What the drive of a run promises.
-use Rattle.std.specs.Prelude.{ℕ, ◌≡◌, ◌<◌, ◌⊎◌, true, List, length, Option}
-use Rattle.just_host_record.specs.declared.entry.Entry.{Entry}
-use Rattle.just_host_record.specs.World.{World}
+use Rattle.std.specs.Prelude.{ℕ, ◌≡◌, ◌<◌, ◌⊎◌, true, List, length}
+use Rattle.just_host_record.specs.World.{Moment}
 use Rattle.just_sched_history.specs.declared.event.Event.{Event}
 use Rattle.just_sched_history.specs.declared.event.Idle.{Idle}
 use Rattle.just_sched_history.specs.declared.event.Verdict.{Verdict}
@@ -15,13 +14,13 @@ use Rattle.just_sched_history.specs.Start.{Start, IsKept, run_of}
 use Rattle.just_sched_history.specs.State.{has_caught}
 use Rattle.just_sched_history.specs.Verdict.{IsVerdict}
 
--- A run that began there was driven to its end: this plan came back with this history and this verdict, over a host whose
--- record and told world are these now.
-pub record IsDriven (s : Start) (p : Plan) (h : List Event) (v : Verdict) (now : List Entry) (world : Option World) : Type 0 where
+-- A run that began there was driven to its end: this plan came back with this history and this verdict, over a host that
+-- tells this now.
+pub record IsDriven (s : Start) (p : Plan) (h : List Event) (v : Verdict) (now : Moment) : Type 0 where
   -- the plan came back as it was
   pub plan : p ≡ s.plan
   -- the history is legal and matches what the record gained, and the world is what its events make of it where nothing was started or failed
-  pub kept : ∥ IsKept s h now world ∥₁
+  pub kept : ∥ IsKept s h now ∥₁
   -- no body is open
   pub closed : IsClosed (run_of s) h
   -- there is a reason why no move could be made

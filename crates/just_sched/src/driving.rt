@@ -74,9 +74,8 @@ fn drive_named<H: Host + Send + Drop, P: Naming + Send + Sync, R: Threads + Wait
     requires ledger { (blank.name ≡ P.name) × (blank.parts ≡ P.parts) }
     requires parts { P.parts ≡ 65 }
     requires jobs { option_map non_zero_u64_get jobs ≡ P.start.jobs }
-    requires entries { (H.told host).entries ≡ P.start.entries }
-    requires world { (H.told host).world ≡ P.start.world }
-    ensures driven { IfOk result (λ d. IsDriven P.start d.plan d.history d.verdict (H.told d.host).entries (H.told d.host).world) }
+    requires told { H.told host ≡ P.start.told }
+    ensures driven { IfOk result (λ d. IsDriven P.start d.plan d.history d.verdict (H.told d.host)) }
     ensures back { IfErr result (λ r. ((H.told r.0).entries ≡ (H.told host).entries) × ((H.told r.0).world ≡ (H.told host).world) × (r.1 ≡ plan)) }
 {
     let workers = worker_count(&plan, jobs);
@@ -106,7 +105,9 @@ pub fn drive<R: Threads + Wait + Sync, H: Host + Send + Drop>(
     host: H,
     jobs: Option<NonZeroU64>,
 ) -> Result<Driven<H>, (H, Plan)>
-    ensures driven { IfOk result (λ d. IsDriven (start_with plan (option_map non_zero_u64_get jobs) (H.told host).entries (H.told host).world) d.plan d.history d.verdict (H.told d.host).entries (H.told d.host).world) }
+    ensures driven { IfOk result (λ d.
+        IsDriven (start_with plan (option_map non_zero_u64_get jobs) (H.told host))
+        d.plan d.history d.verdict (H.told d.host)) }
     ensures back { IfErr result (λ r. ((H.told r.0).entries ≡ (H.told host).entries) × ((H.told r.0).world ≡ (H.told host).world) × (r.1 ≡ plan)) }
 {
     drive_named::<H, Brand, R>(rt, alloc, plan, Blank::new(65), host, jobs)

@@ -14,7 +14,7 @@ mod worker;
 pub use desk::Desk;
 pub use driving::drive;
 pub use just_cache::{CacheKey, KeyExecutor};
-pub use just_host_record::{Call, Host, HostFault, Look, Script, Signal, Spec, Status};
+pub use just_host_record::{Call, Host, HostFault, Look, Script, ScriptText, Signal, Spec, Status};
 pub use just_lang_read::Boxed;
 pub use just_lang_types::{Interpreter, Key, Modulepath, Node, Value};
 pub use just_path::{Miss, Utf8Path, Utf8PathBuf};

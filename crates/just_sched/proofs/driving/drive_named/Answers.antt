@@ -21,7 +21,7 @@ returns-clause-driven g c =
     let i = c.run_all.ensures.idle.0 in
     let is = subst (λ h. IsIdle (run_of s) h i) (sym same) c.run_all.ensures.idle.1 in
     let left = nothing_left_by (run_of s) d.history i c.args.jobs c.requires.jobs closed is in
-    let complete = well_complete s d.history _ _ d.verdict c.close.ensures.kept (subst EachNoIsDone (sym c.close.ensures.history) c.into_book.result.answered) closed left c.close.ensures.verdict in
+    let complete = well_complete s d.history _ d.verdict c.close.ensures.kept (subst EachNoIsDone (sym c.close.ensures.history) c.into_book.result.answered) closed left c.close.ensures.verdict in
     record {
       plan = c.close.ensures.plan ∙ c.into_book.result.plan_named;
       kept = c.close.ensures.kept;
@@ -31,5 +31,5 @@ returns-clause-driven g c =
       verdict = c.close.ensures.verdict;
       complete = complete;
       cached = c.close.ensures.cached;
-      skipped = λ well n lt cached. kept_skipped s d.history _ _ c.close.ensures.kept (complete well) n lt;
+      skipped = λ well n lt cached. kept_skipped s d.history _ c.close.ensures.kept (complete well) n lt;
     }
