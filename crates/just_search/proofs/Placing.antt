@@ -13,15 +13,14 @@ use Rattle.just_path.specs.Clean.{cleaned}
 use Rattle.just_path.specs.View.{Sights, asks_folder, named_place, folder_place, asked_place, followed_place, place_behind, target_seen, place_under, meta_seen, absence}
 use Rattle.just_path.specs.declared.host.Miss.{Miss}
 use Rattle.just_path.proofs.Pushes.{push_absolute}
-use Rattle.just_host_record.specs.declared.entry.Entry.{Entry}
 use Rattle.just_host_record.specs.declared.entry.HostFault.{HostFault}
 use Rattle.just_host_record.specs.declared.entry.HostFault.TheVariants as fault
 use Rattle.just_host_record.specs.Sights.{Tree, seen}
-use Rattle.just_host_record.specs.World.{World}
+use Rattle.just_host_record.specs.World.{World, Moment}
 use Rattle.just_host_record.specs.Changes.{DiffersAt, with_tree}
 use Rattle.just_host_record.specs.Folders.{removed_place, Removes}
 use Rattle.just_search.specs.Places.{NamesItem, IsInFolders, ChangesIn, RemovesInFolders}
-use Rattle.just_search.specs.Removals.{IsWithin, IsTried, Clears, RemovesFolder, RemovesAll}
+use Rattle.just_search.specs.Removals.{IsWithin, IsTried, Clears, RemovesFolder, RemovesAll, RemovesSome}
 use Rattle.just_search.proofs.Items.{within_item}
 
 -- ---- the place of a path
@@ -130,55 +129,62 @@ removed_once w path after (Err (fault.Failed c)) named removes =
     moves_wider (λ place. removed_place w path ≡ Ok place) (λ q. q ≡ cleaned path) (Some w) after (λ q at. removed_is w path q named at) (moves_failed (λ place. removed_place w path ≡ Ok place) w after removes)
 removed_once w path after (Err fault.NoMemory) named removes = moves_none (λ q. q ≡ cleaned path) (Some w) after removes
 
-tried_once : (path : List ℕ) (told after : Option World) (old new : List Entry) → NamesItem path → IsTried path told old after new → Moves (λ q. q ≡ cleaned path) told after
-tried_once path None after old new named tried = λ w is. absurd (let never : ⊥ = cc in never)
-tried_once path (Some v) after old new named tried = removed_once v path after tried.result named tried.removes
+tried_once : (path : List ℕ) (before after : Moment) → NamesItem path → IsTried path before after → Moves (λ q. q ≡ cleaned path) before.world after.world
+tried_once path before after named tried w is =
+    removed_once w path after.world tried.result named (subst (λ o. Removes o after.world path tried.result) is tried.removes) w refl
 
 module _ (folders : List (List ℕ)) (folder : List ℕ) (among : Contains folders folder) (named : NamesItem folder) where
   within_folders : (path q : List ℕ) → IsWithin folder path → q ≡ cleaned path → IsInFolders folders q
   within_folders path q within is = (folder, path, among, within, is)
 
-  tried_within : (path : List ℕ) (told after : Option World) (old new : List Entry) → IsWithin folder path → IsTried path told old after new → Moves (IsInFolders folders) told after
-  tried_within path told after old new within tried =
-      moves_wider (λ q. q ≡ cleaned path) (IsInFolders folders) told after (λ q is. within_folders path q within is) (tried_once path told after old new (within_item folder path named within) tried)
+  tried_within : (path : List ℕ) (before after : Moment) → IsWithin folder path → IsTried path before after → Moves (IsInFolders folders) before.world after.world
+  tried_within path before after within tried =
+      moves_wider (λ q. q ≡ cleaned path) (IsInFolders folders) before.world after.world (λ q is. within_folders path q within is)
+      (tried_once path before after (within_item folder path named within) tried)
 
-  clears_within : (told : Option World) (old : List Entry) (after : Option World) (new : List Entry) → Clears folder told old after new → Moves (IsInFolders folders) told after
-  clears_within told old after new Clears.nothing = moves_none (IsInFolders folders) told told refl
-  clears_within told old after new (Clears.a_listing here middle path io clears own) = clears_within told old here middle clears
-  clears_within told old after new (Clears.a_removal between here middle last path clears within tried) =
-      moves_then (IsInFolders folders) told between here (clears_within told old between middle clears) (tried_within path between here middle last within tried)
+  clears_within : (before after : Moment) → Clears folder before after → Moves (IsInFolders folders) before.world after.world
+  clears_within before after Clears.nothing = moves_none (IsInFolders folders) before.world before.world refl
+  clears_within before after (Clears.a_listing between path io clears own) = clears_within before between clears
+  clears_within before after (Clears.a_removal between last path clears within tried) =
+      moves_then (IsInFolders folders) before.world between.world last.world (clears_within before between clears) (tried_within path between last within tried)
 
-  removes_within : (told after : Option World) (old new : List Entry) → RemovesFolder folder told old after new → Moves (IsInFolders folders) told after
-  removes_within told after old new (between, middle, clears, tried) =
-      moves_then (IsInFolders folders) told between after (clears_within told old between middle clears) (tried_within folder between after middle new IsWithin.itself tried)
+  removes_within : (before after : Moment) → RemovesFolder folder before after → Moves (IsInFolders folders) before.world after.world
+  removes_within before after (between, clears, tried) =
+      moves_then (IsInFolders folders) before.world between.world after.world (clears_within before between clears) (tried_within folder between after IsWithin.itself tried)
 
 -- ---- several folders
 
 last_among : (xs : List (List ℕ)) (x : List ℕ) → Contains (xs ++ x ∷ []) x
 last_among xs x = Contains-append_right xs (x ∷ []) x (0, omega arith, refl)
 
-removes_all : (all : List (List ℕ)) (told : Option World) (old : List Entry) (folders : List (List ℕ)) (after : Option World) (new : List Entry) → ((f : List ℕ) → Contains folders f → Contains all f × NamesItem f)
-    → RemovesAll told old folders after new → Moves (IsInFolders all) told after
-removes_all all told old folders after new are RemovesAll.none = moves_none (IsInFolders all) told told refl
-removes_all all told old folders after new are (RemovesAll.another first folder between here middle last removed next) =
+removes_all : (all : List (List ℕ)) (before : Moment) (folders : List (List ℕ)) (after : Moment) → ((f : List ℕ) → Contains folders f → Contains all f × NamesItem f) → RemovesAll before folders after
+    → Moves (IsInFolders all) before.world after.world
+removes_all all before folders after are RemovesAll.none = moves_none (IsInFolders all) before.world before.world refl
+removes_all all before folders after are (RemovesAll.another first folder between last removed next) =
     let one = are folder (last_among first folder) in
-    moves_then (IsInFolders all) told between here
-    (removes_all all told old first between middle (λ f among. are f (Contains-append_left first (folder ∷ []) f among)) removed)
-    (removes_within all folder one.0 one.1 between here middle last next)
+    moves_then (IsInFolders all) before.world between.world last.world
+    (removes_all all before first between (λ f among. are f (Contains-append_left first (folder ∷ []) f among)) removed)
+    (removes_within all folder one.0 one.1 between last next)
 
 all_named : (folders : List (List ℕ)) → AllByRecursion NamesItem folders → (f : List ℕ) → Contains folders f → NamesItem f
 all_named [] named f among = absurd (omega (arith, among.1))
 all_named (g ∷ folders) named f (zero, less, is) = subst NamesItem is named.0
 all_named (g ∷ folders) named f (suc k, less, is) = all_named folders named.1 f (k, omega (arith, less), is)
 
-pub removes_in_folders : RemovesInFolders
-removes_in_folders w after old new folders named (inl removed) =
-    moves_changes folders w after (removes_all folders (Some w) old folders after new (λ f among. (among, all_named folders named f among)) removed)
-removes_in_folders w after old new folders named (inr some) =
+some_removed : (before : Moment) (folders : List (List ℕ)) (after : Moment) → AllByRecursion NamesItem folders → RemovesSome before folders after → Moves (IsInFolders folders) before.world after.world
+some_removed before folders after named some =
     let are : (f : List ℕ) → Contains folders f → Contains folders f × NamesItem f = λ f among. (among, all_named folders named f among) in
     let whole : (f : List ℕ) → Contains (some.first ++ some.next ∷ some.others) f → Contains folders f × NamesItem f = λ f among. are f (subst (λ l. Contains l f) (sym some.all) among) in
     let next = whole some.next (Contains-append_right some.first (some.next ∷ some.others) some.next (0, omega arith, refl)) in
-    moves_changes folders w after
-    (moves_then (IsInFolders folders) (Some w) some.between after
-    (removes_all folders (Some w) old some.first some.between some.middle (λ f among. whole f (Contains-append_left some.first (some.next ∷ some.others) f among)) some.removed)
-    (clears_within folders some.next next.0 next.1 some.between some.middle after new some.cleared))
+    moves_then (IsInFolders folders) before.world some.between.world after.world
+    (removes_all folders before some.first some.between (λ f among. whole f (Contains-append_left some.first (some.next ∷ some.others) f among)) some.removed)
+    (clears_within folders some.next next.0 next.1 some.between after some.cleared)
+
+where_told : (folders : List (List ℕ)) (told after : Option World) → Moves (IsInFolders folders) told after → MatchOption told (Unit {0}) (λ w. ChangesIn folders w after)
+where_told folders None after moves = tt
+where_told folders (Some w) after moves = moves_changes folders w after moves
+
+pub removes_in_folders : RemovesInFolders
+removes_in_folders before after folders named (inl removed) =
+    where_told folders before.world after.world (removes_all folders before folders after (λ f among. (among, all_named folders named f among)) removed)
+removes_in_folders before after folders named (inr some) = where_told folders before.world after.world (some_removed before folders after named some)

@@ -4,7 +4,7 @@ use Rattle.just_path.specs.Path.{pushed}
 use Rattle.just_host_record.specs.declared.entry.Call.TheVariants as call
 use Rattle.just_host_record.specs.declared.entry.Entry.{Entry}
 use Rattle.just_host_record.specs.declared.entry.HostFault.{HostFault}
-use Rattle.just_host_record.specs.World.{World}
+use Rattle.just_host_record.specs.World.{World, Moment}
 use Rattle.just_host_record.specs.Changes.{Changes, written, place_written}
 use Rattle.just_host_record.specs.Folders.{TempTells}
 use Rattle.just_env.specs.declared.search_error.SearchError.{SearchError}
@@ -73,6 +73,11 @@ pub data WritesText (told after : Option World) (parent : Option (List ℕ)) (te
       → WritesText told after parent text working (folder ∷ []) (Err (error.FilesystemIo (file_in folder) io))
   no_memory : after ≡ told → WritesText told after parent text working [] (Err error.NoMemory)
   no_memory_behind : (folder : List ℕ) → Makes told after parent (Ok folder) → WritesText told after parent text working (folder ∷ []) (Err error.NoMemory)
+
+-- a text becomes so the file in a temporary folder, which is kept behind others
+abbrev pub TextBecomesFile : Moment → Moment → Option (List ℕ) → List ℕ → List ℕ → List (List ℕ) → List (List ℕ) → Result Search SearchError → Type 0
+TextBecomesFile before after parent text working kept keeps r =
+    MakesFolders (WritesText before.world after.world parent text working) parent kept keeps before.entries after.entries r
 
 -- The justfile in a place, as a file that can be loaded: a file is so itself; markdown and standard input are read, and their text is written to the
 -- file in a temporary folder, which is made for it.

@@ -8,7 +8,7 @@ use Rattle.just_path.specs.Parts.{parent_of}
 use Rattle.just_path.specs.Path.{pushed}
 use Rattle.just_path_text.specs.declared.environ.Environ.{Environ}
 use Rattle.just_host_record.specs.declared.entry.Entry.{Entry}
-use Rattle.just_host_record.specs.World.{World}
+use Rattle.just_host_record.specs.World.{World, Moment}
 use Rattle.just_config.specs.declared.config.Config.{Config}
 use Rattle.just_config.specs.declared.search_config.SearchConfig.{SearchConfig}
 use Rattle.just_config.specs.declared.search_config.SearchConfig.TheVariants as search
@@ -100,16 +100,17 @@ pub data FindsOwn (told : Option World) (config : Config) (gained : List Entry) 
 
 -- Where the justfile of a configuration is, or why it can't be found. The record shows which listings were refused before the user's own justfile
 -- was found, or wasn't.
-abbrev pub FindsBy : Option World → Config → SearchConfig → List Entry → List Entry → Result Location SearchError → Type 0
-FindsBy told config search.FromInvocationDirectory old new r = FindsFrom told config config.invocation_directory as_origin r
-FindsBy told config (search.FromSearchDirectory folder) old new r = FindsFrom told config (given_path config folder) as_file r
-FindsBy told config search.GlobalJustfile old new r = Leaves (λ gained. FindsOwn told config gained r) old new
-FindsBy told config (search.StandardInput folder) old new r = r ≡ Ok (input_at (given_or_own config folder))
-FindsBy told config (search.WithJustfile file) old new r = r ≡ with_file (given_path config file) (folder_of (given_path config file))
-FindsBy told config (search.WithJustfileAndWorkingDirectory file folder) old new r = r ≡ with_file (given_path config file) (given_path config folder)
+abbrev pub FindsBy : Moment → Moment → Config → SearchConfig → Result Location SearchError → Type 0
+FindsBy before after config search.FromInvocationDirectory r = FindsFrom before.world config config.invocation_directory as_origin r
+FindsBy before after config (search.FromSearchDirectory folder) r = FindsFrom before.world config (given_path config folder) as_file r
+FindsBy before after config search.GlobalJustfile r = Leaves (λ gained. FindsOwn before.world config gained r) before.entries after.entries
+FindsBy before after config (search.StandardInput folder) r = r ≡ Ok (input_at (given_or_own config folder))
+FindsBy before after config (search.WithJustfile file) r = r ≡ with_file (given_path config file) (folder_of (given_path config file))
+FindsBy before after config (search.WithJustfileAndWorkingDirectory file folder) r =
+    r ≡ with_file (given_path config file) (given_path config folder)
 
-abbrev pub Finds : Option World → Config → List Entry → List Entry → Result Location SearchError → Type 0
-Finds told config old new r = FindsBy told config config.search_config old new r
+abbrev pub Finds : Moment → Moment → Config → Result Location SearchError → Type 0
+Finds before after config r = FindsBy before after config config.search_config r
 
 -- the justfile in the folders above one, for a recipe or a module that the justfile in it lacks
 abbrev pub FindsAbove : Option World → Config → List ℕ → Result Location SearchError → Type 0

@@ -5,9 +5,8 @@ use Rattle.std.specs.List.{Contains, AllByRecursion}
 use Rattle.just_path.specs.Path.{is_absolute}
 use Rattle.just_path.specs.Clean.{cleaned}
 use Rattle.just_path.specs.View.{IsCleanView, asks_folder}
-use Rattle.just_host_record.specs.declared.entry.Entry.{Entry}
 use Rattle.just_host_record.specs.Sights.{Tree}
-use Rattle.just_host_record.specs.World.{World, view_of}
+use Rattle.just_host_record.specs.World.{World, Moment, view_of}
 use Rattle.just_host_record.specs.Changes.{DiffersAt, folder_of, holds_folder}
 use Rattle.just_env.specs.declared.search_error.SearchError.{SearchError}
 use Rattle.just_search.specs.declared.search_result.Search.{Search}
@@ -38,5 +37,6 @@ MakesInFolders = (w : World) (after : Option World) (parent : Option (List ℕ))
 
 -- and the removal of such folders changes it in these alone
 abbrev pub RemovesInFolders : Type 0
-RemovesInFolders = (w : World) (after : Option World) (old new : List Entry) (folders : List (List ℕ)) → AllByRecursion NamesItem folders
-    → RemovesAll (Some w) old folders after new ⊎ RemovesSome (Some w) old folders after new → ChangesIn folders w after
+RemovesInFolders = (before after : Moment) (folders : List (List ℕ)) → AllByRecursion NamesItem folders
+    → RemovesAll before folders after ⊎ RemovesSome before folders after
+    → MatchOption before.world (Unit {0}) (λ w. ChangesIn folders w after.world)

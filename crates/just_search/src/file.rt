@@ -6,7 +6,8 @@ ghost use Rattle.just_search.specs.declared.location.Origin.TheVariants.{Markdow
 ghost use Rattle.just_search.specs.Calls.{told_entries};
 ghost use Rattle.just_host_record.specs.declared.entry.Call.TheVariants.{Write};
 ghost use Rattle.just_host_record.specs.Record.{gained, IsOwn};
-ghost use Rattle.just_search.specs.Files.{parent_of, IsWritten, IsUnwritten, WritesFile, WritesText, MakesFolders, Materializes};
+ghost use Rattle.just_search.specs.Files.{parent_of, IsWritten, IsUnwritten, WritesFile, TextBecomesFile};
+ghost use Rattle.just_search.specs.Searches.{BecomesFile};
 
 use super::text::{text_of_input, text_of_markdown};
 use super::{Search, SearchError};
@@ -95,7 +96,8 @@ fn write_text<H: Host>(
     text: &Text,
     working_directory: Utf8PathBuf,
 ) -> Result<Search, SearchError>
-    ensures written { MakesFolders (WritesText (H.told host.old).world (H.told host.new).world (parent_of config.now) text.now working_directory) (parent_of config.now) made.old.items made.new.items (H.told host.old).entries (H.told host.new).entries result }
+    ensures written { TextBecomesFile (H.told host.old) (H.told host.new) (parent_of config.now)
+        text.now working_directory made.old.items made.new.items result }
 {
     let parent = parent_of(alloc, config)?;
     made.reserve(1)?;
@@ -125,7 +127,9 @@ fn write_markdown<H: Host>(
     path: Utf8PathBuf,
     working_directory: Utf8PathBuf,
 ) -> Result<Search, SearchError>
-    ensures written { MakesFolders (Materializes (H.told host.old).world (H.told host.new).world (parent_of config.now) (record { origin = Markdown path; working_directory = working_directory })) (parent_of config.now) made.old.items made.new.items (H.told host.old).entries (H.told host.new).entries result }
+    ensures written { BecomesFile (H.told host.old) (H.told host.new) config.now
+        (record { origin = Markdown path; working_directory = working_directory })
+        made.old.items made.new.items result }
 {
     match text_of_markdown(alloc, host, path) {
         Ok(text) => write_text(alloc, host, config, made, &text, working_directory),
@@ -142,7 +146,9 @@ fn write_input<H: Host>(
     made: &mut Vec<Utf8PathBuf>,
     working_directory: Utf8PathBuf,
 ) -> Result<Search, SearchError>
-    ensures written { MakesFolders (Materializes (H.told host.old).world (H.told host.new).world (parent_of config.now) (record { origin = StandardInput; working_directory = working_directory })) (parent_of config.now) made.old.items made.new.items (H.told host.old).entries (H.told host.new).entries result }
+    ensures written { BecomesFile (H.told host.old) (H.told host.new) config.now
+        (record { origin = StandardInput; working_directory = working_directory })
+        made.old.items made.new.items result }
 {
     match text_of_input(host) {
         Ok(text) => write_text(alloc, host, config, made, &text, working_directory),
@@ -161,7 +167,8 @@ pub fn materialize<H: Host>(
     host: &mut H,
 ) -> Result<Search, SearchError>
     // The folders that were made are kept, with their entries in the record; behind these is that of the refused call.
-    ensures materialized { MakesFolders (Materializes (H.told host.old).world (H.told host.new).world (parent_of config.now) location) (parent_of config.now) made.old.items made.new.items (H.told host.old).entries (H.told host.new).entries result }
+    ensures materialized { BecomesFile (H.told host.old) (H.told host.new) config.now location
+        made.old.items made.new.items result }
 {
     let Location {
         origin,

@@ -313,7 +313,8 @@ fn find_by<H: Host>(
     setting: &SearchConfig,
     host: &mut H,
 ) -> Result<Location, SearchError>
-    ensures found { Answers (FindsBy (H.told host.old).world config.now setting.now (H.told host.old).entries (H.told host.new).entries) result }
+    ensures found { Answers
+        (FindsBy (H.told host.old) (H.told host.new) config.now setting.now) result }
     ensures entries { FindGains setting.now (H.told host.old).entries (H.told host.new).entries result }
     ensures world { (H.told host.new).world ≡ (H.told host.old).world }
 {
@@ -332,7 +333,7 @@ fn find_by<H: Host>(
 /// Where the justfile of a configuration is: in the first folder upwards that has one candidate, at a place of the user's own, on standard
 /// input, or where it is given. Nothing is read of it.
 pub fn find<H: Host>(alloc: Global, config: &Config, host: &mut H) -> Result<Location, SearchError>
-    ensures found { Answers (Finds (H.told host.old).world config.now (H.told host.old).entries (H.told host.new).entries) result }
+    ensures found { Answers (Finds (H.told host.old) (H.told host.new) config.now) result }
     ensures entries { FindGains config.now.search_config (H.told host.old).entries (H.told host.new).entries result }
     ensures world { (H.told host.new).world ≡ (H.told host.old).world }
 {

@@ -18,10 +18,10 @@ fn is_plain(name: &str) -> bool
 }
 
 /// Removes what stands at a path, if it can be removed.
-#[tactic(auto, using(crate::proofs::Removing::tried_done, crate::proofs::Removing::tried_refused, crate::proofs::Removing::stays, crate::proofs::Removing::leaves_same))]
+#[tactic(auto, using(crate::proofs::Removing::tried_done, crate::proofs::Removing::tried_refused, crate::proofs::Removing::stays))]
 fn remove_at<H: Host>(host: &mut H, path: Utf8Path<'_>) -> Result<(), NoMemory>
-    ensures tried { OnOk result (IsTried (text_of path.entry) (H.told host.old).world (H.told host.old).entries (H.told host.new).world (H.told host.new).entries) }
-    ensures kept { OnErr result (((H.told host.new).world ≡ (H.told host.old).world) × ((H.told host.new).entries ≡ (H.told host.old).entries)) }
+    ensures tried { OnOk result (IsTried (text_of path.entry) (H.told host.old) (H.told host.new)) }
+    ensures kept { OnErr result (H.told host.new ≡ H.told host.old) }
 {
     match host.remove(path) {
         Ok(()) => Ok(()),
@@ -32,16 +32,14 @@ fn remove_at<H: Host>(host: &mut H, path: Utf8Path<'_>) -> Result<(), NoMemory>
 }
 
 /// What stands in a folder; nothing where it can't be listed.
-#[tactic(auto, using(crate::proofs::Removing::listed_missed, crate::proofs::Removing::listed_failed))]
 fn items_in<H: Host>(
     alloc: Global,
     host: &mut H,
     folder: Utf8Path<'_>,
 ) -> Result<Vec<Item>, NoMemory>
     ensures listed { IfOk result (λ items. ListsFor (text_of folder.entry)
-        (H.told host.old).world (H.told host.old).entries items.items (H.told host.new).entries) }
-    ensures kept { OnErr result ((H.told host.new).entries ≡ (H.told host.old).entries) }
-    ensures world { (H.told host.new).world ≡ (H.told host.old).world }
+        (H.told host.old) items.items (H.told host.new)) }
+    ensures kept { OnErr result (H.told host.new ≡ H.told host.old) }
 {
     match host.list(folder) {
         Ok(items) => Ok(items),
@@ -74,9 +72,9 @@ fn remove_item<H: Host>(
     item: &Item,
 ) -> Result<(), NoMemory>
     ensures tried { OnOk result (TriesItem (text_of folder.entry) item.now
-        (H.told host.old).world (H.told host.old).entries (H.told host.new).world (H.told host.new).entries) }
+        (H.told host.old) (H.told host.new)) }
     ensures stopped { OnErr result (Clears (text_of folder.entry)
-        (H.told host.old).world (H.told host.old).entries (H.told host.new).world (H.told host.new).entries) }
+        (H.told host.old) (H.told host.new)) }
 {
     let path = removed_path(alloc, folder, item)?;
     match path {
@@ -88,9 +86,9 @@ fn remove_item<H: Host>(
 /// Removes the items of a folder.
 fn remove_items<H: Host>(alloc: Global, host: &mut H, folder: Utf8Path<'_>) -> Result<(), NoMemory>
     ensures tried { OnOk result (TriesItems (text_of folder.entry)
-        (H.told host.old).world (H.told host.old).entries (H.told host.new).world (H.told host.new).entries) }
+        (H.told host.old) (H.told host.new)) }
     ensures stopped { OnErr result (Clears (text_of folder.entry)
-        (H.told host.old).world (H.told host.old).entries (H.told host.new).world (H.told host.new).entries) }
+        (H.told host.old) (H.told host.new)) }
 {
     let listed = items_in(alloc, host, folder)?;
     'items: for item in listed.as_slice() {
@@ -102,9 +100,9 @@ fn remove_items<H: Host>(alloc: Global, host: &mut H, folder: Utf8Path<'_>) -> R
 /// Removes a folder that stands in a temporary one, with its items.
 fn remove_inner<H: Host>(alloc: Global, host: &mut H, inner: Utf8Path<'_>) -> Result<(), NoMemory>
     ensures tried { OnOk result (TriesWithItems (text_of inner.entry)
-        (H.told host.old).world (H.told host.old).entries (H.told host.new).world (H.told host.new).entries) }
+        (H.told host.old) (H.told host.new)) }
     ensures stopped { OnErr result (Clears (text_of inner.entry)
-        (H.told host.old).world (H.told host.old).entries (H.told host.new).world (H.told host.new).entries) }
+        (H.told host.old) (H.told host.new)) }
 {
     remove_items(alloc, host, inner)?;
     remove_at(host, inner)
@@ -124,9 +122,9 @@ fn remove_nested<H: Host>(
     item: &Item,
 ) -> Result<(), NoMemory>
     ensures tried { OnOk result (TriesNested (text_of folder.entry) item.now
-        (H.told host.old).world (H.told host.old).entries (H.told host.new).world (H.told host.new).entries) }
+        (H.told host.old) (H.told host.new)) }
     ensures stopped { OnErr result (Clears (text_of folder.entry)
-        (H.told host.old).world (H.told host.old).entries (H.told host.new).world (H.told host.new).entries) }
+        (H.told host.old) (H.told host.new)) }
 {
     let path = removed_path(alloc, folder, item)?;
     match path {
@@ -144,9 +142,9 @@ fn remove_nested<H: Host>(
 /// Removes the items of a folder, and the items of those that are folders.
 fn empty_folder<H: Host>(alloc: Global, host: &mut H, folder: Utf8Path<'_>) -> Result<(), NoMemory>
     ensures tried { OnOk result (Empties (text_of folder.entry)
-        (H.told host.old).world (H.told host.old).entries (H.told host.new).world (H.told host.new).entries) }
+        (H.told host.old) (H.told host.new)) }
     ensures stopped { OnErr result (Clears (text_of folder.entry)
-        (H.told host.old).world (H.told host.old).entries (H.told host.new).world (H.told host.new).entries) }
+        (H.told host.old) (H.told host.new)) }
 {
     let listed = items_in(alloc, host, folder)?;
     'items: for item in listed.as_slice() {
@@ -158,9 +156,9 @@ fn empty_folder<H: Host>(alloc: Global, host: &mut H, folder: Utf8Path<'_>) -> R
 /// Removes a folder, with what the program puts into it: files, and folders of files.
 fn remove_folder<H: Host>(alloc: Global, host: &mut H, folder: Utf8Path<'_>) -> Result<(), NoMemory>
     ensures tried { OnOk result (TriesFolder (text_of folder.entry)
-        (H.told host.old).world (H.told host.old).entries (H.told host.new).world (H.told host.new).entries) }
+        (H.told host.old) (H.told host.new)) }
     ensures stopped { OnErr result (Clears (text_of folder.entry)
-        (H.told host.old).world (H.told host.old).entries (H.told host.new).world (H.told host.new).entries) }
+        (H.told host.old) (H.told host.new)) }
 {
     empty_folder(alloc, host, folder)?;
     remove_at(host, folder)
@@ -174,12 +172,12 @@ pub fn remove_folders<H: Host>(
     folders: &[Utf8PathBuf],
 ) -> Result<(), NoMemory>
     // To remove each folder is tried, behind what stands in it, and nothing else; the record gains the entries of what was refused.
-    ensures removed { OnOk result (RemovesAll (H.told host.old).world (H.told host.old).entries folders.now (H.told host.new).world (H.told host.new).entries) }
+    ensures removed { OnOk result (RemovesAll (H.told host.old) folders.now (H.told host.new)) }
     // What stands in it is what its listing shows: to remove each item is tried, with the items of one that is a folder.
-    ensures tried { OnOk result (InTurn TriesFolder (H.told host.old).world (H.told host.old).entries
-        folders.now (H.told host.new).world (H.told host.new).entries) }
+    ensures tried { OnOk result (InTurn TriesFolder
+        (H.told host.old) folders.now (H.told host.new)) }
     // So far as memory allowed it: the first folders in that way, and of the next one what stands in it, or some of it.
-    ensures stopped { OnErr result (RemovesSome (H.told host.old).world (H.told host.old).entries folders.now (H.told host.new).world (H.told host.new).entries) }
+    ensures stopped { OnErr result (RemovesSome (H.told host.old) folders.now (H.told host.new)) }
 {
     'folders: for folder in folders {
         remove_folder(alloc, host, folder.as_path())?;

@@ -14,14 +14,15 @@ use std::alloc::Global;
 /// Where the justfile of a configuration is, as a file that can be loaded: in the first folder upwards that has one candidate, at a place of the user's
 /// own, or where it is given; that of markdown and of standard input in a temporary folder. The folder's path is put behind those in `made`, also where
 /// the file can't be written: it is the caller's to remove.
-#[tactic(auto, using(crate::proofs::Steps::is_found, crate::proofs::Steps::is_unfound))]
+#[tactic(auto, using(crate::proofs::Steps::is_unfound))]
 pub fn search<H: Host>(
     alloc: Global,
     config: &Config,
     made: &mut Vec<Utf8PathBuf>,
     host: &mut H,
 ) -> Result<Search, SearchError>
-    ensures searched { Searches (H.told host.old).world (H.told host.new).world config.now made.old.items made.new.items (H.told host.old).entries (H.told host.new).entries result }
+    ensures searched { Searches (H.told host.old) (H.told host.new) config.now
+        made.old.items made.new.items result }
 {
     match find(alloc, config, host) {
         Ok(location) => materialize(alloc, location, config, made, host),
@@ -41,7 +42,8 @@ pub fn search_parent_directory<H: Host>(
     made: &mut Vec<Utf8PathBuf>,
     host: &mut H,
 ) -> Result<Search, SearchError>
-    ensures searched { SearchesAbove (H.told host.old).world (H.told host.new).world config.now found.now.working_directory made.old.items made.new.items (H.told host.old).entries (H.told host.new).entries result }
+    ensures searched { SearchesAbove (H.told host.old) (H.told host.new) config.now
+        found.now.working_directory made.old.items made.new.items result }
     ensures higher { IfOk result (λ s. length s.working_directory < length found.now.working_directory) }
 {
     let folder = found.working_directory.as_path();

@@ -12,8 +12,8 @@ returns-in-Ok g c = record {
   written =
       let at : option_map text_of c.as_path.result ≡ parent_of c.args.config.now = search rules in
       let raw : Makes (g.H.Host.told c.args.host.now).world (g.H.Host.told c.temp_folder.new.self).world (option_map text_of c.as_path.result) (Ok c.in-Ok.folder) = search rules in
-      all_written (g.H.Host.told c.args.host.now).world (g.H.Host.told c.temp_folder.new.self).world (g.H.Host.told c.write_file-written.new.host).world (parent_of c.args.config.now) c.in-Ok.folder c.args.text.now c.args.working_directory c.args.made.now.items
-      c.push_reserved.new.self.items (g.H.Host.told c.args.host.now).entries (g.H.Host.told c.temp_folder.new.self).entries (g.H.Host.told c.write_file-written.new.host).entries c.write_file-written.result
+      all_written (g.H.Host.told c.args.host.now) (g.H.Host.told c.temp_folder.new.self) (g.H.Host.told c.write_file-written.new.host) (parent_of c.args.config.now) c.in-Ok.folder c.args.text.now c.args.working_directory c.args.made.now.items
+      c.push_reserved.new.self.items c.write_file-written.result
       (subst (λ p. Makes (g.H.Host.told c.args.host.now).world (g.H.Host.told c.temp_folder.new.self).world p (Ok c.in-Ok.folder)) at raw) (search rules) (search rules) c.write_file-written.ensures.written c.write_file-written.ensures.entries;
 }
 
@@ -22,8 +22,8 @@ returns-in-Err-NoMemory g c = record {
   written =
       let raw : Makes (g.H.Host.told c.args.host.now).world (g.H.Host.told c.temp_folder.new.self).world (option_map text_of c.as_path.result) (Err fault.NoMemory) = search rules in
       let entries : (g.H.Host.told c.temp_folder.new.self).entries ≡ (g.H.Host.told c.args.host.now).entries ++ [] = search rules in
-      nothing_written (g.H.Host.told c.args.host.now).world (g.H.Host.told c.temp_folder.new.self).world (parent_of c.args.config.now) c.args.text.now c.args.working_directory c.args.made.now.items c.reserve.new.self.items (g.H.Host.told c.args.host.now).entries
-      (g.H.Host.told c.temp_folder.new.self).entries _ (temp_stays (g.H.Host.told c.args.host.now).world (g.H.Host.told c.temp_folder.new.self).world (option_map text_of c.as_path.result) raw) (search rules) (entries ∙ append-nil (g.H.Host.told c.args.host.now).entries) refl;
+      nothing_written (g.H.Host.told c.args.host.now) (g.H.Host.told c.temp_folder.new.self) (parent_of c.args.config.now) c.args.text.now c.args.working_directory c.args.made.now.items c.reserve.new.self.items _
+      (temp_stays (g.H.Host.told c.args.host.now).world (g.H.Host.told c.temp_folder.new.self).world (option_map text_of c.as_path.result) raw) (search rules) (entries ∙ append-nil (g.H.Host.told c.args.host.now).entries) refl;
 }
 
 pub returns-in-Err-Failed : goal.returns-in-Err-Failed
@@ -31,8 +31,8 @@ returns-in-Err-Failed g c = record {
   written =
       let at : option_map text_of c.as_path.result ≡ parent_of c.args.config.now = search rules in
       let raw : Makes (g.H.Host.told c.args.host.now).world (g.H.Host.told c.temp_folder.new.self).world (option_map text_of c.as_path.result) (Err (fault.Failed c.in-Err-Failed.call)) = search rules in
-      no_folder_made (g.H.Host.told c.args.host.now).world (g.H.Host.told c.temp_folder.new.self).world (parent_of c.args.config.now) c.args.text.now c.args.working_directory c.args.made.now.items c.reserve.new.self.items (g.H.Host.told c.args.host.now).entries
-      (g.H.Host.told c.temp_folder.new.self).entries (fault.Failed c.in-Err-Failed.call) _
+      no_folder_made (g.H.Host.told c.args.host.now) (g.H.Host.told c.temp_folder.new.self) (parent_of c.args.config.now) c.args.text.now c.args.working_directory c.args.made.now.items c.reserve.new.self.items
+      (fault.Failed c.in-Err-Failed.call) _
       (subst (λ p. Makes (g.H.Host.told c.args.host.now).world (g.H.Host.told c.temp_folder.new.self).world p (Err (fault.Failed c.in-Err-Failed.call))) at raw) (search rules) (search rules) (search rules) (search rules);
 }
 
@@ -41,7 +41,7 @@ returns g c = record {
   written =
       let at : option_map text_of c.as_path.result ≡ parent_of c.args.config.now = search rules in
       let raw : Makes (g.H.Host.told c.args.host.now).world (g.H.Host.told c.temp_folder.new.self).world (option_map text_of c.as_path.result) (Err (fault.Missed c.in-Err-Missed.miss)) = search rules in
-      no_folder_made (g.H.Host.told c.args.host.now).world (g.H.Host.told c.temp_folder.new.self).world (parent_of c.args.config.now) c.args.text.now c.args.working_directory c.args.made.now.items c.reserve.new.self.items (g.H.Host.told c.args.host.now).entries
-      (g.H.Host.told c.temp_folder.new.self).entries (fault.Missed c.in-Err-Missed.miss) _
+      no_folder_made (g.H.Host.told c.args.host.now) (g.H.Host.told c.temp_folder.new.self) (parent_of c.args.config.now) c.args.text.now c.args.working_directory c.args.made.now.items c.reserve.new.self.items
+      (fault.Missed c.in-Err-Missed.miss) _
       (subst (λ p. Makes (g.H.Host.told c.args.host.now).world (g.H.Host.told c.temp_folder.new.self).world p (Err (fault.Missed c.in-Err-Missed.miss))) at raw) tt (search rules) (search rules) (search rules);
 }

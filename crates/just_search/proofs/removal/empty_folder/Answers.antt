@@ -8,21 +8,21 @@ use Rattle.just_search.proofs.removal.empty_folder.Goals as goal
 
 pub returns-in_err-listed-clause-stopped : goal.returns-in_err-listed-clause-stopped
 returns-in_err-listed-clause-stopped g c =
-    on_err c.from_residual.result (Clears (text_of c.args.folder) (g.H.Host.told c.args.host.now).world (g.H.Host.told c.args.host.now).entries (g.H.Host.told c.items_in.new.host).world (g.H.Host.told c.items_in.new.host).entries) (clears_kept (text_of c.args.folder) (g.H.Host.told c.args.host.now).world (g.H.Host.told c.items_in.new.host).world (g.H.Host.told c.args.host.now).entries (g.H.Host.told c.items_in.new.host).entries c.items_in.ensures.world c.in_err-listed.ensures.kept)
+    on_err c.from_residual.result (Clears (text_of c.args.folder) (g.H.Host.told c.args.host.now) (g.H.Host.told c.items_in.new.host)) (clears_kept (text_of c.args.folder) (g.H.Host.told c.args.host.now) (g.H.Host.told c.items_in.new.host) c.in_err-listed.ensures.kept)
 
 pub items-init : goal.items-init
 items-init g c = record {
-  turned = turned_start (TriesNested (text_of c.args.folder)) (text_of c.args.folder) (g.H.Host.told c.args.host.now).world (g.H.Host.told c.args.host.now).entries c.as_slice-item-items.result.now (g.H.Host.told c.items_in.new.host).world (g.H.Host.told c.items_in.new.host).entries (subst (λ (is : List Item). ListsFor (text_of c.args.folder) (g.H.Host.told c.args.host.now).world (g.H.Host.told c.args.host.now).entries is (g.H.Host.told c.items_in.new.host).entries) (sym c.as_slice-item-items.ensures.value) c.in_ok-listed.ensures.listed) c.items_in.ensures.world;
+  turned = turned_start (TriesNested (text_of c.args.folder)) (text_of c.args.folder) (g.H.Host.told c.args.host.now) c.as_slice-item-items.result.now (g.H.Host.told c.items_in.new.host) (subst (λ (is : List Item). ListsFor (text_of c.args.folder) (g.H.Host.told c.args.host.now) is (g.H.Host.told c.items_in.new.host)) (sym c.as_slice-item-items.ensures.value) c.in_ok-listed.ensures.listed);
 }
 
 pub items-preserved : goal.items-preserved
 items-preserved g c = record {
-  turned = turned_more (TriesNested (text_of c.args.folder)) (text_of c.args.folder) (g.H.Host.told c.args.host.now).world (g.H.Host.told c.args.host.now).entries c.as_slice-item-items.result.now c.items.item-index c.item-item.result (g.H.Host.told c.items.host).world (g.H.Host.told c.remove_nested.new.host).world (g.H.Host.told c.items.host).entries (g.H.Host.told c.remove_nested.new.host).entries c.items-test.true c.item-item.is c.items.invariant.turned c.in_ok-remove_nested.ensures.tried;
+  turned = turned_more (TriesNested (text_of c.args.folder)) (text_of c.args.folder) (g.H.Host.told c.args.host.now) c.as_slice-item-items.result.now c.items.item-index c.item-item.result (g.H.Host.told c.items.host) (g.H.Host.told c.remove_nested.new.host) c.items-test.true c.item-item.is c.items.invariant.turned c.in_ok-remove_nested.ensures.tried;
 }
 
 pub returns-in_err-remove_nested-clause-stopped : goal.returns-in_err-remove_nested-clause-stopped
 returns-in_err-remove_nested-clause-stopped g c =
-    turned_stopped (TriesNested (text_of c.args.folder)) (text_of c.args.folder) (g.H.Host.told c.args.host.now).world (g.H.Host.told c.args.host.now).entries c.as_slice-item-items.result.now (nested_clears (text_of c.args.folder)) c.items.item-index (g.H.Host.told c.items.host).world (g.H.Host.told c.remove_nested.new.host).world (g.H.Host.told c.items.host).entries (g.H.Host.told c.remove_nested.new.host).entries c.from_residual-in_err-remove_nested.result c.items.invariant.turned c.in_err-remove_nested.ensures.stopped
+    turned_stopped (TriesNested (text_of c.args.folder)) (text_of c.args.folder) (g.H.Host.told c.args.host.now) c.as_slice-item-items.result.now (nested_clears (text_of c.args.folder)) c.items.item-index (g.H.Host.told c.items.host) (g.H.Host.told c.remove_nested.new.host) c.from_residual-in_err-remove_nested.result c.items.invariant.turned c.in_err-remove_nested.ensures.stopped
 
 pub returns-clause-tried : goal.returns-clause-tried
-returns-clause-tried g c = turned_end (TriesNested (text_of c.args.folder)) (text_of c.args.folder) (g.H.Host.told c.args.host.now).world (g.H.Host.told c.args.host.now).entries c.as_slice-item-items.result.now c.items.item-index (g.H.Host.told c.items.host).world (g.H.Host.told c.items.host).entries c.items-test.false c.items.invariant.turned
+returns-clause-tried g c = turned_end (TriesNested (text_of c.args.folder)) (text_of c.args.folder) (g.H.Host.told c.args.host.now) c.as_slice-item-items.result.now c.items.item-index (g.H.Host.told c.items.host) c.items-test.false c.items.invariant.turned

@@ -6,5 +6,5 @@ use Rattle.just_search.proofs.removal.empty_folder.Given as goal
 
 abbrev pub invariant-items : goal.invariant-items
 invariant-items g l = record {
-  turned : Turned (TriesNested (text_of l.folder)) (text_of l.folder) (g.H.Host.told l.fn.host).world (g.H.Host.told l.fn.host).entries l.item-items l.item-index (g.H.Host.told l.host).world (g.H.Host.told l.host).entries;
+  turned : Turned (TriesNested (text_of l.folder)) (text_of l.folder) (g.H.Host.told l.fn.host) l.item-items l.item-index (g.H.Host.told l.host);
 }

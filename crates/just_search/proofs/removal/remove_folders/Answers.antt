@@ -9,17 +9,17 @@ folders-init g c = record { tried = InTurn.none }
 
 pub returns-in_err-remove_folder-clause-stopped : goal.returns-in_err-remove_folder-clause-stopped
 returns-in_err-remove_folder-clause-stopped g c =
-    all_stopped (g.H.Host.told c.args.host.now).world (g.H.Host.told c.folders.host).world (g.H.Host.told c.remove_folder.new.host).world (g.H.Host.told c.args.host.now).entries (g.H.Host.told c.folders.host).entries (g.H.Host.told c.remove_folder.new.host).entries c.args.folders.now
+    all_stopped (g.H.Host.told c.args.host.now) (g.H.Host.told c.folders.host) (g.H.Host.told c.remove_folder.new.host) c.args.folders.now
     c.folders.folder-index c.folder-item.result (text_of c.as_path.result) c.folders-test.true c.folder-item.is c.as_path.ensures c.folders.invariant.tried c.from_residual.result c.in_err-remove_folder.ensures.stopped
 
 pub folders-preserved : goal.folders-preserved
 folders-preserved g c = record {
-  tried = folders_more (g.H.Host.told c.args.host.now).world (g.H.Host.told c.folders.host).world (g.H.Host.told c.remove_folder.new.host).world (g.H.Host.told c.args.host.now).entries (g.H.Host.told c.folders.host).entries (g.H.Host.told c.remove_folder.new.host).entries c.args.folders.now
+  tried = folders_more (g.H.Host.told c.args.host.now) (g.H.Host.told c.folders.host) (g.H.Host.told c.remove_folder.new.host) c.args.folders.now
       c.folders.folder-index c.folder-item.result (text_of c.as_path.result) c.folders-test.true c.folder-item.is c.as_path.ensures c.folders.invariant.tried c.in_ok-remove_folder.ensures.tried;
 }
 
 pub returns-clause-removed : goal.returns-clause-removed
-returns-clause-removed g c = folders_removed (g.H.Host.told c.args.host.now).world (g.H.Host.told c.args.host.now).entries c.args.folders.now c.folders.folder-index (g.H.Host.told c.folders.host).world (g.H.Host.told c.folders.host).entries c.folders-test.false c.folders.invariant.tried
+returns-clause-removed g c = folders_removed (g.H.Host.told c.args.host.now) c.args.folders.now c.folders.folder-index (g.H.Host.told c.folders.host) c.folders-test.false c.folders.invariant.tried
 
 pub returns-clause-tried : goal.returns-clause-tried
-returns-clause-tried g c = folders_tried (g.H.Host.told c.args.host.now).world (g.H.Host.told c.args.host.now).entries c.args.folders.now c.folders.folder-index (g.H.Host.told c.folders.host).world (g.H.Host.told c.folders.host).entries c.folders-test.false c.folders.invariant.tried
+returns-clause-tried g c = folders_tried (g.H.Host.told c.args.host.now) c.args.folders.now c.folders.folder-index (g.H.Host.told c.folders.host) c.folders-test.false c.folders.invariant.tried

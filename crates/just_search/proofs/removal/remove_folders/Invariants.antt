@@ -5,5 +5,5 @@ use Rattle.just_search.proofs.removal.remove_folders.Given as goal
 
 abbrev pub invariant-folders : goal.invariant-folders
 invariant-folders g l = record {
-  tried : InTurn TriesFolder (g.H.Host.told l.fn.host).world (g.H.Host.told l.fn.host).entries (take l.folder-index l.folders) (g.H.Host.told l.host).world (g.H.Host.told l.host).entries;
+  tried : InTurn TriesFolder (g.H.Host.told l.fn.host) (take l.folder-index l.folders) (g.H.Host.told l.host);
 }
