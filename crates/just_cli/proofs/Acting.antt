@@ -53,21 +53,28 @@ pub record Agrees {R : Type 0} (r s : R) (rest left : List Act) (after later : O
   pub told : after ≡ Some world
   pub also : later ≡ Some world
 
--- over a told world and acts that go on the same, behind whose children worlds are told, a step gives one answer of its own at most
-abbrev pub GivesOwnStep : {A B : Type 0} → Step A B → Type 0
-GivesOwnStep {A} {B} step =
-    (w : World) (acts more rest left : List Act) (after later : Option World) (x : A) (r s : Result B Error) → step (Some w) acts after x r → IsOwn r → step (Some w) more later x s → IsOwn s → acts ++ rest ≡ more ++ left
+-- over a told world and acts that go on the same, behind whose children worlds are told, two steps give one answer of their own at most
+abbrev pub Agree : {A B : Type 0} → Step A B → Step A B → Type 0
+Agree {A} {B} step other =
+    (w : World) (acts more rest left : List Act) (after later : Option World) (x : A) (r s : Result B Error) → step (Some w) acts after x r → IsOwn r → other (Some w) more later x s → IsOwn s → acts ++ rest ≡ more ++ left
     → AreToldBehind (more ++ left) → Agrees r s rest left after later
 
--- a step that looks does where it gives one such answer at most
-pub looks_own : {A B : Type 0} (gives : Option World → A → Result B Error → Type 0) → ((w : World) → GivesOwn (gives (Some w))) → GivesOwnStep (Looks gives)
-looks_own gives one w acts more rest left after later x r s (none, world, p) own (never, still, q) other all told = record {
+-- so does one step
+abbrev pub GivesOwnStep : {A B : Type 0} → Step A B → Type 0
+GivesOwnStep step = Agree step step
+
+-- steps that look do where they give one such answer at most
+pub looks_agree : {A B : Type 0} (gives others : Option World → A → Result B Error → Type 0) → ((w : World) (x : A) (r s : Result B Error) → gives (Some w) x r → IsOwn r → others (Some w) x s → IsOwn s → r ≡ s) → Agree (Looks gives) (Looks others)
+looks_agree gives others one w acts more rest left after later x r s (none, world, p) own (never, still, q) other all told = record {
   same = one w x r s p own q other;
   rests = ap (λ l. l ++ rest) (sym none) ∙ (all ∙ ap (λ l. l ++ left) never);
   world = w;
   told = world;
   also = still;
 }
+
+pub looks_own : {A B : Type 0} (gives : Option World → A → Result B Error → Type 0) → ((w : World) → GivesOwn (gives (Some w))) → GivesOwnStep (Looks gives)
+looks_own gives one = looks_agree gives gives one
 
 -- of another answer of the same refusal
 pub agrees_refusal : {A B : Type 0} (e f : Error) (rest left : List Act) (after later : Option World) → Agrees {R = Result A Error} (Err e) (Err f) rest left after later → Agrees {R = Result B Error} (Err e) (Err f) rest left after later
@@ -80,20 +87,24 @@ agrees_as r s x y rest left after later is at a = record { same = is ∙ a.same 
 pub in_two : (acts front back rest : List Act) → acts ≡ front ++ back → acts ++ rest ≡ front ++ (back ++ rest)
 in_two acts front back rest is = ap (λ l. l ++ rest) is ∙ append_assoc front back rest
 
-module _ {A B C : Type 0} (first : Step A B) (second : Step B C) (one : GivesOwnStep first) (two : GivesOwnStep second) where
-  pub behind_own : GivesOwnStep (Behind first second)
-  behind_own w acts more rest left after later x r s (Behind.refused e p is) own (Behind.refused f q at) other all told =
+module _ {A B C : Type 0} (first early : Step A B) (second late : Step B C) (one : Agree first early) (two : Agree second late) where
+  pub behind_agree : Agree (Behind first second) (Behind early late)
+  behind_agree w acts more rest left after later x r s (Behind.refused e p is) own (Behind.refused f q at) other all told =
       agrees_as (Err e) (Err f) r s rest left after later is at
       (agrees_refusal e f rest left after later (one w acts more rest left after later x (Err e) (Err f) p (own_refusal r e is own) q (own_refusal s f at other) all told))
-  behind_own w acts more rest left after later x r s (Behind.refused e p is) own (Behind.both z front back between q further at) other all told =
+  behind_agree w acts more rest left after later x r s (Behind.refused e p is) own (Behind.both z front back between q further at) other all told =
       let two_so = in_two more front back left at in
       absurd (refused_or_found e z (one w acts front rest (back ++ left) after between x (Err e) (Ok z) p (own_refusal r e is own) q tt (all ∙ two_so) (subst (λ l. AreToldBehind l) two_so told)).same)
-  behind_own w acts more rest left after later x r s (Behind.both y front back between p further is) own (Behind.refused f q at) other all told =
+  behind_agree w acts more rest left after later x r s (Behind.both y front back between p further is) own (Behind.refused f q at) other all told =
       let two_so = in_two acts front back rest is in
-      absurd (refused_or_found f y (one w more front left (back ++ rest) later between x (Err f) (Ok y) q (own_refusal s f at other) p tt (sym all ∙ two_so) (subst (λ l. AreToldBehind l) (sym all ∙ two_so) told)).same)
-  behind_own w acts more rest left after later x r s (Behind.both y front back between p further is) own (Behind.both z fore hind among q farther at) other all told =
+      let a = one w front more (back ++ rest) left between later x (Ok y) (Err f) p tt q (own_refusal s f at other) (sym two_so ∙ all) told in
+      absurd (refused_or_found f y (sym a.same))
+  behind_agree w acts more rest left after later x r s (Behind.both y front back between p further is) own (Behind.both z fore hind among q farther at) other all told =
       let two_so = in_two more fore hind left at in
       let told_so : AreToldBehind (fore ++ (hind ++ left)) = subst (λ l. AreToldBehind l) two_so told in
       let a = one w front fore (back ++ rest) (hind ++ left) between among x (Ok y) (Ok z) p tt q tt (sym (in_two acts front back rest is) ∙ (all ∙ two_so)) told_so in
       let found : y ≡ z = same_found y z a.same in
-      two a.world back hind rest left after later z r s (subst (λ k. second (Some a.world) back after k r) found (subst (λ t. second t back after y r) a.told further)) own (subst (λ t. second t hind later z s) a.also farther) other a.rests (told_later fore (hind ++ left) told_so)
+      two a.world back hind rest left after later z r s (subst (λ k. second (Some a.world) back after k r) found (subst (λ t. second t back after y r) a.told further)) own (subst (λ t. late t hind later z s) a.also farther) other a.rests (told_later fore (hind ++ left) told_so)
+
+pub behind_own : {A B C : Type 0} (first : Step A B) (second : Step B C) → GivesOwnStep first → GivesOwnStep second → GivesOwnStep (Behind first second)
+behind_own first second one two = behind_agree first first second second one two

@@ -20,12 +20,13 @@ use Rattle.just_host_record.specs.Changes.{with_tree, place_written, runs, writt
 use Rattle.just_host_record.specs.Folders.{Removes as RemovesPath}
 use Rattle.just_host_record.specs.Record.{refused, gained, is_failed}
 use Rattle.just_host_record.specs.Sights.{Tree}
-use Rattle.just_host_record.specs.World.{World}
+use Rattle.just_host_record.specs.World.{World, Moment}
+use Rattle.just_host_record.proofs.Moments.{moment_by}
 use Rattle.just_host_record.proofs.Writing.{put_elsewhere, put_there, written_elsewhere, written_there}
 use Rattle.just_sched_history.specs.declared.plan_node.PlanNode.{PlanNode}
 use Rattle.just_sched_history.specs.Touched.{IsTouched}
 use Rattle.just_search.specs.Files.{Makes, Writes, file_in}
-use Rattle.just_search.specs.Removals.{IsWithin, IsAnswered, IsTried, Clears, RemovesFolder, RemovesAll, RemovesSome}
+use Rattle.just_search.specs.Removals.{with_entries, IsWithin, IsAnswered, IsTried, Clears, RemovesFolder, RemovesAll, RemovesSome}
 use Rattle.just_search.proofs.Placing.{apart_texts}
 use Rattle.just_cli.specs.Altered.{LeadsTo, IsLedTo, PutsNoLink, Alters, IsAltered, EndsAsItWas, StaysAsItWas}
 use Rattle.just_cli.specs.Record.{Removes, AreRefusals, EndsBehind}
@@ -165,25 +166,26 @@ all_refusals [] ys h g = g
 all_refusals (x ∷ xs) ys h g = (h.0, all_refusals xs ys h.1 g)
 
 -- the record gained refusals alone; where no call failed, paths at or below these folders lead from the one world to the other
-abbrev pub Clearing : List (List ℕ) → Option World → List Entry → Option World → List Entry → Type 0
-Clearing folders told old after new = (rest : List Entry) × (new ≡ old ++ rest) × AreRefusals rest × ((nodes : List PlanNode) → list_any is_failed rest ≡ false → IsAltered folders nodes told after)
+abbrev pub Clearing : List (List ℕ) → Moment → Moment → Type 0
+Clearing folders before after =
+    (rest : List Entry) × (after.entries ≡ before.entries ++ rest) × AreRefusals rest × ((nodes : List PlanNode) → list_any is_failed rest ≡ false → IsAltered folders nodes before.world after.world)
 
-cleared_none : (folders : List (List ℕ)) (told : Option World) (old : List Entry) → Clearing folders told old told old
-cleared_none folders told old = ([], sym (append-nil old), tt, λ nodes quiet. altered_same folders nodes told told refl)
+cleared_none : (folders : List (List ℕ)) (told : Moment) → Clearing folders told told
+cleared_none folders told = ([], sym (append-nil told.entries), tt, λ nodes quiet. altered_same folders nodes told.world told.world refl)
 
-cleared_then : (folders : List (List ℕ)) (a b c : Option World) (x y z : List Entry) → Clearing folders a x b y → Clearing folders b y c z → Clearing folders a x c z
-cleared_then folders a b c x y z (r, g, k, m) (s, h, l, n) = (
+cleared_then : (folders : List (List ℕ)) (a b c : Moment) → Clearing folders a b → Clearing folders b c → Clearing folders a c
+cleared_then folders a b c (r, g, k, m) (s, h, l, n) = (
   r ++ s,
-  h ∙ (ap (λ es. es ++ s) g ∙ append_assoc x r s),
+  h ∙ (ap (λ es. es ++ s) g ∙ append_assoc a.entries r s),
   all_refusals r s k l,
-  λ nodes quiet. altered_then folders nodes a b c (m nodes (quiet_first is_failed r s quiet)) (n nodes (quiet_rest is_failed r s quiet)),
+  λ nodes quiet. altered_then folders nodes a.world b.world c.world (m nodes (quiet_first is_failed r s quiet)) (n nodes (quiet_rest is_failed r s quiet)),
 )
 
 -- a listing that is refused
-cleared_listing : (folders : List (List ℕ)) (told : Option World) (old : List Entry) (path : List ℕ) (io : HostFault) → Clearing folders told old told (old ++ refused path io)
-cleared_listing folders told old path (fault.Missed m) = (entry.Missed path m ∷ [], refl, (refl, tt), λ nodes quiet. altered_same folders nodes told told refl)
-cleared_listing folders told old path (fault.Failed c) = (entry.Failed c ∷ [], refl, (refl, tt), λ nodes quiet. altered_same folders nodes told told refl)
-cleared_listing folders told old path fault.NoMemory = ([], refl, tt, λ nodes quiet. altered_same folders nodes told told refl)
+cleared_listing : (folders : List (List ℕ)) (told : Moment) (path : List ℕ) (io : HostFault) → Clearing folders told (with_entries told (refused path io))
+cleared_listing folders told path (fault.Missed m) = (entry.Missed path m ∷ [], refl, (refl, tt), λ nodes quiet. altered_same folders nodes told.world told.world refl)
+cleared_listing folders told path (fault.Failed c) = (entry.Failed c ∷ [], refl, (refl, tt), λ nodes quiet. altered_same folders nodes told.world told.world refl)
+cleared_listing folders told path fault.NoMemory = ([], refl, tt, λ nodes quiet. altered_same folders nodes told.world told.world refl)
 
 -- where nothing was removed, there stands what stood there
 removed_elsewhere : (tree : Tree) (place q : List ℕ) → (q ≡ place → ⊥) → get (remove tree place) q ≡ get tree q
@@ -203,44 +205,45 @@ module _ (folders : List (List ℕ)) (folder path : List ℕ) (has : Contains fo
       (record { tree = λ q apart. removed_elsewhere w.tree place q (λ same. apart (folder, path, has, within, LeadsTo.removed (at ∙ ap (λ p. Ok p) (sym same)))); current = refl; environ = refl; input = refl; disk = λ e. e })
       (removed_no_link w.tree place))
 
-  cleared_by : (told after : Option World) (old new : List Entry) (r : Result (Unit {0}) HostFault) → IsAnswered r → RemovesPath told after path r → new ≡ old ++ gained path (λ _. []) r → Clearing folders told old after new
-  cleared_by told after old new (Ok x) answered removes leaves = ([], leaves, tt, λ nodes quiet. altered_removed nodes told after x removes)
-  cleared_by told after old new (Err (fault.Missed m)) answered removes leaves = (entry.Missed path m ∷ [], leaves, (refl, tt), λ nodes quiet. altered_same folders nodes told after (missed_same told after path m removes))
-  cleared_by told after old new (Err (fault.Failed c)) answered removes leaves = (entry.Failed c ∷ [], leaves, (refl, tt), λ nodes quiet. absurd (true≢false quiet))
-  cleared_by told after old new (Err fault.NoMemory) answered removes leaves = absurd answered
+  cleared_by : (before after : Moment) (r : Result (Unit {0}) HostFault) → IsAnswered r → RemovesPath before.world after.world path r → after.entries ≡ before.entries ++ gained path (λ _. []) r → Clearing folders before after
+  cleared_by before after (Ok x) answered removes leaves = ([], leaves, tt, λ nodes quiet. altered_removed nodes before.world after.world x removes)
+  cleared_by before after (Err (fault.Missed m)) answered removes leaves =
+      (entry.Missed path m ∷ [], leaves, (refl, tt), λ nodes quiet. altered_same folders nodes before.world after.world (missed_same before.world after.world path m removes))
+  cleared_by before after (Err (fault.Failed c)) answered removes leaves = (entry.Failed c ∷ [], leaves, (refl, tt), λ nodes quiet. absurd (true≢false quiet))
+  cleared_by before after (Err fault.NoMemory) answered removes leaves = absurd answered
 
-  cleared_path : (told after : Option World) (old new : List Entry) → IsTried path told old after new → Clearing folders told old after new
-  cleared_path told after old new t = cleared_by told after old new t.result t.answered t.removes t.leaves
+  cleared_path : (before after : Moment) → IsTried path before after → Clearing folders before after
+  cleared_path before after t = cleared_by before after t.result t.answered t.removes t.leaves
 
 module _ (folders : List (List ℕ)) (folder : List ℕ) (has : Contains folders folder) where
-  cleared_within : (told : Option World) (old : List Entry) (after : Option World) (new : List Entry) → Clears folder told old after new → Clearing folders told old after new
-  cleared_within told old after new Clears.nothing = cleared_none folders told old
-  cleared_within told old after new (Clears.a_listing now more path io before own) =
-      cleared_then folders told now now old more (more ++ refused path io) (cleared_within told old now more before) (cleared_listing folders now more path io)
-  cleared_within told old after new (Clears.a_removal between now middle more path before within tried) =
-      cleared_then folders told between now old middle more (cleared_within told old between middle before) (cleared_path folders folder path has within between now middle more tried)
+  cleared_within : (before after : Moment) → Clears folder before after → Clearing folders before after
+  cleared_within before after Clears.nothing = cleared_none folders before
+  cleared_within before after (Clears.a_listing between path io clears own) =
+      cleared_then folders before between (with_entries between (refused path io)) (cleared_within before between clears) (cleared_listing folders between path io)
+  cleared_within before after (Clears.a_removal between now path clears within tried) =
+      cleared_then folders before between now (cleared_within before between clears) (cleared_path folders folder path has within between now tried)
 
-  cleared_folder : (told after : Option World) (old new : List Entry) → RemovesFolder folder told old after new → Clearing folders told old after new
-  cleared_folder told after old new (between, middle, clears, tried) =
-      cleared_then folders told between after old middle new (cleared_within told old between middle clears) (cleared_path folders folder folder has IsWithin.itself between after middle new tried)
+  cleared_folder : (before after : Moment) → RemovesFolder folder before after → Clearing folders before after
+  cleared_folder before after (between, clears, tried) =
+      cleared_then folders before between after (cleared_within before between clears) (cleared_path folders folder folder has IsWithin.itself between after tried)
 
-cleared_all : (all : List (List ℕ)) (told : Option World) (old : List Entry) (folders : List (List ℕ)) (after : Option World) (new : List Entry) → RemovesAll told old folders after new
-    → ((folder : List ℕ) → Contains folders folder → Contains all folder) → Clearing all told old after new
-cleared_all all told old folders after new RemovesAll.none among = cleared_none all told old
-cleared_all all told old folders after new (RemovesAll.another first folder between now middle more before removes) among =
-    cleared_then all told between now old middle more (cleared_all all told old first between middle before (λ f has. among f (Contains-append_left first (folder ∷ []) f has)))
-    (cleared_folder all folder (among folder (Contains-append_right first (folder ∷ []) folder (has_first folder []))) between now middle more removes)
+cleared_all : (all : List (List ℕ)) (before : Moment) (folders : List (List ℕ)) (after : Moment) → RemovesAll before folders after
+    → ((folder : List ℕ) → Contains folders folder → Contains all folder) → Clearing all before after
+cleared_all all before folders after RemovesAll.none among = cleared_none all before
+cleared_all all before folders after (RemovesAll.another first folder between now removed removes) among =
+    cleared_then all before between now (cleared_all all before first between removed (λ f has. among f (Contains-append_left first (folder ∷ []) f has)))
+    (cleared_folder all folder (among folder (Contains-append_right first (folder ∷ []) folder (has_first folder []))) between now removes)
 
-cleared_some : (told after : Option World) (old new : List Entry) (folders : List (List ℕ)) → RemovesSome told old folders after new → Clearing folders told old after new
-cleared_some told after old new folders s =
-    subst (λ (fs : List (List ℕ)). Clearing fs told old after new) (sym s.all)
-    (cleared_then (s.first ++ s.next ∷ s.others) told s.between after old s.middle new
-    (cleared_all (s.first ++ s.next ∷ s.others) told old s.first s.between s.middle s.removed (λ f has. Contains-append_left s.first (s.next ∷ s.others) f has))
-    (cleared_within (s.first ++ s.next ∷ s.others) s.next (Contains-append_right s.first (s.next ∷ s.others) s.next (has_first s.next s.others)) s.between s.middle after new s.cleared))
+cleared_some : (before after : Moment) (folders : List (List ℕ)) → RemovesSome before folders after → Clearing folders before after
+cleared_some before after folders s =
+    subst (λ (fs : List (List ℕ)). Clearing fs before after) (sym s.all)
+    (cleared_then (s.first ++ s.next ∷ s.others) before s.between after
+    (cleared_all (s.first ++ s.next ∷ s.others) before s.first s.between s.removed (λ f has. Contains-append_left s.first (s.next ∷ s.others) f has))
+    (cleared_within (s.first ++ s.next ∷ s.others) s.next (Contains-append_right s.first (s.next ∷ s.others) s.next (has_first s.next s.others)) s.between after s.cleared))
 
-pub clearing : (folders : List (List ℕ)) (told after : Option World) (old new : List Entry) → Removes folders told old after new → Clearing folders told old after new
-clearing folders told after old new (inl all) = cleared_all folders told old folders after new all.0 (λ f has. has)
-clearing folders told after old new (inr some) = cleared_some told after old new folders some
+pub clearing : (folders : List (List ℕ)) (before after : Moment) → Removes folders before after → Clearing folders before after
+clearing folders before after (inl all) = cleared_all folders before folders after all.0 (λ f has. has)
+clearing folders before after (inr some) = cleared_some before after folders some
 
 -- ---- where no folder was made, none is removed
 
@@ -248,26 +251,29 @@ some_left : (xs ys : List (List ℕ)) (x : List ℕ) → xs ++ x ∷ ys ≡ [] �
 some_left [] ys x is = let no : ⊥ = cc in no
 some_left (y ∷ xs) ys x is = let no : ⊥ = cc in no
 
-kept_all : (told : Option World) (old : List Entry) (folders : List (List ℕ)) (after : Option World) (new : List Entry) → RemovesAll told old folders after new → folders ≡ [] → (after ≡ told) × (new ≡ old)
-kept_all told old folders after new RemovesAll.none is = (refl, refl)
-kept_all told old folders after new (RemovesAll.another first folder between now middle more before removes) is = absurd (some_left first [] folder is)
+kept_all : (before : Moment) (folders : List (List ℕ)) (after : Moment) → RemovesAll before folders after → folders ≡ [] → after ≡ before
+kept_all before folders after RemovesAll.none is = refl
+kept_all before folders after (RemovesAll.another first folder between now removed removes) is = absurd (some_left first [] folder is)
 
-pub removes_none : (folders : List (List ℕ)) (told after : Option World) (old new : List Entry) → folders ≡ [] → Removes folders told old after new → (after ≡ told) × (new ≡ old)
-removes_none folders told after old new is (inl all) = kept_all told old folders after new all.0 is
-removes_none folders told after old new is (inr s) = absurd (some_left s.first s.others s.next (sym s.all ∙ is))
+pub removes_none : (folders : List (List ℕ)) (before after : Moment) → folders ≡ [] → Removes folders before after → after ≡ before
+removes_none folders before after is (inl all) = kept_all before folders after all.0 is
+removes_none folders before after is (inr s) = absurd (some_left s.first s.others s.next (sym s.all ∙ is))
 
 -- ---- behind the book
 
 -- an error that is told, or nothing, and the removal of the folders
-pub behind_book : (folders : List (List ℕ)) (tells : List Entry → Type 0) (settled after : Option World) (old middle new : List Entry) → (first : List Entry) × (middle ≡ old ++ first) × tells first → Removes folders settled middle after new
-    → (post : List Entry) × (new ≡ old ++ post) × EndsBehind folders tells settled after old post
-behind_book folders tells settled after old middle new (first, is, told) removes =
-    let c = clearing folders settled after middle new removes in
-    let grew : new ≡ old ++ (first ++ c.0) = c.1 ∙ (ap (λ es. es ++ c.0) is ∙ append_assoc old first c.0) in (
-      first ++ c.0,
-      grew,
-      record { first = first; refusals = c.0; grew = refl; told_error = told; are = c.2; removed = subst (λ es. Removes folders settled (old ++ first) after es) grew (subst (λ es. Removes folders settled es after new) is removes) },
-    )
+pub behind_book : (folders : List (List ℕ)) (tells : List Entry → Type 0) (settled middle after : Moment) → (first : List Entry) × (middle.entries ≡ settled.entries ++ first) × tells first → middle.world ≡ settled.world
+    → Removes folders middle after → EndsBehind folders tells settled after
+behind_book folders tells settled middle after (first, is, told) world removes =
+    let c = clearing folders middle after removes in
+    record {
+      first = first;
+      refusals = c.0;
+      grew = c.1 ∙ (ap (λ es. es ++ c.0) is ∙ append_assoc settled.entries first c.0);
+      told_error = told;
+      are = c.2;
+      removed = subst (λ (m : Moment). Removes folders m after) (moment_by middle (with_entries settled first) is world) removes;
+    }
 
 -- what the end of a run makes of a told world
 pub ends_as_it_was : (folders : List (List ℕ)) (nodes : List PlanNode) (told between settled after : Option World) → (folders ≡ [] → between ≡ told) → IsAltered folders nodes told between → IsTouched nodes between settled

@@ -1,7 +1,7 @@
 -- The chain of a request over a host, from what its calls answered.
 use Rattle.std.proofs.Common.{◌≡◌, ◌++◌, ◌∙◌, inl, inr, ℕ, Bool, true, false, true≢false, List, [], ◌∷◌, map, Option, Result, Ok, Err, refl, sym, ap, subst, append_assoc, append-nil}
 use Rattle.just_path_text.specs.declared.environ.Environ.{Environ}
-use Rattle.just_host_record.specs.World.{World}
+use Rattle.just_host_record.specs.World.{World, Moment}
 use Rattle.just_host_record.specs.declared.entry.Entry.{Entry}
 use Rattle.just_lang_types.specs.declared.source.Source.{Source}
 use Rattle.just_env.specs.declared.search_error.SearchError.{SearchError}
@@ -126,15 +126,23 @@ captured_still : (old new : Option World) (e : Error) → is_uncaptured e ≡ fa
 captured_still old new (error.DotenvCommand command (output.Io io)) captured left = absurd (true≢false captured)
 captured_still old new _ captured left = left
 
-module _ (told after : Option World) (old new : List Entry) (wanted : Wanted) (environ : Environ) (j : Justfile) where
+module _ (before after : Moment) (wanted : Wanted) (environ : Environ) (j : Justfile) where
   abbrev Begins : List Act → Option World → Type 0
-  Begins acts world = BeginsIt wanted environ j told acts world
+  Begins acts world = BeginsIt wanted environ j before.world acts world
 
   -- the pairs, as a part of a preparation
   abbrev LoadsIt : List Act → Option World → Result (List DotenvOf) Error → Type 0
-  LoadsIt acts world r = (cs : List Capture) × (acts ≡ map Act.captured cs) × LoadsPairs told wanted environ j cs r × Leaves told cs world r
+  LoadsIt acts world r = (cs : List Capture) × (acts ≡ map Act.captured cs) × LoadsPairs before.world wanted environ j cs r × Leaves before.world cs world r
 
-  pairs_part : (pairs : List DotenvOf) → Runs (LoadsPairs told wanted environ j) (BeginsLoading told wanted environ j) told after old new (Ok pairs) → Performs LoadsIt Begins told after [] [] old new (Ok pairs)
+  -- that pairs were loaded, or not
+  abbrev Loaded : Result (List DotenvOf) Error → Type 0
+  Loaded r = Runs {A = List DotenvOf} (LoadsPairs before.world wanted environ j) (BeginsLoading before.world wanted environ j) before after r
+
+  -- where no child was run the world is as it was
+  same_behind : (cs : List Capture) → cs ≡ [] → told_behind before.world cs ≡ before.world
+  same_behind cs none = ap (λ (l : List Capture). told_behind before.world l) none
+
+  pairs_part : (pairs : List DotenvOf) → Loaded (Ok pairs) → Performs LoadsIt Begins before after [] [] (Ok pairs)
   pairs_part pairs (cs, loads, (es, are, grew), left, begun) = record {
     acts = map Act.captured cs;
     entries = es;
@@ -143,54 +151,55 @@ module _ (told after : Option World) (old new : List Entry) (wanted : Wanted) (e
     folders = sym (no_folders cs);
     answers = (cs, refl, loads, left);
     begun = λ modules. (cs, refl, left, begun);
-    still = λ none quiet. left ∙ ap (λ (l : List Capture). told_behind told l) (no_captures cs none);
-    alters = λ nodes alone quiet. altered_same (folders_in (map Act.captured cs)) nodes told after (left ∙ ap (λ (l : List Capture). told_behind told l) (sym (all_captured cs) ∙ alone));
+    still = λ none quiet. left ∙ same_behind cs (no_captures cs none);
+    alters = λ nodes alone quiet. altered_same (folders_in (map Act.captured cs)) nodes before.world after.world (left ∙ same_behind cs (sym (all_captured cs) ∙ alone));
   }
 
-  or_pairs : (cs : List Capture) (e : Error) → OrMemory (λ x. LoadsPairs told wanted environ j cs (Err x)) e → ErrorLeaves (told_behind told cs) after e → OrMemory (λ x. LoadsIt (map Act.captured cs) after (Err x)) e
+  or_pairs : (cs : List Capture) (e : Error) → OrMemory (λ x. LoadsPairs before.world wanted environ j cs (Err x)) e → ErrorLeaves (told_behind before.world cs) after.world e → OrMemory (λ x. LoadsIt (map Act.captured cs) after.world (Err x)) e
   or_pairs cs e (inl wants) left = inl wants
   or_pairs cs e (inr loads) left = inr (cs, refl, loads, left)
 
-  pairs_lost : (e : Error) → Runs {A = List DotenvOf} (LoadsPairs told wanted environ j) (BeginsLoading told wanted environ j) told after old new (Err e) → Performs LoadsIt Begins told after [] [] old new (Err e)
+  pairs_lost : (e : Error) → Loaded (Err e) → Performs LoadsIt Begins before after [] [] (Err e)
   pairs_lost e (cs, why, (middle, path, (es, are, grew), more), left, begun) = record {
     acts = map Act.captured cs;
     entries = es ++ entries_in path e;
-    grew = more ∙ (ap (λ l. l ++ entries_in path e) grew ∙ append_assoc old es (entries_in path e));
+    grew = more ∙ (ap (λ l. l ++ entries_in path e) grew ∙ append_assoc before.entries es (entries_in path e));
     leaves = (es, path, children_acts cs es are, refl);
     folders = sym (no_folders cs);
     answers = or_pairs cs e why left;
-    begun = λ captured modules. (cs, refl, captured_still (told_behind told cs) after e captured left, begun);
-    still = λ none quiet. error_still (told_behind told cs) after path e left (quiet_rest is_failed es (entries_in path e) quiet) ∙ ap (λ (l : List Capture). told_behind told l) (no_captures cs none);
+    begun = λ captured modules. (cs, refl, captured_still (told_behind before.world cs) after.world e captured left, begun);
+    still = λ none quiet. error_still (told_behind before.world cs) after.world path e left (quiet_rest is_failed es (entries_in path e) quiet) ∙ same_behind cs (no_captures cs none);
     alters = λ nodes alone quiet.
-        altered_same (folders_in (map Act.captured cs)) nodes told after
-        (error_still (told_behind told cs) after path e left (quiet_rest is_failed es (entries_in path e) quiet) ∙ ap (λ (l : List Capture). told_behind told l) (sym (all_captured cs) ∙ alone));
+        altered_same (folders_in (map Act.captured cs)) nodes before.world after.world
+        (error_still (told_behind before.world cs) after.world path e left (quiet_rest is_failed es (entries_in path e) quiet) ∙ same_behind cs (sym (all_captured cs) ∙ alone));
   }
 
   module _ (modules : List Justfile) (are : AreModules (j ∷ []) modules) where
     -- the dotenv pairs aren't loaded
-    lost_so : (acts : List Act) (e : Error) → OrMemory (λ x. LoadsIt acts after (Err x)) e → OrMemory (λ x. PlansIt wanted environ j told acts after (Err x)) e
+    lost_so : (acts : List Act) (e : Error) → OrMemory (λ x. LoadsIt acts after.world (Err x)) e → OrMemory (λ x. PlansIt wanted environ j before.world acts after.world (Err x)) e
     lost_so acts e (inl wants) = inl wants
     lost_so acts e (inr (cs, is, loads, left)) = inr (modules, are, Behind.refused e (cs, is, loads, left) refl)
 
-    pub no_pairs : (e : Error) → Runs {A = List DotenvOf} (LoadsPairs told wanted environ j) (BeginsLoading told wanted environ j) told after old new (Err e) → PerformsPlan wanted environ j told after old new (Err e)
-    no_pairs e runs = performs_lost LoadsIt (PlansIt wanted environ j told) Begins Begins told after [] [] old new e (pairs_lost e runs) (λ acts why. lost_so acts e why) (λ acts b. b)
+    pub no_pairs : (e : Error) → Loaded (Err e) → PerformsPlan wanted environ j before after (Err e)
+    no_pairs e runs = performs_lost LoadsIt (PlansIt wanted environ j before.world) Begins Begins before after [] [] e (pairs_lost e runs) (λ acts why. lost_so acts e why) (λ acts b. b)
 
     module _ (pairs seen : List DotenvOf) (same : seen ≡ pairs) where
-      behind_pairs : (acts : List Act) (r : Result Outline Error) → LoadsIt acts after (Ok pairs) → PlansProject (loaded_in wanted environ j modules seen) r → PlansIt wanted environ j told acts after r
+      behind_pairs : (acts : List Act) (r : Result Outline Error) → LoadsIt acts after.world (Ok pairs) → PlansProject (loaded_in wanted environ j modules seen) r → PlansIt wanted environ j before.world acts after.world r
       behind_pairs acts r (cs, is, loads, left) plans =
-          (modules, are, Behind.both (loaded_in wanted environ j modules pairs) acts [] after (cs, is, (refl, refl, refl, refl, loads), left) (refl, refl, subst (λ ps. PlansProject (loaded_in wanted environ j modules ps) r) same plans) (sym (append-nil acts)))
+          (modules, are, Behind.both (loaded_in wanted environ j modules pairs) acts [] after.world (cs, is, (refl, refl, refl, refl, loads), left) (refl, refl, subst (λ ps. PlansProject (loaded_in wanted environ j modules ps) r) same plans) (sym (append-nil acts)))
 
-      or_behind : (acts : List Act) (e : Error) → LoadsIt acts after (Ok pairs) → OrMemory (λ x. (ms : List Justfile) → AreModules (j ∷ []) ms → PlansProject (loaded_in wanted environ j ms seen) (Err x)) e → OrMemory (λ x. PlansIt wanted environ j told acts after (Err x)) e
+      or_behind : (acts : List Act) (e : Error) → LoadsIt acts after.world (Ok pairs) → OrMemory (λ x. (ms : List Justfile) → AreModules (j ∷ []) ms → PlansProject (loaded_in wanted environ j ms seen) (Err x)) e → OrMemory (λ x. PlansIt wanted environ j before.world acts after.world (Err x)) e
       or_behind acts e loads (inl wants) = inl wants
       or_behind acts e loads (inr plans) = inr (behind_pairs acts (Err e) loads (plans modules are))
 
-      pub loaded_plan : (o : Outline) → Runs (LoadsPairs told wanted environ j) (BeginsLoading told wanted environ j) told after old new (Ok pairs) → ((ms : List Justfile) → AreModules (j ∷ []) ms → PlansProject (loaded_in wanted environ j ms seen) (Ok o)) → PerformsPlan wanted environ j told after old new (Ok o)
-      loaded_plan o runs plans = performs_as LoadsIt (PlansIt wanted environ j told) Begins Begins told after [] [] old new pairs o (pairs_part pairs runs) (λ acts loads. behind_pairs acts (Ok o) loads (plans modules are)) (λ acts b. b)
+      pub loaded_plan : (o : Outline) → Loaded (Ok pairs) → ((ms : List Justfile) → AreModules (j ∷ []) ms → PlansProject (loaded_in wanted environ j ms seen) (Ok o)) → PerformsPlan wanted environ j before after (Ok o)
+      loaded_plan o runs plans =
+          performs_as LoadsIt (PlansIt wanted environ j before.world) Begins Begins before after [] [] pairs o (pairs_part pairs runs) (λ acts loads. behind_pairs acts (Ok o) loads (plans modules are)) (λ acts b. b)
 
-      pub loaded_refused : (e : Error) → entries_of e ≡ [] → Runs (LoadsPairs told wanted environ j) (BeginsLoading told wanted environ j) told after old new (Ok pairs) → OrMemory (λ x. (ms : List Justfile) → AreModules (j ∷ []) ms → PlansProject (loaded_in wanted environ j ms seen) (Err x)) e
-          → PerformsPlan wanted environ j told after old new (Err e)
+      pub loaded_refused : (e : Error) → entries_of e ≡ [] → Loaded (Ok pairs) → OrMemory (λ x. (ms : List Justfile) → AreModules (j ∷ []) ms → PlansProject (loaded_in wanted environ j ms seen) (Err x)) e
+          → PerformsPlan wanted environ j before after (Err e)
       loaded_refused e silent runs why =
-          performs_looking LoadsIt (PlansIt wanted environ j told) Begins Begins told after after [] [] old new new pairs (Err e) (pairs_part pairs runs) refl (left_nothing new e silent) (λ acts loads. or_behind acts e loads why) (λ acts b. b)
+          performs_looking LoadsIt (PlansIt wanted environ j before.world) Begins Begins before after after [] [] pairs (Err e) (pairs_part pairs runs) refl (left_nothing after.entries e silent) (λ acts loads. or_behind acts e loads why) (λ acts b. b)
 
 -- a refusal of arguments over a host, and of words, or want of memory
 abbrev pub RefusesRun : Option World → List Entry → List Act → Option World → Arguments → Environ → Error → Type 0
@@ -241,34 +250,48 @@ module _ (config : Config) (environ : Environ) (location : Location) (told : Opt
       all_answers acts more after (Err e) takes (inl wants) = inl wants
       all_answers acts more after (Err e) takes (inr plans) = inr (answers acts more after (Err e) takes plans)
 
-  -- the parts of a preparation
-  module _ (kept : List (List ℕ)) (old : List Entry) where
-    abbrev pub AskedAt : Bool → Option World → List (List ℕ) → List Entry → Result Outline Error → Type 0
-    AskedAt fallback after keeps new r = Performs (AsksAt fallback) BeginsHere told after kept keeps old new r
+-- the parts of a preparation
+module _ (config : Config) (environ : Environ) (location : Location) (before : Moment) (kept : List (List ℕ)) where
+  abbrev Takes : List Act → Option World → Result (Wanted × List ℕ) Error → Type 0
+  Takes = TakesWanted config location before.world
 
-    pub place_untaken : (after : Option World) (keeps : List (List ℕ)) (new : List Entry) (e : Error) → Performs {A = Wanted × List ℕ} (TakesWanted config location told) (BeginsIn config location told) told after kept keeps old new (Err e) → AskedAt false after keeps new (Err e)
-    place_untaken after keeps new e p =
-        performs_lost (TakesWanted config location told) (AsksAt false) (BeginsIn config location told) BeginsHere told after kept keeps old new e p (λ acts lost. no_file acts after e lost) (λ acts b. BeginsBehind.at_first (BeginsBehind.at_first b))
+  abbrev BeginsTaking : List Act → Option World → Type 0
+  BeginsTaking = BeginsIn config location before.world
 
-    module _ (between : Option World) (keeps : List (List ℕ)) (middle : List Entry) (wanted : Wanted) (justfile : List ℕ) (taken : Performs {A = Wanted × List ℕ} (TakesWanted config location told) (BeginsIn config location told) told between kept keeps old middle (Ok (wanted, justfile))) where
-      pub place_lost : (after : Option World) (new : List Entry) (e : Error) → after ≡ between → (es : List Entry) × (new ≡ middle ++ es) × EndsWith [] e es
-          → OrMemory (λ x. FindsProjectOf between (justfile_in wanted environ justfile) (Err x)) e → AskedAt false after keeps new (Err e)
-      place_lost after new e world gains why =
-          performs_looking (TakesWanted config location told) (AsksAt false) (BeginsIn config location told) BeginsHere told between after kept keeps old middle new (wanted, justfile) (Err e) taken world gains (λ acts takes. no_project wanted justfile between acts after e world takes why)
-          (λ acts b. BeginsBehind.at_first (BeginsBehind.at_first (subst (λ w. BeginsIn config location told acts w) (sym world) b)))
+  abbrev BeginsPlace : List Act → Option World → Type 0
+  BeginsPlace = BeginsHere config environ location before.world
 
-      module _ (seen after : Option World) (begun new : List Entry) (still : seen ≡ between) (gains : (es : List Entry) × (begun ≡ middle ++ es) × AreMisses es) (j : Justfile)
-          (finds : (ms : List Justfile) → AreModules (j ∷ []) ms → FindsProjectOf between (justfile_in wanted environ justfile) (Ok (project_in wanted environ j ms))) (fallback : Bool) (is : fallback ≡ (settings_of j).fallback) where
-        -- the file is there, and its project is made
-        taken_here : Performs {A = Wanted × List ℕ} (λ acts world r. TakesWanted config location told acts between r) (λ acts world. Unit {0}) told seen kept keeps old begun (Ok (wanted, justfile))
-        taken_here =
-            performs_looking (TakesWanted config location told) (λ acts world r. TakesWanted config location told acts between r) (BeginsIn config location told) (λ acts world. Unit {0}) told between seen kept keeps old middle begun (wanted, justfile) (Ok (wanted, justfile)) taken still gains (λ acts takes. takes) (λ acts b. tt)
+  abbrev AsksPlace : Bool → List Act → Option World → Result Outline Error → Type 0
+  AsksPlace fallback = AsksAt config environ location before.world fallback
 
-        pub place_asked : (r : Result Outline Error) → PerformsPlan wanted environ j seen after begun new r → AskedAt fallback after keeps new r
-        place_asked r plan =
-            performs_then (λ acts world x. TakesWanted config location told acts between x) (PlansIt wanted environ j seen) (AsksAt fallback) (λ acts world. Unit {0}) (BeginsIt wanted environ j seen) BeginsHere told seen after kept keeps keeps old begun new (wanted, justfile) r taken_here
-            (performs_behind (PlansIt wanted environ j seen) (BeginsIt wanted environ j seen) seen after keeps begun new r plan) (λ acts more takes plans. all_answers wanted justfile between seen still j finds fallback is acts more after r takes plans)
-            (λ acts more takes begins. begun_behind wanted justfile between seen still j finds fallback is acts more after takes begins)
+  abbrev pub AskedAt : Bool → Moment → List (List ℕ) → Result Outline Error → Type 0
+  AskedAt fallback after keeps r = Performs (AsksPlace fallback) BeginsPlace before after kept keeps r
+
+  pub place_untaken : (after : Moment) (keeps : List (List ℕ)) (e : Error) → Performs {A = Wanted × List ℕ} Takes BeginsTaking before after kept keeps (Err e) → AskedAt false after keeps (Err e)
+  place_untaken after keeps e p =
+      performs_lost Takes (AsksPlace false) BeginsTaking BeginsPlace before after kept keeps e p (λ acts lost. no_file config environ location before.world acts after.world e lost) (λ acts b. BeginsBehind.at_first (BeginsBehind.at_first b))
+
+  module _ (between : Moment) (keeps : List (List ℕ)) (wanted : Wanted) (justfile : List ℕ) (taken : Performs {A = Wanted × List ℕ} Takes BeginsTaking before between kept keeps (Ok (wanted, justfile))) where
+    pub place_lost : (after : Moment) (e : Error) → after.world ≡ between.world → (es : List Entry) × (after.entries ≡ between.entries ++ es) × EndsWith [] e es
+        → OrMemory (λ x. FindsProjectOf between.world (justfile_in wanted environ justfile) (Err x)) e → AskedAt false after keeps (Err e)
+    place_lost after e world gains why =
+        performs_looking Takes (AsksPlace false) BeginsTaking BeginsPlace before between after kept keeps (wanted, justfile) (Err e) taken world gains
+        (λ acts takes. no_project config environ location before.world wanted justfile between.world acts after.world e world takes why)
+        (λ acts b. BeginsBehind.at_first (BeginsBehind.at_first (subst (λ w. BeginsIn config location before.world acts w) (sym world) b)))
+
+    module _ (seen after : Moment) (still : seen.world ≡ between.world) (gains : (es : List Entry) × (seen.entries ≡ between.entries ++ es) × AreMisses es) (j : Justfile)
+        (finds : (ms : List Justfile) → AreModules (j ∷ []) ms → FindsProjectOf between.world (justfile_in wanted environ justfile) (Ok (project_in wanted environ j ms))) (fallback : Bool) (is : fallback ≡ (settings_of j).fallback) where
+      -- the file is there, and its project is made
+      taken_here : Performs {A = Wanted × List ℕ} (λ acts world r. Takes acts between.world r) (λ acts world. Unit {0}) before seen kept keeps (Ok (wanted, justfile))
+      taken_here =
+          performs_looking Takes (λ acts world r. Takes acts between.world r) BeginsTaking (λ acts world. Unit {0}) before between seen kept keeps (wanted, justfile) (Ok (wanted, justfile)) taken still gains (λ acts takes. takes) (λ acts b. tt)
+
+      pub place_asked : (r : Result Outline Error) → PerformsPlan wanted environ j seen after r → AskedAt fallback after keeps r
+      place_asked r plan =
+          performs_then (λ acts world x. Takes acts between.world x) (PlansIt wanted environ j seen.world) (AsksPlace fallback) (λ acts world. Unit {0}) (BeginsIt wanted environ j seen.world) BeginsPlace before seen after kept keeps keeps (wanted, justfile) r taken_here
+          (performs_behind (PlansIt wanted environ j seen.world) (BeginsIt wanted environ j seen.world) seen after keeps r plan)
+          (λ acts more takes plans. all_answers config environ location before.world wanted justfile between.world seen.world still j finds fallback is acts more after.world r takes plans)
+          (λ acts more takes begins. begun_behind config environ location before.world wanted justfile between.world seen.world still j finds fallback is acts more after.world takes begins)
 
 -- ---- behind the words
 

@@ -1,12 +1,12 @@
 -- What follows for a run that failed, or came to its end, from what it left.
-use Rattle.std.proofs.Common.{◌≡◌, ℕ, zero, suc, ◌+◌, ◌<◌, ◌++◌, inl, inr, Bool, true, false, cond, List, [], ◌∷◌, count_by, Contains, Option, Some, None, Result, Ok, Err, IfErr, MatchOption, refl, ap, sym, ◌∙◌, subst, arith}
+use Rattle.std.proofs.Common.{◌≡◌, ℕ, zero, suc, ◌+◌, ◌<◌, ◌++◌, inl, inr, Bool, true, false, cond, List, [], ◌∷◌, count_by, Contains, Option, Some, None, Result, Ok, Err, IfErr, MatchOption, refl, ap, sym, ◌∙◌, subst, append_assoc, arith}
 use Rattle.std.proofs.Math.Bool.{Bool-set}
 use Rattle.std.proofs.Math.Bridge.{le_prop}
 use Rattle.std.proofs.Math.Logic.{∥∥₁_elim}
 use Rattle.std.proofs.lemmas.List.{append_cancel_left}
 use Rattle.std.proofs.lemmas.List.Elements.{All-contains, Contains-append_left, Contains-append_right}
 use Rattle.std.proofs.lemmas.List.Sums.{sum_by-append, sum_by-cons}
-use Rattle.just_host_record.specs.World.{World}
+use Rattle.just_host_record.specs.World.{Moment}
 use Rattle.just_host_record.specs.Looks.{dash}
 use Rattle.just_host_record.specs.Record.{refused, faults_of, misses_of, is_failed, is_missed}
 use Rattle.just_path.specs.declared.host.Miss.{Miss}
@@ -35,12 +35,20 @@ use Rattle.just_env.specs.declared.env_error.OutputError.TheVariants as output
 use Rattle.just_cli_plan.specs.Pairs.{entries_of as entries_in}
 use Rattle.just_cli_plan.proofs.OutcomeLaws.{only_memory}
 use Rattle.just_cli.specs.Preparing.{EndsActs}
-use Rattle.just_cli.specs.Record.{Stretches, EndsIll, EndsUnopened}
+use Rattle.just_cli.specs.Record.{EndsIll, EndsUnopened}
 
 -- what a failure leaves: with no plan, a refusal before the book
-abbrev pub Failed : List Entry → List Act → Option ℕ → List Bool → Bool → Result Report Failure → Option World → Option World → List Entry → List Entry → Type 0
-Failed listings acts jobs messages quiet r settled after old new =
-    IfErr r (λ f. MatchOption f.plan (∥ EndsUnopened listings acts quiet f.error settled after old new ∥₁) (λ p. ∥ EndsIll listings acts p jobs messages quiet f.history f.error settled after old new ∥₁))
+abbrev pub Failed : List Entry → List Act → Option ℕ → List Bool → Bool → Result Report Failure → Moment → Moment → Moment → Moment → Type 0
+Failed listings acts jobs messages quiet r before opened settled after =
+    IfErr r (λ f. MatchOption f.plan (∥ EndsUnopened listings acts quiet f.error before opened after ∥₁) (λ p. ∥ EndsIll listings acts p jobs messages quiet f.history f.error before opened settled after ∥₁))
+
+-- what a record gained before a book was opened, while it was open, and behind it; and where none was opened
+pub gained_by_run : (old opened settled new pre mid post : List Entry) → opened ≡ old ++ pre → settled ≡ opened ++ mid → new ≡ settled ++ post → new ≡ old ++ (pre ++ (mid ++ post))
+gained_by_run old opened settled new pre mid post first second third =
+    third ∙ (ap (λ es. es ++ post) second ∙ (ap (λ es. (es ++ mid) ++ post) first ∙ (append_assoc (old ++ pre) mid post ∙ append_assoc old pre (mid ++ post))))
+
+pub gained_unopened : (old between new pre post : List Entry) → between ≡ old ++ pre → new ≡ between ++ post → new ≡ old ++ (pre ++ post)
+gained_unopened old between new pre post first second = second ∙ (ap (λ es. es ++ post) first ∙ append_assoc old pre post)
 
 -- ---- counts
 
@@ -60,11 +68,11 @@ counted_parts p old pre mid post =
     omega (arith, sum_by-append (λ x. cond (p x) 1 0) old (pre ++ (mid ++ post)), sum_by-append (λ x. cond (p x) 1 0) pre (mid ++ post), sum_by-append (λ x. cond (p x) 1 0) mid post)
 
 -- what is counted before the book, or while it is open, is more than was counted before
-more_before : (p : Entry → Bool) (old new : List Entry) (s : Stretches old new) → 0 < count_by p s.pre → count_by p old < count_by p new
-more_before p old new s some = omega (arith, some, ap (λ es. count_by p es) s.grew, counted_parts p old s.pre s.mid s.post)
+more_before : (p : Entry → Bool) (old new pre post : List Entry) → new ≡ old ++ (pre ++ post) → 0 < count_by p pre → count_by p old < count_by p new
+more_before p old new pre post grew some = omega (arith, some, ap (λ es. count_by p es) grew, counted_parts p old pre [] post)
 
-more_within : (p : Entry → Bool) (old new : List Entry) (s : Stretches old new) → 0 < count_by p s.mid → count_by p old < count_by p new
-more_within p old new s some = omega (arith, some, ap (λ es. count_by p es) s.grew, counted_parts p old s.pre s.mid s.post)
+more_within : (p : Entry → Bool) (old new pre mid post : List Entry) → new ≡ old ++ (pre ++ (mid ++ post)) → 0 < count_by p mid → count_by p old < count_by p new
+more_within p old new pre mid post grew some = omega (arith, some, ap (λ es. count_by p es) grew, counted_parts p old pre mid post)
 
 -- what an error's call left is counted behind listings and misses
 counted_behind : (p : Entry → Bool) (listings : List Entry) (acts : List Act) (e : Error) (es : List Entry) → EndsActs listings acts e es → ((parent : List ℕ) → 0 < count_by p (entries_in parent e)) → 0 < count_by p es
@@ -75,11 +83,23 @@ counted_behind p listings acts e es (among, parent, are, is) some =
 module _ (p : Entry → Bool) (q : Error → Bool)
     (shown : (nodes : List PlanNode) (h : List Event) (e : Error) (es : List Entry) → IsCaused nodes h e es → q e ≡ true → 0 < count_by p es)
     (refusal : (e : Error) → q e ≡ true → (parent : List ℕ) → 0 < count_by p (entries_in parent e)) where
-  rises : (listings : List Entry) (acts : List Act) (settled after : Option World) (jobs : Option ℕ) (messages : List Bool) (quiet : Bool) (o : Option Plan) (h : List Event) (e : Error) (old new : List Entry) → MatchOption o (∥ EndsUnopened listings acts quiet e settled after old new ∥₁) (λ plan. ∥ EndsIll listings acts plan jobs messages quiet h e settled after old new ∥₁) → q e ≡ true → count_by p old < count_by p new
-  rises listings acts settled after jobs messages quiet None h e old new failed is =
-      ∥∥₁_elim failed le_prop (λ k. more_before p old new k.stretches (counted_behind p listings acts e k.stretches.pre k.prepared (refusal e is)))
-  rises listings acts settled after jobs messages quiet (Some plan) h e old new failed is =
-      ∥∥₁_elim failed le_prop (λ k. more_within p old new k.stretches (shown plan.nodes h e k.stretches.mid k.caused is))
+  module _ (listings : List Entry) (acts : List Act) (jobs : Option ℕ) (messages : List Bool) (quiet : Bool) (h : List Event) (e : Error) (before opened settled after : Moment) where
+    rises_unopened : EndsUnopened listings acts quiet e before opened after → q e ≡ true → count_by p before.entries < count_by p after.entries
+    rises_unopened k is =
+        let post = k.behind.first ++ k.behind.refusals in
+        more_before p before.entries after.entries k.prepared.0 post (gained_unopened before.entries opened.entries after.entries k.prepared.0 post k.prepared.1 k.behind.grew)
+        (counted_behind p listings acts e k.prepared.0 k.prepared.2 (refusal e is))
+
+    rises_within : (plan : Plan) → EndsIll listings acts plan jobs messages quiet h e before opened settled after → q e ≡ true → count_by p before.entries < count_by p after.entries
+    rises_within plan k is =
+        let post = k.behind.first ++ k.behind.refusals in
+        more_within p before.entries after.entries k.prepared.0 k.kept.gained post (gained_by_run before.entries opened.entries settled.entries after.entries k.prepared.0 k.kept.gained post k.prepared.1 k.kept.grew k.behind.grew)
+        (shown plan.nodes h e k.kept.gained k.caused is)
+
+    rises : (o : Option Plan) → MatchOption o (∥ EndsUnopened listings acts quiet e before opened after ∥₁) (λ plan. ∥ EndsIll listings acts plan jobs messages quiet h e before opened settled after ∥₁) → q e ≡ true
+        → count_by p before.entries < count_by p after.entries
+    rises None failed is = ∥∥₁_elim failed le_prop (λ k. rises_unopened k is)
+    rises (Some plan) failed is = ∥∥₁_elim failed le_prop (λ k. rises_within plan k is)
 
 failure_counted : (c : Call) (es : List Entry) → ShowsFailure c es → 0 < faults_of es
 failure_counted c es (inl a) = counted is_failed es (entry.Failed c) a refl
@@ -208,13 +228,17 @@ miss_refused (error.Search (search.TempdirIo io)) is parent = missed_counted par
 miss_refused _ is parent = absurd (cc)
 
 -- the failure of a call whose error is told is counted in the record
-pub faults_rise : (listings : List Entry) (acts : List Act) (settled after : Option World) (jobs : Option ℕ) (messages : List Bool) (quiet : Bool) (r : Result Report Failure) (old new : List Entry) → Failed listings acts jobs messages quiet r settled after old new → IfErr r (λ f. is_fault f.error ≡ true → faults_of old < faults_of new)
-faults_rise listings acts settled after jobs messages quiet (Ok x) old new failed = tt
-faults_rise listings acts settled after jobs messages quiet (Err f) old new failed = λ is. rises is_failed is_fault fault_shown fault_refused listings acts settled after jobs messages quiet f.plan f.history f.error old new failed is
+pub faults_rise : (listings : List Entry) (acts : List Act) (jobs : Option ℕ) (messages : List Bool) (quiet : Bool) (r : Result Report Failure) (before opened settled after : Moment) → Failed listings acts jobs messages quiet r before opened settled after
+    → IfErr r (λ f. is_fault f.error ≡ true → faults_of before.entries < faults_of after.entries)
+faults_rise listings acts jobs messages quiet (Ok x) before opened settled after failed = tt
+faults_rise listings acts jobs messages quiet (Err f) before opened settled after failed =
+    λ is. rises is_failed is_fault fault_shown fault_refused listings acts jobs messages quiet f.history f.error before opened settled after f.plan failed is
 
-pub misses_rise : (listings : List Entry) (acts : List Act) (settled after : Option World) (jobs : Option ℕ) (messages : List Bool) (quiet : Bool) (r : Result Report Failure) (old new : List Entry) → Failed listings acts jobs messages quiet r settled after old new → IfErr r (λ f. is_miss f.error ≡ true → misses_of old < misses_of new)
-misses_rise listings acts settled after jobs messages quiet (Ok x) old new failed = tt
-misses_rise listings acts settled after jobs messages quiet (Err f) old new failed = λ is. rises is_missed is_miss miss_shown miss_refused listings acts settled after jobs messages quiet f.plan f.history f.error old new failed is
+pub misses_rise : (listings : List Entry) (acts : List Act) (jobs : Option ℕ) (messages : List Bool) (quiet : Bool) (r : Result Report Failure) (before opened settled after : Moment) → Failed listings acts jobs messages quiet r before opened settled after
+    → IfErr r (λ f. is_miss f.error ≡ true → misses_of before.entries < misses_of after.entries)
+misses_rise listings acts jobs messages quiet (Ok x) before opened settled after failed = tt
+misses_rise listings acts jobs messages quiet (Err f) before opened settled after failed =
+    λ is. rises is_missed is_miss miss_shown miss_refused listings acts jobs messages quiet f.history f.error before opened settled after f.plan failed is
 
 -- ---- favourable records
 
@@ -227,16 +251,20 @@ wanting : (e : Error) → is_wanting e ≡ true → e ≡ error.NoMemory
 wanting error.NoMemory is = refl
 wanting _ is = absurd (cc)
 
-memory_by : (listings : List Entry) (acts : List Act) (settled after : Option World) (jobs : Option ℕ) (messages : List Bool) (quiet : Bool) (o : Option Plan) (h : List Event) (e : Error) (old new : List Entry) → MatchOption o (∥ EndsUnopened listings acts quiet e settled after old new ∥₁) (λ plan. ∥ EndsIll listings acts plan jobs messages quiet h e settled after old new ∥₁) → (p : Plan) → o ≡ Some p → (es : List Entry) → new ≡ old ++ es → IsFavourable es → e ≡ error.NoMemory
-memory_by listings acts settled after jobs messages quiet None h e old new failed p is es grew good = absurd (cc)
-memory_by listings acts settled after jobs messages quiet (Some plan) h e old new failed p is es grew good =
-    wanting e (∥∥₁_elim failed (Bool-set _ _) (λ k.
-    let s = k.stretches in
-    let same : s.pre ++ (s.mid ++ s.post) ≡ es = append_cancel_left old (s.pre ++ (s.mid ++ s.post)) es (sym s.grew ∙ grew) in
-    ap (λ y. is_wanting y) (only_memory plan.nodes h e s.mid k.caused (λ x c. All-contains (λ y. is_favourable y ≡ true) es x good
-    (subst (λ ys. Contains ys x) same (Contains-append_right s.pre (s.mid ++ s.post) x (Contains-append_left s.mid s.post x c)))))))
+module _ (listings : List Entry) (acts : List Act) (jobs : Option ℕ) (messages : List Bool) (quiet : Bool) (before opened settled after : Moment) where
+  memory_by : (o : Option Plan) (h : List Event) (e : Error) → MatchOption o (∥ EndsUnopened listings acts quiet e before opened after ∥₁) (λ plan. ∥ EndsIll listings acts plan jobs messages quiet h e before opened settled after ∥₁)
+      → (p : Plan) → o ≡ Some p → (es : List Entry) → after.entries ≡ before.entries ++ es → IsFavourable es → e ≡ error.NoMemory
+  memory_by None h e failed p is es grew good = absurd (cc)
+  memory_by (Some plan) h e failed p is es grew good =
+      wanting e (∥∥₁_elim failed (Bool-set _ _) (λ k.
+      let post = k.behind.first ++ k.behind.refusals in
+      let same : k.prepared.0 ++ (k.kept.gained ++ post) ≡ es =
+      append_cancel_left before.entries (k.prepared.0 ++ (k.kept.gained ++ post)) es (sym (gained_by_run before.entries opened.entries settled.entries after.entries k.prepared.0 k.kept.gained post k.prepared.1 k.kept.grew k.behind.grew) ∙ grew) in
+      ap (λ y. is_wanting y) (only_memory plan.nodes h e k.kept.gained k.caused (λ x c. All-contains (λ y. is_favourable y ≡ true) es x good
+      (subst (λ ys. Contains ys x) same (Contains-append_right k.prepared.0 (k.kept.gained ++ post) x (Contains-append_left k.kept.gained post x c)))))))
 
--- a run that failed over a favourable record wanted memory
-pub memory_wanted : (listings : List Entry) (acts : List Act) (settled after : Option World) (jobs : Option ℕ) (messages : List Bool) (quiet : Bool) (r : Result Report Failure) (old new : List Entry) → Failed listings acts jobs messages quiet r settled after old new → IfErr r (λ f. (p : Plan) → f.plan ≡ Some p → (es : List Entry) → new ≡ old ++ es → IsFavourable es → f.error ≡ error.NoMemory)
-memory_wanted listings acts settled after jobs messages quiet (Ok x) old new failed = tt
-memory_wanted listings acts settled after jobs messages quiet (Err f) old new failed = memory_by listings acts settled after jobs messages quiet f.plan f.history f.error old new failed
+  -- a run that failed over a favourable record wanted memory
+  pub memory_wanted : (r : Result Report Failure) → Failed listings acts jobs messages quiet r before opened settled after
+      → IfErr r (λ f. (p : Plan) → f.plan ≡ Some p → (es : List Entry) → after.entries ≡ before.entries ++ es → IsFavourable es → f.error ≡ error.NoMemory)
+  memory_wanted (Ok x) failed = tt
+  memory_wanted (Err f) failed = memory_by f.plan f.history f.error failed

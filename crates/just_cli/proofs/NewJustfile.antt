@@ -8,7 +8,7 @@ use Rattle.just_host_record.specs.declared.entry.HostFault.TheVariants as fault
 use Rattle.just_host_record.specs.declared.entry.Stream.TheVariants as stream
 use Rattle.just_host_record.specs.Changes.{place_written, written, Changes}
 use Rattle.just_host_record.specs.Record.{refused}
-use Rattle.just_host_record.specs.World.{World}
+use Rattle.just_host_record.specs.World.{World, Moment}
 use Rattle.just_env.specs.Answers.{GainsMisses}
 use Rattle.just_sched_history.specs.declared.event.Event.{Event}
 use Rattle.just_exec.specs.Codes.{exit_code}
@@ -18,7 +18,6 @@ use Rattle.just_cli_plan.specs.Own.{OrMemory}
 use Rattle.just_cli.specs.declared.ended.Failure.{Failure}
 use Rattle.just_cli.specs.declared.ended.Report.{Report}
 use Rattle.just_cli.specs.Faults.{entries_of, print_error, write_error}
-use Rattle.just_cli.specs.Questions.{IsNothing}
 use Rattle.just_cli.specs.Record.{EndsBefore, IsTold}
 use Rattle.just_cli.specs.Written.{written_line, told_line, Writes, IsUnwritten, TellsLine, IsWritten}
 use Rattle.just_cli.proofs.Prepared.{all_misses}
@@ -84,13 +83,13 @@ not_told path quiet told middle after x old mid new (Err e) writes world none lo
 -- ---- the end
 
 -- it isn't written, or not told of
-pub unwritten_end : (path : List ℕ) (quiet : Bool) (told now after : Option World) (old middle new : List Entry) (r : Result Report Failure) (e : Error) (h : List Event)
-    → r ≡ Err (record { error = e; plan = None; history = h; code = exit_code e }) → h ≡ [] → IsUnwritten path quiet told now e → middle ≡ old ++ entries_of e
-    → (es : List Entry) × (new ≡ middle ++ es) × IsTold quiet e es → after ≡ now → IsWritten path quiet told after old new r
-unwritten_end path quiet told now after old middle new r e h is no_history why grew tells world =
-    subst (λ q. IsWritten path quiet told after old new q) (sym is) (record {
+pub unwritten_end : (path : List ℕ) (quiet : Bool) (before between after : Moment) (r : Result Report Failure) (e : Error) (h : List Event)
+    → r ≡ Err (record { error = e; plan = None; history = h; code = exit_code e }) → h ≡ [] → IsUnwritten path quiet before.world between.world e → between.entries ≡ before.entries ++ entries_of e
+    → (es : List Entry) × (after.entries ≡ between.entries ++ es) × IsTold quiet e es → after.world ≡ between.world → IsWritten path quiet before after r
+unwritten_end path quiet before between after r e h is no_history why grew tells world =
+    subst (λ q. IsWritten path quiet before after q) (sym is) (record {
       written = tt;
-      unwritten = (refl, no_history, refl, subst (λ w. IsUnwritten path quiet told w e) (sym world) why, ends_before [] quiet e old middle new (entries_of e) grew ([], tt, refl) tells);
+      unwritten = (refl, no_history, refl, subst (λ w. IsUnwritten path quiet before.world w e) (sym world) why, ends_before [] quiet e before.entries between.entries after.entries (entries_of e) grew ([], tt, refl) tells);
     })
 
 -- ---- behind the search
@@ -118,16 +117,19 @@ module _ (path : List ℕ) (quiet : Bool) (old entered new : List Entry) (gains 
         told = k.told;
       }
 
-  module _ (told after : Option World) where
-    written_behind : (r : Result Report Failure) → IfOk r (λ x. IsNothing x × Writes path told after (Ok tt) × TellsLine quiet path entered new) → IfOk r (λ x. IsNothing x × Writes path told after (Ok tt) × TellsLine quiet path old new)
-    written_behind (Ok x) w = (w.0, w.1, line_behind w.2)
-    written_behind (Err f) w = tt
-
-    unwritten_behind : (r : Result Report Failure)
-        → IfErr r (λ f. (f.plan ≡ None) × (f.history ≡ []) × (f.code ≡ exit_code f.error) × IsUnwritten path quiet told after f.error × EndsBefore [] quiet f.error entered new)
-        → IfErr r (λ f. (f.plan ≡ None) × (f.history ≡ []) × (f.code ≡ exit_code f.error) × IsUnwritten path quiet told after f.error × EndsBefore [] quiet f.error old new)
-    unwritten_behind (Ok x) u = tt
-    unwritten_behind (Err f) u = (u.0, u.1, u.2, u.3, ends_behind_misses f.error u.4)
-
-    pub new_behind : (r : Result Report Failure) → IsWritten path quiet told after entered new r → IsWritten path quiet told after old new r
-    new_behind r is = record { written = written_behind r is.written; unwritten = unwritten_behind r is.unwritten }
+-- a new justfile that was written behind the search is written from its start on
+pub new_behind : (path : List ℕ) (quiet : Bool) (before between after : Moment) → between.world ≡ before.world → GainsMisses before.entries between.entries → (r : Result Report Failure) → IsWritten path quiet between after r → IsWritten path quiet before after r
+new_behind path quiet before between after world gains (Ok x) is = record {
+  written = (is.written.0, subst (λ w. Writes path w after.world (Ok tt)) world is.written.1, line_behind path quiet before.entries between.entries after.entries gains is.written.2);
+  unwritten = tt;
+}
+new_behind path quiet before between after world gains (Err f) is = record {
+  written = tt;
+  unwritten = (
+    is.unwritten.0,
+    is.unwritten.1,
+    is.unwritten.2,
+    subst (λ w. IsUnwritten path quiet w after.world f.error) world is.unwritten.3,
+    ends_behind_misses path quiet before.entries between.entries after.entries gains f.error is.unwritten.4,
+  );
+}

@@ -31,6 +31,7 @@ use Rattle.just_search.specs.Listing.{AreNamesIn, ListFaultFits, ListsFolder}
 use Rattle.just_search.specs.Root.{if_marked, LooksForMark, FindsRoot}
 use Rattle.just_search.specs.Fallback.{next_found, FallsBack}
 use Rattle.just_cli.specs.Request.{NoneFailed}
+use Rattle.just_cli.specs.Words.{told_with}
 
 -- ---- names
 
@@ -234,7 +235,8 @@ module _ (w : World) where
 
     -- one place is found at most
     pub by_one : (setting : SearchConfig) (g h : List Entry) (r s : Result Location SearchError)
-        → FindsBy (Some w) config setting [] g r → NoneFailed g → IsOwn r → FindsBy (Some w) config setting [] h s → NoneFailed h → IsOwn s → r ≡ s
+        → FindsBy (told_with (Some w) []) (told_with (Some w) g) config setting r → NoneFailed g → IsOwn r
+        → FindsBy (told_with (Some w) []) (told_with (Some w) h) config setting s → NoneFailed h → IsOwn s → r ≡ s
     by_one search.FromInvocationDirectory g h r s p none own q never other = from_one config.invocation_directory as_origin r s p own q other
     by_one (search.FromSearchDirectory folder) g h r s p none own q never other = from_one (given_path config folder) as_file r s p own q other
     by_one search.GlobalJustfile g h r s p none own q never other =

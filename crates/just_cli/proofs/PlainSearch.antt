@@ -3,7 +3,7 @@ use Rattle.std.proofs.Common.{◌≡◌, ◌⊎◌, ◌++◌, inl, inr, ℕ, Boo
 use Rattle.std.specs.Prelude.{if◌then◌else◌, bytes_eq}
 use Rattle.std.specs.List.{list_any}
 use Rattle.just_path.specs.Comps.{slash}
-use Rattle.just_host_record.specs.World.{World}
+use Rattle.just_host_record.specs.World.{World, Moment}
 use Rattle.just_host_record.specs.declared.entry.Entry.{Entry}
 use Rattle.just_lang_types.specs.declared.source.Source.{Source}
 use Rattle.just_lang_layout.specs.Paths.{Pairs}
@@ -109,20 +109,20 @@ own_plain : (told : Option World) (config : Config) (gained : List Entry) (r : R
 own_plain told config gained r (FindsOwn.no_environ e fails all is) = plain_as r (Err e) is (ap (λ x. is_plain x) fails)
 own_plain told config gained r (FindsOwn.over_environ environ given finds) = over_plain told config environ.pairs gained r finds
 
-by_plain : (told : Option World) (config : Config) (setting : SearchConfig) (old new : List Entry) (r : Result Location SearchError) → FindsBy told config setting old new r → IsPlain r
-by_plain told config search.FromInvocationDirectory old new r finds = from_plain told config config.invocation_directory as_origin r finds
-by_plain told config (search.FromSearchDirectory folder) old new r finds = from_plain told config (given_path config folder) as_file r finds
-by_plain told config search.GlobalJustfile old new r (gained, grew, finds) = own_plain told config gained r finds
-by_plain told config (search.StandardInput folder) old new r is = plain_as r (Ok _) is tt
-by_plain told config (search.WithJustfile file) old new r is =
+by_plain : (before after : Moment) (config : Config) (setting : SearchConfig) (r : Result Location SearchError) → FindsBy before after config setting r → IsPlain r
+by_plain before after config search.FromInvocationDirectory r finds = from_plain before.world config config.invocation_directory as_origin r finds
+by_plain before after config (search.FromSearchDirectory folder) r finds = from_plain before.world config (given_path config folder) as_file r finds
+by_plain before after config search.GlobalJustfile r (gained, grew, finds) = own_plain before.world config gained r finds
+by_plain before after config (search.StandardInput folder) r is = plain_as r (Ok _) is tt
+by_plain before after config (search.WithJustfile file) r is =
     plain_as r (with_file (given_path config file) (folder_of (given_path config file))) is (given_plain (bytes_eq (given_path config file) slash) (given_path config file) (record { origin = origin_of (given_path config file); working_directory = folder_of (given_path config file) }))
-by_plain told config (search.WithJustfileAndWorkingDirectory file folder) old new r is =
+by_plain before after config (search.WithJustfileAndWorkingDirectory file folder) r is =
     plain_as r (with_file (given_path config file) (given_path config folder)) is (given_plain (bytes_eq (given_path config file) slash) (given_path config file) (record { origin = origin_of (given_path config file); working_directory = given_path config folder }))
 
 -- want of memory, or a refusal
-pub located_error : (told : Option World) (config : Config) (old new : List Entry) (f : SearchError) → (f ≡ error.NoMemory) ⊎ Finds told config old new (Err f) → is_plain f ≡ true
-located_error told config old new f (inl wants) = ap (λ x. is_plain x) wants
-located_error told config old new f (inr finds) = by_plain told config config.search_config old new (Err f) finds
+pub located_error : (before after : Moment) (config : Config) (f : SearchError) → (f ≡ error.NoMemory) ⊎ Finds before after config (Err f) → is_plain f ≡ true
+located_error before after config f (inl wants) = ap (λ x. is_plain x) wants
+located_error before after config f (inr finds) = by_plain before after config config.search_config (Err f) finds
 
 -- ---- the next justfile
 

@@ -2,13 +2,14 @@
 use Rattle.std.proofs.Common.{◌≡◌, ◌++◌, inl, inr, ℕ, false, List, [], ◌∷◌, Option, Result, Ok, Err, refl, sym, ◌∙◌, ap, subst, append_assoc, append-nil}
 use Rattle.std.specs.Prelude.{MatchResult}
 use Rattle.std.proofs.lemmas.List.Elements.{Contains-append_left, Contains-append_right}
-use Rattle.just_host_record.specs.World.{World}
+use Rattle.just_host_record.specs.World.{World, Moment}
 use Rattle.just_host_record.specs.declared.entry.Entry.{Entry}
 use Rattle.just_host_record.specs.declared.entry.Entry.TheVariants as entry
 use Rattle.just_host_record.specs.Record.{is_failed}
 use Rattle.just_exec.specs.declared.error.Error.{Error}
 use Rattle.just_exec.specs.declared.error.Error.TheVariants as error
 use Rattle.just_cli_plan.specs.Own.{OrMemory, is_uncaptured}
+use Rattle.just_search.specs.Removals.{with_entries}
 use Rattle.just_cli.specs.Acts.{Act, entries_of_act, folders_in, captures_in, AreActs}
 use Rattle.just_cli.specs.Altered.{IsAltered}
 use Rattle.just_cli_plan.specs.Pairs.{entries_of as entries_in}
@@ -101,8 +102,8 @@ follows (Err e) claim more up so = λ captured. up (so captured)
 
 -- ---- a part that only looks
 
-module _ {A : Type 0} (gives : List Act → Option World → Result A Error → Type 0) (begins : BegunBy) (told after : Option World) (kept : List (List ℕ)) (old new : List Entry) (world : after ≡ told) (begun : begins [] after) where
-  looks_over : (r : Result A Error) (es : List Entry) → new ≡ old ++ es → Leaves [] [] r es → Answers (gives [] after) r → Performs gives begins told after kept kept old new r
+module _ {A : Type 0} (gives : List Act → Option World → Result A Error → Type 0) (begins : BegunBy) (before after : Moment) (kept : List (List ℕ)) (world : after.world ≡ before.world) (begun : begins [] after.world) where
+  looks_over : (r : Result A Error) (es : List Entry) → after.entries ≡ before.entries ++ es → Leaves [] [] r es → Answers (gives [] after.world) r → Performs gives begins before after kept kept r
   looks_over r es grew leaves answers = record {
     acts = [];
     entries = es;
@@ -110,19 +111,19 @@ module _ {A : Type 0} (gives : List Act → Option World → Result A Error → 
     leaves = leaves;
     folders = sym (append-nil kept);
     answers = answers;
-    begun = anyhow r (begins [] after) begun;
+    begun = anyhow r (begins [] after.world) begun;
     still = λ none quiet. world;
-    alters = λ nodes alone quiet. altered_same [] nodes told after world;
+    alters = λ nodes alone quiet. altered_same [] nodes before.world after.world world;
   }
 
   -- a refusal, or an answer
-  pub performs_refusal : (e : Error) → (es : List Entry) × (new ≡ old ++ es) × EndsWith [] e es → OrMemory (λ x. gives [] after (Err x)) e → Performs gives begins told after kept kept old new (Err e)
+  pub performs_refusal : (e : Error) → (es : List Entry) × (after.entries ≡ before.entries ++ es) × EndsWith [] e es → OrMemory (λ x. gives [] after.world (Err x)) e → Performs gives begins before after kept kept (Err e)
   performs_refusal e gains why = looks_over (Err e) gains.0 gains.1 (left_look {A = A} (Err e) gains.0 gains.2) why
 
-  pub performs_answer : (x : A) → (es : List Entry) × (new ≡ old ++ es) × AreMisses es → gives [] after (Ok x) → Performs gives begins told after kept kept old new (Ok x)
+  pub performs_answer : (x : A) → (es : List Entry) × (after.entries ≡ before.entries ++ es) × AreMisses es → gives [] after.world (Ok x) → Performs gives begins before after kept kept (Ok x)
   performs_answer x gains is = looks_over (Ok x) gains.0 gains.1 (left_look (Ok x) gains.0 gains.2) is
 
-  pub performs_either : (r : Result A Error) → (es : List Entry) × (new ≡ old ++ es) × MatchResult r (λ _. AreMisses es) (λ e. EndsWith [] e es) → Answers (gives [] after) r → Performs gives begins told after kept kept old new r
+  pub performs_either : (r : Result A Error) → (es : List Entry) × (after.entries ≡ before.entries ++ es) × MatchResult r (λ _. AreMisses es) (λ e. EndsWith [] e es) → Answers (gives [] after.world) r → Performs gives begins before after kept kept r
   performs_either (Ok x) gains answers = performs_answer x gains answers
   performs_either (Err e) gains answers = performs_refusal e gains answers
 
@@ -141,65 +142,68 @@ leaves_then (Ok x) acts more es fs (xs, a, is) (ys, b, at) = (xs ++ ys, acts_app
 leaves_then (Err e) acts more es fs (xs, a, is) (ys, parent, b, at) =
     (xs ++ ys, parent, acts_append acts more xs ys a b, ap (λ l. l ++ fs) is ∙ (ap (λ l. xs ++ l) at ∙ sym (append_assoc xs ys (entries_in parent e))))
 
-pub performs_then : {A B : Type 0} (first : List Act → Option World → Result A Error → Type 0) (second gives : List Act → Option World → Result B Error → Type 0) (one two begins : BegunBy) (told between after : Option World) (kept keep keeps : List (List ℕ)) (old middle new : List Entry) (x : A) (r : Result B Error)
-    → Performs first one told between kept keep old middle (Ok x) → Performs second two between after keep keeps middle new r
-    → ((acts more : List Act) → first acts between (Ok x) → Answers (second more after) r → Answers (gives (acts ++ more) after) r) → ((acts more : List Act) → first acts between (Ok x) → two more after → begins (acts ++ more) after)
-    → Performs gives begins told after kept keeps old new r
-performs_then first second gives one two begins told between after kept keep keeps old middle new x r p q both more_begun =
+pub performs_then : {A B : Type 0} (first : List Act → Option World → Result A Error → Type 0) (second gives : List Act → Option World → Result B Error → Type 0) (one two begins : BegunBy) (before between after : Moment) (kept keep keeps : List (List ℕ)) (x : A) (r : Result B Error)
+    → Performs first one before between kept keep (Ok x) → Performs second two between after keep keeps r
+    → ((acts more : List Act) → first acts between.world (Ok x) → Answers (second more after.world) r → Answers (gives (acts ++ more) after.world) r)
+    → ((acts more : List Act) → first acts between.world (Ok x) → two more after.world → begins (acts ++ more) after.world)
+    → Performs gives begins before after kept keeps r
+performs_then first second gives one two begins before between after kept keep keeps x r p q both more_begun =
     let all = folders_append p.acts q.acts in
     record {
       acts = p.acts ++ q.acts;
       entries = p.entries ++ q.entries;
-      grew = q.grew ∙ (ap (λ es. es ++ q.entries) p.grew ∙ append_assoc old p.entries q.entries);
+      grew = q.grew ∙ (ap (λ es. es ++ q.entries) p.grew ∙ append_assoc before.entries p.entries q.entries);
       leaves = leaves_then r p.acts q.acts p.entries q.entries p.leaves q.leaves;
       folders = q.folders ∙ (ap (λ fs. fs ++ folders_in q.acts) p.folders ∙ (append_assoc kept (folders_in p.acts) (folders_in q.acts) ∙ ap (λ fs. kept ++ fs) (sym all)));
       answers = both p.acts q.acts p.answers q.answers;
-      begun = follows r (two q.acts after) (begins (p.acts ++ q.acts) after) (λ b. more_begun p.acts q.acts p.answers b) q.begun;
+      begun = follows r (two q.acts after.world) (begins (p.acts ++ q.acts) after.world) (λ b. more_begun p.acts q.acts p.answers b) q.begun;
       still = λ none quiet. q.still (nil_rest p.acts q.acts none) (quiet_rest is_failed p.entries q.entries quiet) ∙ p.still (nil_first p.acts q.acts none) (quiet_first is_failed p.entries q.entries quiet);
       alters = λ nodes alone quiet.
-          subst (λ fs. IsAltered fs nodes told after) (sym all)
-          (altered_then (folders_in p.acts ++ folders_in q.acts) nodes told between after
-          (altered_more (folders_in p.acts) (folders_in p.acts ++ folders_in q.acts) (λ f has. Contains-append_left (folders_in p.acts) (folders_in q.acts) f has) nodes told between (p.alters nodes (no_first p.acts q.acts alone) (quiet_first is_failed p.entries q.entries quiet)))
-          (altered_more (folders_in q.acts) (folders_in p.acts ++ folders_in q.acts) (λ f has. Contains-append_right (folders_in p.acts) (folders_in q.acts) f has) nodes between after (q.alters nodes (no_rest p.acts q.acts alone) (quiet_rest is_failed p.entries q.entries quiet))));
+          subst (λ fs. IsAltered fs nodes before.world after.world) (sym all)
+          (altered_then (folders_in p.acts ++ folders_in q.acts) nodes before.world between.world after.world
+          (altered_more (folders_in p.acts) (folders_in p.acts ++ folders_in q.acts) (λ f has. Contains-append_left (folders_in p.acts) (folders_in q.acts) f has) nodes before.world between.world (p.alters nodes (no_first p.acts q.acts alone) (quiet_first is_failed p.entries q.entries quiet)))
+          (altered_more (folders_in q.acts) (folders_in p.acts ++ folders_in q.acts) (λ f has. Contains-append_right (folders_in p.acts) (folders_in q.acts) f has) nodes between.world after.world (q.alters nodes (no_rest p.acts q.acts alone) (quiet_rest is_failed p.entries q.entries quiet))));
     }
 
 -- a part behind which is only looked
-pub performs_looking : {A B : Type 0} (first : List Act → Option World → Result A Error → Type 0) (gives : List Act → Option World → Result B Error → Type 0) (one begins : BegunBy) (told between after : Option World) (kept keeps : List (List ℕ)) (old middle new : List Entry) (x : A) (r : Result B Error)
-    → Performs first one told between kept keeps old middle (Ok x) → after ≡ between → (es : List Entry) × (new ≡ middle ++ es) × MatchResult r (λ _. AreMisses es) (λ e. EndsWith [] e es) → ((acts : List Act) → first acts between (Ok x) → Answers (gives acts after) r)
-    → ((acts : List Act) → one acts between → begins acts after) → Performs gives begins told after kept keeps old new r
-performs_looking first gives one begins told between after kept keeps old middle new x r p world (es, grew, left) more more_begun = record {
+pub performs_looking : {A B : Type 0} (first : List Act → Option World → Result A Error → Type 0) (gives : List Act → Option World → Result B Error → Type 0) (one begins : BegunBy) (before between after : Moment) (kept keeps : List (List ℕ)) (x : A) (r : Result B Error)
+    → Performs first one before between kept keeps (Ok x) → after.world ≡ between.world
+    → (es : List Entry) × (after.entries ≡ between.entries ++ es) × MatchResult r (λ _. AreMisses es) (λ e. EndsWith [] e es) → ((acts : List Act) → first acts between.world (Ok x) → Answers (gives acts after.world) r)
+    → ((acts : List Act) → one acts between.world → begins acts after.world) → Performs gives begins before after kept keeps r
+performs_looking first gives one begins before between after kept keeps x r p world (es, grew, left) more more_begun = record {
   acts = p.acts;
   entries = p.entries ++ es;
-  grew = grew ∙ (ap (λ l. l ++ es) p.grew ∙ append_assoc old p.entries es);
+  grew = grew ∙ (ap (λ l. l ++ es) p.grew ∙ append_assoc before.entries p.entries es);
   leaves = subst (λ l. Leaves [] l r (p.entries ++ es)) (append-nil p.acts) (leaves_then r p.acts [] p.entries es p.leaves (left_look r es left));
   folders = p.folders;
   answers = more p.acts p.answers;
-  begun = anyhow r (begins p.acts after) (more_begun p.acts p.begun);
+  begun = anyhow r (begins p.acts after.world) (more_begun p.acts p.begun);
   still = λ none quiet. world ∙ p.still none (quiet_first is_failed p.entries es quiet);
-  alters = λ nodes alone quiet. subst (λ w. IsAltered (folders_in p.acts) nodes told w) (sym world) (p.alters nodes alone (quiet_first is_failed p.entries es quiet));
+  alters = λ nodes alone quiet. subst (λ w. IsAltered (folders_in p.acts) nodes before.world w) (sym world) (p.alters nodes alone (quiet_first is_failed p.entries es quiet));
 }
 
 -- a part that keeps no folder, behind some that were kept
-pub performs_behind : {A : Type 0} (gives : List Act → Option World → Result A Error → Type 0) (begins : BegunBy) (told after : Option World) (kept : List (List ℕ)) (old new : List Entry) (r : Result A Error) → Performs gives begins told after [] [] old new r → Performs gives begins told after kept kept old new r
-performs_behind gives begins told after kept old new r p =
+pub performs_behind : {A : Type 0} (gives : List Act → Option World → Result A Error → Type 0) (begins : BegunBy) (before after : Moment) (kept : List (List ℕ)) (r : Result A Error) → Performs gives begins before after [] [] r → Performs gives begins before after kept kept r
+performs_behind gives begins before after kept r p =
     record { acts = p.acts; entries = p.entries; grew = p.grew; leaves = p.leaves; folders = sym (append-nil kept) ∙ ap (λ (fs : List (List ℕ)). kept ++ fs) p.folders; answers = p.answers; begun = p.begun; still = p.still; alters = p.alters }
 
 -- the same acts for another answer
-pub performs_as : {A B : Type 0} (first : List Act → Option World → Result A Error → Type 0) (gives : List Act → Option World → Result B Error → Type 0) (one begins : BegunBy) (told after : Option World) (kept keeps : List (List ℕ)) (old new : List Entry) (x : A) (y : B)
-    → Performs first one told after kept keeps old new (Ok x) → ((acts : List Act) → first acts after (Ok x) → gives acts after (Ok y)) → ((acts : List Act) → one acts after → begins acts after) → Performs gives begins told after kept keeps old new (Ok y)
-performs_as first gives one begins told after kept keeps old new x y p more up =
+pub performs_as : {A B : Type 0} (first : List Act → Option World → Result A Error → Type 0) (gives : List Act → Option World → Result B Error → Type 0) (one begins : BegunBy) (before after : Moment) (kept keeps : List (List ℕ)) (x : A) (y : B)
+    → Performs first one before after kept keeps (Ok x) → ((acts : List Act) → first acts after.world (Ok x) → gives acts after.world (Ok y)) → ((acts : List Act) → one acts after.world → begins acts after.world) → Performs gives begins before after kept keeps (Ok y)
+performs_as first gives one begins before after kept keeps x y p more up =
     record { acts = p.acts; entries = p.entries; grew = p.grew; leaves = p.leaves; folders = p.folders; answers = more p.acts p.answers; begun = up p.acts p.begun; still = p.still; alters = p.alters }
 
-pub performs_lost : {A B : Type 0} (first : List Act → Option World → Result A Error → Type 0) (gives : List Act → Option World → Result B Error → Type 0) (one begins : BegunBy) (told after : Option World) (kept keeps : List (List ℕ)) (old new : List Entry) (e : Error)
-    → Performs first one told after kept keeps old new (Err e) → ((acts : List Act) → OrMemory (λ x. first acts after (Err x)) e → OrMemory (λ x. gives acts after (Err x)) e) → ((acts : List Act) → one acts after → begins acts after) → Performs gives begins told after kept keeps old new (Err e)
-performs_lost first gives one begins told after kept keeps old new e p more up =
+pub performs_lost : {A B : Type 0} (first : List Act → Option World → Result A Error → Type 0) (gives : List Act → Option World → Result B Error → Type 0) (one begins : BegunBy) (before after : Moment) (kept keeps : List (List ℕ)) (e : Error)
+    → Performs first one before after kept keeps (Err e) → ((acts : List Act) → OrMemory (λ x. first acts after.world (Err x)) e → OrMemory (λ x. gives acts after.world (Err x)) e)
+    → ((acts : List Act) → one acts after.world → begins acts after.world) → Performs gives begins before after kept keeps (Err e)
+performs_lost first gives one begins before after kept keeps e p more up =
     record { acts = p.acts; entries = p.entries; grew = p.grew; leaves = p.leaves; folders = p.folders; answers = more p.acts p.answers; begun = λ captured. up p.acts (p.begun captured); still = p.still; alters = p.alters }
 
 -- an answer in the place of a refusal that is of no call
-pub performs_instead : {A B : Type 0} (first : List Act → Option World → Result A Error → Type 0) (gives : List Act → Option World → Result B Error → Type 0) (one begins : BegunBy) (told after : Option World) (kept keeps : List (List ℕ)) (old new : List Entry) (e : Error) (y : B)
-    → ((parent : List ℕ) → entries_in parent e ≡ []) → is_uncaptured e ≡ false → Performs first one told after kept keeps old new (Err e) → ((acts : List Act) → OrMemory (λ x. first acts after (Err x)) e → gives acts after (Ok y)) → ((acts : List Act) → one acts after → begins acts after)
-    → Performs gives begins told after kept keeps old new (Ok y)
-performs_instead first gives one begins told after kept keeps old new e y silent captured p more up = record {
+pub performs_instead : {A B : Type 0} (first : List Act → Option World → Result A Error → Type 0) (gives : List Act → Option World → Result B Error → Type 0) (one begins : BegunBy) (before after : Moment) (kept keeps : List (List ℕ)) (e : Error) (y : B)
+    → ((parent : List ℕ) → entries_in parent e ≡ []) → is_uncaptured e ≡ false → Performs first one before after kept keeps (Err e) → ((acts : List Act) → OrMemory (λ x. first acts after.world (Err x)) e → gives acts after.world (Ok y))
+    → ((acts : List Act) → one acts after.world → begins acts after.world) → Performs gives begins before after kept keeps (Ok y)
+performs_instead first gives one begins before after kept keeps e y silent captured p more up = record {
   acts = p.acts;
   entries = p.entries;
   grew = p.grew;
@@ -212,9 +216,9 @@ performs_instead first gives one begins told after kept keeps old new e y silent
 }
 
 -- want of memory behind an answer
-pub performs_short : {A B : Type 0} (first : List Act → Option World → Result A Error → Type 0) (gives : List Act → Option World → Result B Error → Type 0) (begins : BegunBy) (told after : Option World) (kept keeps : List (List ℕ)) (old new : List Entry) (x : A) (e : Error) → e ≡ error.NoMemory
-    → Performs first begins told after kept keeps old new (Ok x) → Performs gives begins told after kept keeps old new (Err e)
-performs_short first gives begins told after kept keeps old new x e is p = record {
+pub performs_short : {A B : Type 0} (first : List Act → Option World → Result A Error → Type 0) (gives : List Act → Option World → Result B Error → Type 0) (begins : BegunBy) (before after : Moment) (kept keeps : List (List ℕ)) (x : A) (e : Error) → e ≡ error.NoMemory
+    → Performs first begins before after kept keeps (Ok x) → Performs gives begins before after kept keeps (Err e)
+performs_short first gives begins before after kept keeps x e is p = record {
   acts = p.acts;
   entries = p.entries;
   grew = p.grew;
@@ -228,59 +232,64 @@ performs_short first gives begins told after kept keeps old new x e is p = recor
 
 -- ---- behind listings
 
-module _ {A : Type 0} (global : Type 0) (asks : List Entry → List Act → Option World → Result A Error → Type 0) (begins : List Entry → BegunBy) (told : Option World) (kept : List (List ℕ)) (old : List Entry) where
+module _ {A : Type 0} (global : Type 0) (asks : List Entry → List Act → Option World → Result A Error → Type 0) (begins : List Entry → BegunBy) (before after : Moment) (kept : List (List ℕ)) where
   -- a refused call
-  pub ends_call : (after : Option World) (new : List Entry) (e : Error) → after ≡ told → begins [] [] after → new ≡ old ++ entries_of e → ((listings : List Entry) → OrMemory (λ x. asks listings [] after (Err x)) e) → Prepares global asks begins told after kept kept old new (Err e)
-  ends_call after new e world begun grew why =
-      ([], inl refl, performs_refusal (asks []) (begins []) told after kept (old ++ []) new world begun e (entries_of e, grew ∙ ap (λ es. es ++ entries_of e) (sym (append-nil old)), ([], tt, refl)) (why []))
+  pub ends_call : (e : Error) → after.world ≡ before.world → begins [] [] after.world → after.entries ≡ before.entries ++ entries_of e → ((listings : List Entry) → OrMemory (λ x. asks listings [] after.world (Err x)) e)
+      → Prepares global asks begins before after kept kept (Err e)
+  ends_call e world begun grew why =
+      ([], inl refl, performs_refusal (asks []) (begins []) (with_entries before []) after kept world begun e (entries_of e, grew ∙ ap (λ es. es ++ entries_of e) (sym (append-nil before.entries)), ([], tt, refl)) (why []))
 
   -- a refusal of no call leaves nothing
-  pub ends_nothing : (after : Option World) (new : List Entry) (e : Error) → after ≡ told → begins [] [] after → new ≡ old → entries_of e ≡ [] → ((listings : List Entry) → OrMemory (λ x. asks listings [] after (Err x)) e) → Prepares global asks begins told after kept kept old new (Err e)
-  ends_nothing after new e world begun same silent why = ends_call after new e world begun (same ∙ (sym (append-nil old) ∙ ap (λ es. old ++ es) (sym silent))) why
+  pub ends_nothing : (e : Error) → after.world ≡ before.world → begins [] [] after.world → after.entries ≡ before.entries → entries_of e ≡ [] → ((listings : List Entry) → OrMemory (λ x. asks listings [] after.world (Err x)) e)
+      → Prepares global asks begins before after kept kept (Err e)
+  ends_nothing e world begun same silent why = ends_call e world begun (same ∙ (sym (append-nil before.entries) ∙ ap (λ es. before.entries ++ es) (sym silent))) why
 
   module _ (listings : List Entry) (passed : ArePassed global listings) where
     -- a refused search
-    pub ends_search : (after : Option World) (new : List Entry) (e : Error) → after ≡ told → begins listings [] after → new ≡ old ++ (listings ++ entries_of e) → OrMemory (λ x. asks listings [] after (Err x)) e → Prepares global asks begins told after kept kept old new (Err e)
-    ends_search after new e world begun grew why =
-        (listings, passed, performs_refusal (asks listings) (begins listings) told after kept (old ++ listings) new world begun e (entries_of e, grew ∙ sym (append_assoc old listings (entries_of e)), ([], tt, refl)) why)
+    pub ends_search : (e : Error) → after.world ≡ before.world → begins listings [] after.world → after.entries ≡ before.entries ++ (listings ++ entries_of e) → OrMemory (λ x. asks listings [] after.world (Err x)) e
+        → Prepares global asks begins before after kept kept (Err e)
+    ends_search e world begun grew why =
+        (listings, passed, performs_refusal (asks listings) (begins listings) (with_entries before listings) after kept world begun e (entries_of e, grew ∙ sym (append_assoc before.entries listings (entries_of e)), ([], tt, refl)) why)
 
 -- ---- a preparation as one of more
 
-module _ {A : Type 0} (global wider : Type 0) (asks more : List Entry → List Act → Option World → Result A Error → Type 0) (one begins : List Entry → BegunBy) (up : global → wider) (after : Option World) (over : (listings : List Entry) (acts : List Act) (r : Result A Error) → asks listings acts after r → more listings acts after r)
-    (over_begun : (listings : List Entry) (acts : List Act) → one listings acts after → begins listings acts after) where
+module _ {A : Type 0} (global wider : Type 0) (asks more : List Entry → List Act → Option World → Result A Error → Type 0) (one begins : List Entry → BegunBy) (up : global → wider) (after : Moment) (over : (listings : List Entry) (acts : List Act) (r : Result A Error) → asks listings acts after.world r → more listings acts after.world r)
+    (over_begun : (listings : List Entry) (acts : List Act) → one listings acts after.world → begins listings acts after.world) where
   passed_over : (listings : List Entry) → ArePassed global listings → ArePassed wider listings
   passed_over listings (inl none) = inl none
   passed_over listings (inr some) = inr (up some.0, some.1)
 
-  or_over : (listings : List Entry) (acts : List Act) (e : Error) → OrMemory (λ x. asks listings acts after (Err x)) e → OrMemory (λ x. more listings acts after (Err x)) e
+  or_over : (listings : List Entry) (acts : List Act) (e : Error) → OrMemory (λ x. asks listings acts after.world (Err x)) e → OrMemory (λ x. more listings acts after.world (Err x)) e
   or_over listings acts e (inl wants) = inl wants
   or_over listings acts e (inr why) = inr (over listings acts (Err e) why)
 
-  answers_over : (listings : List Entry) (acts : List Act) (r : Result A Error) → Answers (asks listings acts after) r → Answers (more listings acts after) r
+  answers_over : (listings : List Entry) (acts : List Act) (r : Result A Error) → Answers (asks listings acts after.world) r → Answers (more listings acts after.world) r
   answers_over listings acts (Ok x) asked = over listings acts (Ok x) asked
   answers_over listings acts (Err e) why = or_over listings acts e why
 
-  pub prepares_over : (told begun : Option World) (kept keeps : List (List ℕ)) (old now new : List Entry) (r : Result A Error) → begun ≡ told → now ≡ old → Prepares global asks one begun after kept keeps now new r → Prepares wider more begins told after kept keeps old new r
-  prepares_over told begun kept keeps old now new r world same (listings, passed, p) = (
-    listings,
-    passed_over listings passed,
-    record {
-      acts = p.acts;
-      entries = p.entries;
-      grew = p.grew ∙ ap (λ xs. (xs ++ listings) ++ p.entries) same;
-      leaves = p.leaves;
-      folders = p.folders;
-      answers = answers_over listings p.acts r p.answers;
-      begun = follows r (one listings p.acts after) (begins listings p.acts after) (λ b. over_begun listings p.acts b) p.begun;
-      still = λ none quiet. p.still none quiet ∙ world;
-      alters = λ nodes alone quiet. subst (λ t. IsAltered (folders_in p.acts) nodes t after) world (p.alters nodes alone quiet);
-    },
-  )
+  -- begun at a moment that tells the same as the first
+  pub prepares_over : (before now : Moment) (kept keeps : List (List ℕ)) (r : Result A Error) → now ≡ before → Prepares global asks one now after kept keeps r → Prepares wider more begins before after kept keeps r
+  prepares_over before now kept keeps r same (listings, passed, p) =
+      let world : now.world ≡ before.world = ap (λ (m : Moment). m.world) same in (
+        listings,
+        passed_over listings passed,
+        record {
+          acts = p.acts;
+          entries = p.entries;
+          grew = p.grew ∙ ap (λ (m : Moment). (m.entries ++ listings) ++ p.entries) same;
+          leaves = p.leaves;
+          folders = p.folders;
+          answers = answers_over listings p.acts r p.answers;
+          begun = follows r (one listings p.acts after.world) (begins listings p.acts after.world) (λ b. over_begun listings p.acts b) p.begun;
+          still = λ none quiet. p.still none quiet ∙ world;
+          alters = λ nodes alone quiet. subst (λ t. IsAltered (folders_in p.acts) nodes t after.world) world (p.alters nodes alone quiet);
+        },
+      )
 
 -- ---- want of memory behind a preparation, which leaves the record and the world as they are
 
-pub memory_behind : {A B : Type 0} (global : Type 0) (asks : List Entry → List Act → Option World → Result A Error → Type 0) (more : List Entry → List Act → Option World → Result B Error → Type 0) (begins : List Entry → BegunBy) (told after later : Option World) (kept keeps : List (List ℕ)) (old new last : List Entry) (x : A)
-    → later ≡ after → last ≡ new → Prepares global asks begins told after kept keeps old new (Ok x) → Prepares global more begins told later kept keeps old last (Err error.NoMemory)
-memory_behind {A} {B} global asks more begins told after later kept keeps old new last x world same (listings, passed, p) =
-    let short : Performs (more listings) (begins listings) told after kept keeps (old ++ listings) new (Err error.NoMemory) = performs_short (asks listings) (more listings) (begins listings) told after kept keeps (old ++ listings) new x error.NoMemory refl p in
-    (listings, passed, subst (λ w. Performs (more listings) (begins listings) told w kept keeps (old ++ listings) last (Err error.NoMemory)) (sym world) (subst (λ es. Performs (more listings) (begins listings) told after kept keeps (old ++ listings) es (Err error.NoMemory)) (sym same) short))
+pub memory_behind : {A B : Type 0} (global : Type 0) (asks : List Entry → List Act → Option World → Result A Error → Type 0) (more : List Entry → List Act → Option World → Result B Error → Type 0) (begins : List Entry → BegunBy) (before after later : Moment) (kept keeps : List (List ℕ)) (x : A)
+    → later ≡ after → Prepares global asks begins before after kept keeps (Ok x) → Prepares global more begins before later kept keeps (Err error.NoMemory)
+memory_behind {A} {B} global asks more begins before after later kept keeps x same (listings, passed, p) =
+    let short : Performs (more listings) (begins listings) (with_entries before listings) after kept keeps (Err error.NoMemory) = performs_short (asks listings) (more listings) (begins listings) (with_entries before listings) after kept keeps x error.NoMemory refl p in
+    (listings, passed, subst (λ (m : Moment). Performs (more listings) (begins listings) (with_entries before listings) m kept keeps (Err error.NoMemory)) (sym same) short)

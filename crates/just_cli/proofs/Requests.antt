@@ -19,16 +19,15 @@ use Rattle.just_env.specs.declared.search_error.SearchError.{SearchError}
 use Rattle.just_search.specs.declared.search_result.Search.{Search}
 use Rattle.just_search.specs.Files.{parent_of}
 use Rattle.just_cli.specs.Acts.{Act, AreToldBehind, Step, Looks, Behind}
-use Rattle.just_cli.proofs.Acting.{Agrees, GivesOwnStep, looks_own, agrees_as, agrees_refusal, in_two, told_front, told_world, common, behind_own}
+use Rattle.just_cli.proofs.Acting.{Agrees, Agree, GivesOwnStep, looks_own, looks_agree, behind_agree, agrees_as, agrees_refusal, in_two, told_front, told_world, common, behind_own}
 use Rattle.just_cli.proofs.OneFile.{materializes_one}
 use Rattle.just_cli.specs.Faults.{CallGives, FaultFits, io_error, folder_error}
 use Rattle.just_host_record.specs.declared.entry.Entry.{Entry}
 use Rattle.just_config.specs.declared.config.Config.{Config}
 use Rattle.just_env.specs.Answers.{entries_of}
 use Rattle.just_search.specs.declared.location.Location.{Location}
-use Rattle.just_cli.specs.NewPath.{is_init}
 use Rattle.just_cli.specs.Options.{cache_beside, wanted_of, allowed}
-use Rattle.just_cli.specs.Words.{WordsRequest, ReadRequest, ArgumentsRequest, FolderRequest, ConfigRequest, LocatedRequest, JustfileRequest, FindsEnviron, ReadsWords, FindsFolder, GivesConfig, IsBuilt, Configures, FindsLocation, FindsJustfile, TakesFile}
+use Rattle.just_cli.specs.Words.{WordsRequest, ReadRequest, FolderRequest, ConfigRequest, LocatedRequest, JustfileRequest, FindsEnviron, ReadsWords, FindsFolder, GivesConfig, IsBuilt, Configures, FindsLocation, FindsJustfile, TakesFile}
 use Rattle.just_exec.specs.Refusals.{error_of_search}
 use Rattle.just_lang_types.specs.Modules.{settings_of}
 use Rattle.just_cli_plan.proofs.AgreeLaws.{loads_agree}
@@ -39,7 +38,7 @@ use Rattle.std.proofs.lemmas.List.{append_cancel_left}
 use Rattle.just_cli_plan.proofs.Laws.{plans_agree}
 use Rattle.just_cli_plan.proofs.Requests.{finds_project}
 use Rattle.just_cli_plan.specs.Steps.{stops, goes_on}
-use Rattle.just_cli.specs.Asked.{Asked, as_run, as_new, EnvironGiven, FolderGiven, RunsTried, AsksNew, Decides, Serves, AsksAs, AsksRead, Asks}
+use Rattle.just_cli.specs.Asked.{Asked, as_run, as_new, EnvironGiven, FolderGiven, RunsTried, Searches, AsksNew, Decides, Serves, AsksAs, AsksRead, Asks}
 use Rattle.just_cli.specs.Request.{LoadsSources, FindsProjectOf, FindsProjectAt, PlansLoaded, AnswersAt, Tries, NoneFailed}
 use Rattle.just_cli.specs.declared.task.Other.TheVariants as no_run
 use Rattle.just_cli.proofs.Arguments.{arguments_one}
@@ -145,11 +144,7 @@ configures = then_own GivesConfig IsBuilt gives_config is_built
 
 -- ---- the place of the justfile
 
--- the step finds the justfile over listings none of which failed
-abbrev pub FindsUnfailed : Option World → ConfigRequest → Result LocatedRequest Error → Type 0
-FindsUnfailed told k r = (listings : List Entry) × NoneFailed listings × FindsJustfile (FindsLocation told listings) k r
-
--- over a told world a justfile is found in one place
+-- over a told world a justfile is found in one place, over whichever listings, none of which failed
 module _ (w : World) where
   location_own : (config : Config) (ls ms : List Entry) (r s : Result Location Error) → NoneFailed ls → NoneFailed ms → FindsLocation (Some w) ls config r → IsOwn r → FindsLocation (Some w) ms config s → IsOwn s → r ≡ s
   location_own config ls ms (Ok a) (Ok b) none never p m q n =
@@ -168,15 +163,15 @@ module _ (w : World) where
       let refusals : f ≡ g = cc in
       ap (λ x. Err x) (is ∙ ap (λ x. error_of_search x) refusals ∙ sym at)
 
-  finds_justfile : GivesOwn (FindsUnfailed (Some w))
-  finds_justfile k (Ok a) (Ok b) (ls, none, p) m (ms, never, q) n =
+  finds_justfile : (ls ms : List Entry) → NoneFailed ls → NoneFailed ms → (k : ConfigRequest) (r s : Result LocatedRequest Error) → FindsJustfile (FindsLocation (Some w) ls) k r → IsOwn r → FindsJustfile (FindsLocation (Some w) ms) k s → IsOwn s → r ≡ s
+  finds_justfile ls ms none never k (Ok a) (Ok b) p m q n =
       ap (λ x. Ok x)
       (ap (λ x. let z : LocatedRequest = record { config = x; environ = a.environ; location = a.location } in z) (p.0 ∙ sym q.0)
       ∙ ap (λ x. let z : LocatedRequest = record { config = b.config; environ = x; location = a.location } in z) (p.1 ∙ sym q.1)
       ∙ ap (λ x. let z : LocatedRequest = record { config = b.config; environ = b.environ; location = x } in z) (same_found a.location b.location (location_own k.config ls ms (Ok a.location) (Ok b.location) none never p.2 tt q.2 tt)))
-  finds_justfile k (Ok a) (Err f) (ls, none, p) m (ms, never, q) n = absurd (refused_or_found f a.location (location_own k.config ms ls (Err f) (Ok a.location) never none q n p.2 tt))
-  finds_justfile k (Err e) (Ok b) (ls, none, p) m (ms, never, q) n = absurd (refused_or_found e b.location (location_own k.config ls ms (Err e) (Ok b.location) none never p m q.2 tt))
-  finds_justfile k (Err e) (Err f) (ls, none, p) m (ms, never, q) n = same_refusal e f (location_own k.config ls ms (Err e) (Err f) none never p m q n)
+  finds_justfile ls ms none never k (Ok a) (Err f) p m q n = absurd (refused_or_found f a.location (location_own k.config ms ls (Err f) (Ok a.location) never none q n p.2 tt))
+  finds_justfile ls ms none never k (Err e) (Ok b) p m q n = absurd (refused_or_found e b.location (location_own k.config ls ms (Err e) (Ok b.location) none never p m q.2 tt))
+  finds_justfile ls ms none never k (Err e) (Err f) p m q n = same_refusal e f (location_own k.config ls ms (Err e) (Err f) none never p m q n)
 
 -- ---- the justfile's file
 
@@ -354,49 +349,6 @@ runs_own w acts more rest left after later q r s (x, p, is) own (y, o, at) other
 asks_new_own : (w : World) → GivesOwn (AsksNew (Some w))
 asks_new_own w k r s (x, p, is) own (y, q, at) other = is ∙ (ap (λ z. as_new z) (new_own w k.config x y p (own_new x r is own) q (own_new y s at other)) ∙ sym at)
 
--- the steps behind the configuration, over listings none of which failed
-abbrev pub SearchesUnfailed : Step ConfigRequest Asked
-SearchesUnfailed = Behind (Looks FindsUnfailed) RunsTried
-
-data DecidesUnfailed (told : Option World) (acts : List Act) (after : Option World) (c : ConfigRequest) (r : Result Asked Error) : Type 0 where
-  reads_none : is_init c.config.subcommand ≡ true → Looks AsksNew told acts after c r → DecidesUnfailed told acts after c r
-  reads_one : is_init c.config.subcommand ≡ false → SearchesUnfailed told acts after c r → DecidesUnfailed told acts after c r
-
--- and behind the words
-abbrev ServesUnfailed : Step ArgumentsRequest Asked
-ServesUnfailed = Behind (Looks (λ told. FindsFolder (FolderGiven told))) (Behind (Looks (λ told. Configures)) DecidesUnfailed)
-
-abbrev AsksAsUnfailed : Read → Environ → Option World → List Act → Option World → Result Asked Error → Type 0
-AsksAsUnfailed read.Help environ told acts after r = (acts ≡ []) × (after ≡ told) × (r ≡ Ok (Asked.other no_run.Help))
-AsksAsUnfailed read.Version environ told acts after r = (acts ≡ []) × (after ≡ told) × (r ≡ Ok (Asked.other no_run.Version))
-AsksAsUnfailed (read.Go a) environ told acts after r = ServesUnfailed told acts after (record { arguments = a; environ = environ }) r
-
-abbrev AsksReadUnfailed : Step ReadRequest Asked
-AsksReadUnfailed told acts after q r = AsksAsUnfailed q.meaning q.environ told acts after r
-
-abbrev AsksUnfailed : Step (List (List ℕ)) Asked
-AsksUnfailed = Behind (Looks (λ told. FindsEnviron (EnvironGiven told))) (Behind (Looks (λ told. ReadsWords)) AsksReadUnfailed)
-
--- steps that answer more
-behind_more : {A B C : Type 0} (one other : Step A B) (two more : Step B C) → ((t : Option World) (acts : List Act) (u : Option World) (k : A) (r : Result B Error) → one t acts u k r → other t acts u k r)
-    → ((t : Option World) (acts : List Act) (u : Option World) (k : B) (r : Result C Error) → two t acts u k r → more t acts u k r) → (t : Option World) (acts : List Act) (u : Option World) (k : A) (r : Result C Error) → Behind one two t acts u k r → Behind other more t acts u k r
-behind_more one other two more f g t acts u k r (Behind.refused e p is) = Behind.refused e (f t acts u k (Err e) p) is
-behind_more one other two more f g t acts u k r (Behind.both y front back between p rest is) = Behind.both y front back between (f t front between k (Ok y) p) (g between back u y r rest) is
-
-searches_own : GivesOwnStep SearchesUnfailed
-searches_own = behind_own (Looks FindsUnfailed) RunsTried (looks_own FindsUnfailed finds_justfile) runs_own
-
-decides_own : GivesOwnStep DecidesUnfailed
-decides_own w acts more rest left after later c r s (DecidesUnfailed.reads_none is p) own (DecidesUnfailed.reads_none at q) other all told = looks_own AsksNew asks_new_own w acts more rest left after later c r s p own q other all told
-decides_own w acts more rest left after later c r s (DecidesUnfailed.reads_none is p) own (DecidesUnfailed.reads_one at q) other all told = absurd (true≢false (sym is ∙ at))
-decides_own w acts more rest left after later c r s (DecidesUnfailed.reads_one is p) own (DecidesUnfailed.reads_none at q) other all told = absurd (true≢false (sym at ∙ is))
-decides_own w acts more rest left after later c r s (DecidesUnfailed.reads_one is p) own (DecidesUnfailed.reads_one at q) other all told = searches_own w acts more rest left after later c r s p own q other all told
-
-serves_own : GivesOwnStep ServesUnfailed
-serves_own =
-    behind_own (Looks (λ told. FindsFolder (FolderGiven told))) (Behind (Looks (λ told. Configures)) DecidesUnfailed) (looks_own (λ told. FindsFolder (FolderGiven told)) finds_folder)
-    (behind_own (Looks (λ told. Configures)) DecidesUnfailed (looks_own (λ told. Configures) (λ w. configures)) decides_own)
-
 -- what only the words answer takes no act
 one_text : (w : World) (acts more rest left : List Act) (after later : Option World) (x : Asked) (r s : Result Asked Error) → (acts ≡ []) × (after ≡ Some w) × (r ≡ Ok x) → (more ≡ []) × (later ≡ Some w) × (s ≡ Ok x) → acts ++ rest ≡ more ++ left
     → Agrees r s rest left after later
@@ -408,44 +360,41 @@ one_text w acts more rest left after later x r s (none, world, is) (never, still
   also = still;
 }
 
-asks_as_own : (m : Read) (environ : Environ) (w : World) (acts more rest left : List Act) (after later : Option World) (r s : Result Asked Error) → AsksAsUnfailed m environ (Some w) acts after r → IsOwn r → AsksAsUnfailed m environ (Some w) more later s → IsOwn s
-    → acts ++ rest ≡ more ++ left → AreToldBehind (more ++ left) → Agrees r s rest left after later
-asks_as_own read.Help environ w acts more rest left after later r s p own q other all told = one_text w acts more rest left after later (Asked.other no_run.Help) r s p q all
-asks_as_own read.Version environ w acts more rest left after later r s p own q other all told = one_text w acts more rest left after later (Asked.other no_run.Version) r s p q all
-asks_as_own (read.Go a) environ w acts more rest left after later r s p own q other all told = serves_own w acts more rest left after later (record { arguments = a; environ = environ }) r s p own q other all told
+-- two chains over listings none of which failed agree
+module _ (ls ms : List Entry) (none : NoneFailed ls) (never : NoneFailed ms) where
+  searches_agree : Agree (Searches ls) (Searches ms)
+  searches_agree =
+      behind_agree (Looks (λ told. FindsJustfile (FindsLocation told ls))) (Looks (λ told. FindsJustfile (FindsLocation told ms))) RunsTried RunsTried
+      (looks_agree (λ told. FindsJustfile (FindsLocation told ls)) (λ told. FindsJustfile (FindsLocation told ms)) (λ w. finds_justfile w ls ms none never)) runs_own
 
-asks_read_own : GivesOwnStep AsksReadUnfailed
-asks_read_own w acts more rest left after later k r s p own q other all told = asks_as_own k.meaning k.environ w acts more rest left after later r s p own q other all told
+  decides_agree : Agree (Decides ls) (Decides ms)
+  decides_agree w acts more rest left after later c r s (Decides.reads_none is p) own (Decides.reads_none at q) other all told = looks_own AsksNew asks_new_own w acts more rest left after later c r s p own q other all told
+  decides_agree w acts more rest left after later c r s (Decides.reads_none is p) own (Decides.reads_one at q) other all told = absurd (true≢false (sym is ∙ at))
+  decides_agree w acts more rest left after later c r s (Decides.reads_one is p) own (Decides.reads_none at q) other all told = absurd (true≢false (sym at ∙ is))
+  decides_agree w acts more rest left after later c r s (Decides.reads_one is p) own (Decides.reads_one at q) other all told = searches_agree w acts more rest left after later c r s p own q other all told
 
-asks_own : GivesOwnStep AsksUnfailed
-asks_own =
-    behind_own (Looks (λ told. FindsEnviron (EnvironGiven told))) (Behind (Looks (λ told. ReadsWords)) AsksReadUnfailed) (looks_own (λ told. FindsEnviron (EnvironGiven told)) finds_environ)
-    (behind_own (Looks (λ told. ReadsWords)) AsksReadUnfailed (looks_own (λ told. ReadsWords) (λ w. reads_words)) asks_read_own)
+  serves_agree : Agree (Serves ls) (Serves ms)
+  serves_agree =
+      behind_agree (Looks (λ told. FindsFolder (FolderGiven told))) (Looks (λ told. FindsFolder (FolderGiven told))) (Behind (Looks (λ told. Configures)) (Decides ls)) (Behind (Looks (λ told. Configures)) (Decides ms)) (looks_own (λ told. FindsFolder (FolderGiven told)) finds_folder)
+      (behind_agree (Looks (λ told. Configures)) (Looks (λ told. Configures)) (Decides ls) (Decides ms) (looks_own (λ told. Configures) (λ w. configures)) decides_agree)
 
-module _ (listings : List Entry) (none : NoneFailed listings) where
-  decides_more : (t : Option World) (acts : List Act) (u : Option World) (c : ConfigRequest) (r : Result Asked Error) → Decides listings t acts u c r → DecidesUnfailed t acts u c r
-  decides_more t acts u c r (Decides.reads_none is p) = DecidesUnfailed.reads_none is p
-  decides_more t acts u c r (Decides.reads_one is p) =
-      DecidesUnfailed.reads_one is
-      (behind_more (Looks (λ told. FindsJustfile (FindsLocation told listings))) (Looks FindsUnfailed) RunsTried RunsTried (λ t acts u k s p. (p.0, p.1, (listings, none, p.2))) (λ t acts u k s p. p) t acts u c r p)
+  asks_as_agree : (m : Read) (environ : Environ) (w : World) (acts more rest left : List Act) (after later : Option World) (r s : Result Asked Error) → AsksAs ls m environ (Some w) acts after r → IsOwn r → AsksAs ms m environ (Some w) more later s → IsOwn s
+      → acts ++ rest ≡ more ++ left → AreToldBehind (more ++ left) → Agrees r s rest left after later
+  asks_as_agree read.Help environ w acts more rest left after later r s p own q other all told = one_text w acts more rest left after later (Asked.other no_run.Help) r s p q all
+  asks_as_agree read.Version environ w acts more rest left after later r s p own q other all told = one_text w acts more rest left after later (Asked.other no_run.Version) r s p q all
+  asks_as_agree (read.Go a) environ w acts more rest left after later r s p own q other all told = serves_agree w acts more rest left after later (record { arguments = a; environ = environ }) r s p own q other all told
 
-  serves_more : (t : Option World) (acts : List Act) (u : Option World) (a : ArgumentsRequest) (r : Result Asked Error) → Serves listings t acts u a r → ServesUnfailed t acts u a r
-  serves_more =
-      behind_more (Looks (λ told. FindsFolder (FolderGiven told))) (Looks (λ told. FindsFolder (FolderGiven told))) (Behind (Looks (λ told. Configures)) (Decides listings)) (Behind (Looks (λ told. Configures)) DecidesUnfailed) (λ t acts u k s p. p)
-      (behind_more (Looks (λ told. Configures)) (Looks (λ told. Configures)) (Decides listings) DecidesUnfailed (λ t acts u k s p. p) decides_more)
+  asks_read_agree : Agree (AsksRead ls) (AsksRead ms)
+  asks_read_agree w acts more rest left after later k r s p own q other all told = asks_as_agree k.meaning k.environ w acts more rest left after later r s p own q other all told
 
-  asks_as_more : (m : Read) (environ : Environ) (t : Option World) (acts : List Act) (u : Option World) (r : Result Asked Error) → AsksAs listings m environ t acts u r → AsksAsUnfailed m environ t acts u r
-  asks_as_more read.Help environ t acts u r p = p
-  asks_as_more read.Version environ t acts u r p = p
-  asks_as_more (read.Go a) environ t acts u r p = serves_more t acts u (record { arguments = a; environ = environ }) r p
-
-  asks_unfailed : (words : List (List ℕ)) (told : Option World) (acts : List Act) (after : Option World) (r : Result Asked Error) → Asks words told listings acts after r → AsksUnfailed told acts after words r
-  asks_unfailed words told acts after r asks =
-      behind_more (Looks (λ told. FindsEnviron (EnvironGiven told))) (Looks (λ told. FindsEnviron (EnvironGiven told))) (Behind (Looks (λ told. ReadsWords)) (AsksRead listings)) (Behind (Looks (λ told. ReadsWords)) AsksReadUnfailed) (λ t acts u k s p. p)
-      (behind_more (Looks (λ told. ReadsWords)) (Looks (λ told. ReadsWords)) (AsksRead listings) AsksReadUnfailed (λ t acts u k s p. p) (λ t acts u k s p. asks_as_more k.meaning k.environ t acts u s p)) told acts after words r asks
+  asks_agree : Agree {A = List (List ℕ)} {B = Asked} (λ told acts after words r. Asks words told ls acts after r) (λ told acts after words r. Asks words told ms acts after r)
+  asks_agree =
+      behind_agree (Looks (λ told. FindsEnviron (EnvironGiven told))) (Looks (λ told. FindsEnviron (EnvironGiven told))) (Behind (Looks (λ told. ReadsWords)) (AsksRead ls)) (Behind (Looks (λ told. ReadsWords)) (AsksRead ms))
+      (looks_own (λ told. FindsEnviron (EnvironGiven told)) finds_environ)
+      (behind_agree (Looks (λ told. ReadsWords)) (Looks (λ told. ReadsWords)) (AsksRead ls) (AsksRead ms) (looks_own (λ told. ReadsWords) (λ w. reads_words)) asks_read_agree)
 
 -- in a world and with these acts, behind whose children worlds are told, words ask for one thing, or are refused with one error, where no listing failed
 pub one_answer : (words : List (List ℕ)) (w : World) (acts : List Act) → AreToldBehind acts → (ls ms : List Entry) (after later : Option World) (r s : Result Asked Error) → NoneFailed ls → NoneFailed ms → Asks words (Some w) ls acts after r → IsOwn r
     → Asks words (Some w) ms acts later s → IsOwn s → r ≡ s
 one_answer words w acts told ls ms after later r s none never p m q n =
-    (asks_own w acts acts [] [] after later words r s (asks_unfailed ls none words (Some w) acts after r p) m (asks_unfailed ms never words (Some w) acts later s q) n refl (subst (λ l. AreToldBehind l) (sym (append-nil acts)) told)).same
+    (asks_agree ls ms none never w acts acts [] [] after later words r s p m q n refl (subst (λ l. AreToldBehind l) (sym (append-nil acts)) told)).same

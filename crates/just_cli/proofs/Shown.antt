@@ -1,6 +1,6 @@
 -- Words that ask for a text get it, or the error of a print that failed.
-use Rattle.std.proofs.Common.{◌≡◌, ◌++◌, inl, inr, ℕ, false, List, [], Option, None, Result, Err, refl, sym, ◌∙◌, ap, subst, append-nil}
-use Rattle.just_host_record.specs.World.{World}
+use Rattle.std.proofs.Common.{◌≡◌, ◌++◌, inl, inr, ℕ, false, List, [], None, Result, Err, refl, sym, ◌∙◌, ap, subst, append-nil}
+use Rattle.just_host_record.specs.World.{Moment}
 use Rattle.just_host_record.specs.Record.{refused, IsOwnFault, IsNoMiss}
 use Rattle.just_host_record.specs.declared.entry.Call.TheVariants as call
 use Rattle.just_host_record.specs.declared.entry.Entry.{Entry}
@@ -31,26 +31,26 @@ text_lost (fault.Failed c) e is own never = inr (is ∙ ap (λ d. error.StdoutIo
 text_lost fault.NoMemory e is own never = inl is
 
 -- the text wasn't printed
-pub unshown : (text : List ℕ) (told after : Option World) (old now new : List Entry) (r : Result Report Failure) (io : HostFault) (e : Error) (h : List Event)
-    → r ≡ Err (record { error = e; plan = None; history = h; code = exit_code e }) → h ≡ [] → e ≡ print_error io → IsOwnFault call.Print io → IsNoMiss io → now ≡ old ++ refused [] io
-    → (es : List Entry) × (new ≡ now ++ es) × IsTold false e es → after ≡ told → IsShown text told after old new r
-unshown text told after old now new r io e h is no_history error_is own never grew tells world =
-    subst (λ q. IsShown text told after old new q) (sym is) (record {
+pub unshown : (text : List ℕ) (before between after : Moment) (r : Result Report Failure) (io : HostFault) (e : Error) (h : List Event)
+    → r ≡ Err (record { error = e; plan = None; history = h; code = exit_code e }) → h ≡ [] → e ≡ print_error io → IsOwnFault call.Print io → IsNoMiss io → between.entries ≡ before.entries ++ refused [] io
+    → (es : List Entry) × (after.entries ≡ between.entries ++ es) × IsTold false e es → after.world ≡ before.world → IsShown text before after r
+unshown text before between after r io e h is no_history error_is own never grew tells world =
+    subst (λ q. IsShown text before after q) (sym is) (record {
       shown = tt;
-      unshown = (refl, no_history, refl, text_lost io e error_is own never, ends_before [] false e old now new (refused [] io) grew ([], tt, sym (ap entries_of error_is ∙ print_entries io)) tells);
+      unshown = (refl, no_history, refl, text_lost io e error_is own never, ends_before [] false e before.entries between.entries after.entries (refused [] io) grew ([], tt, sym (ap entries_of error_is ∙ print_entries io)) tells);
       world = world;
     })
 
 -- nor was it where memory was wanting for it
-pub unprinted : (text : List ℕ) (told after : Option World) (old new : List Entry) (r : Result Report Failure) (e : Error) (h : List Event)
-    → r ≡ Err (record { error = e; plan = None; history = h; code = exit_code e }) → h ≡ [] → e ≡ error.NoMemory → (es : List Entry) × (new ≡ old ++ es) × IsTold false e es → after ≡ told → IsShown text told after old new r
-unprinted text told after old new r e h is no_history wants tells world =
-    subst (λ q. IsShown text told after old new q) (sym is) (record {
+pub unprinted : (text : List ℕ) (before after : Moment) (r : Result Report Failure) (e : Error) (h : List Event)
+    → r ≡ Err (record { error = e; plan = None; history = h; code = exit_code e }) → h ≡ [] → e ≡ error.NoMemory → (es : List Entry) × (after.entries ≡ before.entries ++ es) × IsTold false e es → after.world ≡ before.world → IsShown text before after r
+unprinted text before after r e h is no_history wants tells world =
+    subst (λ q. IsShown text before after q) (sym is) (record {
       shown = tt;
-      unshown = (refl, no_history, refl, inl wants, ends_before [] false e old old new [] (sym (append-nil old)) ([], tt, sym (ap (λ x. entries_of x) wants)) tells);
+      unshown = (refl, no_history, refl, inl wants, ends_before [] false e before.entries before.entries after.entries [] (sym (append-nil before.entries)) ([], tt, sym (ap (λ x. entries_of x) wants)) tells);
       world = world;
     })
 
 -- a text that is shown is the one that it is
-pub shown_as : (shown line text : List ℕ) (told after : Option World) (old new : List Entry) (r : Result Report Failure) → shown ≡ line → line ≡ text → IsShown shown told after old new r → IsShown text told after old new r
-shown_as shown line text told after old new r is same shows = subst (λ t. IsShown t told after old new r) (is ∙ same) shows
+pub shown_as : (shown line text : List ℕ) (before after : Moment) (r : Result Report Failure) → shown ≡ line → line ≡ text → IsShown shown before after r → IsShown text before after r
+shown_as shown line text before after r is same shows = subst (λ t. IsShown t before after r) (is ∙ same) shows

@@ -2,7 +2,7 @@
 use Rattle.std.proofs.Common.{◌≡◌, ◌⊎◌, ◌++◌, inl, inr, ℕ, true, false, true≢false, List, [], ◌∷◌, map, Option, Result, Ok, Err, refl, sym, ◌∙◌, ap, subst, append-nil}
 use Rattle.std.specs.Prelude.{◌≢◌}
 use Rattle.std.specs.List.{list_any}
-use Rattle.just_host_record.specs.World.{World}
+use Rattle.just_host_record.specs.World.{World, Moment}
 use Rattle.just_host_record.specs.Looks.{dash}
 use Rattle.just_host_record.specs.Record.{is_failed, text_or_empty}
 use Rattle.just_host_record.specs.declared.entry.Entry.{Entry}
@@ -115,15 +115,24 @@ wants_or_not : (f : SearchError) → (f ≡ search.NoMemory) ⊎ (f ≢ search.N
 wants_or_not search.NoMemory = inl refl
 wants_or_not _ = inr (λ is. let no : ⊥ = cc in no)
 
-module _ (config : Config) (place location : Location) (is_place : place ≡ location) (told after : Option World) (kept keeps : List (List ℕ)) (old new : List Entry) where
+module _ (config : Config) (place location : Location) (is_place : place ≡ location) (before after : Moment) (kept keeps : List (List ℕ)) where
   abbrev IsMaterialized : Result Search SearchError → Type 0
-  IsMaterialized r = MakesFolders (Materializes told after (parent_of config) place) (parent_of config) kept keeps old new r
+  IsMaterialized r = MakesFolders (Materializes before.world after.world (parent_of config) place) (parent_of config) kept keeps before.entries after.entries r
 
   abbrev Taken : Result (Wanted × List ℕ) Error → Type 0
-  Taken r = Performs {A = Wanted × List ℕ} (TakesWanted config location told) (BeginsIn config location told) told after kept keeps old new r
+  Taken r = Performs {A = Wanted × List ℕ} (TakesWanted config location before.world) (BeginsIn config location before.world) before after kept keeps r
 
-  at_location : (folders : List (List ℕ)) (r : Result Search SearchError) → Materializes told after (parent_of config) place folders r → Materializes told after (parent_of config) location folders r
-  at_location folders r m = subst (λ (l : Location). Materializes told after (parent_of config) l folders r) is_place m
+  at_location : (folders : List (List ℕ)) (r : Result Search SearchError) → Materializes before.world after.world (parent_of config) place folders r → Materializes before.world after.world (parent_of config) location folders r
+  at_location folders r m = subst (λ (l : Location). Materializes before.world after.world (parent_of config) l folders r) is_place m
+
+  -- what it makes of a told world
+  still_so : (folders : List (List ℕ)) (r : Result Search SearchError) → Materializes before.world after.world (parent_of config) place folders r → map Act.made folders ≡ [] → after.world ≡ before.world
+  still_so folders r m none = file_still before.world after.world (parent_of config) place folders r m (no_folders folders none)
+
+  alters_so : (nodes : List PlanNode) (folders : List (List ℕ)) (r : Result Search SearchError) → Materializes before.world after.world (parent_of config) place folders r → list_any is_failed (left_entries (parent_of config) folders r) ≡ false
+      → IsAltered (folders_in (map Act.made folders)) nodes before.world after.world
+  alters_so nodes folders r m quiet =
+      subst (λ (fs : List (List ℕ)). IsAltered fs nodes before.world after.world) (sym (folders_of folders)) (file_alters before.world after.world (parent_of config) place nodes folders r m quiet)
 
   pub taken_well : (s : Search) (j : Wanted × List ℕ) → IsMaterialized (Ok s) → j.0 ≡ wanted_of config s.working_directory (cache_beside s.justfile) → j.1 ≡ s.justfile → Taken (Ok j)
   taken_well s j (folders, keep, grew, m) wanted path = record {
@@ -134,8 +143,8 @@ module _ (config : Config) (place location : Location) (is_place : place ≡ loc
     folders = keep ∙ ap (λ (fs : List (List ℕ)). kept ++ fs) (sym (folders_of folders));
     answers = λ environ. (folders, s, refl, at_location folders (Ok s) m, path, wanted, refl);
     begun = (folders, Ok s, refl, at_location folders (Ok s) m);
-    still = λ none quiet. file_still told after (parent_of config) place folders (Ok s) m (no_folders folders none);
-    alters = λ nodes alone quiet. subst (λ (fs : List (List ℕ)). IsAltered fs nodes told after) (sym (folders_of folders)) (file_alters told after (parent_of config) place nodes folders (Ok s) m quiet);
+    still = λ none quiet. still_so folders (Ok s) m none;
+    alters = λ nodes alone quiet. alters_so nodes folders (Ok s) m quiet;
   }
 
   -- memory is wanting behind it
@@ -148,26 +157,29 @@ module _ (config : Config) (place location : Location) (is_place : place ≡ loc
     folders = keep ∙ ap (λ (fs : List (List ℕ)). kept ++ fs) (sym (folders_of folders));
     answers = inl refl;
     begun = λ captured. (folders, Ok s, refl, at_location folders (Ok s) m);
-    still = λ none quiet. file_still told after (parent_of config) place folders (Ok s) m (no_folders folders none);
-    alters = λ nodes alone quiet. subst (λ (fs : List (List ℕ)). IsAltered fs nodes told after) (sym (folders_of folders)) (file_alters told after (parent_of config) place nodes folders (Ok s) m quiet);
+    still = λ none quiet. still_so folders (Ok s) m none;
+    alters = λ nodes alone quiet. alters_so nodes folders (Ok s) m quiet;
   }
 
-  why : (folders : List (List ℕ)) (f : SearchError) (e : Error) → Materializes told after (parent_of config) place folders (Err f) → e ≡ error_of_search f → (f ≡ search.NoMemory) ⊎ (f ≢ search.NoMemory) → OrMemory (λ x. TakesWanted config location told (map Act.made folders) after (Err x)) e
+  why : (folders : List (List ℕ)) (f : SearchError) (e : Error) → Materializes before.world after.world (parent_of config) place folders (Err f) → e ≡ error_of_search f → (f ≡ search.NoMemory) ⊎ (f ≢ search.NoMemory)
+      → OrMemory (λ x. TakesWanted config location before.world (map Act.made folders) after.world (Err x)) e
   why folders f e m is (inl wants) = inl (is ∙ ap (λ g. error_of_search g) wants)
   why folders f e m is (inr not) = inr (λ environ. (folders, f, refl, at_location folders (Err f) m, not, is))
 
   pub taken_refused : (f : SearchError) (e : Error) → IsMaterialized (Err f) → e ≡ error_of_search f → Taken (Err e)
-  taken_refused f e (folders, keep, grew, m) is = record {
-    acts = map Act.made folders;
-    entries = left_entries {A = Search} (parent_of config) folders (Err f);
-    grew = grew;
-    leaves = (made_entries folders, path_of told after (parent_of config) place f, made_acts folders, file_entries told after (parent_of config) place folders (Err f) m ∙ ap (λ x. made_entries folders ++ entries_in (path_of told after (parent_of config) place f) x) (sym is));
-    folders = keep ∙ ap (λ (fs : List (List ℕ)). kept ++ fs) (sym (folders_of folders));
-    answers = why folders f e m is (wants_or_not f);
-    begun = λ captured. (folders, Err f, refl, at_location folders (Err f) m);
-    still = λ none quiet. file_still told after (parent_of config) place folders (Err f) m (no_folders folders none);
-    alters = λ nodes alone quiet. subst (λ (fs : List (List ℕ)). IsAltered fs nodes told after) (sym (folders_of folders)) (file_alters told after (parent_of config) place nodes folders (Err f) m quiet);
-  }
+  taken_refused f e (folders, keep, grew, m) is =
+      let path = path_of before.world after.world (parent_of config) place f in
+      record {
+        acts = map Act.made folders;
+        entries = left_entries {A = Search} (parent_of config) folders (Err f);
+        grew = grew;
+        leaves = (made_entries folders, path, made_acts folders, file_entries before.world after.world (parent_of config) place folders (Err f) m ∙ ap (λ x. made_entries folders ++ entries_in path x) (sym is));
+        folders = keep ∙ ap (λ (fs : List (List ℕ)). kept ++ fs) (sym (folders_of folders));
+        answers = why folders f e m is (wants_or_not f);
+        begun = λ captured. (folders, Err f, refl, at_location folders (Err f) m);
+        still = λ none quiet. still_so folders (Err f) m none;
+        alters = λ nodes alone quiet. alters_so nodes folders (Err f) m quiet;
+      }
 
 -- where no act is taken, the world stays
 pub takes_still : (told after : Option World) (acts : List Act) (q : LocatedRequest) (r : Result JustfileRequest Error) → TakesFile told acts after q r → acts ≡ [] → after ≡ told
@@ -175,15 +187,15 @@ takes_still told after acts q (Ok j) (folders, s, is, m, path, wanted, environ) 
 takes_still told after acts q (Err e) (folders, f, is, m, never, from) none = file_still told after (parent_of q.config) q.location folders (Err f) m (no_folders folders (sym is ∙ none))
 
 -- memory is wanting before
-pub taken_nothing : (config : Config) (location : Location) (told : Option World) (kept : List (List ℕ)) (old : List Entry) → Performs {A = Wanted × List ℕ} (TakesWanted config location told) (BeginsIn config location told) told told kept kept old old (Err error.NoMemory)
-taken_nothing config location told kept old = record {
+pub taken_nothing : (config : Config) (location : Location) (told : Moment) (kept : List (List ℕ)) → Performs {A = Wanted × List ℕ} (TakesWanted config location told.world) (BeginsIn config location told.world) told told kept kept (Err error.NoMemory)
+taken_nothing config location told kept = record {
   acts = [];
   entries = [];
-  grew = sym (append-nil old);
+  grew = sym (append-nil told.entries);
   leaves = ([], [], AreActs.none, refl);
   folders = sym (append-nil kept);
   answers = inl refl;
   begun = λ captured. ([], Err search.NoMemory, refl, Materializes.no_memory refl);
   still = λ none quiet. refl;
-  alters = λ nodes alone quiet. altered_same [] nodes told told refl;
+  alters = λ nodes alone quiet. altered_same [] nodes told.world told.world refl;
 }

@@ -1,8 +1,7 @@
 -- The justfiles that are tried one behind the other, as parts of a preparation, from what is asked of each.
 use Rattle.std.proofs.Common.{◌≡◌, ◌++◌, inl, inr, ℕ, Bool, true, false, true≢false, List, [], ◌∷◌, Option, Some, None, Result, Ok, Err, MatchOption, refl, sym, ◌∙◌, ap, subst, append_assoc, append-nil}
 use Rattle.std.specs.Prelude.{◌&&◌, if◌then◌else◌}
-use Rattle.just_host_record.specs.World.{World}
-use Rattle.just_host_record.specs.declared.entry.Entry.{Entry}
+use Rattle.just_host_record.specs.World.{World, Moment}
 use Rattle.just_env.specs.declared.search_error.SearchError.{SearchError}
 use Rattle.just_env.specs.Answers.{Answers as AnswersSearch, entries_of as search_entries}
 use Rattle.just_search.specs.declared.location.Location.{Location}
@@ -68,35 +67,35 @@ missing_captured (error.UnknownSubmodule path) is = refl
 missing_captured (error.ModuleAbsent m) is = refl
 missing_captured _ is = absurd (cc)
 
-module _ (c : ConfigRequest) (location : Location) (told : Option World) (kept : List (List ℕ)) (old : List Entry) where
+module _ (c : ConfigRequest) (location : Location) (before : Moment) (kept : List (List ℕ)) where
   abbrev AsksIt : Bool → List Act → Option World → Result Outline Error → Type 0
-  AsksIt fallback acts after r = AnswersAt told acts after (at_place c location) r fallback
+  AsksIt fallback acts world r = AnswersAt before.world acts world (at_place c location) r fallback
 
   abbrev From : List Act → Option World → Result Outline Error → Type 0
-  From acts after r = TriesFrom c told acts after location r
+  From acts world r = TriesFrom c before.world acts world location r
 
   -- what was begun of it, and from it on
   abbrev BeginsIt : List Act → Option World → Type 0
-  BeginsIt acts after = BeginsAt told acts after (at_place c location)
+  BeginsIt acts world = BeginsAt before.world acts world (at_place c location)
 
   abbrev Begins : List Act → Option World → Type 0
-  Begins acts after = BeginsFrom c told acts after location
+  Begins acts world = BeginsFrom c before.world acts world location
 
-  from_it : (after : Option World) (acts : List Act) → BeginsIt acts after → Begins acts after
-  from_it after acts begins = ([], acts, begins, refl)
+  from_it : (world : Option World) (acts : List Act) → BeginsIt acts world → Begins acts world
+  from_it world acts begins = ([], acts, begins, refl)
 
   -- ---- its answer stands
 
-  pub stands_planned : (after : Option World) (keeps : List (List ℕ)) (new : List Entry) (fallback : Bool) (o : Outline) → Performs (AsksIt fallback) BeginsIt told after kept keeps old new (Ok o) → PerformsFrom c location told after kept keeps old new (Ok o)
-  stands_planned after keeps new fallback o p = performs_as (AsksIt fallback) From BeginsIt Begins told after kept keeps old new o o p (λ acts at. TriesFrom.stands told after acts location (Ok o) fallback at refl) (from_it after)
+  pub stands_planned : (after : Moment) (keeps : List (List ℕ)) (fallback : Bool) (o : Outline) → Performs (AsksIt fallback) BeginsIt before after kept keeps (Ok o) → PerformsFrom c location before after kept keeps (Ok o)
+  stands_planned after keeps fallback o p = performs_as (AsksIt fallback) From BeginsIt Begins before after kept keeps o o p (λ acts at. TriesFrom.stands before.world after.world acts location (Ok o) fallback at refl) (from_it after.world)
 
-  module _ (after : Option World) (keeps : List (List ℕ)) (new : List Entry) (fallback may : Bool) (e : Error) (is : may ≡ (fallback && is_lacking e)) (p : Performs (AsksIt fallback) BeginsIt told after kept keeps old new (Err e)) where
-    stays_so : (acts : List Act) → may ≡ false → OrMemory (λ x. AsksIt fallback acts after (Err x)) e → OrMemory (λ x. From acts after (Err x)) e
+  module _ (after : Moment) (keeps : List (List ℕ)) (fallback may : Bool) (e : Error) (is : may ≡ (fallback && is_lacking e)) (p : Performs (AsksIt fallback) BeginsIt before after kept keeps (Err e)) where
+    stays_so : (acts : List Act) → may ≡ false → OrMemory (λ x. AsksIt fallback acts after.world (Err x)) e → OrMemory (λ x. From acts after.world (Err x)) e
     stays_so acts stays (inl wants) = inl wants
-    stays_so acts stays (inr at) = inr (TriesFrom.stands told after acts location (Err e) fallback at (and_false fallback (is_lacking e) (sym is ∙ stays)))
+    stays_so acts stays (inr at) = inr (TriesFrom.stands before.world after.world acts location (Err e) fallback at (and_false fallback (is_lacking e) (sym is ∙ stays)))
 
-    pub stands_refused : may ≡ false → PerformsFrom c location told after kept keeps old new (Err e)
-    stands_refused stays = performs_lost (AsksIt fallback) From BeginsIt Begins told after kept keeps old new e p (λ acts why. stays_so acts stays why) (from_it after)
+    pub stands_refused : may ≡ false → PerformsFrom c location before after kept keeps (Err e)
+    stands_refused stays = performs_lost (AsksIt fallback) From BeginsIt Begins before after kept keeps e p (λ acts why. stays_so acts stays why) (from_it after.world)
 
     -- ---- another one is looked for behind it
 
@@ -112,38 +111,38 @@ module _ (c : ConfigRequest) (location : Location) (told : Option World) (kept :
       LacksIt acts world (Ok x) = AsksIt true acts world (Err x) × (is_lacking x ≡ true)
       LacksIt acts world (Err x) = ⊥
 
-      lacks_so : (acts : List Act) → OrMemory (λ x. AsksIt fallback acts after (Err x)) e → LacksIt acts after (Ok e)
+      lacks_so : (acts : List Act) → OrMemory (λ x. AsksIt fallback acts after.world (Err x)) e → LacksIt acts after.world (Ok e)
       lacks_so acts (inl wants) = absurd (memory_lacks e wants lacked)
-      lacks_so acts (inr at) = (subst (λ b. AnswersAt told acts after (at_place c location) (Err e) b) sets at, lacked)
+      lacks_so acts (inr at) = (subst (λ b. AnswersAt before.world acts after.world (at_place c location) (Err e) b) sets at, lacked)
 
-      lacks_part : Performs LacksIt Begins told after kept keeps old new (Ok e)
-      lacks_part = performs_instead (AsksIt fallback) LacksIt BeginsIt Begins told after kept keeps old new e e (λ parent. lacking_in parent e lacked) (lacking_captured e lacked) p lacks_so (from_it after)
+      lacks_part : Performs LacksIt Begins before after kept keeps (Ok e)
+      lacks_part = performs_instead (AsksIt fallback) LacksIt BeginsIt Begins before after kept keeps e e (λ parent. lacking_in parent e lacked) (lacking_captured e lacked) p lacks_so (from_it after.world)
 
-      module _ (seen : Option World) (world : seen ≡ after) (last : List Entry) where
-        begins_seen : (acts : List Act) → Begins acts after → Begins acts seen
-        begins_seen acts begins = subst (λ w. BeginsFrom c told acts w location) (sym world) begins
+      module _ (last : Moment) (world : last.world ≡ after.world) where
+        begins_last : (acts : List Act) → Begins acts after.world → Begins acts last.world
+        begins_last acts begins = subst (λ w. BeginsFrom c before.world acts w location) (sym world) begins
 
         -- no other is found, or one is
-        pub looked : (next : Option Location) → FallsBack after c.config location.working_directory (Ok next) → last ≡ new ++ []
-            → MatchOption next (PerformsFrom c location told seen kept keeps old last (Err e)) (λ l. PerformsFall c location told seen kept keeps old last l)
+        pub looked : (next : Option Location) → FallsBack after.world c.config location.working_directory (Ok next) → last.entries ≡ after.entries ++ []
+            → MatchOption next (PerformsFrom c location before last kept keeps (Err e)) (λ l. PerformsFall c location before last kept keeps l)
         looked None falls same =
-            performs_looking LacksIt From Begins Begins told after seen kept keeps old new last e (Err e) lacks_part world ([], same, ([], tt, sym (lacking_silent e lacked)))
-            (λ acts at. inr (subst (λ w. TriesFrom c told acts w location (Err e)) (sym world) (TriesFrom.highest told after acts location e at.0 at.1 falls))) begins_seen
+            performs_looking LacksIt From Begins Begins before after last kept keeps e (Err e) lacks_part world ([], same, ([], tt, sym (lacking_silent e lacked)))
+            (λ acts at. inr (subst (λ w. TriesFrom c before.world acts w location (Err e)) (sym world) (TriesFrom.highest before.world after.world acts location e at.0 at.1 falls))) begins_last
         looked (Some next) falls same =
-            performs_looking LacksIt (FallsOn c location told) Begins Begins told after seen kept keeps old new last e (Ok next) lacks_part world ([], same, tt)
-            (λ acts at. subst (λ w. FallsTo c location told acts w next) (sym world) (e, at.0, at.1, falls)) begins_seen
+            performs_looking LacksIt (FallsOn c location before.world) Begins Begins before after last kept keeps e (Ok next) lacks_part world ([], same, tt)
+            (λ acts at. subst (λ w. FallsTo c location before.world acts w next) (sym world) (e, at.0, at.1, falls)) begins_last
 
-        unlooked_why : (acts : List Act) (f : SearchError) (d : Error) → LacksIt acts after (Ok e) → AnswersSearch (λ r. FallsBack after c.config location.working_directory r) (Err f) → d ≡ error_of_search f → OrMemory (λ x. From acts seen (Err x)) d
+        unlooked_why : (acts : List Act) (f : SearchError) (d : Error) → LacksIt acts after.world (Ok e) → AnswersSearch (λ r. FallsBack after.world c.config location.working_directory r) (Err f) → d ≡ error_of_search f → OrMemory (λ x. From acts last.world (Err x)) d
         unlooked_why acts f d at (inl wants) from = inl (from ∙ ap (λ g. error_of_search g) wants)
         unlooked_why acts f d at (inr falls) from =
-            inr (subst (λ w. TriesFrom c told acts w location (Err d)) (sym world) (subst (λ x. TriesFrom c told acts after location (Err x)) (sym from) (TriesFrom.refused told after acts location e f at.0 at.1 falls)))
+            inr (subst (λ w. TriesFrom c before.world acts w location (Err d)) (sym world) (subst (λ x. TriesFrom c before.world acts after.world location (Err x)) (sym from) (TriesFrom.refused before.world after.world acts location e f at.0 at.1 falls)))
 
         -- the search for another is refused
-        pub unlooked : (f : SearchError) (d : Error) → AnswersSearch (λ r. FallsBack after c.config location.working_directory r) (Err f) → d ≡ error_of_search f → last ≡ new ++ search_entries f
-            → PerformsFrom c location told seen kept keeps old last (Err d)
+        pub unlooked : (f : SearchError) (d : Error) → AnswersSearch (λ r. FallsBack after.world c.config location.working_directory r) (Err f) → d ≡ error_of_search f → last.entries ≡ after.entries ++ search_entries f
+            → PerformsFrom c location before last kept keeps (Err d)
         unlooked f d falls from grew =
-            performs_looking LacksIt From Begins Begins told after seen kept keeps old new last e (Err d) lacks_part world
-            (entries_of d, grew ∙ ap (λ es. new ++ es) (sym (ap (λ x. entries_of x) from ∙ same_entries f (next_error after c.config location.working_directory f falls))), ([], tt, refl)) (λ acts at. unlooked_why acts f d at falls from) begins_seen
+            performs_looking LacksIt From Begins Begins before after last kept keeps e (Err d) lacks_part world
+            (entries_of d, grew ∙ ap (λ es. after.entries ++ es) (sym (ap (λ x. entries_of x) from ∙ same_entries f (next_error after.world c.config location.working_directory f falls))), ([], tt, refl)) (λ acts at. unlooked_why acts f d at falls from) begins_last
 
 -- ---- from place to place
 
@@ -158,82 +157,84 @@ Reaches c location place told acts now (Err e) = ⊥
 abbrev pub Anyhow : List Act → Option World → Type 0
 Anyhow acts after = Unit {0}
 
-pub reaches_itself : (c : ConfigRequest) (location : Location) (told : Option World) (kept : List (List ℕ)) (old : List Entry) → Performs (Reaches c location location told) Anyhow told told kept kept old old (Ok tt)
-reaches_itself c location told kept old = performs_answer (Reaches c location location told) Anyhow told told kept old old refl tt tt ([], sym (append-nil old), tt) (λ rest after r tries. tries, λ rest after begins. begins)
+pub reaches_itself : (c : ConfigRequest) (location : Location) (told : Moment) (kept : List (List ℕ)) → Performs (Reaches c location location told.world) Anyhow told told kept kept (Ok tt)
+reaches_itself c location told kept =
+    performs_answer (Reaches c location location told.world) Anyhow told told kept refl tt tt ([], sym (append-nil told.entries), tt) (λ rest after r tries. tries, λ rest after begins. begins)
 
 -- the fall to that place
 abbrev Fell : ConfigRequest → Location → Option World → Location → List Act → Option World → Result (Unit {0}) Error → Type 0
 Fell c place between next acts later (Ok x) = FallsTo c place between acts later next
 Fell c place between next acts later (Err e) = ⊥
 
-module _ (c : ConfigRequest) (location place : Location) (told between after : Option World) (kept keep keeps : List (List ℕ)) (old middle new : List Entry) (p : Performs (Reaches c location place told) Anyhow told between kept keep old middle (Ok tt)) where
+-- what was begun from the next place on was begun from this one on
+begins_behind : (c : ConfigRequest) (place next : Location) (between after : Option World) (more : List Act) → FallsTo c place between more after next
+    → (rest : List Act) (later : Option World) → BeginsFrom c after rest later next → BeginsFrom c between (more ++ rest) later place
+begins_behind c place next between after more (e, at, lack, falls) rest later (before, some, comes, split) =
+    let one : Tried = record { item = Ok place; told = between; acts = more; after = after; answer = Err e; fallback = true } in (
+      one ∷ before,
+      some,
+      ((refl, refl, at), lack, (Ok next, StandsBehind.found place (Ok (Some next)) refl refl falls refl, comes)),
+      ap (λ l. more ++ l) split ∙ sym (append_assoc more (acts_of before) some),
+    )
+
+module _ (c : ConfigRequest) (location place : Location) (before between after : Moment) (kept keep keeps : List (List ℕ)) (p : Performs (Reaches c location place before.world) Anyhow before between kept keep (Ok tt)) where
   -- the answer
-  answer_reached : (r : Result Outline Error) (acts more : List Act) → Reaches c location place told acts between (Ok tt) → Answers (λ x. TriesFrom c between more after place x) r → Answers (λ x. TriesFrom c told (acts ++ more) after location x) r
-  answer_reached (Ok o) acts more reach tries = reach.0 more after (Ok o) tries
+  answer_reached : (r : Result Outline Error) (acts more : List Act) → Reaches c location place before.world acts between.world (Ok tt) → Answers (λ x. TriesFrom c between.world more after.world place x) r → Answers (λ x. TriesFrom c before.world (acts ++ more) after.world location x) r
+  answer_reached (Ok o) acts more reach tries = reach.0 more after.world (Ok o) tries
   answer_reached (Err e) acts more reach (inl wants) = inl wants
-  answer_reached (Err e) acts more reach (inr tries) = inr (reach.0 more after (Err e) tries)
+  answer_reached (Err e) acts more reach (inr tries) = inr (reach.0 more after.world (Err e) tries)
 
-  pub reached : (r : Result Outline Error) → PerformsFrom c place between after keep keeps middle new r → PerformsFrom c location told after kept keeps old new r
+  pub reached : (r : Result Outline Error) → PerformsFrom c place between after keep keeps r → PerformsFrom c location before after kept keeps r
   reached r q =
-      performs_then (Reaches c location place told) (λ acts later x. TriesFrom c between acts later place x) (λ acts later x. TriesFrom c told acts later location x) Anyhow (λ acts later. BeginsFrom c between acts later place) (λ acts later. BeginsFrom c told acts later location) told between after kept keep keeps old middle new tt r p q
-      (λ acts more reach tries. answer_reached r acts more reach tries) (λ acts more reach begins. reach.1 more after begins)
+      performs_then (Reaches c location place before.world) (λ acts later x. TriesFrom c between.world acts later place x) (λ acts later x. TriesFrom c before.world acts later location x) Anyhow (λ acts later. BeginsFrom c between.world acts later place)
+      (λ acts later. BeginsFrom c before.world acts later location) before between after kept keep keeps tt r p q (λ acts more reach tries. answer_reached r acts more reach tries) (λ acts more reach begins. reach.1 more after.world begins)
 
-  -- what is begun from the next place on is begun from this one on
-  begins_behind : (next : Location) (more : List Act) → FallsTo c place between more after next → (rest : List Act) (later : Option World) → BeginsFrom c after rest later next → BeginsFrom c between (more ++ rest) later place
-  begins_behind next more (e, at, lack, falls) rest later (before, some, comes, split) =
-      let one : Tried = record { item = Ok place; told = between; acts = more; after = after; answer = Err e; fallback = true } in (
-        one ∷ before,
-        some,
-        ((refl, refl, at), lack, (Ok next, StandsBehind.found place (Ok (Some next)) refl refl falls refl, comes)),
-        ap (λ l. more ++ l) split ∙ sym (append_assoc more (acts_of before) some),
-      )
-
-  next_reached : (next : Location) (acts more : List Act) → Reaches c location place told acts between (Ok tt) → FallsTo c place between more after next → Reaches c location next told (acts ++ more) after (Ok tt)
+  next_reached : (next : Location) (acts more : List Act) → Reaches c location place before.world acts between.world (Ok tt) → FallsTo c place between.world more after.world next → Reaches c location next before.world (acts ++ more) after.world (Ok tt)
   next_reached next acts more reach falls = (
     λ rest later r tries.
-        subst (λ l. TriesFrom c told l later location r) (sym (append_assoc acts more rest)) (reach.0 (more ++ rest) later r (TriesFrom.falls between after later (more ++ rest) more rest place next falls.0 r falls.1 falls.2 falls.3 tries refl)),
-    λ rest later begins. subst (λ l. BeginsFrom c told l later location) (sym (append_assoc acts more rest)) (reach.1 (more ++ rest) later (begins_behind next more falls rest later begins)),
+        subst (λ l. TriesFrom c before.world l later location r) (sym (append_assoc acts more rest)) (reach.0 (more ++ rest) later r (TriesFrom.falls between.world after.world later (more ++ rest) more rest place next falls.0 r falls.1 falls.2 falls.3 tries refl)),
+    λ rest later begins. subst (λ l. BeginsFrom c before.world l later location) (sym (append_assoc acts more rest)) (reach.1 (more ++ rest) later (begins_behind c place next between.world after.world more falls rest later begins)),
   )
 
   -- the next place
-  pub reaches_next : (next : Location) → PerformsFall c place between after keep keeps middle new next → Performs (Reaches c location next told) Anyhow told after kept keeps old new (Ok tt)
+  pub reaches_next : (next : Location) → PerformsFall c place between after keep keeps next → Performs (Reaches c location next before.world) Anyhow before after kept keeps (Ok tt)
   reaches_next next q =
-      performs_then (Reaches c location place told) (Fell c place between next) (Reaches c location next told) Anyhow Anyhow Anyhow told between after kept keep keeps old middle new tt (Ok tt) p
-      (performs_as (FallsOn c place between) (Fell c place between next) (λ acts later. BeginsFrom c between acts later place) Anyhow between after keep keeps middle new next tt q (λ acts falls. falls) (λ acts b. tt))
+      performs_then (Reaches c location place before.world) (Fell c place between.world next) (Reaches c location next before.world) Anyhow Anyhow Anyhow before between after kept keep keeps tt (Ok tt) p
+      (performs_as (FallsOn c place between.world) (Fell c place between.world next) (λ acts later. BeginsFrom c between.world acts later place) Anyhow between after keep keeps next tt q (λ acts falls. falls) (λ acts b. tt))
       (λ acts more reach falls. next_reached next acts more reach falls) (λ acts more reach b. tt)
 
 -- ---- names that may be missing
 
-module _ (q : LocatedRequest) (told after : Option World) (kept keeps : List (List ℕ)) (old new : List Entry) where
+module _ (q : LocatedRequest) (before after : Moment) (kept keeps : List (List ℕ)) where
   abbrev FromPlace : List Act → Option World → Result Outline Error → Type 0
-  FromPlace acts later r = TriesFrom (record { config = q.config; environ = q.environ }) told acts later q.location r
+  FromPlace acts later r = TriesFrom (record { config = q.config; environ = q.environ }) before.world acts later q.location r
 
   abbrev BeginsPlace : List Act → Option World → Type 0
-  BeginsPlace acts later = BeginsTries told acts later q
+  BeginsPlace acts later = BeginsTries before.world acts later q
 
   abbrev TriesIt : List Act → Option World → Result Outline Error → Type 0
-  TriesIt acts later r = Tries told acts later q r
+  TriesIt acts later r = Tries before.world acts later q r
 
   -- the answer of the climb is that of the first of those that are tried
-  first : (acts : List Act) (r : Result Outline Error) → FromPlace acts after r → IsFirstAnswer (record { config = q.config; environ = q.environ }) told acts after q.location r
-  first acts r from = first_of_climb (record { config = q.config; environ = q.environ }) told acts after q.location r from
+  first : (acts : List Act) (r : Result Outline Error) → FromPlace acts after.world r → IsFirstAnswer (record { config = q.config; environ = q.environ }) before.world acts after.world q.location r
+  first acts r from = first_of_climb (record { config = q.config; environ = q.environ }) before.world acts after.world q.location r from
 
-  pub tries_planned : (o : Outline) → Performs FromPlace BeginsPlace told after kept keeps old new (Ok o) → PerformsTries q told after kept keeps old new (Ok o)
-  tries_planned o p = performs_as FromPlace TriesIt BeginsPlace BeginsPlace told after kept keeps old new o o p (λ acts from. (Ok o, first acts (Ok o) from, refl)) (λ acts b. b)
+  pub tries_planned : (o : Outline) → Performs FromPlace BeginsPlace before after kept keeps (Ok o) → PerformsTries q before after kept keeps (Ok o)
+  tries_planned o p = performs_as FromPlace TriesIt BeginsPlace BeginsPlace before after kept keeps o o p (λ acts from. (Ok o, first acts (Ok o) from, refl)) (λ acts b. b)
 
-  module _ (e : Error) (may : Bool) (is : may ≡ (q.config.allow_missing && is_missing e)) (p : Performs FromPlace BeginsPlace told after kept keeps old new (Err e)) where
-    allowed_so : (acts : List Act) → may ≡ true → (o : Outline) → o ≡ empty_outline q.config → OrMemory (λ x. FromPlace acts after (Err x)) e → TriesIt acts after (Ok o)
+  module _ (e : Error) (may : Bool) (is : may ≡ (q.config.allow_missing && is_missing e)) (p : Performs FromPlace BeginsPlace before after kept keeps (Err e)) where
+    allowed_so : (acts : List Act) → may ≡ true → (o : Outline) → o ≡ empty_outline q.config → OrMemory (λ x. FromPlace acts after.world (Err x)) e → TriesIt acts after.world (Ok o)
     allowed_so acts so o nothing (inl wants) = absurd (memory_there e wants (and_true q.config.allow_missing (is_missing e) (sym is ∙ so)).1)
     allowed_so acts so o nothing (inr from) = (Err e, first acts (Err e) from, ap (λ x. Ok x) nothing ∙ ap (λ b. if b then Ok (empty_outline q.config) else Err e) (sym so ∙ is))
 
-    pub tries_allowed : may ≡ true → (o : Outline) → o ≡ empty_outline q.config → PerformsTries q told after kept keeps old new (Ok o)
+    pub tries_allowed : may ≡ true → (o : Outline) → o ≡ empty_outline q.config → PerformsTries q before after kept keeps (Ok o)
     tries_allowed so o nothing =
         let missing : is_missing e ≡ true = (and_true q.config.allow_missing (is_missing e) (sym is ∙ so)).1 in
-        performs_instead FromPlace TriesIt BeginsPlace BeginsPlace told after kept keeps old new e o (λ parent. missing_in parent e missing) (missing_captured e missing) p (λ acts from. allowed_so acts so o nothing from) (λ acts b. b)
+        performs_instead FromPlace TriesIt BeginsPlace BeginsPlace before after kept keeps e o (λ parent. missing_in parent e missing) (missing_captured e missing) p (λ acts from. allowed_so acts so o nothing from) (λ acts b. b)
 
-    refused_so : (acts : List Act) → may ≡ false → OrMemory (λ x. FromPlace acts after (Err x)) e → OrMemory (λ x. TriesIt acts after (Err x)) e
+    refused_so : (acts : List Act) → may ≡ false → OrMemory (λ x. FromPlace acts after.world (Err x)) e → OrMemory (λ x. TriesIt acts after.world (Err x)) e
     refused_so acts stays (inl wants) = inl wants
     refused_so acts stays (inr from) = inr (Err e, first acts (Err e) from, ap (λ b. if b then Ok (empty_outline q.config) else Err e) (sym stays ∙ is))
 
-    pub tries_refused : may ≡ false → PerformsTries q told after kept keeps old new (Err e)
-    tries_refused stays = performs_lost FromPlace TriesIt BeginsPlace BeginsPlace told after kept keeps old new e p (λ acts from. refused_so acts stays from) (λ acts b. b)
+    pub tries_refused : may ≡ false → PerformsTries q before after kept keeps (Err e)
+    tries_refused stays = performs_lost FromPlace TriesIt BeginsPlace BeginsPlace before after kept keeps e p (λ acts from. refused_so acts stays from) (λ acts b. b)

@@ -1,7 +1,7 @@
 -- What is asked of a host, and the answer that was found to it.
 use Rattle.std.specs.Prelude.{ℕ, ◌≡◌, ◌⊎◌, Bool, true, List, Option, Result, Ok, Err, IfErr, MatchOption}
 use Rattle.just_host_record.specs.declared.entry.Entry.{Entry}
-use Rattle.just_host_record.specs.World.{World}
+use Rattle.just_host_record.specs.World.{World, Moment}
 use Rattle.just_exec.specs.declared.error.Error.{Error}
 use Rattle.just_exec.specs.declared.error.Error.TheVariants as error
 use Rattle.just_cli_plan.specs.Own.{is_fault, is_too_big, is_uncaptured, IsOwn}
@@ -74,8 +74,13 @@ pub record IsFound (q : Asking) (told : Option World) (listings : List Entry) (a
 
 -- ---- how a run is served
 
--- Over a told world a run that is asked for with these acts ends well, where no listing for the user's own justfile failed, unless memory is wanting, a
--- pattern is too big, or the record shows what stood against it.
-abbrev pub IsServed : Asking → Option World → List Entry → List Act → Option World → Option ℕ → Result Report Failure → List Entry → List Entry → Type 0
-IsServed q told listings acts after jobs result old new =
-    MatchOption told (Unit {0}) (λ w. NoneFailed listings → (o : Outline) → AsksIn q acts (Ok (Asked.run o)) → IfErr result (λ f. ∥ (f.error ≡ error.NoMemory) ⊎ (IsTooBig q listings acts after f.error ⊎ Hindered listings acts f jobs old new) ∥₁))
+-- what stood against a run between these moments, whose preparation ended at the second: memory is wanting, a pattern is too big, or the record shows it
+abbrev pub StoodAgainst : Asking → List Entry → List Act → Option ℕ → Moment → Moment → Moment → Failure → Type 0
+StoodAgainst q listings acts jobs before between after f =
+    (f.error ≡ error.NoMemory) ⊎ (IsTooBig q listings acts between.world f.error ⊎ Hindered listings acts f jobs before.entries after.entries)
+
+-- Over a told world a run that is asked for with these acts ends well, where no listing for the user's own justfile failed, unless something stood against it.
+abbrev pub IsServed : Asking → List Entry → List Act → Option ℕ → Moment → Moment → Moment → Result Report Failure → Type 0
+IsServed q listings acts jobs before between after result =
+    MatchOption before.world (Unit {0}) (λ w.
+    NoneFailed listings → (o : Outline) → AsksIn q acts (Ok (Asked.run o)) → IfErr result (λ f. ∥ StoodAgainst q listings acts jobs before between after f ∥₁))

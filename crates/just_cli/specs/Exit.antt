@@ -4,6 +4,7 @@ use Rattle.just_host_record.specs.declared.entry.Entry.{Entry}
 use Rattle.just_cli.specs.declared.ended.Failure.{Failure}
 use Rattle.just_cli.specs.declared.ended.Report.{Report}
 use Rattle.just_cli.specs.Run.{IsEnded}
+use Rattle.just_cli.specs.Words.{told_with}
 
 -- a code as a status that tells a failure: the code itself, and 1 where it is none of 1 to 255
 abbrev pub status_of_code : ℤ → ℕ
@@ -18,6 +19,6 @@ status_of (Err f) = status_of_code f.code
 -- The exit status of a program whose words behind its name are these, and the record that its run left: that of the run that left it, over a host that
 -- tells no world and had no record before; or 125, for want of memory, where there is no host.
 pub data IsStatus (words : List (List ℕ)) (record_left : Option (List Entry)) (status : ℕ) : Type 0 where
-  of_run : (result : Result Report Failure) (new : List Entry) → record_left ≡ Some new → IsEnded words None None [] new result → status ≡ status_of result
+  of_run : (result : Result Report Failure) (new : List Entry) → record_left ≡ Some new → IsEnded words (told_with None []) (told_with None new) result → status ≡ status_of result
       → IsStatus words record_left status
   no_memory : record_left ≡ None → status ≡ 125 → IsStatus words record_left status

@@ -1,7 +1,7 @@
 -- What is done for words that ask for no run.
-use Rattle.std.specs.Prelude.{◌≡◌, Bool, List, Option, Result}
+use Rattle.std.specs.Prelude.{◌≡◌, Bool, List, Result}
 use Rattle.just_host_record.specs.declared.entry.Entry.{Entry}
-use Rattle.just_host_record.specs.World.{World}
+use Rattle.just_host_record.specs.World.{Moment}
 use Rattle.just_config.specs.declared.help.TheConstants.{HELP}
 use Rattle.just_env.specs.Answers.{GainsMisses}
 use Rattle.just_cli.specs.declared.ended.Failure.{Failure}
@@ -12,10 +12,10 @@ use Rattle.just_cli.specs.Questions.{version_line, IsShown}
 use Rattle.just_cli.specs.Written.{IsWritten}
 
 -- a text is printed, or a new justfile written; the line that tells of it isn't told where the words ask for quiet
-abbrev pub Does : Other → Bool → Option World → Option World → List Entry → List Entry → Result Report Failure → Type 0
-Does no_run.Help quiet told after old new result = IsShown HELP.now told after old new result
-Does no_run.Version quiet told after old new result = IsShown version_line told after old new result
-Does (no_run.Init path) quiet told after old new result = IsWritten path quiet told after old new result
+abbrev pub Does : Other → Bool → Moment → Moment → Result Report Failure → Type 0
+Does no_run.Help quiet before after result = IsShown HELP.now before after result
+Does no_run.Version quiet before after result = IsShown version_line before after result
+Does (no_run.Init path) quiet before after result = IsWritten path quiet before after result
 
 -- quiet is asked for so, where it is asked for at all: the help and the version are printed all the same
 abbrev pub HeedsQuiet : (Bool → Type 0) → Other → Bool → Type 0

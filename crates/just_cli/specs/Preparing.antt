@@ -5,9 +5,10 @@ use Rattle.std.specs.Int.NonZero.{non_zero_u64_get}
 use Rattle.std.specs.declared.num.NonZeroU64.{NonZeroU64}
 use Rattle.just_host_record.specs.declared.entry.Entry.{Entry}
 use Rattle.just_host_record.specs.Record.{is_missed, is_failed}
-use Rattle.just_host_record.specs.World.{World}
+use Rattle.just_host_record.specs.World.{World, Moment}
 use Rattle.just_sched_history.specs.declared.plan.Plan.{Plan}
 use Rattle.just_sched_history.specs.declared.plan_node.PlanNode.{PlanNode}
+use Rattle.just_search.specs.Removals.{with_entries}
 use Rattle.just_exec.specs.declared.error.Error.{Error}
 use Rattle.just_cli_plan.specs.Own.{OrMemory, is_uncaptured}
 use Rattle.just_cli_plan.specs.Request.{Outline, outline_of}
@@ -48,23 +49,26 @@ abbrev pub UnlessUncaptured : {A : Type 0} → Result A Error → Type 0 → Typ
 UnlessUncaptured (Ok x) claim = claim
 UnlessUncaptured (Err e) claim = is_uncaptured e ≡ false → claim
 
--- A part of a preparation takes these acts, over a host that tells the first world before and the second behind: it answers what is given with them, or
--- want of memory, and was begun by them; its temporary folders are kept behind those that were kept; its record gains what it leaves; and where no child was run to its end and no call
--- failed, a told world is as it was, but for paths at or below these folders.
-pub record Performs {A : Type 0} (gives : List Act → Option World → Result A Error → Type 0) (begins : List Act → Option World → Type 0) (told after : Option World) (kept keeps : List (List ℕ)) (old new : List Entry) (r : Result A Error) : Type 0 where
+-- A part of a preparation takes these acts between two moments: it answers what is given with them, or want of memory, and was begun by them; its
+-- temporary folders are kept behind those that were kept; its record gains what it leaves; and where no child was run to its end and no call failed, a told
+-- world is as it was, but for paths at or below these folders.
+pub record Performs {A : Type 0} (gives : List Act → Option World → Result A Error → Type 0) (begins : List Act → Option World → Type 0)
+    (before after : Moment) (kept keeps : List (List ℕ)) (r : Result A Error) : Type 0 where
   pub acts : List Act
   pub entries : List Entry
-  pub grew : new ≡ old ++ entries
+  pub grew : after.entries ≡ before.entries ++ entries
   pub leaves : Leaves [] acts r entries
   pub folders : keeps ≡ kept ++ folders_in acts
-  pub answers : Answers (gives acts after) r
-  pub begun : UnlessUncaptured r (begins acts after)
-  pub still : acts ≡ [] → list_any is_failed entries ≡ false → after ≡ told
-  pub alters : (nodes : List PlanNode) → captures_in acts ≡ [] → list_any is_failed entries ≡ false → IsAltered (folders_in acts) nodes told after
+  pub answers : Answers (gives acts after.world) r
+  pub begun : UnlessUncaptured r (begins acts after.world)
+  pub still : acts ≡ [] → list_any is_failed entries ≡ false → after.world ≡ before.world
+  pub alters : (nodes : List PlanNode) → captures_in acts ≡ [] → list_any is_failed entries ≡ false → IsAltered (folders_in acts) nodes before.world after.world
 
 -- the same behind listings that were passed over
-abbrev pub Prepares : {A : Type 0} → Type 0 → (List Entry → List Act → Option World → Result A Error → Type 0) → (List Entry → List Act → Option World → Type 0) → Option World → Option World → List (List ℕ) → List (List ℕ) → List Entry → List Entry → Result A Error → Type 0
-Prepares global asks begins told after kept keeps old new r = (listings : List Entry) × ArePassed global listings × Performs (asks listings) (begins listings) told after kept keeps (old ++ listings) new r
+abbrev pub Prepares : {A : Type 0} → Type 0 → (List Entry → List Act → Option World → Result A Error → Type 0) → (List Entry → List Act → Option World → Type 0)
+    → Moment → Moment → List (List ℕ) → List (List ℕ) → Result A Error → Type 0
+Prepares global asks begins before after kept keeps r =
+    (listings : List Entry) × ArePassed global listings × Performs (asks listings) (begins listings) (with_entries before listings) after kept keeps r
 
 -- a plan, its job limit, if it has one, and of each node whether the message of its exit code is told, as they are asked for
 abbrev pub outlined : Result (Plan × Option NonZeroU64 × List Bool) Error → Result Outline Error

@@ -1,11 +1,11 @@
 -- What is printed for words that ask for the help or the version.
-use Rattle.std.specs.Prelude.{ℕ, ◌≡◌, ◌++◌, false, List, [], ◌∷◌, codes, Option, None, Result, IfOk, IfErr}
+use Rattle.std.specs.Prelude.{ℕ, ◌≡◌, ◌++◌, false, List, [], ◌∷◌, codes, None, Result, IfOk, IfErr}
 use Rattle.just_host_record.specs.declared.entry.Call.TheVariants as call
 use Rattle.just_host_record.specs.declared.entry.Entry.{Entry}
 use Rattle.just_host_record.specs.declared.entry.Entry.TheVariants as entry
 use Rattle.just_host_record.specs.declared.entry.HostFault.TheVariants as fault
 use Rattle.just_host_record.specs.declared.entry.Stream.TheVariants as stream
-use Rattle.just_host_record.specs.World.{World}
+use Rattle.just_host_record.specs.World.{Moment}
 use Rattle.just_config.specs.Versions.{version_text}
 use Rattle.just_cli.specs.declared.ended.Failure.{Failure}
 use Rattle.just_cli.specs.declared.ended.Report.{Report}
@@ -27,7 +27,7 @@ abbrev pub IsUnshown : Failure → List Entry → List Entry → Type 0
 IsUnshown f old new = (f.plan ≡ None) × (f.history ≡ []) × (f.code ≡ exit_code f.error) × OrMemory (λ x. x ≡ error.StdoutIo (fault.Failed call.Print)) f.error × EndsBefore [] false f.error old new
 
 -- the text is printed once to standard output, and the told world stays
-pub record IsShown (text : List ℕ) (told after : Option World) (old new : List Entry) (result : Result Report Failure) : Type 0 where
-  pub shown : IfOk result (λ r. IsNothing r × (new ≡ old ++ entry.Printed stream.Out text ∷ []))
-  pub unshown : IfErr result (λ f. IsUnshown f old new)
-  pub world : after ≡ told
+pub record IsShown (text : List ℕ) (before after : Moment) (result : Result Report Failure) : Type 0 where
+  pub shown : IfOk result (λ r. IsNothing r × (after.entries ≡ before.entries ++ entry.Printed stream.Out text ∷ []))
+  pub unshown : IfErr result (λ f. IsUnshown f before.entries after.entries)
+  pub world : after.world ≡ before.world

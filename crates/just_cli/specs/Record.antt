@@ -6,7 +6,7 @@ use Rattle.just_host_record.specs.declared.entry.Entry.{Entry}
 use Rattle.just_host_record.specs.declared.entry.Entry.TheVariants as entry
 use Rattle.just_host_record.specs.declared.entry.Stream.TheVariants as stream
 use Rattle.just_host_record.specs.Record.{is_failed, is_missed, is_started}
-use Rattle.just_host_record.specs.World.{World}
+use Rattle.just_host_record.specs.World.{Moment}
 use Rattle.just_sched_history.specs.declared.event.Event.{Event}
 use Rattle.just_sched_history.specs.declared.event.Verdict.{Verdict}
 use Rattle.just_sched_history.specs.declared.plan.Plan.{Plan}
@@ -16,11 +16,11 @@ use Rattle.just_sched_history.specs.Favourable.{IsFavourable}
 use Rattle.just_sched_history.specs.Idle.{HasWork}
 use Rattle.just_sched_history.specs.Legal.{Run, IsLegal, IsClosed, IsComplete}
 use Rattle.just_sched_history.specs.Match.{Matches}
-use Rattle.just_sched_history.specs.Start.{run_over}
+use Rattle.just_sched_history.specs.Start.{run_over, start_with, IsKept}
 use Rattle.just_sched_history.specs.State.{has_caught}
 use Rattle.just_sched_history.specs.Verdict.{IsVerdict, NoneDecides}
 use Rattle.just_cli_plan.specs.Caused.{IsCaused}
-use Rattle.just_search.specs.Removals.{RemovesAll, RemovesSome, InTurn, TriesFolder}
+use Rattle.just_search.specs.Removals.{with_entries, RemovesAll, RemovesSome, InTurn, TriesFolder}
 use Rattle.just_cli.specs.Acts.{Act, folders_in}
 use Rattle.just_cli_plan.specs.Own.{is_fault, is_uncaptured}
 use Rattle.just_cli_plan.specs.Outcome.{IsErrorFor}
@@ -48,23 +48,22 @@ IsTold quiet e es = ((tells quiet e ≡ true) × IsPrinted e es) ⊎ ((tells qui
 
 -- to remove each of these folders is tried, with what stands in it, or the first of them where memory is wanting: what that makes of a told world and leaves
 -- in the record
-abbrev pub Removes : List (List ℕ) → Option World → List Entry → Option World → List Entry → Type 0
-Removes folders told old after new =
-    (RemovesAll told old folders after new × InTurn TriesFolder told old folders after new) ⊎ RemovesSome told old folders after new
+abbrev pub Removes : List (List ℕ) → Moment → Moment → Type 0
+Removes folders before after = (RemovesAll before folders after × InTurn TriesFolder before folders after) ⊎ RemovesSome before folders after
 
 -- misses and failures alone
 abbrev pub AreRefusals : List Entry → Type 0
 AreRefusals es = AllByRecursion (λ e. (is_missed e || is_failed e) ≡ true) es
 
--- What stands behind the book's stretch: the entry of the error that is told, if one is, and behind it misses and failures alone, as the temporary
--- folders are removed. The first world was told when the book was closed, the second is told then.
-pub record EndsBehind (folders : List (List ℕ)) (tells : List Entry → Type 0) (settled after : Option World) (old post : List Entry) : Type 0 where
+-- What stands behind the moment when the book was closed: the entry of the error that is told, if one is, and behind it misses and failures alone, as the
+-- temporary folders are removed.
+pub record EndsBehind (folders : List (List ℕ)) (tells : List Entry → Type 0) (settled after : Moment) : Type 0 where
   pub first : List Entry
   pub refusals : List Entry
-  pub grew : post ≡ first ++ refusals
+  pub grew : after.entries ≡ settled.entries ++ (first ++ refusals)
   pub told_error : tells first
   pub are : AreRefusals refusals
-  pub removed : Removes folders settled (old ++ first) after (old ++ post)
+  pub removed : Removes folders (with_entries settled first) after
 
 abbrev pub is_captured : Entry → Bool
 is_captured (entry.Missed path m) = false
@@ -94,46 +93,49 @@ pub record IsBook (s : Run) (h : List Event) (mid : List Entry) : Type 0 where
   pub closed : IsClosed s h
   pub matches : Matches s h mid
 
+-- the record gained entries of which that holds
+abbrev pub Gains : (List Entry → Type 0) → Moment → Moment → Type 0
+Gains holds before after = (es : List Entry) × (after.entries ≡ before.entries ++ es) × holds es
+
 -- each cached body went by the cache rule
 abbrev pub GoByCacheRule : Run → List Event → Type 0
 GoByCacheRule s h = (n : ℕ) → is_cached s.nodes n ≡ true → GoesByCacheRule s h n
 
--- A run that ended well: behind the listings, the acts and the misses of its preparation the record gained just the entries of its history, which is
--- legal and complete: no node failed, and each was run to its end, or skipped: a cached body exactly where the look at its entry was full. Behind these
--- the temporary folders were removed.
-pub record EndsWell (listings : List Entry) (acts : List Act) (plan : Plan) (jobs : Option ℕ) (h : List Event) (settled after : Option World) (old new : List Entry) : Type 0 where
-  pub stretches : Stretches old new
-  pub prepared : LeavesActs listings acts stretches.pre
-  pub book : IsBook (run_over plan jobs (old ++ stretches.pre)) h stretches.mid
-  pub well : NoneDecides (run_over plan jobs (old ++ stretches.pre)) h
-  pub complete : IsComplete (run_over plan jobs (old ++ stretches.pre)) h
-  pub cached : GoByCacheRule (run_over plan jobs (old ++ stretches.pre)) h
+-- A run that ended well: behind the listings, the acts and the misses of its preparation its book was opened, and closed when the record had gained just the
+-- entries of its history, which is legal and complete: no node failed, and each was run to its end, or skipped: a cached body exactly where the look at its
+-- entry was full. Behind these the temporary folders were removed.
+pub record EndsWell (listings : List Entry) (acts : List Act) (plan : Plan) (jobs : Option ℕ) (h : List Event) (before opened settled after : Moment) : Type 0 where
+  pub prepared : Gains (LeavesActs listings acts) before opened
+  pub kept : IsKept (start_with plan jobs opened) h settled
+  pub closed : IsClosed (run_over plan jobs opened.entries) h
+  pub well : NoneDecides (run_over plan jobs opened.entries) h
+  pub complete : IsComplete (run_over plan jobs opened.entries) h
+  pub cached : GoByCacheRule (run_over plan jobs opened.entries) h
   pub skipped : (n : ℕ) → n < length plan.nodes → is_cached plan.nodes n ≡ true → IsSkippedByLook plan.nodes h n
-  pub behind : EndsBehind (folders_in acts) (λ es. es ≡ []) settled after (old ++ (stretches.pre ++ stretches.mid)) stretches.post
+  pub behind : EndsBehind (folders_in acts) (λ es. es ≡ []) settled after
 
 -- A run that failed: its error is that of the history's verdict, and the record shows its cause; a favourable record shows
 -- none. A signal was caught, or nothing was left to do, so it didn't stop at its first failure. Behind the entries of its
 -- history the error was told, and the temporary folders were removed.
-pub record EndsIll (listings : List Entry) (acts : List Act) (plan : Plan) (jobs : Option ℕ) (messages : List Bool) (quiet : Bool) (h : List Event) (e : Error) (settled after : Option World) (old new : List Entry) : Type 0 where
-  pub stretches : Stretches old new
-  pub prepared : LeavesActs listings acts stretches.pre
-  pub book : IsBook (run_over plan jobs (old ++ stretches.pre)) h stretches.mid
+pub record EndsIll (listings : List Entry) (acts : List Act) (plan : Plan) (jobs : Option ℕ) (messages : List Bool) (quiet : Bool) (h : List Event) (e : Error)
+    (before opened settled after : Moment) : Type 0 where
+  pub prepared : Gains (LeavesActs listings acts) before opened
+  pub kept : IsKept (start_with plan jobs opened) h settled
+  pub closed : IsClosed (run_over plan jobs opened.entries) h
   pub verdict : Verdict
-  pub judged : IsVerdict (run_over plan jobs (old ++ stretches.pre)) h verdict
+  pub judged : IsVerdict (run_over plan jobs opened.entries) h verdict
   pub decided : IsErrorFor plan.nodes messages h verdict (Some e)
-  pub cached : GoByCacheRule (run_over plan jobs (old ++ stretches.pre)) h
-  pub nothing_left : (has_caught h ≡ true) ⊎ (HasWork (run_over plan jobs (old ++ stretches.pre)) h → ⊥)
-  pub caused : IsCaused plan.nodes h e stretches.mid
-  pub favoured : IsFavourable stretches.mid → e ≡ error.NoMemory
-  pub behind : EndsBehind (folders_in acts) (IsTold quiet e) settled after (old ++ (stretches.pre ++ stretches.mid)) stretches.post
+  pub cached : GoByCacheRule (run_over plan jobs opened.entries) h
+  pub nothing_left : (has_caught h ≡ true) ⊎ (HasWork (run_over plan jobs opened.entries) h → ⊥)
+  pub caused : IsCaused plan.nodes h e kept.gained
+  pub favoured : IsFavourable kept.gained → e ≡ error.NoMemory
+  pub behind : EndsBehind (folders_in acts) (IsTold quiet e) settled after
 
--- A run that was refused before its book: behind listings, acts and misses the entry of the refused call; the error was told, and the temporary folders
--- were removed.
-pub record EndsUnopened (listings : List Entry) (acts : List Act) (quiet : Bool) (e : Error) (settled after : Option World) (old new : List Entry) : Type 0 where
-  pub stretches : Stretches old new
-  pub prepared : EndsActs listings acts e stretches.pre
-  pub unopened : stretches.mid ≡ []
-  pub behind : EndsBehind (folders_in acts) (IsTold quiet e) settled after (old ++ (stretches.pre ++ stretches.mid)) stretches.post
+-- A run that was refused before its book was opened: behind listings, acts and misses the entry of the refused call; the error was told, and the temporary
+-- folders were removed.
+pub record EndsUnopened (listings : List Entry) (acts : List Act) (quiet : Bool) (e : Error) (before between after : Moment) : Type 0 where
+  pub prepared : Gains (EndsActs listings acts e) before between
+  pub behind : EndsBehind (folders_in acts) (IsTold quiet e) between after
 
 -- A refusal before the book, where no run is asked for: behind listings and misses the entry of the refused call, and the error was told.
 pub record EndsBefore (listings : List Entry) (quiet : Bool) (e : Error) (old new : List Entry) : Type 0 where
@@ -145,5 +147,5 @@ pub record EndsBefore (listings : List Entry) (quiet : Bool) (e : Error) (old ne
 -- What a record shows that stood against a run: before its book a failed call of the host, or a child that couldn't be run to its end; or in the stretch
 -- of its book an entry that isn't favourable.
 pub data Hindered (listings : List Entry) (acts : List Act) (f : Failure) (jobs : Option ℕ) (old new : List Entry) : Type 0 where
-  before : (s : Stretches old new) → f.plan ≡ None → (is_fault f.error || is_uncaptured f.error) ≡ true → EndsActs listings acts f.error s.pre → s.mid ≡ [] → Hindered listings acts f jobs old new
-  within : (p : Plan) (s : Stretches old new) → f.plan ≡ Some p → LeavesActs listings acts s.pre → IsBook (run_over p jobs (old ++ s.pre)) f.history s.mid → (IsFavourable s.mid → ⊥) → Hindered listings acts f jobs old new
+  before_book : (s : Stretches old new) → f.plan ≡ None → (is_fault f.error || is_uncaptured f.error) ≡ true → EndsActs listings acts f.error s.pre → s.mid ≡ [] → Hindered listings acts f jobs old new
+  in_book : (p : Plan) (s : Stretches old new) → f.plan ≡ Some p → LeavesActs listings acts s.pre → IsBook (run_over p jobs (old ++ s.pre)) f.history s.mid → (IsFavourable s.mid → ⊥) → Hindered listings acts f jobs old new

@@ -1,13 +1,12 @@
 -- The file of a justfile in a place, as a part of a preparation.
 use Rattle.std.specs.Prelude.{ℕ, ◌≡◌, ◌&&◌, ◌++◌, Bool, true, false, List, [], ◌∷◌, Option, Some, None, Result, Ok, Err}
 use Rattle.just_path_text.specs.declared.environ.Environ.{Environ}
-use Rattle.just_host_record.specs.World.{World}
+use Rattle.just_host_record.specs.World.{World, Moment}
 use Rattle.just_config.specs.declared.config.Config.{Config}
 use Rattle.just_search.specs.declared.location.Location.{Location}
 use Rattle.just_exec.specs.declared.error.Error.{Error}
 use Rattle.just_cli_plan.specs.declared.wanted.Wanted.{Wanted}
 use Rattle.just_cli.specs.Acts.{Act}
-use Rattle.just_host_record.specs.declared.entry.Entry.{Entry}
 use Rattle.just_env.specs.declared.search_error.SearchError.{SearchError}
 use Rattle.just_search.specs.Fallback.{FallsBack}
 use Rattle.just_exec.specs.Refusals.{error_of_search}
@@ -37,8 +36,8 @@ abbrev pub BeginsIt : Wanted → Environ → Justfile → Option World → List 
 BeginsIt wanted environ j told acts after = (modules : List Justfile) → BeginsPairs told acts after (record { wanted = wanted; environ = environ; justfile = j; modules = modules })
 
 -- it makes no temporary folder
-abbrev pub PerformsPlan : Wanted → Environ → Justfile → Option World → Option World → List Entry → List Entry → Result Outline Error → Type 0
-PerformsPlan wanted environ j told after old new r = Performs (PlansIt wanted environ j told) (BeginsIt wanted environ j told) told after [] [] old new r
+abbrev pub PerformsPlan : Wanted → Environ → Justfile → Moment → Moment → Result Outline Error → Type 0
+PerformsPlan wanted environ j before after r = Performs (PlansIt wanted environ j before.world) (BeginsIt wanted environ j before.world) before after [] [] r
 
 -- ---- the justfiles that are tried, as parts of a preparation
 
@@ -56,8 +55,9 @@ pub data TriesFrom (c : ConfigRequest) : Option World → List Act → Option Wo
       → TriesFrom c between rest after next r → acts ≡ front ++ rest → TriesFrom c told acts after location r
 
 -- what is asked of them from a place on
-abbrev pub PerformsFrom : ConfigRequest → Location → Option World → Option World → List (List ℕ) → List (List ℕ) → List Entry → List Entry → Result Outline Error → Type 0
-PerformsFrom c location told after kept keeps old new r = Performs (λ acts later x. TriesFrom c told acts later location x) (λ acts later. BeginsFrom c told acts later location) told after kept keeps old new r
+abbrev pub PerformsFrom : ConfigRequest → Location → Moment → Moment → List (List ℕ) → List (List ℕ) → Result Outline Error → Type 0
+PerformsFrom c location before after kept keeps r =
+    Performs (λ acts later x. TriesFrom c before.world acts later location x) (λ acts later. BeginsFrom c before.world acts later location) before after kept keeps r
 
 -- the justfile in a place sets fallback and lacks what is asked for, and the next one is tried
 abbrev pub FallsTo : ConfigRequest → Location → Option World → List Act → Option World → Location → Type 0
@@ -68,9 +68,11 @@ abbrev pub FallsOn : ConfigRequest → Location → Option World → List Act �
 FallsOn c location told acts after (Ok next) = FallsTo c location told acts after next
 FallsOn c location told acts after (Err e) = ⊥
 
-abbrev pub PerformsFall : ConfigRequest → Location → Option World → Option World → List (List ℕ) → List (List ℕ) → List Entry → List Entry → Location → Type 0
-PerformsFall c location told after kept keeps old new next = Performs (FallsOn c location told) (λ acts later. BeginsFrom c told acts later location) told after kept keeps old new (Ok next)
+abbrev pub PerformsFall : ConfigRequest → Location → Moment → Moment → List (List ℕ) → List (List ℕ) → Location → Type 0
+PerformsFall c location before after kept keeps next =
+    Performs (FallsOn c location before.world) (λ acts later. BeginsFrom c before.world acts later location) before after kept keeps (Ok next)
 
 -- what is asked of them, which the words may allow
-abbrev pub PerformsTries : LocatedRequest → Option World → Option World → List (List ℕ) → List (List ℕ) → List Entry → List Entry → Result Outline Error → Type 0
-PerformsTries q told after kept keeps old new r = Performs (λ acts later x. Tries told acts later q x) (λ acts later. BeginsTries told acts later q) told after kept keeps old new r
+abbrev pub PerformsTries : LocatedRequest → Moment → Moment → List (List ℕ) → List (List ℕ) → Result Outline Error → Type 0
+PerformsTries q before after kept keeps r =
+    Performs (λ acts later x. Tries before.world acts later q x) (λ acts later. BeginsTries before.world acts later q) before after kept keeps r

@@ -2,7 +2,7 @@
 use Rattle.std.specs.Prelude.{ℕ, ◌≡◌, ◌≢◌, ◌++◌, List, [], map, Option, Some, None, Result, Ok, Err}
 use Rattle.just_path_text.specs.declared.environ.Environ.{Environ}
 use Rattle.just_host_record.specs.declared.entry.Entry.{Entry}
-use Rattle.just_host_record.specs.World.{World}
+use Rattle.just_host_record.specs.World.{World, Moment}
 use Rattle.just_config_words.specs.declared.arguments.Arguments.{Arguments}
 use Rattle.just_config_words.specs.declared.usage.Usage.{Usage}
 use Rattle.just_config_words.specs.declared.words.Read.{Read}
@@ -96,11 +96,16 @@ IsBuilt c (Err e) = (word : List ℕ) × (not_built c.config ≡ Some word) × (
 abbrev pub Configures : FolderRequest → Result ConfigRequest Error → Type 0
 Configures = Then GivesConfig IsBuilt
 
+-- a moment at which that world is told, with these entries in the record
+abbrev pub told_with : Option World → List Entry → Moment
+told_with told entries = record { entries = entries; world = told }
+
 -- The place where the justfile of a configuration is, or why there is none. Behind the entries of the listings that were refused on the way the record has
 -- that of the call for which the search is refused.
 abbrev pub FindsLocation : Option World → List Entry → Config → Result Location Error → Type 0
-FindsLocation told listings config (Ok l) = Finds told config [] listings (Ok l)
-FindsLocation told listings config (Err e) = (f : SearchError) × Finds told config [] (listings ++ entries_of f) (Err f) × (e ≡ error_of_search f)
+FindsLocation told listings config (Ok l) = Finds (told_with told []) (told_with told listings) config (Ok l)
+FindsLocation told listings config (Err e) =
+    (f : SearchError) × Finds (told_with told []) (told_with told (listings ++ entries_of f)) config (Err f) × (e ≡ error_of_search f)
 
 -- the justfile is in the place that is found so
 abbrev pub FindsJustfile : (Config → Result Location Error → Type 0) → ConfigRequest → Result LocatedRequest Error → Type 0

@@ -8,7 +8,7 @@ use Rattle.just_host_record.specs.declared.entry.HostFault.TheVariants as fault
 use Rattle.just_host_record.specs.declared.entry.Stream.TheVariants as stream
 use Rattle.just_host_record.specs.Changes.{place_written, written, Changes}
 use Rattle.just_host_record.specs.Record.{IsOwnFault}
-use Rattle.just_host_record.specs.World.{World}
+use Rattle.just_host_record.specs.World.{World, Moment}
 use Rattle.just_exec.specs.Codes.{exit_code}
 use Rattle.just_exec.specs.declared.error.Error.{Error}
 use Rattle.just_exec.specs.declared.error.Error.TheVariants as error
@@ -44,6 +44,7 @@ abbrev pub TellsLine : Bool → List ℕ → List Entry → List Entry → Type 
 TellsLine quiet path old new = (misses : List Entry) × AreMisses misses × (new ≡ old ++ (misses ++ told_line quiet (written_line path)))
 
 -- Nothing is run; a justfile is written at the path, and told of; or it isn't.
-pub record IsWritten (path : List ℕ) (quiet : Bool) (told after : Option World) (old new : List Entry) (result : Result Report Failure) : Type 0 where
-  pub written : IfOk result (λ r. IsNothing r × Writes path told after (Ok tt) × TellsLine quiet path old new)
-  pub unwritten : IfErr result (λ f. (f.plan ≡ None) × (f.history ≡ []) × (f.code ≡ exit_code f.error) × IsUnwritten path quiet told after f.error × EndsBefore [] quiet f.error old new)
+pub record IsWritten (path : List ℕ) (quiet : Bool) (before after : Moment) (result : Result Report Failure) : Type 0 where
+  pub written : IfOk result (λ r. IsNothing r × Writes path before.world after.world (Ok tt) × TellsLine quiet path before.entries after.entries)
+  pub unwritten : IfErr result (λ f. (f.plan ≡ None) × (f.history ≡ []) × (f.code ≡ exit_code f.error)
+      × IsUnwritten path quiet before.world after.world f.error × EndsBefore [] quiet f.error before.entries after.entries)

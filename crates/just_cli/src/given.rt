@@ -86,7 +86,6 @@ pub(crate) fn current_folder<H: Host>(host: &mut H) -> Result<Utf8PathBuf, Error
 
 /// The place where the justfile of a configuration is. The record gains the entries of listings that were refused as the user's own justfile was looked
 /// for, and the entry of the refused call.
-#[tactic(auto, using(crate::proofs::Locating::is_located))]
 pub(crate) fn locate<H: Host>(
     alloc: Global,
     host: &mut H,

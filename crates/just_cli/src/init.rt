@@ -153,7 +153,7 @@ fn write<H: Host>(alloc: Global, host: &mut H, path: Utf8PathBuf, quiet: bool) -
 
 /// Writes the justfile at a path, in the place of a run, and tells of it on standard error, unless the words ask for quiet.
 pub(crate) fn init<H: Host>(alloc: Global, host: H, path: Utf8PathBuf, quiet: bool) -> Ended<H>
-    ensures { IsWritten path quiet (H.told host).world (H.told result.host).world (H.told host).entries (H.told result.host).entries result.result }
+    ensures { IsWritten path quiet (H.told host) (H.told result.host) result.result }
 {
     let mut host = host;
     match write(alloc, &mut host, path, quiet) {

@@ -23,7 +23,7 @@ fn version(alloc: Global) -> Result<Text, NoMemory>
 
 /// Prints the line of the version to standard output.
 fn show_version<H: Host>(alloc: Global, host: H) -> Ended<H>
-    ensures { IsShown version_line (H.told host).world (H.told result.host).world (H.told host).entries (H.told result.host).entries result.result }
+    ensures { IsShown version_line (H.told host) (H.told result.host) result.result }
 {
     match version(alloc) {
         Ok(line) => show(alloc, host, line.as_str()),
@@ -33,7 +33,7 @@ fn show_version<H: Host>(alloc: Global, host: H) -> Ended<H>
 
 /// Does what words ask for that is no run: prints the help or the version to standard output, or writes a new justfile.
 pub(crate) fn do_other<H: Host>(alloc: Global, host: H, other: Other, quiet: bool) -> Ended<H>
-    ensures { Does other quiet (H.told host).world (H.told result.host).world (H.told host).entries (H.told result.host).entries result.result }
+    ensures { Does other quiet (H.told host) (H.told result.host) result.result }
 {
     match other {
         Other::Help => show(alloc, host, HELP),

@@ -24,7 +24,8 @@ fn serve<H: Host>(
     made: &mut Vec<Utf8PathBuf>,
     host: &mut H,
 ) -> Result<Task, Error>
-    ensures { IsServed (H.told host.old).world (H.told host.new).world (record { arguments = arguments; environ = environ.now }) made.old.items made.new.items (H.told host.old).entries (H.told host.new).entries result }
+    ensures { IsServed (record { arguments = arguments; environ = environ.now })
+        (H.told host.old) (H.told host.new) made.old.items made.new.items result }
 {
     let quiet = arguments.quiet;
     let folder = match current_folder(host) {
@@ -63,9 +64,12 @@ pub(crate) fn prepare<H: Host>(
     made: &mut Vec<Utf8PathBuf>,
     host: &mut H,
 ) -> Result<Task, (Error, bool)>
-    ensures asked { IfOk result (IsTask (map (λ x. x.now) words.now) (H.told host.old).world (H.told host.new).world made.old.items made.new.items (H.told host.old).entries (H.told host.new).entries) }
-    ensures refused { IfErr result (λ e. PreparesWords (map (λ x. x.now) words.now) (H.told host.old).world (H.told host.new).world made.old.items made.new.items (H.told host.old).entries (H.told host.new).entries (Err e.0)) }
-    ensures quiet { IfErr result (λ e. AskQuiet (map (λ x. x.now) words.now) (H.told host.old).world e.1 e.0) }
+    ensures asked { IfOk result (IsTask (map (λ x. x.now) words.now)
+        (H.told host.old) (H.told host.new) made.old.items made.new.items) }
+    ensures refused { IfErr result (λ e. PreparesWords (map (λ x. x.now) words.now)
+        (H.told host.old) (H.told host.new) made.old.items made.new.items (Err e.0)) }
+    ensures quiet { IfErr result (λ e.
+        AskQuiet (map (λ x. x.now) words.now) (H.told host.old).world e.1 e.0) }
 {
     let environ = match environment(alloc, host) {
         Ok(environ) => environ,

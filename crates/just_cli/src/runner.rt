@@ -1,11 +1,11 @@
 //! The top calls: words and a host become a run and its end.
 
-ghost use Rattle.std.specs.Prelude.{[], List, Option, None, map, IfOk};
-ghost use Rattle.just_host_record.specs.World.{World};
-ghost use Rattle.just_host_record.specs.declared.entry.Entry.{Entry};
+ghost use Rattle.std.specs.Prelude.{[], None, map, IfOk};
+ghost use Rattle.just_host_record.specs.World.{Moment};
 ghost use Rattle.just_host.specs.Real.{record_of};
 ghost use Rattle.just_cli.specs.Record.{Removes};
 ghost use Rattle.just_cli.specs.Run.{IsEnded};
+ghost use Rattle.just_cli.specs.Words.{told_with};
 
 use super::failure::fail;
 use super::other::do_other;
@@ -33,7 +33,8 @@ fn run_made<R: Threads + Wait + Sync, H: Host + Send + Drop>(
     host: H,
 ) -> (Ended<H>, Vec<Utf8PathBuf>)
     // Whatever their removal makes of the host, the run is ended then.
-    ensures { (after : Option World) (new : List Entry) → Removes result.1.items (H.told result.0.host).world (H.told result.0.host).entries after new → IsEnded (map (λ x. x.now) words.now) (H.told host).world after (H.told host).entries new result.0.result }
+    ensures { (after : Moment) → Removes result.1.items (H.told result.0.host) after
+        → IsEnded (map (λ x. x.now) words.now) (H.told host) after result.0.result }
 {
     let mut host = host;
     let mut made = Vec::new(alloc);
@@ -86,7 +87,7 @@ pub fn run_with<R: Threads + Wait + Sync, H: Host + Send + Drop>(
     words: &[&str],
     host: H,
 ) -> Ended<H>
-    ensures { IsEnded (map (λ x. x.now) words.now) (H.told host).world (H.told result.host).world (H.told host).entries (H.told result.host).entries result.result }
+    ensures { IsEnded (map (λ x. x.now) words.now) (H.told host) (H.told result.host) result.result }
 {
     let (ended, made) = run_made(rt, alloc, words, host);
     let Ended { host, result } = ended;
@@ -110,7 +111,8 @@ where
     R::Dir: Send,
     R::Reader: Send,
     R::A: Send,
-    ensures { IfOk result (λ d. IsEnded (map (λ x. x.now) words.now) None None [] (record_of d.host) d.result) }
+    ensures { IfOk result (λ d. IsEnded (map (λ x. x.now) words.now)
+        (told_with None []) (told_with None (record_of d.host)) d.result) }
 {
     let host = RealHost::new(rt, alloc)?;
     Ok(run_with(rt, alloc, words, host))

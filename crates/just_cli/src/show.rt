@@ -34,7 +34,7 @@ pub(crate) fn empty_plan(alloc: Global) -> Plan
 
 /// Prints a text to standard output, in the place of a run.
 pub(crate) fn show<H: Host>(alloc: Global, host: H, text: &str) -> Ended<H>
-    ensures { IsShown text.now (H.told host).world (H.told result.host).world (H.told host).entries (H.told result.host).entries result.result }
+    ensures { IsShown text.now (H.told host) (H.told result.host) result.result }
 {
     let mut host = host;
     match host.print(Stream::Out, text) {

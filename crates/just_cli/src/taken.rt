@@ -66,7 +66,9 @@ pub(crate) fn take<H: Host>(
     made: &mut Vec<Utf8PathBuf>,
     host: &mut H,
 ) -> Result<(Wanted, Utf8PathBuf), Error>
-    ensures { Performs (TakesWanted config.now location.now (H.told host.old).world) (BeginsIn config.now location.now (H.told host.old).world) (H.told host.old).world (H.told host.new).world made.old.items made.new.items (H.told host.old).entries (H.told host.new).entries result }
+    ensures { Performs (TakesWanted config.now location.now (H.told host.old).world)
+        (BeginsIn config.now location.now (H.told host.old).world)
+        (H.told host.old) (H.told host.new) made.old.items made.new.items result }
 {
     let place = match copied_location(location) {
         Ok(place) => place,

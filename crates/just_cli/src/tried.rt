@@ -67,7 +67,8 @@ fn plan_of<H: Host>(
     project: &Justfile,
 ) -> Result<Planned, Error>
     requires { IsEnding project.now }
-    ensures { PerformsPlan wanted.now environ.now project.now (H.told host.old).world (H.told host.new).world (H.told host.old).entries (H.told host.new).entries (outlined result) }
+    ensures { PerformsPlan wanted.now environ.now project.now
+        (H.told host.old) (H.told host.new) (outlined result) }
 {
     let pairs = match load_pairs(alloc, host, project, environ, wanted) {
         Ok(pairs) => pairs,
@@ -89,7 +90,12 @@ fn plan_at<H: Host>(
     made: &mut Vec<Utf8PathBuf>,
     host: &mut H,
 ) -> (Result<Planned, Error>, bool)
-    ensures { Performs (λ acts after r. AnswersAt (H.told host.old).world acts after (record { config = config.now; environ = environ.now; location = location.now }) r result.1) (λ acts after. BeginsAt (H.told host.old).world acts after (record { config = config.now; environ = environ.now; location = location.now })) (H.told host.old).world (H.told host.new).world made.old.items made.new.items (H.told host.old).entries (H.told host.new).entries (outlined result.0) }
+    ensures { Performs
+        (λ acts after r. AnswersAt (H.told host.old).world acts after
+        (record { config = config.now; environ = environ.now; location = location.now }) r result.1)
+        (λ acts after. BeginsAt (H.told host.old).world acts after
+        (record { config = config.now; environ = environ.now; location = location.now }))
+        (H.told host.old) (H.told host.new) made.old.items made.new.items (outlined result.0) }
 {
     let (wanted, path) = match take(alloc, config, location, made, host) {
         Ok(taken) => taken,
@@ -126,7 +132,14 @@ fn plan_or_next<H: Host>(
     made: &mut Vec<Utf8PathBuf>,
     host: &mut H,
 ) -> Result<Planned, (Error, Option<Location>)>
-    ensures tries { MatchResult result (λ p. PerformsFrom (record { config = config.now; environ = environ.now }) location.now (H.told host.old).world (H.told host.new).world made.old.items made.new.items (H.told host.old).entries (H.told host.new).entries (outlined (Ok p))) (λ e. MatchOption e.1 (PerformsFrom (record { config = config.now; environ = environ.now }) location.now (H.told host.old).world (H.told host.new).world made.old.items made.new.items (H.told host.old).entries (H.told host.new).entries (Err e.0)) (λ l. PerformsFall (record { config = config.now; environ = environ.now }) location.now (H.told host.old).world (H.told host.new).world made.old.items made.new.items (H.told host.old).entries (H.told host.new).entries l)) }
+    ensures tries { MatchResult result
+        (λ p. PerformsFrom (record { config = config.now; environ = environ.now }) location.now
+        (H.told host.old) (H.told host.new) made.old.items made.new.items (outlined (Ok p)))
+        (λ e. MatchOption e.1
+        (PerformsFrom (record { config = config.now; environ = environ.now }) location.now
+        (H.told host.old) (H.told host.new) made.old.items made.new.items (Err e.0))
+        (λ l. PerformsFall (record { config = config.now; environ = environ.now }) location.now
+        (H.told host.old) (H.told host.new) made.old.items made.new.items l)) }
     ensures higher { IfErr result (λ e. MatchOption e.1 (Unit {0}) (λ l. length l.working_directory < length location.now.working_directory)) }
 {
     let (planned, fallback) = plan_at(alloc, environ, config, location, made, host);
@@ -155,7 +168,8 @@ fn plan_from<H: Host>(
     made: &mut Vec<Utf8PathBuf>,
     host: &mut H,
 ) -> Result<Planned, Error>
-    ensures { PerformsFrom (record { config = config.now; environ = environ.now }) location (H.told host.old).world (H.told host.new).world made.old.items made.new.items (H.told host.old).entries (H.told host.new).entries (outlined result) }
+    ensures { PerformsFrom (record { config = config.now; environ = environ.now }) location
+        (H.told host.old) (H.told host.new) made.old.items made.new.items (outlined result) }
 {
     let mut place = location;
     'places: loop {
@@ -197,7 +211,8 @@ pub(crate) fn plan_tried<H: Host>(
     made: &mut Vec<Utf8PathBuf>,
     host: &mut H,
 ) -> Result<Planned, Error>
-    ensures { PerformsTries (record { config = config.now; environ = environ.now; location = location }) (H.told host.old).world (H.told host.new).world made.old.items made.new.items (H.told host.old).entries (H.told host.new).entries (outlined result) }
+    ensures { PerformsTries (record { config = config.now; environ = environ.now; location = location })
+        (H.told host.old) (H.told host.new) made.old.items made.new.items (outlined result) }
 {
     match plan_from(alloc, environ, config, location, made, host) {
         Ok(planned) => Ok(planned),

@@ -6,26 +6,29 @@ use Rattle.just_cli.proofs.Serving.{unstarted}
 use Rattle.just_cli.proofs.runner.run_made.Goals as goal
 
 pub returns-in-Err : goal.returns-in-Err
-returns-in-Err g c = λ after new removes. ended_refused _ _ after _ _ _ new _ _ _ _ _ _ _ _ c.fail.ensures.failed c.new.ensures c.new-made.ensures.items c.in-Err.ensures.refused c.in-Err.ensures.quiet c.fail.ensures.told c.fail.ensures.world removes
+returns-in-Err g c = λ after removes.
+    ended_refused _ (g.H.Host.told c.args.host) (g.H.Host.told c.prepare.new.host) (g.H.Host.told c.fail.result.host) after _ _ _ _ _ _ c.fail.ensures.failed c.new.ensures c.new-made.ensures.items c.in-Err.ensures.refused c.in-Err.ensures.quiet c.fail.ensures.told c.fail.ensures.world removes
 
 pub returns : goal.returns
-returns g c = λ after new removes.
+returns g c = λ after removes.
     let asks = rw c.in-Ok-Run.field-0-is at c.in-Ok-Run.ensures.asked in
-    ended_refused _ _ after _ _ _ new _ _ _ _ _ _ _ _ c.fail-in-Err-drive.ensures.failed c.new-in-Err-drive.ensures c.new-made.ensures.items (unstarted _ _ _ _ _ _ _ _ _ _ c.in-Err-drive.ensures.back.1 c.in-Err-drive.ensures.back.0 asks.0) (quiet_read _ _ _ _ asks.1) c.fail-in-Err-drive.ensures.told
-    c.fail-in-Err-drive.ensures.world removes
+    let back = (g.H.Host.told c.in-Err-drive.field-0.0) in
+    ended_refused _ (g.H.Host.told c.args.host) back (g.H.Host.told c.fail-in-Err-drive.result.host) after _ _ _ _ _ _ c.fail-in-Err-drive.ensures.failed c.new-in-Err-drive.ensures c.new-made.ensures.items
+    (unstarted _ (g.H.Host.told c.args.host) _ (g.H.Host.told c.prepare.new.host) back _ _ c.in-Err-drive.ensures.back.0 c.in-Err-drive.ensures.back.1 asks.0) (quiet_read _ _ _ _ asks.1) c.fail-in-Err-drive.ensures.told c.fail-in-Err-drive.ensures.world removes
 
 pub returns-in-Ok-Other : goal.returns-in-Ok-Other
-returns-in-Ok-Other g c = λ after new removes.
+returns-in-Ok-Other g c = λ after removes.
     let asks = rw c.in-Ok-Other.field-0-is at c.in-Ok-Other.ensures.asked in
-    ended_so _ _ _ after _ _ new _ _ _ c.new-made.ensures.items asks.1 (ended_other _ _ _ _ _ _ _ c.in-Ok-Other.other c.in-Ok-Other.quiet _ asks.0 asks.2 asks.3 asks.4 c.do_other.ensures) removes
+    ended_so _ (g.H.Host.told c.args.host) (g.H.Host.told c.do_other.result.host) after _ _ _ c.new-made.ensures.items asks.1
+    (ended_other _ (g.H.Host.told c.args.host) (g.H.Host.told c.prepare.new.host) (g.H.Host.told c.do_other.result.host) c.in-Ok-Other.other c.in-Ok-Other.quiet _ asks.0 asks.2 asks.3 asks.4 c.do_other.ensures) removes
 
 pub returns-in-None : goal.returns-in-None
-returns-in-None g c = λ after new removes.
+returns-in-None g c = λ after removes.
     let asks = rw c.in-Ok-Run.field-0-is at c.in-Ok-Run.ensures.asked in
-    ended_well _ _ after _ _ _ new _ _ _ _ _ _ c.in-Ok-Run.quiet c.in-Ok-Run.plan _ _ _ _ _ _ _ refl c.in-Ok.ensures.driven c.new-made.ensures.items asks.0 asks.1 c.in-None.ensures removes
+    ended_well _ (g.H.Host.told c.args.host) (g.H.Host.told c.prepare.new.host) (g.H.Host.told c.in-Ok.field-0.host) after _ _ _ _ c.in-Ok-Run.quiet c.in-Ok-Run.plan _ _ _ _ _ _ _ refl c.in-Ok.ensures.driven c.new-made.ensures.items asks.0 asks.1 c.in-None.ensures removes
 
 pub returns-in-Ok : goal.returns-in-Ok
-returns-in-Ok g c = λ after new removes.
+returns-in-Ok g c = λ after removes.
     let asks = rw c.in-Ok-Run.field-0-is at c.in-Ok-Run.ensures.asked in
-    ended_ill _ _ after _ _ _ _ new _ _ _ _ _ _ _ _ c.in-Ok-Run.plan _ _ _ _ _ _ _ c.fail-in-Some.ensures.failed c.in-Ok.ensures.driven c.new-made.ensures.items asks.0 asks.1 c.fail-in-Some.ensures.world c.in-Some.ensures c.as_slice.ensures c.as_slice-in-Ok.ensures
-    c.fail-in-Some.ensures.told removes
+    ended_ill _ (g.H.Host.told c.args.host) (g.H.Host.told c.prepare.new.host) (g.H.Host.told c.in-Ok.field-0.host) (g.H.Host.told c.fail-in-Some.result.host) after _ _ _ _ _ c.in-Ok-Run.plan _ _ _ _ _ _ _ c.fail-in-Some.ensures.failed c.in-Ok.ensures.driven c.new-made.ensures.items asks.0 asks.1
+    c.fail-in-Some.ensures.world c.in-Some.ensures c.as_slice.ensures c.as_slice-in-Ok.ensures c.fail-in-Some.ensures.told removes

@@ -6,8 +6,8 @@ use Rattle.just_cli.proofs.tried.plan_from.Given as goal
 
 abbrev pub invariant-places : goal.invariant-places
 invariant-places g l =
-    Performs (Reaches (record { config = l.config; environ = l.environ }) l.fn.location l.place (g.H.Host.told l.fn.host).world) Anyhow (g.H.Host.told l.fn.host).world (g.H.Host.told l.host).world l.fn.made.items l.made.items (g.H.Host.told l.fn.host).entries
-    (g.H.Host.told l.host).entries (Ok tt)
+    Performs (Reaches (record { config = l.config; environ = l.environ }) l.fn.location l.place (g.H.Host.told l.fn.host).world) Anyhow
+    (g.H.Host.told l.fn.host) (g.H.Host.told l.host) l.fn.made.items l.made.items (Ok tt)
 
 abbrev pub decreases-places : goal.decreases-places
 decreases-places g l = length l.place.working_directory
