@@ -165,8 +165,7 @@ fn play<H: Host + Drop, P: Naming>(
     requires ledger { (blank.name ≡ P.name) × (blank.parts ≡ P.parts) }
     requires parts { P.parts ≡ 65 }
     requires jobs { option_map non_zero_u64_get jobs ≡ P.start.jobs }
-    requires entries { (H.told host).entries ≡ P.start.entries }
-    requires world { (H.told host).world ≡ P.start.world }
+    requires told { H.told host ≡ P.start.told }
 {
     let (book, seat) = match Book::<H, P>::open(alloc, Named::new(plan, blank), host, jobs) {
         Ok(opened) => opened,

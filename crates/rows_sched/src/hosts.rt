@@ -69,6 +69,26 @@ fn empty(alloc: Global) -> Thing {
     }
 }
 
+/// The folder `/` with a justfile of that text.
+fn with_text(alloc: Global, text: &str) -> Result<Tree, NoMemory> {
+    let bytes = Vec::from_slice(alloc, text.as_bytes())?;
+    let justfile = Thing::File {
+        bytes: Seq::from(bytes),
+        executable: false,
+    };
+    let mut tree = Tree::new(alloc);
+    tree.insert(alloc, "/", Thing::Folder)?;
+    tree.insert(alloc, "/justfile", justfile)?;
+    Ok(tree)
+}
+
+/// A host in memory with a justfile of that text in its folder, over which nothing happens.
+/// No clause: it serves tests alone.
+pub fn with_justfile(alloc: Global, text: &str) -> Result<MemHost, NoMemory> {
+    let tree = with_text(alloc, text)?;
+    host_of(alloc, tree, Plot::new(alloc))
+}
+
 /// The file `out` stands there.
 fn makes_out(alloc: Global) -> Result<Vec<(Text, Option<Thing>)>, NoMemory> {
     let path = Text::from_str(alloc, "/out")?;

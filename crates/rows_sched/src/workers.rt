@@ -1,7 +1,8 @@
 //! Runs by workers side by side, over a gate.
 
-use super::hosts::memory;
+use super::hosts::{memory, with_justfile};
 use super::plans::plan_of;
+use just_cli::{Ended, Failure, Report, run_with};
 use just_host::{Entry, GateHost, Host};
 use just_path_text::{NoMemory, Seq};
 use just_sched::{Driven, Event, Plan, Verdict, drive};
@@ -57,9 +58,18 @@ fn started_before_the_first_end(entries: &[Entry]) -> usize {
     count
 }
 
+/// A recipe whose priors may run side by side.
+const PARALLEL: &str = "[parallel]\np: a b\n\techo p\na:\n\techo a\nb:\n\techo b\n";
+
 /// A host in memory whose child 0 is held until child 1 was started.
 fn gate(alloc: Global) -> Result<GateHost, NoMemory> {
     let host = memory(alloc)?;
+    GateHost::new(host)
+}
+
+/// The same with a justfile of that text in its folder.
+fn gate_with(alloc: Global, text: &str) -> Result<GateHost, NoMemory> {
+    let host = with_justfile(alloc, text)?;
     GateHost::new(host)
 }
 
@@ -67,11 +77,30 @@ fn gate(alloc: Global) -> Result<GateHost, NoMemory> {
 #[test]
 fn two_children_at_once(rt: HostRuntime) -> Result<(), NoMemory> {
     let alloc = rt.alloc();
-    let text = "[parallel]\np: a b\n\techo p\na:\n\techo a\nb:\n\techo b\n";
-    let plan = plan_of(&rt, alloc, text, "p")?;
+    let plan = plan_of(&rt, alloc, PARALLEL, "p")?;
     let host = gate(alloc)?;
     let (host, _, _, verdict) = run_of(&rt, alloc, plan, host, None);
     assert_eq!(rt; verdict, Verdict::Well);
+    assert!(rt; started_before_the_first_end(host.entries()) >= 2);
+    Ok(())
+}
+
+/// The exit code of a run that ended so.
+fn code_of(ended: &Result<Report, Failure>) -> i32 {
+    match ended {
+        Ok(_) => 0,
+        Err(failure) => failure.code,
+    }
+}
+
+/// The same by the top call, from its words to code 0: where child 1 isn't started while child 0 is held, nobody knows how
+/// child 0 has ended, and the code is another.
+#[test]
+fn row_two_children_at_once(rt: HostRuntime) -> Result<(), NoMemory> {
+    let alloc = rt.alloc();
+    let host = gate_with(alloc, PARALLEL)?;
+    let Ended { host, result } = run_with(&rt, alloc, &["p"], host);
+    assert_eq!(rt; code_of(&result), 0);
     assert!(rt; started_before_the_first_end(host.entries()) >= 2);
     Ok(())
 }

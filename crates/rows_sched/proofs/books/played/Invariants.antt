@@ -5,7 +5,7 @@ use Rattle.just_sched_history.specs.Start.{start_with}
 use Rattle.rows_sched.proofs.books.played.Given as goal
 
 abbrev pub ghosts-play-P-Naming : goal.ghosts-play-P-Naming
-ghosts-play-P-Naming g a = record { start = start_with a.plan (option_map non_zero_u64_get a.jobs) (g.H.Host.told a.host).entries (g.H.Host.told a.host).world }
+ghosts-play-P-Naming g a = record { start = start_with a.plan (option_map non_zero_u64_get a.jobs) (g.H.Host.told a.host) }
 
 abbrev pub ghosts-play-P-Ledger : goal.ghosts-play-P-Ledger
 ghosts-play-P-Ledger g a = record { name = a.blank.name; parts = 65 }
