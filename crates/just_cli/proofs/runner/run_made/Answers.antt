@@ -12,7 +12,7 @@ returns-in-Err g c = λ after removes.
 pub returns : goal.returns
 returns g c = λ after removes.
     let asks = rw c.in-Ok-Run.field-0-is at c.in-Ok-Run.ensures.asked in
-    let back = (g.H.Host.told c.in-Err-drive.field-0.0) in
+    let back = g.H.Host.told c.in-Err-drive.host in
     ended_refused _ (g.H.Host.told c.args.host) back (g.H.Host.told c.fail-in-Err-drive.result.host) after _ _ _ _ _ _ c.fail-in-Err-drive.ensures.failed c.new-in-Err-drive.ensures c.new-made.ensures.items
     (unstarted _ (g.H.Host.told c.args.host) _ (g.H.Host.told c.prepare.new.host) back _ _ c.in-Err-drive.ensures.back.0 c.in-Err-drive.ensures.back.1 asks.0) (quiet_read _ _ _ _ asks.1) c.fail-in-Err-drive.ensures.told c.fail-in-Err-drive.ensures.world removes
 
