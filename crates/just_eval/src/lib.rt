@@ -19,7 +19,7 @@ mod text;
 pub use body::{body_lines, lines_of, lines_of_recipe};
 pub use ending::is_ending;
 pub use evaluation::evaluate;
-pub use just_eval_closure::{Ran, Request, closure, closure_within, dependencies};
+pub use just_eval_closure::{Entry, Ran, Request, closure, closure_within, dependencies};
 pub use just_eval_words::invocations;
 pub use just_lang_types::{
     BodyLine, Closure, DotenvOf, Justfile, Key, LangError, Modulepath, Node, Override, Scopes,

@@ -33,7 +33,7 @@
 //! specs/Pieces.antt says how a text is cut into pieces, specs/Expansion.antt what they become and what is asked for, and
 //! specs/Tilde.antt what becomes of a tilde.
 //!
-//! [`Environ`], [`NoMemory`], [`Utf8Path`] and [`Utf8PathBuf`] are those of the crate `just_path`.
+//! [`Environ`], [`NoMemory`], [`Seq`], [`Text`], [`Utf8Path`] and [`Utf8PathBuf`] are those of the crate `just_path`.
 #![tactic(auto)]
 
 mod error;
@@ -46,5 +46,5 @@ mod tildes;
 
 pub use error::{Expand, LookupError, NotPresent, OString};
 pub use home::{full, full_with_context, full_with_context_no_errors, tilde, tilde_with_context};
-pub use just_path::{Environ, NoMemory, Utf8Path, Utf8PathBuf};
+pub use just_path::{Environ, NoMemory, Seq, Text, Utf8Path, Utf8PathBuf};
 pub use texts::{WInput, Wstr, Xstr, env, env_with_context, env_with_context_no_errors};

@@ -17,6 +17,7 @@ mod tables;
 mod variable;
 
 pub use check::first_broken;
+pub use just_lang_read::Boxed;
 pub use just_lang_syntax::unindent;
 pub use just_lang_types::{
     Alias, Argument, Assignment, Ast, AstDependency, AstItem, AstParameter, AstRecipe, Attribute,
