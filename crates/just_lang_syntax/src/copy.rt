@@ -3,7 +3,7 @@ ghost use Rattle.std.specs.Prelude.{◌≡◌, IfOk};
 ghost use Rattle.just_lang_syntax.specs.declared.ast.Expr.TheVariants as variant;
 
 use super::expr::boxed;
-use super::{Comparison, Expr, Name, StringLiteral};
+use super::{Expr, Name, StringLiteral};
 use just_lang_read::Boxed;
 use just_path_text::{NoMemory, TryClone};
 use std::alloc::Global;
@@ -45,22 +45,29 @@ pub fn copy_expr(alloc: Global, expr: &Expr) -> Result<Expr, NoMemory>
             consequent,
             chained,
             alternative,
-        } => copy_if(
-            alloc,
-            left,
-            *comparison,
-            right,
-            consequent,
-            *chained,
-            alternative,
-        ),
+        } => {
+            let left = copied(alloc, left)?;
+            let right = copied(alloc, right)?;
+            let consequent = copied(alloc, consequent)?;
+            let alternative = copied(alloc, alternative)?;
+            Ok(Expr::If {
+                left,
+                comparison: *comparison,
+                right,
+                consequent,
+                chained: *chained,
+                alternative,
+            })
+        }
         Expr::Root(inside) => Ok(Expr::Root(copied(alloc, inside)?)),
         Expr::Join(first, second) => {
-            let (first, second) = copied_two(alloc, first, second)?;
+            let first = copied(alloc, first)?;
+            let second = copied(alloc, second)?;
             Ok(Expr::Join(first, second))
         }
         Expr::Concat(first, second) => {
-            let (first, second) = copied_two(alloc, first, second)?;
+            let first = copied(alloc, first)?;
+            let second = copied(alloc, second)?;
             Ok(Expr::Concat(first, second))
         }
         Expr::Literal(string) => Ok(Expr::Literal(string.try_clone()?)),
@@ -71,69 +78,17 @@ pub fn copy_expr(alloc: Global, expr: &Expr) -> Result<Expr, NoMemory>
             column,
             key,
             default,
-        } => copy_env(alloc, *line, *column, key, default),
-    }
-}
-
-/// A copy of a condition with its branches.
-#[cycle(copy)]
-fn copy_if(
-    alloc: Global,
-    left: &Boxed<Expr>,
-    comparison: Comparison,
-    right: &Boxed<Expr>,
-    consequent: &Boxed<Expr>,
-    chained: bool,
-    alternative: &Boxed<Expr>,
-) -> Result<Expr, NoMemory>
-    ensures { IfOk result (λ e. e
-        ≡ variant.If left.now comparison right.now consequent.now chained alternative.now) }
-{
-    let (left, right) = copied_two(alloc, left, right)?;
-    let (consequent, alternative) = copied_two(alloc, consequent, alternative)?;
-    Ok(Expr::If {
-        left,
-        comparison,
-        right,
-        consequent,
-        chained,
-        alternative,
-    })
-}
-
-/// A copy of the call of `env` at that place.
-#[cycle(copy)]
-fn copy_env(
-    alloc: Global,
-    line: usize,
-    column: usize,
-    key: &Boxed<Expr>,
-    default: &Option<Boxed<Expr>>,
-) -> Result<Expr, NoMemory>
-    ensures { IfOk result (λ e. e ≡ variant.Env line column key.now default.now) }
-{
-    let key = copied(alloc, key)?;
-    match default {
-        None => Ok(env_of(line, column, key, None)),
-        Some(default) => {
-            let default = copied(alloc, default)?;
-            Ok(env_of(line, column, key, Some(default)))
+        } => {
+            let key = copied(alloc, key)?;
+            match default {
+                None => Ok(env_of(*line, *column, key, None)),
+                Some(default) => {
+                    let default = copied(alloc, default)?;
+                    Ok(env_of(*line, *column, key, Some(default)))
+                }
+            }
         }
     }
-}
-
-/// Copies of two expressions on the heap.
-#[cycle(copy)]
-fn copied_two(
-    alloc: Global,
-    first: &Boxed<Expr>,
-    second: &Boxed<Expr>,
-) -> Result<(Boxed<Expr>, Boxed<Expr>), NoMemory>
-    ensures { IfOk result (λ both. (both.0 ≡ first.now) × (both.1 ≡ second.now)) }
-{
-    let first = copied(alloc, first)?;
-    let second = copied(alloc, second)?;
-    Ok((first, second))
 }
 
 /// A copy of an expression on the heap.
