@@ -1,22 +1,15 @@
 -- The characters of the grammar, and its sets of them, each as a test.
-use Rattle.std.specs.Prelude.{ℕ, Bool, true, false, not, ◌&&◌, ◌||◌, ◌==◌, nat_le, Option, Some, None, if◌then◌else◌}
+use Rattle.std.specs.Prelude.{ℕ, Bool, true, false, not, ◌&&◌, ◌||◌, ◌==◌, Option, Some, None, if◌then◌else◌}
+use Rattle.just_lang_read.specs.Characters.{is_digit}
+pub use Rattle.just_lang_read.specs.Characters.{is_blank, begins_name, in_line}
 
 -- ---- single characters, by their codes
-
-abbrev pub space : ℕ
-space = 32
-
-abbrev pub tab : ℕ
-tab = 9
 
 abbrev pub line_feed : ℕ
 line_feed = 10
 
 abbrev pub carriage_return : ℕ
 carriage_return = 13
-
-abbrev pub underscore : ℕ
-underscore = 95
 
 abbrev pub dot : ℕ
 dot = 46
@@ -53,29 +46,13 @@ byte_order_mark = 65279
 
 -- ---- sets
 
--- a space or a tab
-abbrev pub is_blank : ℕ → Bool
-is_blank c = c == space || c == tab
-
--- a letter of ASCII
-abbrev pub is_letter : ℕ → Bool
-is_letter c = (nat_le 65 c && nat_le c 90) || (nat_le 97 c && nat_le c 122)
-
--- a letter or `_`
-abbrev pub begins_name : ℕ → Bool
-begins_name c = is_letter c || c == underscore
-
 -- a letter, a digit or `_`
 abbrev pub in_word : ℕ → Bool
-in_word c = begins_name c || (nat_le 48 c && nat_le c 57)
+in_word c = begins_name c || is_digit c
 
 -- a letter, a digit, `_` or `.`
 abbrev pub in_name : ℕ → Bool
 in_name c = in_word c || c == dot
-
--- anything but a line feed
-abbrev pub in_line : ℕ → Bool
-in_line c = not (c == line_feed)
 
 -- anything but a single quote
 abbrev pub in_single_quotes : ℕ → Bool

@@ -1,34 +1,8 @@
-//! The sets of characters of the grammar.
+//! The sets of characters of the grammar, besides those of [`just_lang_read`].
 ghost use Rattle.std.specs.Prelude.{◌≡◌};
 ghost use Rattle.just_dotenv.specs.Characters.{is_plain, in_value};
 
-use just_lang_read::Class;
-
-/// A space or a tab.
-pub struct Blank;
-
-impl Class for Blank {
-    ghost use Rattle.just_dotenv.specs.Characters.{is_blank};
-
-    ghost members = { is_blank };
-
-    fn has(c: char) -> bool {
-        matches!(c, ' ' | '\t')
-    }
-}
-
-/// What a name begins with.
-pub struct NameStart;
-
-impl Class for NameStart {
-    ghost use Rattle.just_dotenv.specs.Characters.{begins_name};
-
-    ghost members = { begins_name };
-
-    fn has(c: char) -> bool {
-        matches!(c, 'A'..='Z' | 'a'..='z' | '_')
-    }
-}
+use just_lang_read::{Class, NameStart};
 
 /// What a name that is looked up holds.
 pub struct InWord;
@@ -53,19 +27,6 @@ impl Class for InName {
 
     fn has(c: char) -> bool {
         InWord::has(c) || c == '.'
-    }
-}
-
-/// What a comment holds.
-pub struct InLine;
-
-impl Class for InLine {
-    ghost use Rattle.just_dotenv.specs.Characters.{in_line};
-
-    ghost members = { in_line };
-
-    fn has(c: char) -> bool {
-        c != '\n'
     }
 }
 

@@ -6,10 +6,10 @@ ghost use Rattle.just_dotenv.specs.Characters.{in_name};
 ghost use Rattle.just_dotenv.specs.Grammar.{word};
 ghost use Rattle.just_dotenv.specs.Readers.{as_pair, as_line, assignment, pair, newline, rest, line};
 
-use super::characters::{Blank, InLine, InName, NameStart};
+use super::characters::InName;
 use super::scope::Scope;
 use super::value::value;
-use just_lang_read::{Cursor, ReadError};
+use just_lang_read::{Blank, Cursor, InLine, NameStart, ReadError};
 use just_path_text::Text;
 use std::alloc::Global;
 

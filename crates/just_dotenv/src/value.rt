@@ -5,10 +5,10 @@ ghost use Rattle.just_lang_read.specs.Reader.{Reads};
 ghost use Rattle.just_dotenv.specs.Characters.{in_value, is_bare, is_blank, number_sign};
 ghost use Rattle.just_dotenv.specs.Readers.{as_text, closed_parts, single_quoted_value, double_quoted_value, value};
 
-use super::characters::{Bare, Blank, InSingleQuotes, is_in_value};
+use super::characters::{Bare, InSingleQuotes, is_in_value};
 use super::part::read_part;
 use super::scope::Scope;
-use just_lang_read::{Cursor, ReadError};
+use just_lang_read::{Blank, Cursor, ReadError};
 use just_path_text::Text;
 use std::alloc::Global;
 

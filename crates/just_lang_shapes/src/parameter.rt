@@ -5,7 +5,7 @@ ghost use Rattle.just_lang_shapes.specs.Parameters.{value_of, values_of, pattern
 use super::expansions::expanded_default;
 use super::keys::{keys_of, stands_alone, value_of, values_of};
 use just_lang_read::decimal;
-use just_lang_syntax::{Argument, AstParameter, Attribute, has_key};
+use just_lang_syntax::{Argument, AstParameter, Attribute, Expr, has_key};
 use just_lang_types::{Parameter, Pattern, Texts};
 use just_path_text::{NoMemory, Seq, Text, TryClone};
 use std::alloc::Global;
@@ -128,6 +128,66 @@ fn limits_of<T: Texts>(alloc: Global, texts: &T, keys: &[Argument]) -> Result<Li
     })
 }
 
+/// What a parameter's keys say of it.
+struct Said {
+    switches: Switches,
+    limits: Limits,
+}
+
+impl Drop for Said {
+    fn drop(self) {
+        let Said {
+            switches: _,
+            limits: _,
+        } = self;
+    }
+}
+
+impl Said {
+    /// The parameter of which this is said, with that name and default.
+    fn parameter(
+        self,
+        parameter: &AstParameter,
+        name: Text,
+        default: Option<Expr>,
+        flag: bool,
+        multiple: bool,
+    ) -> Parameter
+        ensures { result ≡ record {
+            name = name;
+            kind = parameter.now.kind;
+            export = parameter.now.export;
+            default = default;
+            long = self.switches.long;
+            short = self.switches.short;
+            value = self.switches.value;
+            flag = flag;
+            multiple = multiple;
+            help = self.limits.help;
+            pattern = self.limits.pattern;
+            min = self.limits.min;
+            max = self.limits.max;
+        } }
+    {
+        let Said { switches, limits } = self;
+        Parameter {
+            name,
+            kind: parameter.kind,
+            export: parameter.export,
+            default,
+            long: switches.long,
+            short: switches.short,
+            value: switches.value,
+            flag,
+            multiple,
+            help: limits.help,
+            pattern: limits.pattern,
+            min: limits.min,
+            max: limits.max,
+        }
+    }
+}
+
 /// A parameter with what these keys say of it.
 fn parameter_with<T: Texts>(
     alloc: Global,
@@ -138,27 +198,15 @@ fn parameter_with<T: Texts>(
     ensures { IfOk result (λ p. p ≡ parameter_with (T.text_of texts.now) keys.now parameter.now) }
 {
     let called = parameter.name.text.as_str();
-    let name = parameter.name.text.try_clone()?;
     let limits = limits_of(alloc, texts, keys)?;
     let switches = switches_of(alloc, texts, called, keys)?;
+    let said = Said { switches, limits };
+    let name = parameter.name.text.try_clone()?;
     let default = expanded_default(alloc, texts, &parameter.default)?;
     let flag = stands_alone("flag", keys);
     let multiple = stands_alone("multiple", keys);
-    Ok(Parameter {
-        name,
-        kind: parameter.kind,
-        export: parameter.export,
-        default,
-        long: switches.long,
-        short: switches.short,
-        value: switches.value,
-        flag,
-        multiple,
-        help: limits.help,
-        pattern: limits.pattern,
-        min: limits.min,
-        max: limits.max,
-    })
+    let made = said.parameter(parameter, name, default, flag, multiple);
+    Ok(made)
 }
 
 /// The parameters of a recipe with these attributes, in their order.
