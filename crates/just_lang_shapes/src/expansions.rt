@@ -88,6 +88,18 @@ fn expanded_inside<T: Texts>(
     boxed(alloc, expanded)
 }
 
+/// The call of `env` at that place.
+fn env_of(line: usize, column: usize, key: Boxed<Expr>, default: Option<Boxed<Expr>>) -> Expr
+    ensures { result ≡ variant.Env line column key default }
+{
+    Expr::Env {
+        line,
+        column,
+        key,
+        default,
+    }
+}
+
 /// Two expressions inside another, on the heap, with their strings expanded.
 #[cycle(expanding)]
 fn expanded_two<T: Texts>(
@@ -132,43 +144,9 @@ fn expanded_if<T: Texts>(
     })
 }
 
-/// The call of `env` at that place with its strings expanded.
-#[cycle(expanding)]
-#[tactic(auto, using(crate::proofs::ExpandedExprs::env_alone_made, crate::proofs::ExpandedExprs::env_made))]
-fn expanded_env<T: Texts>(
-    alloc: Global,
-    texts: &T,
-    line: usize,
-    column: usize,
-    key: &Boxed<Expr>,
-    default: &Option<Boxed<Expr>>,
-) -> Result<Expr, NoMemory>
-    ensures { IfOk result (λ x. x ≡ expanded_expr (T.text_of texts.now)
-        (variant.Env line column key.now default.now)) }
-{
-    let key = expanded_inside(alloc, texts, key)?;
-    match default {
-        None => Ok(Expr::Env {
-            line,
-            column,
-            key,
-            default: None,
-        }),
-        Some(default) => {
-            let default = expanded_inside(alloc, texts, default)?;
-            Ok(Expr::Env {
-                line,
-                column,
-                key,
-                default: Some(default),
-            })
-        }
-    }
-}
-
 /// An expression with its strings expanded.
 #[cycle(expanding)]
-#[tactic(auto, using(crate::proofs::ExpandedExprs::join_of, crate::proofs::ExpandedExprs::concat_of))]
+#[tactic(auto, using(crate::proofs::ExpandedExprs::join_of, crate::proofs::ExpandedExprs::concat_of, crate::proofs::ExpandedExprs::env_of))]
 pub fn expanded_expr<T: Texts>(alloc: Global, texts: &T, expr: &Expr) -> Result<Expr, NoMemory>
     ensures { IfOk result (λ x. x ≡ expanded_expr (T.text_of texts.now) expr.now) }
 {
@@ -190,24 +168,27 @@ pub fn expanded_expr<T: Texts>(alloc: Global, texts: &T, expr: &Expr) -> Result<
             *chained,
             alternative,
         ),
-        Expr::Root(inside) => Ok(Expr::Root(expanded_inside(alloc, texts, inside)?)),
-        Expr::Join(first, second) => {
-            let (first, second) = expanded_two(alloc, texts, first, second)?;
-            Ok(Expr::Join(first, second))
-        }
-        Expr::Concat(first, second) => {
-            let (first, second) = expanded_two(alloc, texts, first, second)?;
-            Ok(Expr::Concat(first, second))
-        }
-        Expr::Literal(literal) => Ok(Expr::Literal(expanded_literal(alloc, texts, literal)?)),
-        Expr::Variable(name) => Ok(Expr::Variable(name.try_clone()?)),
-        Expr::Group(inside) => Ok(Expr::Group(expanded_inside(alloc, texts, inside)?)),
+        Expr::Root(inside) => expanded_inside(alloc, texts, inside).map(Expr::Root),
+        Expr::Join(first, second) => expanded_two(alloc, texts, first, second)
+            .map(|(first, second)| Expr::Join(first, second)),
+        Expr::Concat(first, second) => expanded_two(alloc, texts, first, second)
+            .map(|(first, second)| Expr::Concat(first, second)),
+        Expr::Literal(literal) => expanded_literal(alloc, texts, literal).map(Expr::Literal),
+        Expr::Variable(name) => name.try_clone().map(Expr::Variable),
+        Expr::Group(inside) => expanded_inside(alloc, texts, inside).map(Expr::Group),
         Expr::Env {
             line,
             column,
             key,
-            default,
-        } => expanded_env(alloc, texts, *line, *column, key, default),
+            default: None,
+        } => expanded_inside(alloc, texts, key).map(|key| env_of(*line, *column, key, None)),
+        Expr::Env {
+            line,
+            column,
+            key,
+            default: Some(default),
+        } => expanded_two(alloc, texts, key, default)
+            .map(|(key, default)| env_of(*line, *column, key, Some(default))),
     }
 }
 
