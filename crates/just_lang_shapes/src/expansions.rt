@@ -4,7 +4,7 @@ ghost use Rattle.just_lang_syntax.specs.declared.ast.Expr.TheVariants as variant
 ghost use Rattle.just_lang_shapes.specs.Expansions.{literal_with, expanded_literal, expanded_expr, expanded_exprs, expanded_default};
 
 use just_lang_read::Boxed;
-use just_lang_syntax::{Comparison, Expr, Quote, StringLiteral};
+use just_lang_syntax::{Comparison, Expr, Quote, StringLiteral, copy_expr};
 use just_lang_types::Texts;
 use just_path_text::{NoMemory, Seq, Text, TryClone};
 use std::alloc::Global;
@@ -174,7 +174,7 @@ pub fn expanded_expr<T: Texts>(alloc: Global, texts: &T, expr: &Expr) -> Result<
         Expr::Concat(first, second) => expanded_two(alloc, texts, first, second)
             .map(|(first, second)| Expr::Concat(first, second)),
         Expr::Literal(literal) => expanded_literal(alloc, texts, literal).map(Expr::Literal),
-        Expr::Variable(name) => name.try_clone().map(Expr::Variable),
+        Expr::Variable(_) => copy_expr(alloc, expr),
         Expr::Group(inside) => expanded_inside(alloc, texts, inside).map(Expr::Group),
         Expr::Env {
             line,
