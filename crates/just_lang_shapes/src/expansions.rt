@@ -1,10 +1,9 @@
 //! Copies of what stands in items, where each string with an `x` in front gives way to the text that it expands to.
 ghost use Rattle.std.specs.Prelude.{◌≡◌, map, IfOk};
-ghost use Rattle.just_lang_syntax.specs.declared.ast.Expr.TheVariants as variant;
 ghost use Rattle.just_lang_shapes.specs.Expansions.{literal_with, expanded_literal, expanded_expr, expanded_exprs, expanded_default};
 
 use just_lang_read::Boxed;
-use just_lang_syntax::{Comparison, Expr, Quote, StringLiteral, copy_expr};
+use just_lang_syntax::{Expr, Quote, StringLiteral};
 use just_lang_types::Texts;
 use just_path_text::{NoMemory, Seq, Text, TryClone};
 use std::alloc::Global;
@@ -88,65 +87,8 @@ fn expanded_inside<T: Texts>(
     boxed(alloc, expanded)
 }
 
-/// The call of `env` at that place.
-fn env_of(line: usize, column: usize, key: Boxed<Expr>, default: Option<Boxed<Expr>>) -> Expr
-    ensures { result ≡ variant.Env line column key default }
-{
-    Expr::Env {
-        line,
-        column,
-        key,
-        default,
-    }
-}
-
-/// Two expressions inside another, on the heap, with their strings expanded.
-#[cycle(expanding)]
-fn expanded_two<T: Texts>(
-    alloc: Global,
-    texts: &T,
-    first: &Boxed<Expr>,
-    second: &Boxed<Expr>,
-) -> Result<(Boxed<Expr>, Boxed<Expr>), NoMemory>
-    ensures { IfOk result (λ both. (both.0 ≡ expanded_expr (T.text_of texts.now) first.now)
-        × (both.1 ≡ expanded_expr (T.text_of texts.now) second.now)) }
-{
-    let first = expanded_inside(alloc, texts, first)?;
-    let second = expanded_inside(alloc, texts, second)?;
-    Ok((first, second))
-}
-
-/// A condition and its branches with their strings expanded.
-#[cycle(expanding)]
-#[tactic(auto, using(crate::proofs::ExpandedExprs::if_made))]
-fn expanded_if<T: Texts>(
-    alloc: Global,
-    texts: &T,
-    left: &Boxed<Expr>,
-    comparison: Comparison,
-    right: &Boxed<Expr>,
-    consequent: &Boxed<Expr>,
-    chained: bool,
-    alternative: &Boxed<Expr>,
-) -> Result<Expr, NoMemory>
-    ensures { IfOk result (λ x. x ≡ expanded_expr (T.text_of texts.now)
-        (variant.If left.now comparison right.now consequent.now chained alternative.now)) }
-{
-    let (left, right) = expanded_two(alloc, texts, left, right)?;
-    let (consequent, alternative) = expanded_two(alloc, texts, consequent, alternative)?;
-    Ok(Expr::If {
-        left,
-        comparison,
-        right,
-        consequent,
-        chained,
-        alternative,
-    })
-}
-
 /// An expression with its strings expanded.
 #[cycle(expanding)]
-#[tactic(auto, using(crate::proofs::ExpandedExprs::join_of, crate::proofs::ExpandedExprs::concat_of, crate::proofs::ExpandedExprs::env_of))]
 pub fn expanded_expr<T: Texts>(alloc: Global, texts: &T, expr: &Expr) -> Result<Expr, NoMemory>
     ensures { IfOk result (λ x. x ≡ expanded_expr (T.text_of texts.now) expr.now) }
 {
@@ -158,37 +100,59 @@ pub fn expanded_expr<T: Texts>(alloc: Global, texts: &T, expr: &Expr) -> Result<
             consequent,
             chained,
             alternative,
-        } => expanded_if(
-            alloc,
-            texts,
-            left,
-            *comparison,
-            right,
-            consequent,
-            *chained,
-            alternative,
-        ),
-        Expr::Root(inside) => expanded_inside(alloc, texts, inside).map(Expr::Root),
-        Expr::Join(first, second) => expanded_two(alloc, texts, first, second)
-            .map(|(first, second)| Expr::Join(first, second)),
-        Expr::Concat(first, second) => expanded_two(alloc, texts, first, second)
-            .map(|(first, second)| Expr::Concat(first, second)),
-        Expr::Literal(literal) => expanded_literal(alloc, texts, literal).map(Expr::Literal),
-        Expr::Variable(_) => copy_expr(alloc, expr),
-        Expr::Group(inside) => expanded_inside(alloc, texts, inside).map(Expr::Group),
+        } => {
+            let left = expanded_inside(alloc, texts, left)?;
+            let right = expanded_inside(alloc, texts, right)?;
+            let consequent = expanded_inside(alloc, texts, consequent)?;
+            let alternative = expanded_inside(alloc, texts, alternative)?;
+            Ok(Expr::If {
+                left,
+                comparison: *comparison,
+                right,
+                consequent,
+                chained: *chained,
+                alternative,
+            })
+        }
+        Expr::Root(inside) => Ok(Expr::Root(expanded_inside(alloc, texts, inside)?)),
+        Expr::Join(first, second) => {
+            let first = expanded_inside(alloc, texts, first)?;
+            let second = expanded_inside(alloc, texts, second)?;
+            Ok(Expr::Join(first, second))
+        }
+        Expr::Concat(first, second) => {
+            let first = expanded_inside(alloc, texts, first)?;
+            let second = expanded_inside(alloc, texts, second)?;
+            Ok(Expr::Concat(first, second))
+        }
+        Expr::Literal(literal) => Ok(Expr::Literal(expanded_literal(alloc, texts, literal)?)),
+        Expr::Variable(name) => Ok(Expr::Variable(name.try_clone()?)),
+        Expr::Group(inside) => Ok(Expr::Group(expanded_inside(alloc, texts, inside)?)),
         Expr::Env {
             line,
             column,
             key,
-            default: None,
-        } => expanded_inside(alloc, texts, key).map(|key| env_of(*line, *column, key, None)),
-        Expr::Env {
-            line,
-            column,
-            key,
-            default: Some(default),
-        } => expanded_two(alloc, texts, key, default)
-            .map(|(key, default)| env_of(*line, *column, key, Some(default))),
+            default,
+        } => {
+            let key = expanded_inside(alloc, texts, key)?;
+            match default {
+                None => Ok(Expr::Env {
+                    line: *line,
+                    column: *column,
+                    key,
+                    default: None,
+                }),
+                Some(default) => {
+                    let default = expanded_inside(alloc, texts, default)?;
+                    Ok(Expr::Env {
+                        line: *line,
+                        column: *column,
+                        key,
+                        default: Some(default),
+                    })
+                }
+            }
+        }
     }
 }
 
