@@ -1,5 +1,5 @@
 -- One more, where there is one; where none is left, those so far are all.
-use Rattle.std.proofs.Common.{ℕ, ◌+◌, ◌≤◌, ◌∙◌, List, length, drop, refl, arith}
+use Rattle.std.proofs.Common.{◌+◌, ◌≤◌, ◌∙◌, List, length, drop, refl, arith}
 use Rattle.just_lang_types.specs.declared.scope.Assignment.{Assignment}
 use Rattle.just_lang_spots.specs.declared.entries.Entry.{Entry}
 use Rattle.just_lang_spots.specs.Entries.{entry, entries}
