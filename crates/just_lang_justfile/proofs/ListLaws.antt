@@ -1,16 +1,11 @@
 -- Lists, one more item at a time.
-use Rattle.std.proofs.Common.{◌≡◌, ◌↔◌, ℕ, ◌+◌, ◌<◌, ◌≤◌, Bool, true, false, refl, List, [], ◌∷◌, ◌++◌, length, drop, get_or, append-nil, sym, ap, ◌∙◌}
-use Rattle.std.proofs.lemmas.List.{drop_all}
+use Rattle.std.proofs.Common.{◌≡◌, ◌↔◌, ℕ, ◌+◌, ◌<◌, Bool, true, false, refl, List, [], ◌∷◌, length, drop, get_or, ap}
 use Rattle.std.specs.Prelude.{IsTrue, Option}
 use Rattle.std.specs.List.{enumerate_from}
 use Rattle.just_lang_spots.specs.declared.entries.Entry.{Entry}
 use Rattle.just_lang_spots.specs.Entries.{entry, entries}
 use Rattle.just_lang_spots.proofs.ListLaws.{entries_drop}
 use Rattle.just_lang_justfile.specs.Recipes.{if_empty}
-
--- behind the last one there is nothing more to be made
-pub made_all : {X B : Type 0} (f : List X → List B) (xs : List X) (i : ℕ) (made all : List B) → length xs ≤ i → f [] ≡ [] → made ++ f (drop i xs) ≡ all → made ≡ all
-made_all {X} {B} f xs i made all h none e = sym (ap (λ (ys : List X). made ++ f ys) (drop_all i xs h) ∙ ap (λ (ys : List B). made ++ ys) none ∙ append-nil made) ∙ e
 
 -- the items from a place on, each with its place
 pub places_here : (xs : List Entry) (i : ℕ) (x : Entry) → i < length xs → x ≡ get_or xs i x

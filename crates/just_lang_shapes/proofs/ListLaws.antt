@@ -1,5 +1,6 @@
 -- Lists, one more item at a time, and lists that may be empty.
-use Rattle.std.proofs.Common.{◌≡◌, ◌↔◌, ℕ, Bool, true, false, List, [], ◌∷◌, ◌++◌, map, append_assoc, refl, sym, ap, ◌∙◌}
+use Rattle.std.proofs.Common.{◌≡◌, ◌↔◌, ℕ, ◌≤◌, Bool, true, false, List, [], ◌∷◌, ◌++◌, length, map, drop, append-nil, append_assoc, refl, sym, ap, ◌∙◌}
+use Rattle.std.proofs.lemmas.List.{drop_all}
 use Rattle.std.specs.Prelude.{IsTrue, Option, Some, None, filter_map}
 use Rattle.std.specs.List.{cons_option}
 use Rattle.just_lang_types.specs.declared.recipe.Pattern.{Pattern}
@@ -11,6 +12,10 @@ pub made_step : {A B : Type 0} (f : A → B) (y : A) (rest more : List A) (old n
 made_step {A} {B} f y rest more old new one e is n =
     ap (λ (ys : List B). ys ++ map f rest) n ∙ append_assoc old (one ∷ []) (map f rest)
     ∙ ap (λ (x : B). old ++ (x ∷ map f rest)) is ∙ sym (ap (λ (xs : List A). old ++ map f xs) e)
+
+-- behind the last one there is nothing more to be made
+pub made_all : {X B : Type 0} (f : List X → List B) (xs : List X) (i : ℕ) (made all : List B) → length xs ≤ i → f [] ≡ [] → made ++ f (drop i xs) ≡ all → made ≡ all
+made_all {X} {B} f xs i made all h none e = sym (ap (λ (ys : List X). made ++ f ys) (drop_all i xs h) ∙ ap (λ (ys : List B). made ++ ys) none ∙ append-nil made) ∙ e
 
 -- one in front of a list, where there is one
 pub option_front : {A : Type 0} (o : Option A) (xs : List A) → cons_option o [] ++ xs ≡ cons_option o xs

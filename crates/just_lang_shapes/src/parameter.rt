@@ -129,22 +129,22 @@ fn limits_of<T: Texts>(alloc: Global, texts: &T, keys: &[Argument]) -> Result<Li
 }
 
 /// What a parameter's keys say of it.
-struct Said {
+struct Keyed {
     switches: Switches,
     limits: Limits,
 }
 
-impl Drop for Said {
+impl Drop for Keyed {
     fn drop(self) {
-        let Said {
+        let Keyed {
             switches: _,
             limits: _,
         } = self;
     }
 }
 
-impl Said {
-    /// The parameter of which this is said, with that name and default.
+impl Keyed {
+    /// The parameter that the keys are for, with that name and default.
     fn parameter(
         self,
         parameter: &AstParameter,
@@ -154,22 +154,22 @@ impl Said {
         multiple: bool,
     ) -> Parameter
         ensures { result ≡ record {
-            name = name;
-            kind = parameter.now.kind;
-            export = parameter.now.export;
-            default = default;
-            long = self.switches.long;
-            short = self.switches.short;
-            value = self.switches.value;
-            flag = flag;
-            multiple = multiple;
-            help = self.limits.help;
-            pattern = self.limits.pattern;
-            min = self.limits.min;
-            max = self.limits.max;
+          name = name;
+          kind = parameter.now.kind;
+          export = parameter.now.export;
+          default = default;
+          long = self.switches.long;
+          short = self.switches.short;
+          value = self.switches.value;
+          flag = flag;
+          multiple = multiple;
+          help = self.limits.help;
+          pattern = self.limits.pattern;
+          min = self.limits.min;
+          max = self.limits.max;
         } }
     {
-        let Said { switches, limits } = self;
+        let Keyed { switches, limits } = self;
         Parameter {
             name,
             kind: parameter.kind,
@@ -188,6 +188,27 @@ impl Said {
     }
 }
 
+/// What these keys say of the parameter of that name.
+fn keyed_of<T: Texts>(
+    alloc: Global,
+    texts: &T,
+    name: &str,
+    keys: &[Argument],
+) -> Result<Keyed, NoMemory>
+    ensures long { IfOk result (λ k. k.switches.long ≡ long_of (T.text_of texts.now) name.now keys.now) }
+    ensures short { IfOk result (λ k. k.switches.short ≡ short_of (T.text_of texts.now) keys.now) }
+    ensures value { IfOk result (λ k. k.switches.value ≡ value_of (T.text_of texts.now) (codes "value") keys.now) }
+    ensures help { IfOk result (λ k. k.limits.help ≡ value_of (T.text_of texts.now) (codes "help") keys.now) }
+    ensures pattern { IfOk result (λ k. k.limits.pattern
+        ≡ pattern_of (values_of (T.text_of texts.now) (codes "pattern") keys.now)) }
+    ensures min { IfOk result (λ k. k.limits.min ≡ number_at (T.text_of texts.now) (codes "min") keys.now) }
+    ensures max { IfOk result (λ k. k.limits.max ≡ number_at (T.text_of texts.now) (codes "max") keys.now) }
+{
+    let limits = limits_of(alloc, texts, keys)?;
+    let switches = switches_of(alloc, texts, name, keys)?;
+    Ok(Keyed { switches, limits })
+}
+
 /// A parameter with what these keys say of it.
 fn parameter_with<T: Texts>(
     alloc: Global,
@@ -198,14 +219,12 @@ fn parameter_with<T: Texts>(
     ensures { IfOk result (λ p. p ≡ parameter_with (T.text_of texts.now) keys.now parameter.now) }
 {
     let called = parameter.name.text.as_str();
-    let limits = limits_of(alloc, texts, keys)?;
-    let switches = switches_of(alloc, texts, called, keys)?;
-    let said = Said { switches, limits };
+    let keyed = keyed_of(alloc, texts, called, keys)?;
     let name = parameter.name.text.try_clone()?;
     let default = expanded_default(alloc, texts, &parameter.default)?;
     let flag = stands_alone("flag", keys);
     let multiple = stands_alone("multiple", keys);
-    let made = said.parameter(parameter, name, default, flag, multiple);
+    let made = keyed.parameter(parameter, name, default, flag, multiple);
     Ok(made)
 }
 

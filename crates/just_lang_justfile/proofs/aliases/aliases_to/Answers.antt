@@ -3,9 +3,8 @@ use Rattle.std.proofs.Common.{ℕ, ◌+◌, ◌≤◌, ◌∙◌, List, length, 
 use Rattle.just_lang_spots.specs.declared.entries.Entry.{Entry}
 use Rattle.just_lang_spots.specs.Entries.{entry, entries}
 use Rattle.just_lang_spots.proofs.ListLaws.{entries_drop}
-use Rattle.just_lang_shapes.proofs.ListLaws.{picked_step}
+use Rattle.just_lang_shapes.proofs.ListLaws.{picked_step, made_all}
 use Rattle.just_lang_justfile.specs.Aliases.{alias_by, alias_for, aliases_to}
-use Rattle.just_lang_justfile.proofs.ListLaws.{made_all}
 use Rattle.just_lang_justfile.proofs.aliases.aliases_to.Goals as goal
 
 pub items-preserved : goal.items-preserved

@@ -4,8 +4,7 @@ use Rattle.just_lang_spots.specs.declared.entries.Entry.{Entry}
 use Rattle.just_lang_spots.specs.Entries.{entry, entries}
 use Rattle.just_lang_spots.proofs.ListLaws.{entries_drop}
 use Rattle.just_lang_justfile.specs.Aliases.{disabled_alias, disabled_aliases_of}
-use Rattle.just_lang_shapes.proofs.ListLaws.{picked_step}
-use Rattle.just_lang_justfile.proofs.ListLaws.{made_all}
+use Rattle.just_lang_shapes.proofs.ListLaws.{picked_step, made_all}
 use Rattle.just_lang_justfile.proofs.aliases.disabled_aliases_of.Goals as goal
 
 pub items-preserved : goal.items-preserved

@@ -4,8 +4,7 @@ use Rattle.just_lang_syntax.specs.declared.ast.AstDependency.{AstDependency}
 use Rattle.just_lang_types.specs.declared.recipe.Dependency.{Dependency}
 use Rattle.just_lang_spots.proofs.ListLaws.{drop_here}
 use Rattle.just_lang_justfile.specs.Recipes.{dependency_of, dependencies_of}
-use Rattle.just_lang_shapes.proofs.ListLaws.{picked_step}
-use Rattle.just_lang_justfile.proofs.ListLaws.{made_all}
+use Rattle.just_lang_shapes.proofs.ListLaws.{picked_step, made_all}
 use Rattle.just_lang_justfile.proofs.dependencies.dependencies_of.Goals as goal
 
 pub dependencies-preserved : goal.dependencies-preserved

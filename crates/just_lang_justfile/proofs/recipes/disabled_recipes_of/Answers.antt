@@ -6,8 +6,8 @@ use Rattle.just_lang_types.specs.declared.scope.Disabled.{Disabled}
 use Rattle.just_lang_spots.specs.declared.entries.Entry.{Entry}
 use Rattle.just_lang_spots.specs.Entries.{entry, entries}
 use Rattle.just_lang_justfile.specs.Recipes.{disabled_at, disabled_recipes_of}
-use Rattle.just_lang_shapes.proofs.ListLaws.{picked_step}
-use Rattle.just_lang_justfile.proofs.ListLaws.{made_all, places_here}
+use Rattle.just_lang_shapes.proofs.ListLaws.{picked_step, made_all}
+use Rattle.just_lang_justfile.proofs.ListLaws.{places_here}
 use Rattle.just_lang_justfile.proofs.recipes.disabled_recipes_of.Goals as goal
 
 pub standing-preserved : goal.standing-preserved

@@ -5,8 +5,7 @@ use Rattle.just_lang_spots.specs.declared.entries.Entry.{Entry}
 use Rattle.just_lang_spots.specs.Entries.{entry, entries}
 use Rattle.just_lang_spots.proofs.ListLaws.{entries_drop}
 use Rattle.just_lang_justfile.specs.Recipes.{recipe_at, recipes_of}
-use Rattle.just_lang_shapes.proofs.ListLaws.{picked_step}
-use Rattle.just_lang_justfile.proofs.ListLaws.{made_all}
+use Rattle.just_lang_shapes.proofs.ListLaws.{picked_step, made_all}
 use Rattle.just_lang_justfile.proofs.recipes.recipes_of.Goals as goal
 
 pub standing-preserved : goal.standing-preserved

@@ -1,9 +1,11 @@
--- One more, where there is one.
-use Rattle.std.proofs.Common.{◌+◌, ◌∙◌, drop}
+-- One more, where there is one; where none is left, those so far are all.
+use Rattle.std.proofs.Common.{◌+◌, ◌≤◌, ◌∙◌, List, length, drop, refl, arith}
+use Rattle.just_lang_types.specs.declared.scope.Assignment.{Assignment}
+use Rattle.just_lang_spots.specs.declared.entries.Entry.{Entry}
 use Rattle.just_lang_spots.specs.Entries.{entry, entries}
 use Rattle.just_lang_spots.proofs.ListLaws.{entries_drop}
-use Rattle.just_lang_shapes.specs.Scopes.{assignment_in}
-use Rattle.just_lang_shapes.proofs.ListLaws.{picked_step}
+use Rattle.just_lang_shapes.specs.Scopes.{assignment_in, assignments_of}
+use Rattle.just_lang_shapes.proofs.ListLaws.{picked_step, made_all}
 use Rattle.just_lang_shapes.proofs.scope.assignments_of.Goals as goal
 
 pub items-preserved : goal.items-preserved
@@ -13,3 +15,10 @@ items-preserved g c =
     let x = c.one-item.result in
     picked_step (assignment_in (g.T.Texts.text_of c.args.texts.now)) (entry x) (entries (drop (i + 1) xs)) (entries (drop i xs)) c.items.all.items c.push_some.new.list.items c.in_ok-assignment.assignment
     (entries_drop xs i x c.items-test.true c.one-item.is) c.in_ok-assignment.ensures c.in_ok-push_some.ensures ∙ c.items.invariant
+
+pub returns : goal.returns
+returns g c =
+    let made : List Entry → List Assignment = λ ys. assignments_of (g.T.Texts.text_of c.args.texts.now) (entries ys) in
+    let xs = c.args.items.now in
+    let last : length xs ≤ c.items.one-index = omega arith in
+    c.from.ensures ∙ made_all made xs c.items.one-index c.items.all.items (made xs) last refl c.items.invariant
