@@ -5,8 +5,9 @@ use Rattle.std.specs.Str.Pattern.{RFindsChar}
 use Rattle.std.specs.Option.{MatchOption}
 use Rattle.std.proofs.lemmas.List.{take-append-drop}
 use Rattle.std.proofs.lemmas.Str.Pattern.{NoCharPasses-char, drop_at_char}
+use Rattle.just_lang_read.proofs.Prefixes.{same}
 use Rattle.just_config_words.specs.Cuts.{holds}
-use Rattle.just_config_words.proofs.Cuts.{IsWithout, same, is_without, holds_none, holds_it}
+use Rattle.just_config_words.proofs.Cuts.{IsWithout, is_without, holds_none, holds_it}
 use Rattle.just_config.specs.Cuts.{up_to_last, behind_last}
 
 pub up_to_it : (c : ℕ) (xs ys : List ℕ) → IsWithout c ys → up_to_last c (xs ++ (c ∷ ys)) ≡ xs ++ (c ∷ [])

@@ -1,22 +1,15 @@
 -- What a text is cut into at the first one of a character.
-use Rattle.std.proofs.Common.{◌≡◌, ◌≢◌, ℕ, suc, ◌<◌, ◌+◌, ◌++◌, ◌==◌, ◌||◌, Bool, true, false, List, [], ◌∷◌, refl, sym, ◌∙◌, ap, subst, length, drop, get_or, arith, Bor, Option}
+use Rattle.std.proofs.Common.{◌≡◌, ◌≢◌, ℕ, suc, ◌<◌, ◌++◌, ◌==◌, ◌||◌, Bool, true, false, List, [], ◌∷◌, refl, sym, ◌∙◌, ap, subst, length, get_or, arith, Bor, Option}
 use Rattle.std.specs.Prelude.{Some, None}
-use Rattle.std.specs.Str.Pattern.{FindsCharPrefix}
 use Rattle.std.specs.Option.{MatchOption}
-use Rattle.std.proofs.lemmas.Bool.Decides.{nat_tests}
-use Rattle.std.proofs.lemmas.Str.Pattern.{IsSplitOnceResult, split_parts, strip_prefix_char}
-use Rattle.just_config_words.specs.Cuts.{holds, before_first, behind_first, behind_sign, parts, put_in_front}
+use Rattle.std.proofs.lemmas.Str.Pattern.{IsSplitOnceResult, split_parts}
+use Rattle.just_lang_read.proofs.Prefixes.{apart, same}
+use Rattle.just_config_words.specs.Cuts.{holds, before_first, behind_first, parts, put_in_front}
 
 -- the character stands at no place of a text
 abbrev pub IsWithout : ℕ → List ℕ → Type 0
 IsWithout c [] = Unit {0}
 IsWithout c (x ∷ xs) = ((x == c) ≡ false) × IsWithout c xs
-
-apart : (c x : ℕ) → x ≢ c → (x == c) ≡ false
-apart c x h = grind (arith, nat_tests)
-
-pub same : (c : ℕ) → (c == c) ≡ true
-same c = grind (arith, nat_tests)
 
 or_true : (b : Bool) → (b || true) ≡ true
 or_true true = refl
@@ -83,25 +76,3 @@ from_split c bs (Some x) k =
 
 pub cut_first : (c : ℕ) (bs : List ℕ) (r : Option (Bor (List ℕ) × Bor (List ℕ))) → IsSplitOnceResult c bs r → c < 128 → IsCut c bs r
 cut_first c bs r h l = from_split c bs r (split_parts c bs r h l)
-
--- ---- what `strip_prefix` answers
-
-abbrev pub IsStripped : ℕ → List ℕ → Option (Bor (List ℕ)) → Type 0
-IsStripped c bs r = MatchOption r (behind_sign c bs ≡ None) (λ x. behind_sign c bs ≡ Some x.now)
-
-begins_not : (c : ℕ) (bs : List ℕ) → ((rest : List ℕ) → bs ≢ c ∷ rest) → behind_sign c bs ≡ None
-begins_not c [] h = refl
-begins_not c (x ∷ xs) h = let e = apart c x (λ f. h xs (ap (λ y. y ∷ xs) f)) in rw e refl
-
-begins : (c : ℕ) (bs rest : List ℕ) → bs ≡ c ∷ rest → behind_sign c bs ≡ Some rest
-begins c bs rest h = let e = same c in ap (behind_sign c) h ∙ rw e refl
-
-from_strip : (c : ℕ) (bs : List ℕ) (r : Option (Bor (List ℕ))) → MatchOption r ((rest : List ℕ) → bs ≢ c ∷ rest) (λ x. bs ≡ c ∷ x.now) → IsStripped c bs r
-from_strip c bs None h = begins_not c bs h
-from_strip c bs (Some x) h = begins c bs x.now h
-
-abbrev pub IsStripResult : ℕ → List ℕ → Option (Bor (List ℕ)) → Type 0
-IsStripResult c bs r = MatchOption r (FindsCharPrefix c bs None) (λ x. (n : ℕ) × FindsCharPrefix c bs (Some n) × (x.now ≡ drop n bs) × (length x.now + n ≡ length bs))
-
-pub strip_sign : (c : ℕ) (bs : List ℕ) (r : Option (Bor (List ℕ))) → IsStripResult c bs r → c < 128 → IsStripped c bs r
-strip_sign c bs r h l = from_strip c bs r (strip_prefix_char c bs r h l)

@@ -5,7 +5,7 @@ use Rattle.std.specs.Prelude.{Some, None, Result, Ok, Err, codes}
 use Rattle.std.proofs.lemmas.Slice.Eq.{bytes_eq-Decides}
 use Rattle.std.specs.List.{list_any}
 use Rattle.just_config_words.specs.declared.arguments.Arguments.{Arguments}
-use Rattle.just_config_words.specs.declared.mark.Mark.{Mark}
+use Rattle.just_config_words.specs.declared.parsed.ParsedOption.{ParsedOption}
 use Rattle.just_config_words.specs.declared.occurrence.Occurrence.{Occurrence}
 use Rattle.just_config_words.specs.declared.usage.Usage.{Usage}
 use Rattle.just_config_words.specs.declared.usage.UsageKind.{UsageKind}
@@ -13,9 +13,9 @@ use Rattle.just_config_words.specs.declared.usage.UsageKind.TheVariants as usage
 use Rattle.just_config_words.specs.declared.words.Read.{Read}
 use Rattle.just_config_words.specs.declared.words.Read.TheVariants as read
 use Rattle.just_config_words.specs.Table.{table}
-use Rattle.just_config_words.specs.Marks.{is_value, ends_options, marks, words_taken}
+use Rattle.just_config_words.specs.Parsed.{is_value, ends_options, parsed_options, words_taken}
 use Rattle.just_config_words.specs.Faults.{fault_of, occurrences, asks_for_help, asks_for_version}
-use Rattle.just_config_words.specs.Front.{AreOptions, none, more, AreSplit, ended, marked, began, IsNext, has_options, is_question}
+use Rattle.just_config_words.specs.Front.{AreOptions, none, more, AreSplit, ended, delimited, began, IsNext, has_options, is_question}
 use Rattle.just_config_words.specs.Variables.{Pairs, first_ill, filled}
 use Rattle.just_config_words.specs.Rules.{conflict, missing}
 use Rattle.just_config_words.specs.Arguments.{AreArguments}
@@ -29,16 +29,16 @@ abbrev State : Type 0
 State = List Occurrence × List (List ℕ)
 
 abbrev turn_of : List Occurrence → List ℕ → List (List ℕ) → Bool → Option UsageKind → Bool → Option State
-turn_of g w ws true None false = Some (g ++ occurrences w (marks w ws), drop (words_taken (marks w ws)) ws)
+turn_of g w ws true None false = Some (g ++ occurrences w (parsed_options w ws), drop (words_taken (parsed_options w ws)) ws)
 turn_of g w ws _ _ _ = None
 
 -- what one more word with options leaves, where it has no fault and asks for nothing
 abbrev turn : State → Option State
 turn (g, []) = None
-turn (g, (w ∷ ws)) = turn_of g w ws (has_options w) (fault_of g (marks w ws)) (is_question (marks w ws))
+turn (g, (w ∷ ws)) = turn_of g w ws (has_options w) (fault_of g (parsed_options w ws)) (is_question (parsed_options w ws))
 
 turn_at : (g : List Occurrence) (w : List ℕ) (ws : List (List ℕ)) (b : Bool) (f : Option UsageKind) (q : Bool) → b ≡ true → f ≡ None → q ≡ false
-    → turn_of g w ws b f q ≡ Some (g ++ occurrences w (marks w ws), drop (words_taken (marks w ws)) ws)
+    → turn_of g w ws b f q ≡ Some (g ++ occurrences w (parsed_options w ws), drop (words_taken (parsed_options w ws)) ws)
 turn_at g w ws true None false h k l = refl
 turn_at g w ws true None true h k l = let f : ⊥ = cc in absurd f
 turn_at g w ws true (Some u) q h k l = let f : ⊥ = cc in absurd f
@@ -85,11 +85,11 @@ reached : (words : List (List ℕ)) (given : List Occurrence) (rest : List (List
 reached words _ _ (none given rest e f) = (0, cc)
 reached words _ _ (more before w ws given rest a h k l e f) =
     let p = reached words before (w ∷ ws) a in
-    let q : turn (before, (w ∷ ws)) ≡ Some (before ++ occurrences w (marks w ws), drop (words_taken (marks w ws)) ws) =
-    turn_at before w ws (has_options w) (fault_of before (marks w ws)) (is_question (marks w ws)) h k l in
+    let q : turn (before, (w ∷ ws)) ≡ Some (before ++ occurrences w (parsed_options w ws), drop (words_taken (parsed_options w ws)) ws) =
+    turn_at before w ws (has_options w) (fault_of before (parsed_options w ws)) (is_question (parsed_options w ws)) h k l in
     let r : turn (before, (w ∷ ws)) ≡ Some (given, rest) =
     subst (λ (x : List Occurrence). turn (before, (w ∷ ws)) ≡ Some (x, rest)) (sym e)
-    (subst (λ (y : List (List ℕ)). turn (before, (w ∷ ws)) ≡ Some (before ++ occurrences w (marks w ws), y)) (sym f) q) in
+    (subst (λ (y : List (List ℕ)). turn (before, (w ∷ ws)) ≡ Some (before ++ occurrences w (parsed_options w ws), y)) (sym f) q) in
     (suc p.0, one_more p.0 ([], words) (before, (w ∷ ws)) (given, rest) p.1 r)
 
 -- ---- where the options end
@@ -111,7 +111,7 @@ end_of g w ws false false None false false = None
 -- what stands where no further word with options is read
 abbrev end_at : State → Option End
 end_at (g, []) = Some (Split g [])
-end_at (g, (w ∷ ws)) = end_of g w ws (is_value w) (ends_options w) (fault_of g (marks w ws)) (list_any asks_for_help (marks w ws)) (list_any asks_for_version (marks w ws))
+end_at (g, (w ∷ ws)) = end_of g w ws (is_value w) (ends_options w) (fault_of g (parsed_options w ws)) (list_any asks_for_help (parsed_options w ws)) (list_any asks_for_version (parsed_options w ws))
 
 no_turn_of : (g : List Occurrence) (w : List ℕ) (ws : List (List ℕ)) (v e : Bool) (f : Option UsageKind) (h q : Bool) (x : End)
     → end_of g w ws v e f h q ≡ Some x → turn_of g w ws (not v && not e) f (h || q) ≡ None
@@ -125,7 +125,7 @@ no_turn_of g w ws false false None false false x k = let y : ⊥ = cc in absurd 
 no_turn : (s : State) (x : End) → end_at s ≡ Some x → turn s ≡ None
 no_turn (g, []) x e = refl
 no_turn (g, (w ∷ ws)) x e =
-    no_turn_of g w ws (is_value w) (ends_options w) (fault_of g (marks w ws)) (list_any asks_for_help (marks w ws)) (list_any asks_for_version (marks w ws)) x e
+    no_turn_of g w ws (is_value w) (ends_options w) (fault_of g (parsed_options w ws)) (list_any asks_for_help (parsed_options w ws)) (list_any asks_for_version (parsed_options w ws)) x e
 
 faulty_end : (g : List Occurrence) (w : List ℕ) (ws : List (List ℕ)) (v e : Bool) (f : Option UsageKind) (h q : Bool) (k : UsageKind)
     → (not v && not e) ≡ true → f ≡ Some k → end_of g w ws v e f h q ≡ Some (Faulty (fault k w))
@@ -156,10 +156,10 @@ value_end g w ws true e f h q p = refl
 value_end g w ws false e f h q p = let y : ⊥ = cc in absurd y
 
 -- the word that ends the options is no value
-marked_end : (g : List Occurrence) (w : List ℕ) (ws : List (List ℕ)) (v e : Bool) (f : Option UsageKind) (h q : Bool) → v ≡ false → e ≡ true → end_of g w ws v e f h q ≡ Some (Split g ws)
-marked_end g w ws true e f h q p r = let y : ⊥ = cc in absurd y
-marked_end g w ws false true f h q p r = refl
-marked_end g w ws false false f h q p r = let y : ⊥ = cc in absurd y
+delimited_end : (g : List Occurrence) (w : List ℕ) (ws : List (List ℕ)) (v e : Bool) (f : Option UsageKind) (h q : Bool) → v ≡ false → e ≡ true → end_of g w ws v e f h q ≡ Some (Split g ws)
+delimited_end g w ws true e f h q p r = let y : ⊥ = cc in absurd y
+delimited_end g w ws false true f h q p r = refl
+delimited_end g w ws false false f h q p r = let y : ⊥ = cc in absurd y
 
 no_value : (w : List ℕ) → ends_options w ≡ true → is_value w ≡ false
 no_value w e = ap is_value ((bytes_eq-Decides w (codes "--")).0 e)
@@ -218,12 +218,12 @@ told words environ r given rest e a h k = let p = reached words given rest a in 
 told_split : (words : List (List ℕ)) (environ : Pairs) (r : Result Read Usage) (given : List Occurrence) (positional : List (List ℕ)) → AreSplit words given positional
     → Tells environ (Split given positional) r → IsTold words environ r
 told_split words environ r given positional (ended a e) k = told words environ r given [] (Split given positional) a (ap (λ (t : List (List ℕ)). Some (Split given t)) (sym e)) k
-told_split words environ r given positional (marked w a e) k =
+told_split words environ r given positional (delimited w a e) k =
     told words environ r given (w ∷ positional) (Split given positional) a
-    (marked_end given w positional (is_value w) (ends_options w) (fault_of given (marks w positional)) (list_any asks_for_help (marks w positional)) (list_any asks_for_version (marks w positional)) (no_value w e) e) k
+    (delimited_end given w positional (is_value w) (ends_options w) (fault_of given (parsed_options w positional)) (list_any asks_for_help (parsed_options w positional)) (list_any asks_for_version (parsed_options w positional)) (no_value w e) e) k
 told_split words environ r given positional (began w ws a v e) k =
     told words environ r given (w ∷ ws) (Split given positional) a
-    (value_end given w ws (is_value w) (ends_options w) (fault_of given (marks w ws)) (list_any asks_for_help (marks w ws)) (list_any asks_for_version (marks w ws)) v
+    (value_end given w ws (is_value w) (ends_options w) (fault_of given (parsed_options w ws)) (list_any asks_for_help (parsed_options w ws)) (list_any asks_for_version (parsed_options w ws)) v
     ∙ ap (λ (t : List (List ℕ)). Some (Split given t)) (sym e)) k
 
 tells_ill : (environ : Pairs) (g : List Occurrence) (p : List (List ℕ)) (a b c : Option (List ℕ)) (v : List ℕ) → a ≡ Some v → TellsOf environ g p (refusal_of a b c) (Err (fault usage.BadValue v))
@@ -250,7 +250,7 @@ tells_go environ g p None (Some y) c x d e h k = let f : ⊥ = cc in absurd f
 tells_go environ g p None None (Some y) x d e h k = let f : ⊥ = cc in absurd f
 tells_go environ g p None None None x d e h k = (x, refl, k)
 
-told_word : (words : List (List ℕ)) (environ : Pairs) (r : Result Read Usage) (given : List Occurrence) (w : List ℕ) (ms : List Mark) (e : End) (at : IsNext words given w ms)
+told_word : (words : List (List ℕ)) (environ : Pairs) (r : Result Read Usage) (given : List Occurrence) (w : List ℕ) (ms : List ParsedOption) (e : End) (at : IsNext words given w ms)
     → end_at (given, (w ∷ at.behind)) ≡ Some e → Tells environ e r → IsTold words environ r
 told_word words environ r given w ms e at h k = told words environ r given (w ∷ at.behind) e at.before h k
 
@@ -258,20 +258,20 @@ means_told : (words : List (List ℕ)) (environ : Pairs) (r : Result Read Usage)
 means_told words environ _ (single k w f) =
     let n = f.at.behind in
     told words environ (Err (fault k w)) f.given (w ∷ n) (Faulty (fault k w)) f.at.before
-    (faulty_end f.given w n (is_value w) (ends_options w) (fault_of f.given (marks w n)) (list_any asks_for_help (marks w n)) (list_any asks_for_version (marks w n)) k f.at.has
-    (subst (λ (t : List Mark). fault_of f.given t ≡ Some k) f.at.are f.fault)) refl
+    (faulty_end f.given w n (is_value w) (ends_options w) (fault_of f.given (parsed_options w n)) (list_any asks_for_help (parsed_options w n)) (list_any asks_for_version (parsed_options w n)) k f.at.has
+    (subst (λ (t : List ParsedOption). fault_of f.given t ≡ Some k) f.at.are f.fault)) refl
 means_told words environ _ (help q) =
     let n = q.at.behind in
     told words environ (Ok read.Help) q.given (q.w ∷ n) Helps q.at.before
-    (help_end q.given q.w n (is_value q.w) (ends_options q.w) (fault_of q.given (marks q.w n)) (list_any asks_for_help (marks q.w n)) (list_any asks_for_version (marks q.w n)) q.at.has
-    (subst (λ (t : List Mark). fault_of q.given t ≡ None) q.at.are q.sound)
-    (subst (λ (t : List Mark). list_any asks_for_help t ≡ true) q.at.are q.asked)) refl
+    (help_end q.given q.w n (is_value q.w) (ends_options q.w) (fault_of q.given (parsed_options q.w n)) (list_any asks_for_help (parsed_options q.w n)) (list_any asks_for_version (parsed_options q.w n)) q.at.has
+    (subst (λ (t : List ParsedOption). fault_of q.given t ≡ None) q.at.are q.sound)
+    (subst (λ (t : List ParsedOption). list_any asks_for_help t ≡ true) q.at.are q.asked)) refl
 means_told words environ _ (version q) =
     let n = q.at.behind in
-    let v : list_any asks_for_version (marks q.w n) ≡ true = subst (λ (t : List Mark). list_any asks_for_version t ≡ true) q.at.are q.asked in
+    let v : list_any asks_for_version (parsed_options q.w n) ≡ true = subst (λ (t : List ParsedOption). list_any asks_for_version t ≡ true) q.at.are q.asked in
     told words environ (Ok read.Version) q.given (q.w ∷ n) Versions q.at.before
-    (version_end q.given q.w n (is_value q.w) (ends_options q.w) (fault_of q.given (marks q.w n)) (list_any asks_for_help (marks q.w n)) (list_any asks_for_version (marks q.w n)) q.at.has
-    (subst (λ (t : List Mark). fault_of q.given t ≡ None) q.at.are q.sound) (one_question q.w n v) v) refl
+    (version_end q.given q.w n (is_value q.w) (ends_options q.w) (fault_of q.given (parsed_options q.w n)) (list_any asks_for_help (parsed_options q.w n)) (list_any asks_for_version (parsed_options q.w n)) q.at.has
+    (subst (λ (t : List ParsedOption). fault_of q.given t ≡ None) q.at.are q.sound) (one_question q.w n v) v) refl
 means_told words environ _ (variable g p v s f) =
     told_split words environ (Err (fault usage.BadValue v)) g p s (tells_ill environ g p (first_ill environ g table) (conflict g p) (missing g (filled environ g)) v f)
 means_told words environ _ (conflicts g p v s f c) =

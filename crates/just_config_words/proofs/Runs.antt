@@ -1,6 +1,6 @@
 -- The words in front that are values.
 use Rattle.std.proofs.Common.{◌≡◌, ◌∙◌, ℕ, zero, suc, ◌≤◌, ◌||◌, Bool, true, false, List, [], ◌∷◌, ap, length, take, min, if◌then◌else◌, arith}
-use Rattle.just_config_words.specs.Marks.{is_value, run}
+use Rattle.just_config_words.specs.Parsed.{is_value, run}
 
 within_step : (any b : Bool) (w : List ℕ) (ws : List (List ℕ)) → length (run any ws) ≤ length ws → length (if b then w ∷ run any ws else []) ≤ length (w ∷ ws)
 within_step any true w ws h = omega (arith, h)

@@ -1,15 +1,11 @@
 -- What a text is cut into at a character.
-use Rattle.std.specs.Prelude.{ℕ, Bool, false, ◌||◌, ◌==◌, if◌then◌else◌, List, [], ◌∷◌, Option, Some, None}
+use Rattle.std.specs.Prelude.{ℕ, Bool, false, ◌||◌, ◌==◌, if◌then◌else◌, List, [], ◌∷◌}
+pub use Rattle.just_lang_read.specs.Prefixes.{behind_sign}
 
 -- whether a text holds the character
 abbrev pub holds : ℕ → List ℕ → Bool
 holds x [] = false
 holds x (c ∷ cs) = c == x || holds x cs
-
--- what stands behind the character, where a text begins with it
-abbrev pub behind_sign : ℕ → List ℕ → Option (List ℕ)
-behind_sign x [] = None
-behind_sign x (c ∷ cs) = if c == x then Some cs else None
 
 -- what stands before the first one; all where there is none
 abbrev pub before_first : ℕ → List ℕ → List ℕ

@@ -5,7 +5,7 @@ pub mod Paths
 pub mod Forms
 pub mod Kinds
 pub mod Letters
-pub mod Marks
+pub mod Parsed
 pub mod Occurrences
 pub mod Faults
 pub mod Front

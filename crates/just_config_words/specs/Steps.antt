@@ -16,17 +16,17 @@ use Rattle.just_config_words.specs.declared.words.Read.TheVariants as read
 use Rattle.just_config_words.specs.Arguments.{AreArguments}
 use Rattle.just_config_words.specs.Rules.{conflict, missing}
 use Rattle.just_config_words.specs.Words.{fault}
-use Rattle.just_config_words.specs.Marks.{marks, words_taken}
+use Rattle.just_config_words.specs.Parsed.{parsed_options, words_taken}
 use Rattle.just_config_words.specs.Faults.{fault_of, occurrences, asks_for_help, asks_for_version}
 use Rattle.just_config_words.specs.Front.{AreSplit, IsFaulty, Asks, has_options, is_question, positional_in}
 
 -- what a word comes to, behind some options and in front of some words, and the options behind it
 abbrev pub IsStep : List Occurrence → List ℕ → List (List ℕ) → List Occurrence → Step → Type 0
 IsStep given w behind after (step.Taken n) =
-    (fault_of given (marks w behind) ≡ None) × (is_question (marks w behind) ≡ false) × (after ≡ given ++ occurrences w (marks w behind)) × (n ≡ words_taken (marks w behind))
-IsStep given w behind after (step.Fault kind) = fault_of given (marks w behind) ≡ Some kind
-IsStep given w behind after step.Help = (fault_of given (marks w behind) ≡ None) × (list_any asks_for_help (marks w behind) ≡ true)
-IsStep given w behind after step.Version = (fault_of given (marks w behind) ≡ None) × (list_any asks_for_version (marks w behind) ≡ true)
+    (fault_of given (parsed_options w behind) ≡ None) × (is_question (parsed_options w behind) ≡ false) × (after ≡ given ++ occurrences w (parsed_options w behind)) × (n ≡ words_taken (parsed_options w behind))
+IsStep given w behind after (step.Fault kind) = fault_of given (parsed_options w behind) ≡ Some kind
+IsStep given w behind after step.Help = (fault_of given (parsed_options w behind) ≡ None) × (list_any asks_for_help (parsed_options w behind) ≡ true)
+IsStep given w behind after step.Version = (fault_of given (parsed_options w behind) ≡ None) × (list_any asks_for_version (parsed_options w behind) ≡ true)
 
 -- what stands next among words: the end of the options and the positional words, or a word with options
 abbrev pub IsNextWord : List (List ℕ) → Next → Type 0
@@ -48,14 +48,15 @@ IsConflict given positional u = (w : List ℕ) × (conflict given positional ≡
 abbrev pub IsMissing : List Occurrence → List Occurrence → Usage → Type 0
 IsMissing given filled u = (w : List ℕ) × (missing given filled ≡ Some w) × (u ≡ fault usage.Requires w)
 
-abbrev pub IsSound : List Occurrence → List (List ℕ) → Read → Type 0
-IsSound filled positional (read.Go a) = AreArguments filled positional a
-IsSound filled positional read.Help = ⊥
-IsSound filled positional read.Version = ⊥
+-- options and positional words mean these arguments; the help and the version were asked for before
+abbrev pub MeanArguments : List Occurrence → List (List ℕ) → Read → Type 0
+MeanArguments filled positional (read.Go a) = AreArguments filled positional a
+MeanArguments filled positional read.Help = ⊥
+MeanArguments filled positional read.Version = ⊥
 
 -- what options mean, with what variables fill in and the positional words
 abbrev pub IsJudged : List Occurrence → List Occurrence → List (List ℕ) → Result Read Usage → Type 0
-IsJudged given filled positional (Ok r) = (conflict given positional ≡ None) × (missing given filled ≡ None) × IsSound filled positional r
+IsJudged given filled positional (Ok r) = (conflict given positional ≡ None) × (missing given filled ≡ None) × MeanArguments filled positional r
 IsJudged given filled positional (Err u) = IsConflict given positional u ⊎ ((conflict given positional ≡ None) × IsMissing given filled u)
 
 -- what options mean where a variable's text isn't in its form, or none

@@ -1,17 +1,10 @@
 //! Texts that are cut at a character.
-ghost use Rattle.std.specs.Prelude.{◌≡◌, ◌<◌, IfOk, ◌++◌, ◌∷◌, [], true, false, length, None, Some, MatchOption};
-ghost use Rattle.just_config_words.specs.Cuts.{holds, before_first, behind_first, behind_sign, parts};
+ghost use Rattle.std.specs.Prelude.{◌≡◌, ◌<◌, IfOk, ◌++◌, ◌∷◌, [], true, false, length, MatchOption};
+ghost use Rattle.just_config_words.specs.Cuts.{holds, before_first, behind_first, parts};
 
+pub use just_lang_read::strip;
 use just_path_text::{NoMemory, Text};
 use std::alloc::Global;
-
-/// What stands behind the character, where a text begins with it.
-pub fn strip(text: &str, sign: char) -> Option<&str>
-    requires { sign < 128 }
-    ensures { MatchOption result (behind_sign sign text.now ≡ None) (λ x. behind_sign sign text.now ≡ Some x.now) }
-{
-    text.strip_prefix(sign)
-}
 
 /// What stands before the first one of the character, and behind it.
 pub fn cut(text: &str, sign: char) -> Option<(&str, &str)>

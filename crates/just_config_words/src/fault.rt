@@ -1,11 +1,11 @@
 //! What is wrong at a word.
 ghost use Rattle.std.specs.Prelude.{◌≡◌, ◌&&◌, ◌||◌, [], IfOk, bytes_eq, take};
 ghost use Rattle.std.specs.List.{list_any};
-ghost use Rattle.just_config_words.specs.Faults.{is_unknown, is_left_out, are_json, is_ill_joined, lacks_value, has_surplus, is_ill_formed, is_mark_of, is_repeat, has_repeat, fault_of, test_of, asks_for_help, asks_for_version};
+ghost use Rattle.just_config_words.specs.Faults.{is_unknown, is_left_out, are_json, is_ill_joined, lacks_value, has_surplus, is_ill_formed, is_of_option, is_repeat, has_repeat, fault_of, test_of, asks_for_help, asks_for_version};
 
-use super::mark::is_value;
 use super::occurrence::is_given;
-use super::{Attached, Mark, Occurrence, UsageKind, Values};
+use super::parsed::is_value;
+use super::{Attached, Occurrence, ParsedOption, UsageKind, Values};
 use just_path_text::Text;
 
 /// Whether the values are the one value `json`.
@@ -47,7 +47,7 @@ pub(crate) enum Test {
     Version,
 }
 
-impl Mark {
+impl ParsedOption {
     /// Whether it is what the test says.
     fn passes(&self, test: Test) -> bool
         ensures { result ≡ test_of test self.now }
@@ -113,7 +113,7 @@ impl Mark {
 
     /// Whether it is of the option of that name.
     fn is_of(&self, name: &str) -> bool
-        ensures { result ≡ is_mark_of name.now self.now }
+        ensures { result ≡ is_of_option name.now self.now }
     {
         match &self.option {
             None => false,
@@ -122,14 +122,14 @@ impl Mark {
     }
 
     /// Whether it may stand once, and stands before, in the words or in its own word.
-    fn is_repeat(&self, before: &[Occurrence], earlier: &[Mark]) -> bool
+    fn is_repeat(&self, before: &[Occurrence], earlier: &[ParsedOption]) -> bool
         ensures { result ≡ is_repeat before.now earlier.now self.now }
     {
         match &self.option {
             None => false,
             Some(entry) => {
                 let name = entry.name.as_str();
-                entry.kind.is_once() && (is_given(name, before) || has_mark(name, earlier))
+                entry.kind.is_once() && (is_given(name, before) || has_option(name, earlier))
             }
         }
     }
@@ -156,31 +156,31 @@ impl Mark {
 }
 
 /// Whether one of the options of a word is what the test says.
-pub(crate) fn has(test: Test, marks: &[Mark]) -> bool
-    ensures { result ≡ list_any (test_of test) marks.now }
+pub(crate) fn has(test: Test, parsed: &[ParsedOption]) -> bool
+    ensures { result ≡ list_any (test_of test) parsed.now }
 {
-    'marks: for mark in marks {
-        if mark.passes(test) {
+    'parsed: for one in parsed {
+        if one.passes(test) {
             return true;
         }
     }
     false
 }
 
-/// Whether one of the marks is of the option of that name.
-fn has_mark(name: &str, marks: &[Mark]) -> bool
-    ensures { result ≡ list_any (is_mark_of name.now) marks.now }
+/// Whether one of the options of a word is the one of that name.
+fn has_option(name: &str, parsed: &[ParsedOption]) -> bool
+    ensures { result ≡ list_any (is_of_option name.now) parsed.now }
 {
-    marks.iter().any(|mark| mark.is_of(name))
+    parsed.iter().any(|one| one.is_of(name))
 }
 
 /// Whether one of the options stands twice that may stand once.
-fn has_repeat(before: &[Occurrence], marks: &[Mark]) -> bool
-    ensures { result ≡ has_repeat before.now [] marks.now }
+fn has_repeat(before: &[Occurrence], parsed: &[ParsedOption]) -> bool
+    ensures { result ≡ has_repeat before.now [] parsed.now }
 {
     let mut index = 0;
-    'marks: while index < marks.len() {
-        if marks[index].is_repeat(before, &marks[..index]) {
+    'parsed: while index < parsed.len() {
+        if parsed[index].is_repeat(before, &parsed[..index]) {
             return true;
         }
         index += 1;
@@ -189,20 +189,20 @@ fn has_repeat(before: &[Occurrence], marks: &[Mark]) -> bool
 }
 
 /// The fault of a word with these options, behind those before: the first kind of this list that comes at one of its options.
-pub(crate) fn fault_of(before: &[Occurrence], marks: &[Mark]) -> Option<UsageKind>
-    ensures { result ≡ fault_of before.now marks.now }
+pub(crate) fn fault_of(before: &[Occurrence], parsed: &[ParsedOption]) -> Option<UsageKind>
+    ensures { result ≡ fault_of before.now parsed.now }
 {
-    if has(Test::Unknown, marks) {
+    if has(Test::Unknown, parsed) {
         Some(UsageKind::Unknown)
-    } else if has(Test::LeftOut, marks) {
+    } else if has(Test::LeftOut, parsed) {
         Some(UsageKind::LeftOut)
-    } else if has(Test::LacksValue, marks) {
+    } else if has(Test::LacksValue, parsed) {
         Some(UsageKind::MissingValue)
-    } else if has(Test::Surplus, marks) {
+    } else if has(Test::Surplus, parsed) {
         Some(UsageKind::UnexpectedValue)
-    } else if has(Test::IllFormed, marks) {
+    } else if has(Test::IllFormed, parsed) {
         Some(UsageKind::BadValue)
-    } else if has_repeat(before, marks) {
+    } else if has_repeat(before, parsed) {
         Some(UsageKind::Repeated)
     } else {
         None

@@ -1,14 +1,14 @@
 //! The options in front of the positional words.
 ghost use Rattle.std.specs.Prelude.{◌≡◌, ◌++◌, [], ◌∷◌, length, drop, IfOk, Ok, Err, Some, None};
 ghost use Rattle.std.specs.List.{list_any};
-ghost use Rattle.just_config_words.specs.Marks.{is_value, ends_options, marks, words_taken};
+ghost use Rattle.just_config_words.specs.Parsed.{is_value, ends_options, parsed_options, words_taken};
 ghost use Rattle.just_config_words.specs.Faults.{fault_of, occurrences, asks_for_help, asks_for_version};
 ghost use Rattle.just_config_words.specs.Front.{AreOptions, AreSplit, IsFaulty, Asks, has_options, positional_in};
 ghost use Rattle.just_config_words.specs.Steps.{IsStep, IsNextWord, IsFront};
 
 use super::fault::{Test, fault_of, has};
-use super::mark::{is_value, marks, words_taken};
-use super::{Mark, Occurrence, UsageKind};
+use super::parsed::{is_value, parsed_options, words_taken};
+use super::{Occurrence, ParsedOption, UsageKind};
 use just_path_text::{NoMemory, Text};
 use std::alloc::Global;
 
@@ -52,12 +52,12 @@ pub(crate) enum Front<'a> {
 fn add_occurrences(
     given: &mut Vec<Occurrence>,
     word: &Text,
-    marks: Vec<Mark>,
+    parsed: Vec<ParsedOption>,
 ) -> Result<(), NoMemory>
-    ensures { IfOk result (λ u. given.new.items ≡ given.old.items ++ occurrences word.now marks.items) }
+    ensures { IfOk result (λ u. given.new.items ≡ given.old.items ++ occurrences word.now parsed.items) }
 {
-    'marks: for mark in marks {
-        mark.add_to(given, word)?;
+    'parsed: for one in parsed {
+        one.add_to(given, word)?;
     }
     Ok(())
 }
@@ -71,18 +71,18 @@ fn read_word(
 ) -> Result<Step, NoMemory>
     ensures { IfOk result (λ step. IsStep given.old.items word.now behind.now given.new.items step) }
 {
-    let marks = marks(alloc, word.as_str(), behind)?;
-    if let Some(kind) = fault_of(given.as_slice(), marks.as_slice()) {
+    let parsed = parsed_options(alloc, word.as_str(), behind)?;
+    if let Some(kind) = fault_of(given.as_slice(), parsed.as_slice()) {
         return Ok(Step::Fault(kind));
     }
-    if has(Test::Help, marks.as_slice()) {
+    if has(Test::Help, parsed.as_slice()) {
         return Ok(Step::Help);
     }
-    if has(Test::Version, marks.as_slice()) {
+    if has(Test::Version, parsed.as_slice()) {
         return Ok(Step::Version);
     }
-    let taken = words_taken(marks.as_slice());
-    add_occurrences(given, word, marks)?;
+    let taken = words_taken(parsed.as_slice());
+    add_occurrences(given, word, parsed)?;
     Ok(Step::Taken(taken))
 }
 

@@ -4,7 +4,7 @@ ghost use Rattle.std.specs.Option.{option_copied};
 ghost use Rattle.just_config_words.specs.Occurrences.{is_of, is_given, times, value_in, values_in, behind};
 
 use super::Entry;
-use super::mark::add_copies;
+use super::parsed::add_copies;
 use just_path_text::{NoMemory, Seq, Text};
 use std::alloc::Global;
 

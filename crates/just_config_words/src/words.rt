@@ -6,7 +6,7 @@ ghost use Rattle.just_config_words.specs.Steps.{IsFront, IsJudged, IsOutcome};
 
 use super::cut::add_text;
 use super::front::{Front, read_front};
-use super::mark::add_copies;
+use super::parsed::add_copies;
 use super::rule::{conflict, missing};
 use super::variable::fill;
 use super::{Arguments, Occurrence, Usage, UsageKind};

@@ -7,6 +7,7 @@ pub mod Characters
 pub mod Decimal
 pub mod Lines
 pub mod Indentation
+pub mod Prefixes
 pub mod Quotes
 pub mod Given
 pub mod Tokens

@@ -1,4 +1,4 @@
--- Marks, words, and the ends of lines, as places.
+-- Tokens, words, and the ends of lines, as places.
 -- p is where something begins and q is behind it and the blanks that follow it.
 use Rattle.std.specs.Prelude.{◌≡◌, ℕ, Bool, true, false, not, ◌&&◌, ◌||◌, ◌==◌, if◌then◌else◌, List, [], ◌∷◌}
 use Rattle.just_lang_read.specs.Place.{Place, IsCharacter, past, starts, sees, begins, behind_text, is_end}
@@ -16,9 +16,9 @@ is_word word p = begins word p && not (starts in_name (behind_text word p))
 abbrev pub behind_word : Place → Place
 behind_word p = skip (past in_name p)
 
--- this mark
+-- the token of this text
 abbrev pub IsToken : List ℕ → Place → Place → Type 0
-IsToken mark p q = (begins mark p ≡ true) × (q ≡ skip (behind_text mark p))
+IsToken text p q = (begins text p ≡ true) × (q ≡ skip (behind_text text p))
 
 -- this word
 abbrev pub IsWord : List ℕ → Place → Place → Type 0

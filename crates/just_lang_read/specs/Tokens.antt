@@ -1,4 +1,4 @@
--- What the code reads from a place on, step by step: marks, words, the ends of lines, and the pieces of strings.
+-- What the code reads from a place on, step by step: tokens, words, the ends of lines, and the pieces of strings.
 use Rattle.std.specs.Prelude.{ℕ, Bool, true, false, ◌&&◌, ◌==◌, nat_le, if◌then◌else◌, List, [], ◌∷◌, length, Option, Some, None, Ok, Err}
 use lib.Utf8.{scalar}
 use Rattle.just_lang_read.specs.Place.{next, past, run, first, starts, sees, begins, behind_text, is_end}
@@ -10,7 +10,7 @@ use Rattle.just_lang_read.specs.Lines.{skip, is_word, crlf}
 use Rattle.just_lang_read.specs.Quotes.{mark, is_cooked, letter_meant, number_from, goes_on}
 
 unfoldable pub token : List ℕ → Reader (Unit {0})
-token mark = λ p. if begins mark p then Ok (tt, skip (behind_text mark p)) else Err Syntax
+token text = λ p. if begins text p then Ok (tt, skip (behind_text text p)) else Err Syntax
 
 unfoldable pub word : List ℕ → Reader (Unit {0})
 word text = λ p. if is_word text p then Ok (tt, skip (behind_text text p)) else Err Syntax
@@ -23,9 +23,9 @@ newline = λ p.
 unfoldable pub blank_line : Reader (Unit {0})
 blank_line = λ p. newline (skip p)
 
--- this mark, or nothing
+-- the token of this text, or nothing
 unfoldable pub maybe : List ℕ → Reader Bool
-maybe mark = λ p. if begins mark p then (token mark >> pure true) p else Ok (false, p)
+maybe text = λ p. if begins text p then (token text >> pure true) p else Ok (false, p)
 
 -- one to six digits that are the number of a character
 abbrev pub is_number : List ℕ → Bool

@@ -17,7 +17,7 @@
 //! result cursor.new`, where `reader` is a definition in specs: what it answers at a place, and where it leaves the cursor. That
 //! such a definition reads what a grammar says is a matter of proofs; proofs/Laws.antt has the laws that they need.
 //!
-//! What a grammar of lines reads on a cursor alone stands here too: marks and words with the blanks behind them ([`token`],
+//! What a grammar of lines reads on a cursor alone stands here too: tokens and words with the blanks behind them ([`token`],
 //! [`word`]), the ends of lines ([`newline`]), quotes ([`Quote`]), the pieces of the strings between them ([`piece`]), and texts
 //! without the indentation that their lines share ([`unindented`]).
 #![tactic(auto)]
@@ -30,8 +30,9 @@ mod decimals;
 mod error;
 mod escape;
 mod indentation;
-mod marks;
+mod prefix;
 mod quote;
+mod tokens;
 
 pub use boxed::Boxed;
 pub use class::Class;
@@ -41,8 +42,9 @@ pub use decimals::{decimal, is_within};
 pub use error::ReadError;
 pub use escape::piece;
 pub use indentation::{characters_of, string_of, unindented};
-pub use marks::{
+pub use prefix::strip;
+pub use quote::{Quote, begins_string, goes_on, pieces, quote_at};
+pub use tokens::{
     behind_word, blank_line, drop_returns, ends_line, is_blank_line, is_rest, is_word,
     line_characters, maybe, newline, skip, token, word,
 };
-pub use quote::{Quote, begins_string, goes_on, pieces, quote_at};

@@ -1,21 +1,17 @@
 -- The comments directly above recipes and modules.
-use Rattle.std.specs.Prelude.{◌≡◌, ℕ, nat_eq, ◌&&◌, ◌==◌, Bool, false, if◌then◌else◌, List, [], ◌∷◌, Option, Some, None, option_map}
+use Rattle.std.specs.Prelude.{◌≡◌, ℕ, nat_eq, ◌&&◌, Bool, false, if◌then◌else◌, List, [], ◌∷◌, Option, Some, None, option_map}
 use Rattle.std.specs.Option.{option_and_then, option_copied, unwrap_or}
 use Rattle.std.specs.Ordering.{nat_cmp, ordering_then}
 use Rattle.std.specs.BTreeMap.{BTreeMap, get_by}
 use denote.Ref.{Bor}
 use Rattle.just_lang_read.specs.Characters.{is_blank}
+use Rattle.just_lang_read.specs.Prefixes.{behind_sign}
 use Rattle.just_lang_syntax.specs.declared.ast.AstItem.{AstItem}
 use Rattle.just_lang_syntax.specs.declared.ast.AstItem.TheVariants as item
 use Rattle.just_lang_syntax.specs.declared.ast.Name.{Name}
 use Rattle.just_lang_shapes.specs.declared.comments.Comments.{Comments}
 
 -- ---- what a comment says
-
--- what stands behind a character, where a text begins with it
-abbrev pub behind_sign : ℕ → List ℕ → Option (List ℕ)
-behind_sign c [] = None
-behind_sign c (x ∷ xs) = if x == c then Some xs else None
 
 abbrev pub without_blanks : List ℕ → List ℕ
 without_blanks [] = []

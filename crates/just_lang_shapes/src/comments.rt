@@ -1,20 +1,13 @@
 //! The comments directly above recipes and modules.
-ghost use Rattle.std.specs.Prelude.{◌≡◌, ◌<◌, ℕ, Some, None, length, if◌then◌else◌, IfOk, OnOk};
+ghost use Rattle.std.specs.Prelude.{◌≡◌, ◌<◌, ℕ, Some, length, if◌then◌else◌, IfOk, OnOk};
 ghost use Rattle.std.specs.Option.{MatchOption, option_copied};
-ghost use Rattle.just_lang_shapes.specs.Comments.{behind_sign, without_blanks, said_by, said_in, is_place_of, is_at, found_at, comment_in, AreComments};
+ghost use Rattle.just_lang_shapes.specs.Comments.{without_blanks, said_by, said_in, is_place_of, is_at, found_at, comment_in, AreComments};
 
+use just_lang_read::strip;
 use just_lang_syntax::{AstItem, Name};
 use just_path_text::NoMemory;
 use std::alloc::Global;
 use std::collections::BTreeMap;
-
-/// What stands behind the character, where a text begins with it.
-fn strip(text: &str, sign: char) -> Option<&str>
-    requires { sign < 128 }
-    ensures { MatchOption result (behind_sign sign text.now ≡ None) (λ x. behind_sign sign text.now ≡ Some x.now) }
-{
-    text.strip_prefix(sign)
-}
 
 /// A text without its first character, where that is a blank.
 #[tactic(auto, using(crate::proofs::Blanks::space_says, crate::proofs::Blanks::space_shorter, crate::proofs::Blanks::tab_says, crate::proofs::Blanks::tab_shorter, crate::proofs::Blanks::no_blank))]

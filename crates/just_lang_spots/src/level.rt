@@ -1,7 +1,8 @@
 //! Levels of nodes: no edge leads to a lower one, and within a level each node reaches each other one.
 
-ghost use Rattle.std.specs.Prelude.{◌≡◌, ◌<◌, true, length, IfOk, IfSome, OnOk};
+ghost use Rattle.std.specs.Prelude.{◌≡◌, ◌<◌, ◌≤◌, ◌+◌, ◌*◌, true, length, All, IfOk, IfSome, OnOk};
 ghost use Rattle.just_lang_spots.specs.Graph.{IsGraph};
+ghost use Rattle.just_lang_spots.specs.Met.{steps_left};
 ghost use Rattle.just_lang_spots.specs.Levels.{AreLevels, is_at_most_targets, is_below_targets};
 ghost use Rattle.just_lang_spots.specs.Walk.{IsWalk};
 
@@ -137,6 +138,59 @@ fn leave(walk: &mut Walk, node: usize, from: Option<usize>)
     }
 }
 
+/// Puts a node back on the stack, and looks at one of its targets: one that wasn't entered yet is entered and put above the
+/// node, and any other lowers the node's level.
+fn visit(
+    walk: &mut Walk,
+    stack: &mut Vec<usize>,
+    node: usize,
+    target: usize,
+) -> Result<(), NoMemory>
+    requires node { node < length walk.old.seen.items }
+    requires target { target < length walk.old.seen.items }
+    requires stack { All (λ v. v < length walk.old.seen.items) stack.old.items }
+    requires walk { IsWalk (length walk.old.seen.items) walk.old }
+    ensures stack { OnOk result (All (λ v. v < length walk.old.seen.items) stack.new.items) }
+    ensures size { OnOk result (length stack.new.items ≤ length stack.old.items + 2) }
+    ensures walk { OnOk result (IsWalk (length walk.old.seen.items) walk.new) }
+    ensures seen { OnOk result (walk.new.seen.items ≡ walk.old.seen.items) }
+{
+    stack.push(node)?;
+    if walk.numbers[target] != 0 {
+        let level = walk.levels[target];
+        lower(walk, node, level);
+        return Ok(());
+    }
+    enter(walk, target)?;
+    stack.push(target)?;
+    Ok(())
+}
+
+/// One turn of a walk, at a node that was taken off the stack: looks at its next target, or leaves the node.
+fn turn(
+    edges: &[Seq<usize>],
+    walk: &mut Walk,
+    stack: &mut Vec<usize>,
+    node: usize,
+) -> Result<(), NoMemory>
+    requires graph { IsGraph edges.now }
+    requires node { node < length edges.now }
+    requires stack { All (λ v. v < length edges.now) stack.old.items }
+    requires walk { IsWalk (length edges.now) walk.old }
+    ensures stack { OnOk result (All (λ v. v < length edges.now) stack.new.items) }
+    ensures walk { OnOk result (IsWalk (length edges.now) walk.new) }
+    ensures steps { OnOk result (2 * steps_left edges.now walk.new.seen.items + length stack.new.items
+        ≤ 2 * steps_left edges.now walk.old.seen.items + length stack.old.items) }
+{
+    match next_target(edges, &mut walk.seen, node) {
+        Some(target) => visit(walk, stack, node, target),
+        None => {
+            leave(walk, node, stack.last().copied());
+            Ok(())
+        }
+    }
+}
+
 /// Goes through the nodes that a node leads to and that weren't entered yet.
 fn walk_from(
     alloc: Global,
@@ -155,19 +209,7 @@ fn walk_from(
     enter(walk, start)?;
     let mut stack = vec![in alloc; start]?;
     while let Some(node) = stack.pop() {
-        match next_target(edges, &mut walk.seen, node) {
-            Some(target) => {
-                stack.push(node)?;
-                if walk.numbers[target] == 0 {
-                    enter(walk, target)?;
-                    stack.push(target)?;
-                } else {
-                    let level = walk.levels[target];
-                    lower(walk, node, level);
-                }
-            }
-            None => leave(walk, node, stack.last().copied()),
-        }
+        turn(edges, walk, &mut stack, node)?;
     }
     Ok(())
 }

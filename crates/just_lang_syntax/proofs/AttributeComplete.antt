@@ -24,7 +24,7 @@ use Rattle.just_lang_syntax.specs.Attributes.IsAttributeLine.{in_brackets}
 use Rattle.just_lang_syntax.specs.Attributes.AreAttributes.{line_by_line}
 use Rattle.just_lang_syntax.specs.ItemReaders as item
 use Rattle.just_lang_read.proofs.Laws.{begins_first, begins_other}
-use Rattle.just_lang_syntax.proofs.Marks.{token_again, name_again}
+use Rattle.just_lang_syntax.proofs.Tokens.{token_again, name_again}
 use Rattle.just_lang_syntax.proofs.LineLaws.{rest_again, trailing_again}
 use Rattle.just_lang_syntax.proofs.StringLaws.{string_again}
 use Rattle.just_lang_syntax.proofs.TextLaws.{text_again}

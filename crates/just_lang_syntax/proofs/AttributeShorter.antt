@@ -21,7 +21,7 @@ use Rattle.just_lang_syntax.specs.Attributes.AreAttributes.{line_by_line}
 use Rattle.just_lang_syntax.specs.ItemReaders as item
 use Rattle.just_lang_syntax.specs.Readers as reader
 use Rattle.just_lang_read.specs.Tokens as tokens
-use Rattle.just_lang_syntax.proofs.Marks.{token_ok, token_lt}
+use Rattle.just_lang_syntax.proofs.Tokens.{token_ok, token_lt}
 use Rattle.just_lang_syntax.proofs.LineLaws.{behind_rest, behind_trailing}
 use Rattle.just_lang_syntax.proofs.StringLaws.{string_ok, string_lt}
 use Rattle.just_lang_syntax.proofs.ExprShorter.{name_lt, level_lt, inner_lt}

@@ -32,7 +32,7 @@ use Rattle.just_lang_syntax.specs.Meanings.{text_of}
 use Rattle.just_lang_syntax.specs.ItemReaders as item
 use Rattle.just_lang_syntax.specs.Readers as reader
 use Rattle.just_lang_read.specs.Tokens as tokens
-use Rattle.just_lang_syntax.proofs.Marks.{token_ok, name_ok}
+use Rattle.just_lang_syntax.proofs.Tokens.{token_ok, name_ok}
 use Rattle.just_lang_syntax.proofs.LineLaws.{rest_ok, trailing_ok}
 use Rattle.just_lang_syntax.proofs.StringLaws.{string_ok}
 use Rattle.just_lang_syntax.proofs.TextLaws.{text_ok}

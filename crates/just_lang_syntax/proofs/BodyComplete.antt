@@ -14,7 +14,7 @@ use Rattle.just_lang_syntax.specs.Bodies.IsBodyLine.{line}
 use Rattle.just_lang_syntax.specs.ItemReaders as item
 use Rattle.just_lang_read.proofs.Laws.{and_true, begins_starts, begins_first, begins_other}
 use Rattle.just_lang_syntax.proofs.Beginnings.{not_true}
-use Rattle.just_lang_syntax.proofs.Marks.{token_again}
+use Rattle.just_lang_syntax.proofs.Tokens.{token_again}
 use Rattle.just_lang_syntax.proofs.Shorter.{letter_lt}
 use Rattle.just_lang_syntax.proofs.Loops.{fragments_shorter}
 use Rattle.just_lang_syntax.proofs.LineLaws.{newline_again}

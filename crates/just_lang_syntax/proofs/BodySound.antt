@@ -18,7 +18,7 @@ use Rattle.just_lang_syntax.specs.Bodies.IsFragment.{text, value}
 use Rattle.just_lang_syntax.specs.Bodies.IsBodyLine.{line}
 use Rattle.just_lang_read.specs.Tokens as tokens
 use Rattle.just_lang_syntax.specs.ItemReaders as item
-use Rattle.just_lang_syntax.proofs.Marks.{token_ok}
+use Rattle.just_lang_syntax.proofs.Tokens.{token_ok}
 use Rattle.just_lang_syntax.proofs.LineLaws.{newline_ok}
 use Rattle.just_lang_syntax.proofs.ExprComplete.{expr_ok}
 

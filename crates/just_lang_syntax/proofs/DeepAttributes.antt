@@ -26,7 +26,7 @@ use Rattle.just_lang_syntax.specs.ItemReaders as item
 use Rattle.just_lang_syntax.specs.Readers as reader
 use Rattle.just_lang_read.specs.Tokens as tokens
 use Rattle.just_lang_read.proofs.Laws.{begins_first, begins_other}
-use Rattle.just_lang_syntax.proofs.Marks.{token_ok, token_again, name_ok, name_again}
+use Rattle.just_lang_syntax.proofs.Tokens.{token_ok, token_again, name_ok, name_again}
 use Rattle.just_lang_syntax.proofs.AttributeLoops.{list_shorter, lines_shorter, further_is}
 use Rattle.just_lang_syntax.proofs.AttributeSound.{argument_ok, attribute_ok, further_attribute_ok, attribute_line_ok}
 use Rattle.just_lang_syntax.proofs.AttributeComplete.{key_is, argument_again, further_argument_again, attribute_again, further_attribute_again, attribute_line_again}

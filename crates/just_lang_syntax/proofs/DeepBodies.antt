@@ -10,7 +10,7 @@ use Rattle.just_lang_syntax.specs.Deep.IsDeepFragment.{value}
 use Rattle.just_lang_syntax.specs.Deep.IsDeepBodyLine.{line}
 use Rattle.just_lang_syntax.specs.ItemReaders as item
 use Rattle.just_lang_read.specs.Tokens as tokens
-use Rattle.just_lang_syntax.proofs.Marks.{token_ok, token_again}
+use Rattle.just_lang_syntax.proofs.Tokens.{token_ok, token_again}
 use Rattle.just_lang_syntax.proofs.Loops.{fragments_shorter}
 use Rattle.just_lang_syntax.proofs.BodySound.{fragment_ok}
 use Rattle.just_lang_syntax.proofs.BodyComplete.{opens_goes_on, fragment_begins, fragment_again}

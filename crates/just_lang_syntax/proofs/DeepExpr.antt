@@ -19,7 +19,7 @@ use Rattle.just_lang_syntax.specs.Readers as reader
 use Rattle.just_lang_read.specs.Tokens as tokens
 use Rattle.just_lang_read.proofs.Laws.{begins_first, begins_starts, begins_other}
 use Rattle.just_lang_syntax.proofs.Beginnings.{no_string, word_behind, word_begins}
-use Rattle.just_lang_syntax.proofs.Marks.{token_ok, token_again, word_ok, word_again}
+use Rattle.just_lang_syntax.proofs.Tokens.{token_ok, token_again, word_ok, word_again}
 use Rattle.just_lang_syntax.proofs.ExprSound.{comparison_ok, value_ok, block_ok, Sides, condition_ok, inner_ok}
 use Rattle.just_lang_syntax.proofs.ExprComplete.{comparison_again, condition_again, block_again, value_again, value_begins, no_condition, inner_again}
 use Rattle.just_lang_syntax.proofs.DeepChains.{shallow_ok, shallow_gives, depth_either, depth_behind, depth_first}

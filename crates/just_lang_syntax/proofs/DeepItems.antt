@@ -25,7 +25,7 @@ use Rattle.just_lang_syntax.specs.Deep.IsDeepEntry.{line, item as item_entry}
 use Rattle.just_lang_syntax.specs.ItemReaders as item
 use Rattle.just_lang_syntax.specs.Readers as reader
 use Rattle.just_lang_read.specs.Tokens as tokens
-use Rattle.just_lang_syntax.proofs.Marks.{token_ok, token_again, name_ok, name_again}
+use Rattle.just_lang_syntax.proofs.Tokens.{token_ok, token_again, name_ok, name_again}
 use Rattle.just_lang_syntax.proofs.AttributeSound.{attributes_ok}
 use Rattle.just_lang_syntax.proofs.AttributeComplete.{attributes_again}
 use Rattle.just_lang_syntax.proofs.DeepChains.{shallow_ok, shallow_refuse, shallow_gives, depth_either, depth_behind, depth_first}

@@ -19,17 +19,17 @@ use Rattle.just_lang_syntax.specs.Readers as reader
 use Rattle.just_lang_read.specs.Tokens as tokens
 use Rattle.just_lang_syntax.proofs.DeepChains.{shallow_ok, shallow_refuse, shallow_if, shallow_then, shallow_gives, shallow_many}
 
--- ---- marks, names and lines
+-- ---- tokens, names and lines
 
 -- a character isn't
 expect_shallow : (c : ℕ) (p : Place) → expect c p ≡ Err Depth → ⊥
 unfolding expect
 expect_shallow c p h = shallow_if (sees c p) _ _ (λ k. shallow_ok _ k) (λ k. shallow_refuse p k) h
 
--- nor a mark
-pub token_shallow : (mark : List ℕ) (p : Place) → tokens.token mark p ≡ Err Depth → ⊥
+-- nor a token
+pub token_shallow : (text : List ℕ) (p : Place) → tokens.token text p ≡ Err Depth → ⊥
 unfolding tokens.token
-token_shallow mark p h = shallow_if (begins mark p) _ _ (λ k. shallow_ok _ k) (λ k. shallow_refuse p k) h
+token_shallow text p h = shallow_if (begins text p) _ _ (λ k. shallow_ok _ k) (λ k. shallow_refuse p k) h
 
 -- nor a word
 pub word_shallow : (text : List ℕ) (p : Place) → tokens.word text p ≡ Err Depth → ⊥
@@ -41,11 +41,11 @@ pub name_shallow : (p : Place) → reader.name p ≡ Err Depth → ⊥
 unfolding reader.name
 name_shallow p h = shallow_if (starts begins_name p) _ _ (λ k. shallow_ok _ k) (λ k. shallow_refuse p k) h
 
--- nor a mark that may be left out
-pub maybe_shallow : (mark : List ℕ) (p : Place) → tokens.maybe mark p ≡ Err Depth → ⊥
+-- nor a token that may be left out
+pub maybe_shallow : (text : List ℕ) (p : Place) → tokens.maybe text p ≡ Err Depth → ⊥
 unfolding tokens.maybe
-maybe_shallow mark p h =
-    shallow_if (begins mark p) _ _ (λ k. shallow_gives (tokens.token mark p) (λ _. true) (token_shallow mark p) k) (λ k. shallow_ok _ k) h
+maybe_shallow text p h =
+    shallow_if (begins text p) _ _ (λ k. shallow_gives (tokens.token text p) (λ _. true) (token_shallow text p) k) (λ k. shallow_ok _ k) h
 
 -- nor `::` and a name
 further_name_shallow : (p : Place) → reader.further_name p ≡ Err Depth → ⊥

@@ -26,7 +26,7 @@ use Rattle.just_lang_syntax.specs.Readers as reader
 use Rattle.just_lang_read.specs.Tokens as tokens
 use Rattle.just_lang_read.proofs.Laws.{begins_first, begins_other}
 use Rattle.just_lang_syntax.proofs.Beginnings.{not_true}
-use Rattle.just_lang_syntax.proofs.Marks.{token_ok, token_again, name_ok, name_again}
+use Rattle.just_lang_syntax.proofs.Tokens.{token_ok, token_again, name_ok, name_again}
 use Rattle.just_lang_syntax.proofs.LineLaws.{maybe_ok, maybe_again, path_ok, path_again}
 use Rattle.just_lang_syntax.proofs.ExprSound.{inner_ok}
 use Rattle.just_lang_syntax.proofs.ExprComplete.{inner_again, expr_ok, expr_again}

@@ -17,7 +17,7 @@ use Rattle.just_lang_syntax.specs.Exprs.IsLevel.{conditional, root, value, joine
 use Rattle.just_lang_syntax.specs.Readers as reader
 use Rattle.just_lang_read.proofs.Laws.{begins_first, begins_starts, begins_other, starts_other}
 use Rattle.just_lang_syntax.proofs.Beginnings.{no_string, string_other, word_behind, word_begins}
-use Rattle.just_lang_syntax.proofs.Marks.{token_again, word_again, name_again}
+use Rattle.just_lang_syntax.proofs.Tokens.{token_again, word_again, name_again}
 use Rattle.just_lang_syntax.proofs.StringLaws.{string_again, string_begins}
 use Rattle.just_lang_syntax.proofs.ExprSound.{level_ok, inner_ok}
 

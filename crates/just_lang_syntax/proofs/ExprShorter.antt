@@ -13,7 +13,7 @@ use Rattle.just_lang_syntax.specs.Exprs.IsValue.{literal, group, env, variable}
 use Rattle.just_lang_syntax.specs.Exprs.IsBlock.{block}
 use Rattle.just_lang_syntax.specs.Exprs.IsOtherwise.{last, further}
 use Rattle.just_lang_syntax.specs.Exprs.IsLevel.{conditional, root, value, joined, concatenated}
-use Rattle.just_lang_syntax.proofs.Marks.{token_lt, word_lt}
+use Rattle.just_lang_syntax.proofs.Tokens.{token_lt, word_lt}
 use Rattle.just_lang_syntax.proofs.StringLaws.{string_lt}
 
 -- what begins a name may stand in one

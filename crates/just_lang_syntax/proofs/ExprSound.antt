@@ -19,7 +19,7 @@ use Rattle.just_lang_syntax.specs.Exprs.IsOtherwise.{last, further}
 use Rattle.just_lang_syntax.specs.Exprs.IsLevel.{conditional, root, value, joined, concatenated}
 use Rattle.just_lang_syntax.specs.Readers as reader
 use Rattle.just_lang_read.specs.Tokens as tokens
-use Rattle.just_lang_syntax.proofs.Marks.{token_ok, word_ok, name_ok}
+use Rattle.just_lang_syntax.proofs.Tokens.{token_ok, word_ok, name_ok}
 use Rattle.just_lang_syntax.proofs.StringLaws.{string_ok}
 
 -- a comparison that is read stands there

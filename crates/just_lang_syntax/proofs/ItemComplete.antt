@@ -19,7 +19,7 @@ use Rattle.just_lang_syntax.specs.Items.IsItem.{comment as comment_item, alias a
 use Rattle.just_lang_syntax.specs.ItemReaders as item
 use Rattle.just_lang_read.proofs.Laws.{begins_first, begins_other}
 use Rattle.just_lang_syntax.proofs.Beginnings.{no_string, word_begins}
-use Rattle.just_lang_syntax.proofs.Marks.{token_again, word_again, name_again}
+use Rattle.just_lang_syntax.proofs.Tokens.{token_again, word_again, name_again}
 use Rattle.just_lang_syntax.proofs.LineLaws.{maybe_again, trailing_again, path_again, comment_again, rest_again}
 use Rattle.just_lang_syntax.proofs.StringLaws.{string_again, string_begins}
 use Rattle.just_lang_syntax.proofs.ExprComplete.{expr_again}

@@ -14,7 +14,7 @@ use Rattle.just_lang_syntax.specs.Items.AreStrings.{none as no_strings, some as 
 use Rattle.just_lang_syntax.specs.Items.IsSettingValue.{absent as value_absent, flag as value_flag, text as value_text, list as value_list, any_text, any_list}
 use Rattle.just_lang_syntax.specs.Items.IsModulePath.{path as path_behind, without as no_path_behind}
 use Rattle.just_lang_syntax.specs.Items.IsItem.{comment as comment_item, alias as alias_item, import as import_item, module_alone, assignment as assignment_item, export as export_item, unexport as unexport_item, setting_item, attributed_module, recipe as recipe_item}
-use Rattle.just_lang_syntax.proofs.Marks.{token_lt, word_lt}
+use Rattle.just_lang_syntax.proofs.Tokens.{token_lt, word_lt}
 use Rattle.just_lang_syntax.proofs.LineLaws.{behind_maybe, behind_trailing, behind_path, behind_comment, behind_rest}
 use Rattle.just_lang_syntax.proofs.StringLaws.{string_lt}
 use Rattle.just_lang_syntax.proofs.ExprShorter.{name_lt}

@@ -33,7 +33,7 @@ use Rattle.just_lang_syntax.specs.Items.IsItem.{comment as comment_item, alias a
 use Rattle.just_lang_syntax.specs.ItemReaders as item
 use Rattle.just_lang_syntax.specs.Readers as reader
 use Rattle.just_lang_read.specs.Tokens as tokens
-use Rattle.just_lang_syntax.proofs.Marks.{token_ok, word_ok, name_ok}
+use Rattle.just_lang_syntax.proofs.Tokens.{token_ok, word_ok, name_ok}
 use Rattle.just_lang_syntax.proofs.LineLaws.{maybe_ok, trailing_ok, path_ok, comment_ok, rest_ok}
 use Rattle.just_lang_syntax.proofs.StringLaws.{string_ok}
 use Rattle.just_lang_syntax.proofs.ExprComplete.{expr_ok}

@@ -1,6 +1,6 @@
 -- The laws of the language.
 pub mod Collect
-pub mod Marks
+pub mod Tokens
 pub mod Listed
 pub mod LineLaws
 pub mod TextLaws

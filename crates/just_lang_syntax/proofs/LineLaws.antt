@@ -1,5 +1,5 @@
--- Marks that may stand, paths, the ends of lines and comments: what the code reads is what the grammar says. Those of marks,
--- words and names are in Marks.
+-- Tokens that may stand, paths, the ends of lines and comments: what the code reads is what the grammar says. Those of tokens,
+-- words and names are in Tokens.
 use Rattle.std.proofs.Common.{◌≡◌, ℕ, ◌<◌, ◌≤◌, ◌==◌, Bool, true, false, not, if◌then◌else◌, List, [], ◌∷◌, length, Option, Some, None, Ok, Err, codes, encode_utf8_all, refl, sym, ap, ◌∙◌, subst, ⊎_elim, arith}
 use Rattle.std.proofs.lemmas.Bool.{false≢true}
 use Rattle.just_lang_read.specs.Place.{Place, AreMany, next, past, run, starts, sees, begins, behind_text, is_end}
@@ -24,28 +24,28 @@ use Rattle.just_lang_syntax.specs.Readers as reader
 use Rattle.just_lang_read.specs.Tokens as tokens
 use Rattle.just_lang_read.proofs.Laws.{and_true, begins_starts, behind_shorter, behind_le}
 use Rattle.just_lang_syntax.proofs.Beginnings.{not_true}
-use Rattle.just_lang_syntax.proofs.Marks.{token_ok, token_again, token_lt, name_ok, name_again}
+use Rattle.just_lang_syntax.proofs.Tokens.{token_ok, token_again, token_lt, name_ok, name_again}
 use Rattle.just_lang_syntax.proofs.ExprShorter.{name_lt}
 use Rattle.just_lang_syntax.proofs.PathLoop.{shorter, are_le}
 
--- ---- marks that may stand
+-- ---- tokens that may stand
 
--- whether a mark was read is whether it stands there
-pub maybe_ok : (mark : List ℕ) (p q : Place) (b : Bool) → tokens.maybe mark p ≡ Ok (b, q) → IsMaybe mark p q b
+-- whether a token was read is whether it stands there
+pub maybe_ok : (text : List ℕ) (p q : Place) (b : Bool) → tokens.maybe text p ≡ Ok (b, q) → IsMaybe text p q b
 unfolding tokens.maybe
-maybe_ok mark p q b h =
+maybe_ok text p q b h =
     ⊎_elim
     (λ (s : _).
-    let (u, m, t, k) = bind_ok (tokens.token mark p) (λ _. pure true) b q s.1 in
-    here (subst (λ (r : Place). IsToken mark p r) (ok_place true b m q k) (token_ok mark p u m t)) (sym (ok_value true b m q k)))
+    let (u, m, t, k) = bind_ok (tokens.token text p) (λ _. pure true) b q s.1 in
+    here (subst (λ (r : Place). IsToken text p r) (ok_place true b m q k) (token_ok text p u m t)) (sym (ok_value true b m q k)))
     (λ (s : _). not_here s.0 (sym (ok_place false b p q s.1)) (sym (ok_value false b p q s.1)))
-    (choose (begins mark p) (and_then (tokens.token mark p) (λ _. pure true)) (Ok (false, p)) (Ok (b, q)) h)
+    (choose (begins text p) (and_then (tokens.token text p) (λ _. pure true)) (Ok (false, p)) (Ok (b, q)) h)
 
--- a mark that may stand is read
-pub maybe_again : (mark : List ℕ) (p q : Place) (b : Bool) → IsMaybe mark p q b → tokens.maybe mark p ≡ Ok (b, q)
+-- a token that may stand is read
+pub maybe_again : (text : List ℕ) (p q : Place) (b : Bool) → IsMaybe text p q b → tokens.maybe text p ≡ Ok (b, q)
 unfolding tokens.maybe
-maybe_again mark p q b (here t z) = rw (t.0, token_again mark p q t, z) refl
-maybe_again mark p q b (not_here n e z) = rw (n, e, z) refl
+maybe_again text p q b (here t z) = rw (t.0, token_again text p q t, z) refl
+maybe_again text p q b (not_here n e z) = rw (n, e, z) refl
 
 -- a comma behind a list was read where it stands
 pub trailing_ok : (p q : Place) (u : Unit {0}) → item.trailing p ≡ Ok (u, q) → IsTrailing p q
@@ -205,10 +205,10 @@ rest_begins p q x (commented t i z) = rw (i.0) refl
 
 -- ---- what is left
 
--- behind a mark that may stand no more is left
-pub behind_maybe : (mark : List ℕ) (p q : Place) (b : Bool) → IsMaybe mark p q b → length q.rest ≤ length p.rest
-behind_maybe mark p q b (here t z) = rw (t.1) (omega (arith, past_le is_blank (behind_text mark p), behind_le mark p))
-behind_maybe mark p q b (not_here n e z) = rw e (omega arith)
+-- behind a token that may stand no more is left
+pub behind_maybe : (text : List ℕ) (p q : Place) (b : Bool) → IsMaybe text p q b → length q.rest ≤ length p.rest
+behind_maybe text p q b (here t z) = rw (t.1) (omega (arith, past_le is_blank (behind_text text p), behind_le text p))
+behind_maybe text p q b (not_here n e z) = rw e (omega arith)
 
 -- nor behind a comma that may stand
 pub behind_trailing : (p q : Place) → IsTrailing p q → length q.rest ≤ length p.rest

@@ -12,7 +12,7 @@ use Rattle.just_lang_syntax.specs.Places.{IsName}
 use Rattle.just_lang_syntax.specs.Readers as reader
 use Rattle.just_lang_read.specs.Tokens as tokens
 use Rattle.just_lang_syntax.proofs.Collect.{to_come, more_is, end_is, wrong_is}
-use Rattle.just_lang_syntax.proofs.Marks.{token_ok, token_lt, name_ok}
+use Rattle.just_lang_syntax.proofs.Tokens.{token_ok, token_lt, name_ok}
 
 -- where a character comes first, a step takes it
 pub first_lt : (p : Place) (c : ℕ) → first p ≡ Some c → length (next p).rest < length p.rest

@@ -27,7 +27,7 @@ use Rattle.just_lang_syntax.specs.Recipes.IsRecipeLine.{line}
 use Rattle.just_lang_syntax.specs.Readers as reader
 use Rattle.just_lang_syntax.specs.ItemReaders as item
 use Rattle.just_lang_read.proofs.Laws.{begins_first, begins_other, starts_other}
-use Rattle.just_lang_syntax.proofs.Marks.{token_again, name_again}
+use Rattle.just_lang_syntax.proofs.Tokens.{token_again, name_again}
 use Rattle.just_lang_syntax.proofs.LineLaws.{maybe_again, path_again, rest_again}
 use Rattle.just_lang_syntax.proofs.ExprComplete.{value_again, inner_again, expr_again}
 use Rattle.just_lang_syntax.proofs.Loops.{values_shorter, parameters_shorter, dependencies_shorter}

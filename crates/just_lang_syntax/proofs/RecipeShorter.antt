@@ -13,7 +13,7 @@ use Rattle.just_lang_syntax.specs.Recipes.AreDependencies.{dependencies}
 use Rattle.just_lang_syntax.specs.Recipes.AreSubsequents.{none as no_subsequents, some as some_subsequents}
 use Rattle.just_lang_syntax.specs.Recipes.IsRecipeLine.{line}
 use Rattle.just_lang_syntax.specs.ItemReaders as item
-use Rattle.just_lang_syntax.proofs.Marks.{token_lt}
+use Rattle.just_lang_syntax.proofs.Tokens.{token_lt}
 use Rattle.just_lang_syntax.proofs.LineLaws.{behind_maybe, behind_rest}
 use Rattle.just_lang_syntax.proofs.PathLoop.{are_le}
 use Rattle.just_lang_syntax.proofs.ExprShorter.{name_lt}

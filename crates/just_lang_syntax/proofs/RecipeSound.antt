@@ -27,7 +27,7 @@ use Rattle.just_lang_syntax.specs.Readers as reader
 use Rattle.just_lang_read.specs.Tokens as tokens
 use Rattle.just_lang_syntax.specs.ItemReaders as item
 use Rattle.just_lang_syntax.proofs.Beginnings.{not_true}
-use Rattle.just_lang_syntax.proofs.Marks.{token_ok, name_ok}
+use Rattle.just_lang_syntax.proofs.Tokens.{token_ok, name_ok}
 use Rattle.just_lang_syntax.proofs.LineLaws.{maybe_ok, path_ok, rest_ok}
 use Rattle.just_lang_syntax.proofs.ExprSound.{value_ok, inner_ok}
 use Rattle.just_lang_syntax.proofs.ExprComplete.{expr_ok}
@@ -60,13 +60,13 @@ parameter_ok kind p q x h =
     (subst (λ (l : Place). IsDefault r l d) (ok_place made x s q k3) (parameter_default_ok r s d h3)) (sym (ok_value made x s q k3))
 
 -- a parameter behind the sign that it takes several values
-signed_ok : (kind : ParameterKind) (mark : List ℕ) (p q : Place) (x : Option AstParameter)
-    → and_then (tokens.token mark p) (λ _ m. and_then (item.parameter kind m) (λ y. pure (Some y))) ≡ Ok (x, q)
-    → (m : Place) × (y : AstParameter) × IsToken mark p m × IsParameter kind m q y × (x ≡ Some y)
-signed_ok kind mark p q x h =
-    let (u, m, t, k) = bind_ok (tokens.token mark p) _ x q h in
+signed_ok : (kind : ParameterKind) (text : List ℕ) (p q : Place) (x : Option AstParameter)
+    → and_then (tokens.token text p) (λ _ m. and_then (item.parameter kind m) (λ y. pure (Some y))) ≡ Ok (x, q)
+    → (m : Place) × (y : AstParameter) × IsToken text p m × IsParameter kind m q y × (x ≡ Some y)
+signed_ok kind text p q x h =
+    let (u, m, t, k) = bind_ok (tokens.token text p) _ x q h in
     let (y, n, v, j) = bind_ok (item.parameter kind m) _ x q k in
-    (m, y, token_ok mark p u m t, subst (λ (r : Place). IsParameter kind m r y) (ok_place (Some y) x n q j) (parameter_ok kind m n y v), sym (ok_value (Some y) x n q j))
+    (m, y, token_ok text p u m t, subst (λ (r : Place). IsParameter kind m r y) (ok_place (Some y) x n q j) (parameter_ok kind m n y v), sym (ok_value (Some y) x n q j))
 
 -- the last parameter, which takes several values
 pub variadic_ok : (p q : Place) (x : Option AstParameter) → item.variadic p ≡ Ok (x, q) → IsVariadic p q x

@@ -17,7 +17,7 @@ use Rattle.just_lang_syntax.specs.Bodies.IsLetter.{braces, itself}
 use Rattle.just_lang_syntax.specs.Bodies.IsFragment.{text, value}
 use Rattle.just_lang_syntax.specs.ItemReaders as item
 use Rattle.just_lang_read.proofs.Laws.{behind_le, behind_shorter}
-use Rattle.just_lang_syntax.proofs.Marks.{token_lt}
+use Rattle.just_lang_syntax.proofs.Tokens.{token_lt}
 use Rattle.just_lang_syntax.proofs.LineLaws.{behind_maybe, behind_path}
 use Rattle.just_lang_syntax.proofs.ExprComplete.{expr_ok}
 use Rattle.just_lang_syntax.proofs.ExprShorter.{name_lt, level_lt, value_lt, inner_lt}

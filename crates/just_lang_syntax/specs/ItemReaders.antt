@@ -263,16 +263,21 @@ some_dependencies = λ p. if begins_dependency p then dependencies p else Err Sy
 unfoldable pub subsequents : Reader (List AstDependency)
 subsequents = λ p. if begins (codes "&&") p then (token (codes "&&") >> some_dependencies) p else Ok ([], p)
 
+-- what stands behind the parameters of a recipe's line
+abbrev pub behind_parameters : AstRecipe → Reader AstRecipe
+behind_parameters r = do
+  token (codes ":")
+  a ← dependencies
+  b ← subsequents
+  c ← rest
+  pure (record r { priors = a; subsequents = b; comment = c })
+
 unfoldable pub recipe_line : List Attribute → Reader AstRecipe
 recipe_line attributes = do
   quiet ← maybe (codes "@")
   n ← name
   ps ← parameters
-  token (codes ":")
-  a ← dependencies
-  b ← subsequents
-  c ← rest
-  pure (record { attributes = attributes; quiet = quiet; name = n; parameters = ps; priors = a; subsequents = b; comment = c; body = [] })
+  behind_parameters (record { attributes = attributes; quiet = quiet; name = n; parameters = ps; priors = []; subsequents = []; comment = None; body = [] })
 
 -- ---- bodies
 

@@ -65,9 +65,9 @@ unfoldable pub comparison : Reader Comparison
 comparison = λ p. if begins (codes "==") p then (token (codes "==") >> pure Equal) p else (token (codes "!=") >> pure Unequal) p
 
 module _ (inner : Reader Expr) where
-  -- a mark, and what stands behind it
+  -- a token, and what stands behind it
   abbrev pub operand : List ℕ → Reader Expr
-  operand mark = token mark >> inner
+  operand text = token text >> inner
 
   unfoldable pub group : Reader Expr
   group = do

@@ -14,10 +14,10 @@ use Rattle.just_lang_read.specs.Lines.{IsToken}
 use Rattle.just_lang_syntax.specs.Places.{IsName, IsPath, IsRest}
 use Rattle.just_lang_syntax.specs.Exprs.{IsInner, IsValue, IsExpr}
 
--- this mark, or nothing where it doesn't stand
-pub data IsMaybe (mark : List ℕ) (p q : Place) (there : Bool) : Type 0 where
-  here : IsToken mark p q → there ≡ true → IsMaybe mark p q there
-  not_here : begins mark p ≡ false → q ≡ p → there ≡ false → IsMaybe mark p q there
+-- the token of this text, or nothing where it doesn't stand
+pub data IsMaybe (text : List ℕ) (p q : Place) (there : Bool) : Type 0 where
+  here : IsToken text p q → there ≡ true → IsMaybe text p q there
+  not_here : begins text p ≡ false → q ≡ p → there ≡ false → IsMaybe text p q there
 
 -- ---- parameters
 

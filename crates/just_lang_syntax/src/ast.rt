@@ -228,22 +228,11 @@ impl Drop for Attribute {
 
 impl Attribute {
     /// The attribute with this comment in place of its own.
-    pub(crate) fn commented(self, comment: Option<Text>) -> Attribute
+    pub(crate) fn commented(mut self, comment: Option<Text>) -> Attribute
         ensures { result ≡ record self { comment = comment } }
     {
-        let Attribute {
-            name,
-            colon,
-            arguments,
-            comment: before,
-        } = self;
-        drop(before);
-        Attribute {
-            name,
-            colon,
-            arguments,
-            comment,
-        }
+        self.comment = comment;
+        self
     }
 }
 
@@ -315,30 +304,28 @@ impl Drop for AstRecipe {
 }
 
 impl AstRecipe {
+    /// The recipe with these dependencies and this comment in place of its own.
+    pub(crate) fn depending(
+        mut self,
+        priors: Seq<AstDependency>,
+        subsequents: Seq<AstDependency>,
+        comment: Option<Text>,
+    ) -> AstRecipe
+        ensures { result
+            ≡ record self { priors = priors; subsequents = subsequents; comment = comment } }
+    {
+        self.priors = priors;
+        self.subsequents = subsequents;
+        self.comment = comment;
+        self
+    }
+
     /// The recipe with this body in place of its own.
-    pub(crate) fn with_lines(self, body: Seq<Line>) -> AstRecipe
+    pub(crate) fn with_lines(mut self, body: Seq<Line>) -> AstRecipe
         ensures { result ≡ record self { body = body } }
     {
-        let AstRecipe {
-            attributes,
-            quiet,
-            name,
-            parameters,
-            priors,
-            subsequents,
-            comment,
-            body: _,
-        } = self;
-        AstRecipe {
-            attributes,
-            quiet,
-            name,
-            parameters,
-            priors,
-            subsequents,
-            comment,
-            body,
-        }
+        self.body = body;
+        self
     }
 }
 

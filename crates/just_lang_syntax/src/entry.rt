@@ -16,7 +16,6 @@ use std::alloc::{AllocError, Global};
 use std::mem;
 
 /// An entry of a text.
-#[derive(Drop)]
 pub enum Entry {
     /// A line of blanks, by its number.
     Blank(usize),
@@ -26,6 +25,50 @@ pub enum Entry {
     Recipe(Boxed<AstRecipe>),
     /// A line of the body of the recipe above.
     Line(Line),
+}
+
+impl Drop for Entry {
+    fn drop(self) {
+        match self {
+            Entry::Blank(_) => {}
+            Entry::Item(_) => {}
+            Entry::Recipe(_) => {}
+            Entry::Line(line) => drop(line),
+        }
+    }
+}
+
+impl Entry {
+    ghost use Rattle.just_lang_syntax.specs.File.{behind_item};
+
+    /// The body to which a line behind the entry may belong.
+    fn body(&self) -> Body
+        ensures { result ≡ behind_item self.now }
+    {
+        match self {
+            Entry::Recipe(_) => Body::Begins,
+            Entry::Blank(_) | Entry::Item(_) | Entry::Line(_) => Body::Closed,
+        }
+    }
+
+    /// Adds the entry before those that were gathered: to the lines of a body or to the items, the last one first.
+    #[tactic(auto, using(crate::proofs::Gather::reverse_last))]
+    fn add_to(
+        self,
+        alloc: Global,
+        lines: &mut Vec<Line>,
+        items: &mut Vec<AstItem>,
+    ) -> Result<(), NoMemory>
+        ensures { IfOk result (λ u. (reverse lines.new.items, reverse items.new.items)
+            ≡ gather_one self (reverse lines.old.items) (reverse items.old.items)) }
+    {
+        match self {
+            Entry::Blank(number) => Ok(add_blank(alloc, number, lines, items)?),
+            Entry::Item(item) => Ok(items.push(item.into_inner())?),
+            Entry::Recipe(recipe) => add_recipe(alloc, recipe, lines, items),
+            Entry::Line(line) => Ok(lines.push(line)?),
+        }
+    }
 }
 
 /// The body to which a line may belong.
@@ -121,12 +164,9 @@ fn line_or_item(
 fn entry_item(alloc: Global, cursor: &mut Cursor<'_>) -> Result<(Entry, Body), ReadError>
     ensures { Reads (read.entry_item cursor.old) result cursor.new }
 {
-    match item(alloc, cursor)? {
-        Entry::Recipe(recipe) => Ok((Entry::Recipe(recipe), Body::Begins)),
-        Entry::Blank(number) => Ok((Entry::Blank(number), Body::Closed)),
-        Entry::Item(item) => Ok((Entry::Item(item), Body::Closed)),
-        Entry::Line(line) => Ok((Entry::Line(line), Body::Closed)),
-    }
+    let entry = item(alloc, cursor)?;
+    let body = entry.body();
+    Ok((entry, body))
 }
 
 /// The items of a text's entries: each recipe has the lines that follow it, and the blank lines between these.
@@ -137,7 +177,7 @@ pub fn gather(alloc: Global, mut entries: Vec<Entry>) -> Result<Seq<AstItem>, No
     let mut lines: Vec<Line> = Vec::new(alloc);
     let mut items: Vec<AstItem> = Vec::with_capacity(alloc, most_items(entries.as_slice()))?;
     'entries: while let Some(entry) = entries.pop() {
-        add_entry(alloc, entry, &mut lines, &mut items)?;
+        entry.add_to(alloc, &mut lines, &mut items)?;
     }
     items.reverse();
     Ok(list_of(items))
@@ -157,25 +197,6 @@ fn may_be_item(entry: &Entry) -> bool
     match entry {
         Entry::Blank(_) | Entry::Item(_) | Entry::Recipe(_) => true,
         Entry::Line(_) => false,
-    }
-}
-
-/// Adds an entry before those that were gathered: to the lines of a body or to the items, the last one first.
-#[tactic(auto, using(crate::proofs::Gather::reverse_last))]
-fn add_entry(
-    alloc: Global,
-    entry: Entry,
-    lines: &mut Vec<Line>,
-    items: &mut Vec<AstItem>,
-) -> Result<(), NoMemory>
-    ensures { IfOk result (λ u. (reverse lines.new.items, reverse items.new.items)
-        ≡ gather_one entry (reverse lines.old.items) (reverse items.old.items)) }
-{
-    match entry {
-        Entry::Blank(number) => Ok(add_blank(alloc, number, lines, items)?),
-        Entry::Item(item) => Ok(items.push(item.into_inner())?),
-        Entry::Recipe(recipe) => add_recipe(alloc, recipe, lines, items),
-        Entry::Line(line) => Ok(lines.push(line)?),
     }
 }
 

@@ -76,17 +76,17 @@ fn inner(alloc: Global, cursor: &mut Cursor<'_>, left: usize) -> Result<Boxed<Ex
     Ok(boxed(alloc, inside)?)
 }
 
-/// A mark, and an expression behind it.
+/// A token, and an expression behind it.
 #[cycle(expr)]
 fn operand(
     alloc: Global,
     cursor: &mut Cursor<'_>,
     left: usize,
-    mark: &[u8],
+    text: &[u8],
 ) -> Result<Boxed<Expr>, ReadError>
-    ensures { Reads (read.operand (read.inner left) mark.now cursor.old) result cursor.new }
+    ensures { Reads (read.operand (read.inner left) text.now cursor.old) result cursor.new }
 {
-    token(cursor, mark)?;
+    token(cursor, text)?;
     inner(alloc, cursor, left)
 }
 

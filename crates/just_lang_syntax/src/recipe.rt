@@ -25,20 +25,32 @@ pub fn recipe_line(
     let quiet = maybe(cursor, b"@")?;
     let name = name(alloc, cursor)?;
     let parameters = parameters(alloc, cursor)?;
-    token(cursor, b":")?;
-    let priors = dependencies(alloc, cursor)?;
-    let subsequents = subsequents(alloc, cursor)?;
-    let comment = rest(alloc, cursor)?;
-    Ok(AstRecipe {
+    let recipe = AstRecipe {
         attributes,
         quiet,
         name,
         parameters,
-        priors,
-        subsequents,
-        comment,
+        priors: Seq::new(alloc),
+        subsequents: Seq::new(alloc),
+        comment: None,
         body: Seq::new(alloc),
-    })
+    };
+    behind_parameters(alloc, cursor, recipe)
+}
+
+/// What stands behind the parameters of a recipe's line, as far as this one is read.
+fn behind_parameters(
+    alloc: Global,
+    cursor: &mut Cursor<'_>,
+    recipe: AstRecipe,
+) -> Result<AstRecipe, ReadError>
+    ensures { Reads (read.behind_parameters recipe cursor.old) result cursor.new }
+{
+    token(cursor, b":")?;
+    let priors = dependencies(alloc, cursor)?;
+    let subsequents = subsequents(alloc, cursor)?;
+    let comment = rest(alloc, cursor)?;
+    Ok(recipe.depending(priors, subsequents, comment))
 }
 
 /// Whether a parameter begins here that takes one value.

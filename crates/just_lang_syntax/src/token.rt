@@ -1,4 +1,4 @@
-//! The marks of the grammar, names, and the ends of lines. Whatever is read here takes the blanks behind it.
+//! The tokens of the grammar, names, and the ends of lines. Whatever is read here takes the blanks behind it.
 ghost use Rattle.std.specs.Prelude.{Ok, Err};
 ghost use Rattle.just_lang_read.specs.Place.{begins};
 ghost use Rattle.just_lang_read.specs.Reader.{Reads};

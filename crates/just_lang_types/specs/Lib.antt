@@ -7,6 +7,7 @@ pub mod Keys
 pub mod Modules
 pub mod Names
 pub mod Options
+pub mod ParameterKinds
 pub mod References
 pub mod Switches
 pub mod Trees

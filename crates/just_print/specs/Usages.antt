@@ -5,15 +5,11 @@ use Rattle.just_lang_syntax.specs.declared.ast.ParameterKind.{ParameterKind}
 use Rattle.just_lang_syntax.specs.declared.ast.ParameterKind.TheVariants.{Singular, Plus, Star}
 use Rattle.just_lang_types.specs.declared.recipe.Modulepath.{Modulepath}
 use Rattle.just_lang_types.specs.declared.recipe.Parameter.{Parameter}
+pub use Rattle.just_lang_types.specs.ParameterKinds.{is_variadic}
 
 -- a parameter with a long or a short name is an option
 abbrev pub is_option : Parameter → Bool
 is_option p = is_some p.long || is_some p.short
-
-abbrev pub is_variadic : ParameterKind → Bool
-is_variadic Singular = false
-is_variadic Plus = true
-is_variadic Star = true
 
 abbrev pub is_star : ParameterKind → Bool
 is_star Singular = false

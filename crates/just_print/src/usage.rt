@@ -3,9 +3,9 @@
 ghost use Rattle.std.specs.Prelude.{◌≡◌, Some};
 ghost use Rattle.std.specs.List.{flat_map};
 ghost use Rattle.std.specs.Fmt.{WritesOnOk};
-ghost use Rattle.just_print.specs.Usages.{is_option, is_optional, is_variadic, has_options, behind, led, path_text, parameter_text, argument_text, usage_text};
+ghost use Rattle.just_print.specs.Usages.{is_option, is_optional, has_options, behind, led, path_text, parameter_text, argument_text, usage_text};
 
-use just_lang_types::{Modulepath, Parameter, ParameterKind};
+use just_lang_types::{Modulepath, Parameter, ParameterKind, is_variadic};
 use just_path_text::Text;
 use std::fmt;
 
@@ -28,16 +28,6 @@ pub fn is_option(parameter: &Parameter) -> bool
     ensures { result ≡ is_option parameter.now }
 {
     parameter.long.is_some() || parameter.short.is_some()
-}
-
-/// Whether a parameter takes several values.
-pub fn is_variadic(kind: ParameterKind) -> bool
-    ensures { result ≡ is_variadic kind }
-{
-    match kind {
-        ParameterKind::Singular => false,
-        ParameterKind::Plus | ParameterKind::Star => true,
-    }
 }
 
 /// Whether a parameter may be left out.

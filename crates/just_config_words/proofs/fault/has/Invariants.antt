@@ -4,5 +4,5 @@ use Rattle.std.specs.List.{list_any}
 use Rattle.just_config_words.specs.Faults.{test_of}
 use Rattle.just_config_words.proofs.fault.has.Given as goal
 
-abbrev pub invariant-marks : goal.invariant-marks
-invariant-marks l = list_any (test_of l.test) (drop l.mark-index l.marks) ≡ list_any (test_of l.test) l.marks
+abbrev pub invariant-parsed : goal.invariant-parsed
+invariant-parsed l = list_any (test_of l.test) (drop l.one-index l.parsed) ≡ list_any (test_of l.test) l.parsed

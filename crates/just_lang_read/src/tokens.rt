@@ -1,4 +1,4 @@
-//! Marks and words of a grammar, and the ends of lines. Whatever is read here takes the blanks behind it.
+//! Tokens and words of a grammar, and the ends of lines. Whatever is read here takes the blanks behind it.
 ghost use Rattle.std.specs.Prelude.{◌≡◌, Ok, Err, IfOk};
 ghost use Rattle.just_lang_read.specs.Place.{past, run, begins};
 ghost use Rattle.just_lang_read.specs.Reader.{Reads};
@@ -16,13 +16,13 @@ pub fn skip(cursor: &mut Cursor<'_>)
     cursor.pass::<Blank>();
 }
 
-/// A mark.
+/// A token of this text.
 #[tactic(auto, unfolding(crate::specs::Tokens::token))]
-pub fn token(cursor: &mut Cursor<'_>, mark: &[u8]) -> Result<(), ReadError>
-    ensures { Reads (tokens.token mark.now cursor.old) result cursor.new }
+pub fn token(cursor: &mut Cursor<'_>, text: &[u8]) -> Result<(), ReadError>
+    ensures { Reads (tokens.token text.now cursor.old) result cursor.new }
 {
-    if cursor.begins(mark) {
-        cursor.pass_text(mark);
+    if cursor.begins(text) {
+        cursor.pass_text(text);
         skip(cursor);
         Ok(())
     } else {
@@ -30,13 +30,13 @@ pub fn token(cursor: &mut Cursor<'_>, mark: &[u8]) -> Result<(), ReadError>
     }
 }
 
-/// A mark, or nothing.
+/// A token of this text, or nothing.
 #[tactic(auto, unfolding(crate::specs::Tokens::maybe))]
-pub fn maybe(cursor: &mut Cursor<'_>, mark: &[u8]) -> Result<bool, ReadError>
-    ensures { Reads (tokens.maybe mark.now cursor.old) result cursor.new }
+pub fn maybe(cursor: &mut Cursor<'_>, text: &[u8]) -> Result<bool, ReadError>
+    ensures { Reads (tokens.maybe text.now cursor.old) result cursor.new }
 {
-    if cursor.begins(mark) {
-        token(cursor, mark)?;
+    if cursor.begins(text) {
+        token(cursor, text)?;
         Ok(true)
     } else {
         Ok(false)

@@ -1,7 +1,7 @@
 //! What a word says of options: which ones stand in it, and what stands with them.
 ghost use Rattle.std.specs.Prelude.{◌≡◌, ◌∷◌, ◌<◌, ◌≤◌, ◌++◌, [], false, length, min, take, IfOk, MatchOption};
 ghost use Rattle.just_config_words.specs.Table.{entry_named, entry_lettered};
-ghost use Rattle.just_config_words.specs.Marks.{is_value, run, taken, mark, attached_values, name_in, assigned_in, attached_to, may_go_on, letters, behind_dash, marks, words_taken};
+ghost use Rattle.just_config_words.specs.Parsed.{is_value, run, taken, parsed_option, attached_values, name_in, assigned_in, attached_to, may_go_on, letters, behind_dash, parsed_options, words_taken};
 ghost use Rattle.just_config_words.specs.Letters.{begins_with_letter};
 
 use super::cut::{cut, strip};
@@ -30,7 +30,7 @@ impl Drop for Attached {
 }
 
 /// A long name or a letter of a word, as the option that it names, with its values.
-pub struct Mark {
+pub struct ParsedOption {
     /// None where there is no such option.
     pub option: Option<Entry>,
     pub attached: Attached,
@@ -40,9 +40,9 @@ pub struct Mark {
     pub taken: usize,
 }
 
-impl Drop for Mark {
+impl Drop for ParsedOption {
     fn drop(self) {
-        let Mark {
+        let ParsedOption {
             option: _,
             attached: _,
             values: _,
@@ -51,15 +51,15 @@ impl Drop for Mark {
     }
 }
 
-impl Mark {
+impl ParsedOption {
     ghost use Rattle.just_config_words.specs.Faults.{occurrence_in};
 
-    /// Adds the option of the mark, which stands in this word.
+    /// Adds the option, which stands in this word.
     pub(crate) fn add_to(self, given: &mut Vec<Occurrence>, word: &Text) -> Result<(), NoMemory>
         ensures { IfOk result
             (λ u. given.new.items ≡ given.old.items ++ occurrence_in word.now self) }
     {
-        let Mark {
+        let ParsedOption {
             option,
             attached: _,
             values,
@@ -81,7 +81,7 @@ impl Mark {
 }
 
 impl Attached {
-    ghost use Rattle.just_config_words.specs.Marks.{is_nothing};
+    ghost use Rattle.just_config_words.specs.Parsed.{is_nothing};
 
     /// Whether nothing is attached.
     pub(crate) fn is_nothing(&self) -> bool
@@ -107,7 +107,7 @@ impl Attached {
 }
 
 impl Values {
-    ghost use Rattle.just_config_words.specs.Marks.{takes_any, takes_nothing, least, most};
+    ghost use Rattle.just_config_words.specs.Parsed.{takes_any, takes_nothing, least, most};
 
     /// Whether any word may be a value.
     pub(crate) fn takes_any(self) -> bool
@@ -194,11 +194,11 @@ fn with_values(
     option: Option<Entry>,
     attached: Attached,
     behind: &[Text],
-) -> Result<Mark, NoMemory>
-    ensures { IfOk result (λ m. m ≡ mark option attached behind.now) }
+) -> Result<ParsedOption, NoMemory>
+    ensures { IfOk result (λ m. m ≡ parsed_option option attached behind.now) }
 {
     let Some(entry) = option else {
-        return Ok(Mark {
+        return Ok(ParsedOption {
             option: None,
             attached,
             values: Seq::new(alloc),
@@ -209,7 +209,7 @@ fn with_values(
     let limit = entry.values.most(values.len(), behind.len());
     let taken = count_values(entry.values.takes_any(), limit, behind);
     add_copies(&mut values, &behind[..taken])?;
-    Ok(Mark {
+    Ok(ParsedOption {
         option: Some(entry),
         attached,
         values: Seq::from(values),
@@ -228,8 +228,8 @@ pub fn add_copies(texts: &mut Vec<Text>, more: &[Text]) -> Result<(), NoMemory>
 }
 
 /// The option of a long name that stands behind `--`, with what stands behind a `=`.
-fn long_name(alloc: Global, text: &str, behind: &[Text]) -> Result<Mark, NoMemory>
-    ensures { IfOk result (λ m. m ≡ mark (entry_named (name_in text.now)) (assigned_in text.now) behind.now) }
+fn long_name(alloc: Global, text: &str, behind: &[Text]) -> Result<ParsedOption, NoMemory>
+    ensures { IfOk result (λ m. m ≡ parsed_option (entry_named (name_in text.now)) (assigned_in text.now) behind.now) }
 {
     match cut(text, '=') {
         Some((name, value)) => {
@@ -290,7 +290,7 @@ fn may_go_on(option: &Option<Entry>, attached: &Attached) -> bool
 /// Adds the option of a letter, with its values among the words behind; and tells whether further letters may follow.
 fn add_letter(
     alloc: Global,
-    marks: &mut Vec<Mark>,
+    parsed: &mut Vec<ParsedOption>,
     letter: char,
     follows: &str,
     behind: &[Text],
@@ -299,59 +299,63 @@ fn add_letter(
     ensures { IfOk result
         (λ goes_on. (goes_on
         ≡ may_go_on (entry_lettered letter) (attached_to (entry_lettered letter) follows.now))
-        × (marks.new.items
-        ≡ marks.old.items
-        ++ mark (entry_lettered letter) (attached_to (entry_lettered letter) follows.now) behind.now
+        × (parsed.new.items
+        ≡ parsed.old.items
+        ++ parsed_option (entry_lettered letter) (attached_to (entry_lettered letter) follows.now) behind.now
         ∷ [])) }
 {
     let option = entry_lettered(alloc, letter)?;
     let attached = attached_to(alloc, &option, follows)?;
     let goes_on = may_go_on(&option, &attached);
-    marks.push(with_values(alloc, option, attached, behind)?)?;
+    parsed.push(with_values(alloc, option, attached, behind)?)?;
     Ok(goes_on)
 }
 
 /// The options of the letters of a word.
-fn letters(alloc: Global, text: &str, behind: &[Text]) -> Result<Vec<Mark>, NoMemory>
+fn letters(alloc: Global, text: &str, behind: &[Text]) -> Result<Vec<ParsedOption>, NoMemory>
     ensures { IfOk result (λ v. v.items ≡ letters text.now behind.now) }
 {
-    let mut marks = Vec::new(alloc);
+    let mut parsed = Vec::new(alloc);
     let mut rest = text;
     'letters: while let Some((letter, follows)) = split_letter(rest) {
-        if !add_letter(alloc, &mut marks, letter, follows, behind)? {
-            return Ok(marks);
+        if !add_letter(alloc, &mut parsed, letter, follows, behind)? {
+            return Ok(parsed);
         }
         rest = follows;
     }
     if !rest.is_empty() {
-        marks.push(with_values(alloc, None, Attached::Nothing, behind)?)?;
+        parsed.push(with_values(alloc, None, Attached::Nothing, behind)?)?;
     }
-    Ok(marks)
+    Ok(parsed)
 }
 
 /// The options that stand in a word, with their values among the words behind it.
-pub(crate) fn marks(alloc: Global, word: &str, behind: &[Text]) -> Result<Vec<Mark>, NoMemory>
-    ensures { IfOk result (λ v. v.items ≡ marks word.now behind.now) }
+pub(crate) fn parsed_options(
+    alloc: Global,
+    word: &str,
+    behind: &[Text],
+) -> Result<Vec<ParsedOption>, NoMemory>
+    ensures { IfOk result (λ v. v.items ≡ parsed_options word.now behind.now) }
 {
     let Some(text) = strip(word, '-') else {
         return Ok(Vec::new(alloc));
     };
     match strip(text, '-') {
         Some(name) => {
-            let mut marks = Vec::new(alloc);
-            marks.push(long_name(alloc, name, behind)?)?;
-            Ok(marks)
+            let mut parsed = Vec::new(alloc);
+            parsed.push(long_name(alloc, name, behind)?)?;
+            Ok(parsed)
         }
         None => letters(alloc, text, behind),
     }
 }
 
 /// How many of the words behind are values of these options: those of the last one.
-pub(crate) fn words_taken(marks: &[Mark]) -> usize
-    ensures { result ≡ words_taken marks.now }
+pub(crate) fn words_taken(parsed: &[ParsedOption]) -> usize
+    ensures { result ≡ words_taken parsed.now }
 {
-    match marks.last() {
-        Some(mark) => mark.taken,
+    match parsed.last() {
+        Some(one) => one.taken,
         None => 0,
     }
 }

@@ -1,4 +1,4 @@
--- Marks, words and names: what the code reads is what the grammar says, and it takes characters.
+-- Tokens, words and names: what the code reads is what the grammar says, and it takes characters.
 use Rattle.std.proofs.Common.{◌≡◌, ℕ, ◌<◌, not, List, ◌∷◌, length, Ok, Err, refl, sym, ⊎_elim, arith}
 use Rattle.just_lang_read.specs.Place.{Place, starts, begins, behind_text}
 use Rattle.just_lang_read.specs.declared.error.ReadError.TheVariants.{Syntax}
@@ -12,22 +12,22 @@ use Rattle.just_lang_syntax.specs.Readers as reader
 use Rattle.just_lang_read.specs.Tokens as tokens
 use Rattle.just_lang_read.proofs.Laws.{and_true, behind_shorter}
 
--- a mark that is read stands there
-pub token_ok : (mark : List ℕ) (p : Place) (u : Unit {0}) (q : Place) → tokens.token mark p ≡ Ok (u, q) → IsToken mark p q
+-- a token that is read stands there
+pub token_ok : (text : List ℕ) (p : Place) (u : Unit {0}) (q : Place) → tokens.token text p ≡ Ok (u, q) → IsToken text p q
 unfolding tokens.token
-token_ok mark p u q h =
-    ⊎_elim (λ (s : _). (s.0, sym (ok_place tt u (skip (behind_text mark p)) q s.1)))
+token_ok text p u q h =
+    ⊎_elim (λ (s : _). (s.0, sym (ok_place tt u (skip (behind_text text p)) q s.1)))
     (λ (s : _). absurd (let no : ⊥ = cc (s.1) in no))
-    (choose (begins mark p) (Ok (tt, skip (behind_text mark p))) (Err Syntax) (Ok (u, q)) h)
+    (choose (begins text p) (Ok (tt, skip (behind_text text p))) (Err Syntax) (Ok (u, q)) h)
 
--- a mark that stands there is read
-pub token_again : (mark : List ℕ) (p q : Place) → IsToken mark p q → tokens.token mark p ≡ Ok (tt, q)
+-- a token that stands there is read
+pub token_again : (text : List ℕ) (p q : Place) → IsToken text p q → tokens.token text p ≡ Ok (tt, q)
 unfolding tokens.token
-token_again mark p q s = rw (s.0, s.1) refl
+token_again text p q s = rw (s.0, s.1) refl
 
--- a mark takes a character
-pub token_lt : (c : ℕ) (mark : List ℕ) (p q : Place) → IsToken (c ∷ mark) p q → length q.rest < length p.rest
-token_lt c mark p q s = rw (s.1) (omega (arith, past_le is_blank (behind_text (c ∷ mark) p), behind_shorter c mark p s.0))
+-- a token takes a character
+pub token_lt : (c : ℕ) (text : List ℕ) (p q : Place) → IsToken (c ∷ text) p q → length q.rest < length p.rest
+token_lt c text p q s = rw (s.1) (omega (arith, past_le is_blank (behind_text (c ∷ text) p), behind_shorter c text p s.0))
 
 -- a word that is read stands there
 pub word_ok : (text : List ℕ) (p : Place) (u : Unit {0}) (q : Place) → tokens.word text p ≡ Ok (u, q) → IsWord text p q

@@ -1,7 +1,7 @@
 -- The words that are counted are those of the run.
 use Rattle.std.proofs.Common.{◌∙◌, sym, ap, take, arith}
 use Rattle.just_config_words.proofs.Runs.{run_within, run_front}
-use Rattle.just_config_words.proofs.mark.count_values.Goals as goal
+use Rattle.just_config_words.proofs.parsed.count_values.Goals as goal
 
 pub returns : goal.returns
 returns c = record {

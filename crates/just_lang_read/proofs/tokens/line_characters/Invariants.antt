@@ -2,7 +2,7 @@
 use Rattle.std.proofs.Common.{◌≡◌, ◌++◌, length}
 use Rattle.just_lang_read.specs.Place.{past, run}
 use Rattle.just_lang_read.specs.Characters.{in_line}
-use Rattle.just_lang_read.proofs.marks.line_characters.Given as goal
+use Rattle.just_lang_read.proofs.tokens.line_characters.Given as goal
 
 abbrev pub invariant-characters : goal.invariant-characters
 invariant-characters l = record {

@@ -3,9 +3,9 @@ use Rattle.std.specs.Prelude.{ℕ, Bool, true, false, not, ◌||◌, ◌&&◌, �
 use Rattle.just_config_words.specs.declared.entry.Entry.{Entry}
 use Rattle.just_config_words.specs.declared.entry.Values.{Values}
 use Rattle.just_config_words.specs.declared.entry.Values.TheVariants as values
-use Rattle.just_config_words.specs.declared.mark.Attached.{Attached}
-use Rattle.just_config_words.specs.declared.mark.Attached.TheVariants.{Nothing, Joined, Assigned}
-use Rattle.just_config_words.specs.declared.mark.Mark.{Mark}
+use Rattle.just_config_words.specs.declared.parsed.Attached.{Attached}
+use Rattle.just_config_words.specs.declared.parsed.Attached.TheVariants.{Nothing, Joined, Assigned}
+use Rattle.just_config_words.specs.declared.parsed.ParsedOption.{ParsedOption}
 use Rattle.just_config_words.specs.Kinds.{is_help, is_version}
 use Rattle.just_config_words.specs.Cuts.{holds, before_first, behind_first, behind_sign}
 use Rattle.just_config_words.specs.Table.{entry_named, entry_lettered}
@@ -77,9 +77,9 @@ abbrev pub taken : Values → Attached → List (List ℕ) → List (List ℕ)
 taken v a ws = take (most v (length (attached_values a)) (length ws)) (run (takes_any v) ws)
 
 -- a long name or a letter in front of these words, as its option with its values
-abbrev pub mark : Option Entry → Attached → List (List ℕ) → Mark
-mark None a ws = record { option = None; attached = a; values = []; taken = 0 }
-mark (Some e) a ws = record { option = Some e; attached = a; values = attached_values a ++ taken e.values a ws; taken = length (taken e.values a ws) }
+abbrev pub parsed_option : Option Entry → Attached → List (List ℕ) → ParsedOption
+parsed_option None a ws = record { option = None; attached = a; values = []; taken = 0 }
+parsed_option (Some e) a ws = record { option = Some e; attached = a; values = attached_values a ++ taken e.values a ws; taken = length (taken e.values a ws) }
 
 -- ---- a long name
 
@@ -111,22 +111,22 @@ abbrev pub may_go_on : Option Entry → Attached → Bool
 may_go_on None a = false
 may_go_on (Some e) a = takes_nothing e.values && is_nothing a && not (is_help e.kind || is_version e.kind)
 
-abbrev pub letters : List ℕ → List (List ℕ) → List Mark
+abbrev pub letters : List ℕ → List (List ℕ) → List ParsedOption
 letters [] ws = []
 letters (c ∷ cs) ws =
-    mark (entry_lettered c) (attached_to (entry_lettered c) cs) ws
+    parsed_option (entry_lettered c) (attached_to (entry_lettered c) cs) ws
     ∷ (if may_go_on (entry_lettered c) (attached_to (entry_lettered c) cs) then letters cs ws else [])
 
 -- ---- a word
 
 -- the options that stand behind the dash of a word: behind a second one a long name, else letters
-abbrev pub behind_dash : List ℕ → List (List ℕ) → List Mark
-behind_dash t ws = elim (behind_sign dash t) [ None ↦ letters t ws | Some name ↦ mark (entry_named (name_in name)) (assigned_in name) ws ∷ [] ]
+abbrev pub behind_dash : List ℕ → List (List ℕ) → List ParsedOption
+behind_dash t ws = elim (behind_sign dash t) [ None ↦ letters t ws | Some name ↦ parsed_option (entry_named (name_in name)) (assigned_in name) ws ∷ [] ]
 
 -- the options that stand in a word in front of these words
-abbrev pub marks : List ℕ → List (List ℕ) → List Mark
-marks w ws = elim (behind_sign dash w) [ None ↦ [] | Some t ↦ behind_dash t ws ]
+abbrev pub parsed_options : List ℕ → List (List ℕ) → List ParsedOption
+parsed_options w ws = elim (behind_sign dash w) [ None ↦ [] | Some t ↦ behind_dash t ws ]
 
 -- how many of the words behind are values: those of the last option, since the others take none
-abbrev pub words_taken : List Mark → ℕ
+abbrev pub words_taken : List ParsedOption → ℕ
 words_taken ms = elim (slice_get ms (length ms - 1)) [ None ↦ 0 | Some m ↦ m.taken ]

@@ -1,7 +1,7 @@
 -- The words to come are counted on.
 use Rattle.std.proofs.Common.{◌≡◌, ◌≤◌, ◌+◌, min, drop, length}
-use Rattle.just_config_words.specs.Marks.{run}
-use Rattle.just_config_words.proofs.mark.run_length.Given as goal
+use Rattle.just_config_words.specs.Parsed.{run}
+use Rattle.just_config_words.proofs.parsed.run_length.Given as goal
 
 abbrev pub invariant-words : goal.invariant-words
 invariant-words l = record {

@@ -2,11 +2,11 @@
 use Rattle.std.proofs.Common.{◌≡◌, ◌++◌, length}
 use denote.Shadow.{shadow}
 use denote.Text.{Utf8}
-use Rattle.just_config_words.specs.Marks.{letters}
-use Rattle.just_config_words.proofs.mark.letters.Given as goal
+use Rattle.just_config_words.specs.Parsed.{letters}
+use Rattle.just_config_words.proofs.parsed.letters.Given as goal
 
 abbrev pub invariant-letters : goal.invariant-letters
-invariant-letters l = record { utf8 : shadow (Utf8 l.rest); same : l.marks.items ++ letters l.rest l.behind ≡ letters l.text l.behind }
+invariant-letters l = record { utf8 : shadow (Utf8 l.rest); same : l.parsed.items ++ letters l.rest l.behind ≡ letters l.text l.behind }
 
 abbrev pub decreases-letters : goal.decreases-letters
 decreases-letters l = length l.rest

@@ -1,6 +1,0 @@
--- What `strip_prefix` answers, by the text.
-use Rattle.just_config_words.proofs.Cuts.{strip_sign}
-use Rattle.just_config_words.proofs.cut.strip.Goals as goal
-
-pub returns : goal.returns
-returns c = strip_sign c.args.sign c.args.text.now c.strip_prefix.result c.strip_prefix.ensures.cases c.requires
