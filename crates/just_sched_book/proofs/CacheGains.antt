@@ -1,10 +1,9 @@
 -- What the calls that a cache makes gain together, and what they make of a told world.
-use Rattle.std.proofs.Common.{◌≡◌, ℕ, inr, false, List, [], ◌∷◌, ◌++◌, length, Option, Some, None, Result, Ok, Err, ap, ap₂, sym, ◌∙◌, subst, append_assoc, append-nil, arith}
+use Rattle.std.proofs.Common.{◌≡◌, ℕ, inr, false, List, [], ◌∷◌, ◌++◌, length, Option, Some, None, Result, Ok, Err, refl, ap, ap₂, sym, ◌∙◌, subst, append_assoc}
 use Rattle.std.specs.List.{list_any}
 use Rattle.std.proofs.lemmas.List.Folds.{list_any-append}
 use Rattle.just_path.specs.declared.host.Miss.{Miss}
 use Rattle.just_host_record.specs.Changes.{Changes}
-use Rattle.just_host_record.specs.declared.entry.Call.TheVariants as call
 use Rattle.just_host_record.specs.declared.entry.Entry.{Entry}
 use Rattle.just_host_record.specs.declared.entry.Entry.TheVariants as entry
 use Rattle.just_host_record.specs.declared.entry.Look.{Look}
@@ -13,7 +12,6 @@ use Rattle.just_host_record.specs.Sights.{Tree}
 use Rattle.just_host_record.specs.World.{World, Moment}
 use Rattle.just_sched_history.specs.declared.cache_plan.CachePlan.{CachePlan}
 use Rattle.just_sched_history.specs.declared.event.Reason.{Reason}
-use Rattle.just_sched_history.specs.declared.event.Reason.TheVariants as reason
 use Rattle.just_sched_history.specs.Cached.{entry_of}
 use Rattle.just_sched_book.specs.Gains.{GainsAndLeaves, ProbeGain, KeepGain, SaveGains, LookRefusal, LeavesWorld}
 use Rattle.just_sched_history.specs.Match.{summed_entries, looked_entries}
@@ -34,10 +32,7 @@ second_calm es fs e = (neither (list_any is_failed es) (list_any is_failed fs) (
 -- what an entry gains behind a check that found each output
 keep_behind : (c : CachePlan) (sums : List (List ℕ)) (path : List ℕ) (r : Result (Unit {0}) Reason) (fs : List Entry) → path ≡ entry_of c sums → KeepGain path r fs → SaveGains c sums r (entry.Checked c.outputs None ∷ fs)
 keep_behind c sums path (Ok done) fs at g = ap (λ k. entry.Checked c.outputs None ∷ k) (g ∙ ap (λ p. entry.Saved p ∷ []) at)
-keep_behind c sums path (Err (reason.Place call.Save m)) fs at g = ap (λ k. entry.Checked c.outputs None ∷ k) (g ∙ ap (λ p. entry.Missed p m ∷ []) at)
-keep_behind c sums path (Err (reason.Fault call.Save)) fs at g = ap (λ k. entry.Checked c.outputs None ∷ k) g
-keep_behind c sums path (Err reason.NoMemory) fs at g = inr (ap (λ k. entry.Checked c.outputs None ∷ k) g)
-keep_behind c sums path (Err _) fs at g = absurd g
+keep_behind c sums path (Err e) fs at g = inr (fs, refl, subst (λ p. KeepGain p (Err e) fs) at g)
 
 -- the two calls together
 pub saved_together : (c : CachePlan) (sums : List (List ℕ)) (path text : List ℕ) (r : Result (Unit {0}) Reason) (before between after : Moment) (es fs : List Entry)
@@ -55,10 +50,7 @@ saved_together c sums path text r before between after es fs at first checked sa
 -- ---- looking
 
 look_behind : (c : CachePlan) (sums : List (List ℕ)) (r : Reason) (fs : List Entry) → length sums ≡ length c.paths → ProbeGain (entry_of c sums) c.outputs (Err r) fs → LookRefusal c r (summed_entries c.paths sums ++ fs)
-look_behind c sums (reason.Place call.Probe m) fs many g = (sums, many, ap (λ k. summed_entries c.paths sums ++ k) g)
-look_behind c sums (reason.Fault call.Probe) fs many g = (sums, many, ap (λ k. summed_entries c.paths sums ++ k) g)
-look_behind c sums reason.NoMemory fs many g = (sums, omega (arith, many), ap (λ k. summed_entries c.paths sums ++ k) g ∙ append-nil (summed_entries c.paths sums))
-look_behind c sums _ fs many g = absurd g
+look_behind c sums r fs many g = inr (sums, fs, many, refl, g)
 
 module _ (c : CachePlan) (sums : List (List ℕ)) (before between after : Moment) (es fs : List Entry) (first : between.entries ≡ before.entries ++ es)
     (many : length sums ≡ length c.paths) (summed : es ≡ summed_entries c.paths sums) (same : between.world ≡ before.world) (second : after.entries ≡ between.entries ++ fs) where

@@ -1,5 +1,6 @@
 -- What the calls of a cache gained stands for the event that a book notes behind them.
-use Rattle.std.proofs.Common.{◌≡◌, ◌≢◌, ℕ, suc, ◌<◌, ◌≤◌, inl, inr, List, [], ◌∷◌, ◌++◌, length, drop, Option, Some, None, MatchOption, Err, refl, ap, sym, ◌∙◌, subst, append_assoc, arith}
+use Rattle.std.specs.Prelude.{slice_index_or}
+use Rattle.std.proofs.Common.{◌≡◌, ◌≢◌, ℕ, suc, ◌<◌, ◌≤◌, inl, inr, List, [], ◌∷◌, ◌++◌, length, drop, Option, Some, None, MatchOption, Err, refl, ap, sym, ◌∙◌, subst, append_assoc, append-nil, arith}
 use Rattle.just_host_record.specs.declared.entry.Call.TheVariants as call
 use Rattle.just_host_record.specs.declared.entry.Entry.{Entry}
 use Rattle.just_host_record.specs.declared.entry.Entry.TheVariants as entry
@@ -9,18 +10,18 @@ use Rattle.just_host_record.specs.World.{World}
 use Rattle.just_sched_history.specs.declared.cache_plan.CachePlan.{CachePlan}
 use Rattle.just_sched_history.specs.declared.event.Event.{Event}
 use Rattle.just_sched_history.specs.declared.event.Event.TheVariants as event
-use Rattle.just_sched_history.specs.declared.event.Outcome.TheVariants as outcome
 use Rattle.just_sched_history.specs.declared.event.Reason.{Reason}
 use Rattle.just_sched_history.specs.declared.event.Reason.TheVariants as reason
 use Rattle.just_sched_history.specs.Cached.{entry_of, saved_text, seen_at}
 use Rattle.just_sched_history.specs.Effects.{Makes}
 use Rattle.just_sched_history.specs.Touched.{IsLooked, IsWritten}
-use Rattle.just_sched_book.specs.Gains.{SumRefusal, LookRefusal, SaveGains}
+use Rattle.just_sched_book.specs.Gains.{RefusalGains, MissesAt, RefusedSum, CheckGain, KeepGain, SumRefusal, LookRefusal, SaveGains}
 use Rattle.just_sched_history.specs.Legal.{Run, Looked, Saved, IsDue, May}
 use Rattle.just_sched_history.specs.Match.{StandsFor, OfCache, summed_entries, looked_entries, saved_entries}
 use Rattle.just_sched_history.specs.Nodes.{cache_at, paths_in, outputs_in}
 use Rattle.just_sched_history.proofs.CachedMoves.{at_seen}
-use Rattle.just_sched_book.proofs.Gained.{some_pushed}
+use Rattle.just_sched_book.proofs.Gained.{Fails, some_pushed}
+use Rattle.just_sched_book.proofs.Summing.{no_entries}
 
 -- what holds of the cache of a node
 pub at_cache : (P : CachePlan → Type 0) (o : Option CachePlan) (c : CachePlan) → o ≡ Some c → P c → MatchOption o ⊥ P
@@ -56,7 +57,7 @@ module _ (s : Run) (h : List Event) (n : ℕ) (c : CachePlan) (at : cache_at s.n
   look_makes sums seen old new is = at_cache (λ d. IsLooked (entry_of d sums) old new) (cache_at s.nodes n) c at is
 
   -- want of memory stands for some sums
-  memory_looked : (sums : List (List ℕ)) (es : List Entry) → IsDue s h n Looked → length sums ≤ length c.paths → es ≡ summed_entries c.paths sums → May s h (event.Done n (outcome.Failed reason.NoMemory)) × StandsFor s h (event.Done n (outcome.Failed reason.NoMemory)) es
+  memory_looked : (sums : List (List ℕ)) (es : List Entry) → IsDue s h n Looked → length sums ≤ length c.paths → es ≡ summed_entries c.paths sums → Fails s h n reason.NoMemory es
   memory_looked sums es due le e =
       let r = filled c.paths sums le in
       let last = entry.Probed (entry_of c (sums ++ r.0)) c.outputs look.Empty in
@@ -65,25 +66,41 @@ module _ (s : Run) (h : List Event) (n : ℕ) (c : CachePlan) (at : cache_at s.n
       let parts : all ≡ es ++ rest = ap (λ k. k ++ last ∷ []) r.2 ∙ append_assoc (summed_entries c.paths sums) (summed_entries (drop (length sums) c.paths) r.0) (last ∷ []) ∙ ap (λ k. k ++ rest) (sym e) in
       ((Looked, due, λ q. cc), (Looked, rest, all, due, at_cache (λ d. (sums : List (List ℕ)) × (seen : Look) × (length sums ≡ length d.paths) × (all ≡ looked_entries d sums seen)) (cache_at s.nodes n) c at (sums ++ r.0, look.Empty, r.1, refl), parts, some_pushed (summed_entries (drop (length sums) c.paths) r.0) last))
 
+  -- as it does where nothing came behind them
+  memory_behind : (sums : List (List ℕ)) (es later : List Entry) → IsDue s h n Looked → length sums ≤ length c.paths → es ≡ summed_entries c.paths sums ++ later → later ≡ [] → Fails s h n reason.NoMemory es
+  memory_behind sums es later due le are none =
+      memory_looked sums es due le (are ∙ ap (λ k. summed_entries c.paths sums ++ k) none ∙ append-nil (summed_entries c.paths sums))
+
+  -- the sum of the next file was refused
+  next_fails : (sums : List (List ℕ)) (r : Reason) (es later : List Entry) → IsDue s h n Looked → length sums < length c.paths → es ≡ summed_entries c.paths sums ++ later → RefusedSum (slice_index_or c.paths (length sums) []) (length sums) r later → Fails s h n r es
+  next_fails sums (reason.Input j m) es later due lt are g = (
+    (due, subst (λ k. j < k) (sym paths_are) (omega (arith, g.0, lt))),
+    at_cache _ (cache_at s.nodes n) c at (sums, sym g.0, are ∙ ap (λ k. summed_entries c.paths sums ++ k) (g.1 ∙ ap (λ k. entry.Missed (slice_index_or c.paths k []) m ∷ []) (sym g.0))),
+  )
+  next_fails sums (reason.Fault k) es later due lt are g =
+      subst (λ x. Fails s h n (reason.Fault x) es) (sym g.0) (due, at_cache _ (cache_at s.nodes n) c at (sums, lt, are ∙ ap (λ x. summed_entries c.paths sums ++ x) g.1))
+  next_fails sums reason.NoMemory es later due lt are g = memory_behind sums es later due (omega (arith, lt)) are g
+  next_fails sums (reason.Place k m) es later due lt are g = absurd g.1
+  next_fails sums _ es later due lt are g = absurd g
+
   -- a sum that was refused ends the body so
-  sum_fails : (r : Reason) (es : List Entry) → IsDue s h n Looked → SumRefusal c.paths r es → May s h (event.Done n (outcome.Failed r)) × StandsFor s h (event.Done n (outcome.Failed r)) es
-  sum_fails (reason.Input j m) es due g =
-      ((due, subst (λ k. j < k) (sym paths_are) g.0), at_cache _ (cache_at s.nodes n) c at g.1)
-  sum_fails (reason.Fault call.Sum) es due g = (due, at_cache _ (cache_at s.nodes n) c at g)
-  sum_fails reason.NoMemory es due g = memory_looked g.0 es due g.1 g.2
-  sum_fails _ es due g = absurd g
+  sum_fails : (r : Reason) (es : List Entry) → IsDue s h n Looked → SumRefusal c.paths r es → Fails s h n r es
+  sum_fails r es due (inl g) = subst (λ k. Fails s h n k es) (sym g.0) (memory_looked [] es due (omega arith) (g.1 ∙ sym (no_entries c.paths)))
+  sum_fails r es due (inr g) = next_fails g.0 r es g.1 due g.2 g.3 g.4
+
+  -- the look at the entry was refused, behind all sums
+  probe_fails : (sums : List (List ℕ)) (r : Reason) (es later : List Entry) → IsDue s h n Looked → length sums ≡ length c.paths → es ≡ summed_entries c.paths sums ++ later → RefusalGains call.Probe (MissesAt (entry_of c sums)) r later → Fails s h n r es
+  probe_fails sums (reason.Place k m) es later due many are g =
+      subst (λ x. Fails s h n (reason.Place x m) es) (sym g.0) (due, at_cache _ (cache_at s.nodes n) c at (sums, many, are ∙ ap (λ x. summed_entries c.paths sums ++ x) g.1))
+  probe_fails sums (reason.Fault k) es later due many are g =
+      subst (λ x. Fails s h n (reason.Fault x) es) (sym g.0) (due, at_cache _ (cache_at s.nodes n) c at (sums, many, are ∙ ap (λ x. summed_entries c.paths sums ++ x) g.1))
+  probe_fails sums reason.NoMemory es later due many are g = memory_behind sums es later due (omega (arith, many)) are g
+  probe_fails sums _ es later due many are g = absurd g
 
   -- a look that was refused ends the body so
-  look_refused : (r : Reason) (es : List Entry) → IsDue s h n Looked → LookRefusal c r es → May s h (event.Done n (outcome.Failed r)) × StandsFor s h (event.Done n (outcome.Failed r)) es
-  look_refused (reason.Place call.Probe m) es due g = (due, at_cache _ (cache_at s.nodes n) c at g)
-  look_refused (reason.Fault call.Probe) es due g = (due, at_cache _ (cache_at s.nodes n) c at g)
-  look_refused (reason.Fault call.Sum) es due g = sum_fails (reason.Fault call.Sum) es due g
-  look_refused (reason.Input j m) es due g = sum_fails (reason.Input j m) es due g
-  look_refused reason.NoMemory es due g = sum_fails reason.NoMemory es due g
-  look_refused _ es due g = absurd g
-
-  pub look_fails : (r : Reason) (es : List Entry) → IsDue s h n Looked → LookRefusal c r es → May s h (event.Done n (outcome.Failed r)) × StandsFor s h (event.Done n (outcome.Failed r)) es
-  look_fails r es due g = look_refused r es due g
+  pub look_fails : (r : Reason) (es : List Entry) → IsDue s h n Looked → LookRefusal c r es → Fails s h n r es
+  look_fails r es due (inl g) = sum_fails r es due g
+  look_fails r es due (inr g) = probe_fails g.0 r es g.1 due g.2 g.3 g.4
 
   -- ---- an entry that is saved
 
@@ -101,20 +118,32 @@ module _ (s : Run) (h : List Event) (n : ℕ) (c : CachePlan) (at : cache_at s.n
     save_makes sums old new same is = of_sums (λ d sums. IsWritten (entry_of d sums) (saved_text d) old new) (subst (λ k. IsWritten (entry_of c k) (saved_text c) old new) same is)
 
     -- want of memory before the check, and behind it
-    memory_saved : (es rest : List Entry) → IsDue s h n Saved → saved_entries c seen.0 ≡ es ++ rest → (rest ≢ []) → May s h (event.Done n (outcome.Failed reason.NoMemory)) × StandsFor s h (event.Done n (outcome.Failed reason.NoMemory)) es
+    memory_saved : (es rest : List Entry) → IsDue s h n Saved → saved_entries c seen.0 ≡ es ++ rest → (rest ≢ []) → Fails s h n reason.NoMemory es
     memory_saved es rest due parts some =
         ((Saved, due, λ q. cc), (Saved, rest, saved_entries c seen.0, due, of_sums (λ d sums. saved_entries c seen.0 ≡ saved_entries d sums) refl, parts, some))
 
+    -- a check that was refused ends the body so
+    check_fails : (r : Reason) (es : List Entry) → IsDue s h n Saved → CheckGain c.outputs (Err r) es → Fails s h n r es
+    check_fails (reason.Output j) es due g = ((due, subst (λ k. j < k) (sym outputs_are) g.0), at_cache _ (cache_at s.nodes n) c at g.1)
+    check_fails (reason.Place k m) es due g = subst (λ x. Fails s h n (reason.Place x m) es) (sym g.0) (due, at_cache _ (cache_at s.nodes n) c at g.1)
+    check_fails (reason.Fault k) es due g = subst (λ x. Fails s h n (reason.Fault x) es) (sym g.0) (due, g.1)
+    check_fails reason.NoMemory es due g = memory_saved es (saved_entries c seen.0) due (ap (λ k. k ++ saved_entries c seen.0) (sym g)) (λ q. cc)
+    check_fails _ es due g = absurd g
+
+    -- and so does an entry that couldn't be made to hold its text behind it
+    keep_fails : (r : Reason) (es later : List Entry) → IsDue s h n Saved → es ≡ entry.Checked c.outputs None ∷ later → KeepGain (entry_of c seen.0) (Err r) later → Fails s h n r es
+    keep_fails (reason.Place k m) es later due are g =
+        subst (λ x. Fails s h n (reason.Place x m) es) (sym g.0) (due, of_sums (λ d sums. es ≡ entry.Checked d.outputs None ∷ entry.Missed (entry_of d sums) m ∷ []) (are ∙ ap (λ x. entry.Checked c.outputs None ∷ x) g.1))
+    keep_fails (reason.Fault k) es later due are g =
+        subst (λ x. Fails s h n (reason.Fault x) es) (sym g.0) (due, at_cache _ (cache_at s.nodes n) c at (are ∙ ap (λ x. entry.Checked c.outputs None ∷ x) g.1))
+    keep_fails reason.NoMemory es later due are g =
+        memory_saved es (entry.Saved (entry_of c seen.0) ∷ []) due (ap (λ k. k ++ entry.Saved (entry_of c seen.0) ∷ []) (sym (are ∙ ap (λ x. entry.Checked c.outputs None ∷ x) g))) (λ q. cc)
+    keep_fails _ es later due are g = absurd g
+
     -- an entry that couldn't be saved ends the body so
-    pub save_fails : (r : Reason) (es : List Entry) → IsDue s h n Saved → SaveGains c seen.0 (Err r) es → May s h (event.Done n (outcome.Failed r)) × StandsFor s h (event.Done n (outcome.Failed r)) es
-    save_fails (reason.Output j) es due g = ((due, subst (λ k. j < k) (sym outputs_are) g.0), at_cache _ (cache_at s.nodes n) c at g.1)
-    save_fails (reason.Place call.Check m) es due g = (due, at_cache _ (cache_at s.nodes n) c at g)
-    save_fails (reason.Place call.Save m) es due g = (due, of_sums (λ d sums. es ≡ entry.Checked d.outputs None ∷ entry.Missed (entry_of d sums) m ∷ []) g)
-    save_fails (reason.Fault call.Check) es due g = (due, g)
-    save_fails (reason.Fault call.Save) es due g = (due, at_cache _ (cache_at s.nodes n) c at g)
-    save_fails reason.NoMemory es due (inl e) = memory_saved es (saved_entries c seen.0) due (ap (λ k. k ++ saved_entries c seen.0) (sym e)) (λ q. cc)
-    save_fails reason.NoMemory es due (inr e) = memory_saved es (entry.Saved (entry_of c seen.0) ∷ []) due (ap (λ k. k ++ entry.Saved (entry_of c seen.0) ∷ []) (sym e)) (λ q. cc)
-    save_fails _ es due g = absurd g
+    pub save_fails : (r : Reason) (es : List Entry) → IsDue s h n Saved → SaveGains c seen.0 (Err r) es → Fails s h n r es
+    save_fails r es due (inl g) = check_fails r es due g
+    save_fails r es due (inr g) = keep_fails r es g.0 due g.1 g.2
 
 -- the sums that were read are those of the look
 pub sums_are : (h k : List Event) (n : ℕ) (sums : List (List ℕ)) (seen : List (List ℕ) × Look) → k ≡ h → seen_at h n ≡ Some seen → MatchOption (seen_at k n) ⊥ (λ x. sums ≡ x.0) → sums ≡ seen.0

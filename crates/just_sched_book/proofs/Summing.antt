@@ -1,15 +1,15 @@
 -- Files that are summed one after the other.
-use Rattle.std.proofs.Common.{◌≡◌, ℕ, zero, suc, ◌+◌, ◌<◌, List, [], ◌∷◌, ◌++◌, length, length-append, get_or, Err, refl, ap, ap₂, sym, ◌∙◌, subst, append_assoc, append-nil, arith}
-use Rattle.just_host_record.specs.declared.entry.Call.TheVariants as call
+use Rattle.std.specs.Prelude.{slice_index_or}
+use Rattle.std.proofs.Common.{◌≡◌, ℕ, zero, suc, ◌+◌, ◌<◌, inl, inr, List, [], ◌∷◌, ◌++◌, length, length-append, get_or, Err, refl, ap, ap₂, sym, ◌∙◌, subst, append_assoc, append-nil, arith}
 use Rattle.just_host_record.specs.declared.entry.Entry.{Entry}
 use Rattle.just_host_record.specs.declared.entry.Entry.TheVariants as entry
 use Rattle.just_sched_history.specs.declared.event.Reason.{Reason}
 use Rattle.just_sched_history.specs.declared.event.Reason.TheVariants as reason
-use Rattle.just_sched_book.specs.Gains.{SumGain, SumRefusal}
+use Rattle.just_sched_book.specs.Gains.{RefusedSum, SumGain, SumRefusal}
 use Rattle.just_sched_history.specs.Match.{summed_entries}
 
 -- no sums are no entries
-no_entries : (paths : List (List ℕ)) → summed_entries paths [] ≡ []
+pub no_entries : (paths : List (List ℕ)) → summed_entries paths [] ≡ []
 no_entries [] = refl
 no_entries (p ∷ paths) = refl
 
@@ -42,21 +42,21 @@ module _ (paths : List (List ℕ)) (place : ℕ) (path : List ℕ) (sums : List 
   })
 
   -- one that was refused
-  refused_at : {A : Type 0} (sum : A → List ℕ) (r : Reason) (es : List Entry) → SumGain path place sum (Err r) es → SumRefusal paths r (summed_entries paths sums ++ es)
-  refused_at sum (reason.Input j m) es g =
-      (omega (arith, g.0, lt), (sums, before.many ∙ sym g.0, ap (λ k. summed_entries paths sums ++ k) (g.1 ∙ ap (λ p. entry.Missed p m ∷ []) (is ∙ other_default paths place path [] lt ∙ ap (λ k. get_or paths k []) (sym g.0)))))
+  refused_at : (r : Reason) (es : List Entry) → RefusedSum path place r es → RefusedSum (slice_index_or paths (length sums) []) (length sums) r es
+  refused_at r es g =
+      subst (λ k. RefusedSum (get_or paths k []) k r es) (sym before.many) (subst (λ p. RefusedSum p place r es) (is ∙ other_default paths place path [] lt) g)
     where
       other_default : (paths : List (List ℕ)) (place : ℕ) (d e : List ℕ) → place < length paths → get_or paths place d ≡ get_or paths place e
       other_default [] place d e lt = absurd (omega (arith, lt))
       other_default (p ∷ paths) zero d e lt = refl
       other_default (p ∷ paths) (suc place) d e lt = other_default paths place d e (omega (arith, lt))
-  refused_at sum (reason.Fault call.Sum) es g = (sums, omega (arith, before.many, lt), ap (λ k. summed_entries paths sums ++ k) g)
-  refused_at sum reason.NoMemory es g = (sums, omega (arith, before.many, lt), ap (λ k. summed_entries paths sums ++ k) g ∙ append-nil (summed_entries paths sums))
-  refused_at sum _ es g = absurd g
 
   pub summed_stop : {A : Type 0} (sum : A → List ℕ) (r : Reason) (es : List Entry) → now ≡ mid ++ es → SumGain path place sum (Err r) es → (all : List Entry) × (now ≡ old ++ all) × SumRefusal paths r all
-  summed_stop sum r es gained g =
-      (summed_entries paths sums ++ es, gained ∙ ap (λ k. k ++ es) before.gained ∙ append_assoc old (summed_entries paths sums) es, refused_at sum r es g)
+  summed_stop sum r es gained g = (
+    summed_entries paths sums ++ es,
+    gained ∙ ap (λ k. k ++ es) before.gained ∙ append_assoc old (summed_entries paths sums) es,
+    inr (sums, es, omega (arith, before.many, lt), refl, refused_at r es g),
+  )
 
 -- the path that is read at a place
 pub path_read : (paths : List (List ℕ)) (place : ℕ) (path read : List ℕ) → place < length paths → path ≡ read → read ≡ get_or paths place read → path ≡ get_or paths place path
@@ -68,4 +68,4 @@ summed_all paths place sums old now whole before = (summed_entries paths sums, b
 
 -- nothing was summed for want of memory
 pub summed_unasked : (paths : List (List ℕ)) (old : List Entry) → (es : List Entry) × (old ≡ old ++ es) × SumRefusal paths reason.NoMemory es
-summed_unasked paths old = ([], sym (append-nil old), ([], omega arith, sym (no_entries paths)))
+summed_unasked paths old = ([], sym (append-nil old), inl (refl, refl))

@@ -1,5 +1,6 @@
 -- How the count of running bodies goes on with the history: a start adds one, a settled child takes one away.
-use Rattle.std.proofs.Common.{◌≡◌, ℕ, ◌+◌, inl, inr, false, cond, List, [], ◌∷◌, ◌++◌, Err, refl, sym, subst, arith}
+use Rattle.std.proofs.Common.{◌≡◌, ℕ, ◌+◌, inl, inr, false, cond, List, [], ◌∷◌, ◌++◌, Err, refl, ap, sym, ◌∙◌, subst, arith}
+use Rattle.just_host_record.specs.declared.entry.Call.{Call}
 use Rattle.just_host_record.specs.declared.entry.Call.TheVariants as call
 use Rattle.just_host_record.specs.declared.entry.Entry.{Entry}
 use Rattle.just_sched_history.specs.declared.event.Event.{Event}
@@ -31,26 +32,35 @@ silent_end s h n (outcome.Failed (reason.Fault call.Wait)) (inl stands) = absurd
 silent_end s h n (outcome.Failed (reason.Fault call.Wait)) (inr stands) = let e = stands.5 in absurd (cc)
 silent_end s h n (outcome.Failed _) stands = refl
 
+-- nor does an end by the failure of a call that is none of waiting
+fault_end : (n : ℕ) (c made : Call) → c ≡ made → settles (event.Done n (outcome.Failed (reason.Fault made))) ≡ false → settles (event.Done n (outcome.Failed (reason.Fault c))) ≡ false
+fault_end n c made same other = ap (λ k. settles (event.Done n (outcome.Failed (reason.Fault k)))) same ∙ other
+
 -- nor does the end of a body whose banner couldn't be printed
 pub told_end : (A : Type 0) (text : List ℕ) (n : ℕ) (r : Reason) (es : List Entry) → TellGains {A = A} text (Err r) es → settles (event.Done n (outcome.Failed r)) ≡ false
-told_end A text n (reason.Fault call.Wait) es g = absurd g
+told_end A text n (reason.Fault c) es g = fault_end n c call.Print g.1.0 refl
 told_end A text n _ es g = refl
 
 -- nor does that of a body whose command couldn't be started
 pub unstarted_end : {C : Type 0} (number : C → ℕ) (c : Command) (n : ℕ) (r : Reason) (es : List Entry) → StartGains number c (Err r) es → settles (event.Done n (outcome.Failed r)) ≡ false
-unstarted_end number c n (reason.Fault call.Wait) es g = absurd g
+unstarted_end number c n (reason.Fault k) es (inl g) = fault_end n k call.Print g.1.0 refl
+unstarted_end number c n (reason.Fault k) es (inr (later, are, inl g)) = fault_end n k call.Start g.0 refl
+unstarted_end number c n (reason.Fault k) es (inr (later, are, inr g)) = fault_end n k call.Temp g.0 refl
 unstarted_end number c n _ es g = refl
 
 -- nor does that of a body whose cache couldn't be looked at, or whose entry couldn't be saved
 pub unlooked_end : (c : CachePlan) (n : ℕ) (r : Reason) (es : List Entry) → LookRefusal c r es → settles (event.Done n (outcome.Failed r)) ≡ false
-unlooked_end c n (reason.Fault call.Wait) es g = absurd g
+unlooked_end c n (reason.Fault k) es (inl (inl g)) = absurd (cc g.0)
+unlooked_end c n (reason.Fault k) es (inl (inr g)) = fault_end n k call.Sum g.4.0 refl
+unlooked_end c n (reason.Fault k) es (inr g) = fault_end n k call.Probe g.4.0 refl
 unlooked_end c n _ es g = refl
 
 pub unsaved_end : (c : CachePlan) (sums : List (List ℕ)) (n : ℕ) (r : Reason) (es : List Entry) → SaveGains c sums (Err r) es → settles (event.Done n (outcome.Failed r)) ≡ false
-unsaved_end c sums n (reason.Fault call.Wait) es g = absurd g
+unsaved_end c sums n (reason.Fault k) es (inl g) = fault_end n k call.Check g.0 refl
+unsaved_end c sums n (reason.Fault k) es (inr g) = fault_end n k call.Save g.2.0 refl
 unsaved_end c sums n _ es g = refl
 
 -- nor does that of a node that couldn't be asked
 pub unasked_end : (prompt : List ℕ) (n : ℕ) (r : Reason) (es : List Entry) → AskGains prompt (Err r) es → settles (event.Done n (outcome.Failed r)) ≡ false
-unasked_end prompt n (reason.Fault call.Wait) es g = absurd g
+unasked_end prompt n (reason.Fault c) es g = fault_end n c call.Ask g.0 refl
 unasked_end prompt n _ es g = refl
