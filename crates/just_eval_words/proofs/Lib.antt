@@ -11,6 +11,7 @@ pub mod Steps
 pub mod Parts
 pub mod Lookups
 pub mod Targets
+pub mod Commanded
 pub mod Keys
 pub mod Invoked
 pub mod Agree

@@ -10,5 +10,6 @@ pub mod Given
 pub mod Paths
 pub mod Names
 pub mod Targets
+pub mod Commands
 pub mod Invocations
 pub mod Sights

@@ -5,14 +5,14 @@ use just_lang_types::project::Justfile;
 
 /// A recipe, and the module that it stands in.
 #[derive(Clone, Copy)]
-pub(crate) struct Found<'p> {
-    pub(crate) parent: &'p Justfile,
-    pub(crate) recipe: &'p Recipe,
+pub struct Found<'p> {
+    pub parent: &'p Justfile,
+    pub recipe: &'p Recipe,
 }
 
 /// What a word leads to.
 #[derive(Clone, Copy)]
-pub(crate) enum Target<'p> {
+pub enum Target<'p> {
     Module(&'p Justfile),
     Recipe(Found<'p>),
 }

@@ -2,6 +2,7 @@
 #![tactic(auto)]
 
 mod check;
+mod command;
 mod copy;
 mod form;
 mod found;
@@ -17,6 +18,9 @@ mod taken;
 mod target;
 mod words;
 
+pub use command::{inner_module, named_target};
+pub use found::{Found, Target};
 pub use invocation::{invocations, invocations_agree, within_one};
+pub use name::recipe_in;
 pub use parameter::least_words;
 pub use words::words_given;

@@ -67,7 +67,7 @@ pub(crate) fn disabled_at<'p>(all: &'p [Disabled], name: &str) -> Option<&'p Dis
 }
 
 /// The recipe of that name in a module.
-pub(crate) fn recipe_in<'p>(justfile: &'p Justfile, name: &str) -> Option<&'p Recipe>
+pub fn recipe_in<'p>(justfile: &'p Justfile, name: &str) -> Option<&'p Recipe>
     ensures { option_copied result ≡ recipe_in justfile.now name.now }
 {
     'recipes: for recipe in justfile.recipes.as_slice() {

@@ -66,7 +66,7 @@ fn unknown_recipe(alloc: Global, word: &str) -> LangError
 
 /// What the last name of a word leads to in a module.
 #[tactic(auto, using(crate::proofs::Targets::module_is, crate::proofs::Targets::absent_is, crate::proofs::Targets::no_recipe_is, crate::proofs::Targets::recipe_is, crate::proofs::Targets::no_alias_is, crate::proofs::Targets::alias_is, crate::proofs::Targets::unknown_is))]
-fn last_target<'p>(
+pub(crate) fn last_target<'p>(
     alloc: Global,
     modules: &[&'p Justfile],
     justfile: &'p Justfile,

@@ -5,3 +5,4 @@ pub mod Law
 pub mod Entries
 pub mod SmallTexts
 pub mod Usages
+pub mod Shown

@@ -1,6 +1,7 @@
 //! Attributes, and the ends of items' lines, as texts.
 ghost use Rattle.std.specs.Prelude.{◌≡◌, ◌++◌, map, codes, IfOk, string_bytes};
 ghost use Rattle.just_print.specs.Printed.{led, printed_end, printed_key, printed_argument, printed_arguments, behind_attribute, printed_attribute, printed_attributes};
+ghost use Rattle.just_print.specs.Shown.{plain_attribute};
 
 use super::expr::{push_expr, push_three, push_two};
 use just_lang_syntax::{Argument, Attribute, Name};
@@ -27,13 +28,34 @@ pub fn push_attributes(out: &mut String, attributes: &[Attribute]) -> Result<(),
     Ok(())
 }
 
+/// Adds attributes, each on a line of its own, without the comments behind them.
+pub fn push_plain_attributes(out: &mut String, attributes: &[Attribute]) -> Result<(), AllocError>
+    ensures { IfOk result (λ _. string_bytes out.new ≡ string_bytes out.old ++ printed_attributes (map plain_attribute attributes.now)) }
+{
+    'attributes: for attribute in attributes {
+        push_commented(out, attribute, &None)?;
+    }
+    Ok(())
+}
+
 fn push_attribute(out: &mut String, attribute: &Attribute) -> Result<(), AllocError>
     ensures { IfOk result (λ _. string_bytes out.new ≡ string_bytes out.old ++ printed_attribute attribute.now) }
+{
+    push_commented(out, attribute, &attribute.comment)
+}
+
+/// Adds an attribute with this comment behind it in place of its own.
+fn push_commented(
+    out: &mut String,
+    attribute: &Attribute,
+    comment: &Option<Text>,
+) -> Result<(), AllocError>
+    ensures { IfOk result (λ _. string_bytes out.new ≡ string_bytes out.old ++ printed_attribute (record attribute.now { comment = comment.now })) }
 {
     push_two(out, "[", attribute.name.text.as_str())?;
     push_behind_name(out, attribute.colon, attribute.arguments.as_slice())?;
     out.push_str("]")?;
-    push_end(out, &attribute.comment)
+    push_end(out, comment)
 }
 
 /// Adds what stands behind an attribute's name.

@@ -5,17 +5,29 @@ ghost use Rattle.just_print.specs.Printed.{kind_sign, printed_default, printed_p
 use super::attribute::push_end;
 use super::expr::{push_behind, push_if, push_path, push_values};
 use just_lang_syntax::{AstDependency, AstParameter, AstRecipe, Expr, ParameterKind};
+use just_path_text::Text;
 use std::alloc::AllocError;
 
 /// Adds a recipe without its attributes and its body.
 pub fn push_recipe_line(out: &mut String, recipe: &AstRecipe) -> Result<(), AllocError>
     ensures { IfOk result (λ _. string_bytes out.new ≡ string_bytes out.old ++ printed_recipe_line recipe.now) }
 {
+    push_commented(out, recipe, &recipe.comment)
+}
+
+/// Adds a recipe without its attributes and its body, with this comment behind its line in place of its own.
+pub fn push_commented(
+    out: &mut String,
+    recipe: &AstRecipe,
+    comment: &Option<Text>,
+) -> Result<(), AllocError>
+    ensures { IfOk result (λ _. string_bytes out.new ≡ string_bytes out.old ++ printed_recipe_line (record recipe.now { comment = comment.now })) }
+{
     push_signature(out, recipe)?;
     out.push_str(":")?;
     push_dependencies(out, recipe.priors.as_slice())?;
     push_subsequents(out, recipe.subsequents.as_slice())?;
-    push_end(out, &recipe.comment)
+    push_end(out, comment)
 }
 
 /// Adds the name and the parameters of a recipe.
@@ -28,7 +40,7 @@ fn push_signature(out: &mut String, recipe: &AstRecipe) -> Result<(), AllocError
 }
 
 /// Adds parameters, each behind a blank.
-fn push_parameters(out: &mut String, parameters: &[AstParameter]) -> Result<(), AllocError>
+pub fn push_parameters(out: &mut String, parameters: &[AstParameter]) -> Result<(), AllocError>
     ensures { IfOk result (λ _. string_bytes out.new ≡ string_bytes out.old ++ printed_parameters parameters.now) }
 {
     'parameters: for parameter in parameters {
