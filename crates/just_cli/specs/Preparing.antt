@@ -26,7 +26,7 @@ AreMisses es = AllByRecursion (λ e. is_missed e ≡ true) es
 abbrev pub EndsWith : List Entry → Error → List Entry → Type 0
 EndsWith listings e es = (misses : List Entry) × AreMisses misses × (es ≡ listings ++ (misses ++ entries_of e))
 
--- Behind the entries of listings those of the acts in their order, and misses among them. No child among the acts couldn't be run to its end.
+-- Behind the entries of listings those of the acts in their order, and misses among them; each child of the acts was run to its end.
 abbrev pub LeavesActs : List Entry → List Act → List Entry → Type 0
 LeavesActs listings acts es =
     (among : List Entry) × AreActs acts among × (es ≡ listings ++ among) × (uncaptured_in acts ≡ [])
