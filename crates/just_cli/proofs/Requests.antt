@@ -19,7 +19,7 @@ use Rattle.just_env.specs.declared.search_error.SearchError.{SearchError}
 use Rattle.just_search.specs.declared.search_result.Search.{Search}
 use Rattle.just_search.specs.Files.{parent_of}
 use Rattle.just_cli.specs.Acts.{Act, AreToldBehind, Step, Looks, Behind}
-use Rattle.just_cli.proofs.Acting.{Agrees, Agree, GivesOwnStep, looks_own, looks_agree, behind_agree, agrees_as, agrees_refusal, in_two, told_front, told_world, common, behind_own}
+use Rattle.just_cli.proofs.Acting.{Agrees, Agree, GivesOwnStep, looks_own, looks_agree, behind_agree, agrees_as, agrees_refusal, in_two, told_front, told_world, common, own_acts, behind_own}
 use Rattle.just_cli.proofs.OneFile.{materializes_one}
 use Rattle.just_cli.specs.Faults.{CallGives, FaultFits, io_error, folder_error}
 use Rattle.just_host_record.specs.declared.entry.Entry.{Entry}
@@ -290,7 +290,8 @@ sources_of told j p (goes_on s loads finds) = (s, loads, finds)
 
 planned_in : (told after : Option World) (acts : List Act) (s : SourcesRequest) (p : ProjectRequest) (x : Result Outline Error) → FindsProject s (Ok p) → PlansLoaded told acts after p x → IsOwn x → PlansIn told acts after s x
 planned_in told after acts s p x finds (Behind.refused e (cs, is, loads, leaves) refuses) own =
-    (cs, is, PlansSources.of_project p finds (stops e loads refuses), own_world {A = LoadedRequest} told after cs (Err e) (own_refused LoadedRequest x e refuses own) leaves)
+    let owned = own_refused LoadedRequest x e refuses own in
+    (cs, own_acts {A = LoadedRequest} p.wanted.flags p.justfile cs (Err e) acts is owned, PlansSources.of_project p finds (stops e loads refuses), own_world {A = LoadedRequest} told after cs (Err e) owned leaves)
 planned_in told after acts s p x finds (Behind.both q front back between (cs, is, loads, leaves) (nothing, world, plans) split) own =
     (cs, split ∙ (ap (λ l. front ++ l) nothing ∙ (append-nil front ∙ is)), PlansSources.of_project p finds (goes_on q loads plans), world ∙ own_world {A = LoadedRequest} told between cs (Ok q) tt leaves)
 

@@ -21,6 +21,7 @@ use Rattle.just_cli.specs.Words.{ConfigRequest, LocatedRequest}
 use Rattle.just_cli.specs.Request.{FindsProjectAt, PlansLoaded, AnswersAt, at_place}
 use Rattle.just_cli.specs.Taken.{TriesFrom}
 use Rattle.just_cli.specs.Whole.{SetsFallback, Lacks, AnswersFirst, IsFound}
+use Rattle.just_cli.proofs.Acting.{own_acts}
 use Rattle.just_cli.proofs.Climbing.{beside_none}
 use Rattle.just_cli.proofs.OneLocation.{falls_one}
 use Rattle.just_cli.proofs.OneSearch.{own_search}
@@ -50,7 +51,8 @@ no_children (c ∷ cs) is = absurd (let no : ⊥ = cc in no)
 
 plan_still : (told after : Option World) (acts : List Act) (p : ProjectRequest) (r : Result Outline Error) → PlansLoaded told acts after p r → IsOwn r → [] ≡ acts → after ≡ told
 plan_still told after acts p r (Behind.refused e (cs, is, loads, leaves) refuses) own none =
-    own_world {A = LoadedRequest} told after cs (Err e) (own_refused LoadedRequest r e refuses own) leaves ∙ ap (λ (l : List Capture). told_behind told l) (no_children cs (none ∙ is))
+    let owned = own_refused LoadedRequest r e refuses own in
+    own_world {A = LoadedRequest} told after cs (Err e) owned leaves ∙ ap (λ (l : List Capture). told_behind told l) (no_children cs (none ∙ own_acts {A = LoadedRequest} p.wanted.flags p.justfile cs (Err e) acts is owned))
 plan_still told after acts p r (Behind.both q front back between (cs, is, loads, leaves) (empty, world, plans) split) own none =
     world ∙ (own_world {A = LoadedRequest} told between cs (Ok q) tt leaves ∙ ap (λ (l : List Capture). told_behind told l) (no_children cs (sym (nil_front front back (none ∙ split)) ∙ is)))
 
