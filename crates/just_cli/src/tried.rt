@@ -211,7 +211,8 @@ pub(crate) fn plan_tried<H: Host>(
     made: &mut Vec<Utf8PathBuf>,
     host: &mut H,
 ) -> Result<Planned, Error>
-    ensures { PerformsTries (record { config = config.now; environ = environ.now; location = location })
+    ensures { PerformsTries
+        (record { config = config.now; environ = environ.now; location = location })
         (H.told host.old) (H.told host.new) made.old.items made.new.items (outlined result) }
 {
     match plan_from(alloc, environ, config, location, made, host) {
