@@ -1,0 +1,6 @@
+-- The lemmas of listings.
+pub mod Widths
+pub mod Turned
+pub mod PieceWeights
+pub mod Writing
+pub mod Gathered
