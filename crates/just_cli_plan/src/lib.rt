@@ -23,5 +23,6 @@ pub use law::plans_agree;
 pub use one::projects_agree;
 pub use outcome::error_for;
 pub use pairs::load_pairs;
-pub use project::{plan_of_project, project_of_sources};
+pub use keys::plan_of_keys;
+pub use project::{check_project, plan_of_project, project_of_sources, scopes_of};
 pub use wanted::Wanted;
