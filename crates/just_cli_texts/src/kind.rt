@@ -1,0 +1,51 @@
+//! What a command does.
+
+ghost use Rattle.std.specs.Prelude.{◌≡◌};
+ghost use Rattle.just_cli_texts.specs.Kinds.{kind_of};
+
+use just_config::Subcommand;
+
+/// What a command does.
+#[derive(Clone, Copy)]
+pub enum Kind {
+    /// There is no command: recipes are run, or a module is listed.
+    Run,
+    /// A new justfile is written.
+    New,
+    /// A request is answered.
+    Respond,
+    /// The justfile is written anew in one style.
+    Format,
+    /// The cache is cleaned.
+    Clean,
+    /// Values of variables are printed.
+    Evaluate,
+    /// A text is printed that the project alone gives.
+    Print,
+    /// It isn't built yet.
+    Later,
+}
+
+/// What a command does, where there is one.
+pub fn kind_of(command: &Option<Subcommand>) -> Kind
+    ensures { result ≡ kind_of command.now }
+{
+    match command {
+        None => Kind::Run,
+        Some(Subcommand::Init(_)) => Kind::New,
+        Some(Subcommand::Request(_)) => Kind::Respond,
+        Some(Subcommand::Fmt(_)) => Kind::Format,
+        Some(Subcommand::Clean(_)) => Kind::Clean,
+        Some(Subcommand::Evaluate(_)) => Kind::Evaluate,
+        Some(Subcommand::Choose(_) | Subcommand::Command(_) | Subcommand::Edit(_)) => Kind::Later,
+        Some(
+            Subcommand::Dump(_)
+            | Subcommand::Groups(_)
+            | Subcommand::List(_)
+            | Subcommand::Show(_)
+            | Subcommand::Summary(_)
+            | Subcommand::Usage(_)
+            | Subcommand::Variables(_),
+        ) => Kind::Print,
+    }
+}
