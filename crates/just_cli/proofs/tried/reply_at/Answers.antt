@@ -1,7 +1,7 @@
 -- What is asked of its project is asked of the justfile in a place; or one of the steps in front of that is refused.
 use Rattle.std.proofs.Common.{refl}
 use Rattle.just_cli.proofs.Chain.{place_untaken, place_lost, place_asked}
-use Rattle.just_cli.proofs.tried.plan_at.Goals as goal
+use Rattle.just_cli.proofs.tried.reply_at.Goals as goal
 
 pub returns-in-Err : goal.returns-in-Err
 returns-in-Err g c = place_untaken _ _ _ _ _ _ _ _ c.in-Err.ensures

@@ -2,7 +2,7 @@
 use Rattle.std.proofs.Common.{Ok, length}
 use Rattle.just_cli.specs.Preparing.{Performs}
 use Rattle.just_cli.proofs.Trying.{Reaches, Anyhow}
-use Rattle.just_cli.proofs.tried.plan_from.Given as goal
+use Rattle.just_cli.proofs.tried.reply_from.Given as goal
 
 abbrev pub invariant-places : goal.invariant-places
 invariant-places g l =

@@ -2,7 +2,7 @@
 use Rattle.just_cli_plan.proofs.Listed.{modules_listed}
 use Rattle.just_cli.proofs.Chain.{no_pairs, loaded_plan, loaded_refused}
 use Rattle.just_cli.proofs.Planless.{plan_silent}
-use Rattle.just_cli.proofs.tried.plan_of.Goals as goal
+use Rattle.just_cli.proofs.reply.reply_of.Goals as goal
 
 pub returns-in-Err : goal.returns-in-Err
 returns-in-Err g c = no_pairs (g.H.Host.told c.args.host.now) (g.H.Host.told c.load_pairs.new.host) _ _ _ _ (modules_listed c.args.project.now).1 _ c.in-Err.ensures.loaded

@@ -1,6 +1,6 @@
 -- The answer is that of the justfiles that are tried from the first place on.
 use Rattle.just_cli.proofs.Trying.{reaches_itself, reached, reaches_next}
-use Rattle.just_cli.proofs.tried.plan_from.Goals as goal
+use Rattle.just_cli.proofs.tried.reply_from.Goals as goal
 
 pub places-init : goal.places-init
 places-init g c = reaches_itself _ _ _ _

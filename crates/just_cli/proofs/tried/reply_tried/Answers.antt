@@ -1,6 +1,6 @@
 -- A name that is missing, where the words allow it.
 use Rattle.just_cli.proofs.Trying.{tries_planned, tries_allowed, tries_refused}
-use Rattle.just_cli.proofs.tried.plan_tried.Goals as goal
+use Rattle.just_cli.proofs.tried.reply_tried.Goals as goal
 
 pub returns-in-Ok : goal.returns-in-Ok
 returns-in-Ok g c = tries_planned _ _ _ _ _ _ c.in-Ok.ensures

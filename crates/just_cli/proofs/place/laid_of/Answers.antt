@@ -2,7 +2,7 @@
 use Rattle.just_cli.proofs.Chain.{no_sources, project_made, project_unmade}
 use Rattle.just_cli.proofs.Planless.{sources_silent}
 use Rattle.just_cli.proofs.Prepared.{left_misses}
-use Rattle.just_cli.proofs.tried.project_of.Goals as goal
+use Rattle.just_cli.proofs.place.laid_of.Goals as goal
 
 pub returns-in-Err-clause-refused : goal.returns-in-Err-clause-refused
 returns-in-Err-clause-refused g c = no_sources _ _ _ _ _ c.in-Err.ensures.refused

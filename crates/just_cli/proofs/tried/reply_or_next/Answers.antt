@@ -1,6 +1,6 @@
 -- The answer of the justfile in a place stands, or another one is tried.
 use Rattle.just_cli.proofs.Trying.{stands_planned, stands_refused, looked, unlooked}
-use Rattle.just_cli.proofs.tried.plan_or_next.Goals as goal
+use Rattle.just_cli.proofs.tried.reply_or_next.Goals as goal
 
 pub returns-in-Ok-clause-tries : goal.returns-in-Ok-clause-tries
 returns-in-Ok-clause-tries g c = stands_planned _ _ (g.H.Host.told c.args.host.now) _ (g.H.Host.told c.plan_at-planned.new.host) _ c.plan_at-planned.result.1 _ (rw c.in-Ok.is at c.plan_at-planned.ensures)
