@@ -5,6 +5,7 @@ use Rattle.just_host_record.specs.World.{Moment}
 use Rattle.just_exec.specs.declared.error.Error.{Error}
 use Rattle.just_lang_types.specs.declared.recipe.Modulepath.{Modulepath}
 use Rattle.just_cache_clean.specs.EntryTexts.{IsPath}
+use Rattle.just_config.specs.declared.search_config.SearchConfig.TheVariants as search
 use Rattle.just_cli_plan.specs.Request.{outline_of}
 use Rattle.just_cli_texts.specs.declared.kind.Kind.{Kind}
 use Rattle.just_cli_texts.specs.declared.kind.Kind.TheVariants as kind
@@ -12,10 +13,10 @@ use Rattle.just_cli.specs.declared.task.Other.{Other}
 use Rattle.just_cli.specs.declared.task.Other.TheVariants as no_run
 use Rattle.just_cli.specs.declared.task.Task.{Task}
 use Rattle.just_cli.specs.declared.task.Task.TheVariants as task
-use Rattle.just_cli.specs.Asked.{Asked, AsksAt, BeginsAsks, Serves, Asks, AsksGlobal, Begins, BeginsServes}
+use Rattle.just_cli.specs.Asked.{Asked, AsksAt, BeginsAsks, Decides, BeginsSearches, Serves, Asks, AsksGlobal, Begins, BeginsServes}
 use Rattle.just_cli.specs.Preparing.{Performs, Prepares}
 use Rattle.just_cli.specs.Quiet.{AsksQuiet}
-use Rattle.just_cli.specs.Words.{ArgumentsRequest, LocatedRequest}
+use Rattle.just_cli.specs.Words.{ArgumentsRequest, ConfigRequest, LocatedRequest}
 
 -- what a task is, and whether it heeds quiet
 abbrev pub asked_in : Task → Asked
@@ -68,6 +69,12 @@ IsNoQuestion (task.Other c quiet) = IsFound c
 -- what is asked of the justfile in a place is prepared
 abbrev pub PerformsAsked : LocatedRequest → Moment → Moment → List (List ℕ) → List (List ℕ) → Result Asked Error → Type 0
 PerformsAsked q before after kept keeps r = Performs (λ acts later x. AsksAt before.world acts later q x) (λ acts later. BeginsAsks before.world acts later q) before after kept keeps r
+
+-- what a configuration asks for is prepared: the user's own justfile alone is listed for
+abbrev pub PreparesConfig : ConfigRequest → Moment → Moment → List (List ℕ) → List (List ℕ) → Result Asked Error → Type 0
+PreparesConfig c before after kept keeps r =
+    Prepares (c.config.search_config ≡ search.GlobalJustfile) (λ listings acts later x. Decides listings before.world acts later c x) (λ listings acts later. BeginsSearches listings before.world acts later c)
+    before after kept keeps r
 
 -- what arguments ask for is prepared, and what words ask for
 abbrev pub PreparesArguments : ArgumentsRequest → Moment → Moment → List (List ℕ) → List (List ℕ) → Result Asked Error → Type 0

@@ -1,5 +1,5 @@
 -- What a command does.
-use Rattle.std.specs.Prelude.{Option, Some, None}
+use Rattle.std.specs.Prelude.{ℕ, Bool, true, false, List, [], Option, Some, None}
 use Rattle.just_config_words.specs.declared.subcommand.Subcommand.{Subcommand}
 use Rattle.just_config_words.specs.declared.subcommand.Subcommand.TheVariants as command
 use Rattle.just_cli_texts.specs.declared.kind.Kind.{Kind}
@@ -23,3 +23,33 @@ kind_of (Some (command.Show ws)) = kind.Print
 kind_of (Some (command.Summary ws)) = kind.Print
 kind_of (Some (command.Usage ws)) = kind.Print
 kind_of (Some (command.Variables ws)) = kind.Print
+
+-- whether it reads a justfile
+abbrev pub reads_justfile : Kind → Bool
+reads_justfile kind.Run = true
+reads_justfile kind.New = false
+reads_justfile kind.Respond = false
+reads_justfile kind.Format = true
+reads_justfile kind.Clean = true
+reads_justfile kind.Evaluate = true
+reads_justfile kind.Print = true
+reads_justfile kind.Later = true
+
+-- the words of a command
+abbrev pub words_of : Option Subcommand → List (List ℕ)
+words_of None = []
+words_of (Some (command.Choose ws)) = ws
+words_of (Some (command.Clean ws)) = ws
+words_of (Some (command.Command ws)) = ws
+words_of (Some (command.Dump ws)) = ws
+words_of (Some (command.Edit ws)) = ws
+words_of (Some (command.Evaluate ws)) = ws
+words_of (Some (command.Fmt ws)) = ws
+words_of (Some (command.Groups ws)) = ws
+words_of (Some (command.Init ws)) = ws
+words_of (Some (command.List ws)) = ws
+words_of (Some (command.Request ws)) = ws
+words_of (Some (command.Show ws)) = ws
+words_of (Some (command.Summary ws)) = ws
+words_of (Some (command.Usage ws)) = ws
+words_of (Some (command.Variables ws)) = ws

@@ -1,9 +1,10 @@
 //! What a command does.
 
 ghost use Rattle.std.specs.Prelude.{◌≡◌};
-ghost use Rattle.just_cli_texts.specs.Kinds.{kind_of};
+ghost use Rattle.just_cli_texts.specs.Kinds.{kind_of, reads_justfile, words_of};
 
 use just_config::Subcommand;
+use just_path_text::Text;
 
 /// What a command does.
 #[derive(Clone, Copy)]
@@ -47,5 +48,46 @@ pub fn kind_of(command: &Option<Subcommand>) -> Kind
             | Subcommand::Usage(_)
             | Subcommand::Variables(_),
         ) => Kind::Print,
+    }
+}
+
+/// Whether a justfile is read for it.
+pub fn reads_justfile(kind: Kind) -> bool
+    ensures { result ≡ reads_justfile kind }
+{
+    match kind {
+        Kind::New | Kind::Respond => false,
+        Kind::Run
+        | Kind::Format
+        | Kind::Clean
+        | Kind::Evaluate
+        | Kind::Print
+        | Kind::Later => true,
+    }
+}
+
+/// The words of a command.
+pub fn words_of(command: &Option<Subcommand>) -> &[Text]
+    ensures { result.now ≡ words_of command.now }
+{
+    match command {
+        None => &[],
+        Some(
+            Subcommand::Choose(words)
+            | Subcommand::Clean(words)
+            | Subcommand::Command(words)
+            | Subcommand::Dump(words)
+            | Subcommand::Edit(words)
+            | Subcommand::Evaluate(words)
+            | Subcommand::Fmt(words)
+            | Subcommand::Groups(words)
+            | Subcommand::Init(words)
+            | Subcommand::List(words)
+            | Subcommand::Request(words)
+            | Subcommand::Show(words)
+            | Subcommand::Summary(words)
+            | Subcommand::Usage(words)
+            | Subcommand::Variables(words),
+        ) => words.as_slice(),
     }
 }

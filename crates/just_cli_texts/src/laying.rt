@@ -1,9 +1,7 @@
 //! A project as commands print of it.
 
-ghost use Rattle.std.specs.Prelude.{◌≡◌, ◌∷◌, [], List, IfOk, IfErr, Ok, Err};
-ghost use Rattle.just_lang_types.specs.declared.project.Justfile.{Justfile};
-ghost use Rattle.just_lang.specs.Assembled.{IsLaidJustfile};
-ghost use Rattle.just_lang_types.specs.Modules.{AreModules};
+ghost use Rattle.std.specs.Prelude.{IfOk, IfErr, Ok, Err};
+ghost use Rattle.just_lang.specs.Assembled.{IsSoundlyMadeOf};
 ghost use Rattle.just_cli_plan.specs.Own.{OrMemory};
 ghost use Rattle.just_cli_plan.specs.Projects.{IsEnding};
 ghost use Rattle.just_cli_plan.specs.Request.{FindsProject};
@@ -27,6 +25,7 @@ pub fn laid_of_sources(
         (record { wanted = wanted.now; environ = environ.now; sources = sources.now })
         (Ok (record { wanted = wanted.now; environ = environ.now; laid = l }))) }
     ensures ending { IfOk result (λ l. IsEnding l.justfile) }
+    ensures sound { IfOk result (λ l. IsSoundlyMadeOf environ.now.pairs l.layout l.justfile) }
     ensures refused { IfErr result (OrMemory (λ e. FindsProject
         (record { wanted = wanted.now; environ = environ.now; sources = sources.now }) (Err e))) }
 {

@@ -25,7 +25,7 @@ use just_print_lists::{groups, variables};
 use std::alloc::Global;
 
 /// A text, beside which nothing is told.
-pub(crate) fn alone(text: Text) -> Printed
+pub fn alone(text: Text) -> Printed
     ensures { result ≡ alone text }
 {
     Printed { text, told: None }
