@@ -33,14 +33,22 @@ told_beside quiet (Some line) = told_line quiet line
 abbrev pub IsPrintError : Error → Type 0
 IsPrintError e = OrMemory (λ x. x ≡ error.StdoutIo (fault.Failed call.Print)) e
 
--- behind these entries stands that of the refused call, and the error is told
-abbrev pub FailsBehind : List Entry → Bool → Error → List Entry → List Entry → Type 0
-FailsBehind done quiet e old new = (told : List Entry) × (new ≡ old ++ (done ++ (entries_of e ++ told))) × IsTold quiet e told
+-- behind some entries the error is told
+abbrev pub TellsError : Bool → Error → List Entry → List Entry → Type 0
+TellsError quiet e old new = (told : List Entry) × (new ≡ old ++ told) × IsTold quiet e told
 
--- a text isn't printed; or it is, and the line beside it isn't
-pub data IsUnprinted (p : Printed) (quiet : Bool) (e : Error) (old new : List Entry) : Type 0 where
-  no_text : IsPrintError e → FailsBehind [] quiet e old new → IsUnprinted p quiet e old new
-  no_line : (line : List ℕ) → p.told ≡ Some line → quiet ≡ false → IsPrintError e → FailsBehind (entry.Printed stream.Out p.text ∷ []) quiet e old new → IsUnprinted p quiet e old new
+-- behind some entries stands that of the refused call, and the error is told
+abbrev pub TellsRefusal : Bool → Error → List Entry → List Entry → Type 0
+TellsRefusal quiet e old new = (told : List Entry) × (new ≡ old ++ (entries_of e ++ told)) × IsTold quiet e told
+
+-- a text isn't printed: the entry of the refused call stands alone; or it is, and the line beside it isn't
+pub data IsUnprintedBy (p : Printed) (quiet : Bool) (e : Error) (old new : List Entry) : Type 0 where
+  no_text : IsPrintError e → new ≡ old ++ entries_of e → IsUnprintedBy p quiet e old new
+  no_line : (line : List ℕ) → p.told ≡ Some line → quiet ≡ false → IsPrintError e → new ≡ old ++ entry.Printed stream.Out p.text ∷ entries_of e → IsUnprintedBy p quiet e old new
+
+-- and the error is told then
+abbrev pub IsUnprinted : Printed → Bool → Error → List Entry → List Entry → Type 0
+IsUnprinted p quiet e old new = (now : List Entry) × IsUnprintedBy p quiet e old now × TellsError quiet e now new
 
 -- Nothing is run; a text is printed once to standard output, and the line beside it told, and the told world stays; or one of both isn't.
 pub record IsPrinted (p : Printed) (quiet : Bool) (before after : Moment) (result : Result Report Failure) : Type 0 where

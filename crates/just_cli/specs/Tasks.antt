@@ -49,6 +49,15 @@ abbrev pub IsPathOrNone : Option Modulepath → Type 0
 IsPathOrNone None = Unit {0}
 IsPathOrNone (Some p) = IsPath p.components
 
+abbrev pub HasPath : Other → Type 0
+HasPath no_run.Help = Unit {0}
+HasPath no_run.Version = Unit {0}
+HasPath (no_run.Init path) = Unit {0}
+HasPath (no_run.Show p) = Unit {0}
+HasPath no_run.Nothing = Unit {0}
+HasPath (no_run.Write path text) = Unit {0}
+HasPath (no_run.Clean folder path) = IsPathOrNone path
+
 -- it is neither the help nor the version; and a path is one
 abbrev pub IsFound : Other → Type 0
 IsFound no_run.Help = ⊥

@@ -1,5 +1,5 @@
 -- A justfile that is written, and told of; or that isn't.
-use Rattle.std.specs.Prelude.{ℕ, ◌≡◌, ◌++◌, Bool, false, List, [], codes, Option, Result, Ok, Err, IfOk, IfErr}
+use Rattle.std.specs.Prelude.{ℕ, ◌≡◌, ◌++◌, Bool, false, List, codes, Option, Result, Ok, Err, IfOk, IfErr}
 use Rattle.just_host_record.specs.declared.entry.Call.TheVariants as call
 use Rattle.just_host_record.specs.declared.entry.HostFault.{HostFault}
 use Rattle.just_host_record.specs.Changes.{place_written, written, Changes}
@@ -10,7 +10,7 @@ use Rattle.just_exec.specs.declared.error.Error.TheVariants as error
 use Rattle.just_cli.specs.declared.ended.Failure.{Failure}
 use Rattle.just_cli.specs.declared.ended.Report.{Report}
 use Rattle.just_cli.specs.Faults.{write_error}
-use Rattle.just_cli.specs.Printing.{IsPlanless, told_line, IsPrintError, FailsBehind}
+use Rattle.just_cli.specs.Printing.{IsPlanless, told_line, IsPrintError, TellsRefusal}
 use Rattle.just_cli.specs.Questions.{IsNothing}
 
 -- what writing it answers and makes of a told world: behind it the file at the path holds that text, and nothing else is changed
@@ -30,4 +30,4 @@ pub data IsUnwritten (path text : List ℕ) (quiet : Bool) (told after : Option 
 -- Nothing is run; that text is written to the file at the path, and told of; or one of both isn't done.
 pub record IsWritten (path text : List ℕ) (quiet : Bool) (before after : Moment) (result : Result Report Failure) : Type 0 where
   pub written : IfOk result (λ r. IsNothing r × Writes path text before.world after.world (Ok tt) × (after.entries ≡ before.entries ++ told_line quiet (written_line path)))
-  pub unwritten : IfErr result (λ f. IsPlanless f × IsUnwritten path text quiet before.world after.world f.error × FailsBehind [] quiet f.error before.entries after.entries)
+  pub unwritten : IfErr result (λ f. IsPlanless f × IsUnwritten path text quiet before.world after.world f.error × TellsRefusal quiet f.error before.entries after.entries)
