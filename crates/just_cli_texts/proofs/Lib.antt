@@ -1,1 +1,8 @@
 -- The lemmas of what commands print.
+pub mod DefaultLaws
+pub mod EvaluateLaws
+pub mod FormatLaws
+pub mod LayLaws
+pub mod PrintLaws
+pub mod TargetLaws
+pub mod Wholly

@@ -41,7 +41,7 @@ fn is_listed(
 
 /// The names of the module that is listed in the place of a run, if one is: words name it, or none name the root; and it is listed by default, by the
 /// words or by its own setting.
-#[tactic(auto, using(crate::proofs::DefaultLaws::no_names, crate::proofs::DefaultLaws::some_names))]
+#[tactic(auto, using(crate::proofs::DefaultLaws::no_names, crate::proofs::DefaultLaws::names_listed, crate::proofs::DefaultLaws::names_unlisted))]
 pub fn listed_by_default(
     alloc: Global,
     given: bool,
@@ -74,5 +74,6 @@ pub fn listing(
     ensures { Answers (ListsLaid environ.now.pairs config.now laid.now names.now) result }
 {
     let whole = whole_of(alloc, environ, laid)?;
-    alone_or(list(alloc, config, whole.project(), names))
+    let text = list(alloc, config, whole.project(), names);
+    alone_or(text)
 }

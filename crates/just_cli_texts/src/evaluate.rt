@@ -114,7 +114,6 @@ fn own_bindings(level: &Level) -> &[Binding]
 }
 
 /// The variables of levels with their texts.
-#[tactic(auto, using(crate::proofs::EvaluateLaws::more_bindings))]
 fn variables_in(alloc: Global, levels: &[Level]) -> Result<Vec<Evaluated>, NoMemory>
     ensures { IfOk result (λ v. v.items ≡ map as_evaluated (flat_map own_bindings levels.now)) }
 {
@@ -184,7 +183,7 @@ fn no_variable(alloc: Global, name: &str) -> Error
 }
 
 /// The module that names lead to, each that of a module or of an alias of one.
-#[tactic(auto, using(crate::proofs::EvaluateLaws::module_lost))]
+#[tactic(auto, using(crate::proofs::EvaluateLaws::module_here, crate::proofs::EvaluateLaws::module_refused))]
 fn evaluated_module<'p>(
     alloc: Global,
     modules: &[&'p Justfile],
@@ -244,7 +243,7 @@ fn text_in(
 }
 
 /// What is printed of what names come to from the root.
-#[tactic(auto, using(crate::proofs::EvaluateLaws::names_whole, crate::proofs::EvaluateLaws::names_lost, crate::proofs::EvaluateLaws::names_named))]
+#[tactic(auto, using(crate::proofs::EvaluateLaws::names_whole, crate::proofs::EvaluateLaws::names_lost, crate::proofs::EvaluateLaws::names_named, crate::proofs::EvaluateLaws::names_unnamed))]
 fn text_of_names(
     alloc: Global,
     format: EvaluateFormat,

@@ -23,11 +23,11 @@ use std::alloc::Global;
 fn entries_of<'a>(alloc: Global, items: &'a [AstItem]) -> Result<Vec<Entry<'a>>, NoMemory>
     ensures { IfOk result (λ v. entries v.items ≡ in_file 0 items.now) }
 {
-    let mut entries = Vec::new(alloc);
+    let mut all = Vec::new(alloc);
     'items: for item in items {
-        entries.push(Entry { file: 0, item })?;
+        all.push(Entry { file: 0, item })?;
     }
-    Ok(entries)
+    Ok(all)
 }
 
 /// The text of items, whose bodies are indented as is given, else as the file itself has it set.
