@@ -12,7 +12,7 @@ use Rattle.just_search.specs.Fallback.{FallsBack}
 use Rattle.just_exec.specs.Refusals.{error_of_search}
 use Rattle.just_lang.specs.declared.laid.LaidJustfile.{LaidJustfile}
 use Rattle.just_cli_texts.specs.declared.kind.Kind.{Kind}
-use Rattle.just_cli_texts.specs.Laid.{LaidRequest}
+use Rattle.just_cli_texts.specs.Laid.{laid_by, LaidRequest}
 use Rattle.just_cli.specs.declared.task.Other.{Other}
 use Rattle.just_cli.specs.Commands.{EvaluatesLaid, CommandsAt, BeginsCommand}
 use Rattle.just_cli.specs.Replies.{Reply}
@@ -31,7 +31,7 @@ TakesWanted config location told acts after (Err e) = (environ : Environ) → Ta
 
 -- what is asked of a project, and the project, over an environment
 abbrev pub as_laid : Environ → Result (Wanted × LaidJustfile) Error → Result LaidRequest Error
-as_laid environ (Ok x) = Ok (record { wanted = x.0; environ = environ; laid = x.1 })
+as_laid environ (Ok x) = Ok (record { wanted = x.0; environ = environ; laid = laid_by x.1 })
 as_laid environ (Err e) = Err e
 
 abbrev pub PerformsProject : LocatedRequest → Moment → Moment → List (List ℕ) → List (List ℕ) → Result LaidRequest Error → Type 0

@@ -1,5 +1,5 @@
 -- What the preparation of a task promises, from the words and from their arguments.
-use Rattle.std.specs.Prelude.{ℕ, ◌≡◌, Bool, true, false, List, [], Option, Some, None, option_map, Result, Ok, Err}
+use Rattle.std.specs.Prelude.{ℕ, ◌≡◌, ◌⊎◌, Bool, true, false, List, [], Option, Some, None, option_map, Result, Ok, Err}
 use Rattle.std.specs.Int.NonZero.{non_zero_u64_get}
 use Rattle.just_host_record.specs.World.{Moment}
 use Rattle.just_exec.specs.declared.error.Error.{Error}
@@ -13,6 +13,8 @@ use Rattle.just_cli.specs.declared.task.Other.{Other}
 use Rattle.just_cli.specs.declared.task.Other.TheVariants as no_run
 use Rattle.just_cli.specs.declared.task.Task.{Task}
 use Rattle.just_cli.specs.declared.task.Task.TheVariants as task
+use Rattle.just_host_record.specs.declared.entry.Entry.{Entry}
+use Rattle.just_cli.specs.Acts.{Begun, NoAct}
 use Rattle.just_cli.specs.Asked.{Asked, AsksAt, BeginsAsks, Decides, BeginsSearches, Serves, Asks, AsksGlobal, Begins, BeginsServes}
 use Rattle.just_cli.specs.Preparing.{Performs, Prepares}
 use Rattle.just_cli.specs.Quiet.{AsksQuiet}
@@ -79,10 +81,14 @@ IsNoQuestion (task.Other c quiet) = IsFound c
 abbrev pub PerformsAsked : LocatedRequest → Moment → Moment → List (List ℕ) → List (List ℕ) → Result Asked Error → Type 0
 PerformsAsked q before after kept keeps r = Performs (λ acts later x. AsksAt before.world acts later q x) (λ acts later. BeginsAsks before.world acts later q) before after kept keeps r
 
+-- of what a configuration asks for nothing was begun, or the search
+abbrev pub BeginsDecides : List Entry → Begun ConfigRequest
+BeginsDecides listings told acts after c = NoAct told acts after c ⊎ BeginsSearches listings told acts after c
+
 -- what a configuration asks for is prepared: the user's own justfile alone is listed for
 abbrev pub PreparesConfig : ConfigRequest → Moment → Moment → List (List ℕ) → List (List ℕ) → Result Asked Error → Type 0
 PreparesConfig c before after kept keeps r =
-    Prepares (c.config.search_config ≡ search.GlobalJustfile) (λ listings acts later x. Decides listings before.world acts later c x) (λ listings acts later. BeginsSearches listings before.world acts later c)
+    Prepares (c.config.search_config ≡ search.GlobalJustfile) (λ listings acts later x. Decides listings before.world acts later c x) (λ listings acts later. BeginsDecides listings before.world acts later c)
     before after kept keeps r
 
 -- what arguments ask for is prepared, and what words ask for

@@ -18,6 +18,7 @@ ghost use Rattle.just_cli_texts.specs.Kinds.{kind_of, words_of};
 ghost use Rattle.just_cli_texts.specs.Targets.{names_of};
 ghost use Rattle.just_cli_texts.specs.declared.kind.Kind.TheVariants as kind;
 ghost use Rattle.just_cli_texts.specs.Formatted.{Formats};
+ghost use Rattle.just_cli_texts.specs.Laid.{laid_by};
 ghost use Rattle.just_cli.specs.Commands.{is_file, path_if, anew, anew_or, EvaluatesIt, FormatsFile};
 ghost use Rattle.just_cli.specs.declared.task.Other.TheVariants as no_run;
 ghost use Rattle.just_cli.specs.Preparing.{AreMisses, EndsWith};
@@ -112,7 +113,7 @@ fn values_of<H: Host>(
 ) -> Result<Other, Error>
     requires { IsEnding laid.now.justfile }
     ensures values { PerformsValues config.now
-        (record { wanted = wanted.now; environ = environ.now; laid = laid.now })
+        (record { wanted = wanted.now; environ = environ.now; laid = laid_by laid.now })
         (H.told host.old) (H.told host.new) result }
     ensures found { IfOk result IsFound }
 {

@@ -6,6 +6,7 @@ ghost use Rattle.just_host_record.specs.declared.entry.Entry.{Entry};
 ghost use Rattle.just_lang.specs.Assembled.{IsSoundlyMadeOf};
 ghost use Rattle.just_cli_plan.specs.Own.{OrMemory};
 ghost use Rattle.just_cli_plan.specs.Projects.{IsEnding};
+ghost use Rattle.just_cli_texts.specs.Laid.{laid_by};
 ghost use Rattle.just_cli.specs.Preparing.{AreMisses, EndsWith};
 ghost use Rattle.just_cli.specs.Request.{FindsProjectOf};
 ghost use Rattle.just_cli.specs.Taken.{as_laid, PerformsProject};
@@ -37,7 +38,7 @@ fn laid_of<H: Host>(
     ensures sound { IfOk result (λ l. IsSoundlyMadeOf environ.now.pairs l.layout l.justfile) }
     ensures project { IfOk result (λ l. FindsProjectOf (H.told host.old).world
         (record { wanted = wanted.now; environ = environ.now; justfile = text_of justfile.entry })
-        (Ok (record { wanted = wanted.now; environ = environ.now; laid = l }))) }
+        (Ok (record { wanted = wanted.now; environ = environ.now; laid = laid_by l }))) }
     ensures refused { IfErr result (OrMemory (λ e. FindsProjectOf (H.told host.old).world
         (record { wanted = wanted.now; environ = environ.now; justfile = text_of justfile.entry })
         (Err e))) }

@@ -6,6 +6,7 @@ ghost use Rattle.just_lang_types.specs.declared.project.Justfile.{Justfile};
 ghost use Rattle.just_lang_types.specs.Modules.{AreModules};
 ghost use Rattle.just_cli_plan.specs.Own.{OrMemory};
 ghost use Rattle.just_cli_plan.specs.Projects.{IsEnding};
+ghost use Rattle.just_cli_texts.specs.Laid.{laid_by};
 ghost use Rattle.just_cli.specs.Preparing.{reply_of, as_asked};
 ghost use Rattle.just_cli_plan.specs.Request.{Outline, PlansKeys};
 ghost use Rattle.just_cli.specs.Replies.{Reply, Replies, RepliesLoaded};
@@ -57,12 +58,12 @@ fn reply_behind(
     requires sound { IsSoundlyMadeOf environ.now.pairs laid.now.layout laid.now.justfile }
     ensures reply { IfOk result (λ x. (modules : List Justfile)
         → AreModules (laid.now.justfile ∷ []) modules
-        → Replies config.now (record { wanted = wanted.now; environ = environ.now; laid = laid.now })
+        → Replies config.now (record { wanted = wanted.now; environ = environ.now; laid = laid_by laid.now })
             (record { wanted = wanted.now; justfile = laid.now.justfile; modules = modules; scopes = scopes.now })
             (Ok (reply_of x))) }
     ensures refused { IfErr result (OrMemory (λ e. (modules : List Justfile)
         → AreModules (laid.now.justfile ∷ []) modules
-        → Replies config.now (record { wanted = wanted.now; environ = environ.now; laid = laid.now })
+        → Replies config.now (record { wanted = wanted.now; environ = environ.now; laid = laid_by laid.now })
             (record { wanted = wanted.now; justfile = laid.now.justfile; modules = modules; scopes = scopes.now })
             (Err e))) }
 {
@@ -91,12 +92,12 @@ fn reply_loaded(
     requires sound { IsSoundlyMadeOf environ.now.pairs laid.now.layout laid.now.justfile }
     ensures reply { IfOk result (λ x. (modules : List Justfile)
         → AreModules (laid.now.justfile ∷ []) modules
-        → RepliesLoaded config.now (record { wanted = wanted.now; environ = environ.now; laid = laid.now })
+        → RepliesLoaded config.now (record { wanted = wanted.now; environ = environ.now; laid = laid_by laid.now })
             (record { wanted = wanted.now; environ = environ.now; justfile = laid.now.justfile; modules = modules; dotenv = dotenv.now })
             (Ok (reply_of x))) }
     ensures refused { IfErr result (OrMemory (λ e. (modules : List Justfile)
         → AreModules (laid.now.justfile ∷ []) modules
-        → RepliesLoaded config.now (record { wanted = wanted.now; environ = environ.now; laid = laid.now })
+        → RepliesLoaded config.now (record { wanted = wanted.now; environ = environ.now; laid = laid_by laid.now })
             (record { wanted = wanted.now; environ = environ.now; justfile = laid.now.justfile; modules = modules; dotenv = dotenv.now })
             (Err e))) }
 {
@@ -123,7 +124,7 @@ pub(crate) fn reply_of<H: Host>(
     requires ending { IsEnding laid.now.justfile }
     requires sound { IsSoundlyMadeOf environ.now.pairs laid.now.layout laid.now.justfile }
     ensures { PerformsReply config.now
-        (record { wanted = wanted.now; environ = environ.now; laid = laid.now })
+        (record { wanted = wanted.now; environ = environ.now; laid = laid_by laid.now })
         (H.told host.old) (H.told host.new) (as_asked result) }
 {
     let pairs = match load_pairs(alloc, host, &laid.justfile, environ, wanted) {

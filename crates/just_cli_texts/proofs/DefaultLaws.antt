@@ -6,7 +6,6 @@ use Rattle.just_lang_types.specs.declared.project.Justfile.{Justfile}
 use Rattle.just_lang_types.specs.Modules.{AreModules}
 use Rattle.just_lang_types.proofs.Nesting.{same_modules}
 use Rattle.just_lang_layout.specs.Paths.{Pairs}
-use Rattle.just_lang.specs.declared.laid.LaidJustfile.{LaidJustfile}
 use Rattle.just_eval_words.specs.Commands.{inner_at}
 use Rattle.just_config.specs.declared.config.Config.{Config}
 use Rattle.just_config.specs.ModulePaths.{module_path}
@@ -16,7 +15,7 @@ use Rattle.just_cli_plan.specs.Own.{OrMemory}
 use Rattle.just_cli_plan.specs.Pairs.{Answers}
 use Rattle.just_cli_texts.specs.declared.printed.Printed.{Printed}
 use Rattle.just_cli_texts.specs.Defaults.{is_listed, names_if, listed_by_default, ListsLaid}
-use Rattle.just_cli_texts.specs.Laid.{ArePartsOf}
+use Rattle.just_cli_texts.specs.Laid.{LaidSources, ArePartsOf}
 use Rattle.just_cli_texts.specs.Prints.{as_printed}
 use Rattle.just_cli_texts.specs.Targets.{Lists}
 
@@ -39,7 +38,7 @@ module _ (given : Bool) (root : Justfile) (words : List (List ℕ)) where
 
 -- ---- the listing
 
-module _ (environ : Pairs) (c : Config) (l : LaidJustfile) (names : List (List ℕ)) (p q : Parts) (are : ArePartsOf environ l p) (same : q ≡ p) where
+module _ (environ : Pairs) (c : Config) (l : LaidSources) (names : List (List ℕ)) (p q : Parts) (are : ArePartsOf environ l p) (same : q ≡ p) where
   lists_it : (x : Result (List ℕ) Error) → Lists c q names x → ListsLaid environ c l names (as_printed x)
   lists_it x lists = (p, are, (x, subst (λ (y : Parts). Lists c y names x) same lists, refl))
 

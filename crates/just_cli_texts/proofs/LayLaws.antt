@@ -15,7 +15,7 @@ use Rattle.just_cli_plan.specs.Own.{OrMemory}
 use Rattle.just_cli_plan.specs.Request.{SourcesRequest, ProjectRequest, FindsProject}
 use Rattle.just_cli_plan.specs.Steps.{goes_on}
 use Rattle.just_cli_plan.proofs.Listed.{modules_listed}
-use Rattle.just_cli_texts.specs.Laid.{FindsLaid}
+use Rattle.just_cli_texts.specs.Laid.{laid_by, FindsLaid}
 
 module _ (wanted : Wanted) (environ : Environ) (sources : List Source) (l : LaidJustfile) (is : IsLaidJustfile sources environ.pairs l) where
   abbrev it : SourcesRequest
@@ -30,10 +30,10 @@ module _ (wanted : Wanted) (environ : Environ) (sources : List Source) (l : Laid
   pub sound_of : IsSoundlyMadeOf environ.pairs l.layout l.justfile
   sound_of = is.made
 
-  pub laid_found : ((modules : List Justfile) → AreModules (l.justfile ∷ []) modules → unstable_feature wanted.unstable modules ≡ None) → FindsLaid it (Ok (record { wanted = wanted; environ = environ; laid = l }))
+  pub laid_found : ((modules : List Justfile) → AreModules (l.justfile ∷ []) modules → unstable_feature wanted.unstable modules ≡ None) → FindsLaid it (Ok (record { wanted = wanted; environ = environ; laid = laid_by l }))
   laid_found stable =
       let ms = modules_listed l.justfile in
-      (refl, refl, is, (ms.0, goes_on (project ms.0) (refl, refl, justfile_of, ms.1) (stable ms.0 ms.1, refl)))
+      (refl, refl, record { layout_is = is.layout_is; wins_are = is.wins_are; made = is.made }, (ms.0, goes_on (project ms.0) (refl, refl, justfile_of, ms.1) (stable ms.0 ms.1, refl)))
 
   feature_refuses : (e : Error) → (modules : List Justfile) × AreModules (l.justfile ∷ []) modules × (u : UnstableFeature) × (unstable_feature wanted.unstable modules ≡ Some u) × (e ≡ error.UnstableFeature u) → FindsProject it (Err e)
   feature_refuses e (ms, are, u, uses, told) = goes_on (project ms) (refl, refl, justfile_of, are) (u, uses, told)

@@ -23,7 +23,7 @@ use Rattle.just_print_tree.specs.Branches.{HasModulesOf, IsTreeOf}
 use Rattle.just_print_tree.specs.Kept.{tolds}
 use Rattle.just_print_tree.specs.Told.{told_each}
 use Rattle.just_print_commands.specs.Projects.{Parts}
-use Rattle.just_cli_texts.specs.Laid.{ArePartsOf}
+use Rattle.just_cli_texts.specs.Laid.{laid_by, ArePartsOf}
 
 module _ (environ : Pairs) (layout : Layout) (j : Justfile) (sound : IsSoundlyMadeOf environ layout j) where
   -- the layout has as many modules as the justfile
@@ -40,5 +40,5 @@ module _ (environ : Pairs) (layout : Layout) (j : Justfile) (sound : IsSoundlyMa
 
 pub parts_are : (environ : Pairs) (l : LaidJustfile) (all : List Justfile) (tree : ListedModule) (recipes : List (List Told)) → AreModules (l.justfile ∷ []) all → IsTreeOf (meant environ) (wins_in l.winners) l.layout l.justfile tree
     → map tolds recipes ≡ told_each (wins_in l.winners) l.layout.files l.layout.modules all
-    → ArePartsOf environ l (record { layout = l.layout; modules = all; root = l.justfile; tree = tree; recipes = map tolds recipes })
+    → ArePartsOf environ (laid_by l) (record { layout = l.layout; modules = all; root = l.justfile; tree = tree; recipes = map tolds recipes })
 parts_are environ l all tree recipes are is told = record { layout = refl; root = refl; modules = are; tree = is; recipes = told }

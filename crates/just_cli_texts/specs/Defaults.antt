@@ -4,7 +4,6 @@ use Rattle.std.specs.Option.{option_and_then}
 use Rattle.just_lang_types.specs.declared.project.Justfile.{Justfile}
 use Rattle.just_lang_types.specs.Modules.{settings_of}
 use Rattle.just_lang_layout.specs.Paths.{Pairs}
-use Rattle.just_lang.specs.declared.laid.LaidJustfile.{LaidJustfile}
 use Rattle.just_eval_closure.specs.Answers.{Answer}
 use Rattle.just_eval_words.specs.Commands.{inner_at}
 use Rattle.just_config.specs.declared.config.Config.{Config}
@@ -12,7 +11,7 @@ use Rattle.just_config.specs.ModulePaths.{module_path}
 use Rattle.just_print_commands.specs.Projects.{Parts}
 use Rattle.just_exec.specs.declared.error.Error.{Error}
 use Rattle.just_cli_texts.specs.declared.printed.Printed.{Printed}
-use Rattle.just_cli_texts.specs.Laid.{ArePartsOf}
+use Rattle.just_cli_texts.specs.Laid.{LaidSources, ArePartsOf}
 use Rattle.just_cli_texts.specs.Prints.{as_printed}
 use Rattle.just_cli_texts.specs.Targets.{Lists}
 
@@ -29,5 +28,5 @@ abbrev pub listed_by_default : Bool → List Justfile → Justfile → List (Lis
 listed_by_default given modules root words = option_and_then (names_if given modules root) (module_path words)
 
 -- the listing of the module of a justfile that names lead to, as a configuration lists it; or why it is refused
-abbrev pub ListsLaid : Pairs → Config → LaidJustfile → List (List ℕ) → Result Printed Error → Type 0
+abbrev pub ListsLaid : Pairs → Config → LaidSources → List (List ℕ) → Result Printed Error → Type 0
 ListsLaid environ c l names r = (p : Parts) × ArePartsOf environ l p × ((x : Result (List ℕ) Error) × Lists c p names x × (r ≡ as_printed x))

@@ -4,7 +4,6 @@ use Rattle.just_lang_syntax.specs.declared.ast.AstItem.{AstItem}
 use Rattle.just_lang_types.specs.Modules.{assignments_of, settings_of}
 use Rattle.just_lang_layout.specs.Paths.{Pairs}
 use Rattle.just_lang_layout.specs.declared.layout.File.{File}
-use Rattle.just_lang.specs.declared.laid.LaidJustfile.{LaidJustfile}
 use Rattle.just_config_words.specs.declared.subcommand.Subcommand.{Subcommand}
 use Rattle.just_config_words.specs.declared.subcommand.Subcommand.TheVariants as command
 use Rattle.just_config.specs.declared.config.Config.{Config}
@@ -16,7 +15,7 @@ use Rattle.just_print_lists.specs.Summaries.{ArePaths, joined_line}
 use Rattle.just_print_commands.specs.Projects.{Parts}
 use Rattle.just_exec.specs.declared.error.Error.{Error}
 use Rattle.just_cli_texts.specs.declared.printed.Printed.{Printed}
-use Rattle.just_cli_texts.specs.Laid.{ArePartsOf}
+use Rattle.just_cli_texts.specs.Laid.{LaidSources, ArePartsOf}
 use Rattle.just_cli_texts.specs.ListOptions.{prefix_of}
 use Rattle.just_cli_texts.specs.Targets.{names_of, Lists, Shows, Uses}
 
@@ -70,5 +69,5 @@ PrintsOf c (Some (command.Init ws)) p r = ⊥
 PrintsOf c (Some (command.Request ws)) p r = ⊥
 
 -- what a configuration's command prints of a justfile with its layout
-abbrev pub Prints : Pairs → Config → LaidJustfile → Result Printed Error → Type 0
+abbrev pub Prints : Pairs → Config → LaidSources → Result Printed Error → Type 0
 Prints environ c l r = (p : Parts) × ArePartsOf environ l p × PrintsOf c c.subcommand p r

@@ -6,6 +6,7 @@ ghost use Rattle.just_lang_types.specs.declared.project.Justfile.{Justfile};
 ghost use Rattle.just_lang_types.specs.Modules.{AreModules};
 ghost use Rattle.just_eval_words.specs.Commands.{inner_at};
 ghost use Rattle.just_cli_plan.specs.Pairs.{Answers};
+ghost use Rattle.just_cli_texts.specs.Laid.{laid_by};
 ghost use Rattle.just_cli_texts.specs.Defaults.{is_listed, listed_by_default, ListsLaid};
 
 use super::printed::Printed;
@@ -71,7 +72,7 @@ pub fn listing(
     names: &[Text],
 ) -> Result<Printed, Error>
     requires { IsSoundlyMadeOf environ.now.pairs laid.now.layout laid.now.justfile }
-    ensures { Answers (ListsLaid environ.now.pairs config.now laid.now names.now) result }
+    ensures { Answers (ListsLaid environ.now.pairs config.now (laid_by laid.now) names.now) result }
 {
     let whole = whole_of(alloc, environ, laid)?;
     let text = list(alloc, config, whole.project(), names);

@@ -5,7 +5,7 @@ ghost use Rattle.just_lang.specs.Assembled.{IsSoundlyMadeOf};
 ghost use Rattle.just_cli_plan.specs.Own.{OrMemory};
 ghost use Rattle.just_cli_plan.specs.Projects.{IsEnding};
 ghost use Rattle.just_cli_plan.specs.Request.{FindsProject};
-ghost use Rattle.just_cli_texts.specs.Laid.{FindsLaid};
+ghost use Rattle.just_cli_texts.specs.Laid.{laid_by, FindsLaid};
 
 use just_cli_plan::{Wanted, check_project, projects_end};
 use just_exec::Error;
@@ -24,7 +24,7 @@ pub fn laid_of_sources(
 ) -> Result<LaidJustfile, Error>
     ensures laid { IfOk result (λ l. FindsLaid
         (record { wanted = wanted.now; environ = environ.now; sources = sources.now })
-        (Ok (record { wanted = wanted.now; environ = environ.now; laid = l }))) }
+        (Ok (record { wanted = wanted.now; environ = environ.now; laid = laid_by l }))) }
     ensures ending { IfOk result (λ l. IsEnding l.justfile) }
     ensures sound { IfOk result (λ l. IsSoundlyMadeOf environ.now.pairs l.layout l.justfile) }
     ensures refused { IfErr result (OrMemory (λ e. FindsProject

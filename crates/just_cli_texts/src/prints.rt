@@ -5,6 +5,7 @@ ghost use Rattle.just_lang.specs.Assembled.{IsSoundlyMadeOf};
 ghost use Rattle.just_print_commands.specs.Projects.{parts};
 ghost use Rattle.just_cli_plan.specs.Pairs.{Answers};
 ghost use Rattle.just_cli_texts.specs.Kinds.{kind_of};
+ghost use Rattle.just_cli_texts.specs.Laid.{laid_by};
 ghost use Rattle.just_cli_texts.specs.ListOptions.{prefix_of};
 ghost use Rattle.just_cli_texts.specs.Prints.{alone, as_printed, PrintsOf, Prints};
 ghost use Rattle.just_lang_types.specs.Modules.{assignments_of};
@@ -105,7 +106,7 @@ pub fn prints(
 ) -> Result<Printed, Error>
     requires sound { IsSoundlyMadeOf environ.now.pairs laid.now.layout laid.now.justfile }
     requires kind { kind_of config.now.subcommand ≡ PrintKind }
-    ensures { Answers (Prints environ.now.pairs config.now laid.now) result }
+    ensures { Answers (Prints environ.now.pairs config.now (laid_by laid.now)) result }
 {
     let whole = whole_of(alloc, environ, laid)?;
     match &config.subcommand {

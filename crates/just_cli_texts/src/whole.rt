@@ -3,7 +3,7 @@
 ghost use Rattle.std.specs.Prelude.{◌≡◌, IfOk};
 ghost use Rattle.just_lang.specs.Assembled.{IsSoundlyMadeOf};
 ghost use Rattle.just_print_commands.specs.Projects.{parts};
-ghost use Rattle.just_cli_texts.specs.Laid.{ArePartsOf};
+ghost use Rattle.just_cli_texts.specs.Laid.{laid_by, ArePartsOf};
 ghost use Rattle.just_cli_texts.specs.Wholes.{parts_in};
 
 use just_lang::LaidJustfile;
@@ -49,7 +49,7 @@ pub(crate) fn whole_of<'l>(
 ) -> Result<Whole<'l>, NoMemory>
     requires { IsSoundlyMadeOf environ.now.pairs laid.now.layout laid.now.justfile }
     ensures laid { IfOk result (λ w. w.laid.now ≡ laid.now) }
-    ensures parts { IfOk result (λ w. ArePartsOf environ.now.pairs laid.now (parts_in w)) }
+    ensures parts { IfOk result (λ w. ArePartsOf environ.now.pairs (laid_by laid.now) (parts_in w)) }
 {
     let texts = Meanings { environ };
     let winners = laid.winners.as_slice();
