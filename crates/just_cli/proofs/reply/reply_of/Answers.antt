@@ -1,15 +1,23 @@
--- The plan of the project is what is asked of it; or one of the steps is refused.
+-- The reply behind the dotenv pairs is that of the project; or one of the steps is refused.
 use Rattle.just_cli_plan.proofs.Listed.{modules_listed}
-use Rattle.just_cli.proofs.Chain.{no_pairs, loaded_plan, loaded_refused}
-use Rattle.just_cli.proofs.Planless.{plan_silent}
+use Rattle.just_cli.proofs.Chain.{no_pairs, loaded_answer, loaded_refused}
+use Rattle.just_cli.proofs.Planless.{reply_silent}
+use Rattle.just_cli.specs.Replies.{RepliesLoaded}
+use Rattle.just_cli_texts.specs.Laid.{LaidRequest, laid_by}
 use Rattle.just_cli.proofs.reply.reply_of.Goals as goal
 
 pub returns-in-Err : goal.returns-in-Err
-returns-in-Err g c = no_pairs (g.H.Host.told c.args.host.now) (g.H.Host.told c.load_pairs.new.host) _ _ _ _ (modules_listed c.args.project.now).1 _ c.in-Err.ensures.loaded
+returns-in-Err g c =
+    let q : LaidRequest = record { wanted = c.args.wanted.now; environ = c.args.environ.now; laid = laid_by c.args.laid.now } in
+    no_pairs (RepliesLoaded c.args.config.now q) (g.H.Host.told c.args.host.now) (g.H.Host.told c.load_pairs.new.host) q _ (modules_listed c.args.laid.now.justfile).1 _ c.in-Err.ensures.loaded
 
-pub returns-in-Ok-plan_of_project : goal.returns-in-Ok-plan_of_project
-returns-in-Ok-plan_of_project g c = loaded_plan (g.H.Host.told c.args.host.now) (g.H.Host.told c.load_pairs.new.host) _ _ _ _ (modules_listed c.args.project.now).1 _ _ c.as_slice.ensures _ c.in-Ok.ensures.loaded c.in-Ok-plan_of_project.ensures.plan
+pub returns-in-Ok-reply_loaded : goal.returns-in-Ok-reply_loaded
+returns-in-Ok-reply_loaded g c =
+    let q : LaidRequest = record { wanted = c.args.wanted.now; environ = c.args.environ.now; laid = laid_by c.args.laid.now } in
+    loaded_answer (RepliesLoaded c.args.config.now q) (g.H.Host.told c.args.host.now) (g.H.Host.told c.load_pairs.new.host) q _ (modules_listed c.args.laid.now.justfile).1 _ _ c.as_slice.ensures _ c.in-Ok.ensures.loaded c.in-Ok-reply_loaded.ensures.reply
 
 pub returns : goal.returns
 returns g c =
-    loaded_refused (g.H.Host.told c.args.host.now) (g.H.Host.told c.load_pairs.new.host) _ _ _ _ (modules_listed c.args.project.now).1 _ _ c.as_slice.ensures _ (plan_silent _ _ _ (modules_listed c.args.project.now).1 _ c.in-Err-plan_of_project.ensures.refused) c.in-Ok.ensures.loaded c.in-Err-plan_of_project.ensures.refused
+    let q : LaidRequest = record { wanted = c.args.wanted.now; environ = c.args.environ.now; laid = laid_by c.args.laid.now } in
+    loaded_refused (RepliesLoaded c.args.config.now q) (g.H.Host.told c.args.host.now) (g.H.Host.told c.load_pairs.new.host) q _ (modules_listed c.args.laid.now.justfile).1 _ _ c.as_slice.ensures _
+    (reply_silent c.args.config.now q _ _ _ (modules_listed c.args.laid.now.justfile).1 _ c.in-Err-reply_loaded.ensures.refused) c.in-Ok.ensures.loaded c.in-Err-reply_loaded.ensures.refused
