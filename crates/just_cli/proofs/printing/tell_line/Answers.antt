@@ -1,7 +1,7 @@
 -- A line that isn't printed has its error, and the entry of the refused print.
 use Rattle.just_cli.proofs.NewJustfile.{print_refused}
 use Rattle.just_cli.proofs.Shown.{text_lost}
-use Rattle.just_cli.proofs.init.tell_line.Goals as goal
+use Rattle.just_cli.proofs.printing.tell_line.Goals as goal
 
 pub returns-in-Err-clause-untold : goal.returns-in-Err-clause-untold
 returns-in-Err-clause-untold g c =
