@@ -6,7 +6,9 @@ pub mod Arguments
 pub mod Asking
 pub mod Calls
 pub mod Chain
+pub mod CleaningLaws
 pub mod Climbing
+pub mod Commanding
 pub mod Ending
 pub mod Falls
 pub mod Globals
@@ -23,7 +25,9 @@ pub mod OneTried
 pub mod PlainSearch
 pub mod Planless
 pub mod Prepared
+pub mod PrintingLaws
 pub mod Refusals
+pub mod Replying
 pub mod Requests
 pub mod Runs
 pub mod Served

@@ -1,5 +1,5 @@
 -- What the preparation of a task promises, from the words and from their arguments.
-use Rattle.std.specs.Prelude.{ℕ, ◌≡◌, ◌⊎◌, Bool, true, false, List, [], Option, Some, None, option_map, Result, Ok, Err}
+use Rattle.std.specs.Prelude.{ℕ, ◌≡◌, ◌⊎◌, Bool, true, List, [], Option, Some, None, option_map, Result, Ok, Err}
 use Rattle.std.specs.Int.NonZero.{non_zero_u64_get}
 use Rattle.just_host_record.specs.World.{Moment}
 use Rattle.just_exec.specs.declared.error.Error.{Error}
@@ -7,8 +7,6 @@ use Rattle.just_lang_types.specs.declared.recipe.Modulepath.{Modulepath}
 use Rattle.just_cache_clean.specs.EntryTexts.{IsPath}
 use Rattle.just_config.specs.declared.search_config.SearchConfig.TheVariants as search
 use Rattle.just_cli_plan.specs.Request.{outline_of}
-use Rattle.just_cli_texts.specs.declared.kind.Kind.{Kind}
-use Rattle.just_cli_texts.specs.declared.kind.Kind.TheVariants as kind
 use Rattle.just_cli.specs.declared.task.Other.{Other}
 use Rattle.just_cli.specs.declared.task.Other.TheVariants as no_run
 use Rattle.just_cli.specs.declared.task.Task.{Task}
@@ -35,17 +33,6 @@ abbrev pub as_task : Result Task Error → Result Asked Error
 as_task (Ok t) = Ok (asked_in t)
 as_task (Err e) = Err e
 
--- a kind of command that asks something of a justfile in its place
-abbrev pub is_placed : Kind → Bool
-is_placed kind.Run = false
-is_placed kind.New = false
-is_placed kind.Respond = false
-is_placed kind.Format = true
-is_placed kind.Clean = true
-is_placed kind.Evaluate = true
-is_placed kind.Print = true
-is_placed kind.Later = false
-
 -- the path of the recipes whose entries go is one, where one is given
 abbrev pub IsPathOrNone : Option Modulepath → Type 0
 IsPathOrNone None = Unit {0}
@@ -61,19 +48,19 @@ HasPath (no_run.Write path text) = Unit {0}
 HasPath (no_run.Clean folder path) = IsPathOrNone path
 
 -- it is neither the help nor the version; and a path is one
-abbrev pub IsFound : Other → Type 0
-IsFound no_run.Help = ⊥
-IsFound no_run.Version = ⊥
-IsFound (no_run.Init path) = Unit {0}
-IsFound (no_run.Show p) = Unit {0}
-IsFound no_run.Nothing = Unit {0}
-IsFound (no_run.Write path text) = Unit {0}
-IsFound (no_run.Clean folder path) = IsPathOrNone path
+abbrev pub IsCommand : Other → Type 0
+IsCommand no_run.Help = ⊥
+IsCommand no_run.Version = ⊥
+IsCommand (no_run.Init path) = Unit {0}
+IsCommand (no_run.Show p) = Unit {0}
+IsCommand no_run.Nothing = Unit {0}
+IsCommand (no_run.Write path text) = Unit {0}
+IsCommand (no_run.Clean folder path) = IsPathOrNone path
 
 abbrev pub IsNoQuestion : Task → Type 0
 IsNoQuestion (task.Run p jobs messages quiet) = Unit {0}
 IsNoQuestion (task.List p quiet) = Unit {0}
-IsNoQuestion (task.Other c quiet) = IsFound c
+IsNoQuestion (task.Other c quiet) = IsCommand c
 
 -- ---- preparations
 

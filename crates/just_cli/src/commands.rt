@@ -14,7 +14,7 @@ ghost use Rattle.just_cli_plan.specs.Own.{OrMemory};
 ghost use Rattle.just_cli_plan.specs.Projects.{IsEnding};
 ghost use Rattle.just_cli_plan.specs.Request.{EvaluatesVariables};
 ghost use Rattle.just_cli_plan.specs.Steps.{Then};
-ghost use Rattle.just_cli_texts.specs.Kinds.{kind_of, words_of};
+ghost use Rattle.just_cli_texts.specs.Kinds.{kind_of, is_placed, words_of};
 ghost use Rattle.just_cli_texts.specs.Targets.{names_of};
 ghost use Rattle.just_cli_texts.specs.declared.kind.Kind.TheVariants as kind;
 ghost use Rattle.just_cli_texts.specs.Formatted.{Formats};
@@ -23,7 +23,7 @@ ghost use Rattle.just_cli.specs.Commands.{is_file, path_if, anew, anew_or, Evalu
 ghost use Rattle.just_cli.specs.declared.task.Other.TheVariants as no_run;
 ghost use Rattle.just_cli.specs.Preparing.{AreMisses, EndsWith};
 ghost use Rattle.just_cli.specs.Taken.{PerformsValues, PerformsCommand};
-ghost use Rattle.just_cli.specs.Tasks.{IsFound, is_placed};
+ghost use Rattle.just_cli.specs.Tasks.{IsCommand};
 ghost use Rattle.just_exec.specs.declared.error.Error.{Error};
 
 use super::Error;
@@ -56,7 +56,7 @@ fn print_at<H: Host>(
     ensures prints { PerformsCommand kind.Print
         (record { config = config.now; environ = environ.now; location = location.now })
         (H.told host.old) (H.told host.new) made.old.items made.new.items result }
-    ensures found { IfOk result IsFound }
+    ensures found { IfOk result IsCommand }
 {
     let (wanted, laid) = match project_at(alloc, environ, config, location, made, host) {
         Ok(found) => found,
@@ -89,7 +89,7 @@ fn values_loaded(
         → Then EvaluatesVariables (EvaluatesIt config.now)
             (record { wanted = wanted.now; environ = environ.now; justfile = laid.now.justfile; modules = modules; dotenv = dotenv.now })
             (Err e))) }
-    ensures found { IfOk result IsFound }
+    ensures found { IfOk result IsCommand }
 {
     let scopes = match scopes_of(alloc, &laid.justfile, dotenv, environ, wanted) {
         Ok(scopes) => scopes,
@@ -115,7 +115,7 @@ fn values_of<H: Host>(
     ensures values { PerformsValues config.now
         (record { wanted = wanted.now; environ = environ.now; laid = laid_by laid.now })
         (H.told host.old) (H.told host.new) result }
-    ensures found { IfOk result IsFound }
+    ensures found { IfOk result IsCommand }
 {
     let pairs = match load_pairs(alloc, host, &laid.justfile, environ, wanted) {
         Ok(pairs) => pairs,
@@ -139,7 +139,7 @@ fn evaluate_at<H: Host>(
     ensures values { PerformsCommand kind.Evaluate
         (record { config = config.now; environ = environ.now; location = location.now })
         (H.told host.old) (H.told host.new) made.old.items made.new.items result }
-    ensures found { IfOk result IsFound }
+    ensures found { IfOk result IsCommand }
 {
     let (wanted, laid) = match project_at(alloc, environ, config, location, made, host) {
         Ok(found) => found,
@@ -167,7 +167,7 @@ fn clean_of(alloc: Global, config: &Config, wanted: &Wanted) -> Result<Other, No
     ensures cleans { IfOk result (λ x.
         x ≡ no_run.Clean wanted.now.cache_folder
             (path_if (names_of (words_of config.now.subcommand)))) }
-    ensures found { IfOk result IsFound }
+    ensures found { IfOk result IsCommand }
 {
     let folder = wanted.cache_folder.try_clone()?;
     let names = names_of(alloc, words_of(&config.subcommand))?;
@@ -186,7 +186,7 @@ fn clean_at<H: Host>(
     ensures cleans { PerformsCommand kind.Clean
         (record { config = config.now; environ = environ.now; location = location.now })
         (H.told host.old) (H.told host.new) made.old.items made.new.items result }
-    ensures found { IfOk result IsFound }
+    ensures found { IfOk result IsCommand }
 {
     let (wanted, laid) = match project_at(alloc, environ, config, location, made, host) {
         Ok(found) => found,
@@ -270,7 +270,7 @@ fn formatted_anew(
     ensures refused { IfErr result (OrMemory (λ e. (y : Result (List ℕ) Error)
         × Formats config.now environ.now.pairs source.now y
         × (Err e ≡ anew_or config.now.check file path source.now.text y))) }
-    ensures found { IfOk result IsFound }
+    ensures found { IfOk result IsCommand }
 {
     match formatted(alloc, config, environ, source) {
         Ok(text) => anew(config.check, file, path, source.text.as_str(), text),
@@ -299,7 +299,7 @@ fn format_file<H: Host>(
     ensures refused { IfErr result (OrMemory (λ e. FormatsFile (H.told host.old).world config.now
         origin.now (record { wanted = wanted.now; environ = environ.now; justfile = path })
         (Err e))) }
-    ensures found { IfOk result IsFound }
+    ensures found { IfOk result IsCommand }
 {
     let loader = match read_source(alloc, host, path.as_path()) {
         Ok(loader) => loader,
@@ -328,7 +328,7 @@ fn format_at<H: Host>(
     ensures formats { PerformsCommand kind.Format
         (record { config = config.now; environ = environ.now; location = location.now })
         (H.told host.old) (H.told host.new) made.old.items made.new.items result }
-    ensures found { IfOk result IsFound }
+    ensures found { IfOk result IsCommand }
 {
     let (wanted, path) = match take(alloc, config, location, made, host) {
         Ok(taken) => taken,
@@ -354,7 +354,7 @@ pub(crate) fn command_at<H: Host>(
     ensures asked { PerformsCommand kind
         (record { config = config.now; environ = environ.now; location = location.now })
         (H.told host.old) (H.told host.new) made.old.items made.new.items result }
-    ensures found { IfOk result IsFound }
+    ensures found { IfOk result IsCommand }
 {
     match kind {
         Kind::Print => print_at(alloc, environ, config, location, made, host),

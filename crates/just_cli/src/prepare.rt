@@ -8,7 +8,7 @@ ghost use Rattle.just_cli.specs.Asked.{AsksAlone, as_other, as_reply};
 ghost use Rattle.just_cli.specs.Options.{command_not_built};
 ghost use Rattle.just_cli.specs.Preparing.{AreMisses, EndsWith, reply_of};
 ghost use Rattle.just_cli.specs.Quiet.{AskQuiet};
-ghost use Rattle.just_cli.specs.Tasks.{as_task, quiet_in, IsFound, IsNoQuestion, IsTask, PerformsAsked, PreparesConfig, PreparesArguments, PreparesWords};
+ghost use Rattle.just_cli.specs.Tasks.{as_task, quiet_in, IsCommand, IsNoQuestion, IsTask, PerformsAsked, PreparesConfig, PreparesArguments, PreparesWords};
 
 use super::Error;
 use super::commands::command_at;
@@ -18,7 +18,7 @@ use super::init::find_free;
 use super::replied::Replied;
 use super::task::{Other, Task};
 use super::tried::reply_tried;
-use just_cli_texts::{Kind, alone, kind_of, reads_justfile, respond, words_of};
+use just_cli_texts::{Kind, alone, is_placed, kind_of, reads_justfile, respond, words_of};
 use just_config::{Arguments, Config, Read};
 use just_host::Host;
 use just_path::Utf8PathBuf;
@@ -43,7 +43,7 @@ fn asked_alone<H: Host>(
     ensures refused { IfErr result (OrMemory (λ e. AsksAlone (kind_of config.now.subcommand)
         (H.told host.old).world (record { config = config.now; environ = environ.now })
         (Err e))) }
-    ensures found { IfOk result IsFound }
+    ensures found { IfOk result IsCommand }
 {
     match kind_of(&config.subcommand) {
         Kind::New => match find_free(alloc, host, config) {
@@ -54,7 +54,12 @@ fn asked_alone<H: Host>(
             Ok(text) => Ok(Other::Show(alone(text))),
             Err(error) => Err(error),
         },
-        _ => unreachable!(),
+        Kind::Run
+        | Kind::Format
+        | Kind::Clean
+        | Kind::Evaluate
+        | Kind::Print
+        | Kind::Later => unreachable!(),
     }
 }
 
@@ -89,7 +94,7 @@ fn asked_at<H: Host>(
     ensures found { IfOk result IsNoQuestion }
 {
     let kind = kind_of(&config.subcommand);
-    if let Kind::Run = kind {
+    if !is_placed(kind) {
         return match reply_tried(alloc, environ, config, location, made, host) {
             Ok(replied) => Ok(task_of(replied, quiet)),
             Err(error) => Err(error),

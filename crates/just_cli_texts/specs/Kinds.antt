@@ -35,6 +35,17 @@ reads_justfile kind.Evaluate = true
 reads_justfile kind.Print = true
 reads_justfile kind.Later = true
 
+-- whether it asks something of the justfile in its place
+abbrev pub is_placed : Kind → Bool
+is_placed kind.Run = false
+is_placed kind.New = false
+is_placed kind.Respond = false
+is_placed kind.Format = true
+is_placed kind.Clean = true
+is_placed kind.Evaluate = true
+is_placed kind.Print = true
+is_placed kind.Later = false
+
 -- the words of a command
 abbrev pub words_of : Option Subcommand → List (List ℕ)
 words_of None = []

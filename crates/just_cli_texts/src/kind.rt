@@ -1,7 +1,7 @@
 //! What a command does.
 
 ghost use Rattle.std.specs.Prelude.{◌≡◌};
-ghost use Rattle.just_cli_texts.specs.Kinds.{kind_of, reads_justfile, words_of};
+ghost use Rattle.just_cli_texts.specs.Kinds.{kind_of, is_placed, reads_justfile, words_of};
 
 use just_config::Subcommand;
 use just_path_text::Text;
@@ -63,6 +63,16 @@ pub fn reads_justfile(kind: Kind) -> bool
         | Kind::Evaluate
         | Kind::Print
         | Kind::Later => true,
+    }
+}
+
+/// Whether it asks something of the justfile in its place.
+pub fn is_placed(kind: Kind) -> bool
+    ensures { result ≡ is_placed kind }
+{
+    match kind {
+        Kind::Format | Kind::Clean | Kind::Evaluate | Kind::Print => true,
+        Kind::Run | Kind::New | Kind::Respond | Kind::Later => false,
     }
 }
 

@@ -92,7 +92,14 @@ fn prints_of(
             let names = names_of(alloc, words.as_slice())?;
             alone_or(usage(alloc, project, names.as_slice()))
         }
-        _ => unreachable!(),
+        Subcommand::Choose(_)
+        | Subcommand::Clean(_)
+        | Subcommand::Command(_)
+        | Subcommand::Edit(_)
+        | Subcommand::Evaluate(_)
+        | Subcommand::Fmt(_)
+        | Subcommand::Init(_)
+        | Subcommand::Request(_) => unreachable!(),
     }
 }
 
