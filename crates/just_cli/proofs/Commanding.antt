@@ -1,12 +1,14 @@
 -- What commands ask of a justfile, as parts of a preparation.
 use Rattle.std.proofs.Common.{◌≡◌, ◌++◌, inl, inr, ℕ, Bool, true, false, List, [], ◌∷◌, Option, Some, None, Result, Ok, Err, refl, sym, ◌∙◌, ap, subst, append-nil}
-use Rattle.std.specs.Prelude.{MatchResult}
+use Rattle.std.specs.Prelude.{MatchResult, IfOk, IfErr}
 use Rattle.just_path_text.specs.declared.environ.Environ.{Environ}
 use Rattle.just_host_record.specs.World.{World, Moment}
 use Rattle.just_host_record.specs.declared.entry.Entry.{Entry}
 use Rattle.just_lang_types.specs.declared.project.Justfile.{Justfile}
+use Rattle.just_lang_types.specs.declared.project.LangError.{LangError}
 use Rattle.just_lang_types.specs.declared.scope.DotenvOf.{DotenvOf}
 use Rattle.just_lang_types.specs.declared.scope.Scopes.{Scopes}
+use Rattle.just_lang_types.specs.declared.source.Source.{Source}
 use Rattle.just_lang_types.specs.Modules.{AreModules}
 use Rattle.just_config.specs.declared.config.Config.{Config}
 use Rattle.just_config_words.specs.declared.subcommand.Subcommand.{Subcommand}
@@ -16,7 +18,8 @@ use Rattle.just_search.specs.declared.location.Location.{Location}
 use Rattle.just_search.specs.declared.location.Origin.{Origin}
 use Rattle.just_search_load.specs.Loads.{source_at}
 use Rattle.just_search_load.specs.Shown.{ReadsText}
-use Rattle.just_exec.specs.Refusals.{error_of_search}
+use Rattle.just_eval.specs.Evaluations.{IsEvaluation}
+use Rattle.just_exec.specs.Refusals.{error_of_lang, error_of_search}
 use Rattle.just_exec.specs.declared.error.Error.{Error}
 use Rattle.just_cli_plan.specs.declared.wanted.Wanted.{Wanted}
 use Rattle.just_cli_plan.specs.Own.{OrMemory}
@@ -33,7 +36,7 @@ use Rattle.just_cli_texts.specs.Prints.{alone, Prints}
 use Rattle.just_cli.specs.declared.task.Other.{Other}
 use Rattle.just_cli.specs.declared.task.Other.TheVariants as no_run
 use Rattle.just_cli.specs.Acts.{Act, Step, Begun, NoAct, Looks, Behind, BeginsBehind}
-use Rattle.just_cli.specs.Commands.{anew_or, PrintsIt, EvaluatesIt, FormatsFile, FormatsAt, BeginsCommand}
+use Rattle.just_cli.specs.Commands.{is_file, anew_or, PrintsIt, EvaluatesIt, FormatsFile, FormatsAt, BeginsCommand}
 use Rattle.just_cli.specs.Faults.{entries_of}
 use Rattle.just_cli.specs.Options.{command_not_built}
 use Rattle.just_cli.specs.Preparing.{AreMisses, EndsWith, Answers, Performs}
@@ -122,27 +125,49 @@ module _ (c : Config) (q : LaidRequest) (dotenv : List DotenvOf) where
   abbrev ByAll : (List Justfile → Type 0) → Type 0
   ByAll holds = (modules : List Justfile) → AreModules (q.laid.justfile ∷ []) modules → holds modules
 
-  pub unvalued : (e : Error) → OrMemory (λ x. ByAll (λ modules. EvaluatesVariables (loaded modules) (Err x))) e → OrMemory (λ x. ByAll (λ modules. Then EvaluatesVariables (EvaluatesIt c) (loaded modules) (Err x))) e
+  pub unvalued : (e : Error) → OrMemory (λ x. (l : LangError) × ByAll (λ modules. IsEvaluation modules dotenv q.environ q.wanted.overrides (Err l)) × (x ≡ error_of_lang l)) e → OrMemory (λ x. ByAll (λ modules. Then EvaluatesVariables (EvaluatesIt c) (loaded modules) (Err x))) e
   unvalued e (inl wants) = inl wants
-  unvalued e (inr refused) = inr (λ modules are. stops e (refused modules are) refl)
+  unvalued e (inr (l, refused, is)) = inr (λ modules are. stops e (l, refused modules are, is) refl)
 
-  module _ (scopes : Scopes) (valued : ByAll (λ modules. EvaluatesVariables (loaded modules) (Ok (behind scopes modules)))) where
+  module _ (scopes : Scopes) (valued : ByAll (λ modules. IsEvaluation modules dotenv q.environ q.wanted.overrides (Ok scopes))) where
     abbrev Names : List Justfile → Result (List ℕ) Error → Type 0
     Names modules r = EvaluatesNames (format_of c) modules scopes q.laid.justfile (names_of_words q.wanted.words) r
 
     pub evaluates_so : (text : List ℕ) → ByAll (λ modules. Names modules (Ok text)) → ByAll (λ modules. Then EvaluatesVariables (EvaluatesIt c) (loaded modules) (Ok (no_run.Show (alone text))))
-    evaluates_so text names modules are = goes_on (behind scopes modules) (valued modules are) (Ok text, names modules are, refl)
+    evaluates_so text names modules are = goes_on (behind scopes modules) (refl, refl, refl, valued modules are) (Ok text, names modules are, refl)
 
     pub unevaluated_so : (e : Error) → OrMemory (λ x. ByAll (λ modules. Names modules (Err x))) e → OrMemory (λ x. ByAll (λ modules. Then EvaluatesVariables (EvaluatesIt c) (loaded modules) (Err x))) e
     unevaluated_so e (inl wants) = inl wants
-    unevaluated_so e (inr names) = inr (λ modules are. goes_on (behind scopes modules) (valued modules are) (Err e, names modules are, refl))
+    unevaluated_so e (inr names) = inr (λ modules are. goes_on (behind scopes modules) (refl, refl, refl, valued modules are) (Err e, names modules are, refl))
 
 -- ---- the text of a file
 
-module _ (told : Option World) (c : Config) (from : Origin) (check file : Bool) (is_check : check ≡ c.check) (j : JustfileRequest) where
+module _ (told : Option World) (c : Config) (from : Origin) (j : JustfileRequest) where
   pub unread : (e : Error) → OrMemory (λ x. (f : SearchError) × ReadsText told j.justfile (Err f) × (x ≡ error_of_search f)) e → OrMemory (λ x. FormatsFile told c from j (Err x)) e
   unread e (inl wants) = inl wants
-  unread e (inr lost) = inr (FormatsFile.unread lost.0 lost.1 (ap (λ (x : Error). Err x) lost.2))
+  unread e (inr lost) = inr (FormatsFile.unread lost.0 lost.1 (ap (λ (x : Error) : Result Other Error. Err x) lost.2))
+
+  module _ (sources : List Source) (read : (text : List ℕ) × ReadsText told j.justfile (Ok text) × (sources ≡ source_at j.justfile text ∷ [])) (s : Source) (alone : sources ≡ s ∷ []) (file : Bool) (is_one : file ≡ is_file from) where
+    -- that it is made anew, and what is done then
+    abbrev Anew : Result Other Error → Type 0
+    Anew r = (y : Result (List ℕ) Error) × Formats c j.environ.pairs s y × (r ≡ anew_or c.check file j.justfile s.text y)
+
+    it_is : s ≡ source_at j.justfile read.0
+    it_is = let last : sources ≡ source_at j.justfile read.0 ∷ [] = read.2 in cc
+
+    pub file_anew : (r : Result Other Error) → Anew r → FormatsFile told c from j r
+    file_anew r (y, formats, is) =
+        FormatsFile.read read.0 y read.1 (subst (λ z. Formats c j.environ.pairs z y) it_is formats)
+        (is ∙ (ap (λ (z : Source). anew_or c.check file j.justfile z.text y) it_is ∙ ap (λ b. anew_or c.check b j.justfile read.0 y) is_one))
+
+    pub file_refused : (e : Error) → OrMemory (λ x. Anew (Err x)) e → OrMemory (λ x. FormatsFile told c from j (Err x)) e
+    file_refused e (inl wants) = inl wants
+    file_refused e (inr gives) = inr (file_anew (Err e) gives)
+
+  -- that it is formatted, or refused
+  pub file_formats : (r : Result Other Error) → IfOk r (λ x. FormatsFile told c from j (Ok x)) → IfErr r (OrMemory (λ e. FormatsFile told c from j (Err e))) → Answers (FormatsFile told c from j) r
+  file_formats (Ok x) formats refused = formats
+  file_formats (Err e) formats refused = refused
 
 -- ---- the justfile's file
 

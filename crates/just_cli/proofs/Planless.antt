@@ -1,6 +1,6 @@
 -- Refusals of plans are of no call, and leave no entry in the record.
-use Rattle.std.proofs.Common.{◌≡◌, ℕ, true, List, [], ◌∷◌, Option, Some, None, Result, Ok, Err, refl, sym, ◌∙◌, ap, subst}
-use Rattle.std.specs.Prelude.{codes}
+use Rattle.std.proofs.Common.{◌≡◌, ℕ, Bool, true, false, List, [], ◌∷◌, Option, Some, None, Result, Ok, Err, refl, sym, ◌∙◌, ap, subst}
+use Rattle.std.specs.Prelude.{if◌then◌else◌, codes, bytes_eq}
 use Rattle.just_lang_types.specs.declared.project.LangError.{LangError}
 use Rattle.just_lang_types.specs.declared.project.LangError.TheVariants as lang
 use Rattle.just_exec_work.specs.declared.error.CommandError.TheVariants as command
@@ -16,6 +16,7 @@ use Rattle.just_exec.specs.declared.error.Error.TheVariants as error
 use Rattle.just_lang_types.specs.declared.project.Justfile.{Justfile}
 use Rattle.just_lang_types.specs.Modules.{AreModules, assignments_of}
 use Rattle.just_lang_types.specs.declared.scope.Scopes.{Scopes}
+use Rattle.just_lang_types.specs.declared.source.Source.{Source}
 use Rattle.just_lang_layout.specs.Paths.{Pairs}
 use Rattle.just_config_words.specs.declared.subcommand.Subcommand.{Subcommand}
 use Rattle.just_config_words.specs.declared.subcommand.Subcommand.TheVariants as command
@@ -32,12 +33,14 @@ use Rattle.just_print_commands.specs.Projects.{Parts}
 use Rattle.just_cli_texts.specs.declared.printed.Printed.{Printed}
 use Rattle.just_cli_texts.specs.Defaults.{ListsLaid}
 use Rattle.just_cli_texts.specs.Evaluated.{names_of_words, format_of, variables_of, variable_named, step_in, evaluated_module, text_named, EvaluatesNames}
+use Rattle.just_cli_texts.specs.Formatted.{Formats}
 use Rattle.just_cli_texts.specs.Laid.{LaidSources, LaidRequest}
 use Rattle.just_cli_texts.specs.ListOptions.{prefix_of}
 use Rattle.just_cli_texts.specs.Prints.{alone, as_printed, dump_text, PrintsOf, Prints}
 use Rattle.just_cli_texts.specs.Targets.{names_of, error_of_list, error_of_show, UnshownBy, Lists, Shows, Uses}
 use Rattle.just_cli.specs.declared.task.Other.{Other}
-use Rattle.just_cli.specs.Commands.{as_shown, EvaluatesIt}
+use Rattle.just_cli.specs.declared.task.Other.TheVariants as no_run
+use Rattle.just_cli.specs.Commands.{as_shown, checked, anew_or, EvaluatesIt}
 use Rattle.just_cli.specs.Replies.{Reply, as_list, as_plan, Replies, RepliesLoaded}
 use Rattle.just_cli.specs.Faults.{entries_of}
 use Rattle.just_cli.specs.Options.{is_lacking, is_missing}
@@ -174,6 +177,26 @@ pub values_silent : (c : Config) (p : List Justfile → LoadedRequest) (j : Just
     → OrMemory (λ x. (ms : List Justfile) → AreModules (j ∷ []) ms → Then EvaluatesVariables (EvaluatesIt c) (p ms) (Err x)) e → entries_of e ≡ []
 values_silent c p j modules are e why =
     all_silent (Then EvaluatesVariables (EvaluatesIt c)) (then_silent EvaluatesVariables (EvaluatesIt c) (λ k f told. by_lang told.0 f told.2) (evaluates_silent c)) p j modules are e why
+
+-- ---- a text that is made anew
+
+anew_silent : (check file same : Bool) (path new : List ℕ) (e : Error)
+    → ◌≡◌ {A = Result Other Error} (Err e) (if check then checked same else (if file then (if same then Ok no_run.Nothing else Ok (no_run.Write path new)) else Ok (no_run.Show (alone new)))) → entries_of e ≡ []
+anew_silent true file true path new e is = absurd (let no : ⊥ = cc in no)
+anew_silent true file false path new e is = let one : e ≡ error.FormatCheckFoundDiff = cc in ap (λ x. entries_of x) one
+anew_silent false true true path new e is = absurd (let no : ⊥ = cc in no)
+anew_silent false true false path new e is = absurd (let no : ⊥ = cc in no)
+anew_silent false false same path new e is = absurd (let no : ⊥ = cc in no)
+
+pub formats_silent : (c : Config) (environ : Pairs) (source : Source) (file : Bool) (path : List ℕ) (e : Error)
+    → OrMemory (λ x. (y : Result (List ℕ) Error) × Formats c environ source y × ◌≡◌ {A = Result Other Error} (Err x) (anew_or c.check file path source.text y)) e → entries_of e ≡ []
+formats_silent c environ source file path e why = or_silent (λ x. (y : Result (List ℕ) Error) × Formats c environ source y × ◌≡◌ {A = Result Other Error} (Err x) (anew_or c.check file path source.text y)) e each why
+  where
+    by_text : (y : Result (List ℕ) Error) (x : Error) → Formats c environ source y → ◌≡◌ {A = Result Other Error} (Err x) (anew_or c.check file path source.text y) → entries_of x ≡ []
+    by_text (Ok text) x formats is = anew_silent c.check file (bytes_eq text source.text) path text x is
+    by_text (Err d) x (l, refuses, not, is_lang) is = let one : x ≡ d = cc in ap (λ z. entries_of z) one ∙ by_lang l d is_lang
+    each : (x : Error) → ((y : Result (List ℕ) Error) × Formats c environ source y × ◌≡◌ {A = Result Other Error} (Err x) (anew_or c.check file path source.text y)) → entries_of x ≡ []
+    each x k = by_text k.0 x k.1 k.2
 
 -- ---- names that are missing
 

@@ -7,7 +7,10 @@ use Rattle.just_lang_types.specs.Modules.{AreModules}
 use Rattle.just_config.specs.declared.config.Config.{Config}
 use Rattle.just_exec.specs.declared.error.Error.{Error}
 use Rattle.just_cli_plan.specs.Own.{OrMemory}
-use Rattle.just_cli_plan.specs.Request.{LoadedRequest, ScopesRequest, Outline, EvaluatesVariables, PlansKeys}
+use Rattle.just_lang_types.specs.declared.project.LangError.{LangError}
+use Rattle.just_eval.specs.Evaluations.{IsEvaluation}
+use Rattle.just_exec.specs.Refusals.{error_of_lang}
+use Rattle.just_cli_plan.specs.Request.{LoadedRequest, ScopesRequest, Outline, PlansKeys}
 use Rattle.just_cli_plan.specs.Steps.{stops, goes_on}
 use Rattle.just_cli_texts.specs.declared.printed.Printed.{Printed}
 use Rattle.just_cli_texts.specs.Defaults.{listed_by_default, ListsLaid}
@@ -47,17 +50,17 @@ module _ (c : Config) (q : LaidRequest) (dotenv : List DotenvOf) where
   abbrev loaded : List Justfile → LoadedRequest
   loaded modules = record { wanted = q.wanted; environ = q.environ; justfile = q.laid.justfile; modules = modules; dotenv = dotenv }
 
-  pub no_values : (e : Error) → OrMemory (λ x. (modules : List Justfile) → AreModules (q.laid.justfile ∷ []) modules → EvaluatesVariables (loaded modules) (Err x)) e
+  pub no_values : (e : Error) → OrMemory (λ x. (l : LangError) × ((modules : List Justfile) → AreModules (q.laid.justfile ∷ []) modules → IsEvaluation modules dotenv q.environ q.wanted.overrides (Err l)) × (x ≡ error_of_lang l)) e
       → OrMemory (λ x. (modules : List Justfile) → AreModules (q.laid.justfile ∷ []) modules → RepliesLoaded c q (loaded modules) (Err x)) e
   no_values e (inl wants) = inl wants
-  no_values e (inr refused) = inr (λ modules are. stops e (refused modules are) refl)
+  no_values e (inr (l, refused, is)) = inr (λ modules are. stops e (l, refused modules are, is) refl)
 
-  module _ (scopes : Scopes) (valued : (modules : List Justfile) → AreModules (q.laid.justfile ∷ []) modules → EvaluatesVariables (loaded modules) (Ok (behind c q scopes modules))) where
+  module _ (scopes : Scopes) (valued : (modules : List Justfile) → AreModules (q.laid.justfile ∷ []) modules → IsEvaluation modules dotenv q.environ q.wanted.overrides (Ok scopes)) where
     pub behind_values : (x : Reply) → ((modules : List Justfile) → AreModules (q.laid.justfile ∷ []) modules → Replies c q (behind c q scopes modules) (Ok x))
         → (modules : List Justfile) → AreModules (q.laid.justfile ∷ []) modules → RepliesLoaded c q (loaded modules) (Ok x)
-    behind_values x replies modules are = goes_on (behind c q scopes modules) (valued modules are) (replies modules are)
+    behind_values x replies modules are = goes_on (behind c q scopes modules) (refl, refl, refl, valued modules are) (replies modules are)
 
     pub refused_behind : (e : Error) → OrMemory (λ x. (modules : List Justfile) → AreModules (q.laid.justfile ∷ []) modules → Replies c q (behind c q scopes modules) (Err x)) e
         → OrMemory (λ x. (modules : List Justfile) → AreModules (q.laid.justfile ∷ []) modules → RepliesLoaded c q (loaded modules) (Err x)) e
     refused_behind e (inl wants) = inl wants
-    refused_behind e (inr replies) = inr (λ modules are. goes_on (behind c q scopes modules) (valued modules are) (replies modules are))
+    refused_behind e (inr replies) = inr (λ modules are. goes_on (behind c q scopes modules) (refl, refl, refl, valued modules are) (replies modules are))

@@ -5,6 +5,7 @@ ghost use Rattle.just_path.specs.Path.{text_of};
 ghost use Rattle.just_host_record.specs.declared.entry.Entry.{Entry};
 ghost use Rattle.just_lang_types.specs.declared.project.Justfile.{Justfile};
 ghost use Rattle.just_lang_types.specs.Modules.{AreModules};
+ghost use Rattle.just_lang_types.specs.declared.source.Source.{Source as SourceRead};
 ghost use Rattle.just_env.specs.declared.search_error.SearchError.{SearchError};
 ghost use Rattle.just_search_load.specs.Loads.{source_at};
 ghost use Rattle.just_search_load.specs.Shown.{ReadsText};
@@ -20,6 +21,7 @@ ghost use Rattle.just_cli_texts.specs.declared.kind.Kind.TheVariants as kind;
 ghost use Rattle.just_cli_texts.specs.Formatted.{Formats};
 ghost use Rattle.just_cli_texts.specs.Laid.{laid_by};
 ghost use Rattle.just_cli.specs.Commands.{is_file, path_if, anew, anew_or, EvaluatesIt, FormatsFile};
+ghost use Rattle.just_cli.specs.Faults.{entries_of};
 ghost use Rattle.just_cli.specs.declared.task.Other.TheVariants as no_run;
 ghost use Rattle.just_cli.specs.Preparing.{AreMisses, EndsWith};
 ghost use Rattle.just_cli.specs.Taken.{PerformsValues, PerformsCommand};
@@ -229,6 +231,17 @@ fn read_source<H: Host>(
     }
 }
 
+/// The source that stands alone.
+fn only(sources: &[Source]) -> &Source
+    requires { (source : SourceRead) × (sources.now ≡ source ∷ []) }
+    ensures { sources.now ≡ result.now ∷ [] }
+{
+    match sources {
+        [source, ..] => source,
+        [] => unreachable!(),
+    }
+}
+
 /// What is done with the new text of a file, beside the old one.
 fn anew(
     check: bool,
@@ -271,6 +284,7 @@ fn formatted_anew(
         × Formats config.now environ.now.pairs source.now y
         × (Err e ≡ anew_or config.now.check file path source.now.text y))) }
     ensures found { IfOk result IsCommand }
+    ensures silent { IfErr result (λ e. entries_of e ≡ []) }
 {
     match formatted(alloc, config, environ, source) {
         Ok(text) => anew(config.check, file, path, source.text.as_str(), text),
@@ -308,11 +322,10 @@ fn format_file<H: Host>(
             return Err(error);
         }
     };
-    match loader.sources() {
-        [source, ..] => {
-            formatted_anew(alloc, environ, config, is_file(origin), path, source)
-        }
-        [] => unreachable!(),
+    let source = only(loader.sources());
+    match formatted_anew(alloc, environ, config, is_file(origin), path, source) {
+        Ok(other) => Ok(other),
+        Err(error) => Err(error),
     }
 }
 
