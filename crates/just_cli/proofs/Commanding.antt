@@ -1,6 +1,11 @@
 -- What commands ask of a justfile, as parts of a preparation.
 use Rattle.std.proofs.Common.{◌≡◌, ◌++◌, inl, inr, ℕ, Bool, true, false, List, [], ◌∷◌, Option, Some, None, Result, Ok, Err, refl, sym, ◌∙◌, ap, subst, append-nil}
 use Rattle.std.specs.Prelude.{MatchResult, IfOk, IfErr}
+use Rattle.std.specs.declared.num.NonZeroU64.{NonZeroU64}
+use Rattle.just_sched_history.specs.declared.plan.Plan.{Plan}
+use Rattle.just_cli.specs.declared.replied.Replied.{Replied}
+use Rattle.just_cli.specs.declared.replied.Replied.TheVariants as replied
+use Rattle.just_cli.specs.declared.task.Task.TheVariants as task
 use Rattle.just_path_text.specs.declared.environ.Environ.{Environ}
 use Rattle.just_host_record.specs.World.{World, Moment}
 use Rattle.just_host_record.specs.declared.entry.Entry.{Entry}
@@ -10,6 +15,7 @@ use Rattle.just_lang_types.specs.declared.scope.DotenvOf.{DotenvOf}
 use Rattle.just_lang_types.specs.declared.scope.Scopes.{Scopes}
 use Rattle.just_lang_types.specs.declared.source.Source.{Source}
 use Rattle.just_lang_types.specs.Modules.{AreModules}
+use Rattle.just_lang_layout.specs.Paths.{Pairs}
 use Rattle.just_config.specs.declared.config.Config.{Config}
 use Rattle.just_config_words.specs.declared.subcommand.Subcommand.{Subcommand}
 use Rattle.just_config_words.specs.declared.subcommand.Subcommand.TheVariants as command
@@ -30,19 +36,24 @@ use Rattle.just_cli_texts.specs.declared.kind.Kind.TheVariants as kind
 use Rattle.just_cli_texts.specs.declared.printed.Printed.{Printed}
 use Rattle.just_cli_texts.specs.Evaluated.{names_of_words, format_of, EvaluatesNames}
 use Rattle.just_cli_texts.specs.Formatted.{Formats}
-use Rattle.just_cli_texts.specs.Kinds.{kind_of, is_placed, reads_justfile}
+use Rattle.just_cli_texts.specs.Kinds.{kind_of, is_new, is_placed, reads_justfile, words_of}
 use Rattle.just_cli_texts.specs.Laid.{LaidRequest}
-use Rattle.just_cli_texts.specs.Prints.{alone, Prints}
+use Rattle.just_cli_texts.specs.Prints.{alone, as_printed, Prints}
+use Rattle.just_cli_texts.specs.Responses.{requested, responded}
 use Rattle.just_cli.specs.declared.task.Other.{Other}
 use Rattle.just_cli.specs.declared.task.Other.TheVariants as no_run
 use Rattle.just_cli.specs.Acts.{Act, Step, Begun, NoAct, Looks, Behind, BeginsBehind}
-use Rattle.just_cli.specs.Commands.{is_file, anew_or, PrintsIt, EvaluatesIt, FormatsFile, FormatsAt, BeginsCommand}
+use Rattle.just_cli.specs.Asked.{Asked, AsksAlone, Responds, AsksAt, AsksBy, BeginsAsks, BeginsBy, as_other, as_reply}
+use Rattle.just_cli.specs.NewPath.{FindsFree}
+use Rattle.just_cli.specs.Replies.{Reply}
+use Rattle.just_cli.specs.Commands.{as_shown, is_file, anew, anew_or, CommandsAt, PrintsIt, EvaluatesIt, FormatsFile, FormatsAt, BeginsCommand}
 use Rattle.just_cli.specs.Faults.{entries_of}
 use Rattle.just_cli.specs.Options.{command_not_built}
-use Rattle.just_cli.specs.Preparing.{AreMisses, EndsWith, Answers, Performs}
-use Rattle.just_cli.specs.Request.{FindsProjectAt, BeginsProject}
-use Rattle.just_cli.specs.Taken.{TakesWanted, PerformsProject, PerformsCommand}
-use Rattle.just_cli.specs.Words.{LocatedRequest, JustfileRequest, TakesFile, BeginsFile, BeginsIn}
+use Rattle.just_cli.specs.Preparing.{AreMisses, EndsWith, Answers, Performs, reply_of}
+use Rattle.just_cli.specs.Request.{FindsProjectAt, Tries, BeginsProject, BeginsTries}
+use Rattle.just_cli.specs.Taken.{TakesWanted, PerformsProject, PerformsCommand, PerformsTries}
+use Rattle.just_cli.specs.Tasks.{as_task, PerformsAsked}
+use Rattle.just_cli.specs.Words.{ConfigRequest, LocatedRequest, JustfileRequest, TakesFile, BeginsFile, BeginsIn}
 use Rattle.just_cli.proofs.Prepared.{left_nothing, performs_refusal, performs_answer, performs_lost, performs_looking, performs_then, performs_behind}
 
 -- ---- what is asked of a project
@@ -140,6 +151,19 @@ module _ (c : Config) (q : LaidRequest) (dotenv : List DotenvOf) where
     unevaluated_so e (inl wants) = inl wants
     unevaluated_so e (inr names) = inr (λ modules are. goes_on (behind scopes modules) (refl, refl, refl, valued modules are) (Err e, names modules are, refl))
 
+-- ---- a text that is made anew
+
+module _ (c : Config) (environ : Pairs) (s : Source) (file : Bool) (path : List ℕ) where
+  abbrev MadeAnew : Result Other Error → Type 0
+  MadeAnew r = (y : Result (List ℕ) Error) × Formats c environ s y × (r ≡ anew_or c.check file path s.text y)
+
+  pub anew_found : (text : List ℕ) → Formats c environ s (Ok text) → (r : Result Other Error) → r ≡ anew c.check file path s.text text → MadeAnew r
+  anew_found text formats r is = (Ok text, formats, is)
+
+  pub source_refused : (e : Error) → OrMemory (λ x. Formats c environ s (Err x)) e → OrMemory (λ x. MadeAnew (Err x)) e
+  source_refused e (inl wants) = inl wants
+  source_refused e (inr formats) = inr (Err e, formats, refl)
+
 -- ---- the text of a file
 
 module _ (told : Option World) (c : Config) (from : Origin) (j : JustfileRequest) where
@@ -232,3 +256,151 @@ runs_then (Some (command.Show ws)) placed reads built = absurd (let no : ⊥ = c
 runs_then (Some (command.Summary ws)) placed reads built = absurd (let no : ⊥ = cc in no)
 runs_then (Some (command.Usage ws)) placed reads built = absurd (let no : ⊥ = cc in no)
 runs_then (Some (command.Variables ws)) placed reads built = absurd (let no : ⊥ = cc in no)
+
+-- one that reads no justfile and asks for no new one asks for a response
+pub responds_then : (k : Kind) → is_new k ≡ false → reads_justfile k ≡ false → k ≡ kind.Respond
+responds_then kind.Run other alone = absurd (let no : ⊥ = cc in no)
+responds_then kind.New other alone = absurd (let no : ⊥ = cc in no)
+responds_then kind.Respond other alone = refl
+responds_then kind.Format other alone = absurd (let no : ⊥ = cc in no)
+responds_then kind.Clean other alone = absurd (let no : ⊥ = cc in no)
+responds_then kind.Evaluate other alone = absurd (let no : ⊥ = cc in no)
+responds_then kind.Print other alone = absurd (let no : ⊥ = cc in no)
+responds_then kind.Later other alone = absurd (let no : ⊥ = cc in no)
+
+pub new_then : (k : Kind) → is_new k ≡ true → k ≡ kind.New
+new_then kind.Run is = absurd (let no : ⊥ = cc in no)
+new_then kind.New is = refl
+new_then kind.Respond is = absurd (let no : ⊥ = cc in no)
+new_then kind.Format is = absurd (let no : ⊥ = cc in no)
+new_then kind.Clean is = absurd (let no : ⊥ = cc in no)
+new_then kind.Evaluate is = absurd (let no : ⊥ = cc in no)
+new_then kind.Print is = absurd (let no : ⊥ = cc in no)
+new_then kind.Later is = absurd (let no : ⊥ = cc in no)
+
+-- ---- commands that read no justfile
+
+module _ (k j : Kind) (is : k ≡ j) (told : Option World) (c : ConfigRequest) where
+  pub alone_as : (r : Result Asked Error) → AsksAlone j told c r → AsksAlone k told c r
+  alone_as r asks = subst (λ x. AsksAlone x told c r) (sym is) asks
+
+  pub all_alone_as : (r : Result Other Error) → IfOk r (λ x. AsksAlone j told c (as_other (Ok x))) → IfOk r (λ x. AsksAlone k told c (as_other (Ok x)))
+  all_alone_as (Ok x) asks = alone_as (as_other (Ok x)) asks
+  all_alone_as (Err e) asks = tt
+
+  pub unasked_as : (e : Error) → OrMemory (λ x. AsksAlone j told c (Err x)) e → OrMemory (λ x. AsksAlone k told c (Err x)) e
+  unasked_as e (inl wants) = inl wants
+  unasked_as e (inr asks) = inr (alone_as (Err e) asks)
+
+  pub all_unasked_as : (r : Result Other Error) → IfErr r (OrMemory (λ x. AsksAlone j told c (Err x))) → IfErr r (OrMemory (λ x. AsksAlone k told c (Err x)))
+  all_unasked_as (Ok x) asks = tt
+  all_unasked_as (Err e) asks = unasked_as e asks
+
+pub new_refused : (told : Option World) (c : ConfigRequest) (e : Error) → OrMemory (λ x. FindsFree told c.config (Err x)) e → OrMemory (λ x. AsksAlone kind.New told c (Err x)) e
+new_refused told c e (inl wants) = inl wants
+new_refused told c e (inr finds) = inr (Err e, finds, refl)
+
+module _ (c : ConfigRequest) where
+  abbrev answered : Result (List ℕ) Error
+  answered = responded c.environ.pairs (requested (words_of c.config.subcommand))
+
+  pub responds_so : (text : List ℕ) → answered ≡ Ok text → Responds c (Ok (Asked.other (no_run.Show (alone text))))
+  responds_so text is = sym (ap (λ r. as_other (as_shown (as_printed r))) is)
+
+  pub unresponded : (e : Error) → OrMemory (λ x. answered ≡ Err x) e → OrMemory (λ x. Responds c (Err x)) e
+  unresponded e (inl wants) = inl wants
+  unresponded e (inr is) = inr (sym (ap (λ r. as_other (as_shown (as_printed r))) is))
+
+-- ---- tasks of replies
+
+pub listed_task : (x : Replied) (p : Printed) (quiet : Bool) → x ≡ replied.List p → as_task (Ok (task.List p quiet)) ≡ as_reply (Ok (reply_of x))
+listed_task x p quiet is = sym (ap (λ y. as_reply (Ok (reply_of y))) is)
+
+pub planned_task : (x : Replied) (p : Plan) (jobs : Option NonZeroU64) (messages : List Bool) (quiet : Bool) → x ≡ replied.Plan p jobs messages → as_task (Ok (task.Run p jobs messages quiet)) ≡ as_reply (Ok (reply_of x))
+planned_task x p jobs messages quiet is = sym (ap (λ y. as_reply (Ok (reply_of y))) is)
+
+-- ---- what is asked of the justfile in a place
+
+pub command_as : (k j : Kind) → k ≡ j → (q : LocatedRequest) (before after : Moment) (kept keeps : List (List ℕ)) (r : Result Other Error) → PerformsCommand j q before after kept keeps r → PerformsCommand k q before after kept keeps r
+command_as k j is q before after kept keeps r performs = subst (λ x. PerformsCommand x q before after kept keeps r) (sym is) performs
+
+module _ (q : LocatedRequest) (before after : Moment) (kept keeps : List (List ℕ)) where
+  -- the justfiles are tried
+  module _ (is : kind_of q.config.subcommand ≡ kind.Run) where
+    abbrev Tried : List Act → Option World → Result Reply Error → Type 0
+    Tried acts world x = Tries before.world acts world q x
+
+    abbrev BeginsTrying : List Act → Option World → Type 0
+    BeginsTrying acts world = BeginsTries before.world acts world q
+
+    abbrev AsksHere : List Act → Option World → Result Asked Error → Type 0
+    AsksHere acts world x = AsksAt before.world acts world q x
+
+    abbrev BeginsHere : List Act → Option World → Type 0
+    BeginsHere acts world = BeginsAsks before.world acts world q
+
+    tried_so : (acts : List Act) (world : Option World) (x : Result Reply Error) → Tried acts world x → AsksHere acts world (as_reply x)
+    tried_so acts world x tries = subst (λ k. AsksBy k before.world acts world q (as_reply x)) (sym is) (x, tries, refl)
+
+    or_tried : (acts : List Act) (e : Error) → OrMemory (λ x. Tried acts after.world (Err x)) e → OrMemory (λ x. AsksHere acts after.world (Err x)) e
+    or_tried acts e (inl wants) = inl wants
+    or_tried acts e (inr tries) = inr (tried_so acts after.world (Err e) tries)
+
+    begun_so : (acts : List Act) → BeginsTrying acts after.world → BeginsHere acts after.world
+    begun_so acts begins = subst (λ k. BeginsBy k before.world acts after.world q) (sym is) begins
+
+    pub reply_asked : (x : Reply) (a : Asked) → as_reply (Ok x) ≡ Ok a → PerformsTries q before after kept keeps (Ok x) → PerformsAsked q before after kept keeps (Ok a)
+    reply_asked x a same tries = performs_as Tried AsksHere BeginsTrying BeginsHere before after kept keeps x a tries (λ acts so. subst (λ r. AsksHere acts after.world r) same (tried_so acts after.world (Ok x) so)) begun_so
+
+    pub reply_lost : (e : Error) → PerformsTries q before after kept keeps (Err e) → PerformsAsked q before after kept keeps (Err e)
+    reply_lost e tries = performs_lost Tried AsksHere BeginsTrying BeginsHere before after kept keeps e tries (λ acts why. or_tried acts e why) begun_so
+
+  -- a command is asked of it
+  module _ (k : Kind) (is : kind_of q.config.subcommand ≡ k) (placed : is_placed k ≡ true) where
+    abbrev CommandsIt : List Act → Option World → Result Other Error → Type 0
+    CommandsIt acts world x = CommandsAt k before.world acts world q x
+
+    abbrev BeginsIt : List Act → Option World → Type 0
+    BeginsIt acts world = BeginsCommand k before.world acts world q
+
+    abbrev AsksPlaced : List Act → Option World → Result Asked Error → Type 0
+    AsksPlaced acts world x = AsksAt before.world acts world q x
+
+    abbrev BeginsPlaced : List Act → Option World → Type 0
+    BeginsPlaced acts world = BeginsAsks before.world acts world q
+
+    by_kind : (j : Kind) → is_placed j ≡ true → (acts : List Act) (world : Option World) (x : Result Other Error) → CommandsAt j before.world acts world q x → AsksBy j before.world acts world q (as_other x)
+    by_kind kind.Format p acts world x asks = (x, asks, refl)
+    by_kind kind.Clean p acts world x asks = (x, asks, refl)
+    by_kind kind.Evaluate p acts world x asks = (x, asks, refl)
+    by_kind kind.Print p acts world x asks = (x, asks, refl)
+    by_kind kind.Run p acts world x asks = absurd (let no : ⊥ = cc in no)
+    by_kind kind.New p acts world x asks = absurd (let no : ⊥ = cc in no)
+    by_kind kind.Respond p acts world x asks = absurd (let no : ⊥ = cc in no)
+    by_kind kind.Later p acts world x asks = absurd (let no : ⊥ = cc in no)
+
+    begins_by_kind : (j : Kind) → is_placed j ≡ true → (acts : List Act) (world : Option World) → BeginsCommand j before.world acts world q → BeginsBy j before.world acts world q
+    begins_by_kind kind.Format p acts world begins = begins
+    begins_by_kind kind.Clean p acts world begins = begins
+    begins_by_kind kind.Evaluate p acts world begins = begins
+    begins_by_kind kind.Print p acts world begins = begins
+    begins_by_kind kind.Run p acts world begins = absurd (let no : ⊥ = cc in no)
+    begins_by_kind kind.New p acts world begins = absurd (let no : ⊥ = cc in no)
+    begins_by_kind kind.Respond p acts world begins = absurd (let no : ⊥ = cc in no)
+    begins_by_kind kind.Later p acts world begins = absurd (let no : ⊥ = cc in no)
+
+    asked_so : (acts : List Act) (x : Result Other Error) → CommandsIt acts after.world x → AsksPlaced acts after.world (as_other x)
+    asked_so acts x asks = subst (λ j. AsksBy j before.world acts after.world q (as_other x)) (sym is) (by_kind k placed acts after.world x asks)
+
+    or_asked : (acts : List Act) (e : Error) → OrMemory (λ x. CommandsIt acts after.world (Err x)) e → OrMemory (λ x. AsksPlaced acts after.world (Err x)) e
+    or_asked acts e (inl wants) = inl wants
+    or_asked acts e (inr asks) = inr (asked_so acts (Err e) asks)
+
+    begun_as : (acts : List Act) → BeginsIt acts after.world → BeginsPlaced acts after.world
+    begun_as acts begins = subst (λ j. BeginsBy j before.world acts after.world q) (sym is) (begins_by_kind k placed acts after.world begins)
+
+    pub command_asked : (x : Other) → PerformsCommand k q before after kept keeps (Ok x) → PerformsAsked q before after kept keeps (Ok (Asked.other x))
+    command_asked x performs = performs_as CommandsIt AsksPlaced BeginsIt BeginsPlaced before after kept keeps x (Asked.other x) performs (λ acts asks. asked_so acts (Ok x) asks) begun_as
+
+    pub command_lost : (e : Error) → PerformsCommand k q before after kept keeps (Err e) → PerformsAsked q before after kept keeps (Err e)
+    command_lost e performs = performs_lost CommandsIt AsksPlaced BeginsIt BeginsPlaced before after kept keeps e performs (λ acts why. or_asked acts e why) begun_as

@@ -3,7 +3,7 @@ use Rattle.std.proofs.Common.{◌≡◌, ℕ, Bool, true, false, List, [], ◌�
 use Rattle.std.specs.Prelude.{if◌then◌else◌, codes, bytes_eq}
 use Rattle.just_lang_types.specs.declared.project.LangError.{LangError}
 use Rattle.just_lang_types.specs.declared.project.LangError.TheVariants as lang
-use Rattle.just_exec_work.specs.declared.error.CommandError.TheVariants as command
+use Rattle.just_exec_work.specs.declared.error.CommandError.TheVariants as command_error
 use Rattle.just_exec.specs.Refusals.{error_of_lang}
 use Rattle.just_exec.specs.declared.error.Error.{Error}
 use Rattle.just_cli_plan.specs.Own.{OrMemory}
@@ -37,6 +37,10 @@ use Rattle.just_cli_texts.specs.Formatted.{Formats}
 use Rattle.just_cli_texts.specs.Laid.{LaidSources, LaidRequest}
 use Rattle.just_cli_texts.specs.ListOptions.{prefix_of}
 use Rattle.just_cli_texts.specs.Prints.{alone, as_printed, dump_text, PrintsOf, Prints}
+use Rattle.just_config.specs.declared.config_error.ConfigError.TheVariants as config_error
+use Rattle.just_config.specs.declared.request.Request.{Request}
+use Rattle.just_config.specs.declared.request.Request.TheVariants as request
+use Rattle.just_cli_texts.specs.Responses.{responded}
 use Rattle.just_cli_texts.specs.Targets.{names_of, error_of_list, error_of_show, UnshownBy, Lists, Shows, Uses}
 use Rattle.just_cli.specs.declared.task.Other.{Other}
 use Rattle.just_cli.specs.declared.task.Other.TheVariants as no_run
@@ -52,8 +56,8 @@ lang_silent _ = refl
 
 plan_error_silent : (p : PlanError) → entries_of (error_of_plan p) ≡ []
 plan_error_silent (plan_error.Lang l) = lang_silent l
-plan_error_silent (plan_error.Command (command.InvalidShebang recipe shebang)) = refl
-plan_error_silent (plan_error.Command command.NoMemory) = refl
+plan_error_silent (plan_error.Command (command_error.InvalidShebang recipe shebang)) = refl
+plan_error_silent (plan_error.Command command_error.NoMemory) = refl
 
 by_lang : (l : LangError) (e : Error) → e ≡ error_of_lang l → entries_of e ≡ []
 by_lang l e is = ap (λ x. entries_of x) is ∙ lang_silent l
@@ -197,6 +201,15 @@ formats_silent c environ source file path e why = or_silent (λ x. (y : Result (
     by_text (Err d) x (l, refuses, not, is_lang) is = let one : x ≡ d = cc in ap (λ z. entries_of z) one ∙ by_lang l d is_lang
     each : (x : Error) → ((y : Result (List ℕ) Error) × Formats c environ source y × ◌≡◌ {A = Result Other Error} (Err x) (anew_or c.check file path source.text y)) → entries_of x ≡ []
     each x k = by_text k.0 x k.1 k.2
+
+-- ---- responses
+
+pub response_silent : (environ : Pairs) (q : Option Request) (e : Error) → OrMemory (λ x. responded environ q ≡ Err x) e → entries_of e ≡ []
+response_silent environ q e why = or_silent (λ x. responded environ q ≡ Err x) e (λ x is. by_request q x is) why
+  where
+    by_request : (q : Option Request) (x : Error) → responded environ q ≡ Err x → entries_of x ≡ []
+    by_request None x is = let one : error.Config config_error.RequestParse ≡ x = cc in ap (λ z. entries_of z) (sym one)
+    by_request (Some (request.EnvironmentVariable name)) x is = absurd (let no : ⊥ = cc in no)
 
 -- ---- names that are missing
 

@@ -90,10 +90,14 @@ abbrev pub as_new : Result (List ℕ) Error → Result Asked Error
 as_new (Ok path) = Ok (Asked.other (no_run.Init path))
 as_new (Err e) = Err e
 
+-- the response to a request
+abbrev pub Responds : ConfigRequest → Result Asked Error → Type 0
+Responds c r = r ≡ as_other (as_shown (as_printed (responded c.environ.pairs (requested (words_of c.config.subcommand)))))
+
 -- a command that reads no justfile: a new justfile, or the response to a request
 abbrev pub AsksAlone : Kind → Option World → ConfigRequest → Result Asked Error → Type 0
 AsksAlone kind.New told c r = (x : Result (List ℕ) Error) × FindsFree told c.config x × (r ≡ as_new x)
-AsksAlone kind.Respond told c r = r ≡ as_other (as_shown (as_printed (responded c.environ.pairs (requested (words_of c.config.subcommand)))))
+AsksAlone kind.Respond told c r = Responds c r
 AsksAlone kind.Run told c r = ⊥
 AsksAlone kind.Format told c r = ⊥
 AsksAlone kind.Clean told c r = ⊥

@@ -67,7 +67,6 @@ fn tell_cleaned<H: Host>(
 }
 
 /// The entries of a cache go, and it is told of.
-#[tactic(auto, using(crate::proofs::CleaningLaws::tidied, crate::proofs::CleaningLaws::untidied, crate::proofs::CleaningLaws::untold))]
 fn tidy<H: Host>(
     alloc: Global,
     host: &mut H,
@@ -88,7 +87,6 @@ fn tidy<H: Host>(
 }
 
 /// Cleans a cache in the place of a run, and tells of it on standard error, unless the words ask for quiet.
-#[tactic(auto, using(crate::proofs::CleaningLaws::is_cleaned, crate::proofs::CleaningLaws::is_uncleaned))]
 pub(crate) fn clean<H: Host>(
     alloc: Global,
     host: H,

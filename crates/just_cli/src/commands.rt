@@ -169,7 +169,6 @@ fn clean_of(alloc: Global, config: &Config, wanted: &Wanted) -> Result<Other, No
     ensures cleans { IfOk result (λ x.
         x ≡ no_run.Clean wanted.now.cache_folder
             (path_if (names_of (words_of config.now.subcommand)))) }
-    ensures found { IfOk result IsCommand }
 {
     let folder = wanted.cache_folder.try_clone()?;
     let names = names_of(alloc, words_of(&config.subcommand))?;
@@ -250,7 +249,8 @@ fn anew(
     old: &str,
     new: Text,
 ) -> Result<Other, Error>
-    ensures { result ≡ anew check file path old.now new }
+    ensures anew { result ≡ anew check file path old.now new }
+    ensures found { IfOk result IsCommand }
 {
     let same = new.as_str() == old;
     if check {
@@ -287,7 +287,10 @@ fn formatted_anew(
     ensures silent { IfErr result (λ e. entries_of e ≡ []) }
 {
     match formatted(alloc, config, environ, source) {
-        Ok(text) => anew(config.check, file, path, source.text.as_str(), text),
+        Ok(text) => match anew(config.check, file, path, source.text.as_str(), text) {
+            Ok(other) => Ok(other),
+            Err(error) => Err(error),
+        },
         Err(error) => {
             drop(path);
             Err(error)

@@ -4,7 +4,9 @@ ghost use Rattle.std.specs.Prelude.{◌≡◌, ◌++◌, true, false, [], List, 
 ghost use Rattle.just_host_record.specs.declared.entry.Entry.{Entry};
 ghost use Rattle.just_cli_plan.specs.Own.{OrMemory};
 ghost use Rattle.just_cli_texts.specs.Kinds.{kind_of, reads_justfile};
-ghost use Rattle.just_cli.specs.Asked.{AsksAlone, as_other, as_reply};
+ghost use Rattle.just_cli_texts.specs.declared.kind.Kind.TheVariants as kind;
+ghost use Rattle.just_cli.specs.Asked.{AsksAlone, Responds, as_other, as_reply};
+ghost use Rattle.just_cli.specs.Faults.{entries_of};
 ghost use Rattle.just_cli.specs.Options.{command_not_built};
 ghost use Rattle.just_cli.specs.Preparing.{AreMisses, EndsWith, reply_of};
 ghost use Rattle.just_cli.specs.Quiet.{AskQuiet};
@@ -18,13 +20,50 @@ use super::init::find_free;
 use super::replied::Replied;
 use super::task::{Other, Task};
 use super::tried::reply_tried;
-use just_cli_texts::{Kind, alone, is_placed, kind_of, reads_justfile, respond, words_of};
+use just_cli_texts::{alone, is_new, is_placed, kind_of, reads_justfile, respond, words_of};
 use just_config::{Arguments, Config, Read};
 use just_host::Host;
 use just_path::Utf8PathBuf;
 use just_path_text::Environ;
 use just_search::Location;
 use std::alloc::Global;
+
+/// The path of a new justfile. The record gains the miss of the path, and the entry of the refused call.
+fn new_alone<H: Host>(
+    alloc: Global,
+    environ: &Environ,
+    config: &Config,
+    host: &mut H,
+) -> Result<Other, Error>
+    ensures grew { (es : List Entry) × ((H.told host.new).entries ≡ (H.told host.old).entries ++ es)
+        × MatchResult result (λ _. AreMisses es) (λ e. EndsWith [] e es) }
+    ensures world { (H.told host.new).world ≡ (H.told host.old).world }
+    ensures asked { IfOk result (λ x. AsksAlone kind.New (H.told host.old).world
+        (record { config = config.now; environ = environ.now }) (as_other (Ok x))) }
+    ensures refused { IfErr result (OrMemory (λ e. AsksAlone kind.New (H.told host.old).world
+        (record { config = config.now; environ = environ.now }) (Err e))) }
+    ensures found { IfOk result IsCommand }
+{
+    match find_free(alloc, host, config) {
+        Ok(path) => Ok(Other::Init(path)),
+        Err(error) => Err(error),
+    }
+}
+
+/// The response to a request.
+fn respond_alone(alloc: Global, environ: &Environ, config: &Config) -> Result<Other, Error>
+    ensures asked { IfOk result (λ x. Responds
+        (record { config = config.now; environ = environ.now }) (as_other (Ok x))) }
+    ensures refused { IfErr result (OrMemory (λ e. Responds
+        (record { config = config.now; environ = environ.now }) (Err e))) }
+    ensures found { IfOk result IsCommand }
+    ensures silent { IfErr result (λ e. entries_of e ≡ []) }
+{
+    match respond(alloc, environ, words_of(&config.subcommand)) {
+        Ok(text) => Ok(Other::Show(alone(text))),
+        Err(error) => Err(error),
+    }
+}
 
 /// What a command asks for that reads no justfile. The record gains the miss of the path of a new justfile, and the entry of the refused call.
 fn asked_alone<H: Host>(
@@ -45,21 +84,12 @@ fn asked_alone<H: Host>(
         (Err e))) }
     ensures found { IfOk result IsCommand }
 {
-    match kind_of(&config.subcommand) {
-        Kind::New => match find_free(alloc, host, config) {
-            Ok(path) => Ok(Other::Init(path)),
-            Err(error) => Err(error),
-        },
-        Kind::Respond => match respond(alloc, environ, words_of(&config.subcommand)) {
-            Ok(text) => Ok(Other::Show(alone(text))),
-            Err(error) => Err(error),
-        },
-        Kind::Run
-        | Kind::Format
-        | Kind::Clean
-        | Kind::Evaluate
-        | Kind::Print
-        | Kind::Later => unreachable!(),
+    if is_new(kind_of(&config.subcommand)) {
+        return new_alone(alloc, environ, config, host);
+    }
+    match respond_alone(alloc, environ, config) {
+        Ok(other) => Ok(other),
+        Err(error) => Err(error),
     }
 }
 

@@ -48,7 +48,6 @@ fn tell_beside<H: Host>(host: &mut H, quiet: bool, told: &Option<Text>) -> Resul
 }
 
 /// Prints a text to standard output, and tells what is told beside it.
-#[tactic(auto, using(crate::proofs::PrintingLaws::printed_both, crate::proofs::PrintingLaws::no_text, crate::proofs::PrintingLaws::no_line))]
 fn print_both<H: Host>(host: &mut H, printed: &Printed, quiet: bool) -> Result<(), Error>
     ensures printed { IfOk result (λ _. (H.told host.new).entries ≡ (H.told host.old).entries
         ++ entry.Printed stream.Out printed.now.text ∷ told_beside quiet printed.now.told) }
@@ -76,7 +75,6 @@ pub(crate) fn done<H: Host>(alloc: Global, host: H) -> Ended<H>
 }
 
 /// Prints what a command prints, in the place of a run.
-#[tactic(auto, using(crate::proofs::PrintingLaws::is_printed, crate::proofs::PrintingLaws::is_unprinted))]
 pub(crate) fn print<H: Host>(alloc: Global, host: H, printed: Printed, quiet: bool) -> Ended<H>
     ensures { IsPrinted printed quiet (H.told host) (H.told result.host) result.result }
 {

@@ -35,6 +35,17 @@ reads_justfile kind.Evaluate = true
 reads_justfile kind.Print = true
 reads_justfile kind.Later = true
 
+-- whether it asks for a new justfile
+abbrev pub is_new : Kind → Bool
+is_new kind.Run = false
+is_new kind.New = true
+is_new kind.Respond = false
+is_new kind.Format = false
+is_new kind.Clean = false
+is_new kind.Evaluate = false
+is_new kind.Print = false
+is_new kind.Later = false
+
 -- whether it asks something of the justfile in its place
 abbrev pub is_placed : Kind → Bool
 is_placed kind.Run = false

@@ -1,7 +1,7 @@
 //! What a command does.
 
 ghost use Rattle.std.specs.Prelude.{◌≡◌};
-ghost use Rattle.just_cli_texts.specs.Kinds.{kind_of, is_placed, reads_justfile, words_of};
+ghost use Rattle.just_cli_texts.specs.Kinds.{is_new, is_placed, kind_of, reads_justfile, words_of};
 
 use just_config::Subcommand;
 use just_path_text::Text;
@@ -63,6 +63,22 @@ pub fn reads_justfile(kind: Kind) -> bool
         | Kind::Evaluate
         | Kind::Print
         | Kind::Later => true,
+    }
+}
+
+/// Whether it asks for a new justfile.
+pub fn is_new(kind: Kind) -> bool
+    ensures { result ≡ is_new kind }
+{
+    match kind {
+        Kind::New => true,
+        Kind::Run
+        | Kind::Respond
+        | Kind::Format
+        | Kind::Clean
+        | Kind::Evaluate
+        | Kind::Print
+        | Kind::Later => false,
     }
 }
 
