@@ -7,6 +7,7 @@ pub mod Asking
 pub mod Calls
 pub mod Chain
 pub mod CleaningLaws
+pub mod CleanPaths
 pub mod Climbing
 pub mod Commanding
 pub mod Ending
@@ -20,12 +21,14 @@ pub mod NewJustfile
 pub mod OneFile
 pub mod OneLocation
 pub mod OneNew
+pub mod OnePairs
 pub mod OneSearch
 pub mod OneTried
 pub mod PlainSearch
 pub mod Planless
 pub mod Prepared
 pub mod PrintingLaws
+pub mod Reading
 pub mod Refusals
 pub mod Replying
 pub mod Requests

@@ -11,55 +11,38 @@ use Rattle.just_search.specs.Fallback.{FallsBack, AreTried}
 use Rattle.just_lang_types.specs.Modules.{settings_of}
 use Rattle.just_exec.specs.Refusals.{error_of_search}
 use Rattle.just_exec.specs.declared.error.Error.{Error}
-use Rattle.just_env.specs.Captures.{Capture, told_behind}
-use Rattle.just_cli_plan.specs.Request.{ProjectRequest, LoadedRequest}
+use Rattle.just_config.specs.declared.config.Config.{Config}
 use Rattle.just_cli_texts.specs.Laid.{LaidRequest}
-use Rattle.just_cli.specs.Replies.{Reply}
-use Rattle.just_cli_plan.proofs.Loading.{own_world}
+use Rattle.just_cli.specs.Replies.{Reply, RepliesLoaded}
 use Rattle.just_cli.specs.Acts.{Act, Behind}
 use Rattle.just_cli_plan.specs.Own.{is_fault, IsOwn}
 use Rattle.just_cli.specs.Options.{is_lacking, lacks}
 use Rattle.just_cli.specs.Words.{ConfigRequest, LocatedRequest}
-use Rattle.just_cli.specs.Request.{FindsProjectAt, PlansLoaded, AnswersAt, at_place}
+use Rattle.just_cli.specs.Request.{FindsProjectAt, RepliesTo, AnswersAt, at_place}
 use Rattle.just_cli.specs.Taken.{TriesFrom}
 use Rattle.just_cli.specs.Whole.{SetsFallback, Lacks, AnswersFirst, IsFound}
 use Rattle.just_cli.proofs.Climbing.{beside_none}
 use Rattle.just_cli.proofs.OneLocation.{falls_one}
 use Rattle.just_cli.proofs.OneSearch.{own_search}
 use Rattle.just_cli.proofs.OneTried.{own_lacking, found_or_refused, none_or_one, one_next, one_error}
-use Rattle.just_cli.proofs.Requests.{project_own, own_refused}
+use Rattle.just_cli.proofs.OnePairs.{own_refused, nil_front, nil_back, modules_still}
+use Rattle.just_cli.proofs.Requests.{project_own}
 use Rattle.just_cli.proofs.Taking.{takes_still}
 use Rattle.just_cli_plan.proofs.Steps.{refused_or_found, same_found}
 
 -- ---- where no act is taken, the world stays
 
-nil_front : (xs ys : List Act) → [] ≡ xs ++ ys → xs ≡ []
-nil_front [] ys is = refl
-nil_front (x ∷ xs) ys is = absurd (let no : ⊥ = cc in no)
-
-nil_back : (xs ys : List Act) → [] ≡ xs ++ ys → ys ≡ []
-nil_back [] ys is = sym is
-nil_back (x ∷ xs) ys is = absurd (let no : ⊥ = cc in no)
-
-project_still : (told after : Option World) (acts : List Act) (q : LocatedRequest) (r : Result ProjectRequest Error) → FindsProjectAt told acts after q r → [] ≡ acts → after ≡ told
+project_still : (told after : Option World) (acts : List Act) (q : LocatedRequest) (r : Result LaidRequest Error) → FindsProjectAt told acts after q r → [] ≡ acts → after ≡ told
 project_still told after acts q r (Behind.refused e p is) none = takes_still told after acts q (Err e) p (sym none)
 project_still told after acts q r (Behind.both j front back between p (empty, world, finds) split) none = world ∙ takes_still told between front q (Ok j) p (nil_front front back (none ∙ split))
 
--- of children none was run
-no_children : (cs : List Capture) → [] ≡ map Act.captured cs → cs ≡ []
-no_children [] is = refl
-no_children (c ∷ cs) is = absurd (let no : ⊥ = cc in no)
-
-plan_still : (told after : Option World) (acts : List Act) (p : ProjectRequest) (r : Result Reply Error) → PlansLoaded told acts after p r → IsOwn r → [] ≡ acts → after ≡ told
-plan_still told after acts p r (Behind.refused e (cs, is, loads, leaves) refuses) own none =
-    own_world {A = LoadedRequest} told after cs (Err e) (own_refused LoadedRequest r e refuses own) leaves ∙ ap (λ (l : List Capture). told_behind told l) (no_children cs (none ∙ is))
-plan_still told after acts p r (Behind.both q front back between (cs, is, loads, leaves) (empty, world, plans) split) own none =
-    world ∙ (own_world {A = LoadedRequest} told between cs (Ok q) tt leaves ∙ ap (λ (l : List Capture). told_behind told l) (no_children cs (sym (nil_front front back (none ∙ split)) ∙ is)))
+reply_still : (c : Config) (told after : Option World) (acts : List Act) (p : LaidRequest) (r : Result Reply Error) → RepliesTo c told acts after p r → IsOwn r → [] ≡ acts → after ≡ told
+reply_still c told after acts p r replies own none = modules_still (RepliesLoaded c p) told after acts p r replies own none
 
 answer_still : (told after : Option World) (acts : List Act) (q : LocatedRequest) (r : Result Reply Error) (fallback : Bool) → AnswersAt told acts after q r fallback → IsOwn r → [] ≡ acts → after ≡ told
 answer_still told after acts q r fallback (AnswersAt.no_project e p is sets) own none = project_still told after acts q (Err e) p none
 answer_still told after acts q r fallback (AnswersAt.of_project p front back between finds plans split sets) own none =
-    plan_still between after back p r plans own (sym (nil_back front back (none ∙ split))) ∙ project_still told between front q (Ok p) finds (sym (nil_front front back (none ∙ split)))
+    reply_still q.config between after back p r plans own (sym (nil_back front back (none ∙ split))) ∙ project_still told between front q (Ok p) finds (sym (nil_front front back (none ∙ split)))
 
 way_on : (lack : Bool) (fallback fb : Bool) (behind : List (Result Location SearchError)) → (lack ≡ false) ⊎ (fallback ≡ false) → fallback ≡ fb → (fb ≡ false → behind ≡ []) → (lack ≡ false) ⊎ (behind ≡ [])
 way_on lack fallback fb behind (inl stays) same alone = inl stays
@@ -83,10 +66,10 @@ module _ (w : World) (c : ConfigRequest) where
   -- a justfile sets fallback or doesn't
   setting_one : (location : Location) (r : Result Reply Error) (f g : Bool) → Here location r f → IsOwn r → SetsFallback (Some w) c location g → f ≡ g
   setting_one location r f g (AnswersAt.no_project e a is none) own (SetsFallback.of_project p b at) =
-      absurd (refused_or_found e p (project_own w [] [] [] [] (Some w) (Some w) (at_place c location) (Err e) (Ok p) a (own_refused ProjectRequest r e is own) b tt refl tt).same)
+      absurd (refused_or_found e p (project_own w [] [] [] [] (Some w) (Some w) (at_place c location) (Err e) (Ok p) a (own_refused LaidRequest r e is own) b tt refl tt).same)
   setting_one location r f g (AnswersAt.no_project e a is none) own (SetsFallback.no_project d b other never) = none ∙ sym never
   setting_one location r f g (AnswersAt.of_project p front back between a plans split is) own (SetsFallback.of_project k b at) =
-      is ∙ (ap (λ (z : ProjectRequest). (settings_of z.justfile).fallback) (same_found p k (project_own w front [] back [] between (Some w) (at_place c location) (Ok p) (Ok k) a tt b tt (sym split) tt).same) ∙ sym at)
+      is ∙ (ap (λ (z : LaidRequest). (settings_of z.laid.justfile).fallback) (same_found p k (project_own w front [] back [] between (Some w) (at_place c location) (Ok p) (Ok k) a tt b tt (sym split) tt).same) ∙ sym at)
   setting_one location r f g (AnswersAt.of_project p front back between a plans split is) own (SetsFallback.no_project d b other never) =
       absurd (refused_or_found d p (sym (project_own w front [] back [] between (Some w) (at_place c location) (Ok p) (Err d) a tt b other (sym split) tt).same))
 

@@ -1,4 +1,5 @@
 -- The lemmas of what commands print.
+pub mod Agreeing
 pub mod DefaultLaws
 pub mod EvaluateLaws
 pub mod FormatLaws

@@ -1,4 +1,5 @@
 -- The definitions of what commands print.
+pub mod Agree
 pub mod Kinds
 pub mod Defaults
 pub mod Evaluated
