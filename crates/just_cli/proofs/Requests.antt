@@ -398,10 +398,10 @@ formats_own w c from j r s (FormatsFile.unread f p is) own (FormatsFile.read tex
     let m = miss_of w j.justfile f p (own_refused LaidRequest r (error_of_search f) is own).0 in absurd (text_or_miss w j.justfile text m.0 q m.2)
 formats_own w c from j r s (FormatsFile.read text x p formats is) own (FormatsFile.unread g q at) other =
     let n = miss_of w j.justfile g q (own_refused LaidRequest s (error_of_search g) at other).0 in absurd (text_or_miss w j.justfile text n.0 p n.2)
-formats_own w c from j r s (FormatsFile.read text x p formats is) own (FormatsFile.read other y q others at) own_too =
-    let same : text ≡ other = text_one w j.justfile text other p q in
-    let anew : x ≡ y = texts.formats c j.environ.pairs (source_at j.justfile other) x y (subst (λ (t : List ℕ). Formats c j.environ.pairs (source_at j.justfile t) x) same formats) others in
-    is ∙ (ap (λ (t : List ℕ). anew_or c.check (is_file from) j.justfile t x) same ∙ (ap (λ z. anew_or c.check (is_file from) j.justfile other z) anew ∙ sym at))
+formats_own w c from j r s (FormatsFile.read text x p formats is) own (FormatsFile.read now y q others at) other =
+    let same : text ≡ now = text_one w j.justfile text now p q in
+    let anew : x ≡ y = texts.formats c j.environ.pairs (source_at j.justfile now) x y (subst (λ (t : List ℕ). Formats c j.environ.pairs (source_at j.justfile t) x) same formats) others in
+    is ∙ (ap (λ (t : List ℕ). anew_or c.check (is_file from) j.justfile t x) same ∙ (ap (λ z. anew_or c.check (is_file from) j.justfile now z) anew ∙ sym at))
 
 -- each of them asks one thing of the justfile in a place
 commands_own : (k : Kind) → GivesOwnStep (CommandsAt k)
