@@ -89,7 +89,7 @@ module _ {B : Type 0} (looks : LoadedRequest → Result B Error → Type 0) wher
     pub modules_one : (w : World) (acts more rest left : List Act) (after later : Option World) (q : LaidRequest) → Ends q → (r s : Result B Error) → WithModules BehindThem (Some w) acts after q r → IsOwn r → WithModules BehindThem (Some w) more later q s → IsOwn s
         → acts ++ rest ≡ more ++ left → AreToldBehind (more ++ left) → Agrees r s rest left after later
     modules_one w acts more rest left after later q ends r s (modules, are, p) own (others, also, o) other all told =
-        let same : modules ≡ others = same_modules (q.laid.justfile ∷ []) are also in
+        let same : modules ≡ others = same_modules (q.laid.justfile ∷ []) modules others are also in
         pairs_one w acts more rest left after later (project_with q others) (ends others also) r s
         (in_row (Some w) after acts (project_with q others) r (subst (λ (l : List Justfile). BehindThem (Some w) acts after (project_with q l) r) same p) own) own (in_row (Some w) later more (project_with q others) s o other) other all told
 

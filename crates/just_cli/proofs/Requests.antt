@@ -296,7 +296,7 @@ modules_in s p (goes_on k assembles checks) = subst (λ (z : ProjectRequest). Ar
 laid_ends : (s : SourcesRequest) (q : LaidRequest) → FindsLaid s (Ok q) → Ends q
 laid_ends s q finds = λ modules are.
     let project : ProjectRequest = project_with q finds.3.0 in
-    subst (λ (l : List Justfile). EndsProject (project_with q l)) (same_modules (q.laid.justfile ∷ []) (modules_in s project finds.3.1) are) (finds_ending s tt project finds.3.1)
+    subst (λ (l : List Justfile). EndsProject (project_with q l)) (same_modules (q.laid.justfile ∷ []) finds.3.0 modules (modules_in s project finds.3.1) are) (finds_ending s tt project finds.3.1)
 
 file_ends : (told : Option World) (j : JustfileRequest) (q : LaidRequest) → FindsProjectOf told j (Ok q) → Ends q
 file_ends told j q (stops e lost is) = absurd (refused_or_found e q (sym is))

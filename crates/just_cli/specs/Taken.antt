@@ -6,6 +6,10 @@ use Rattle.just_config.specs.declared.config.Config.{Config}
 use Rattle.just_search.specs.declared.location.Location.{Location}
 use Rattle.just_exec.specs.declared.error.Error.{Error}
 use Rattle.just_cli_plan.specs.declared.wanted.Wanted.{Wanted}
+use Rattle.just_cli_plan.specs.Request.{LoadedRequest, ScopesRequest}
+use Rattle.just_lang_types.specs.declared.project.Justfile.{Justfile}
+use Rattle.just_lang_types.specs.declared.scope.DotenvOf.{DotenvOf}
+use Rattle.just_lang_types.specs.declared.scope.Scopes.{Scopes}
 use Rattle.just_cli.specs.Acts.{Act}
 use Rattle.just_env.specs.declared.search_error.SearchError.{SearchError}
 use Rattle.just_search.specs.Fallback.{FallsBack}
@@ -29,9 +33,19 @@ TakesWanted config location told acts after (Err e) = (environ : Environ) → Ta
 
 -- ---- the project in a place, as a part of a preparation
 
+-- what is known behind its sources, behind the dotenv pairs of its modules, and behind the values of its variables
+abbrev pub laid_in : Wanted → Environ → LaidJustfile → LaidRequest
+laid_in wanted environ l = record { wanted = wanted; environ = environ; laid = laid_by l }
+
+abbrev pub loaded_in : Wanted → Environ → LaidJustfile → List Justfile → List DotenvOf → LoadedRequest
+loaded_in wanted environ l modules dotenv = record { wanted = wanted; environ = environ; justfile = l.justfile; modules = modules; dotenv = dotenv }
+
+abbrev pub scopes_in : Wanted → LaidJustfile → List Justfile → Scopes → ScopesRequest
+scopes_in wanted l modules scopes = record { wanted = wanted; justfile = l.justfile; modules = modules; scopes = scopes }
+
 -- what is asked of a project, and the project, over an environment
 abbrev pub as_laid : Environ → Result (Wanted × LaidJustfile) Error → Result LaidRequest Error
-as_laid environ (Ok x) = Ok (record { wanted = x.0; environ = environ; laid = laid_by x.1 })
+as_laid environ (Ok x) = Ok (laid_in x.0 environ x.1)
 as_laid environ (Err e) = Err e
 
 abbrev pub PerformsProject : LocatedRequest → Moment → Moment → List (List ℕ) → List (List ℕ) → Result LaidRequest Error → Type 0

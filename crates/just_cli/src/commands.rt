@@ -19,12 +19,11 @@ ghost use Rattle.just_cli_texts.specs.Kinds.{kind_of, is_placed, words_of};
 ghost use Rattle.just_cli_texts.specs.Targets.{names_of};
 ghost use Rattle.just_cli_texts.specs.declared.kind.Kind.TheVariants as kind;
 ghost use Rattle.just_cli_texts.specs.Formatted.{Formats};
-ghost use Rattle.just_cli_texts.specs.Laid.{laid_by};
 ghost use Rattle.just_cli.specs.Commands.{is_file, path_if, anew, anew_or, EvaluatesIt, FormatsFile};
 ghost use Rattle.just_cli.specs.Faults.{entries_of};
 ghost use Rattle.just_cli.specs.declared.task.Other.TheVariants as no_run;
 ghost use Rattle.just_cli.specs.Preparing.{AreMisses, EndsWith};
-ghost use Rattle.just_cli.specs.Taken.{PerformsValues, PerformsCommand};
+ghost use Rattle.just_cli.specs.Taken.{laid_in, loaded_in, PerformsValues, PerformsCommand};
 ghost use Rattle.just_cli.specs.Tasks.{IsCommand};
 ghost use Rattle.just_exec.specs.declared.error.Error.{Error};
 
@@ -84,13 +83,11 @@ fn values_loaded(
     ensures text { IfOk result (λ x. (modules : List Justfile)
         → AreModules (laid.now.justfile ∷ []) modules
         → Then EvaluatesVariables (EvaluatesIt config.now)
-            (record { wanted = wanted.now; environ = environ.now; justfile = laid.now.justfile; modules = modules; dotenv = dotenv.now })
-            (Ok x)) }
+            (loaded_in wanted.now environ.now laid.now modules dotenv.now) (Ok x)) }
     ensures refused { IfErr result (OrMemory (λ e. (modules : List Justfile)
         → AreModules (laid.now.justfile ∷ []) modules
         → Then EvaluatesVariables (EvaluatesIt config.now)
-            (record { wanted = wanted.now; environ = environ.now; justfile = laid.now.justfile; modules = modules; dotenv = dotenv.now })
-            (Err e))) }
+            (loaded_in wanted.now environ.now laid.now modules dotenv.now) (Err e))) }
     ensures found { IfOk result IsCommand }
 {
     let scopes = match scopes_of(alloc, &laid.justfile, dotenv, environ, wanted) {
@@ -114,8 +111,7 @@ fn values_of<H: Host>(
     laid: &LaidJustfile,
 ) -> Result<Other, Error>
     requires { IsEnding laid.now.justfile }
-    ensures values { PerformsValues config.now
-        (record { wanted = wanted.now; environ = environ.now; laid = laid_by laid.now })
+    ensures values { PerformsValues config.now (laid_in wanted.now environ.now laid.now)
         (H.told host.old) (H.told host.new) result }
     ensures found { IfOk result IsCommand }
 {

@@ -1,4 +1,4 @@
-//! What a project answers to words without a command: the listing of a module, or the plan of a run.
+//! What a project answers to words without a command: a listing, or the plan of a run.
 
 ghost use Rattle.std.specs.Prelude.{◌≡◌, ◌∷◌, [], List, Ok, Err, IfOk, IfErr};
 ghost use Rattle.just_lang.specs.Assembled.{IsSoundlyMadeOf};
@@ -6,11 +6,10 @@ ghost use Rattle.just_lang_types.specs.declared.project.Justfile.{Justfile};
 ghost use Rattle.just_lang_types.specs.Modules.{AreModules};
 ghost use Rattle.just_cli_plan.specs.Own.{OrMemory};
 ghost use Rattle.just_cli_plan.specs.Projects.{IsEnding};
-ghost use Rattle.just_cli_texts.specs.Laid.{laid_by};
 ghost use Rattle.just_cli.specs.Preparing.{reply_of, as_asked};
 ghost use Rattle.just_cli_plan.specs.Request.{Outline, PlansKeys};
 ghost use Rattle.just_cli.specs.Replies.{Reply, Replies, RepliesLoaded};
-ghost use Rattle.just_cli.specs.Taken.{PerformsReply};
+ghost use Rattle.just_cli.specs.Taken.{laid_in, scopes_in, loaded_in, PerformsReply};
 
 use super::Error;
 use super::replied::Replied;
@@ -32,11 +31,12 @@ fn planned(
     requires { IsEnding laid.now.justfile }
     ensures plan { IfOk result (λ x. (modules : List Justfile)
         → AreModules (laid.now.justfile ∷ []) modules
-        → (o : Outline) × PlansKeys (record { wanted = wanted.now; justfile = laid.now.justfile; modules = modules; scopes = scopes.now }) (Ok o)
+        → (o : Outline)
+        × PlansKeys (scopes_in wanted.now laid.now modules scopes.now) (Ok o)
         × (reply_of x ≡ Reply.runs o)) }
     ensures refused { IfErr result (OrMemory (λ e. (modules : List Justfile)
         → AreModules (laid.now.justfile ∷ []) modules
-        → PlansKeys (record { wanted = wanted.now; justfile = laid.now.justfile; modules = modules; scopes = scopes.now }) (Err e))) }
+        → PlansKeys (scopes_in wanted.now laid.now modules scopes.now) (Err e))) }
 {
     match plan_of_keys(alloc, &laid.justfile, scopes, wanted) {
         Ok((plan, messages)) => Ok(Replied::Plan(plan, wanted.jobs, messages)),
@@ -58,14 +58,12 @@ fn reply_behind(
     requires sound { IsSoundlyMadeOf environ.now.pairs laid.now.layout laid.now.justfile }
     ensures reply { IfOk result (λ x. (modules : List Justfile)
         → AreModules (laid.now.justfile ∷ []) modules
-        → Replies config.now (record { wanted = wanted.now; environ = environ.now; laid = laid_by laid.now })
-            (record { wanted = wanted.now; justfile = laid.now.justfile; modules = modules; scopes = scopes.now })
-            (Ok (reply_of x))) }
+        → Replies config.now (laid_in wanted.now environ.now laid.now)
+            (scopes_in wanted.now laid.now modules scopes.now) (Ok (reply_of x))) }
     ensures refused { IfErr result (OrMemory (λ e. (modules : List Justfile)
         → AreModules (laid.now.justfile ∷ []) modules
-        → Replies config.now (record { wanted = wanted.now; environ = environ.now; laid = laid_by laid.now })
-            (record { wanted = wanted.now; justfile = laid.now.justfile; modules = modules; scopes = scopes.now })
-            (Err e))) }
+        → Replies config.now (laid_in wanted.now environ.now laid.now)
+            (scopes_in wanted.now laid.now modules scopes.now) (Err e))) }
 {
     let words = wanted.words.as_slice();
     match listed_by_default(alloc, config.default_list, &laid.justfile, words) {
@@ -92,14 +90,12 @@ fn reply_loaded(
     requires sound { IsSoundlyMadeOf environ.now.pairs laid.now.layout laid.now.justfile }
     ensures reply { IfOk result (λ x. (modules : List Justfile)
         → AreModules (laid.now.justfile ∷ []) modules
-        → RepliesLoaded config.now (record { wanted = wanted.now; environ = environ.now; laid = laid_by laid.now })
-            (record { wanted = wanted.now; environ = environ.now; justfile = laid.now.justfile; modules = modules; dotenv = dotenv.now })
-            (Ok (reply_of x))) }
+        → RepliesLoaded config.now (laid_in wanted.now environ.now laid.now)
+            (loaded_in wanted.now environ.now laid.now modules dotenv.now) (Ok (reply_of x))) }
     ensures refused { IfErr result (OrMemory (λ e. (modules : List Justfile)
         → AreModules (laid.now.justfile ∷ []) modules
-        → RepliesLoaded config.now (record { wanted = wanted.now; environ = environ.now; laid = laid_by laid.now })
-            (record { wanted = wanted.now; environ = environ.now; justfile = laid.now.justfile; modules = modules; dotenv = dotenv.now })
-            (Err e))) }
+        → RepliesLoaded config.now (laid_in wanted.now environ.now laid.now)
+            (loaded_in wanted.now environ.now laid.now modules dotenv.now) (Err e))) }
 {
     let scopes = match scopes_of(alloc, &laid.justfile, dotenv, environ, wanted) {
         Ok(scopes) => scopes,
@@ -111,8 +107,8 @@ fn reply_loaded(
     }
 }
 
-/// The reply of a project. The record gains the entries of children that are run for its dotenv pairs, the misses of files that aren't there, and the entry of the
-/// refused call.
+/// The reply of a project. The record gains the entries of children that are run for its dotenv
+/// pairs, the misses of files that aren't there, and the entry of the refused call.
 pub(crate) fn reply_of<H: Host>(
     alloc: Global,
     host: &mut H,
@@ -123,8 +119,7 @@ pub(crate) fn reply_of<H: Host>(
 ) -> Result<Replied, Error>
     requires ending { IsEnding laid.now.justfile }
     requires sound { IsSoundlyMadeOf environ.now.pairs laid.now.layout laid.now.justfile }
-    ensures { PerformsReply config.now
-        (record { wanted = wanted.now; environ = environ.now; laid = laid_by laid.now })
+    ensures { PerformsReply config.now (laid_in wanted.now environ.now laid.now)
         (H.told host.old) (H.told host.new) (as_asked result) }
 {
     let pairs = match load_pairs(alloc, host, &laid.justfile, environ, wanted) {

@@ -50,7 +50,7 @@ module _ (agree : PrintersAgree) where
   parts_one environ l p q h g =
       let layout : p.layout ≡ q.layout = h.layout ∙ sym g.layout in
       let root : p.root ≡ q.root = h.root ∙ sym g.root in
-      let modules : p.modules ≡ q.modules = same_modules (l.justfile ∷ []) h.modules g.modules in
+      let modules : p.modules ≡ q.modules = same_modules (l.justfile ∷ []) p.modules q.modules h.modules g.modules in
       let tree : p.tree ≡ q.tree = agree.trees (meant environ) l.wins l.layout l.justfile p.tree q.tree h.tree g.tree in
       let recipes : p.recipes ≡ q.recipes = h.recipes ∙ (ap (λ (ms : List Justfile). told_each l.wins l.layout.files l.layout.modules ms) modules ∙ sym g.recipes) in
       ap (λ x. let z : Parts = record { layout = x; modules = p.modules; root = p.root; tree = p.tree; recipes = p.recipes } in z) layout
