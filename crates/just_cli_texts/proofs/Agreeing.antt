@@ -95,7 +95,7 @@ module _ (agree : PrintersAgree) where
 -- ---- values
 
 -- a list has one last, and one front
-ends_one : (xs ys : List (List ℕ)) (x y : List ℕ) → xs ++ x ∷ [] ≡ ys ++ y ∷ [] → (xs ≡ ys) × (x ≡ y)
+pub ends_one : (xs ys : List (List ℕ)) (x y : List ℕ) → xs ++ x ∷ [] ≡ ys ++ y ∷ [] → (xs ≡ ys) × (x ≡ y)
 ends_one [] [] x y is = (refl, cc)
 ends_one [] (b ∷ []) x y is = absurd (let no : ⊥ = cc in no)
 ends_one [] (b ∷ (d ∷ ys)) x y is = absurd (let no : ⊥ = cc in no)
