@@ -16,7 +16,6 @@ use Rattle.just_exec.specs.Refusals.{error_of_search}
 use Rattle.just_exec.specs.declared.error.Error.{Error}
 use Rattle.just_cli_plan.specs.declared.wanted.Wanted.{Wanted}
 use Rattle.just_cli_plan.specs.Own.{OrMemory, is_uncaptured}
-use Rattle.just_cli_plan.proofs.Listed.{modules_listed}
 use Rattle.just_lang_types.specs.declared.project.Justfile.{Justfile}
 use Rattle.just_lang_types.specs.declared.scope.DotenvOf.{DotenvOf}
 use Rattle.just_lang_types.specs.Modules.{AreModules, settings_of}
@@ -29,7 +28,7 @@ use Rattle.just_exec.specs.declared.error.Error.TheVariants as error
 use Rattle.just_cli_plan.specs.Pairs.{LoadsPairs, BeginsLoading, Runs, Leaves, ErrorLeaves, entries_of as entries_in}
 use Rattle.just_cli.specs.Faults.{entries_of}
 use Rattle.just_cli_plan.specs.Request.{SourcesRequest, LoadedRequest, FindsProject}
-use Rattle.just_cli_texts.specs.Laid.{LaidSources, LaidRequest, project_with, FindsLaid}
+use Rattle.just_cli_texts.specs.Laid.{LaidSources, LaidRequest, FindsLaid}
 use Rattle.just_cli.specs.Acts.{Act, AreActs, Looks, folders_in, captures_in, Behind, BeginsBehind}
 use Rattle.just_cli.specs.Preparing.{AreMisses, EndsWith, Answers, Performs}
 use Rattle.just_cli.specs.Replies.{Reply}
@@ -41,7 +40,7 @@ use Rattle.just_cli.specs.Tasks.{BeginsDecides}
 use Rattle.just_cli.proofs.Altering.{altered_same, quiet_rest}
 use Rattle.just_cli.proofs.Prepared.{left_nothing, performs_as, performs_lost, performs_looking, performs_then, performs_behind}
 use Rattle.just_cli_plan.specs.Steps.{stops, goes_on}
-use Rattle.just_cli.specs.Words.{WordsRequest, ReadRequest, ArgumentsRequest, FolderRequest, ConfigRequest, LocatedRequest, JustfileRequest, ReadsWords, Configures, FindsLocation, BeginsIn}
+use Rattle.just_cli.specs.Words.{WordsRequest, ReadRequest, ArgumentsRequest, FolderRequest, ConfigRequest, LocatedRequest, JustfileRequest, ReadsWords, Configures, BeginsIn}
 
 -- ---- what is known
 

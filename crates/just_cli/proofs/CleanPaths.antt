@@ -1,12 +1,11 @@
 -- The path of the recipes whose entries go is one.
-use Rattle.std.proofs.Common.{◌≡◌, ◌&&◌, ℕ, Bool, true, false, List, [], ◌∷◌, Option, Some, None, refl, sym, ◌∙◌, ap, subst}
+use Rattle.std.proofs.Common.{◌≡◌, ◌&&◌, ℕ, Bool, true, false, List, [], ◌∷◌, Option, Some, None, refl, sym, ◌∙◌, subst}
 use Rattle.std.specs.Prelude.{if◌then◌else◌, unwrap_or, All}
 use Rattle.std.specs.List.{list_all}
 use Rattle.std.proofs.lemmas.List.Elements.{All-nil, All-cons}
 use Rattle.just_lang_read.specs.Characters.{begins_name, in_name}
 use Rattle.just_lang_types.specs.Names.{IsName}
-use Rattle.just_config.specs.ModulePaths.{is_name, all_names, names_only, components_of, module_path}
-use Rattle.just_cache_clean.specs.EntryTexts.{IsPath}
+use Rattle.just_config.specs.ModulePaths.{is_name, all_names, names_only, components_of}
 use Rattle.just_cli_texts.specs.Targets.{names_of}
 use Rattle.just_cli.specs.declared.task.Other.{Other}
 use Rattle.just_cli.specs.declared.task.Other.TheVariants as no_run

@@ -54,7 +54,7 @@ use Rattle.just_cli.specs.Request.{FindsProjectAt, Tries, BeginsProject, BeginsT
 use Rattle.just_cli.specs.Taken.{TakesWanted, PerformsProject, PerformsCommand, PerformsTries}
 use Rattle.just_cli.specs.Tasks.{as_task, PerformsAsked}
 use Rattle.just_cli.specs.Words.{ConfigRequest, LocatedRequest, JustfileRequest, TakesFile, BeginsFile, BeginsIn}
-use Rattle.just_cli.proofs.Prepared.{left_nothing, performs_refusal, performs_answer, performs_lost, performs_looking, performs_then, performs_behind}
+use Rattle.just_cli.proofs.Prepared.{left_nothing, performs_as, performs_refusal, performs_answer, performs_lost, performs_looking, performs_then, performs_behind}
 
 -- ---- what is asked of a project
 
@@ -169,7 +169,7 @@ module _ (c : Config) (environ : Pairs) (s : Source) (file : Bool) (path : List 
 module _ (told : Option World) (c : Config) (from : Origin) (j : JustfileRequest) where
   pub unread : (e : Error) → OrMemory (λ x. (f : SearchError) × ReadsText told j.justfile (Err f) × (x ≡ error_of_search f)) e → OrMemory (λ x. FormatsFile told c from j (Err x)) e
   unread e (inl wants) = inl wants
-  unread e (inr lost) = inr (FormatsFile.unread lost.0 lost.1 (ap (λ (x : Error) : Result Other Error. Err x) lost.2))
+  unread e (inr lost) = inr (FormatsFile.unread lost.0 lost.1 (ap (λ (x : Error). let into : Result Other Error = Err x in into) lost.2))
 
   module _ (sources : List Source) (read : (text : List ℕ) × ReadsText told j.justfile (Ok text) × (sources ≡ source_at j.justfile text ∷ [])) (s : Source) (alone : sources ≡ s ∷ []) (file : Bool) (is_one : file ≡ is_file from) where
     -- that it is made anew, and what is done then

@@ -199,6 +199,7 @@ formats_silent c environ source file path e why = or_silent (λ x. (y : Result (
     by_text : (y : Result (List ℕ) Error) (x : Error) → Formats c environ source y → ◌≡◌ {A = Result Other Error} (Err x) (anew_or c.check file path source.text y) → entries_of x ≡ []
     by_text (Ok text) x formats is = anew_silent c.check file (bytes_eq text source.text) path text x is
     by_text (Err d) x (l, refuses, not, is_lang) is = let one : x ≡ d = cc in ap (λ z. entries_of z) one ∙ by_lang l d is_lang
+
     each : (x : Error) → ((y : Result (List ℕ) Error) × Formats c environ source y × ◌≡◌ {A = Result Other Error} (Err x) (anew_or c.check file path source.text y)) → entries_of x ≡ []
     each x k = by_text k.0 x k.1 k.2
 

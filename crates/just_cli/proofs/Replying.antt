@@ -1,5 +1,5 @@
 -- The reply of a project, from what its steps answered.
-use Rattle.std.proofs.Common.{◌≡◌, inl, inr, ℕ, List, [], ◌∷◌, Some, None, Result, Ok, Err, refl, sym, ap, subst}
+use Rattle.std.proofs.Common.{◌≡◌, inl, inr, ℕ, List, [], ◌∷◌, Some, None, Ok, Err, refl, sym, ap}
 use Rattle.just_lang_types.specs.declared.project.Justfile.{Justfile}
 use Rattle.just_lang_types.specs.declared.scope.Scopes.{Scopes}
 use Rattle.just_lang_types.specs.declared.scope.DotenvOf.{DotenvOf}

@@ -18,7 +18,7 @@ use Rattle.just_cli_plan.specs.Own.{is_fault, IsOwn}
 use Rattle.just_env.specs.declared.search_error.SearchError.{SearchError}
 use Rattle.just_search.specs.declared.search_result.Search.{Search}
 use Rattle.just_search.specs.Files.{parent_of}
-use Rattle.just_cli.specs.Acts.{Act, AreToldBehind, Step, Looks, Behind}
+use Rattle.just_cli.specs.Acts.{Act, AreToldBehind, Looks, Behind}
 use Rattle.just_cli.proofs.Acting.{Agrees, Agree, GivesOwnStep, looks_own, looks_agree, behind_agree, agrees_as, agrees_refusal, in_two, told_later, behind_own}
 use Rattle.just_cli.proofs.OneFile.{materializes_one}
 use Rattle.just_cli.specs.Faults.{CallGives, FaultFits, io_error, folder_error}
@@ -270,9 +270,9 @@ finds_laid s (Ok a) (Ok b) p m q n =
     let wins : a.laid.wins ≡ b.laid.wins = one_wins b.laid.layout a.laid.wins b.laid.wins (subst (λ (l : Layout). AreWins l a.laid.wins) layout h.wins_are) g.wins_are in
     let justfile : a.laid.justfile ≡ b.laid.justfile = soundly_one s.environ.pairs b.laid.layout a.laid.justfile b.laid.justfile (subst (λ (l : Layout). IsSoundlyMadeOf s.environ.pairs l a.laid.justfile) layout h.made) g.made in
     let laid : a.laid ≡ b.laid =
-        ap (λ x. let z : LaidSources = record { layout = x; wins = a.laid.wins; justfile = a.laid.justfile } in z) layout
-        ∙ (ap (λ x. let z : LaidSources = record { layout = b.laid.layout; wins = x; justfile = a.laid.justfile } in z) wins
-        ∙ ap (λ x. let z : LaidSources = record { layout = b.laid.layout; wins = b.laid.wins; justfile = x } in z) justfile) in
+    ap (λ x. let z : LaidSources = record { layout = x; wins = a.laid.wins; justfile = a.laid.justfile } in z) layout
+    ∙ (ap (λ x. let z : LaidSources = record { layout = b.laid.layout; wins = x; justfile = a.laid.justfile } in z) wins
+    ∙ ap (λ x. let z : LaidSources = record { layout = b.laid.layout; wins = b.laid.wins; justfile = x } in z) justfile) in
     ap (λ x. Ok x)
     (ap (λ x. let z : LaidRequest = record { wanted = x; environ = a.environ; laid = a.laid } in z) (p.0 ∙ sym q.0)
     ∙ (ap (λ x. let z : LaidRequest = record { wanted = b.wanted; environ = x; laid = a.laid } in z) (p.1 ∙ sym q.1)
@@ -393,7 +393,7 @@ formats_own w c from j r s (FormatsFile.unread f p is) own (FormatsFile.unread g
     let m = miss_of w j.justfile f p (own_refused LaidRequest r (error_of_search f) is own).0 in
     let n = miss_of w j.justfile g q (own_refused LaidRequest s (error_of_search g) at other).0 in
     let same : f ≡ g = m.1 ∙ (ap (λ z. search_error.Load j.justfile (fault.Missed z)) (miss_one w j.justfile m.0 n.0 m.2 n.2) ∙ sym n.1) in
-    is ∙ (ap (λ (z : SearchError) : Result Other Error. Err (error_of_search z)) same ∙ sym at)
+    is ∙ (ap (λ (z : SearchError). let into : Result Other Error = Err (error_of_search z) in into) same ∙ sym at)
 formats_own w c from j r s (FormatsFile.unread f p is) own (FormatsFile.read text y q formats at) other =
     let m = miss_of w j.justfile f p (own_refused LaidRequest r (error_of_search f) is own).0 in absurd (text_or_miss w j.justfile text m.0 q m.2)
 formats_own w c from j r s (FormatsFile.read text x p formats is) own (FormatsFile.unread g q at) other =

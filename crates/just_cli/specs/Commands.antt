@@ -2,8 +2,6 @@
 use Rattle.std.specs.Prelude.{ℕ, ◌≡◌, Bool, true, false, if◌then◌else◌, List, [], ◌∷◌, Option, Some, None, Result, Ok, Err, bytes_eq}
 use Rattle.just_host_record.specs.World.{World}
 use Rattle.just_lang_types.specs.declared.recipe.Modulepath.{Modulepath}
-use Rattle.just_config_words.specs.declared.subcommand.Subcommand.{Subcommand}
-use Rattle.just_config_words.specs.declared.subcommand.Subcommand.TheVariants as command
 use Rattle.just_config.specs.declared.config.Config.{Config}
 use Rattle.just_env.specs.declared.search_error.SearchError.{SearchError}
 use Rattle.just_search.specs.declared.location.Origin.{Origin}
@@ -26,7 +24,7 @@ use Rattle.just_cli_texts.specs.Prints.{alone, as_printed, Prints}
 use Rattle.just_cli_texts.specs.Targets.{names_of}
 use Rattle.just_cli.specs.declared.task.Other.{Other}
 use Rattle.just_cli.specs.declared.task.Other.TheVariants as no_run
-use Rattle.just_cli.specs.Acts.{Act, Step, Begun, NoAct, Looks, Behind, BeginsBehind}
+use Rattle.just_cli.specs.Acts.{Step, Begun, NoAct, Looks, Behind, BeginsBehind}
 use Rattle.just_cli.specs.Request.{FindsProjectAt, WithModules, LoadsPairs, BeginsProject, BeginsAt}
 use Rattle.just_cli.specs.Words.{LocatedRequest, JustfileRequest, TakesFile, BeginsFile}
 

@@ -1,5 +1,5 @@
 -- What the preparation of a run leaves in its host's record, makes of a told world, and answers.
-use Rattle.std.specs.Prelude.{ℕ, ◌≡◌, ◌++◌, Bool, true, false, List, [], Option, option_map, Result, Ok, Err}
+use Rattle.std.specs.Prelude.{ℕ, ◌≡◌, ◌++◌, true, false, List, [], Option, option_map, Result, Ok, Err}
 use Rattle.std.specs.List.{list_any, AllByRecursion}
 use Rattle.std.specs.Int.NonZero.{non_zero_u64_get}
 use Rattle.just_host_record.specs.declared.entry.Entry.{Entry}

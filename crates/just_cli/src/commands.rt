@@ -28,13 +28,11 @@ ghost use Rattle.just_cli.specs.Tasks.{IsCommand};
 ghost use Rattle.just_exec.specs.declared.error.Error.{Error};
 
 use super::Error;
-use super::task::Other;
 use super::place::project_at;
 use super::taken::take;
+use super::task::Other;
 use just_cli_plan::{Wanted, load_pairs, scopes_of};
-use just_cli_texts::{
-    Kind, LaidJustfile, alone, evaluate, formatted, names_of, prints, words_of,
-};
+use just_cli_texts::{Kind, LaidJustfile, alone, evaluate, formatted, names_of, prints, words_of};
 use just_config::Config;
 use just_host::Host;
 use just_lang_types::{DotenvOf, Modulepath, Source};
@@ -83,18 +81,24 @@ fn values_loaded(
     ensures text { IfOk result (λ x. (modules : List Justfile)
         → AreModules (laid.now.justfile ∷ []) modules
         → Then EvaluatesVariables (EvaluatesIt config.now)
-            (loaded_in wanted.now environ.now laid.now modules dotenv.now) (Ok x)) }
+        (loaded_in wanted.now environ.now laid.now modules dotenv.now) (Ok x)) }
     ensures refused { IfErr result (OrMemory (λ e. (modules : List Justfile)
         → AreModules (laid.now.justfile ∷ []) modules
         → Then EvaluatesVariables (EvaluatesIt config.now)
-            (loaded_in wanted.now environ.now laid.now modules dotenv.now) (Err e))) }
+        (loaded_in wanted.now environ.now laid.now modules dotenv.now) (Err e))) }
     ensures found { IfOk result IsCommand }
 {
     let scopes = match scopes_of(alloc, &laid.justfile, dotenv, environ, wanted) {
         Ok(scopes) => scopes,
         Err(error) => return Err(error),
     };
-    match evaluate(alloc, config, &laid.justfile, &scopes, wanted.words.as_slice()) {
+    match evaluate(
+        alloc,
+        config,
+        &laid.justfile,
+        &scopes,
+        wanted.words.as_slice(),
+    ) {
         Ok(text) => Ok(Other::Show(alone(text))),
         Err(error) => Err(error),
     }
@@ -164,7 +168,7 @@ fn path_if(names: Seq<Text>) -> Option<Modulepath>
 fn clean_of(alloc: Global, config: &Config, wanted: &Wanted) -> Result<Other, NoMemory>
     ensures cleans { IfOk result (λ x.
         x ≡ no_run.Clean wanted.now.cache_folder
-            (path_if (names_of (words_of config.now.subcommand)))) }
+        (path_if (names_of (words_of config.now.subcommand)))) }
 {
     let folder = wanted.cache_folder.try_clone()?;
     let names = names_of(alloc, words_of(&config.subcommand))?;
@@ -204,11 +208,7 @@ fn is_file(origin: &Origin) -> bool
 }
 
 /// The source of a file. The record gains the entry of the refused call.
-fn read_source<H: Host>(
-    alloc: Global,
-    host: &mut H,
-    path: Utf8Path<'_>,
-) -> Result<Loader, Error>
+fn read_source<H: Host>(alloc: Global, host: &mut H, path: Utf8Path<'_>) -> Result<Loader, Error>
     ensures grew { (es : List Entry) × ((H.told host.new).entries ≡ (H.told host.old).entries ++ es)
         × MatchResult result (λ _. AreMisses es) (λ e. EndsWith [] e es) }
     ensures world { (H.told host.new).world ≡ (H.told host.old).world }
@@ -238,13 +238,7 @@ fn only(sources: &[Source]) -> &Source
 }
 
 /// What is done with the new text of a file, beside the old one.
-fn anew(
-    check: bool,
-    file: bool,
-    path: Utf8PathBuf,
-    old: &str,
-    new: Text,
-) -> Result<Other, Error>
+fn anew(check: bool, file: bool, path: Utf8PathBuf, old: &str, new: Text) -> Result<Other, Error>
     ensures anew { result ≡ anew check file path old.now new }
     ensures found { IfOk result IsCommand }
 {
@@ -346,7 +340,15 @@ fn format_at<H: Host>(
         Ok(taken) => taken,
         Err(error) => return Err(error),
     };
-    let made_anew = format_file(alloc, host, environ, config, &location.origin, &wanted, path);
+    let made_anew = format_file(
+        alloc,
+        host,
+        environ,
+        config,
+        &location.origin,
+        &wanted,
+        path,
+    );
     drop(wanted);
     made_anew
 }

@@ -59,11 +59,11 @@ fn reply_behind(
     ensures reply { IfOk result (λ x. (modules : List Justfile)
         → AreModules (laid.now.justfile ∷ []) modules
         → Replies config.now (laid_in wanted.now environ.now laid.now)
-            (scopes_in wanted.now laid.now modules scopes.now) (Ok (reply_of x))) }
+        (scopes_in wanted.now laid.now modules scopes.now) (Ok (reply_of x))) }
     ensures refused { IfErr result (OrMemory (λ e. (modules : List Justfile)
         → AreModules (laid.now.justfile ∷ []) modules
         → Replies config.now (laid_in wanted.now environ.now laid.now)
-            (scopes_in wanted.now laid.now modules scopes.now) (Err e))) }
+        (scopes_in wanted.now laid.now modules scopes.now) (Err e))) }
 {
     let words = wanted.words.as_slice();
     match listed_by_default(alloc, config.default_list, &laid.justfile, words) {
@@ -91,11 +91,11 @@ fn reply_loaded(
     ensures reply { IfOk result (λ x. (modules : List Justfile)
         → AreModules (laid.now.justfile ∷ []) modules
         → RepliesLoaded config.now (laid_in wanted.now environ.now laid.now)
-            (loaded_in wanted.now environ.now laid.now modules dotenv.now) (Ok (reply_of x))) }
+        (loaded_in wanted.now environ.now laid.now modules dotenv.now) (Ok (reply_of x))) }
     ensures refused { IfErr result (OrMemory (λ e. (modules : List Justfile)
         → AreModules (laid.now.justfile ∷ []) modules
         → RepliesLoaded config.now (laid_in wanted.now environ.now laid.now)
-            (loaded_in wanted.now environ.now laid.now modules dotenv.now) (Err e))) }
+        (loaded_in wanted.now environ.now laid.now modules dotenv.now) (Err e))) }
 {
     let scopes = match scopes_of(alloc, &laid.justfile, dotenv, environ, wanted) {
         Ok(scopes) => scopes,

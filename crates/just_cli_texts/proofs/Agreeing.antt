@@ -1,19 +1,15 @@
 -- What commands print of a project is one thing, where each text of its parts is.
-use Rattle.std.proofs.Common.{◌≡◌, ◌++◌, ℕ, Bool, true, false, List, [], ◌∷◌, Option, Some, None, Result, Ok, Err, refl, sym, ◌∙◌, ap, subst, chars}
-use Rattle.std.specs.Prelude.{codes}
+use Rattle.std.proofs.Common.{◌≡◌, ◌++◌, ℕ, List, [], ◌∷◌, Option, Some, None, Result, Ok, Err, refl, sym, ◌∙◌, ap, subst, chars}
 use Rattle.just_lang_types.specs.declared.project.Justfile.{Justfile}
 use Rattle.just_lang_types.specs.declared.project.LangError.{LangError}
 use Rattle.just_lang_types.specs.declared.project.LangError.TheVariants as lang
 use Rattle.just_lang_types.specs.declared.scope.Scopes.{Scopes}
 use Rattle.just_lang_types.specs.declared.source.Source.{Source}
-use Rattle.just_lang_types.specs.Modules.{AreModules}
 use Rattle.just_lang_types.specs.Trees.{IsTree, RefusesSource, compile_error, kind_of, position_of}
 use Rattle.just_lang_types.proofs.Laws.{one_tree}
 use Rattle.just_lang_types.proofs.Nesting.{same_modules}
-use Rattle.just_lang_layout.specs.declared.layout.Layout.{Layout}
 use Rattle.just_lang_layout.specs.Paths.{Pairs}
 use Rattle.just_lang_rulebook.specs.Meant.{meant}
-use Rattle.just_lang_spots.specs.Standing.{Wins}
 use Rattle.just_lang_syntax.specs.declared.ast.AstItem.{AstItem}
 use Rattle.just_lang_syntax.specs.declared.error.Fault.{Fault}
 use Rattle.just_lang_syntax.proofs.Laws.{one_refusal, found_or_refused}
@@ -22,12 +18,10 @@ use Rattle.just_config_words.specs.declared.subcommand.Subcommand.TheVariants as
 use Rattle.just_config.specs.declared.config.Config.{Config}
 use Rattle.just_exec.specs.Refusals.{error_of_lang}
 use Rattle.just_exec.specs.declared.error.Error.{Error}
-use Rattle.just_print_lists.specs.declared.listed.ListedModule.{ListedModule}
 use Rattle.just_print_lists.specs.declared.variable.EvaluateFormat.{EvaluateFormat}
 use Rattle.just_print_lists.specs.Summaries.{joined_line}
 use Rattle.just_print_commands.specs.Projects.{Parts}
-use Rattle.just_print_tree.specs.Branches.{IsTreeOf}
-use Rattle.just_print_tree.specs.Told.{ToldRecipe, told_each}
+use Rattle.just_print_tree.specs.Told.{told_each}
 use Rattle.just_cli_texts.specs.declared.printed.Printed.{Printed}
 use Rattle.just_cli_texts.specs.Agree.{PrintersAgree, TextsAgree}
 use Rattle.just_cli_texts.specs.Defaults.{ListsLaid}
@@ -35,7 +29,7 @@ use Rattle.just_cli_texts.specs.Evaluated.{evaluated_module, text_in, EvaluatesN
 use Rattle.just_cli_texts.specs.Formatted.{format_text, Formats}
 use Rattle.just_cli_texts.specs.Laid.{LaidSources, ArePartsOf}
 use Rattle.just_cli_texts.specs.Prints.{as_printed, no_recipes, IsSummed, PrintsOf, Prints}
-use Rattle.just_cli_texts.specs.Targets.{names_of, Lists, Shows, Uses}
+use Rattle.just_cli_texts.specs.Targets.{names_of, Lists}
 
 one_found : {A : Type 0} (x y : A) → ◌≡◌ {A = Result A Error} (Ok x) (Ok y) → x ≡ y
 one_found x y is = cc
@@ -77,7 +71,7 @@ module _ (agree : PrintersAgree) where
   prints_of_one c p (Some (command.Groups ws)) x y h g = h ∙ sym g
   prints_of_one c p (Some (command.List ws)) x y h g = listed_one c p (names_of ws) x y h g
   prints_of_one c p (Some (command.Show ws)) x y (a, h, is) (b, g, at) = is ∙ (ap (λ z. as_printed z) (agree.shows c p (names_of ws) a b h g) ∙ sym at)
-  prints_of_one c p (Some (command.Summary ws)) x y (a, h, is) (b, g, at) = is ∙ (ap (λ (z : Printed) : Result Printed Error. Ok z) (summed_one c p a b h g) ∙ sym at)
+  prints_of_one c p (Some (command.Summary ws)) x y (a, h, is) (b, g, at) = is ∙ (ap (λ (z : Printed). let into : Result Printed Error = Ok z in into) (summed_one c p a b h g) ∙ sym at)
   prints_of_one c p (Some (command.Usage ws)) x y (a, h, is) (b, g, at) = is ∙ (ap (λ z. as_printed z) (agree.uses p (names_of ws) a b h g) ∙ sym at)
   prints_of_one c p (Some (command.Variables ws)) x y h g = h ∙ sym g
   prints_of_one c p (Some (command.Choose ws)) x y h g = absurd h
@@ -123,7 +117,7 @@ module _ (f : EvaluateFormat) (modules : List Justfile) (scopes : Scopes) (root 
   evaluates_one x y (EvaluatesNames.lost front last e split gone is) (EvaluatesNames.whole none at) = absurd (no_end front last (sym none ∙ split))
   evaluates_one x y (EvaluatesNames.lost front last e split gone is) (EvaluatesNames.lost zs z d cut lost at) =
       let k = ends_one front zs last z (sym split ∙ cut) in
-      is ∙ (ap (λ (w : Error) : Result (List ℕ) Error. Err w) (one_error e d (lead_one front zs (Err e) (Err d) k.0 gone lost)) ∙ sym at)
+      is ∙ (ap (λ (w : Error). let into : Result (List ℕ) Error = Err w in into) (one_error e d (lead_one front zs (Err e) (Err d) k.0 gone lost)) ∙ sym at)
   evaluates_one x y (EvaluatesNames.lost front last e split gone is) (EvaluatesNames.named zs z j cut leads at) =
       let k = ends_one front zs last z (sym split ∙ cut) in
       absurd (let both : ◌≡◌ {A = Result Justfile Error} (Err e) (Ok j) = lead_one front zs (Err e) (Ok j) k.0 gone leads in let no : ⊥ = cc in no)

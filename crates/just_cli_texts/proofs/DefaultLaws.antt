@@ -11,7 +11,6 @@ use Rattle.just_config.specs.declared.config.Config.{Config}
 use Rattle.just_config.specs.ModulePaths.{module_path}
 use Rattle.just_print_commands.specs.Projects.{Parts}
 use Rattle.just_exec.specs.declared.error.Error.{Error}
-use Rattle.just_cli_plan.specs.Own.{OrMemory}
 use Rattle.just_cli_plan.specs.Pairs.{Answers}
 use Rattle.just_cli_texts.specs.declared.printed.Printed.{Printed}
 use Rattle.just_cli_texts.specs.Defaults.{is_listed, names_if, listed_by_default, ListsLaid}

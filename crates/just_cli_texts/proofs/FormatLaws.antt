@@ -1,5 +1,5 @@
 -- A source that has no tree.
-use Rattle.std.proofs.Common.{◌≡◌, ◌≢◌, ◌⊎◌, inl, inr, Ok, Err, refl}
+use Rattle.std.proofs.Common.{◌≡◌, ◌≢◌, ◌⊎◌, inl, inr, Err, refl}
 use Rattle.just_lang_types.specs.declared.project.LangError.{LangError}
 use Rattle.just_lang_types.specs.declared.project.LangError.TheVariants as lang
 use Rattle.just_lang_types.specs.declared.source.Source.{Source}
@@ -8,7 +8,6 @@ use Rattle.just_lang_layout.specs.Paths.{Pairs}
 use Rattle.just_config.specs.declared.config.Config.{Config}
 use Rattle.just_exec.specs.Refusals.{error_of_lang}
 use Rattle.just_exec.specs.declared.error.Error.{Error}
-use Rattle.just_exec.specs.declared.error.Error.TheVariants as error
 use Rattle.just_cli_plan.specs.Own.{OrMemory}
 use Rattle.just_cli_texts.specs.Formatted.{Formats}
 

@@ -102,6 +102,6 @@ module _ (o u : ListOptions) (prefix : o.prefix.now ≡ u.prefix.now) (style : o
   pub listing_one : o.heading.now ≡ u.heading.now → o.groups.now ≡ u.groups.now → (m : ListedModule) (s t : List ℕ) → IsListing o m s → IsListing u m t → s ≡ t
   listing_one heading groups m s t (body, a, is) (other, b, at) =
       let parts : pieces o o.groups.now o.prefix.now m ≡ pieces u u.groups.now u.prefix.now m =
-          ap (λ (gs : List (List ℕ)). pieces o gs o.prefix.now m) groups ∙ (ap (λ (p : List ℕ). pieces o u.groups.now p m) prefix ∙ pieces_same u.groups.now u.prefix.now m) in
+      ap (λ (gs : List (List ℕ)). pieces o gs o.prefix.now m) groups ∙ (ap (λ (p : List ℕ). pieces o u.groups.now p m) prefix ∙ pieces_same u.groups.now u.prefix.now m) in
       let same : body ≡ other = written_by u (pieces o o.groups.now o.prefix.now m) body (written_same (pieces o o.groups.now o.prefix.now m) body a) (pieces u u.groups.now u.prefix.now m) other b parts in
       is ∙ (ap (λ (h : List ℕ). h ++ body) heading ∙ (ap (λ (l : List ℕ). u.heading.now ++ l) same ∙ sym at))

@@ -1,5 +1,5 @@
 -- What listings show of a project is one thing.
-use Rattle.std.proofs.Common.{◌≡◌, ℕ, Bool, List, [], ◌∷◌, ◌++◌, map, Option, refl, sym, ap, ◌∙◌, subst}
+use Rattle.std.proofs.Common.{◌≡◌, ℕ, List, [], ◌∷◌, ◌++◌, map, Option, refl, sym, ap, ◌∙◌, subst}
 use Rattle.just_lang_syntax.specs.declared.ast.StringLiteral.{StringLiteral}
 use Rattle.just_lang_types.specs.declared.project.Justfile.{Justfile}
 use Rattle.just_lang_types.specs.Modules.{modules_of}
@@ -23,7 +23,6 @@ rolled l k e = sym (roll-out-ListedModule l) ∙ (ap (λ (f : ListedModule-F Lis
 
 same_branch : (b c : Branch) → b.laid ≡ c.laid → b.justfile ≡ c.justfile → b.listed ≡ c.listed → b ≡ c
 same_branch b c laid justfile listed = rw (laid, justfile, listed)
-
 
 -- of lists whose fronts belong to justfiles that are the same the fronts are the same
 fronts_one : (xs us ys vs : List Branch) → map (λ (b : Branch). b.justfile) xs ≡ map (λ (b : Branch). b.justfile) us → xs ++ ys ≡ us ++ vs → (xs ≡ us) × (ys ≡ vs)
@@ -72,7 +71,7 @@ module _ (text_of : StringLiteral → Option (List ℕ)) (wins : Wins) (files : 
       let behind : map (λ (x : Branch). x.justfile) more ≡ map (λ (x : Branch). x.justfile) left = cc in
       let inside : map (λ (x : Branch). x.justfile) within ≡ map (λ (x : Branch). x.justfile) others = sym is.justfiles ∙ (ap (λ (j : Justfile). modules_of j) justfile ∙ at.justfiles) in
       let both = listed_by rest (within ++ more) a last (others ++ left) d tails
-          (mapped_both within more ∙ (ap (λ (l : List Justfile). l ++ map (λ (x : Branch). x.justfile) more) inside ∙ (ap (λ (l : List Justfile). map (λ (x : Branch). x.justfile) others ++ l) behind ∙ sym (mapped_both others left)))) in
+      (mapped_both within more ∙ (ap (λ (l : List Justfile). l ++ map (λ (x : Branch). x.justfile) more) inside ∙ (ap (λ (l : List Justfile). map (λ (x : Branch). x.justfile) others ++ l) behind ∙ sym (mapped_both others left)))) in
       let parts = fronts_one within others more left inside both in
       ap (λ (x : Branch). x ∷ more) (branch_one b c within others is at laid justfile parts.0) ∙ ap (λ (l : List Branch). c ∷ l) parts.1
 

@@ -1,5 +1,5 @@
 -- Each text of a project's parts is one thing.
-use Rattle.std.proofs.Common.{◌≡◌, ◌++◌, ℕ, Bool, List, [], ◌∷◌, Option, Some, None, Result, Ok, Err, refl, sym, ◌∙◌, ap, subst}
+use Rattle.std.proofs.Common.{◌≡◌, ◌++◌, ℕ, List, [], ◌∷◌, Option, Some, None, Result, Ok, Err, sym, ◌∙◌, ap, subst}
 use Rattle.std.specs.Prelude.{◌≢◌, codes}
 use Rattle.just_lang_types.specs.declared.project.Justfile.{Justfile}
 use Rattle.just_lang_types.specs.declared.project.LangError.{LangError}
@@ -22,10 +22,9 @@ use Rattle.just_print_commands.specs.declared.error.ListTextError.TheVariants as
 use Rattle.just_print_commands.specs.Places.{listed_at}
 use Rattle.just_print_commands.specs.Projects.{Parts}
 use Rattle.just_print_commands.specs.Refusals.{IsUnshown, IsUnlisted}
-use Rattle.just_print_commands.specs.Texts.{inner_of, named_of, IsListedAt, IsListOf, IsLineAt, IsFound, IsShownOf, IsUsageOf, alias_text, written_text}
+use Rattle.just_print_commands.specs.Texts.{inner_of, named_of, IsListedAt, IsFound, alias_text, written_text}
 use Rattle.just_cli_texts.specs.Agree.{PrintersAgree, TextsAgree}
-use Rattle.just_cli_texts.specs.ListOptions.{AreOptionsOf}
-use Rattle.just_cli_texts.specs.Targets.{error_of_list, error_of_show, UnlistedBy, UnshownBy, Lists, Shows, Uses}
+use Rattle.just_cli_texts.specs.Targets.{error_of_list, error_of_show, UnshownBy, Lists, Shows, Uses}
 use Rattle.just_cli_texts.proofs.Agreeing.{ends_one, texts_agree}
 use Rattle.just_cli_texts.proofs.OneListing.{listing_one, paths_one}
 use Rattle.just_cli_texts.proofs.OneTree.{tree_one}

@@ -16,7 +16,7 @@ use Rattle.just_exec.specs.declared.error.Error.{Error}
 use Rattle.just_exec.specs.declared.error.Error.TheVariants as error
 use Rattle.just_cli_plan.specs.Own.{OrMemory}
 use Rattle.just_cli_texts.specs.ListOptions.{AreOptionsOf}
-use Rattle.just_cli_texts.specs.Targets.{error_of_list, error_of_show, UnlistedBy, UnshownBy, Lists}
+use Rattle.just_cli_texts.specs.Targets.{error_of_list, error_of_show, UnshownBy, Lists}
 
 -- an error of a project is want of memory or isn't
 lang_known : (e : LangError) → (error_of_lang e ≡ error.NoMemory) ⊎ ((error_of_lang e ≢ error.NoMemory) × (e ≢ lang.NoMemory))
@@ -34,7 +34,7 @@ module _ (c : Config) (p : Parts) (o : ListOptions) (names : List (List ℕ)) (a
   unlisted_by x why (inr known) = inr (o, are, record { why = x; unlisted = why; error_is = refl; known = known })
 
   known_list : (x : ListTextError) → (error_of_list x ≡ error.NoMemory) ⊎ (error_of_list x ≢ error.NoMemory)
-  known_list (list_error.Path e) = elim (lang_known e) [ | inl wants ↦ inl wants | inr known ↦ inr known.0 ]
+  known_list (list_error.Path e) = elim (lang_known e) [ inl wants ↦ inl wants | inr known ↦ inr known.0 ]
   known_list (list_error.UnknownGroup group) = inr (λ is. let no : ⊥ = cc in no)
   known_list list_error.NoMemory = inl refl
 
@@ -46,7 +46,7 @@ module _ (c : Config) (p : Parts) (o : ListOptions) (names : List (List ℕ)) (a
 module _ (p : Parts) (name : List ℕ) (names : List (List ℕ)) where
   known_show : (x : ShowError) → (error_of_show name x ≡ error.NoMemory) ⊎ (error_of_show name x ≢ error.NoMemory)
   known_show show_error.Required = inr (λ is. let no : ⊥ = cc in no)
-  known_show (show_error.Path e) = elim (lang_known e) [ | inl wants ↦ inl wants | inr known ↦ inr known.0 ]
+  known_show (show_error.Path e) = elim (lang_known e) [ inl wants ↦ inl wants | inr known ↦ inr known.0 ]
   known_show show_error.NoMemory = inl refl
 
   unshown_by : (x : ShowError) → IsUnshown p names x → (error_of_show name x ≡ error.NoMemory) ⊎ (error_of_show name x ≢ error.NoMemory) → OrMemory (UnshownBy p name names) (error_of_show name x)

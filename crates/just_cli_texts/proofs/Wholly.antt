@@ -1,5 +1,4 @@
 -- A project has its parts.
-use denote.Ref.{Bor}
 use Rattle.std.proofs.Common.{◌≡◌, ℕ, List, [], ◌∷◌, map, length, refl, sym, ap, ◌∙◌}
 use Rattle.std.specs.List.{enumerate_from}
 use Rattle.std.proofs.lemmas.List.FromFn.{length-enumerate_from}
@@ -22,7 +21,6 @@ use Rattle.just_print_tree.specs.declared.told.Told.{Told}
 use Rattle.just_print_tree.specs.Branches.{HasModulesOf, IsTreeOf}
 use Rattle.just_print_tree.specs.Kept.{tolds}
 use Rattle.just_print_tree.specs.Told.{told_each}
-use Rattle.just_print_commands.specs.Projects.{Parts}
 use Rattle.just_cli_texts.specs.Laid.{laid_by, ArePartsOf}
 
 module _ (environ : Pairs) (layout : Layout) (j : Justfile) (sound : IsSoundlyMadeOf environ layout j) where

@@ -1,5 +1,5 @@
 -- The text of a justfile as `--fmt` writes it.
-use Rattle.std.specs.Prelude.{◌≡◌, ◌≢◌, ℕ, List, map, Result, Ok, Err}
+use Rattle.std.specs.Prelude.{◌≡◌, ◌≢◌, ℕ, List, Result, Ok, Err}
 use Rattle.just_lang_syntax.specs.declared.ast.AstItem.{AstItem}
 use Rattle.just_lang_types.specs.declared.project.LangError.{LangError}
 use Rattle.just_lang_types.specs.declared.project.LangError.TheVariants as lang

@@ -277,11 +277,11 @@ pub fn evaluate(
     ensures text { IfOk result (λ t. (modules : List Justfile)
         → AreModules (justfile.now ∷ []) modules
         → EvaluatesNames (format_of config.now) modules scopes.now justfile.now
-            (names_of_words words.now) (Ok t)) }
+        (names_of_words words.now) (Ok t)) }
     ensures refused { IfErr result (OrMemory (λ e. (modules : List Justfile)
         → AreModules (justfile.now ∷ []) modules
         → EvaluatesNames (format_of config.now) modules scopes.now justfile.now
-            (names_of_words words.now) (Err e))) }
+        (names_of_words words.now) (Err e))) }
 {
     let names = names_of_words(alloc, words)?;
     let modules = all_modules(alloc, justfile)?;

@@ -57,12 +57,7 @@ pub fn reads_justfile(kind: Kind) -> bool
 {
     match kind {
         Kind::New | Kind::Respond => false,
-        Kind::Run
-        | Kind::Format
-        | Kind::Clean
-        | Kind::Evaluate
-        | Kind::Print
-        | Kind::Later => true,
+        Kind::Run | Kind::Format | Kind::Clean | Kind::Evaluate | Kind::Print | Kind::Later => true,
     }
 }
 

@@ -45,10 +45,7 @@ fn groups_of(
 }
 
 /// The names of the root's variables.
-fn variables_of(
-    alloc: Global,
-    project: Project<'_, '_, '_, '_, '_, '_>,
-) -> Result<Text, NoMemory>
+fn variables_of(alloc: Global, project: Project<'_, '_, '_, '_, '_, '_>) -> Result<Text, NoMemory>
     ensures { IfOk result (λ t. t ≡ variables_text (assignments_of (parts project.entry).root)) }
 {
     let text = variables(alloc, project.root.assignments.as_slice())?;

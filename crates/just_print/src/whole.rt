@@ -17,11 +17,7 @@ pub fn print(alloc: Global, ast: &Ast, indentation: &str) -> Result<String, NoMe
 }
 
 /// The text of items, as `print` prints a tree.
-pub fn print_items(
-    alloc: Global,
-    items: &[AstItem],
-    indentation: &str,
-) -> Result<String, NoMemory>
+pub fn print_items(alloc: Global, items: &[AstItem], indentation: &str) -> Result<String, NoMemory>
     ensures { IfOk result (λ t. string_bytes t ≡ printed items.now indentation.now) }
 {
     let mut out = String::new(alloc);

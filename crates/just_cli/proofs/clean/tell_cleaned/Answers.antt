@@ -1,6 +1,5 @@
 -- The line is told; or it isn't.
-use Rattle.std.proofs.Common.{inl, refl, sym, append-nil}
-use Rattle.just_cli.proofs.CleaningLaws.{told_of, loud_or_quiet, no_line}
+use Rattle.just_cli.proofs.CleaningLaws.{told_of, no_line}
 use Rattle.just_cli.proofs.clean.tell_cleaned.Goals as goal
 
 pub returns-in-Err-clause-untold : goal.returns-in-Err-clause-untold

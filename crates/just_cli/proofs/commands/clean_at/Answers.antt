@@ -16,7 +16,7 @@ pub returns-in-Ok-clean_of-clause-cleans : goal.returns-in-Ok-clean_of-clause-cl
 returns-in-Ok-clean_of-clause-cleans g c =
     let now = g.H.Host.told c.project_at.new.host in
     project_then (Looks (λ told. CleansIt c.args.config.now)) NoAct _ (g.H.Host.told c.args.host.now) _ now now _ _ c.in-Ok.ensures.project _
-    (look_found (CleansIt c.args.config.now) now _ _ (ap (λ (x : Other) : Result Other Error. Ok x) c.in-Ok-clean_of.ensures.cleans))
+    (look_found (CleansIt c.args.config.now) now _ _ (ap (λ (x : Other). let into : Result Other Error = Ok x in into) c.in-Ok-clean_of.ensures.cleans))
 
 pub returns-clause-cleans : goal.returns-clause-cleans
 returns-clause-cleans g c =

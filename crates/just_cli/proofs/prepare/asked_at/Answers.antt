@@ -1,5 +1,5 @@
 -- The justfiles are tried, or a command is asked of the one in the place.
-use Rattle.std.proofs.Common.{refl, sym, ◌∙◌}
+use Rattle.std.proofs.Common.{sym, ◌∙◌}
 use Rattle.just_cli.proofs.Commanding.{runs_then, reply_asked, reply_lost, command_asked, command_lost}
 use Rattle.just_cli.proofs.prepare.asked_at.Goals as goal
 

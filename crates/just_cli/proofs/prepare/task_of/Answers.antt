@@ -1,5 +1,4 @@
 -- Each is the task of its reply.
-use Rattle.std.proofs.Common.{sym, ap}
 use Rattle.just_cli.proofs.Commanding.{listed_task, planned_task}
 use Rattle.just_cli.proofs.prepare.task_of.Goals as goal
 
