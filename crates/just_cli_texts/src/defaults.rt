@@ -49,7 +49,8 @@ pub fn listed_by_default(
     justfile: &Justfile,
     words: &[Text],
 ) -> Result<Option<Seq<Text>>, NoMemory>
-    ensures { IfOk result (λ names. (modules : List Justfile) → AreModules (justfile.now ∷ []) modules
+    ensures { IfOk result (λ names. (modules : List Justfile)
+        → AreModules (justfile.now ∷ []) modules
         → names ≡ listed_by_default given modules justfile.now words.now) }
 {
     let Some(names) = path_of_words(alloc, words)? else {

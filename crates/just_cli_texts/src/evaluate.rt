@@ -252,8 +252,8 @@ fn text_of_names(
     root: &Justfile,
     names: &[Text],
 ) -> Result<Text, Error>
-    ensures text { IfOk result (λ t. EvaluatesNames format (map (λ m. m.now) modules.now) scopes.now
-        root.now names.now (Ok t)) }
+    ensures text { IfOk result (λ t. EvaluatesNames format (map (λ m. m.now) modules.now)
+        scopes.now root.now names.now (Ok t)) }
     ensures refused { IfErr result (OrMemory (λ e. EvaluatesNames format
         (map (λ m. m.now) modules.now) scopes.now root.now names.now (Err e))) }
 {

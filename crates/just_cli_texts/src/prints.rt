@@ -38,7 +38,8 @@ fn groups_of(
     config: &Config,
     project: Project<'_, '_, '_, '_, '_, '_>,
 ) -> Result<Text, NoMemory>
-    ensures { IfOk result (λ t. t ≡ groups_text config.now.unsorted (prefix_of config.now) (parts project.entry).tree) }
+    ensures { IfOk result (λ t. t
+        ≡ groups_text config.now.unsorted (prefix_of config.now) (parts project.entry).tree) }
 {
     let text = groups(alloc, config.unsorted, prefix_of(config), project.tree)?;
     Ok(Text::from(text))
