@@ -23,6 +23,7 @@ fn error_of_listing(refused: ListError) -> ListTextError
 }
 
 /// The listing of the module that names lead to, as `--list` prints it.
+#[tactic(auto, using(crate::proofs::Leading::unlisted_path, crate::proofs::Leading::unlisted_by, crate::proofs::Leading::listed_there, crate::proofs::Leading::listed_so))]
 pub fn list_text(
     alloc: Global,
     project: Project<'_, '_, '_, '_, '_, '_>,

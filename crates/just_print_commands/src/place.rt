@@ -26,6 +26,7 @@ fn listed_within<'l>(inner: &'l [ListedModule], name: &str) -> Option<&'l Listed
 }
 
 /// What listings show of the module that names lead to.
+#[tactic(auto, using(crate::proofs::Finding::listed_here, crate::proofs::Finding::listed_nowhere))]
 pub(crate) fn listed_at<'l>(root: &'l ListedModule, names: &[Text]) -> Option<&'l ListedModule>
     ensures { option_copied result ≡ listed_at names.now root.now }
 {
@@ -68,6 +69,7 @@ fn target_in<'a>(alias: &str, one: &Entry<'a>) -> Option<&'a [Name]>
 }
 
 /// The first of some items that is the alias of that name.
+#[tactic(auto, using(crate::proofs::Finding::target_here, crate::proofs::Finding::target_later))]
 fn target_among<'a>(alias: &str, items: &[Entry<'a>]) -> Option<&'a [Name]>
     ensures { option_copied result ≡ first_of
         (filter_map (target_in alias.now) (entries items.now)) }
@@ -81,6 +83,7 @@ fn target_among<'a>(alias: &str, items: &[Entry<'a>]) -> Option<&'a [Name]>
 }
 
 /// The target of the alias of that name in the module of that path, as its file has it.
+#[tactic(auto, using(crate::proofs::Finding::no_module, crate::proofs::Finding::in_module))]
 pub(crate) fn alias_target_at<'a>(
     alloc: Global,
     layout: &'a Layout,

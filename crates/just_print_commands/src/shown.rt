@@ -45,6 +45,7 @@ fn line_of(alloc: Global, name: &str, target: &[Name]) -> Result<String, NoMemor
 }
 
 /// The line of the alias of that name, unless the module has a recipe of it.
+#[tactic(auto, using(crate::proofs::Finding::own_recipe, crate::proofs::Finding::no_alias, crate::proofs::Finding::an_alias))]
 fn alias_text(
     alloc: Global,
     layout: &Layout,
@@ -63,6 +64,7 @@ fn alias_text(
 }
 
 /// That line in the module that names lead to.
+#[tactic(auto, using(crate::proofs::Leading::line_so))]
 fn line_at(
     alloc: Global,
     project: Project<'_, '_, '_, '_, '_, '_>,
@@ -80,6 +82,7 @@ fn line_at(
 }
 
 /// The recipe that names lead to.
+#[tactic(auto, using(crate::proofs::Leading::unshown_path, crate::proofs::Leading::unshown_module))]
 fn recipe_at<'p>(
     alloc: Global,
     project: Project<'_, '_, 'p, '_, '_, '_>,
@@ -96,6 +99,7 @@ fn recipe_at<'p>(
 }
 
 /// The recipe that names lead to, and the line of the alias that the last of them is, where it is one.
+#[tactic(auto, using(crate::proofs::Leading::unshown_none, crate::proofs::Leading::unshown_front, crate::proofs::Leading::found_so))]
 fn found_at<'p>(
     alloc: Global,
     project: Project<'_, '_, 'p, '_, '_, '_>,
@@ -158,6 +162,7 @@ fn joined(front: String, text: &str) -> Result<String, NoMemory>
 }
 
 /// The recipe that names lead to as its file has it, as `--show` prints it.
+#[tactic(auto, using(crate::proofs::Leading::unshown_memory, crate::proofs::Leading::shown_so))]
 pub fn show_text(
     alloc: Global,
     project: Project<'_, '_, '_, '_, '_, '_>,
@@ -178,6 +183,7 @@ pub fn show_text(
 }
 
 /// How the recipe that names lead to is used, as `--usage` prints it.
+#[tactic(auto, using(crate::proofs::Leading::unshown_memory, crate::proofs::Leading::usage_so))]
 pub fn usage_text(
     alloc: Global,
     project: Project<'_, '_, '_, '_, '_, '_>,

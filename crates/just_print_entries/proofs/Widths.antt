@@ -8,7 +8,8 @@ use Rattle.just_print_lists.specs.declared.listed.ListedRecipe.{ListedRecipe}
 use Rattle.just_print_lists.specs.declared.listed.ListedAlias.{ListedAlias}
 use Rattle.just_print_lists.specs.declared.listed.ListedModule.{ListedModule}
 use Rattle.just_print_lists.specs.Greatest.{greater}
-use Rattle.just_print_entries.specs.Recipes.{wider, widest, widths, recipe_widths, alias_width, module_width}
+use Rattle.just_print_entries.specs.Entries.{width}
+use Rattle.just_print_entries.specs.Recipes.{shown, signature, wider, widest, widths, recipe_widths, alias_width, module_width}
 
 -- taken one by one, they give the greatest of those of at most 50
 one_by_one : (n : ℕ) (ws : List ℕ) → fold wider n ws ≡ fold greater n (filter (λ w. not (nat_lt 50 w)) ws)
@@ -19,6 +20,14 @@ one_by_one n (w ∷ ws) =
       | true ↦ elim (nat_lt n w) as (λ a. fold wider (cond (a && false) w n) ws ≡ fold greater n narrow) [ true ↦ one_by_one n ws | false ↦ one_by_one n ws ]
       | false ↦ elim (nat_lt n w) as (λ a. fold wider (cond (a && true) w n) ws ≡ fold greater (cond a w n) narrow) [ true ↦ one_by_one w ws | false ↦ one_by_one n ws ]
     ]
+
+-- a recipe under its name, and under its other ones
+pub recipe_one : (style : AliasStyle) (n own all : ℕ) (r : ListedRecipe) (parameters : List ℕ) (names : List (List ℕ)) → parameters ≡ r.parameters → own ≡ wider n (width (signature r.name parameters)) → names ≡ shown style r.aliases
+    → all ≡ fold wider own (map (λ name. width (signature name parameters)) names) → all ≡ fold wider n (recipe_widths style r)
+recipe_one style n own all r parameters names f g h e =
+    e ∙ ap (λ (o : ℕ). fold wider o (map (λ name. width (signature name parameters)) names)) g
+    ∙ ap (λ (ps : List ℕ). fold wider (wider n (width (signature r.name ps))) (map (λ name. width (signature name ps)) names)) f
+    ∙ ap (λ (ns : List (List ℕ)). fold wider (wider n (width (signature r.name r.parameters))) (map (λ name. width (signature name r.parameters)) ns)) h
 
 -- one more recipe
 pub recipe_more : (style : AliasStyle) (n : ℕ) (r : ListedRecipe) (rs : List ListedRecipe)

@@ -104,6 +104,7 @@ fn alias_word(is_one: bool) -> &'static str
 }
 
 /// Adds the other names of a recipe in brackets, where there are some.
+#[tactic(auto, using(crate::proofs::Pushed::seen_nil))]
 fn push_alias_note(out: &mut String, names: &[&Text]) -> Result<(), AllocError>
     ensures { IfOk result (λ _. string_bytes out.new ≡ string_bytes out.old ++ alias_note (map (λ n. n.now) names.now)) }
 {
@@ -132,6 +133,7 @@ fn push_notes(out: &mut String, left: bool, doc: &str, names: &[&Text]) -> Resul
 }
 
 /// Adds what stands behind a signature.
+#[tactic(auto, using(crate::proofs::Pushed::seen_nil))]
 fn push_behind(
     out: &mut String,
     margin: Margin<'_>,

@@ -76,6 +76,7 @@ fn two_texts(alloc: Global, first: &str, second: &str) -> Result<Text, AllocErro
 }
 
 /// Adds a module that is listed with what stands in it, and its line.
+#[tactic(auto, using(crate::proofs::Pushed::one_part))]
 fn push_inner<'j>(
     alloc: Global,
     options: &ListOptions<'_>,
@@ -132,6 +133,7 @@ fn margin_of<'f>(options: &ListOptions<'_>, frame: Frame<'f>) -> Margin<'f>
 }
 
 /// Adds the modules that end a group.
+#[tactic(auto, using(crate::proofs::Pushed::one_part))]
 fn push_module_parts<'j>(
     alloc: Global,
     options: &ListOptions<'_>,
@@ -154,6 +156,7 @@ fn push_module_parts<'j>(
 }
 
 /// Adds a group: its line, its recipes, other names and modules.
+#[tactic(auto, using(crate::proofs::Pushed::one_part))]
 fn push_group<'j>(
     alloc: Global,
     options: &ListOptions<'_>,
@@ -291,6 +294,7 @@ fn has_ungrouped(
 }
 
 /// Adds what is in no group, where it is listed.
+#[tactic(auto, using(crate::proofs::Pushed::seen_nil))]
 fn push_ungrouped<'j>(
     alloc: Global,
     options: &ListOptions<'_>,

@@ -108,6 +108,7 @@ fn with_names(
 }
 
 /// The width with a recipe under its names.
+#[tactic(auto, using(crate::proofs::Widths::recipe_one))]
 fn with_recipe(
     alloc: Global,
     style: AliasStyle,
