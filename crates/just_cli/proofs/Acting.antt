@@ -1,11 +1,16 @@
 -- Steps that take acts: over told worlds and the same acts two that give one answer of their own at most give one such answer, one behind another.
-use Rattle.std.proofs.Common.{◌≡◌, ◌++◌, List, [], ◌∷◌, map, Option, Some, None, MatchOption, Result, Ok, Err, refl, sym, ◌∙◌, ap, subst, append_assoc, append-nil}
+use Rattle.std.proofs.Common.{◌≡◌, ◌++◌, ℕ, false, true≢false, List, [], ◌∷◌, map, Option, Some, None, MatchOption, Result, Ok, Err, refl, sym, ◌∙◌, ap, subst, append_assoc, append-nil}
+use Rattle.std.specs.Prelude.{is_some}
 use Rattle.just_host_record.specs.World.{World}
+use Rattle.just_host_record.specs.declared.entry.HostFault.{HostFault}
+use Rattle.just_lang_types.specs.declared.project.Justfile.{Justfile}
+use Rattle.just_exec_work.specs.declared.run_flags.RunFlags.{RunFlags}
 use Rattle.just_env.specs.Captures.{Capture, AreTold, told_behind}
 use Rattle.just_exec.specs.declared.error.Error.{Error}
-use Rattle.just_cli_plan.specs.Own.{IsOwn}
+use Rattle.just_cli_plan.specs.Own.{uncaptured_by, IsOwn}
 use Rattle.just_cli_plan.proofs.Steps.{GivesOwn, same_refusal, refused_or_found, same_found}
 use Rattle.just_cli.specs.Acts.{Act, AreToldBehind, Step, Looks, Behind}
+use Rattle.just_cli.specs.Request.{acts_of_fault, AreActsOf}
 
 pub own_refusal : {A : Type 0} (r : Result A Error) (e : Error) → r ≡ Err e → IsOwn r → IsOwn {A = A} (Err e)
 own_refusal {A = A} r e is own = subst (λ (z : Result A Error). IsOwn z) is own
@@ -17,6 +22,7 @@ pub told_later : (acts more : List Act) → AreToldBehind (acts ++ more) → Are
 told_later [] more told = told
 told_later (Act.made folder ∷ acts) more told = told_later acts more told
 told_later (Act.captured c ∷ acts) more told = told_later acts more told.1
+told_later (Act.uncaptured program ∷ acts) more told = told_later acts more told
 
 -- and behind the children at the front
 pub told_front : (cs : List Capture) (more : List Act) → AreToldBehind (map Act.captured cs ++ more) → AreTold cs
@@ -42,6 +48,15 @@ common (c ∷ cs) (d ∷ ds) rest left all t u =
     let tails : map Act.captured cs ++ rest ≡ map Act.captured ds ++ left = cc in
     let k = common cs ds rest left tails t.1 u.1 in
     (k.0, k.1, ap (λ (x : Capture). x ∷ (cs ++ k.0)) same ∙ ap (λ (l : List Capture). d ∷ l) k.2, (u.0, k.3))
+
+-- where no error tells that a child couldn't be run to its end, the acts are those of the children that were
+pub no_fault : (cs : List Capture) (program : List ℕ) (o : Option HostFault) → is_some o ≡ false → map Act.captured cs ++ acts_of_fault program o ≡ map Act.captured cs
+no_fault cs program None is = append-nil (map Act.captured cs)
+no_fault cs program (Some io) is = absurd (true≢false is)
+
+pub own_acts : {A : Type 0} (flags : RunFlags) (j : Justfile) (cs : List Capture) (r : Result A Error) (acts : List Act) → AreActsOf flags j cs r acts → IsOwn r → acts ≡ map Act.captured cs
+own_acts flags j cs (Ok x) acts is own = is
+own_acts flags j cs (Err e) acts (program, shells, is) own = is ∙ no_fault cs program (uncaptured_by e) own.2
 
 -- ---- steps
 

@@ -1,5 +1,6 @@
 -- The chain of a request over a host, from what its calls answered.
-use Rattle.std.proofs.Common.{◌≡◌, ◌++◌, ◌∙◌, inl, inr, ℕ, Bool, true, false, true≢false, List, [], ◌∷◌, map, Option, Result, Ok, Err, refl, sym, ap, subst, append_assoc, append-nil}
+use Rattle.std.proofs.Common.{◌≡◌, ◌++◌, ◌∙◌, inl, inr, ℕ, Bool, true, false, true≢false, List, [], ◌∷◌, map, Option, Some, None, Result, Ok, Err, refl, sym, ap, subst, append_assoc, append-nil}
+use Rattle.std.specs.Prelude.{is_some}
 use Rattle.just_path_text.specs.declared.environ.Environ.{Environ}
 use Rattle.just_host_record.specs.World.{World, Moment}
 use Rattle.just_host_record.specs.declared.entry.Entry.{Entry}
@@ -15,30 +16,33 @@ use Rattle.just_search.specs.declared.location.Location.{Location}
 use Rattle.just_exec.specs.Refusals.{error_of_search}
 use Rattle.just_exec.specs.declared.error.Error.{Error}
 use Rattle.just_cli_plan.specs.declared.wanted.Wanted.{Wanted}
-use Rattle.just_cli_plan.specs.Own.{OrMemory, is_uncaptured}
+use Rattle.just_cli_plan.specs.Own.{OrMemory, uncaptured_by, is_uncaptured}
 use Rattle.just_lang_types.specs.declared.project.Justfile.{Justfile}
 use Rattle.just_lang_types.specs.declared.scope.DotenvOf.{DotenvOf}
 use Rattle.just_lang_types.specs.Modules.{AreModules, settings_of}
 use Rattle.std.specs.List.{list_any}
 use Rattle.just_host_record.specs.Record.{is_failed}
+use Rattle.just_host_record.specs.declared.entry.HostFault.{HostFault}
 use Rattle.just_host_record.specs.declared.entry.HostFault.TheVariants as fault
 use Rattle.just_env.specs.declared.env_error.OutputError.TheVariants as output
 use Rattle.just_env.specs.Captures.{Capture, told_behind, AreAmongMisses}
+use Rattle.just_env.specs.Loads.{IsShellOf}
 use Rattle.just_exec.specs.declared.error.Error.TheVariants as error
 use Rattle.just_cli_plan.specs.Pairs.{LoadsPairs, BeginsLoading, Runs, Leaves, ErrorLeaves, entries_of as entries_in}
 use Rattle.just_cli.specs.Faults.{entries_of}
 use Rattle.just_cli_plan.specs.Request.{SourcesRequest, LoadedRequest, FindsProject}
 use Rattle.just_cli_texts.specs.Laid.{LaidSources, LaidRequest, FindsLaid}
-use Rattle.just_cli.specs.Acts.{Act, AreActs, Looks, folders_in, captures_in, Behind, BeginsBehind}
-use Rattle.just_cli.specs.Preparing.{AreMisses, EndsWith, Answers, Performs}
+use Rattle.just_cli.specs.Acts.{Act, AreActs, Looks, folders_in, captures_in, uncaptured_in, Behind, BeginsBehind}
+use Rattle.just_cli.specs.Preparing.{AreMisses, EndsWith, IsProgram, Answers, Performs}
 use Rattle.just_cli.specs.Replies.{Reply}
 use Rattle.just_cli.specs.Taken.{TakesWanted, BeginsIt, PerformsProject, PerformsReply}
 use Rattle.just_cli.specs.declared.task.Other.TheVariants as no_run
 use Rattle.just_cli.specs.Asked.{Asked, Decides, Serves, EnvironGiven, FolderGiven, Asks, AsksGlobal, BeginsServes, Begins as BeginsWords}
-use Rattle.just_cli.specs.Request.{FindsProjectOf, FindsProjectAt, WithModules, LoadsPairs as LoadsStep, RepliesTo, AnswersAt, BeginsProject, BeginsAt}
+use Rattle.just_cli.specs.Request.{acts_of_fault, AreActsOf, FindsProjectOf, FindsProjectAt, WithModules, LoadsPairs as LoadsStep, RepliesTo, AnswersAt, BeginsProject, BeginsAt}
 use Rattle.just_cli.specs.Tasks.{BeginsDecides}
+use Rattle.just_cli.proofs.Acting.{no_fault}
 use Rattle.just_cli.proofs.Altering.{altered_same, quiet_rest}
-use Rattle.just_cli.proofs.Prepared.{left_nothing, performs_as, performs_lost, performs_looking, performs_then, performs_behind}
+use Rattle.just_cli.proofs.Prepared.{acts_append, left_nothing, performs_as, performs_lost, performs_looking, performs_then, performs_behind}
 use Rattle.just_cli_plan.specs.Steps.{stops, goes_on}
 use Rattle.just_cli.specs.Words.{WordsRequest, ReadRequest, ArgumentsRequest, FolderRequest, ConfigRequest, LocatedRequest, JustfileRequest, ReadsWords, Configures, BeginsIn}
 
@@ -110,9 +114,31 @@ all_captured : (cs : List Capture) → captures_in (map Act.captured cs) ≡ cs
 all_captured [] = refl
 all_captured (c ∷ cs) = ap (λ (l : List Capture). c ∷ l) (all_captured cs)
 
-no_captures : (cs : List Capture) → map Act.captured cs ≡ [] → cs ≡ []
-no_captures [] is = refl
-no_captures (c ∷ cs) is = absurd (let no : ⊥ = cc in no)
+all_run : (cs : List Capture) → uncaptured_in (map Act.captured cs) ≡ []
+all_run [] = refl
+all_run (c ∷ cs) = all_run cs
+
+-- the same behind which one couldn't be run to its end
+module _ (program : List ℕ) where
+  fault_acts : (cs : List Capture) (o : Option HostFault) (es : List Entry) → AreAmongMisses cs es → AreActs (map Act.captured cs ++ acts_of_fault program o) es
+  fault_acts cs None es are = subst (λ l. AreActs l es) (sym (append-nil (map Act.captured cs))) (children_acts cs es are)
+  fault_acts cs (Some io) es are =
+      subst (λ l. AreActs (map Act.captured cs ++ Act.uncaptured program ∷ []) l) (append-nil es) (acts_append (map Act.captured cs) (Act.uncaptured program ∷ []) es [] (children_acts cs es are) (AreActs.an_act (Act.uncaptured program) [] [] AreActs.none))
+
+  fault_folders : (cs : List Capture) (o : Option HostFault) → folders_in (map Act.captured cs ++ acts_of_fault program o) ≡ []
+  fault_folders [] None = refl
+  fault_folders [] (Some io) = refl
+  fault_folders (c ∷ cs) o = fault_folders cs o
+
+  fault_captured : (cs : List Capture) (o : Option HostFault) → captures_in (map Act.captured cs ++ acts_of_fault program o) ≡ cs
+  fault_captured [] None = refl
+  fault_captured [] (Some io) = refl
+  fault_captured (c ∷ cs) o = ap (λ (l : List Capture). c ∷ l) (fault_captured cs o)
+
+  fault_program : (cs : List Capture) (e : Error) (o : Option HostFault) → uncaptured_by e ≡ o → IsProgram (map Act.captured cs ++ acts_of_fault program o) e program
+  fault_program [] e None is = inl refl
+  fault_program [] e (Some io) is = inr (ap (λ (x : Option HostFault). is_some x) is, refl)
+  fault_program (c ∷ cs) e o is = fault_program cs e o is
 
 -- a refusal that leaves no failure in the record leaves the world
 error_still : (old new : Option World) (path : List ℕ) (e : Error) → ErrorLeaves old new e → list_any is_failed (entries_in path e) ≡ false → new ≡ old
@@ -149,11 +175,11 @@ module _ {B : Type 0} (looks : LoadedRequest → Result B Error → Type 0) (bef
 
   -- the pairs, as a part of a preparation
   abbrev LoadsIt : List Act → Option World → Result (List DotenvOf) Error → Type 0
-  LoadsIt acts world r = (cs : List Capture) × (acts ≡ map Act.captured cs) × LoadsPairs before.world wanted environ j cs r × Leaves before.world cs world r
+  LoadsIt acts world r = (cs : List Capture) × AreActsOf wanted.flags j cs r acts × LoadsPairs before.world wanted environ j cs r × Leaves before.world cs world r
 
   -- that pairs were loaded, or not
   abbrev Loaded : Result (List DotenvOf) Error → Type 0
-  Loaded r = Runs {A = List DotenvOf} (LoadsPairs before.world wanted environ j) (BeginsLoading before.world wanted environ j) before after r
+  Loaded r = Runs {A = List DotenvOf} (LoadsPairs before.world wanted environ j) (BeginsLoading before.world wanted environ j) (IsShellOf wanted.flags j) before after r
 
   -- where no child was run the world is as it was
   same_behind : (cs : List Capture) → cs ≡ [] → told_behind before.world cs ≡ before.world
@@ -164,31 +190,33 @@ module _ {B : Type 0} (looks : LoadedRequest → Result B Error → Type 0) (bef
     acts = map Act.captured cs;
     entries = es;
     grew = grew;
-    leaves = (es, children_acts cs es are, refl);
+    leaves = (es, children_acts cs es are, refl, all_run cs);
     folders = sym (no_folders cs);
     answers = (cs, refl, loads, left);
     begun = (cs, refl, left, begun);
-    still = λ none quiet. left ∙ same_behind cs (no_captures cs none);
+    still = λ none alone quiet. left ∙ same_behind cs (sym (all_captured cs) ∙ alone);
     alters = λ nodes alone quiet. altered_same (folders_in (map Act.captured cs)) nodes before.world after.world (left ∙ same_behind cs (sym (all_captured cs) ∙ alone));
   }
 
-  or_pairs : (cs : List Capture) (e : Error) → OrMemory (λ x. LoadsPairs before.world wanted environ j cs (Err x)) e → ErrorLeaves (told_behind before.world cs) after.world e → OrMemory (λ x. LoadsIt (map Act.captured cs) after.world (Err x)) e
-  or_pairs cs e (inl wants) left = inl wants
-  or_pairs cs e (inr loads) left = inr (cs, refl, loads, left)
+  or_pairs : (cs : List Capture) (program : List ℕ) (e : Error) → IsShellOf wanted.flags j program → OrMemory (λ x. LoadsPairs before.world wanted environ j cs (Err x)) e → ErrorLeaves (told_behind before.world cs) after.world e
+      → OrMemory (λ x. LoadsIt (map Act.captured cs ++ acts_of_fault program (uncaptured_by e)) after.world (Err x)) e
+  or_pairs cs program e shells (inl wants) left = inl wants
+  or_pairs cs program e shells (inr loads) left = inr (cs, (program, shells, refl), loads, left)
 
   pairs_lost : (e : Error) → Loaded (Err e) → Performs LoadsIt Begins before after [] [] (Err e)
-  pairs_lost e (cs, why, (middle, path, (es, are, grew), more), left, begun) = record {
-    acts = map Act.captured cs;
+  pairs_lost e (cs, why, (middle, path, shells, (es, are, grew), more), left, begun) = record {
+    acts = map Act.captured cs ++ acts_of_fault path (uncaptured_by e);
     entries = es ++ entries_in path e;
     grew = more ∙ (ap (λ l. l ++ entries_in path e) grew ∙ append_assoc before.entries es (entries_in path e));
-    leaves = (es, path, children_acts cs es are, refl);
-    folders = sym (no_folders cs);
-    answers = or_pairs cs e why left;
-    begun = λ captured. (cs, refl, captured_still (told_behind before.world cs) after.world e captured left, begun);
-    still = λ none quiet. error_still (told_behind before.world cs) after.world path e left (quiet_rest is_failed es (entries_in path e) quiet) ∙ same_behind cs (no_captures cs none);
+    leaves = (es, path, fault_acts path cs (uncaptured_by e) es are, refl, fault_program path cs e (uncaptured_by e) refl);
+    folders = sym (fault_folders path cs (uncaptured_by e));
+    answers = or_pairs cs path e shells why left;
+    begun = λ captured. (cs, no_fault cs path (uncaptured_by e) captured, captured_still (told_behind before.world cs) after.world e captured left, begun);
+    still = λ none alone quiet.
+        error_still (told_behind before.world cs) after.world path e left (quiet_rest is_failed es (entries_in path e) quiet) ∙ same_behind cs (sym (fault_captured path cs (uncaptured_by e)) ∙ alone);
     alters = λ nodes alone quiet.
-        altered_same (folders_in (map Act.captured cs)) nodes before.world after.world
-        (error_still (told_behind before.world cs) after.world path e left (quiet_rest is_failed es (entries_in path e) quiet) ∙ same_behind cs (sym (all_captured cs) ∙ alone));
+        altered_same (folders_in (map Act.captured cs ++ acts_of_fault path (uncaptured_by e))) nodes before.world after.world
+        (error_still (told_behind before.world cs) after.world path e left (quiet_rest is_failed es (entries_in path e) quiet) ∙ same_behind cs (sym (fault_captured path cs (uncaptured_by e)) ∙ alone));
   }
 
   module _ (modules : List Justfile) (are : AreModules (j ∷ []) modules) where

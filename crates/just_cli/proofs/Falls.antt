@@ -76,7 +76,7 @@ more_within p old new pre mid post grew some = omega (arith, some, ap (λ es. co
 
 -- what an error's call left is counted behind listings and misses
 counted_behind : (p : Entry → Bool) (listings : List Entry) (acts : List Act) (e : Error) (es : List Entry) → EndsActs listings acts e es → ((parent : List ℕ) → 0 < count_by p (entries_in parent e)) → 0 < count_by p es
-counted_behind p listings acts e es (among, parent, are, is) some =
+counted_behind p listings acts e es (among, parent, are, is, program) some =
     omega (arith, some parent, ap (λ xs. count_by p xs) is, sum_by-append (λ x. cond (p x) 1 0) listings (among ++ entries_in parent e), sum_by-append (λ x. cond (p x) 1 0) among (entries_in parent e))
 
 -- a kind of entry that shows where a kind of error is told is counted

@@ -16,7 +16,7 @@ use Rattle.just_cli_plan.proofs.Steps.{GivesOwnOf, refused_or_found, same_found}
 use Rattle.just_cli_texts.specs.Laid.{LaidRequest, project_with}
 use Rattle.just_cli.specs.Acts.{Act, AreToldBehind, Step, Looks, Behind}
 use Rattle.just_cli.specs.Request.{LoadsPairs, WithModules}
-use Rattle.just_cli.proofs.Acting.{Agrees, GivesOwnStep, own_refusal, agrees_as, agrees_refusal, in_two, told_later, told_front, told_world, common}
+use Rattle.just_cli.proofs.Acting.{Agrees, GivesOwnStep, own_refusal, agrees_as, agrees_refusal, in_two, told_later, told_front, told_world, common, own_acts}
 
 -- a refusal is determined whatever it refuses
 pub own_refused : {B : Type 0} (A : Type 0) (r : Result B Error) (e : Error) → r ≡ Err e → IsOwn r → IsOwn {A = A} (Err e)
@@ -49,7 +49,8 @@ module _ {B : Type 0} (looks : LoadedRequest → Result B Error → Type 0) wher
   -- where no act is taken, the world stays
   pairs_still : (told after : Option World) (acts : List Act) (k : ProjectRequest) (r : Result B Error) → BehindThem told acts after k r → IsOwn r → [] ≡ acts → after ≡ told
   pairs_still told after acts k r (Behind.refused e (cs, is, loads, leaves) refuses) own none =
-      own_world {A = LoadedRequest} told after cs (Err e) (own_refused LoadedRequest r e refuses own) leaves ∙ ap (λ (l : List Capture). told_behind told l) (no_children cs (none ∙ is))
+      let owned = own_refused LoadedRequest r e refuses own in
+      own_world {A = LoadedRequest} told after cs (Err e) owned leaves ∙ ap (λ (l : List Capture). told_behind told l) (no_children cs (none ∙ own_acts {A = LoadedRequest} k.wanted.flags k.justfile cs (Err e) acts is owned))
   pairs_still told after acts k r (Behind.both q front back between (cs, is, loads, leaves) (empty, world, gives) split) own none =
       world ∙ (own_world {A = LoadedRequest} told between cs (Ok q) tt leaves ∙ ap (λ (l : List Capture). told_behind told l) (no_children cs (sym (nil_front front back (none ∙ split)) ∙ is)))
 
@@ -62,7 +63,8 @@ module _ {B : Type 0} (looks : LoadedRequest → Result B Error → Type 0) wher
 
   in_row : (told after : Option World) (acts : List Act) (k : ProjectRequest) (r : Result B Error) → BehindThem told acts after k r → IsOwn r → InRow told acts after k r
   in_row told after acts k r (Behind.refused e (cs, is, loads, leaves) refuses) own =
-      (cs, is, stops e loads refuses, own_world {A = LoadedRequest} told after cs (Err e) (own_refused LoadedRequest r e refuses own) leaves)
+      let owned = own_refused LoadedRequest r e refuses own in
+      (cs, own_acts {A = LoadedRequest} k.wanted.flags k.justfile cs (Err e) acts is owned, stops e loads refuses, own_world {A = LoadedRequest} told after cs (Err e) owned leaves)
   in_row told after acts k r (Behind.both q front back between (cs, is, loads, leaves) (nothing, world, gives) split) own =
       (cs, split ∙ (ap (λ l. front ++ l) nothing ∙ (append-nil front ∙ is)), goes_on q loads gives, world ∙ own_world {A = LoadedRequest} told between cs (Ok q) tt leaves)
 

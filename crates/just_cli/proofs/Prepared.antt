@@ -1,5 +1,5 @@
 -- What parts of a preparation answer and leave, from the answers of their calls.
-use Rattle.std.proofs.Common.{◌≡◌, ◌++◌, inl, inr, ℕ, false, List, [], ◌∷◌, Option, Result, Ok, Err, refl, sym, ◌∙◌, ap, subst, append_assoc, append-nil}
+use Rattle.std.proofs.Common.{◌≡◌, ◌++◌, inl, inr, ℕ, false, true≢false, List, [], ◌∷◌, Option, Result, Ok, Err, refl, sym, ◌∙◌, ap, subst, append_assoc, append-nil}
 use Rattle.std.specs.Prelude.{MatchResult}
 use Rattle.std.proofs.lemmas.List.Elements.{Contains-append_left, Contains-append_right}
 use Rattle.just_host_record.specs.World.{World, Moment}
@@ -10,11 +10,11 @@ use Rattle.just_exec.specs.declared.error.Error.{Error}
 use Rattle.just_exec.specs.declared.error.Error.TheVariants as error
 use Rattle.just_cli_plan.specs.Own.{OrMemory, is_uncaptured}
 use Rattle.just_search.specs.Removals.{with_entries}
-use Rattle.just_cli.specs.Acts.{Act, entries_of_act, folders_in, captures_in, AreActs}
+use Rattle.just_cli.specs.Acts.{Act, entries_of_act, folders_in, captures_in, uncaptured_in, AreActs}
 use Rattle.just_cli.specs.Altered.{IsAltered}
 use Rattle.just_cli_plan.specs.Pairs.{entries_of as entries_in}
 use Rattle.just_cli.specs.Faults.{entries_of}
-use Rattle.just_cli.specs.Preparing.{AreMisses, EndsWith, LeavesActs, Leaves, Answers, UnlessUncaptured, Performs, Prepares}
+use Rattle.just_cli.specs.Preparing.{AreMisses, EndsWith, LeavesActs, IsProgram, Leaves, Answers, UnlessUncaptured, Performs, Prepares}
 use Rattle.just_cli.specs.Request.{ArePassed}
 use Rattle.just_cli.proofs.Altering.{altered_same, altered_then, altered_more, quiet_first, quiet_rest}
 
@@ -57,19 +57,41 @@ pub folders_append : (acts more : List Act) → folders_in (acts ++ more) ≡ fo
 folders_append [] more = refl
 folders_append (Act.made folder ∷ acts) more = ap (λ (fs : List (List ℕ)). folder ∷ fs) (folders_append acts more)
 folders_append (Act.captured c ∷ acts) more = folders_append acts more
+folders_append (Act.uncaptured program ∷ acts) more = folders_append acts more
+
+uncaptured_append : (acts more : List Act) → uncaptured_in (acts ++ more) ≡ uncaptured_in acts ++ uncaptured_in more
+uncaptured_append [] more = refl
+uncaptured_append (Act.made folder ∷ acts) more = uncaptured_append acts more
+uncaptured_append (Act.captured c ∷ acts) more = uncaptured_append acts more
+uncaptured_append (Act.uncaptured program ∷ acts) more = ap (λ (ps : List (List ℕ)). program ∷ ps) (uncaptured_append acts more)
+
+-- behind acts each of whose children was run to its end
+uncaptured_behind : (acts more : List Act) (programs : List (List ℕ)) → uncaptured_in acts ≡ [] → uncaptured_in more ≡ programs → uncaptured_in (acts ++ more) ≡ programs
+uncaptured_behind acts more programs none are = uncaptured_append acts more ∙ (ap (λ (ps : List (List ℕ)). ps ++ uncaptured_in more) none ∙ are)
+
+program_behind : (acts more : List Act) (e : Error) (program : List ℕ) → uncaptured_in acts ≡ [] → IsProgram more e program → IsProgram (acts ++ more) e program
+program_behind acts more e program none (inl never) = inl (uncaptured_behind acts more [] none never)
+program_behind acts more e program none (inr (is, one)) = inr (is, uncaptured_behind acts more (program ∷ []) none one)
+
+-- where the error tells of no child, each was
+no_program : (acts : List Act) (e : Error) (program : List ℕ) → is_uncaptured e ≡ false → IsProgram acts e program → uncaptured_in acts ≡ []
+no_program acts e program captured (inl none) = none
+no_program acts e program captured (inr (is, one)) = absurd (true≢false (sym is ∙ captured))
 
 -- where no child was run for both, none was for either
 no_first : (acts more : List Act) → captures_in (acts ++ more) ≡ [] → captures_in acts ≡ []
 no_first [] more none = refl
 no_first (Act.made folder ∷ acts) more none = no_first acts more none
 no_first (Act.captured c ∷ acts) more none = absurd (let no : ⊥ = cc in no)
+no_first (Act.uncaptured program ∷ acts) more none = no_first acts more none
 
 no_rest : (acts more : List Act) → captures_in (acts ++ more) ≡ [] → captures_in more ≡ []
 no_rest [] more none = none
 no_rest (Act.made folder ∷ acts) more none = no_rest acts more none
 no_rest (Act.captured c ∷ acts) more none = absurd (let no : ⊥ = cc in no)
+no_rest (Act.uncaptured program ∷ acts) more none = no_rest acts more none
 
-acts_append : (acts more : List Act) (es fs : List Entry) → AreActs acts es → AreActs more fs → AreActs (acts ++ more) (es ++ fs)
+pub acts_append : (acts more : List Act) (es fs : List Entry) → AreActs acts es → AreActs more fs → AreActs (acts ++ more) (es ++ fs)
 acts_append acts more es fs AreActs.none b = b
 acts_append acts more es fs (AreActs.a_miss path m some rest a) b = AreActs.a_miss path m (some ++ more) (rest ++ fs) (acts_append some more rest fs a b)
 acts_append acts more es fs (AreActs.an_act x some rest a) b =
@@ -82,8 +104,8 @@ misses_acts (entry.Missed path m ∷ es) h = AreActs.a_miss path m [] es (misses
 misses_acts (_ ∷ es) h = absurd (cc)
 
 left_look : {A : Type 0} (r : Result A Error) (es : List Entry) → MatchResult r (λ _. AreMisses es) (λ e. EndsWith [] e es) → Leaves [] [] r es
-left_look (Ok x) es left = (es, misses_acts es left, refl)
-left_look (Err e) es left = (left.0, [], misses_acts left.0 left.1, left.2)
+left_look (Ok x) es left = (es, misses_acts es left, refl, refl)
+left_look (Err e) es left = (left.0, [], misses_acts left.0 left.1, left.2, inl refl)
 
 -- ---- what was begun
 
@@ -112,7 +134,7 @@ module _ {A : Type 0} (gives : List Act → Option World → Result A Error → 
     folders = sym (append-nil kept);
     answers = answers;
     begun = anyhow r (begins [] after.world) begun;
-    still = λ none quiet. world;
+    still = λ none alone quiet. world;
     alters = λ nodes alone quiet. altered_same [] nodes before.world after.world world;
   }
 
@@ -129,18 +151,23 @@ module _ {A : Type 0} (gives : List Act → Option World → Result A Error → 
 
 -- ---- one part behind another
 
-nil_first : (xs ys : List Act) → xs ++ ys ≡ [] → xs ≡ []
+nil_first : (xs ys : List (List ℕ)) → xs ++ ys ≡ [] → xs ≡ []
 nil_first [] ys is = refl
 nil_first (x ∷ xs) ys is = absurd (let no : ⊥ = cc in no)
 
-nil_rest : (xs ys : List Act) → xs ++ ys ≡ [] → ys ≡ []
+nil_rest : (xs ys : List (List ℕ)) → xs ++ ys ≡ [] → ys ≡ []
 nil_rest [] ys is = is
 nil_rest (x ∷ xs) ys is = absurd (let no : ⊥ = cc in no)
 
 leaves_then : {A : Type 0} (r : Result A Error) (acts more : List Act) (es fs : List Entry) → LeavesActs [] acts es → Leaves [] more r fs → Leaves [] (acts ++ more) r (es ++ fs)
-leaves_then (Ok x) acts more es fs (xs, a, is) (ys, b, at) = (xs ++ ys, acts_append acts more xs ys a b, ap (λ l. l ++ fs) is ∙ ap (λ l. xs ++ l) at)
-leaves_then (Err e) acts more es fs (xs, a, is) (ys, parent, b, at) =
-    (xs ++ ys, parent, acts_append acts more xs ys a b, ap (λ l. l ++ fs) is ∙ (ap (λ l. xs ++ l) at ∙ sym (append_assoc xs ys (entries_in parent e))))
+leaves_then (Ok x) acts more es fs (xs, a, is, all) (ys, b, at, others) = (xs ++ ys, acts_append acts more xs ys a b, ap (λ l. l ++ fs) is ∙ ap (λ l. xs ++ l) at, uncaptured_behind acts more [] all others)
+leaves_then (Err e) acts more es fs (xs, a, is, all) (ys, parent, b, at, program) = (
+  xs ++ ys,
+  parent,
+  acts_append acts more xs ys a b,
+  ap (λ l. l ++ fs) is ∙ (ap (λ l. xs ++ l) at ∙ sym (append_assoc xs ys (entries_in parent e))),
+  program_behind acts more e parent all program,
+)
 
 pub performs_then : {A B : Type 0} (first : List Act → Option World → Result A Error → Type 0) (second gives : List Act → Option World → Result B Error → Type 0) (one two begins : BegunBy) (before between after : Moment) (kept keep keeps : List (List ℕ)) (x : A) (r : Result B Error)
     → Performs first one before between kept keep (Ok x) → Performs second two between after keep keeps r
@@ -157,7 +184,9 @@ performs_then first second gives one two begins before between after kept keep k
       folders = q.folders ∙ (ap (λ fs. fs ++ folders_in q.acts) p.folders ∙ (append_assoc kept (folders_in p.acts) (folders_in q.acts) ∙ ap (λ fs. kept ++ fs) (sym all)));
       answers = both p.acts q.acts p.answers q.answers;
       begun = follows r (two q.acts after.world) (begins (p.acts ++ q.acts) after.world) (λ b. more_begun p.acts q.acts p.answers b) q.begun;
-      still = λ none quiet. q.still (nil_rest p.acts q.acts none) (quiet_rest is_failed p.entries q.entries quiet) ∙ p.still (nil_first p.acts q.acts none) (quiet_first is_failed p.entries q.entries quiet);
+      still = λ none alone quiet.
+          q.still (nil_rest (folders_in p.acts) (folders_in q.acts) (sym all ∙ none)) (no_rest p.acts q.acts alone) (quiet_rest is_failed p.entries q.entries quiet)
+          ∙ p.still (nil_first (folders_in p.acts) (folders_in q.acts) (sym all ∙ none)) (no_first p.acts q.acts alone) (quiet_first is_failed p.entries q.entries quiet);
       alters = λ nodes alone quiet.
           subst (λ fs. IsAltered fs nodes before.world after.world) (sym all)
           (altered_then (folders_in p.acts ++ folders_in q.acts) nodes before.world between.world after.world
@@ -178,7 +207,7 @@ performs_looking first gives one begins before between after kept keeps x r p wo
   folders = p.folders;
   answers = more p.acts p.answers;
   begun = anyhow r (begins p.acts after.world) (more_begun p.acts p.begun);
-  still = λ none quiet. world ∙ p.still none (quiet_first is_failed p.entries es quiet);
+  still = λ none alone quiet. world ∙ p.still none alone (quiet_first is_failed p.entries es quiet);
   alters = λ nodes alone quiet. subst (λ w. IsAltered (folders_in p.acts) nodes before.world w) (sym world) (p.alters nodes alone (quiet_first is_failed p.entries es quiet));
 }
 
@@ -207,7 +236,7 @@ performs_instead first gives one begins before after kept keeps e y silent captu
   acts = p.acts;
   entries = p.entries;
   grew = p.grew;
-  leaves = (p.leaves.0, p.leaves.2, p.leaves.3 ∙ (ap (λ xs. p.leaves.0 ++ xs) (silent p.leaves.1) ∙ append-nil p.leaves.0));
+  leaves = (p.leaves.0, p.leaves.2, p.leaves.3 ∙ (ap (λ xs. p.leaves.0 ++ xs) (silent p.leaves.1) ∙ append-nil p.leaves.0), no_program p.acts e p.leaves.1 captured p.leaves.4);
   folders = p.folders;
   answers = more p.acts p.answers;
   begun = up p.acts (p.begun captured);
@@ -222,7 +251,7 @@ performs_short first gives begins before after kept keeps x e is p = record {
   acts = p.acts;
   entries = p.entries;
   grew = p.grew;
-  leaves = (p.leaves.0, [], p.leaves.1, p.leaves.2 ∙ (sym (append-nil p.leaves.0) ∙ ap (λ z. p.leaves.0 ++ entries_in [] z) (sym is)));
+  leaves = (p.leaves.0, [], p.leaves.1, p.leaves.2 ∙ (sym (append-nil p.leaves.0) ∙ ap (λ z. p.leaves.0 ++ entries_in [] z) (sym is)), inl p.leaves.3);
   folders = p.folders;
   answers = inl is;
   begun = λ captured. p.begun;
@@ -281,7 +310,7 @@ module _ {A : Type 0} (global wider : Type 0) (asks more : List Entry → List A
           folders = p.folders;
           answers = answers_over listings p.acts r p.answers;
           begun = follows r (one listings p.acts after.world) (begins listings p.acts after.world) (λ b. over_begun listings p.acts b) p.begun;
-          still = λ none quiet. p.still none quiet ∙ world;
+          still = λ none alone quiet. p.still none alone quiet ∙ world;
           alters = λ nodes alone quiet. subst (λ t. IsAltered (folders_in p.acts) nodes t after.world) world (p.alters nodes alone quiet);
         },
       )

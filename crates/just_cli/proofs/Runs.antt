@@ -1,5 +1,5 @@
 -- A run keeps its promise: from what its steps, its drive, the telling of its error and the removal of its folders ensure.
-use Rattle.std.proofs.Common.{◌≡◌, ◌++◌, inl, inr, ℕ, Bool, true, false, true≢false, List, [], ◌∷◌, Option, Some, None, Result, Ok, Err, IfOk, IfErr, refl, sym, ◌∙◌, ap, subst, append_assoc, append-nil}
+use Rattle.std.proofs.Common.{◌≡◌, ◌++◌, inl, inr, ℕ, Bool, true, false, true≢false, List, [], Option, Some, None, Result, Ok, Err, IfOk, IfErr, refl, sym, ◌∙◌, ap, subst, append_assoc, append-nil}
 use Rattle.std.specs.List.{list_any}
 use Rattle.std.proofs.Math.Logic.{∥∥₁_map}
 use Rattle.std.proofs.lemmas.List.{append_cancel_left}
@@ -69,10 +69,10 @@ made_are : (kept made folders : List (List ℕ)) → kept ≡ [] → made ≡ ke
 made_are kept made folders none is = is ∙ ap (λ (fs : List (List ℕ)). fs ++ folders) none
 
 leaves_behind : (listings : List Entry) (acts : List Act) (es : List Entry) → LeavesActs [] acts es → LeavesActs listings acts (listings ++ es)
-leaves_behind listings acts es (among, are, is) = (among, are, ap (λ l. listings ++ l) is)
+leaves_behind listings acts es (among, are, is, all) = (among, are, ap (λ l. listings ++ l) is, all)
 
 ends_behind_listings : (listings : List Entry) (acts : List Act) (e : Error) (es : List Entry) → EndsActs [] acts e es → EndsActs listings acts e (listings ++ es)
-ends_behind_listings listings acts e es (among, parent, are, is) = (among, parent, are, ap (λ l. listings ++ l) is)
+ends_behind_listings listings acts e es (among, parent, are, is, program) = (among, parent, are, ap (λ l. listings ++ l) is, program)
 
 -- where the record shows no child that was run to its end, none was
 no_children : (acts : List Act) (es : List Entry) → AreActs acts es → list_any is_captured es ≡ false → captures_in acts ≡ []
@@ -80,11 +80,7 @@ no_children acts es AreActs.none quiet = refl
 no_children acts es (AreActs.a_miss path m some rest are) quiet = no_children some rest are quiet
 no_children acts es (AreActs.an_act (Act.made folder) some rest are) quiet = no_children some rest are quiet
 no_children acts es (AreActs.an_act (Act.captured c) some rest are) quiet = absurd (true≢false quiet)
-
-no_acts : (acts : List Act) → folders_in acts ≡ [] → captures_in acts ≡ [] → acts ≡ []
-no_acts [] none alone = refl
-no_acts (Act.made folder ∷ acts) none alone = absurd (let no : ⊥ = cc in no)
-no_acts (Act.captured c ∷ acts) none alone = absurd (let no : ⊥ = cc in no)
+no_children acts es (AreActs.an_act (Act.uncaptured program) some rest are) quiet = no_children some rest are quiet
 
 -- ---- without a plan
 
@@ -116,7 +112,7 @@ module _ (q : Asking) (before between middle after : Moment) (quiet : Bool) (kep
       (quiet_first is_captured p.leaves.0 (entries_in p.leaves.1 e)
       (ap (λ l. list_any is_captured l) (sym p.leaves.3) ∙ quiet_first is_captured p.entries rest (quiet_rest is_captured listings (p.entries ++ rest) (ap (λ l. list_any is_captured l) (sym same) ∙ calm.no_capture)))) in
       let still : list_any is_failed (p.entries ++ rest) ≡ false = quiet_rest is_failed listings (p.entries ++ rest) (ap (λ l. list_any is_failed l) (sym same) ∙ calm.no_failure) in
-      stays_as_it_was (folders_in p.acts) before.world between.world after.world (λ empty. p.still (no_acts p.acts empty alone) (quiet_first is_failed p.entries rest still)) (p.alters [] alone (quiet_first is_failed p.entries rest still))
+      stays_as_it_was (folders_in p.acts) before.world between.world after.world (λ empty. p.still empty alone (quiet_first is_failed p.entries rest still)) (p.alters [] alone (quiet_first is_failed p.entries rest still))
       (λ empty. ap (λ (m : Moment). m.world) (removes_none (folders_in p.acts) middle after empty removes_here) ∙ world)
       (subst (λ w. IsAltered (folders_in p.acts) [] w after.world) world (c.3 [] (quiet_rest is_failed tells.0 c.0 (quiet_rest is_failed p.entries rest still))))
 
@@ -245,7 +241,7 @@ module _ (q : Asking) (before opened settled : Moment) (listings : List Entry) (
         let hush : list_any is_failed rest ≡ false = quiet_rest is_failed p.entries rest still in
         let touched : IsTouched plan.nodes opened.world settled.world =
         made_touches (run_of (start_with plan jobs opened)) h opened.world settled.world (k.made (nothing_started (run_of (start_with plan jobs opened)) h k.gained k.matches child) (quiet_first is_failed k.gained (first ++ c.0) hush)) in
-        ends_as_it_was (folders_in p.acts) plan.nodes before.world opened.world settled.world after.world (λ empty. p.still (no_acts p.acts empty alone) (quiet_first is_failed p.entries rest still)) (p.alters plan.nodes alone (quiet_first is_failed p.entries rest still)) touched
+        ends_as_it_was (folders_in p.acts) plan.nodes before.world opened.world settled.world after.world (λ empty. p.still empty alone (quiet_first is_failed p.entries rest still)) (p.alters plan.nodes alone (quiet_first is_failed p.entries rest still)) touched
         (λ empty. ap (λ (m : Moment). m.world) (removes_none (folders_in p.acts) middle after empty removes_so) ∙ world)
         (subst (λ x. IsAltered (folders_in p.acts) plan.nodes x after.world) world (c.3 plan.nodes (quiet_rest is_failed first c.0 (quiet_rest is_failed k.gained (first ++ c.0) hush)))))
 

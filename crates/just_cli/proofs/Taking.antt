@@ -23,7 +23,7 @@ use Rattle.just_exec.specs.declared.error.Error.TheVariants as error
 use Rattle.just_cli_plan.specs.Own.{OrMemory}
 use Rattle.just_cli_plan.specs.declared.wanted.Wanted.{Wanted}
 use Rattle.just_sched_history.specs.declared.plan_node.PlanNode.{PlanNode}
-use Rattle.just_cli.specs.Acts.{Act, folders_in, AreActs}
+use Rattle.just_cli.specs.Acts.{Act, folders_in, uncaptured_in, AreActs}
 use Rattle.just_cli.specs.Altered.{IsAltered}
 use Rattle.just_cli_plan.specs.Pairs.{entries_of as entries_in}
 use Rattle.just_cli.specs.Options.{cache_beside, wanted_of}
@@ -41,6 +41,11 @@ folders_of (folder ∷ folders) = ap (λ (fs : List (List ℕ)). folder ∷ fs) 
 no_folders : (folders : List (List ℕ)) → map Act.made folders ≡ [] → folders ≡ []
 no_folders [] is = refl
 no_folders (folder ∷ folders) is = absurd (let no : ⊥ = cc in no)
+
+-- no child is among them
+all_run : (folders : List (List ℕ)) → uncaptured_in (map Act.made folders) ≡ []
+all_run [] = refl
+all_run (folder ∷ folders) = all_run folders
 
 made_acts : (folders : List (List ℕ)) → AreActs (map Act.made folders) (made_entries folders)
 made_acts [] = AreActs.none
@@ -126,8 +131,8 @@ module _ (config : Config) (place location : Location) (is_place : place ≡ loc
   at_location folders r m = subst (λ (l : Location). Materializes before.world after.world (parent_of config) l folders r) is_place m
 
   -- what it makes of a told world
-  still_so : (folders : List (List ℕ)) (r : Result Search SearchError) → Materializes before.world after.world (parent_of config) place folders r → map Act.made folders ≡ [] → after.world ≡ before.world
-  still_so folders r m none = file_still before.world after.world (parent_of config) place folders r m (no_folders folders none)
+  still_so : (folders : List (List ℕ)) (r : Result Search SearchError) → Materializes before.world after.world (parent_of config) place folders r → folders_in (map Act.made folders) ≡ [] → after.world ≡ before.world
+  still_so folders r m none = file_still before.world after.world (parent_of config) place folders r m (sym (folders_of folders) ∙ none)
 
   alters_so : (nodes : List PlanNode) (folders : List (List ℕ)) (r : Result Search SearchError) → Materializes before.world after.world (parent_of config) place folders r → list_any is_failed (left_entries (parent_of config) folders r) ≡ false
       → IsAltered (folders_in (map Act.made folders)) nodes before.world after.world
@@ -139,11 +144,11 @@ module _ (config : Config) (place location : Location) (is_place : place ≡ loc
     acts = map Act.made folders;
     entries = made_entries folders ++ [];
     grew = grew;
-    leaves = (made_entries folders, made_acts folders, append-nil (made_entries folders));
+    leaves = (made_entries folders, made_acts folders, append-nil (made_entries folders), all_run folders);
     folders = keep ∙ ap (λ (fs : List (List ℕ)). kept ++ fs) (sym (folders_of folders));
     answers = λ environ. (folders, s, refl, at_location folders (Ok s) m, path, wanted, refl);
     begun = (folders, Ok s, refl, at_location folders (Ok s) m);
-    still = λ none quiet. still_so folders (Ok s) m none;
+    still = λ none alone quiet. still_so folders (Ok s) m none;
     alters = λ nodes alone quiet. alters_so nodes folders (Ok s) m quiet;
   }
 
@@ -153,11 +158,11 @@ module _ (config : Config) (place location : Location) (is_place : place ≡ loc
     acts = map Act.made folders;
     entries = made_entries folders ++ [];
     grew = grew;
-    leaves = (made_entries folders, [], made_acts folders, refl);
+    leaves = (made_entries folders, [], made_acts folders, refl, inl (all_run folders));
     folders = keep ∙ ap (λ (fs : List (List ℕ)). kept ++ fs) (sym (folders_of folders));
     answers = inl refl;
     begun = λ captured. (folders, Ok s, refl, at_location folders (Ok s) m);
-    still = λ none quiet. still_so folders (Ok s) m none;
+    still = λ none alone quiet. still_so folders (Ok s) m none;
     alters = λ nodes alone quiet. alters_so nodes folders (Ok s) m quiet;
   }
 
@@ -173,11 +178,11 @@ module _ (config : Config) (place location : Location) (is_place : place ≡ loc
         acts = map Act.made folders;
         entries = left_entries {A = Search} (parent_of config) folders (Err f);
         grew = grew;
-        leaves = (made_entries folders, path, made_acts folders, file_entries before.world after.world (parent_of config) place folders (Err f) m ∙ ap (λ x. made_entries folders ++ entries_in path x) (sym is));
+        leaves = (made_entries folders, path, made_acts folders, file_entries before.world after.world (parent_of config) place folders (Err f) m ∙ ap (λ x. made_entries folders ++ entries_in path x) (sym is), inl (all_run folders));
         folders = keep ∙ ap (λ (fs : List (List ℕ)). kept ++ fs) (sym (folders_of folders));
         answers = why folders f e m is (wants_or_not f);
         begun = λ captured. (folders, Err f, refl, at_location folders (Err f) m);
-        still = λ none quiet. still_so folders (Err f) m none;
+        still = λ none alone quiet. still_so folders (Err f) m none;
         alters = λ nodes alone quiet. alters_so nodes folders (Err f) m quiet;
       }
 
@@ -192,10 +197,10 @@ taken_nothing config location told kept = record {
   acts = [];
   entries = [];
   grew = sym (append-nil told.entries);
-  leaves = ([], [], AreActs.none, refl);
+  leaves = ([], [], AreActs.none, refl, inl refl);
   folders = sym (append-nil kept);
   answers = inl refl;
   begun = λ captured. ([], Err search.NoMemory, refl, Materializes.no_memory refl);
-  still = λ none quiet. refl;
+  still = λ none alone quiet. refl;
   alters = λ nodes alone quiet. altered_same [] nodes told.world told.world refl;
 }

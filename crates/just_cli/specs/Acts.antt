@@ -7,26 +7,37 @@ use Rattle.just_host_record.specs.World.{World}
 use Rattle.just_env.specs.Captures.{Capture, AreTold, entries_of_capture}
 use Rattle.just_exec.specs.declared.error.Error.{Error}
 
--- a temporary folder was made, or a child was run to its end for what it printed
+-- a temporary folder was made; a child was run to its end for what it printed, or one of that program couldn't be
 pub data Act : Type 0 where
   made : List ℕ → Act
   captured : Capture → Act
+  uncaptured : List ℕ → Act
 
--- its entries in the record; behind that of a child stands the entry of the signal that was told then, if one was
+-- Its entries in the record; behind that of a child stands the entry of the signal that was told then, if one was. A child that couldn't be run to its end
+-- has its entry behind those of all acts, as the one that the error tells.
 abbrev pub entries_of_act : Act → List Entry
 entries_of_act (Act.made folder) = entry.Made folder ∷ []
 entries_of_act (Act.captured c) = entries_of_capture c
+entries_of_act (Act.uncaptured program) = []
 
--- the temporary folders among them, and the children
+-- the temporary folders among them, the children, and the programs of those that couldn't be run to their end
 abbrev pub folders_in : List Act → List (List ℕ)
 folders_in [] = []
 folders_in (Act.made folder ∷ acts) = folder ∷ folders_in acts
 folders_in (Act.captured c ∷ acts) = folders_in acts
+folders_in (Act.uncaptured program ∷ acts) = folders_in acts
 
 abbrev pub captures_in : List Act → List Capture
 captures_in [] = []
 captures_in (Act.made folder ∷ acts) = captures_in acts
 captures_in (Act.captured c ∷ acts) = c ∷ captures_in acts
+captures_in (Act.uncaptured program ∷ acts) = captures_in acts
+
+abbrev pub uncaptured_in : List Act → List (List ℕ)
+uncaptured_in [] = []
+uncaptured_in (Act.made folder ∷ acts) = uncaptured_in acts
+uncaptured_in (Act.captured c ∷ acts) = uncaptured_in acts
+uncaptured_in (Act.uncaptured program ∷ acts) = program ∷ uncaptured_in acts
 
 -- behind each of these children a world is told
 abbrev pub AreToldBehind : List Act → Type 0

@@ -1,5 +1,5 @@
 -- What the preparation of a run leaves in its host's record, makes of a told world, and answers.
-use Rattle.std.specs.Prelude.{ℕ, ◌≡◌, ◌++◌, true, false, List, [], Option, option_map, Result, Ok, Err}
+use Rattle.std.specs.Prelude.{ℕ, ◌≡◌, ◌⊎◌, ◌++◌, true, false, List, [], ◌∷◌, Option, option_map, Result, Ok, Err}
 use Rattle.std.specs.List.{list_any, AllByRecursion}
 use Rattle.std.specs.Int.NonZero.{non_zero_u64_get}
 use Rattle.just_host_record.specs.declared.entry.Entry.{Entry}
@@ -13,7 +13,7 @@ use Rattle.just_cli_plan.specs.Request.{outline_of}
 use Rattle.just_cli.specs.declared.replied.Replied.{Replied}
 use Rattle.just_cli.specs.declared.replied.Replied.TheVariants as replied
 use Rattle.just_cli.specs.Replies.{Reply}
-use Rattle.just_cli.specs.Acts.{Act, AreActs, folders_in, captures_in}
+use Rattle.just_cli.specs.Acts.{Act, AreActs, folders_in, captures_in, uncaptured_in}
 use Rattle.just_cli.specs.Altered.{IsAltered}
 use Rattle.just_cli_plan.specs.Pairs.{entries_of as entries_in}
 use Rattle.just_cli.specs.Faults.{entries_of}
@@ -27,13 +27,22 @@ AreMisses es = AllByRecursion (λ e. is_missed e ≡ true) es
 abbrev pub EndsWith : List Entry → Error → List Entry → Type 0
 EndsWith listings e es = (misses : List Entry) × AreMisses misses × (es ≡ listings ++ (misses ++ entries_of e))
 
--- behind the entries of listings those of the acts in their order, and misses among them
+-- Behind the entries of listings those of the acts in their order, and misses among them; each child of the acts was run to its end.
 abbrev pub LeavesActs : List Entry → List Act → List Entry → Type 0
-LeavesActs listings acts es = (among : List Entry) × AreActs acts among × (es ≡ listings ++ among)
+LeavesActs listings acts es =
+    (among : List Entry) × AreActs acts among × (es ≡ listings ++ among) × (uncaptured_in acts ≡ [])
 
--- the same, and behind them the entry of the refused call that an error tells, if it tells one; some calls have a path in their entry that their error doesn't tell
+-- each child of the acts was run to its end, or but one of that program, of which the error tells
+abbrev pub IsProgram : List Act → Error → List ℕ → Type 0
+IsProgram acts e program =
+    (uncaptured_in acts ≡ []) ⊎ ((is_uncaptured e ≡ true) × (uncaptured_in acts ≡ program ∷ []))
+
+-- The same, and behind them the entry of the refused call that an error tells, if it tells one. Some calls have a path in their entry that their error doesn't
+-- tell; that of a child that couldn't be run to its end is its program.
 abbrev pub EndsActs : List Entry → List Act → Error → List Entry → Type 0
-EndsActs listings acts e es = (among : List Entry) × (path : List ℕ) × AreActs acts among × (es ≡ listings ++ (among ++ entries_in path e))
+EndsActs listings acts e es =
+    (among : List Entry) × (path : List ℕ) × AreActs acts among
+    × (es ≡ listings ++ (among ++ entries_in path e)) × IsProgram acts e path
 
 -- what a preparation leaves behind the entries of listings
 abbrev pub Leaves : {A : Type 0} → List Entry → List Act → Result A Error → List Entry → Type 0
@@ -62,7 +71,8 @@ pub record Performs {A : Type 0} (gives : List Act → Option World → Result A
   pub folders : keeps ≡ kept ++ folders_in acts
   pub answers : Answers (gives acts after.world) r
   pub begun : UnlessUncaptured r (begins acts after.world)
-  pub still : acts ≡ [] → list_any is_failed entries ≡ false → after.world ≡ before.world
+  pub still : folders_in acts ≡ [] → captures_in acts ≡ [] → list_any is_failed entries ≡ false
+      → after.world ≡ before.world
   pub alters : (nodes : List PlanNode) → captures_in acts ≡ [] → list_any is_failed entries ≡ false → IsAltered (folders_in acts) nodes before.world after.world
 
 -- the same behind listings that were passed over

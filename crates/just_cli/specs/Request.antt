@@ -1,7 +1,8 @@
 -- What is asked of the justfiles that are tried: steps from the place of one to the listing of a module, to the plan of a run, or to a refusal.
-use Rattle.std.specs.Prelude.{◌≡◌, ◌⊎◌, ◌++◌, Bool, true, false, List, [], ◌∷◌, map, Option, Some, None, Result, Ok, Err}
+use Rattle.std.specs.Prelude.{ℕ, ◌≡◌, ◌⊎◌, ◌++◌, Bool, true, false, List, [], ◌∷◌, map, Option, Some, None, Result, Ok, Err}
 use Rattle.std.specs.List.{list_any, flat_map, AllByRecursion}
 use Rattle.just_host_record.specs.declared.entry.Entry.{Entry}
+use Rattle.just_host_record.specs.declared.entry.HostFault.{HostFault}
 use Rattle.just_host_record.specs.Record.{is_failed}
 use Rattle.just_host_record.specs.World.{World}
 use Rattle.just_search.specs.Listing.{is_refused_listing}
@@ -10,6 +11,9 @@ use Rattle.just_search_load.specs.Loads.{Loads}
 use Rattle.just_exec.specs.Refusals.{error_of_search}
 use Rattle.just_exec.specs.declared.error.Error.{Error}
 use Rattle.just_env.specs.Captures.{Capture, told_behind}
+use Rattle.just_env.specs.Loads.{IsShellOf}
+use Rattle.just_exec_work.specs.declared.run_flags.RunFlags.{RunFlags}
+use Rattle.just_cli_plan.specs.Own.{uncaptured_by}
 use Rattle.just_cli_plan.specs.Pairs.{Leaves, BeginsLoading}
 use Rattle.just_cli_plan.specs.Steps.{Then}
 use Rattle.just_cli_plan.specs.Request.{SourcesRequest, ProjectRequest, LoadedRequest, LoadsDotenv}
@@ -39,9 +43,23 @@ FindsProjectOf told = Then (LoadsSources told) FindsLaid
 abbrev pub FindsProjectAt : Step LocatedRequest LaidRequest
 FindsProjectAt = Behind TakesFile (Looks FindsProjectOf)
 
+-- the act of a child of that program that couldn't be run to its end, where a fault tells why
+abbrev pub acts_of_fault : List ℕ → Option HostFault → List Act
+acts_of_fault program None = []
+acts_of_fault program (Some io) = Act.uncaptured program ∷ []
+
+-- Of these children that were run to their end the acts are theirs; and where an error tells that one couldn't be, its act stands behind them: it has the
+-- program of the shell of a module.
+abbrev pub AreActsOf : {A : Type 0} → RunFlags → Justfile → List Capture → Result A Error → List Act → Type 0
+AreActsOf flags j cs (Ok x) acts = acts ≡ map Act.captured cs
+AreActsOf flags j cs (Err e) acts =
+    (program : List ℕ) × IsShellOf flags j program
+    × (acts ≡ map Act.captured cs ++ acts_of_fault program (uncaptured_by e))
+
 -- the dotenv pairs of the project's modules, for which commands are run
 abbrev pub LoadsPairs : Step ProjectRequest LoadedRequest
-LoadsPairs told acts after p r = (cs : List Capture) × (acts ≡ map Act.captured cs) × LoadsDotenv told cs p r × Leaves told cs after r
+LoadsPairs told acts after p r =
+    (cs : List Capture) × AreActsOf p.wanted.flags p.justfile cs r acts × LoadsDotenv told cs p r × Leaves told cs after r
 
 -- a step from a project, by the list of its modules
 abbrev pub WithModules : {B : Type 0} → Step ProjectRequest B → Step LaidRequest B

@@ -89,7 +89,8 @@ pub fn run_with<R: Threads + Wait + Sync, H: Host + Send + Drop>(
     words: &[&str],
     host: H,
 ) -> Ended<H>
-    ensures { IsEnded (map (λ x. x.now) words.now) (H.told host) (H.told result.host) result.result }
+    ensures { IsEnded (map (λ x. x.now) words.now)
+        (H.told host) (H.told result.host) result.result }
 {
     let (ended, made) = run_made(rt, alloc, words, host);
     let Ended { host, result } = ended;

@@ -144,7 +144,8 @@ pub(crate) fn reply_tried<H: Host>(
     made: &mut Vec<Utf8PathBuf>,
     host: &mut H,
 ) -> Result<Replied, Error>
-    ensures { PerformsTries (record { config = config.now; environ = environ.now; location = location })
+    ensures { PerformsTries
+        (record { config = config.now; environ = environ.now; location = location })
         (H.told host.old) (H.told host.new) made.old.items made.new.items (as_asked result) }
 {
     match reply_from(alloc, environ, config, location, made, host) {

@@ -1,5 +1,5 @@
 -- What is said of a recipe that was found, or wasn't.
-use Rattle.std.proofs.Common.{◌≡◌, ◌∙◌, List, Option, Some, None, option_map, refl, ap, sym}
+use Rattle.std.proofs.Common.{◌≡◌, ◌∙◌, List, Option, Some, None, option_map, refl, ap}
 use Rattle.just_lang_types.specs.declared.key.Value.{Value}
 use Rattle.just_lang_types.specs.declared.project.Justfile.{out-Justfile}
 use Rattle.just_lang_types.specs.declared.scope.Scopes.{Scopes}

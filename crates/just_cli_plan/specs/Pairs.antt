@@ -37,10 +37,13 @@ refused_in None = []
 abbrev pub entries_of : List ℕ → Error → List Entry
 entries_of path e = refused_in (call_at path e)
 
--- a record gains the entries of children that were run to their end, misses among them, and behind these the entry of the refused call that an error tells
-abbrev pub Gains : {A : Type 0} → List Capture → List Entry → List Entry → Result A Error → Type 0
-Gains cs old new (Ok x) = GainsAmong cs old new
-Gains cs old new (Err e) = (middle : List Entry) × (path : List ℕ) × GainsAmong cs old middle × (new ≡ middle ++ entries_of path e)
+-- A record gains the entries of children that were run to their end, misses among them, and behind these the entry of the
+-- refused call that an error tells; that of a child that is refused names one of these programs.
+abbrev pub Gains : {A : Type 0} → (List ℕ → Type 0) → List Capture → List Entry → List Entry → Result A Error → Type 0
+Gains programs cs old new (Ok x) = GainsAmong cs old new
+Gains programs cs old new (Err e) =
+    (middle : List Entry) × (program : List ℕ) × programs program × GainsAmong cs old middle
+    × (new ≡ middle ++ entries_of program e)
 
 -- the world that is told behind a refusal is the one before, but where a child couldn't be run to its end, which may have touched the files
 abbrev pub ErrorLeaves : Option World → Option World → Error → Type 0
@@ -56,9 +59,10 @@ abbrev pub Answers : {A : Type 0} → (Result A Error → Type 0) → Result A E
 Answers P (Ok x) = P (Ok x)
 Answers P (Err e) = OrMemory (λ f. P (Err f)) e
 
--- An answer, with some children that were run to their end for it, and were begun so; and what it leaves in the record and of the world.
+-- An answer, with some children that were run to their end for it, and were begun so; and what it leaves in the record and of the world. A child that is
+-- refused has one of these programs.
 abbrev pub Runs : {A : Type 0} → (List Capture → Result A Error → Type 0) → (List Capture → Type 0)
-    → Moment → Moment → Result A Error → Type 0
-Runs P begins before after r =
-    (cs : List Capture) × Answers (P cs) r × Gains cs before.entries after.entries r
+    → (List ℕ → Type 0) → Moment → Moment → Result A Error → Type 0
+Runs P begins programs before after r =
+    (cs : List Capture) × Answers (P cs) r × Gains programs cs before.entries after.entries r
     × Leaves before.world cs after.world r × begins cs

@@ -1,5 +1,5 @@
 -- The plan of a closure.
-use Rattle.std.specs.Prelude.{ℕ, ◌≡◌, true, List, [], map, option_map, Option, Some, None, Bool, Ok, Err}
+use Rattle.std.specs.Prelude.{ℕ, ◌≡◌, true, List, map, option_map, Option, Some, None, Bool, Ok, Err}
 use Rattle.just_lang_types.specs.declared.key.Key.{Key}
 use Rattle.just_lang_types.specs.declared.key.Value.{Value}
 use Rattle.just_lang_types.specs.declared.node.Closure.{Closure}

@@ -1,5 +1,6 @@
 //! The dotenv pairs of a project.
 
+ghost use Rattle.just_env.specs.Loads.{IsShellOf};
 ghost use Rattle.just_cli_plan.specs.Pairs.{LoadsPairs, BeginsLoading, Runs};
 
 use super::Wanted;
@@ -21,10 +22,11 @@ pub fn load_pairs<H: Host>(
 ) -> Result<Seq<DotenvOf>, Error>
     // The pairs are those that the settings of the modules and the words ask for, or the first refusal. The record gains the entries of the children that were
     // run to their end for them, misses among these, and the entry of the refused call; only these children may touch the files. They are those
-    // that the commands of the modules start, in their order, want of memory too.
+    // that the commands of the modules start, in their order, want of memory too. One that is refused has the program of a module's shell.
     ensures loaded { Runs
         (LoadsPairs (H.told host.old).world wanted.now environ.now justfile.now)
         (BeginsLoading (H.told host.old).world wanted.now environ.now justfile.now)
+        (IsShellOf wanted.now.flags justfile.now)
         (H.told host.old) (H.told host.new) result }
 {
     match load_modules(

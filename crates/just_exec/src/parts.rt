@@ -7,8 +7,9 @@ ghost use Rattle.just_exec.specs.Parts.{miss_text, fault_text, kind_text, usage_
 
 use just_config_words::UsageKind;
 use just_host_record::HostFault;
-use just_lang_types::{CompileKind, Parameter, ParameterKind};
+use just_lang_types::{CompileKind, Parameter};
 use just_path::Miss;
+use just_print::{is_option, is_optional, is_variadic};
 
 fn miss_text(miss: Miss) -> &'static str
     ensures { result.now ≡ miss_text miss }
@@ -93,13 +94,6 @@ pub(crate) fn plural_end(number: u64) -> &'static str
     if number == 1 { "" } else { "s" }
 }
 
-/// Whether a parameter is an option.
-fn is_option(parameter: &Parameter) -> bool
-    ensures { result ≡ is_option parameter.now }
-{
-    parameter.long.is_some() || parameter.short.is_some()
-}
-
 /// Whether a parameter is no option.
 fn is_positional(parameter: &Parameter) -> bool
     ensures { result ≡ is_positional parameter.now }
@@ -111,18 +105,14 @@ fn is_positional(parameter: &Parameter) -> bool
 fn is_needed(parameter: &Parameter) -> bool
     ensures { result ≡ is_needed parameter.now }
 {
-    !is_option(parameter) && !(parameter.default.is_some() || parameter.kind == ParameterKind::Star)
+    !is_option(parameter) && !is_optional(parameter)
 }
 
 /// Whether a positional parameter takes several values.
 fn takes_several(parameter: &Parameter) -> bool
     ensures { result ≡ (not (is_option parameter.now) && is_variadic parameter.now.kind) }
 {
-    let several = match parameter.kind {
-        ParameterKind::Singular => false,
-        ParameterKind::Plus | ParameterKind::Star => true,
-    };
-    !is_option(parameter) && several
+    !is_option(parameter) && is_variadic(parameter.kind)
 }
 
 /// How many positional arguments a recipe needs.

@@ -6,5 +6,5 @@ pub returns-in-Err : goal.returns-in-Err
 returns-in-Err g c = record {
   loaded =
       pairs_refused (g.H.Host.told c.args.host.now) (g.H.Host.told c.load_modules.new.host) c.args.wanted.now c.args.environ.now c.args.justfile.now
-      c.in-Err.error _ c.from.ensures c.in-Err.ensures.loaded;
+      c.in-Err.error _ c.from.ensures c.in-Err.ensures.loaded c.in-Err.ensures.program;
 }
