@@ -16,8 +16,8 @@ use Rattle.just_cache_clean.proofs.Begins.{name_part}
 -- ---- what stands in a string for the bytes of names
 
 other_than : (x c : ℕ) → in_name x ≡ false → in_name c ≡ true → (c == x) ≡ false
-other_than x c no h = elim (c == x) as (λ b. (c == x) ≡ b → b ≡ false) [
-  | true ↦ λ e. let is : c ≡ x = eqb-true c x e in sym h ∙ ap in_name is ∙ no
+other_than x c outside h = elim (c == x) as (λ b. (c == x) ≡ b → b ≡ false) [
+  | true ↦ λ e. let is : c ≡ x = eqb-true c x e in sym h ∙ ap in_name is ∙ outside
   | false ↦ λ e. refl
 ] refl
 
