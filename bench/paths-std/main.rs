@@ -1,4 +1,4 @@
-//! The same as crates/timing/src/paths.rt over Rust's `std::path`.
+//! The same as crates/rows_runs/src/timing/paths.rt over Rust's `std::path`.
 use std::cmp::Ordering;
 use std::path::{Component, Path, PathBuf};
 

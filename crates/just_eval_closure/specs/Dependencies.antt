@@ -5,6 +5,7 @@ use Rattle.just_lang_syntax.specs.declared.ast.Expr.{Expr, out-Expr}
 use Rattle.just_lang_syntax.specs.declared.ast.Expr.TheOpen.{Expr-F}
 use Rattle.just_lang_syntax.specs.declared.ast.ParameterKind.{ParameterKind}
 use Rattle.just_lang_syntax.specs.declared.ast.ParameterKind.TheVariants.{Singular, Plus, Star}
+pub use Rattle.just_lang_types.specs.ParameterKinds.{is_variadic}
 use Rattle.just_lang_types.specs.declared.key.Key.{Key}
 use Rattle.just_lang_types.specs.declared.key.Value.{Value}
 use Rattle.just_lang_types.specs.declared.recipe.Dependency.{Dependency}
@@ -35,11 +36,6 @@ abbrev pub value_within : Scopes → Modulepath → Scope → Expr → Answer (L
 value_within scopes path scope x = told (value (meaning_in scope) (found_in (pairs_for scopes.dotenv path) scopes.environ.pairs) x)
 
 -- ---- arguments
-
-abbrev pub is_variadic : ParameterKind → Bool
-is_variadic Singular = false
-is_variadic Plus = true
-is_variadic Star = true
 
 -- whether one of the parameters has that name and takes several values
 abbrev pub names_variadic : List Parameter → List ℕ → Bool

@@ -3,30 +3,21 @@
 ghost use Rattle.std.specs.Prelude.{◌≡◌, ◌≢◌, ◌++◌, [], ◌∷◌, Ok, Err, IfOk, IfErr, OnOk};
 ghost use Rattle.std.specs.List.{flat_map};
 ghost use Rattle.std.specs.Option.{option_copied};
+ghost use Rattle.just_lang_types.specs.ParameterKinds.{is_variadic};
 ghost use Rattle.just_lang_types.specs.declared.project.LangError.{LangError};
 ghost use Rattle.just_eval_closure.specs.Scopes.{text_of_value, value_of_text, value_among, levels_within, found_in};
 ghost use Rattle.just_eval_closure.specs.Values.{value};
 ghost use Rattle.just_eval_closure.specs.Answers.{told, each, Gives};
-ghost use Rattle.just_eval_closure.specs.Dependencies.{is_variadic, names_variadic, bare_name, text_in_recipe, value_or_none, argument, shares};
+ghost use Rattle.just_eval_closure.specs.Dependencies.{names_variadic, bare_name, text_in_recipe, value_or_none, argument, shares};
 ghost use Rattle.just_eval_closure.specs.Entries.{located_of, Sees};
 
 use super::entry::Entry;
 use crate::{Env, Names, View, text_of, value};
 use just_lang_syntax::Expr;
 use just_lang_types::project::LangError;
-use just_lang_types::{Parameter, ParameterKind, Scopes, Value};
+use just_lang_types::{Parameter, Scopes, Value, is_variadic};
 use just_path_text::{NoMemory, Seq, Text, TryClone};
 use std::alloc::Global;
-
-/// Whether a parameter takes several values.
-pub(crate) fn is_variadic(kind: ParameterKind) -> bool
-    ensures { result ≡ is_variadic kind }
-{
-    match kind {
-        ParameterKind::Singular => false,
-        ParameterKind::Plus | ParameterKind::Star => true,
-    }
-}
 
 /// Whether one of the parameters has that name and takes several values.
 fn names_variadic(parameters: &[Parameter], name: &str) -> bool

@@ -18,7 +18,7 @@ mod taken;
 mod target;
 mod words;
 
-pub use command::{inner_module, named_target};
+pub use command::inner_module;
 pub use found::{Found, Target};
 pub use invocation::{invocations, invocations_agree, within_one};
 pub use name::recipe_in;

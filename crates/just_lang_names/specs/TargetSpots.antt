@@ -7,8 +7,7 @@ use Rattle.just_lang_syntax.specs.declared.ast.AstItem.TheVariants as item
 use Rattle.just_lang_syntax.specs.declared.ast.AstParameter.{AstParameter}
 use Rattle.just_lang_syntax.specs.declared.ast.AstRecipe.{AstRecipe}
 use Rattle.just_lang_syntax.specs.declared.ast.Name.{Name}
-use Rattle.just_lang_syntax.specs.declared.ast.ParameterKind.{ParameterKind}
-use Rattle.just_lang_syntax.specs.declared.ast.ParameterKind.TheVariants.{Singular, Plus, Star}
+pub use Rattle.just_lang_types.specs.ParameterKinds.{is_variadic}
 use Rattle.just_lang_syntax.specs.declared.ast.StringLiteral.{StringLiteral}
 use Rattle.just_lang_layout.specs.declared.layout.Layout.{Layout}
 use Rattle.just_lang_layout.specs.declared.layout.Module.{Module}
@@ -110,11 +109,6 @@ where_recipe is_so file path (Found_recipe m n r) = last_spot_where (is_so r) fi
 where_recipe is_so file path (Found_module m) = []
 where_recipe is_so file path Found_absent = []
 where_recipe is_so file path (Found_nothing name) = []
-
-abbrev pub is_variadic : ParameterKind → Bool
-is_variadic Singular = false
-is_variadic Plus = true
-is_variadic Star = true
 
 module _ (text_of : StringLiteral → Option (List ℕ)) where
   abbrev pub has_option : AstRecipe → Bool

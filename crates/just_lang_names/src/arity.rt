@@ -4,13 +4,13 @@ ghost use Rattle.std.specs.List.{list_any};
 ghost use Rattle.just_lang_spots.specs.Entries.{entry, entries};
 ghost use Rattle.just_lang_rules.specs.ParameterSpots.{wants_value};
 ghost use Rattle.just_lang_names.specs.Arities.{has_option_name, arity_of, arity_of_item, arities_of, arity_in, takes};
-ghost use Rattle.just_lang_names.specs.TargetSpots.{is_variadic};
+ghost use Rattle.just_lang_types.specs.ParameterKinds.{is_variadic};
 
 use super::names::Names;
 use super::options::{Options, options_of};
 use just_lang_spots::Entry;
 use just_lang_syntax::{AstItem, AstParameter, AstRecipe, ParameterKind};
-use just_lang_types::Texts;
+use just_lang_types::{Texts, is_variadic};
 use just_path_text::{NoMemory, Seq};
 use std::alloc::{AllocError, Global};
 
@@ -40,16 +40,6 @@ fn wants_value(parameter: &AstParameter) -> bool
     match parameter.kind {
         ParameterKind::Singular | ParameterKind::Plus => parameter.default.is_none(),
         ParameterKind::Star => false,
-    }
-}
-
-/// Whether a parameter takes any number of arguments.
-fn is_variadic(kind: ParameterKind) -> bool
-    ensures { result ≡ is_variadic kind }
-{
-    match kind {
-        ParameterKind::Singular => false,
-        ParameterKind::Plus | ParameterKind::Star => true,
     }
 }
 

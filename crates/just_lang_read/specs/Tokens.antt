@@ -7,7 +7,7 @@ use Rattle.just_lang_read.specs.declared.error.ReadError.TheVariants.{Syntax}
 use Rattle.just_lang_read.specs.declared.quote.Quote.{Quote}
 use Rattle.just_lang_read.specs.Characters.{is_hex}
 use Rattle.just_lang_read.specs.Lines.{skip, is_word, crlf}
-use Rattle.just_lang_read.specs.Quotes.{mark, is_cooked, letter_meant, number_from, goes_on}
+use Rattle.just_lang_read.specs.Quotes.{is_cooked, letter_meant, number_from, goes_on}
 
 unfoldable pub token : List ℕ → Reader (Unit {0})
 token text = λ p. if begins text p then Ok (tt, skip (behind_text text p)) else Err Syntax

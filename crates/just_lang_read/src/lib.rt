@@ -1,4 +1,4 @@
-//! Reading a text character by character: cursors, places, and readers that are proved against a grammar.
+//! The room of the language: reading a text character by character, by cursors, places, and readers that are proved against a grammar.
 //!
 //! A [`Cursor`] is a place in a text: the characters that are left, and the line and the column of the first of them, both
 //! from 1. Contracts see it as a `Place`. A set of characters is a type with an implementation of [`Class`], so that a run of

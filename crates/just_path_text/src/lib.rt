@@ -1,4 +1,4 @@
-//! The small types that all crates here share.
+//! The room of paths: the small types that all crates here share.
 //!
 //! [`Text`] and [`Seq`] are a `String` and a `Vec` that contracts see as the list of bytes and the list of items, compared,
 //! ordered, hashed and copied as these lists; [`TryClone`] is the one way to copy what holds them. [`Environ`] is an

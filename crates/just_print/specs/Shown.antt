@@ -1,5 +1,5 @@
 -- A recipe by itself, as `--show` prints it.
-use Rattle.std.specs.Prelude.{ℕ, Bool, true, false, if◌then◌else◌, List, [], ◌∷◌, ◌++◌, map, None, bytes_eq, codes}
+use Rattle.std.specs.Prelude.{ℕ, Bool, true, false, List, [], ◌∷◌, ◌++◌, map, None, bytes_eq, codes}
 use Rattle.std.specs.List.{list_any}
 use Rattle.just_lang_syntax.specs.declared.ast.Attribute.{Attribute}
 use Rattle.just_lang_syntax.specs.declared.ast.AstRecipe.{AstRecipe}

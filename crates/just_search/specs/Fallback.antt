@@ -13,11 +13,24 @@ use Rattle.just_search.specs.Finding.{FindsAbove}
 abbrev pub is_search : SearchConfig → Bool
 is_search search.FromInvocationDirectory = true
 is_search (search.FromSearchDirectory folder) = true
-is_search _ = false
+is_search search.GlobalJustfile = false
+is_search (search.StandardInput folder) = false
+is_search (search.WithJustfile file) = false
+is_search (search.WithJustfileAndWorkingDirectory file folder) = false
 
 abbrev pub is_not_found : SearchError → Bool
 is_not_found error.NotFound = true
-is_not_found _ = false
+is_not_found (error.FilesystemIo path io) = false
+is_not_found error.GlobalJustfileInit = false
+is_not_found error.GlobalJustfileNotFound = false
+is_not_found error.InitWithJustfileFromStandardInput = false
+is_not_found (error.JustfileHadNoParent path) = false
+is_not_found (error.MultipleCandidates folder candidates) = false
+is_not_found (error.StdinIo io) = false
+is_not_found (error.TempdirIo io) = false
+is_not_found (error.Load path io) = false
+is_not_found (error.Lang e) = false
+is_not_found error.NoMemory = false
 
 -- what a search above a folder finds, as what is tried next: nothing is tried where nothing is found
 abbrev pub next_found : Result Location SearchError → Result (Option Location) SearchError

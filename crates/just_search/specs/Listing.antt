@@ -44,13 +44,43 @@ listing_error path path_fault.NoMemory = error.NoMemory
 
 abbrev pub is_list : Call → Bool
 is_list call.List = true
-is_list _ = false
+is_list call.Meta = false
+is_list call.Canonical = false
+is_list call.Link = false
+is_list call.Current = false
+is_list call.Read = false
+is_list call.Input = false
+is_list call.Ask = false
+is_list call.Environ = false
+is_list call.Write = false
+is_list call.MakeFolder = false
+is_list call.Temp = false
+is_list call.Remove = false
+is_list call.Print = false
+is_list call.Sum = false
+is_list call.Probe = false
+is_list call.Check = false
+is_list call.Save = false
+is_list call.Start = false
+is_list call.Wait = false
+is_list call.Capture = false
 
 -- whether an entry is that of a listing that was refused
 abbrev pub is_refused_listing : Entry → Bool
 is_refused_listing (entry.Missed path m) = true
 is_refused_listing (entry.Failed c) = is_list c
-is_refused_listing _ = false
+is_refused_listing (entry.Asked a b) = false
+is_refused_listing (entry.Summed a b) = false
+is_refused_listing (entry.Probed a b c) = false
+is_refused_listing (entry.Checked a b) = false
+is_refused_listing (entry.Saved a) = false
+is_refused_listing (entry.Started a b) = false
+is_refused_listing (entry.Ended a b) = false
+is_refused_listing (entry.Captured a b c d) = false
+is_refused_listing (entry.Strayed a b) = false
+is_refused_listing (entry.Signalled a) = false
+is_refused_listing (entry.Printed a b) = false
+is_refused_listing (entry.Made a) = false
 
 -- a record that gained the entries of refused listings alone
 abbrev pub GainsListings : List Entry → List Entry → Type 0

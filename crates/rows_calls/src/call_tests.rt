@@ -2,7 +2,7 @@
 //! memory. The calls of paths, texts, readers and expansions are made by `rows_texts` and `rows_calls`; a run makes those of a host, of the record, of the loader (`load_over`), of a project,
 //! its dotenv pairs, its values, keys and closure, of a plan and of its drive, so `rows_runs` shows that they answer. Those of a search
 //! (`find`, `search`), of what is tried behind it (`find_fallback`, `search_parent_directory`), of a justfile in markdown (`materialize`), of one that
-//! is to be written and of the program of a name are made by `rows_requests`.
+//! is to be written and of the program of a name are made by `rows_runs`.
 
 use crate::changes::changed;
 use crate::hosts::memory;

@@ -1,4 +1,4 @@
-//! Tests that need code: each public call once, over hosts.
+//! Tests that need code: each public call once, over hosts; the hosts by themselves; and runs of a plan.
 #![tactic(auto)]
 
 #[cfg(test)]
@@ -20,6 +20,8 @@ mod executors;
 #[cfg(test)]
 mod graphs;
 #[cfg(test)]
+mod host_tests;
+#[cfg(test)]
 mod hosts;
 #[cfg(test)]
 mod key;
@@ -31,6 +33,8 @@ mod names;
 mod owned;
 #[cfg(test)]
 mod printed;
+#[cfg(test)]
+mod run_tests;
 #[cfg(test)]
 mod scanned;
 #[cfg(test)]

@@ -84,14 +84,15 @@ fn compare_rows<R: Runtime<A = Global>, C: Compare>(
     print_count(rt, file, count, all)
 }
 
-/// Compares the rows of the file with that name.
-fn compare_file<R: Runtime<A = Global>, C: Compare>(
+/// Compares the rows of the file with that name, and prints how many agree, or those that don't. It answers whether all
+/// agree, and promises nothing beyond safety.
+pub fn compare_file<R: Runtime<A = Global>, C: Compare>(
     rt: &R,
     compare: &C,
-    file: String,
+    file: &str,
 ) -> io::Result<bool> {
-    let text = fs::read_to_string(rt, file.as_str())?;
-    compare_rows(rt, compare, file.as_str(), text.as_str())
+    let text = fs::read_to_string(rt, file)?;
+    compare_rows(rt, compare, file, text.as_str())
 }
 
 /// Compares the rows of each file that an argument of the program names, and prints of each how many agree, or the rows
@@ -104,7 +105,7 @@ pub fn compare_files<R: Runtime<A = Global>, C: Compare>(
     let mut names = env::args(rt)?;
     drop(names.next());
     for name in names {
-        if !compare_file(rt, compare, name)? {
+        if !compare_file(rt, compare, name.as_str())? {
             code = ExitCode::FAILURE;
         }
     }

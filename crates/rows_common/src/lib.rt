@@ -15,7 +15,7 @@ mod field;
 mod listed;
 mod wrong;
 
-pub use compare::{Compare, compare_files};
+pub use compare::{Compare, compare_file, compare_files};
 pub use escape::{unescaped, unescaped_text};
 pub use field::{at, bytes, is_flag, says, text};
 pub use listed::{environment, words};

@@ -1,6 +1,7 @@
 //! Rows of whole runs over a host in memory: `rows_runs FILE ..` reads each file, one JSON object a line, runs what its
 //! words ask for, and compares what the run shows. It prints of each file how many rows agree, or of each row that
-//! doesn't its number and what differs.
+//! doesn't its number and what differs. A file whose name ends with `.tsv` has rows of single steps of a request (`requests`),
+//! and behind the word `timing` stand calls whose time is measured (`timing`).
 //!
 //! What a row gives: `files` (a text by its path; nothing else is there but the folders above), `current` (the current
 //! folder), `environ` (a value by its name), `words`, `endings` (for a child's word its status: a code, `"signal:N"` or
@@ -17,10 +18,13 @@
 
 mod given;
 mod parts;
+mod requests;
 mod row;
 mod shown;
+mod timing;
 mod told;
 
+use requests::RequestRows;
 use row::difference;
 use rows_common::Wrong;
 use std::alloc::Global;
@@ -66,19 +70,36 @@ fn compare_file<R: Runtime<A = Global> + Threads + Wait + Sync>(
     Ok(count == number)
 }
 
-/// Compares the rows of each file that an argument of the program names. It answers whether all agree.
+/// Compares the rows of a file, of runs or of single steps of requests. It answers whether all agree.
+fn compare_either<R: Runtime<A = Global> + Threads + Wait + Sync>(
+    rt: &R,
+    file: &str,
+) -> io::Result<bool> {
+    if file.ends_with(".tsv") {
+        rows_common::compare_file(rt, &RequestRows, file)
+    } else {
+        compare_file(rt, file)
+    }
+}
+
+/// Compares the rows of each file that an argument of the program names, up to the word `timing`. It answers whether all agree.
 fn compare_files<R: Runtime<A = Global> + Threads + Wait + Sync>(rt: &R) -> io::Result<bool> {
     let mut all = true;
     let mut names = env::args(rt)?;
     let _program = names.next();
     for name in names {
-        all = compare_file(rt, name.as_str())? && all;
+        if name.as_str() == "timing" {
+            break;
+        }
+        all = compare_either(rt, name.as_str())? && all;
     }
     Ok(all)
 }
 
 fn main(rt: HostRuntime) -> io::Result<ExitCode> {
-    Ok(if compare_files(&rt)? {
+    let all = compare_files(&rt)?;
+    timing::run(&rt)?;
+    Ok(if all {
         ExitCode::SUCCESS
     } else {
         ExitCode::FAILURE

@@ -1,8 +1,7 @@
 //! Makes calls again and again, so that their time can be measured: what the scripts in bench/ time.
 //!
-//! The arguments are four words for each that is timed, `-` where it takes fewer: `paths CALL ROUNDS FILE`, `expand BYTES TIMES -`,
+//! Behind the word `timing` stand four words for each that is timed, `-` where it takes fewer: `paths CALL ROUNDS FILE`, `expand BYTES TIMES -`,
 //! `parse FILE READS PRINTS`, `assemble SHAPE RECIPES TIMES`, `closure SHAPE RECIPES TIMES` and `listings FOLDERS - -`. Of each it prints a line that tells what was made.
-#![tactic(auto)]
 
 mod expansions;
 mod listings;
@@ -48,12 +47,26 @@ fn make(rt: &HostRuntime, words: &[String]) -> io::Result<()> {
     }
 }
 
-fn main(rt: HostRuntime) -> io::Result<()> {
-    let mut words = env::args(&rt)?;
-    let _program = words.next();
-    let words: Vec<String> = words.collect(rt.alloc())?;
-    for four in words.as_slice().chunks(4) {
-        make(&rt, four)?;
+/// The words behind the word `timing`; none, where it isn't among them.
+fn timed(words: &[String]) -> &[String] {
+    let mut count: usize = 0;
+    for word in words {
+        count = count.saturating_add(1);
+        if word.as_str() == "timing" {
+            break;
+        }
+    }
+    match words.get(count..) {
+        Some(timed) => timed,
+        None => words,
+    }
+}
+
+/// Makes what the arguments of the program behind the word `timing` ask for. It promises nothing beyond safety.
+pub(crate) fn run(rt: &HostRuntime) -> io::Result<()> {
+    let words: Vec<String> = env::args(rt)?.collect(rt.alloc())?;
+    for four in timed(words.as_slice()).chunks(4) {
+        make(rt, four)?;
     }
     Ok(())
 }

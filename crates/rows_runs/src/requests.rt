@@ -1,6 +1,5 @@
-//! Compares what a request is made of with the rows of files, each named by an argument: the configuration of words, where a justfile is, the
-//! justfile in a markdown text, scripts and keys. The end of a file's name tells what its rows are.
-#![tactic(auto)]
+//! Rows of what a request is made of: the configuration of words, where a justfile is, the justfile in a markdown text,
+//! scripts and keys. The end of a file's name tells what its rows are.
 
 mod config_rows;
 mod config_shown;
@@ -16,14 +15,12 @@ mod shebang_rows;
 mod tangled_rows;
 mod world;
 
-use rows_common::{Compare, Wrong, compare_files};
+use rows_common::{Compare, Wrong};
 use std::alloc::Global;
-use std::io;
-use std::process::ExitCode;
 
 /// The rows.
 #[derive(Drop)]
-struct RequestRows;
+pub(crate) struct RequestRows;
 
 impl Compare for RequestRows {
     fn agrees(&self, alloc: Global, file: &str, fields: &[&str]) -> Result<bool, Wrong> {
@@ -43,8 +40,4 @@ impl Compare for RequestRows {
             Err(Wrong::Form)
         }
     }
-}
-
-fn main(rt: HostRuntime) -> io::Result<ExitCode> {
-    compare_files(&rt, &RequestRows)
 }

@@ -1,6 +1,6 @@
 -- The seat is as it was between two moves.
 use Rattle.std.proofs.Common.{◌≡◌}
-use Rattle.rows_sched.proofs.books.make_moves.Given as goal
+use Rattle.rows_calls.proofs.run_tests.books.make_moves.Given as goal
 
 abbrev pub invariant-moves : goal.invariant-moves
 invariant-moves g l = record {
