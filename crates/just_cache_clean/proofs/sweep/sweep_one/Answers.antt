@@ -37,4 +37,12 @@ returns-in-Ok-remove-clause-swept g c =
     (subst (λ (b : Bool). JudgesOr prefix c.in-Some.digest.now path (g.H.Host.told c.args.host.now) (g.H.Host.told c.goes.new.host) (Ok b)) yes c.in-Ok.ensures.judged) c.in-Ok-remove.ensures.removed
 
 pub returns-clause-swept : goal.returns-clause-swept
-returns-clause-swept g c = ?
+returns-clause-swept g c =
+    let folder = text_of c.args.wanted.folder in
+    let prefix = given c.args.wanted.prefix in
+    let path = text_of c.as_path-at.result in
+    let named : IsEntryName c.in-Some.digest.now c.args.name.now = subst (λ (n : List ℕ). IsEntryName c.in-Some.digest.now n) c.as_str.ensures c.in-Some.ensures in
+    let at : path ≡ pushed folder c.args.name.now = first_of (cc, grind (arith, common_steps)) in
+    let yes : c.in-Ok.gone ≡ true = first_of (cc, grind (arith, common_steps)) in
+    swept_left folder prefix c.args.name.now c.in-Some.digest.now path (g.H.Host.told c.args.host.now) (g.H.Host.told c.goes.new.host) (g.H.Host.told c.remove.new.host) c.in-Err-remove.refused named at
+    (subst (λ (b : Bool). JudgesOr prefix c.in-Some.digest.now path (g.H.Host.told c.args.host.now) (g.H.Host.told c.goes.new.host) (Ok b)) yes c.in-Ok.ensures.judged) c.in-Err-remove.ensures.removed
