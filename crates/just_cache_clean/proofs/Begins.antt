@@ -17,7 +17,7 @@ use Rattle.just_cache_clean.proofs.PathWalks.{behind}
 no_colon : (c : ℕ) → in_name c ≡ true → c ≡ 58 → ⊥
 no_colon c h is = let no : false ≡ true = ap in_name (sym is) ∙ h in absurd (let f : ⊥ = cc in f)
 
-name_part : (x : List ℕ) → IsName x → list_all in_name x ≡ true
+pub name_part : (x : List ℕ) → IsName x → list_all in_name x ≡ true
 name_part [] h = absurd h
 name_part (c ∷ cs) h = ap (λ b. (b || (is_digit c || c == 45)) && list_all in_name cs) h.0 ∙ h.1
 

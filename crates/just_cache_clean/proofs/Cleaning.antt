@@ -25,11 +25,11 @@ module _ (folder : List ℕ) (prefix : Option Modulepath) where
   few names m n r count (Sweeps.nothing k) e = let none : 0 ≡ count = cc in omega (arith, none)
   few names m n r count (Sweeps.other name more k o t other rest) e = let le : count ≤ length more = few more m n t count rest e in omega (arith, le)
   few names m n r count (Sweeps.stays name digest more k i o t is j rest) e = let le : count ≤ length more = few more i n t count rest e in omega (arith, le)
-  few names m n r count (Sweeps.goes name digest more k i p o t is j removed rest) e = pick t refl e
+  few names m n r count (Sweeps.goes name digest more k i p o t is j removed rest) e = pick t refl (λ b same. few more p n t b rest same) e
     where
-      pick : (u : Result ℕ CacheError) → t ≡ u → one_more u ≡ Ok count → count ≤ suc (length more)
-      pick (Ok b) same f = let so_many : suc b ≡ count = cc in let le : b ≤ length more = few more p n t b rest same in omega (arith, le, so_many)
-      pick (Err x) same f = absurd (let none : ⊥ = cc in none)
+      pick : (u : Result ℕ CacheError) → t ≡ u → ((b : ℕ) → t ≡ Ok b → b ≤ length more) → one_more u ≡ Ok count → count ≤ suc (length more)
+      pick (Ok b) same fewer f = let so_many : suc b ≡ count = cc in let le : b ≤ length more = fewer b same in omega (arith, le, so_many)
+      pick (Err x) same fewer f = absurd (let none : ⊥ = cc in none)
   few names m n r count (Sweeps.unread name digest more k o f is read off) e = absurd (let none : ⊥ = cc in none)
   few names m n r count (Sweeps.left name digest more k i o f is j removed) e = absurd (let none : ⊥ = cc in none)
   few names m n r count (Sweeps.want more k) e = absurd (let none : ⊥ = cc in none)

@@ -1,6 +1,7 @@
 -- Texts that are cut in front and behind.
 use Rattle.std.proofs.Common.{◌≡◌, ◌≢◌, ◌↔◌, ◌⊎◌, inl, inr, ℕ, ◌+◌, Bool, true, false, List, [], ◌∷◌, ◌++◌, length, get_or, append_assoc, length-append, refl, sym, ap, ◌∙◌, subst, arith}
-use Rattle.std.specs.Prelude.{IsTrue, codes}
+use denote.Ref.{Bor}
+use Rattle.std.specs.Prelude.{Option, Some, None, MatchOption, IsTrue, codes}
 use Rattle.just_cache_clean.specs.EntryTexts.{IsDigest, IsEntryName, front1, front2, back}
 use Rattle.just_cache_clean.specs.PathTexts.{IsOtherText, StaysText}
 
@@ -44,6 +45,12 @@ none_end t a b r is h inner e = h inner (same_behind a r (inner ++ b) (sym is �
 pub both : (t a r s : List ℕ) → t ≡ a ++ r → r ≡ s → t ≡ a ++ s
 both t a r s is e = is ∙ ap (λ (l : List ℕ). a ++ l) e
 
+-- the same, whatever the second cut answers
+pub both_cut : (t a b r : List ℕ) (o : Option (Bor (List ℕ))) → t ≡ a ++ r → MatchOption o ((front : List ℕ) → r ≢ front ++ b) (λ front. r ≡ front.now ++ b)
+    → MatchOption o ((inner : List ℕ) → t ≢ a ++ (inner ++ b)) (λ inner. t ≡ a ++ (inner.now ++ b))
+both_cut t a b r None is h = none_end t a b r is h
+both_cut t a b r (Some x) is h = both t a r (x.now ++ b) is h
+
 -- the second form: its front, the digest, and what stands behind it
 two_fronts : (digest rest : List ℕ) → front2 digest ++ rest ≡ codes "{\"digest\":\"" ++ (digest ++ (codes "\",\"format\":2,\"recipe\":\"" ++ rest))
 two_fronts digest rest =
@@ -60,6 +67,12 @@ no_path t digest r is h inner e =
 
 pub a_second : (t digest r inner : List ℕ) → t ≡ codes "{\"digest\":\"" ++ (digest ++ r) → r ≡ codes "\",\"format\":2,\"recipe\":\"" ++ (inner ++ back) → t ≡ front2 digest ++ (inner ++ back)
 a_second t digest r inner is e = is ∙ ap (λ (l : List ℕ). codes "{\"digest\":\"" ++ (digest ++ l)) e ∙ sym (two_fronts digest (inner ++ back))
+
+pub second_cut : (t digest r : List ℕ) (o : Option (Bor (List ℕ))) → t ≡ codes "{\"digest\":\"" ++ (digest ++ r)
+    → MatchOption o ((inner : List ℕ) → r ≢ codes "\",\"format\":2,\"recipe\":\"" ++ (inner ++ back)) (λ inner. r ≡ codes "\",\"format\":2,\"recipe\":\"" ++ (inner.now ++ back))
+    → MatchOption o ((inner : List ℕ) → t ≢ front2 digest ++ (inner ++ back)) (λ inner. t ≡ front2 digest ++ (inner.now ++ back))
+second_cut t digest r None is h = no_path t digest r is h
+second_cut t digest r (Some x) is h = a_second t digest r x.now is h
 
 -- ---- the digest of a file name
 

@@ -2,6 +2,7 @@
 pub mod Cuts
 pub mod PathWalks
 pub mod Begins
+pub mod Saved
 pub mod Staying
 pub mod Steps
 pub mod Sweeping

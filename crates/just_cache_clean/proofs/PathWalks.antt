@@ -60,40 +60,42 @@ nowhere : (t : List ℕ) → walk Nowhere t ≡ true → ⊥
 nowhere [] h = absurd (let no : ⊥ = cc in no)
 nowhere (c ∷ cs) h = nowhere cs h
 
+-- by the byte that a text begins with, and what is behind it
+begins_by : (c : ℕ) (cs : List ℕ) (b : Bool) → begins_name c ≡ b → (walk Within cs ≡ true → GoesOn cs) → is_within (fold behind_byte (cond b Within Nowhere) cs) ≡ true → Begins (c ∷ cs)
+begins_by c cs true is on k = let (r, xs, names, all, e) = on k in (c ∷ r, xs, (is, names), all, ap (λ (l : List ℕ). c ∷ l) e)
+begins_by c cs false is on k = absurd (nowhere cs k)
+
+ends_by : (c : ℕ) (cs : List ℕ) (b : Bool) → (c == 58) ≡ b → (walk Colon cs ≡ true → BeginsNext cs) → is_within (fold behind_byte (cond b Colon Nowhere) cs) ≡ true → GoesOn (c ∷ cs)
+ends_by c cs true is next k =
+    let (x, xs, name, all, e) = next k in
+    let colon : c ≡ 58 = eqb-true c 58 is in
+    ([], x ∷ xs, refl, All-cons IsName x xs name all, ap (λ (d : ℕ). d ∷ cs) colon ∙ ap (λ (l : List ℕ). 58 ∷ l) e)
+ends_by c cs false is next k = absurd (nowhere cs k)
+
+goes_by : (c : ℕ) (cs : List ℕ) (b : Bool) → in_name c ≡ b → (walk Within cs ≡ true → GoesOn cs) → (walk Colon cs ≡ true → BeginsNext cs)
+    → is_within (fold behind_byte (cond b Within (cond (c == 58) Colon Nowhere)) cs) ≡ true → GoesOn (c ∷ cs)
+goes_by c cs true is on next k = let (r, xs, names, all, e) = on k in (c ∷ r, xs, ap (λ (b : Bool). b && list_all in_name r) is ∙ names, all, ap (λ (l : List ℕ). c ∷ l) e)
+goes_by c cs false is on next k = ends_by c cs (c == 58) refl next k
+
+next_by : (c : ℕ) (cs : List ℕ) (b : Bool) → (c == 58) ≡ b → (walk Begin cs ≡ true → Begins cs) → is_within (fold behind_byte (cond b Begin Nowhere) cs) ≡ true → BeginsNext (c ∷ cs)
+next_by c cs true is front k =
+    let (x, xs, name, all, e) = front k in
+    let colon : c ≡ 58 = eqb-true c 58 is in
+    (x, xs, name, all, ap (λ (d : ℕ). d ∷ cs) colon ∙ ap (λ (l : List ℕ). 58 ∷ l) e)
+next_by c cs false is front k = absurd (nowhere cs k)
+
 mutual
   begins : (t : List ℕ) → walk Begin t ≡ true → Begins t
   begins [] h = absurd (let none : ⊥ = cc in none)
-  begins (c ∷ cs) h = begins_by c cs (begins_name c) refl h
-
-  begins_by : (c : ℕ) (cs : List ℕ) (b : Bool) → begins_name c ≡ b → is_within (fold behind_byte (cond b Within Nowhere) cs) ≡ true → Begins (c ∷ cs)
-  begins_by c cs true is k = let (r, xs, names, all, e) = goes_on cs k in (c ∷ r, xs, (is, names), all, ap (λ (l : List ℕ). c ∷ l) e)
-  begins_by c cs false is k = absurd (nowhere cs k)
+  begins (c ∷ cs) h = begins_by c cs (begins_name c) refl (λ k. goes_on cs k) h
 
   goes_on : (t : List ℕ) → walk Within t ≡ true → GoesOn t
   goes_on [] h = ([], [], refl, no_names, refl)
-  goes_on (c ∷ cs) h = goes_by c cs (in_name c) refl h
-
-  goes_by : (c : ℕ) (cs : List ℕ) (b : Bool) → in_name c ≡ b → is_within (fold behind_byte (cond b Within (cond (c == 58) Colon Nowhere)) cs) ≡ true → GoesOn (c ∷ cs)
-  goes_by c cs true is k = let (r, xs, names, all, e) = goes_on cs k in (c ∷ r, xs, ap (λ (b : Bool). b && list_all in_name r) is ∙ names, all, ap (λ (l : List ℕ). c ∷ l) e)
-  goes_by c cs false is k = ends_by c cs (c == 58) refl k
-
-  ends_by : (c : ℕ) (cs : List ℕ) (b : Bool) → (c == 58) ≡ b → is_within (fold behind_byte (cond b Colon Nowhere) cs) ≡ true → GoesOn (c ∷ cs)
-  ends_by c cs true is k =
-      let (x, xs, name, all, e) = begins_next cs k in
-      let colon : c ≡ 58 = eqb-true c 58 is in
-      ([], x ∷ xs, refl, All-cons IsName x xs name all, ap (λ (d : ℕ). d ∷ cs) colon ∙ ap (λ (l : List ℕ). 58 ∷ l) e)
-  ends_by c cs false is k = absurd (nowhere cs k)
+  goes_on (c ∷ cs) h = goes_by c cs (in_name c) refl (λ k. goes_on cs k) (λ k. begins_next cs k) h
 
   begins_next : (t : List ℕ) → walk Colon t ≡ true → BeginsNext t
   begins_next [] h = absurd (let none : ⊥ = cc in none)
-  begins_next (c ∷ cs) h = next_by c cs (c == 58) refl h
-
-  next_by : (c : ℕ) (cs : List ℕ) (b : Bool) → (c == 58) ≡ b → is_within (fold behind_byte (cond b Begin Nowhere) cs) ≡ true → BeginsNext (c ∷ cs)
-  next_by c cs true is k =
-      let (x, xs, name, all, e) = begins cs k in
-      let colon : c ≡ 58 = eqb-true c 58 is in
-      (x, xs, name, all, ap (λ (d : ℕ). d ∷ cs) colon ∙ ap (λ (l : List ℕ). 58 ∷ l) e)
-  next_by c cs false is k = absurd (nowhere cs k)
+  begins_next (c ∷ cs) h = next_by c cs (c == 58) refl (λ k. begins cs k) h
 
 pub path_found : (t : List ℕ) → is_path t ≡ true → (path : List (List ℕ)) × IsPath path × (t ≡ path_text path)
 path_found t h = let (x, xs, name, all, e) = begins t h in (x ∷ xs, All-cons IsName x xs name all, e)

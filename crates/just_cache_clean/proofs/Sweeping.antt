@@ -63,15 +63,15 @@ module _ (folder : List ℕ) (prefix : Option Modulepath) where
       subst (λ (b : ℕ). Sweeps folder prefix ys m n (added b r)) none (subst (λ (t : Result ℕ CacheError). Sweeps folder prefix ys m n t) (added_none r) s)
   swept_both xs ys m l n q r a (Sweeps.other name names k o t h rest) e s = Sweeps.other name (names ++ ys) m n (added a r) h (swept_both names ys m l n t r a rest e s)
   swept_both xs ys m l n q r a (Sweeps.stays name digest names k i o t is j rest) e s = Sweeps.stays name digest (names ++ ys) m i n (added a r) is j (swept_both names ys i l n t r a rest e s)
-  swept_both xs ys m l n q r a (Sweeps.goes name digest names k i p o t is j removed rest) e s = pick t refl e
+  swept_both xs ys m l n q r a (Sweeps.goes name digest names k i p o t is j removed rest) e s = pick t refl (λ b same. swept_both names ys p l n t r b rest same s) e
     where
-      pick : (u : Result ℕ CacheError) → t ≡ u → one_more u ≡ Ok a → Sweeps folder prefix ((name ∷ names) ++ ys) m n (added a r)
-      pick (Ok b) same f =
+      pick : (u : Result ℕ CacheError) → t ≡ u → ((b : ℕ) → t ≡ Ok b → Sweeps folder prefix (names ++ ys) p n (added b r)) → one_more u ≡ Ok a → Sweeps folder prefix ((name ∷ names) ++ ys) m n (added a r)
+      pick (Ok b) same more f =
           let so_many : suc b ≡ a = cc in
           subst (λ (c : ℕ). Sweeps folder prefix ((name ∷ names) ++ ys) m n (added c r)) so_many
           (subst (λ (w : Result ℕ CacheError). Sweeps folder prefix ((name ∷ names) ++ ys) m n w) (more_added b r)
-          (Sweeps.goes name digest (names ++ ys) m i p n (added b r) is j removed (swept_both names ys p l n t r b rest same s)))
-      pick (Err x) same f = absurd (let no : ⊥ = cc in no)
+          (Sweeps.goes name digest (names ++ ys) m i p n (added b r) is j removed (more b same)))
+      pick (Err x) same more f = absurd (let no : ⊥ = cc in no)
   swept_both xs ys m l n q r a (Sweeps.unread name digest names k o f is read off) e s = absurd (let none : ⊥ = cc in none)
   swept_both xs ys m l n q r a (Sweeps.left name digest names k i o f is j removed) e s = absurd (let none : ⊥ = cc in none)
   swept_both xs ys m l n q r a (Sweeps.want names k) e s = absurd (let none : ⊥ = cc in none)
@@ -81,11 +81,11 @@ module _ (folder : List ℕ) (prefix : Option Modulepath) where
   stopped xs ys m n q e (Sweeps.nothing k) h = absurd (let none : ⊥ = cc in none)
   stopped xs ys m n q e (Sweeps.other name names k o t other rest) h = Sweeps.other name (names ++ ys) m n (Err e) other (stopped names ys m n t e rest h)
   stopped xs ys m n q e (Sweeps.stays name digest names k i o t is j rest) h = Sweeps.stays name digest (names ++ ys) m i n (Err e) is j (stopped names ys i n t e rest h)
-  stopped xs ys m n q e (Sweeps.goes name digest names k i p o t is j removed rest) h = pick t refl h
+  stopped xs ys m n q e (Sweeps.goes name digest names k i p o t is j removed rest) h = pick t refl (λ same. stopped names ys p n t e rest same) h
     where
-      pick : (u : Result ℕ CacheError) → t ≡ u → one_more u ≡ Err e → Sweeps folder prefix ((name ∷ names) ++ ys) m n (Err e)
-      pick (Ok b) same f = absurd (let none : ⊥ = cc in none)
-      pick (Err x) same f = let one : x ≡ e = cc in Sweeps.goes name digest (names ++ ys) m i p n (Err e) is j removed (stopped names ys p n t e rest (same ∙ ap Err one))
+      pick : (u : Result ℕ CacheError) → t ≡ u → (t ≡ Err e → Sweeps folder prefix (names ++ ys) p n (Err e)) → one_more u ≡ Err e → Sweeps folder prefix ((name ∷ names) ++ ys) m n (Err e)
+      pick (Ok b) same more f = absurd (let none : ⊥ = cc in none)
+      pick (Err x) same more f = let one : x ≡ e = cc in Sweeps.goes name digest (names ++ ys) m i p n (Err e) is j removed (more (same ∙ ap Err one))
   stopped xs ys m n q e (Sweeps.unread name digest names k o f is read off) h =
       subst (λ (w : Result ℕ CacheError). Sweeps folder prefix ((name ∷ names) ++ ys) m n w) h (Sweeps.unread name digest (names ++ ys) m n f is read off)
   stopped xs ys m n q e (Sweeps.left name digest names k i o f is j removed) h =

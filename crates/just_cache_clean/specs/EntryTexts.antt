@@ -3,7 +3,8 @@ use Rattle.std.specs.Prelude.{◌≡◌, ◌⊎◌, ℕ, true, List, [], ◌∷�
 use Rattle.std.specs.List.{list_all}
 use Rattle.just_lang_types.specs.Names.{IsName}
 use Rattle.just_cache.specs.Digests.{is_lower_hex}
-use Rattle.just_cache.specs.Members.{path_text}
+use Rattle.just_cache.specs.Members.{path_text, entry_data}
+use Rattle.serde_json.specs.Written.{compact_text}
 
 -- the file name of the entry of that digest
 abbrev pub entry_name : List ℕ → List ℕ
@@ -19,7 +20,11 @@ IsEntryName digest name = IsDigest digest × (name ≡ entry_name digest)
 
 -- ---- texts
 
--- what stands in an entry in front of the path of its recipe, in the first form and in the second
+-- what a cache saves of the path of a recipe whose body ended well: its entry in the first form
+abbrev pub entry1 : List (List ℕ) → List ℕ
+entry1 path = compact_text (entry_data path)
+
+-- what stands in an entry in front of the path, in the first form and in the second
 abbrev pub front1 : List ℕ
 front1 = codes "{\"recipe\":\""
 
@@ -29,11 +34,7 @@ front2 digest = codes "{\"digest\":\"" ++ (digest ++ codes "\",\"format\":2,\"re
 abbrev pub back : List ℕ
 back = codes "\"}"
 
--- the entry of a path, in the first form
-abbrev pub entry1 : List (List ℕ) → List ℕ
-entry1 path = front1 ++ (path_text path ++ back)
-
--- and in the second, under that digest
+-- the entry of a path in the second form, under that digest
 abbrev pub entry2 : List (List ℕ) → List ℕ → List ℕ
 entry2 path digest = front2 digest ++ (path_text path ++ back)
 

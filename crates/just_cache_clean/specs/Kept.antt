@@ -1,5 +1,5 @@
 -- What the code keeps where a cache is cleaned, and what its steps answer.
-use Rattle.std.specs.Prelude.{◌≡◌, ℕ, Bool, List, Option, option_map, Result, Ok, Err, IfSome}
+use Rattle.std.specs.Prelude.{◌≡◌, ℕ, Bool, false, List, Option, option_map, Result, Ok, Err, IfSome}
 use Rattle.just_host_record.specs.declared.entry.HostFault.{HostFault}
 use Rattle.just_host_record.specs.World.{Moment}
 use Rattle.just_lang_types.specs.declared.recipe.Modulepath.{Modulepath}

@@ -8,12 +8,12 @@ mod enabled;
 mod groups;
 mod head;
 mod names;
-mod parameters;
 mod told;
 mod tree;
 
-pub use just_lang_layout::Layout;
-pub use just_lang_types::{Justfile, Texts};
+pub use just_lang_layout::{File, Layout, Module};
+pub use just_lang_syntax::AstRecipe;
+pub use just_lang_types::{Justfile, Modulepath, Recipe, Texts};
 pub use just_path_text::{NoMemory, Seq};
 pub use just_print_lists::ListedModule;
 pub use told::{Told, found_told, told_each};

@@ -8,12 +8,12 @@ ghost use Rattle.just_print_tree.specs.Told.{found_told};
 ghost use Rattle.just_print_tree.specs.Names.{parameters_of, names_to, listed_recipe, is_of_other, listed_alias, listed_aliases};
 
 use super::declared::is_within;
-use super::parameters::push_parameters;
 use super::told::{Told, found_told};
 use just_lang_shapes::groups_of;
 use just_lang_types::project::Justfile;
 use just_lang_types::{Alias, Modulepath, Texts};
 use just_path_text::{NoMemory, Seq, Text, TryClone};
+use just_print::push_parameters;
 use just_print_lists::{ListedAlias, ListedRecipe, names_of, push_where};
 use std::alloc::Global;
 
