@@ -28,12 +28,14 @@ use Rattle.just_cli.specs.Acts.{Act, AreActs, folders_in, captures_in}
 use Rattle.just_cli.specs.Altered.{IsAltered, EndsAsItWas, StaysAsItWas}
 use Rattle.just_cli_plan.specs.Pairs.{entries_of as entries_in}
 use Rattle.just_cli.specs.Preparing.{EndsWith, LeavesActs, EndsActs, Performs, Prepares}
-use Rattle.just_cli.specs.Record.{Gains, IsTold, is_captured, IsQuiet, Removes, EndsWell, EndsIll, EndsUnopened, EndsBefore}
+use Rattle.just_cli.specs.declared.task.Other.{Other}
+use Rattle.just_cli.specs.Other.{Does, HeedsQuiet, LeavesFor}
+use Rattle.just_cli.specs.Record.{Gains, IsTold, AreRefusals, is_captured, IsQuiet, Removes, EndsWell, EndsIll, EndsUnopened, EndsBefore}
 use Rattle.just_cli_plan.specs.Request.{outline_of}
 use Rattle.just_cli.specs.Answered.{Asking, RefusedFor, IsServed}
 use Rattle.just_cli.specs.Asked.{Asked}
 use Rattle.just_cli.specs.Request.{ArePassed}
-use Rattle.just_cli.specs.Run.{HasPlan, IsRun, IsRefused, refusal}
+use Rattle.just_cli.specs.Run.{HasPlan, IsRun, IsRefused, IsOther, refusal}
 use Rattle.just_exec.specs.Codes.{exit_code}
 use Rattle.just_cli.proofs.Altering.{quiet_first, quiet_rest, clearing, removes_none, behind_book, ends_as_it_was, stays_as_it_was}
 use Rattle.just_cli.proofs.Answered.{AsksOneIn, is_found}
@@ -140,6 +142,47 @@ pub refused_before : (q : Asking) (before between middle after : Moment) → Ask
 refused_before q before between middle after one quiet kept made r e h is no_history none (listings, passed, p) asks_quiet tells world removes =
     let same : r ≡ Err (refusal e) = is ∙ ap (λ es. let x : Failure = record { error = e; plan = None; history = es; code = exit_code e } in Err x) no_history in
     subst (λ x. IsRefused q e before after x) (sym same) (refused q before between middle after quiet kept made none e listings p tells world removes one passed asks_quiet)
+
+-- ---- what is no run
+
+-- the folders are removed behind it
+cleared_so : (folders acts : List (List ℕ)) (settled after : Moment) → folders ≡ acts → Removes folders settled after → Gains AreRefusals settled after × Removes acts settled after
+cleared_so folders acts settled after same removes =
+    let c = clearing folders settled after removes in
+    ((c.0, c.1, c.2), subst (λ fs. Removes fs settled after) same removes)
+
+-- what was done for it
+pub other_done : (q : Asking) (before between settled after : Moment) → AsksOneIn q before.world → (kept made : List (List ℕ)) (x : Asked) (c : Other) (quiet : Bool) (r : Result Report Failure)
+    → ((listings : List Entry) (acts : List Act) (es : List Entry) → LeavesActs listings acts es → LeavesFor c listings acts es) → kept ≡ [] → Prepares {A = Asked} q.global q.asks q.begins before between kept made (Ok x)
+    → HeedsQuiet q.quiet c quiet → Does c quiet between settled r → Removes made settled after → IsOther q x c before after r
+other_done q before between settled after one kept made x c quiet r leaves none (listings, passed, p) heeds does removes = record {
+  listings = listings;
+  acts = p.acts;
+  between = between;
+  settled = settled;
+  found = is_found q before.world one listings passed p.acts between.world (Ok x) p.answers;
+  prepared = (listings ++ p.entries, p.grew ∙ append_assoc before.entries listings p.entries, leaves listings p.acts (listings ++ p.entries) (leaves_behind listings p.acts p.entries p.leaves));
+  quiet = quiet;
+  quiet_is = heeds;
+  done = does;
+  cleared = cleared_so made (folders_in p.acts) settled after (made_are kept made (folders_in p.acts) none p.folders) removes;
+}
+
+-- a question takes nothing
+pub question_done : (q : Asking) (before between settled after : Moment) → AsksOneIn q before.world → (kept made : List (List ℕ)) (c : Other) (quiet : Bool) (r : Result Report Failure) → LeavesFor c [] [] [] → kept ≡ [] → made ≡ kept → between ≡ before
+    → q.asks [] [] before.world (Ok (Asked.other c)) → HeedsQuiet q.quiet c quiet → Does c quiet between settled r → Removes made settled after → IsOther q (Asked.other c) c before after r
+question_done q before between settled after one kept made c quiet r leaves none same at asks heeds does removes = record {
+  listings = [];
+  acts = [];
+  between = before;
+  settled = settled;
+  found = is_found q before.world one [] (inl refl) [] before.world (Ok (Asked.other c)) asks;
+  prepared = ([], sym (append-nil before.entries), leaves);
+  quiet = quiet;
+  quiet_is = heeds;
+  done = subst (λ (m : Moment). Does c quiet m settled r) at does;
+  cleared = cleared_so made [] settled after (same ∙ none) removes;
+}
 
 -- ---- with a plan
 

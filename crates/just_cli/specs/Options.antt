@@ -2,7 +2,6 @@
 use Rattle.std.specs.Prelude.{ℕ, Bool, true, false, not, ◌||◌, ◌&&◌, if◌then◌else◌, nat_le, List, [], ◌∷◌, Option, Some, None, option_map, Result, Ok, Err, codes}
 use Rattle.std.specs.Int.NonZero.{non_zero_u64_get}
 use Rattle.just_path_text.specs.Environ.{or_else}
-use Rattle.just_config_words.specs.declared.subcommand.Subcommand.{Subcommand}
 use Rattle.just_config_words.specs.declared.subcommand.Subcommand.TheVariants as command
 use Rattle.just_config.specs.declared.config.Config.{Config}
 use Rattle.just_config.specs.Verbosities.{level}
@@ -14,6 +13,7 @@ use Rattle.just_env.specs.declared.ask.DotenvAsk.{DotenvAsk}
 use Rattle.just_cache.specs.Places.{cache_folder}
 use Rattle.just_search.specs.Finding.{folder_of, given_path}
 use Rattle.just_cli_plan.specs.declared.wanted.Wanted.{Wanted}
+use Rattle.just_cli.specs.Replies.{Reply}
 
 -- ---- what isn't built
 
@@ -27,46 +27,26 @@ word_if given word = if given then Some word else None
 
 -- the word of the first flag that isn't built
 abbrev pub flag_not_built : Config → Option (List ℕ)
-flag_not_built c =
-    or_else (word_if c.default_list (codes "--default-list"))
-    (word_if c.dry_run (codes "--dry-run"))
+flag_not_built c = word_if c.dry_run (codes "--dry-run")
 
--- the word of a command
-abbrev pub command_word : Subcommand → List ℕ
-command_word (command.Choose ws) = codes "--choose"
-command_word (command.Clean ws) = codes "--clean"
-command_word (command.Command ws) = codes "--command"
-command_word (command.Dump ws) = codes "--dump"
-command_word (command.Edit ws) = codes "--edit"
-command_word (command.Evaluate ws) = codes "--evaluate"
-command_word (command.Fmt ws) = codes "--fmt"
-command_word (command.Groups ws) = codes "--groups"
-command_word (command.Init ws) = codes "--init"
-command_word (command.List ws) = codes "--list"
-command_word (command.Request ws) = codes "--request"
-command_word (command.Show ws) = codes "--show"
-command_word (command.Summary ws) = codes "--summary"
-command_word (command.Usage ws) = codes "--usage"
-command_word (command.Variables ws) = codes "--variables"
-
--- the word of one that isn't built; `--init` alone is
+-- the word of a command that isn't built
 abbrev pub command_not_built : Option Subcommand → Option (List ℕ)
 command_not_built None = None
-command_not_built (Some (command.Choose ws)) = Some (command_word (command.Choose ws))
-command_not_built (Some (command.Clean ws)) = Some (command_word (command.Clean ws))
-command_not_built (Some (command.Command ws)) = Some (command_word (command.Command ws))
-command_not_built (Some (command.Dump ws)) = Some (command_word (command.Dump ws))
-command_not_built (Some (command.Edit ws)) = Some (command_word (command.Edit ws))
-command_not_built (Some (command.Evaluate ws)) = Some (command_word (command.Evaluate ws))
-command_not_built (Some (command.Fmt ws)) = Some (command_word (command.Fmt ws))
-command_not_built (Some (command.Groups ws)) = Some (command_word (command.Groups ws))
+command_not_built (Some (command.Choose ws)) = Some (codes "--choose")
+command_not_built (Some (command.Clean ws)) = None
+command_not_built (Some (command.Command ws)) = Some (codes "--command")
+command_not_built (Some (command.Dump ws)) = None
+command_not_built (Some (command.Edit ws)) = Some (codes "--edit")
+command_not_built (Some (command.Evaluate ws)) = None
+command_not_built (Some (command.Fmt ws)) = None
+command_not_built (Some (command.Groups ws)) = None
 command_not_built (Some (command.Init ws)) = None
-command_not_built (Some (command.List ws)) = Some (command_word (command.List ws))
-command_not_built (Some (command.Request ws)) = Some (command_word (command.Request ws))
-command_not_built (Some (command.Show ws)) = Some (command_word (command.Show ws))
-command_not_built (Some (command.Summary ws)) = Some (command_word (command.Summary ws))
-command_not_built (Some (command.Usage ws)) = Some (command_word (command.Usage ws))
-command_not_built (Some (command.Variables ws)) = Some (command_word (command.Variables ws))
+command_not_built (Some (command.List ws)) = None
+command_not_built (Some (command.Request ws)) = None
+command_not_built (Some (command.Show ws)) = None
+command_not_built (Some (command.Summary ws)) = None
+command_not_built (Some (command.Usage ws)) = None
+command_not_built (Some (command.Variables ws)) = None
 
 -- the word of what isn't built, of the first in the order of the options
 abbrev pub not_built : Config → Option (List ℕ)
@@ -164,6 +144,11 @@ is_lacking (error.ArgumentTooManyValues recipe parameter found max) = false
 is_lacking (error.ArgumentPatternMismatch argument recipe parameter texts) = false
 is_lacking (error.EmptyListArgument recipe parameter) = false
 is_lacking (error.ExcessInvocations invocations) = false
+is_lacking (error.RecipeRequired subcommand) = false
+is_lacking (error.UnknownGroup group) = false
+is_lacking (error.EvalUnknownSubmodule submodule) = false
+is_lacking (error.EvalUnknownSubmoduleOrVariable name) = false
+is_lacking error.FormatCheckFoundDiff = false
 is_lacking error.ClosureLimit = false
 is_lacking (error.InvalidShebang recipe shebang) = false
 is_lacking (error.Code recipe line code message) = false
@@ -186,8 +171,8 @@ is_lacking (error.WriteJustfile justfile io) = false
 is_lacking (error.Interrupted signal) = false
 is_lacking error.NoMemory = false
 
-abbrev pub lacks : Result Outline Error → Bool
-lacks (Ok o) = false
+abbrev pub lacks : Result Reply Error → Bool
+lacks (Ok x) = false
 lacks (Err e) = is_lacking e
 
 -- whether a recipe or a module that is asked for is missing: the justfile lacks it, or the file of an optional module isn't there
@@ -235,6 +220,11 @@ is_missing (error.ArgumentTooManyValues recipe parameter found max) = false
 is_missing (error.ArgumentPatternMismatch argument recipe parameter texts) = false
 is_missing (error.EmptyListArgument recipe parameter) = false
 is_missing (error.ExcessInvocations invocations) = false
+is_missing (error.RecipeRequired subcommand) = false
+is_missing (error.UnknownGroup group) = false
+is_missing (error.EvalUnknownSubmodule submodule) = false
+is_missing (error.EvalUnknownSubmoduleOrVariable name) = false
+is_missing error.FormatCheckFoundDiff = false
 is_missing error.ClosureLimit = false
 is_missing (error.InvalidShebang recipe shebang) = false
 is_missing (error.Code recipe line code message) = false
@@ -262,6 +252,6 @@ abbrev pub empty_outline : Config → Outline
 empty_outline c = record { nodes = []; invocations = []; jobs = option_map non_zero_u64_get c.jobs; messages = [] }
 
 -- the answer to the words, where they may allow that a name is missing: then nothing is run
-abbrev pub allowed : Config → Result Outline Error → Result Outline Error
-allowed c (Ok o) = Ok o
-allowed c (Err e) = if c.allow_missing && is_missing e then Ok (empty_outline c) else Err e
+abbrev pub allowed : Config → Result Reply Error → Result Reply Error
+allowed c (Ok x) = Ok x
+allowed c (Err e) = if c.allow_missing && is_missing e then Ok (Reply.runs (empty_outline c)) else Err e

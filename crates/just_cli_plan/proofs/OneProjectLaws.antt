@@ -30,7 +30,7 @@ made_one environ wins layout j k none h g =
     one_justfile_of (meant environ) (links_of wins layout g.causes) wins layout j k
     (subst (λ (cs : List (Option ℕ)). IsJustfileOf (meant environ) (links_of wins layout cs) wins layout j) causes h.justfile) g.justfile
 
-soundly_one : (environ : Pairs) (layout : Layout) (j k : Justfile) → IsSoundlyMadeOf environ layout j → IsSoundlyMadeOf environ layout k → j ≡ k
+pub soundly_one : (environ : Pairs) (layout : Layout) (j k : Justfile) → IsSoundlyMadeOf environ layout j → IsSoundlyMadeOf environ layout k → j ≡ k
 soundly_one environ layout j k h g =
     made_one environ g.wins layout j k (no_circular_recipe environ g.wins layout g.none_broken)
     (subst (λ (w : Wins). IsMadeOf environ w layout j) (one_wins layout h.wins g.wins h.wins_are g.wins_are) h.made) g.made

@@ -33,7 +33,7 @@ use Rattle.just_cli_plan.specs.Agree.{TakesOwn}
 use Rattle.just_cli_plan.specs.Own.{is_size, is_too_big, is_fault, is_uncaptured, IsOwn}
 use Rattle.just_cli_plan.specs.Planned.{messages_of, error_of_plan}
 use Rattle.just_cli_plan.specs.Request.{SourcesRequest, ProjectRequest, LoadedRequest, ScopesRequest, KeysRequest, ClosureRequest, Outline, AssemblesJustfile, ChecksFeatures, FindsProject, LoadsDotenv, EvaluatesVariables, AsksKeys, InvokesKeys, ClosesKeys, MakesPlan, PlansKeys, PlansProject, PlansLoaded, PlansSources, no_project, of_project}
-use Rattle.just_cli_plan.specs.Steps.{stops, goes_on}
+use Rattle.just_cli_plan.specs.Steps.{Then, stops, goes_on}
 use Rattle.just_cli_plan.proofs.Steps.{GivesOwn, GivesOwnOf, Finds, own_of, own_refusal, same_refusal, same_found, refused_or_found, then_own, then_own_of, finds_then}
 
 -- ---- options and answers
@@ -80,7 +80,7 @@ assembles_justfile s (Err e) (Err f) p m q n =
     (p.2 ∙ ap (λ (l : LangError). error_of_lang l) (projects_agree.errors s.sources s.environ.pairs p.0 q.0 p.1 q.1 (determined p.0 e p.2 m.1) (determined q.0 f q.2 n.1)) ∙ sym q.2)
 
 -- the modules of a justfile that they make come to an end
-abbrev EndsProject : ProjectRequest → Type 0
+abbrev pub EndsProject : ProjectRequest → Type 0
 EndsProject p = End p.modules
 
 makes_ending : Finds (λ (s : SourcesRequest). Unit {0}) AssemblesJustfile EndsProject
@@ -101,7 +101,7 @@ keeps_features k ends found p = subst EndsProject (sym p.1) ends
 pub finds_project : GivesOwn FindsProject
 finds_project = then_own AssemblesJustfile ChecksFeatures assembles_justfile checks_features
 
-finds_ending : Finds (λ (s : SourcesRequest). Unit {0}) FindsProject EndsProject
+pub finds_ending : Finds (λ (s : SourcesRequest). Unit {0}) FindsProject EndsProject
 finds_ending = finds_then (λ (s : SourcesRequest). Unit {0}) EndsProject EndsProject AssemblesJustfile ChecksFeatures makes_ending keeps_features
 
 -- a refusal of dotenv pairs that is determined as the error that tells it
@@ -147,14 +147,14 @@ module _ (w : World) where
       (ap (λ x. Err x) (p.2 ∙ ap (λ (l : EnvError). error_of_env l) (one_refusal p.0 q.0 one.0) ∙ sym q.2), one.1, one.2)
 
 -- the modules stay
-abbrev EndsLoaded : LoadedRequest → Type 0
+abbrev pub EndsLoaded : LoadedRequest → Type 0
 EndsLoaded p = End p.modules
 
 keeps_dotenv : (told : Option World) (cs : List Capture) → Finds EndsProject (LoadsDotenv told cs) EndsLoaded
 keeps_dotenv told cs k ends found p = subst (λ (ms : List Justfile). End ms) (sym p.3) ends
 
 -- a project has one evaluation, since no variable leads to itself
-evaluates_variables : GivesOwnOf EndsLoaded EvaluatesVariables
+pub evaluates_variables : GivesOwnOf EndsLoaded EvaluatesVariables
 evaluates_variables k ends (Ok a) (Ok b) p m q n =
     let scopes = one_found a.scopes b.scopes (evaluations_agree k.modules k.dotenv k.environ k.wanted.overrides (Ok a.scopes) (Ok b.scopes) ends.variables p.3 q.3) in
     ap (λ x. Ok x)
@@ -223,7 +223,7 @@ makes_plan c (Err e) (Err f) p m q n = ap (λ x. Err x) (p.2 ∙ ap (λ (g : Pla
 
 -- ---- the chain
 
-plans_keys : GivesOwn PlansKeys
+pub plans_keys : GivesOwn PlansKeys
 plans_keys = then_own InvokesKeys _ invokes_keys (then_own ClosesKeys MakesPlan closes_keys makes_plan)
 
 -- of a justfile whose modules come to an end
@@ -231,21 +231,29 @@ plans_project : GivesOwnOf EndsLoaded PlansProject
 plans_project =
     then_own_of EndsLoaded (λ (s : ScopesRequest). Unit {0}) EvaluatesVariables PlansKeys evaluates_variables (λ k ends found p. tt) (own_of (λ (s : ScopesRequest). Unit {0}) PlansKeys plans_keys)
 
--- a project has one plan, or one refusal, where the same children are run for its pairs
+-- a project whose modules come to an end has one answer behind its pairs, where the same children are run for these
+module _ {B : Type 0} (looks : LoadedRequest → Result B Error → Type 0) (one_look : GivesOwnOf EndsLoaded looks) (w : World) (k : ProjectRequest) (ends : EndsProject k) where
+  abbrev pub BehindPairs : List Capture → Result B Error → Type 0
+  BehindPairs cs r = Then (LoadsDotenv (Some w) cs) looks k r
+
+  pub behind_pairs : TakesOwn BehindPairs
+  behind_pairs cs ds xs ys is are r s (stops e p at) own (stops f q so) other =
+      let one = loads_dotenv w k cs ds xs ys is are (Err e) (Err f) p (own_refusal r e at own) q (own_refusal s f so other) in
+      (at ∙ same_refusal e f one.0 ∙ sym so, one.1, one.2)
+  behind_pairs cs ds xs ys is are r s (stops e p at) own (goes_on y q more) other =
+      let one = loads_dotenv w k cs ds xs ys is are (Err e) (Ok y) p (own_refusal r e at own) q tt in
+      absurd (refused_or_found e y one.0)
+  behind_pairs cs ds xs ys is are r s (goes_on x p more) own (stops f q so) other =
+      let one = loads_dotenv w k cs ds xs ys is are (Ok x) (Err f) p tt q (own_refusal s f so other) in
+      absurd (refused_or_found f x (sym one.0))
+  behind_pairs cs ds xs ys is are r s (goes_on x p more) own (goes_on y q further) other =
+      let one = loads_dotenv w k cs ds xs ys is are (Ok x) (Ok y) p tt q tt in
+      let there : looks y r = subst (λ z. looks z r) (same_found x y one.0) more in
+      (one_look y (keeps_dotenv (Some w) ds k ends y q) r s there own further other, one.1, one.2)
+
+-- it has one plan, or one refusal
 loaded_plan : (w : World) (k : ProjectRequest) → EndsProject k → TakesOwn (λ cs r. PlansLoaded (Some w) cs k r)
-loaded_plan w k ends cs ds xs ys is are r s (stops e p at) own (stops f q so) other =
-    let one = loads_dotenv w k cs ds xs ys is are (Err e) (Err f) p (own_refusal r e at own) q (own_refusal s f so other) in
-    (at ∙ same_refusal e f one.0 ∙ sym so, one.1, one.2)
-loaded_plan w k ends cs ds xs ys is are r s (stops e p at) own (goes_on y q more) other =
-    let one = loads_dotenv w k cs ds xs ys is are (Err e) (Ok y) p (own_refusal r e at own) q tt in
-    absurd (refused_or_found e y one.0)
-loaded_plan w k ends cs ds xs ys is are r s (goes_on x p more) own (stops f q so) other =
-    let one = loads_dotenv w k cs ds xs ys is are (Ok x) (Err f) p tt q (own_refusal s f so other) in
-    absurd (refused_or_found f x (sym one.0))
-loaded_plan w k ends cs ds xs ys is are r s (goes_on x p more) own (goes_on y q further) other =
-    let one = loads_dotenv w k cs ds xs ys is are (Ok x) (Ok y) p tt q tt in
-    let there : PlansProject y r = subst (λ z. PlansProject z r) (same_found x y one.0) more in
-    (plans_project y (keeps_dotenv (Some w) ds k ends y q) r s there own further other, one.1, one.2)
+loaded_plan w k ends = behind_pairs PlansProject plans_project w k ends
 
 pub plans_sources : (w : World) (s : SourcesRequest) → TakesOwn (λ cs r. PlansSources (Some w) cs s r)
 plans_sources w s cs ds xs ys is are r t (no_project e p none at) own (no_project f q nothing so) other =

@@ -63,7 +63,7 @@ fn plan_of_closure(
 }
 
 /// The plan of what the words ask for, with of each node whether the message of its exit code is told.
-pub(crate) fn plan_of_keys(
+pub fn plan_of_keys(
     alloc: Global,
     justfile: &Justfile,
     scopes: &Scopes,

@@ -39,7 +39,7 @@ fn check_features(allowed: bool, modules: &[&Justfile]) -> Result<(), Error>
 }
 
 /// Refuses an unstable feature that a module of a project uses and that neither it nor the words allow.
-fn check_project(alloc: Global, allowed: bool, justfile: &Justfile) -> Result<(), Error>
+pub fn check_project(alloc: Global, allowed: bool, justfile: &Justfile) -> Result<(), Error>
     ensures stable { IfOk result (λ _. (modules : List Justfile) → AreModules (justfile.now ∷ []) modules → feature_used allowed modules ≡ None) }
     ensures refused { IfErr result (OrMemory (λ e. (modules : List Justfile) × AreModules (justfile.now ∷ []) modules × (u : Feature) × (feature_used allowed modules ≡ Some u) × (e ≡ error.UnstableFeature u))) }
 {
@@ -51,7 +51,7 @@ fn check_project(alloc: Global, allowed: bool, justfile: &Justfile) -> Result<()
 }
 
 /// The values of a project's variables, whose modules have these dotenv pairs.
-fn scopes_of(
+pub fn scopes_of(
     alloc: Global,
     justfile: &Justfile,
     dotenv: &[DotenvOf],

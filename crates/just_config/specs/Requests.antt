@@ -2,6 +2,7 @@
 use Rattle.std.specs.Prelude.{ℕ, Bool, false, ◌==◌, if◌then◌else◌, ◌+◌, List, [], ◌∷◌, Option, Some, None, codes, is_some, option_and_then}
 use Rattle.serde_json.specs.Data.{Data, Members, null, string, object, member, no_members}
 use Rattle.serde_json.specs.Read.{read}
+use Rattle.serde_json.specs.Written.{compact_text}
 use Rattle.serde_json.specs.Find.{get, as_object, as_str}
 use Rattle.just_config.specs.declared.request.Request.{Request}
 use Rattle.just_config.specs.declared.request.Request.TheVariants as request
@@ -47,3 +48,7 @@ text_or_null (Some t) = string t
 
 abbrev pub response_data : Response → Data
 response_data (response.EnvironmentVariable found) = object (member field (text_or_null found) no_members)
+
+-- its text, as JSON in its shortest form
+abbrev pub response_text : Response → List ℕ
+response_text r = compact_text (response_data r)

@@ -24,6 +24,7 @@ pub use help::HELP;
 pub use just_config_words::{Arguments, Read, Subcommand, Usage, UsageKind, read_words};
 pub use just_lang_types::{Modulepath, Override, UnstableFeature};
 pub use just_path::{Environ, NoMemory, Seq, Text, Utf8PathBuf};
+pub use module_path::path_of_words;
 pub use positional::Positional;
 pub use request::{Request, Response};
 pub use search_config::SearchConfig;

@@ -152,7 +152,7 @@ fn components_of(alloc: Global, words: &[Text]) -> Result<Option<Seq<Text>>, NoM
 }
 
 /// The names of a module path: joined by `::` in one word, or one a word; none where a part is no name.
-pub(crate) fn module_path(alloc: Global, words: &[Text]) -> Result<Option<Seq<Text>>, NoMemory>
+pub fn path_of_words(alloc: Global, words: &[Text]) -> Result<Option<Seq<Text>>, NoMemory>
     ensures { IfOk result (λ r. r ≡ module_path words.now) }
 {
     match components_of(alloc, words)? {

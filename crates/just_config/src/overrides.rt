@@ -2,7 +2,7 @@
 ghost use Rattle.std.specs.Prelude.{◌≡◌, ◌++◌, ◌∷◌, [], IfOk, Some, None, MatchResult};
 ghost use Rattle.just_config.specs.Config.{pairs_of, as_override, override_of, overrides_of, ill_override};
 
-use super::module_path::module_path;
+use super::module_path::path_of_words;
 use just_lang_types::{Modulepath, Override};
 use just_path_text::{NoMemory, Seq, Text};
 use std::alloc::Global;
@@ -67,7 +67,7 @@ fn as_override(alloc: Global, names: Seq<Text>, value: &Text) -> Result<Option<O
 fn override_of(alloc: Global, pair: &Named) -> Result<Option<Override>, NoMemory>
     ensures { IfOk result (λ o. o ≡ override_of pair.now) }
 {
-    match module_path(alloc, slice::from_ref(&pair.0))? {
+    match path_of_words(alloc, slice::from_ref(&pair.0))? {
         Some(names) => as_override(alloc, names, &pair.1),
         None => Ok(None),
     }

@@ -7,7 +7,7 @@ use super::command::{
     is_empty_command, name_of, path_words, request_words, surplus_arguments, surplus_overrides,
 };
 use super::listed::listed;
-use super::module_path::module_path;
+use super::module_path::path_of_words;
 use super::request::is_one_request;
 use super::{Arguments, ConfigError, Positional, Subcommand};
 use just_config_words::add_copies;
@@ -84,7 +84,7 @@ fn ill_path(alloc: Global, subcommand: &Option<Subcommand>) -> Result<Option<Tex
     let Some(words) = path_words(subcommand) else {
         return Ok(None);
     };
-    match module_path(alloc, words.as_slice())? {
+    match path_of_words(alloc, words.as_slice())? {
         Some(_) => Ok(None),
         None => Ok(Some(spaced(alloc, words.as_slice())?)),
     }

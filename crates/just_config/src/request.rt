@@ -1,8 +1,8 @@
 //! Requests and their answers, as JSON.
-ghost use Rattle.std.specs.Prelude.{◌≡◌, IfOk, option_map, option_and_then};
+ghost use Rattle.std.specs.Prelude.{◌≡◌, IfOk, option_map, option_and_then, string_bytes};
 ghost use Rattle.serde_json.specs.View.{view};
 ghost use Rattle.serde_json.specs.Find.{get, as_str};
-ghost use Rattle.just_config.specs.Requests.{field, request_of, as_request, has_one_field, is_one_request, response_data};
+ghost use Rattle.just_config.specs.Requests.{field, request_of, as_request, has_one_field, is_one_request, response_data, response_text};
 
 use just_path_text::{NoMemory, Seq, Text};
 use serde_json::{Category, Map, Value};
@@ -93,6 +93,17 @@ impl Response {
         let mut members = Map::new(alloc);
         serde_json::put(&mut members, alloc, "environment-variable", found)?;
         Ok(Value::Object(members))
+    }
+
+    /// The text of the response, as JSON in its shortest form.
+    ///
+    /// ```
+    /// // of the value `/h`: `{"environment-variable":"/h"}`
+    /// ```
+    pub fn text(&self, alloc: Global) -> Result<String, NoMemory>
+        ensures { IfOk result (λ s. string_bytes s ≡ response_text self.now) }
+    {
+        Ok(self.value(alloc)?.to_string(alloc)?)
     }
 }
 

@@ -1,12 +1,15 @@
 -- What the path of a command leads to.
-use Rattle.std.proofs.Common.{◌≡◌, ℕ, ◌+◌, ◌<◌, true, false, List, [], ◌∷◌, ◌++◌, length, drop, get_or, Option, Some, None, Err, refl, sym, ap, ◌∙◌}
+use Rattle.std.proofs.Common.{◌≡◌, ℕ, suc, ◌+◌, ◌<◌, true, false, List, [], ◌∷◌, ◌++◌, length, drop, drop-cons, get_or, Option, Some, None, Ok, Err, refl, sym, ap, ◌∙◌, subst, arith}
+use Rattle.std.specs.Prelude.{if◌then◌else◌}
 use Rattle.std.proofs.lemmas.List.{drop_more}
 use Rattle.just_lang_types.specs.declared.project.Justfile.{Justfile}
+use Rattle.just_lang_types.specs.declared.project.LangError.{LangError}
 use Rattle.just_lang_types.specs.declared.project.LangError.TheVariants as error
 use Rattle.just_lang_types.specs.Modules.{path_of}
+use Rattle.just_eval_closure.specs.Answers.{Answer, and_then}
 use Rattle.just_eval_words.specs.Paths.{joined_path}
-use Rattle.just_eval_words.specs.Names.{is_absent, within, module_named}
-use Rattle.just_eval_words.specs.Commands.{no_inner, inner_at}
+use Rattle.just_eval_words.specs.Names.{Target, is_absent, within, module_named, last_target}
+use Rattle.just_eval_words.specs.Commands.{no_inner, inner_at, named_at}
 
 pub inner_absent : (j : Justfile) (name : List ℕ) → is_absent j name ≡ true → error.ModuleAbsent name ≡ no_inner j name
 inner_absent j name h = rw h refl
@@ -27,3 +30,34 @@ module _ (ms : List Justfile) where
   -- and isn't
   pub inner_refused : (names : List (List ℕ)) (i : ℕ) (name : List ℕ) (j : Justfile) → i < length names → name ≡ get_or names i name → module_named ms j name ≡ None → inner_at ms (drop i names) j ≡ Err (no_inner j name)
   inner_refused names i name j lt is h = inner_next names i name j lt is ∙ ap (λ (o : Option Justfile). within o (λ k. inner_at ms (drop (i + 1) names) k) (no_inner j name)) h
+
+  -- names, and one more behind them
+  named_split : (front : List (List ℕ)) (last : List ℕ) (j : Justfile) → named_at ms (front ++ last ∷ []) j ≡ and_then (inner_at ms front j) (λ m. last_target ms m last last)
+  named_split [] last j = refl
+  named_split (name ∷ []) last j = pick (module_named ms j name)
+    where
+      pick : (o : Option Justfile) → within o (λ m. named_at ms (last ∷ []) m) (no_inner j name) ≡ and_then (within o (λ m. inner_at ms [] m) (no_inner j name)) (λ m. last_target ms m last last)
+      pick None = refl
+      pick (Some m) = refl
+  named_split (name ∷ other ∷ front) last j = pick (module_named ms j name)
+    where
+      pick : (o : Option Justfile)
+          → within o (λ m. named_at ms (other ∷ (front ++ last ∷ [])) m) (no_inner j name) ≡ and_then (within o (λ m. inner_at ms (other ∷ front) m) (no_inner j name)) (λ m. last_target ms m last last)
+      pick None = refl
+      pick (Some m) = named_split (other ∷ front) last m
+
+  pub named_last : (names front : List (List ℕ)) (last : List ℕ) (j m : Justfile) (t : Target) → names ≡ front ++ last ∷ [] → inner_at ms front j ≡ Ok m → last_target ms m last last ≡ Ok t → named_at ms names j ≡ Ok t
+  named_last names front last j m t is inner h =
+      ap (λ (ns : List (List ℕ)). named_at ms ns j) is ∙ named_split front last j ∙ ap (λ (a : Answer Justfile). and_then a (λ k. last_target ms k last last)) inner ∙ h
+
+  pub named_refused : (names front : List (List ℕ)) (last : List ℕ) (j : Justfile) (e : LangError) → names ≡ front ++ last ∷ [] → inner_at ms front j ≡ Err e → named_at ms names j ≡ Err e
+  named_refused names front last j e is inner =
+      ap (λ (ns : List (List ℕ)). named_at ms ns j) is ∙ named_split front last j ∙ ap (λ (a : Answer Justfile). and_then a (λ k. last_target ms k last last)) inner
+
+  pub named_unknown : (names front : List (List ℕ)) (last : List ℕ) (j m : Justfile) (e : LangError) → names ≡ front ++ last ∷ [] → inner_at ms front j ≡ Ok m → last_target ms m last last ≡ Err e → named_at ms names j ≡ Err e
+  named_unknown names front last j m e is inner h =
+      ap (λ (ns : List (List ℕ)). named_at ms ns j) is ∙ named_split front last j ∙ ap (λ (a : Answer Justfile). and_then a (λ k. last_target ms k last last)) inner ∙ h
+
+  pub named_none : (names : List (List ℕ)) (j : Justfile) → length names ≡ 0 → named_at ms names j ≡ Ok (Target.to_module j)
+  named_none [] j h = refl
+  named_none (n ∷ ns) j h = absurd (omega (arith, h))

@@ -6,7 +6,7 @@ use Rattle.just_lang_types.specs.declared.project.LangError.TheVariants as error
 use Rattle.just_lang_types.specs.Modules.{path_of}
 use Rattle.just_eval_closure.specs.Answers.{Answer}
 use Rattle.just_eval_words.specs.Paths.{joined_path}
-use Rattle.just_eval_words.specs.Names.{is_absent, within, module_named}
+use Rattle.just_eval_words.specs.Names.{Target, is_absent, within, module_named, last_target}
 
 -- why a name that has to be that of a module is none
 abbrev pub no_inner : Justfile → List ℕ → LangError
@@ -17,3 +17,9 @@ module _ (modules : List Justfile) where
   abbrev pub inner_at : List (List ℕ) → Justfile → Answer Justfile
   inner_at [] j = Ok j
   inner_at (name ∷ names) j = within (module_named modules j name) (λ m. inner_at names m) (no_inner j name)
+
+  -- what the last of some names comes to, where those in front of it lead to a module; no names come to the module itself
+  abbrev pub named_at : List (List ℕ) → Justfile → Answer Target
+  named_at [] j = Ok (Target.to_module j)
+  named_at (name ∷ []) j = last_target modules j name name
+  named_at (name ∷ other ∷ names) j = within (module_named modules j name) (λ m. named_at (other ∷ names) m) (no_inner j name)

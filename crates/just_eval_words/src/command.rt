@@ -2,10 +2,13 @@
 
 ghost use Rattle.std.specs.Prelude.{◌≡◌, ◌≢◌, Ok, Err, IfOk, IfErr, map};
 ghost use Rattle.just_lang_types.specs.declared.project.LangError.TheVariants as error;
-ghost use Rattle.just_eval_words.specs.Commands.{no_inner, inner_at};
+ghost use Rattle.just_eval_words.specs.Commands.{no_inner, inner_at, named_at};
+ghost use Rattle.just_eval_words.specs.Sights as sight;
 
+use super::found::Target;
 use super::name::{is_absent, module_named};
 use super::path::joined_path;
+use super::target::last_target;
 use just_lang_types::project::{Justfile, LangError};
 use just_path_text::{NoMemory, Text};
 use std::alloc::Global;
@@ -43,4 +46,23 @@ pub fn inner_module<'p>(
         }
     }
     Ok(inside)
+}
+
+/// What the last of some names comes to, where those in front of it lead to a module.
+#[tactic(auto, using(crate::proofs::Commanded::named_last, crate::proofs::Commanded::named_none, crate::proofs::Commanded::named_refused, crate::proofs::Commanded::named_unknown))]
+pub fn named_target<'p>(
+    alloc: Global,
+    modules: &[&'p Justfile],
+    root: &'p Justfile,
+    names: &[Text],
+) -> Result<Target<'p>, LangError>
+    ensures target { IfOk result (λ t. named_at (map (λ m. m.now) modules.now) names.now root.now ≡ Ok (sight.target_of t)) }
+    ensures refused { IfErr result (λ e. e ≢ error.NoMemory → named_at (map (λ m. m.now) modules.now) names.now root.now ≡ Err e) }
+{
+    let Some((last, front)) = names.split_last() else {
+        return Ok(Target::Module(root));
+    };
+    let inside = inner_module(alloc, modules, root, front)?;
+    let target = last_target(alloc, modules, inside, last.as_str(), last.as_str())?;
+    Ok(target)
 }

@@ -18,9 +18,10 @@ mod taken;
 mod target;
 mod words;
 
-pub use command::inner_module;
+pub use command::{inner_module, named_target};
 pub use found::{Found, Target};
 pub use invocation::{invocations, invocations_agree, within_one};
-pub use name::recipe_in;
+pub use name::{module_named, recipe_in};
 pub use parameter::least_words;
+pub use path::first_part;
 pub use words::words_given;

@@ -113,7 +113,7 @@ fn module_at<'p>(modules: &[&'p Justfile], path: &Modulepath) -> Option<&'p Just
 
 /// The module of that name, also by an alias.
 #[tactic(auto, using(crate::proofs::Named::own_module, crate::proofs::Named::no_alias, crate::proofs::Named::by_alias))]
-pub(crate) fn module_named<'p>(
+pub fn module_named<'p>(
     modules: &[&'p Justfile],
     justfile: &'p Justfile,
     name: &str,

@@ -34,7 +34,7 @@ pub(crate) fn joined_path(alloc: Global, names: &[Text], last: &str) -> Result<T
 }
 
 /// The first part of a word in front of `::`, and what stands behind that.
-pub(crate) fn first_part(word: &str) -> Option<(&str, &str)>
+pub fn first_part(word: &str) -> Option<(&str, &str)>
     ensures { MatchOption result (parts word.now ≡ word.now ∷ []) (λ x. (parts word.now ≡ x.0.now ∷ parts x.1.now) × (length x.1.now < length word.now)) }
 {
     word.split_once("::")

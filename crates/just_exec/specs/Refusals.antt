@@ -10,6 +10,10 @@ use Rattle.just_env.specs.declared.search_error.SearchError.{SearchError}
 use Rattle.just_env.specs.declared.search_error.SearchError.TheVariants as search
 use Rattle.just_env.specs.declared.env_error.EnvError.{EnvError}
 use Rattle.just_env.specs.declared.env_error.EnvError.TheVariants as env
+use Rattle.just_path.specs.declared.host.Miss.TheVariants as miss
+use Rattle.just_host_record.specs.declared.entry.HostFault.TheVariants as fault
+use Rattle.just_cache.specs.declared.cache_error.CacheError.{CacheError}
+use Rattle.just_cache.specs.declared.cache_error.CacheError.TheVariants as cache
 use Rattle.just_exec.specs.declared.error.Error.{Error}
 use Rattle.just_exec.specs.declared.error.Error.TheVariants as error
 
@@ -99,3 +103,11 @@ error_of_env env.DotenvArgumentsRequireLists = error.DotenvArgumentsRequireLists
 error_of_env (env.DotenvCommand command e) = error.DotenvCommand command e
 error_of_env (env.Io io path) = error.FilesystemIo path io
 error_of_env env.NoMemory = error.NoMemory
+
+-- of a cache
+abbrev pub error_of_cache : CacheError → Error
+error_of_cache (cache.InputMissing path) = error.CacheInputMissing path
+error_of_cache (cache.InputDirectory path) = error.CacheInputDirectory path
+error_of_cache (cache.EntryRead path) = error.FilesystemIo path (fault.Missed miss.NotUtf8)
+error_of_cache (cache.Io io path) = error.FilesystemIo path io
+error_of_cache cache.NoMemory = error.NoMemory

@@ -165,6 +165,24 @@ pub enum Error {
     ExcessInvocations {
         invocations: u64,
     },
+    /// A command asks for a recipe, and the path leads to a module.
+    RecipeRequired {
+        subcommand: Text,
+    },
+    /// A group is to be listed that the module doesn't have.
+    UnknownGroup {
+        group: Text,
+    },
+    /// A variable is asked for in what is no module.
+    EvalUnknownSubmodule {
+        submodule: Text,
+    },
+    /// What is to be evaluated is neither a variable nor a module.
+    EvalUnknownSubmoduleOrVariable {
+        name: Text,
+    },
+    /// The justfile isn't as `--fmt` writes it.
+    FormatCheckFoundDiff,
     /// The request needs more than 1,000,000 recipes.
     ClosureLimit,
     /// The first line of a script names no interpreter.
@@ -373,6 +391,11 @@ impl Drop for Error {
                 parameter: _,
             }
             | Error::ExcessInvocations { invocations: _ }
+            | Error::RecipeRequired { subcommand: _ }
+            | Error::UnknownGroup { group: _ }
+            | Error::EvalUnknownSubmodule { submodule: _ }
+            | Error::EvalUnknownSubmoduleOrVariable { name: _ }
+            | Error::FormatCheckFoundDiff
             | Error::ClosureLimit
             | Error::InvalidShebang {
                 recipe: _,

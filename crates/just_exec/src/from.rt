@@ -2,12 +2,15 @@
 
 ghost use Rattle.std.specs.Prelude.{◌≡◌};
 ghost use Rattle.just_exec.specs.declared.error.Error.TheVariants.{NoMemory as OutOfMemory};
-ghost use Rattle.just_exec.specs.Refusals.{error_of_usage, error_of_config, error_of_lang, error_of_search, error_of_env};
+ghost use Rattle.just_exec.specs.Refusals.{error_of_usage, error_of_config, error_of_lang, error_of_search, error_of_env, error_of_cache};
 
 use super::Error;
+use just_cache::CacheError;
 use just_config::{ConfigError, Usage, UsageKind};
 use just_env::{EnvError, SearchError};
+use just_host_record::HostFault;
 use just_lang_types::project::LangError;
+use just_path::Miss;
 use just_path_text::NoMemory;
 
 impl From<NoMemory> for Error {
@@ -181,6 +184,23 @@ impl From<EnvError> for Error {
             },
             EnvError::Io(io, path) => Error::FilesystemIo { path, io },
             EnvError::NoMemory => Error::NoMemory,
+        }
+    }
+}
+
+impl From<CacheError> for Error {
+    ghost from_gives = { λ c e. e ≡ error_of_cache c };
+
+    fn from(error: CacheError) -> Error {
+        match error {
+            CacheError::InputMissing(path) => Error::CacheInputMissing { path },
+            CacheError::InputDirectory(path) => Error::CacheInputDirectory { path },
+            CacheError::EntryRead(path) => Error::FilesystemIo {
+                path,
+                io: HostFault::Missed(Miss::NotUtf8),
+            },
+            CacheError::Io(io, path) => Error::FilesystemIo { path, io },
+            CacheError::NoMemory => Error::NoMemory,
         }
     }
 }

@@ -229,6 +229,39 @@ fn tell_request<W: fmt::Write>(error: &Error, f: &mut fmt::Formatter<W>) -> fmt:
     }
 }
 
+/// What is told of a command that prints nothing; no other error is told here.
+fn tell_command_refused<W: fmt::Write>(error: &Error, f: &mut fmt::Formatter<W>) -> fmt::Result
+    ensures { WritesOnOk W.write_str_gives f.old result (error_text error.now) f.new }
+{
+    match error {
+        Error::RecipeRequired { subcommand } => {
+            write!(f, "error: `--{}` requires recipe", subcommand.as_str())
+        }
+        Error::UnknownGroup { group } => tell_naming(
+            "justfile does not contain group ",
+            group.as_str(),
+            "",
+            f,
+        ),
+        Error::EvalUnknownSubmodule { submodule } => tell_naming(
+            "justfile does not contain submodule ",
+            submodule.as_str(),
+            "",
+            f,
+        ),
+        Error::EvalUnknownSubmoduleOrVariable { name } => tell_naming(
+            "justfile does not contain variable or submodule ",
+            name.as_str(),
+            "",
+            f,
+        ),
+        Error::FormatCheckFoundDiff => {
+            f.write_str("error: formatted justfile differs from original")
+        }
+        _ => Err(fmt::Error),
+    }
+}
+
 /// What is told of a name that a request asks for; no other error is told here.
 fn tell_name<W: fmt::Write>(error: &Error, f: &mut fmt::Formatter<W>) -> fmt::Result
     ensures { WritesOnOk W.write_str_gives f.old result (error_text error.now) f.new }
@@ -461,6 +494,11 @@ impl fmt::Display for Error {
             | Error::DefaultRecipeRequiresArguments { .. }
             | Error::ExcessInvocations { .. }
             | Error::ClosureLimit => tell_request(self, f),
+            Error::RecipeRequired { .. }
+            | Error::UnknownGroup { .. }
+            | Error::EvalUnknownSubmodule { .. }
+            | Error::EvalUnknownSubmoduleOrVariable { .. }
+            | Error::FormatCheckFoundDiff => tell_command_refused(self, f),
             Error::UnknownRecipe { .. }
             | Error::UnknownSubmodule { .. }
             | Error::ModuleAbsent { .. }

@@ -1,5 +1,5 @@
 -- What tables of names make is what their layout makes.
-use Rattle.std.proofs.Common.{◌≡◌, IfOk, Result, Ok, Err, ℕ, List, [], ◌∷◌, ap, ◌∙◌, subst}
+use Rattle.std.proofs.Common.{◌≡◌, IfOk, Result, Ok, Err, ℕ, List, [], ◌∷◌, sym, ap, ◌∙◌, subst}
 use Rattle.just_lang_types.specs.declared.project.Justfile.{Justfile}
 use Rattle.just_lang_types.specs.declared.source.Source.{Source}
 use Rattle.just_lang_layout.specs.declared.layout.Layout.{Layout}
@@ -13,7 +13,9 @@ use Rattle.just_lang_names.specs.declared.names.Names.{Names}
 use Rattle.just_lang_names.specs.Names.{layout_of, wins_of}
 use Rattle.just_lang.specs.Errors.{BreaksNone}
 use Rattle.just_lang_justfile.specs.Trees.{IsJustfileOf, outermost}
-use Rattle.just_lang.specs.Assembled.{IsMadeOf, IsSoundlyMadeOf, IsJustfileOfSources}
+use Rattle.just_lang.specs.Assembled.{IsMadeOf, IsSoundlyMadeOf, IsJustfileOfSources, IsLaidJustfile}
+use Rattle.just_lang.specs.Projects.{AreWins}
+use Rattle.just_lang.specs.declared.laid.LaidJustfile.{LaidJustfile}
 use Rattle.just_lang.specs.declared.tables.Tables.{Tables}
 use Rattle.just_lang.specs.Tables.{AreTables, causes_of, links_in}
 use Rattle.just_lang.proofs.TableLaws.{causes_are}
@@ -48,3 +50,15 @@ module _ (environ : Pairs) (layout : Layout) (winners : List (List ℕ)) (names 
 
 pub made_of_sources : (sources : List Source) (environ : Pairs) (layout : Layout) (j : Justfile) → IsLayoutOf sources environ layout → IsSoundlyMadeOf environ layout j → IsJustfileOfSources sources environ j
 made_of_sources sources environ layout j h k = record { layout = layout; layout_is = h; made = k }
+
+-- the justfile with its layout
+pub laid_of_sources : (sources : List Source) (environ : Pairs) (layout : Layout) (p : LaidJustfile) → IsLayoutOf sources environ layout → p.layout ≡ layout → AreWins layout (wins_in p.winners) → IsSoundlyMadeOf environ layout p.justfile
+    → IsLaidJustfile sources environ p
+laid_of_sources sources environ layout p h same wins k = record {
+  layout_is = subst (λ (l : Layout). IsLayoutOf sources environ l) (sym same) h;
+  wins_are = subst (λ (l : Layout). AreWins l (wins_in p.winners)) (sym same) wins;
+  made = subst (λ (l : Layout). IsSoundlyMadeOf environ l p.justfile) (sym same) k;
+}
+
+pub made_of_laid : (sources : List Source) (environ : Pairs) (p : LaidJustfile) → IsLaidJustfile sources environ p → IsJustfileOfSources sources environ p.justfile
+made_of_laid sources environ p h = record { layout = p.layout; layout_is = h.layout_is; made = h.made }

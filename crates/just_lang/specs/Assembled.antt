@@ -6,12 +6,14 @@ use Rattle.just_lang_layout.specs.declared.layout.Layout.{Layout}
 use Rattle.just_lang_layout.specs.Laid.{IsLayoutOf}
 use Rattle.just_lang_layout.specs.Paths.{Pairs}
 use Rattle.just_lang_spots.specs.Standing.{Wins}
+use Rattle.just_lang_spots.specs.Winners.{wins_in}
 use Rattle.just_lang_rulebook.specs.Meant.{meant}
 use Rattle.just_lang.specs.Disabling.{AreCauses}
 use Rattle.just_lang.specs.Errors.{BreaksNone}
 use Rattle.just_lang.specs.Projects.{AreWins}
 use Rattle.just_lang_justfile.specs.Trees.{IsJustfileOf}
 use Rattle.just_lang.specs.Linked.{links_of}
+use Rattle.just_lang.specs.declared.laid.LaidJustfile.{LaidJustfile}
 
 -- the justfile of a layout, by what its names come to, and by why its recipes can't be run that can't
 pub record IsMadeOf (environ : Pairs) (wins : Wins) (layout : Layout) (j : Justfile) : Type 0 where
@@ -31,3 +33,9 @@ pub record IsJustfileOfSources (sources : List Source) (environ : Pairs) (j : Ju
   pub layout : Layout
   pub layout_is : IsLayoutOf sources environ layout
   pub made : IsSoundlyMadeOf environ layout j
+
+-- the same with the layout of the sources, and which of its files win over which
+pub record IsLaidJustfile (sources : List Source) (environ : Pairs) (p : LaidJustfile) : Type 0 where
+  pub layout_is : IsLayoutOf sources environ p.layout
+  pub wins_are : AreWins p.layout (wins_in p.winners)
+  pub made : IsSoundlyMadeOf environ p.layout p.justfile

@@ -7,6 +7,7 @@ mod circular;
 mod disabled;
 mod errors;
 mod first;
+mod laid;
 mod law;
 mod names;
 mod paths;
@@ -29,5 +30,6 @@ pub use just_lang_types::{
 };
 pub use just_path::{Utf8Path, Utf8PathBuf};
 pub use just_path_text::{Environ, NoMemory, Seq, Text};
+pub use laid::LaidJustfile;
 pub use law::projects_are_sound;
-pub use sources::assemble;
+pub use sources::{assemble, assemble_laid};

@@ -3,17 +3,19 @@ ghost use Rattle.std.specs.Prelude.{◌≡◌, ◌≢◌, [], ◌∷◌, IfOk, I
 ghost use Rattle.just_lang_types.specs.declared.project.LangError.{LangError};
 ghost use Rattle.just_lang_justfile.specs.Trees.{outermost};
 ghost use Rattle.just_lang_spots.specs.Importers.{AreImporters};
+ghost use Rattle.just_lang_spots.specs.Winners.{wins_in};
 ghost use Rattle.just_lang_names.specs.Names.{AreNames, layout_of, wins_of};
 ghost use Rattle.just_lang.specs.CycleTables.{AreRecipes};
 ghost use Rattle.just_lang.specs.DisablingTables.{IsDisabling};
 ghost use Rattle.just_lang.specs.Errors.{BreaksNone, IsErrorIn};
-ghost use Rattle.just_lang.specs.Projects.{HasError, IsFirstError};
-ghost use Rattle.just_lang.specs.Assembled.{IsMadeOf, IsSoundlyMadeOf, IsJustfileOfSources};
+ghost use Rattle.just_lang.specs.Projects.{AreWins, HasError, IsFirstError};
+ghost use Rattle.just_lang.specs.Assembled.{IsMadeOf, IsSoundlyMadeOf, IsJustfileOfSources, IsLaidJustfile};
 ghost use Rattle.just_lang.specs.Tables.{AreTables};
 
 use super::before::before_each;
 use super::disabled::{Disabling, causes};
 use super::errors::{check_rules, error_of_files};
+use super::laid::LaidJustfile;
 use super::recipe::{Recipes, standing_recipes};
 use super::tables::Tables;
 use just_lang_justfile::{Project, justfile_of};
@@ -138,22 +140,41 @@ fn assemble_winners(
 }
 
 /// The justfile of a project with a layout, or the error of the first rule that it breaks.
-fn assemble_layout(alloc: Global, environ: &Environ, layout: &Layout) -> Result<Justfile, LangError>
-    requires { outermost layout.now.modules ≡ [] ∷ [] }
-    ensures justfile { IfOk result (IsSoundlyMadeOf environ.now.pairs layout.now) }
-    ensures refused { IfErr result (λ e. e ≢ LangError.NoMemory → HasError environ.now.pairs layout.now e) }
+fn assemble_layout(
+    alloc: Global,
+    environ: &Environ,
+    layout: Layout,
+) -> Result<LaidJustfile, LangError>
+    requires { outermost layout.modules ≡ [] ∷ [] }
+    ensures layout { IfOk result (λ p. p.layout ≡ layout) }
+    ensures winners { IfOk result (λ p. AreWins layout (wins_in p.winners)) }
+    ensures justfile { IfOk result (λ p. IsSoundlyMadeOf environ.now.pairs layout p.justfile) }
+    ensures refused { IfErr result (λ e. e ≢ LangError.NoMemory → HasError environ.now.pairs layout e) }
 {
     let imports = layout.imports.as_slice();
     let winners = winners_of(alloc, imports)?;
-    let importers = winners.as_slice();
-    assemble_winners(alloc, environ, importers, layout)
+    match assemble_winners(alloc, environ, winners.as_slice(), &layout) {
+        Ok(justfile) => Ok(LaidJustfile {
+            layout,
+            winners: Seq::from(winners),
+            justfile,
+        }),
+        Err(error) => {
+            drop(layout);
+            Err(error)
+        }
+    }
 }
 
-/// The justfile of sources, the first of which is the root; or the error of the first rule that they break.
-#[tactic(auto, using(crate::proofs::AssembledLaws::made_of_sources, crate::proofs::Outermost::layout_outermost, crate::proofs::ProjectLaws::error_in_layout, crate::proofs::ProjectLaws::error_on_files))]
-pub fn assemble(alloc: Global, sources: &[Source], environ: &Environ) -> Result<Justfile, LangError>
+/// The justfile of sources, the first of which is the root, with their layout; or the error of the first rule that they break.
+#[tactic(auto, using(crate::proofs::AssembledLaws::laid_of_sources, crate::proofs::Outermost::layout_outermost, crate::proofs::ProjectLaws::error_in_layout, crate::proofs::ProjectLaws::error_on_files))]
+pub fn assemble_laid(
+    alloc: Global,
+    sources: &[Source],
+    environ: &Environ,
+) -> Result<LaidJustfile, LangError>
     // It is the justfile of sources that break no rule.
-    ensures justfile { IfOk result (IsJustfileOfSources sources.now environ.now.pairs) }
+    ensures laid { IfOk result (IsLaidJustfile sources.now environ.now.pairs) }
     // The error is that of the first rule that is broken.
     ensures refused { IfErr result (λ e. e ≢ LangError.NoMemory → IsFirstError sources.now environ.now.pairs e) }
 {
@@ -161,5 +182,26 @@ pub fn assemble(alloc: Global, sources: &[Source], environ: &Environ) -> Result<
         Ok(layout) => layout,
         Err(refused) => return Err(error_of_files(refused)),
     };
-    assemble_layout(alloc, environ, &layout)
+    assemble_layout(alloc, environ, layout)
+}
+
+/// The justfile of sources, the first of which is the root; or the error of the first rule that they break.
+#[tactic(auto, using(crate::proofs::AssembledLaws::made_of_laid))]
+pub fn assemble(alloc: Global, sources: &[Source], environ: &Environ) -> Result<Justfile, LangError>
+    // It is the justfile of sources that break no rule.
+    ensures justfile { IfOk result (IsJustfileOfSources sources.now environ.now.pairs) }
+    // The error is that of the first rule that is broken.
+    ensures refused { IfErr result (λ e. e ≢ LangError.NoMemory → IsFirstError sources.now environ.now.pairs e) }
+{
+    match assemble_laid(alloc, sources, environ) {
+        Ok(laid) => {
+            let LaidJustfile {
+                layout: _,
+                winners: _,
+                justfile,
+            } = laid;
+            Ok(justfile)
+        }
+        Err(error) => Err(error),
+    }
 }

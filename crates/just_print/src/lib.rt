@@ -29,4 +29,4 @@ pub use recipe::push_parameters;
 pub use shown::shown_recipe;
 pub use usage::{Usage, UsageParameter, has_options, is_option, is_optional};
 pub use whitespace::ShowWhitespace;
-pub use whole::print;
+pub use whole::{print, print_items};

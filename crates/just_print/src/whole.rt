@@ -13,8 +13,15 @@ use std::alloc::{AllocError, Global};
 pub fn print(alloc: Global, ast: &Ast, indentation: &str) -> Result<String, NoMemory>
     ensures { IfOk result (λ t. string_bytes t ≡ printed ast.now.items indentation.now) }
 {
+    print_items(alloc, ast.items.as_slice(), indentation)
+}
+
+/// The text of items, as `print` prints a tree.
+pub fn print_items(alloc: Global, items: &[AstItem], indentation: &str) -> Result<String, NoMemory>
+    ensures { IfOk result (λ t. string_bytes t ≡ printed items.now indentation.now) }
+{
     let mut out = String::new(alloc);
-    push_items(alloc, &mut out, ast.items.as_slice(), indentation)?;
+    push_items(alloc, &mut out, items, indentation)?;
     Ok(out)
 }
 

@@ -1,0 +1,23 @@
+-- The justfiles are tried, or a command is asked of the one in the place.
+use Rattle.std.proofs.Common.{sym, ◌∙◌}
+use Rattle.just_cli.proofs.Commanding.{runs_then, reply_asked, reply_lost, command_asked, command_lost}
+use Rattle.just_cli.proofs.prepare.asked_at.Goals as goal
+
+pub returns-in-Ok-clause-asked : goal.returns-in-Ok-clause-asked
+returns-in-Ok-clause-asked g c =
+    reply_asked _ (g.H.Host.told c.args.host.now) (g.H.Host.told c.reply_tried.new.host) _ _ (runs_then _ (rw c.is_placed.ensures c.kind_of-kind.ensures at c.if-not-is_placed.true) c.requires.reads c.requires.built) _ _ (sym c.task_of.ensures.asked) c.in-Ok.ensures
+
+pub returns-in-Err-clause-asked : goal.returns-in-Err-clause-asked
+returns-in-Err-clause-asked g c =
+    reply_lost _ (g.H.Host.told c.args.host.now) (g.H.Host.told c.reply_tried.new.host) _ _ (runs_then _ (rw c.is_placed.ensures c.kind_of-kind.ensures at c.if-not-is_placed.true) c.requires.reads c.requires.built) _ c.in-Err.ensures
+
+pub command_at-asked-requires-clause-placed : goal.command_at-asked-requires-clause-placed
+command_at-asked-requires-clause-placed g c = sym c.is_placed.ensures ∙ c.if-not-is_placed.false
+
+pub returns-in-Ok-command_at-clause-asked : goal.returns-in-Ok-command_at-clause-asked
+returns-in-Ok-command_at-clause-asked g c =
+    command_asked _ (g.H.Host.told c.args.host.now) (g.H.Host.told c.command_at-asked.new.host) _ _ _ (sym c.kind_of-kind.ensures) (sym c.is_placed.ensures ∙ c.if-not-is_placed.false) _ c.in-Ok-command_at.ensures.asked
+
+pub returns-in-Err-command_at-clause-asked : goal.returns-in-Err-command_at-clause-asked
+returns-in-Err-command_at-clause-asked g c =
+    command_lost _ (g.H.Host.told c.args.host.now) (g.H.Host.told c.command_at-asked.new.host) _ _ _ (sym c.kind_of-kind.ensures) (sym c.is_placed.ensures ∙ c.if-not-is_placed.false) _ c.in-Err-command_at.ensures.asked

@@ -1,0 +1,3 @@
+-- The lemmas of what commands print.
+pub mod Finding
+pub mod Leading

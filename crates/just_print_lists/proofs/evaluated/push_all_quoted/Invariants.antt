@@ -1,0 +1,9 @@
+-- What is left follows what was added.
+use Rattle.std.proofs.Common.{◌≡◌, ◌++◌, drop, string_bytes}
+use Rattle.std.specs.List.{flat_map}
+use Rattle.just_print_lists.specs.Evaluated.{quoted_once}
+use Rattle.just_print_lists.proofs.evaluated.push_all_quoted.Given as goal
+
+abbrev pub invariant-letters : goal.invariant-letters
+invariant-letters l =
+    string_bytes l.out ++ flat_map quoted_once (drop l.c-index l.letters) ≡ string_bytes l.initial.out ++ flat_map quoted_once l.letters

@@ -1,0 +1,9 @@
+-- What is left follows what was added.
+use Rattle.std.proofs.Common.{◌≡◌, ◌++◌, drop, string_bytes}
+use Rattle.std.specs.List.{flat_map}
+use Rattle.just_print.specs.Usages.{argument_text}
+use Rattle.just_print_lists.proofs.usage.push_arguments.Given as goal
+
+abbrev pub invariant-parameters : goal.invariant-parameters
+invariant-parameters l =
+    string_bytes l.out ++ flat_map argument_text (drop l.parameter-index l.parameters) ≡ string_bytes l.initial.out ++ flat_map argument_text l.parameters
