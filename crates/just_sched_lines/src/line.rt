@@ -34,7 +34,7 @@ fn push_event(alloc: Global, out: &mut String, event: &Event) -> Result<(), Allo
         }
         Event::Ended(node, place, child, status) => {
             push_numbers(alloc, out, "ended ", *node, *place, *child)?;
-            push_status(alloc, out, *status)
+            push_status(out, *status)
         }
         Event::Saved(node) => push_number(alloc, out, "saved ", *node),
         Event::Done(node, outcome) => {

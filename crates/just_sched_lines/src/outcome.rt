@@ -43,14 +43,14 @@ fn push_sum(alloc: Global, out: &mut String, sum: &[u8; 32]) -> Result<(), Alloc
 }
 
 /// Adds a blank, and how a command ended.
-pub fn push_status(alloc: Global, out: &mut String, status: Status) -> Result<(), AllocError>
+pub fn push_status(out: &mut String, status: Status) -> Result<(), AllocError>
     ensures { IfOk result
         (λ _. string_bytes out.new
         ≡ string_bytes out.old ++ (codes " " ++ status_text status)) }
 {
     match status {
-        Status::Code(code) => push_signed(alloc, out, " code:", code),
-        Status::Signal(number) => push_signed(alloc, out, " signal:", number),
+        Status::Code(code) => push_signed(out, " code:", code),
+        Status::Signal(number) => push_signed(out, " signal:", number),
         Status::Unknown => out.push_str(" unknown"),
     }
 }

@@ -28,18 +28,12 @@ pub fn push_number(
 }
 
 /// Adds a word, and a number behind it that may be negative.
-pub fn push_signed(
-    alloc: Global,
-    out: &mut String,
-    word: &str,
-    number: i32,
-) -> Result<(), AllocError>
+pub fn push_signed(out: &mut String, word: &str, number: i32) -> Result<(), AllocError>
     ensures { IfOk result
         (λ _. string_bytes out.new
         ≡ string_bytes out.old ++ (word.now ++ signed_decimal number)) }
 {
-    let text = format!(in alloc; "{word}{number}")?;
-    out.push_str(text.as_str())
+    write!(out, "{word}{number}")
 }
 
 /// Adds a word, and the numbers of a node, of a place in its body and of a child behind it.

@@ -187,14 +187,14 @@ pub fn is_legal(
 
 /// The history of a run of one node that has one command.
 fn of_one_node(alloc: Global) -> Result<Vec<Event>, NoMemory> {
-    let mut history = Vec::with_capacity(alloc, 6)?;
-    history.push_reserved(Event::Took(0));
-    history.push_reserved(Event::Begun(0));
-    history.push_reserved(Event::Started(0, 0, 0));
-    history.push_reserved(Event::Ended(0, 0, 0, Status::Code(0)));
-    history.push_reserved(Event::Done(0, Outcome::Well));
-    history.push_reserved(Event::Gave(0));
-    Ok(history)
+    Ok(vec![in alloc;
+        Event::Took(0),
+        Event::Begun(0),
+        Event::Started(0, 0, 0),
+        Event::Ended(0, 0, 0, Status::Code(0)),
+        Event::Done(0, Outcome::Well),
+        Event::Gave(0),
+    ]?)
 }
 
 /// A history is written event by event, each on a line of its own.
