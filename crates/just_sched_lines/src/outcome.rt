@@ -2,7 +2,8 @@
 ghost use Rattle.std.specs.Prelude.{◌≡◌, ◌++◌, IfOk, codes, string_bytes};
 ghost use Rattle.std.specs.List.{flat_map};
 ghost use Rattle.just_sched_lines.specs.Names.{call_name, miss_name};
-ghost use Rattle.just_sched_lines.specs.Lines.{look_text, sum_text, status_text, reason_text, outcome_text};
+ghost use Rattle.just_sched_lines.specs.Lines.{look_text, outcome_text, reason_text};
+ghost use Rattle.just_sched_lines.specs.Lines.{status_text, sum_text};
 
 use super::names::{call_name, miss_name};
 use super::pieces::{push_number, push_signed, push_two};
