@@ -26,6 +26,7 @@ pub use just_sched_history::{
     CachePlan, Command, Event, Idle, NodeState, Outcome, Plan, PlanNode, Reason, Step, Verdict,
     Work, entry_path_of, last_status, reason_of, status_count,
 };
+pub use just_sched_lines::write_history;
 pub use semaphore::{Guard, Semaphore};
 pub use shared::Shared;
 pub use worker::work;

@@ -1,9 +1,9 @@
 //! Whether a history is legal, event by event, for plans in which no body fails, no node has subsequents, and priors may
-//! run side by side.
+//! run side by side; and a history as text.
 
 use just_host::Status;
 use just_path_text::NoMemory;
-use just_sched::{Event, Outcome, PlanNode, Work};
+use just_sched::{Event, Outcome, PlanNode, Work, write_history};
 use std::alloc::Global;
 
 /// How far a node has come.
@@ -183,4 +183,27 @@ pub fn is_legal(
     let mut phases = vec![in alloc; Phase::Waiting; nodes.len()]?;
     let seen = see_all(nodes, phases.as_mut_slice(), jobs, history);
     Ok(seen && are_given(phases.as_slice()))
+}
+
+/// The history of a run of one node that has one command.
+fn of_one_node(alloc: Global) -> Result<Vec<Event>, NoMemory> {
+    Ok(vec![in alloc;
+        Event::Took(0),
+        Event::Begun(0),
+        Event::Started(0, 0, 0),
+        Event::Ended(0, 0, 0, Status::Code(0)),
+        Event::Done(0, Outcome::Well),
+        Event::Gave(0),
+    ]?)
+}
+
+/// A history is written event by event, each on a line of its own.
+#[test]
+fn lines_of_one_node(rt: HostRuntime) -> Result<(), NoMemory> {
+    let alloc = rt.alloc();
+    let history = of_one_node(alloc)?;
+    let text = write_history(alloc, history.as_slice())?;
+    let want = "took 0\nbegun 0\nstarted 0 0 0\nended 0 0 0 code:0\ndone 0 well\ngave 0\n";
+    assert_eq!(rt; text.as_str(), want);
+    Ok(())
 }
