@@ -49,7 +49,10 @@ fn call_at<R: Threads + Wait + Sync>(
 /// Whether a call has that name.
 fn is_named(alloc: Global, call: Option<Call>, name: &str) -> Result<bool, Wrong> {
     match call {
-        Some(call) => Ok(format!(in alloc; "{call:?}")?.as_str() == name),
+        Some(call) => {
+            let shown = format!(in alloc; "{call:?}")?;
+            Ok(shown.as_str() == name)
+        }
         None => Ok(false),
     }
 }
