@@ -16,6 +16,10 @@ escaped c =
     else (if c == 34 then 92 ∷ 34 ∷ []
     else (if c == 10 then 92 ∷ 110 ∷ [] else (if c == 13 then 92 ∷ 114 ∷ [] else (if c == 9 then 92 ∷ 116 ∷ [] else encode_utf8 c))))
 
+-- a text in double quotes
+abbrev pub element_text : List ℕ → List ℕ
+element_text characters = 34 ∷ (flat_map escaped characters ++ (34 ∷ []))
+
 -- a character in single quotes of a shell: `'\''` for `'`, or itself
 abbrev pub quoted_once : ℕ → List ℕ
 quoted_once c = if c == 39 then 39 ∷ 92 ∷ 39 ∷ 39 ∷ [] else encode_utf8 c

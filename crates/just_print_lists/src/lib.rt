@@ -1,6 +1,7 @@
 //! The room of printing: what a project has, in order, and the texts that a justfile is asked for but its listing.
 #![tactic(auto)]
 
+mod element;
 mod evaluated;
 mod group;
 mod indentation;
@@ -13,6 +14,7 @@ mod texts;
 mod usage;
 mod variable;
 
+pub use element::Element;
 pub use evaluated::evaluation;
 pub use group::{Grouped, has_name, in_group, is_nil, public_in_order, ungrouped};
 pub use indentation::chosen_indentation;
