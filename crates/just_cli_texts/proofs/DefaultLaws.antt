@@ -1,5 +1,5 @@
 -- The listing that words ask for which name a module.
-use Rattle.std.proofs.Common.{◌≡◌, inl, inr, ℕ, Bool, true, false, List, [], ◌∷◌, Option, Some, None, Result, Ok, Err, refl, sym, ap, ◌∙◌, subst}
+use Rattle.std.proofs.Common.{◌≡◌, inl, inr, ℕ, Bool, true, false, List, [], ◌∷◌, Option, Some, None, Result, Ok, Err, IfOk, IfErr, refl, sym, ap, ◌∙◌, subst}
 use Rattle.std.specs.Prelude.{if◌then◌else◌}
 use Rattle.std.specs.Option.{option_and_then}
 use Rattle.just_lang_types.specs.declared.project.Justfile.{Justfile}
@@ -11,6 +11,7 @@ use Rattle.just_config.specs.declared.config.Config.{Config}
 use Rattle.just_config.specs.ModulePaths.{module_path}
 use Rattle.just_print_commands.specs.Projects.{Parts}
 use Rattle.just_exec.specs.declared.error.Error.{Error}
+use Rattle.just_cli_plan.specs.Own.{OrMemory}
 use Rattle.just_cli_plan.specs.Pairs.{Answers}
 use Rattle.just_cli_texts.specs.declared.printed.Printed.{Printed}
 use Rattle.just_cli_texts.specs.Defaults.{is_listed, names_if, listed_by_default, ListsLaid}
@@ -41,7 +42,7 @@ module _ (environ : Pairs) (c : Config) (l : LaidSources) (names : List (List �
   lists_it : (x : Result (List ℕ) Error) → Lists c q names x → ListsLaid environ c l names (as_printed x)
   lists_it x lists = (p, are, (x, subst (λ (y : Parts). Lists c y names x) same lists, refl))
 
-  pub lists_so : (x : Result (List ℕ) Error) (r : Result Printed Error) → Answers (Lists c q names) x → r ≡ as_printed x → Answers (ListsLaid environ c l names) r
-  lists_so (Ok text) r lists is = rw is (lists_it (Ok text) lists)
-  lists_so (Err e) r (inl wants) is = rw is (inl wants)
-  lists_so (Err e) r (inr lists) is = rw is (inr (lists_it (Err e) lists))
+  pub lists_so : (x : Result (List ℕ) Error) (r : Result Printed Error) → IfOk x (λ t. Lists c q names (Ok t)) → IfErr x (OrMemory (λ e. Lists c q names (Err e))) → r ≡ as_printed x → Answers (ListsLaid environ c l names) r
+  lists_so (Ok text) r lists refused is = rw is (lists_it (Ok text) lists)
+  lists_so (Err e) r listed (inl wants) is = rw is (inl wants)
+  lists_so (Err e) r listed (inr lists) is = rw is (inr (lists_it (Err e) lists))

@@ -1,8 +1,10 @@
 -- What is printed of the values of variables.
-use Rattle.std.proofs.Common.{◌≡◌, inl, inr, ℕ, ◌+◌, ◌<◌, List, [], ◌∷◌, ◌++◌, length, drop, get_or, append_assoc, Option, Some, None, Ok, Err, refl, sym, ap, ◌∙◌, arith}
+use Rattle.std.proofs.Common.{◌≡◌, inl, inr, ℕ, ◌+◌, ◌<◌, List, [], ◌∷◌, ◌++◌, length, drop, get_or, append_assoc, Option, Some, None, Result, Ok, Err, IfOk, IfErr, refl, sym, ap, ◌∙◌, subst, arith}
 use Rattle.std.proofs.lemmas.List.{drop_more}
 use Rattle.just_lang_types.specs.declared.project.Justfile.{Justfile}
 use Rattle.just_lang_types.specs.declared.scope.Scopes.{Scopes}
+use Rattle.just_lang_types.specs.Modules.{AreModules}
+use Rattle.just_lang_types.proofs.Nesting.{same_modules}
 use Rattle.just_eval_words.specs.Names.{module_named}
 use Rattle.just_eval_words.specs.Paths.{Word, parts}
 use Rattle.just_print_lists.specs.declared.variable.EvaluateFormat.{EvaluateFormat}
@@ -64,3 +66,21 @@ module _ (f : EvaluateFormat) (ms : List Justfile) (scopes : Scopes) (root : Jus
     pub names_unnamed : (j : Justfile) (e : Error) → evaluated_module ms front root ≡ Ok j → OrMemory (λ x. text_in f ms scopes j last ≡ Err x) e → OrMemory (λ x. EvaluatesNames f ms scopes root names (Err x)) e
     names_unnamed j e leads (inl wants) = inl wants
     names_unnamed j e leads (inr is) = inr (EvaluatesNames.named front last j split leads (sym is))
+
+-- the modules of a justfile are one list, so what is printed by those that were found is printed by all
+module _ (f g : EvaluateFormat) (format : f ≡ g) (ms : List Justfile) (scopes : Scopes) (root : Justfile) (are : AreModules (root ∷ []) ms) (names others : List (List ℕ)) (same : names ≡ others) where
+  in_all : (r : Result (List ℕ) Error) → EvaluatesNames f ms scopes root names r → (modules : List Justfile) → AreModules (root ∷ []) modules → EvaluatesNames g modules scopes root others r
+  in_all r h modules order =
+      subst (λ (ns : List (List ℕ)). EvaluatesNames g modules scopes root ns r) same
+      (subst (λ (js : List Justfile). EvaluatesNames g js scopes root names r) (same_modules (root ∷ []) ms modules are order) (subst (λ (x : EvaluateFormat). EvaluatesNames x ms scopes root names r) format h))
+
+  pub text_in_all : (r : Result (List ℕ) Error) → IfOk r (λ t. EvaluatesNames f ms scopes root names (Ok t))
+      → IfOk r (λ t. (modules : List Justfile) → AreModules (root ∷ []) modules → EvaluatesNames g modules scopes root others (Ok t))
+  text_in_all (Ok t) h = in_all (Ok t) h
+  text_in_all (Err e) h = h
+
+  pub refusal_in_all : (r : Result (List ℕ) Error) → IfErr r (OrMemory (λ e. EvaluatesNames f ms scopes root names (Err e)))
+      → IfErr r (OrMemory (λ e. (modules : List Justfile) → AreModules (root ∷ []) modules → EvaluatesNames g modules scopes root others (Err e)))
+  refusal_in_all (Ok t) h = h
+  refusal_in_all (Err e) (inl wants) = inl wants
+  refusal_in_all (Err e) (inr h) = inr (in_all (Err e) h)
