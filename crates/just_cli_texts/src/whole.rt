@@ -28,7 +28,7 @@ pub(crate) struct Whole<'l> {
 impl<'l> Whole<'l> {
     /// The project as commands ask it.
     pub(crate) fn project(&self) -> Project<'_, '_, 'l, '_, '_, 'l>
-        ensures { parts result.entry ≡ parts_in self.now }
+        ensures { parts result ≡ parts_in self.now }
     {
         Project {
             layout: &self.laid.layout,
