@@ -1,9 +1,11 @@
 -- What a command prints of the parts of a project is what it prints of the project.
 use Rattle.std.proofs.Common.{◌≡◌, inl, inr, ℕ, List, Option, Some, Result, Ok, Err, IfOk, IfErr, refl, sym, subst}
+use Rattle.just_lang_types.specs.Modules.{assignments_of}
 use Rattle.just_lang_layout.specs.Paths.{Pairs}
 use Rattle.just_config_words.specs.declared.subcommand.Subcommand.{Subcommand}
 use Rattle.just_config_words.specs.declared.subcommand.Subcommand.TheVariants as command
 use Rattle.just_config.specs.declared.config.Config.{Config}
+use Rattle.just_print_lists.specs.NameLists.{variables_text, groups_text}
 use Rattle.just_print_lists.specs.Summaries.{ArePaths, joined_line}
 use Rattle.just_print_commands.specs.Projects.{Parts}
 use Rattle.just_exec.specs.declared.error.Error.{Error}
@@ -11,12 +13,29 @@ use Rattle.just_cli_plan.specs.Own.{OrMemory}
 use Rattle.just_cli_plan.specs.Pairs.{Answers}
 use Rattle.just_cli_texts.specs.declared.printed.Printed.{Printed}
 use Rattle.just_cli_texts.specs.Laid.{LaidSources, ArePartsOf}
-use Rattle.just_cli_texts.specs.Prints.{as_printed, no_recipes, IsSummed, PrintsOf, Prints}
+use Rattle.just_cli_texts.specs.ListOptions.{prefix_of}
+use Rattle.just_cli_texts.specs.Prints.{alone, as_printed, no_recipes, IsSummed, dump_text, PrintsOf, Prints}
 use Rattle.just_cli_texts.specs.Targets.{names_of, Lists, Shows, Uses}
 
 -- the paths of recipes, and what is told beside them
-pub summed : (c : Config) (p : Parts) (paths : List (List ℕ)) (x : Printed) → ArePaths c.unsorted p.tree paths → x ≡ record { text = joined_line paths; told = no_recipes paths } → IsSummed c p x
-summed c p paths x are is = (paths, are, is)
+pub summed : (c : Config) (p : Parts) (paths : List (List ℕ)) (text : List ℕ) (told : Option (List ℕ)) → ArePaths c.unsorted p.tree paths → text ≡ joined_line paths → told ≡ no_recipes paths → IsSummed c p (record { text = text; told = told })
+summed c p paths text told are is at = (paths, are, rw (is, at) refl)
+
+-- ---- what a command prints of all
+
+module _ (c : Config) (p : Parts) (s : Subcommand) (ws : List (List ℕ)) where
+  module _ (text : List ℕ) where
+    pub dump_printed : s ≡ command.Dump ws → text ≡ dump_text c p → PrintsOf c (Some s) p (Ok (alone text))
+    dump_printed it is = subst (λ (y : Subcommand). PrintsOf c (Some y) p (Ok (alone text))) (sym it) (rw is refl)
+
+    pub groups_printed : s ≡ command.Groups ws → text ≡ groups_text c.unsorted (prefix_of c) p.tree → PrintsOf c (Some s) p (Ok (alone text))
+    groups_printed it is = subst (λ (y : Subcommand). PrintsOf c (Some y) p (Ok (alone text))) (sym it) (rw is refl)
+
+    pub variables_printed : s ≡ command.Variables ws → text ≡ variables_text (assignments_of p.root) → PrintsOf c (Some s) p (Ok (alone text))
+    variables_printed it is = subst (λ (y : Subcommand). PrintsOf c (Some y) p (Ok (alone text))) (sym it) (rw is refl)
+
+  pub summary_printed : (x : Printed) → s ≡ command.Summary ws → IsSummed c p x → PrintsOf c (Some s) p (Ok x)
+  summary_printed x it is = subst (λ (y : Subcommand). PrintsOf c (Some y) p (Ok x)) (sym it) (x, is, refl)
 
 -- ---- what words lead to
 

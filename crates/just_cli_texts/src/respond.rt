@@ -43,6 +43,7 @@ fn about_variable(alloc: Global, environ: &Environ, name: &str) -> Result<Text, 
 }
 
 /// The text of the response to a request, over an environment.
+#[tactic(auto, using(crate::proofs::ResponseLaws::responded_so, crate::proofs::ResponseLaws::unresponded))]
 pub fn respond(alloc: Global, environ: &Environ, words: &[Text]) -> Result<Text, Error>
     ensures text { IfOk result (λ t. responded environ.now.pairs (requested words.now) ≡ Ok t) }
     ensures refused { IfErr result (OrMemory (λ e.
@@ -50,7 +51,8 @@ pub fn respond(alloc: Global, environ: &Environ, words: &[Text]) -> Result<Text,
 {
     match requested(alloc, words)? {
         Some(Request::EnvironmentVariable(name)) => {
-            Ok(about_variable(alloc, environ, name.as_str())?)
+            let text = about_variable(alloc, environ, name.as_str())?;
+            Ok(text)
         }
         None => Err(Error::Config(ConfigError::RequestParse)),
     }
