@@ -1,8 +1,9 @@
 -- What is printed of the values of variables.
 use Rattle.std.proofs.Common.{◌≡◌, inl, inr, ℕ, ◌+◌, ◌<◌, List, [], ◌∷◌, ◌++◌, map, length, drop, get_or, append_assoc, unwrap_or, Option, Some, None, Result, Ok, Err, refl, sym, ap, ◌∙◌, subst, arith}
 use Rattle.std.specs.List.{flat_map}
-use Rattle.std.proofs.lemmas.List.{drop_more}
+use Rattle.std.proofs.lemmas.List.{drop_more, map-append}
 use Rattle.just_lang_types.specs.declared.project.Justfile.{Justfile}
+use Rattle.just_lang_types.specs.declared.scope.Level.{Level}
 use Rattle.just_lang_types.specs.declared.scope.Scope.{Scope}
 use Rattle.just_lang_types.specs.declared.scope.Scopes.{Scopes}
 use Rattle.just_lang_types.specs.Modules.{path_of, AreModules}
@@ -41,6 +42,13 @@ scoped scopes j s vs there is = is ∙ ap (λ (o : Option Scope). variables_in o
 
 pub unscoped : (scopes : Scopes) (j : Justfile) (vs : List Evaluated) → None ≡ scope_of scopes (path_of j) → vs ≡ [] → vs ≡ variables_of scopes j
 unscoped scopes j vs none is = is ∙ ap (λ (o : Option Scope). variables_in o) none
+
+pub levels_more : (before : List Evaluated) (levels : List Level) (i : ℕ) (level : Level) → i < length levels → level ≡ get_or levels i level
+    → (before ++ map as_evaluated (own_bindings level)) ++ map as_evaluated (flat_map own_bindings (drop (i + 1) levels)) ≡ before ++ map as_evaluated (flat_map own_bindings (drop i levels))
+levels_more before levels i level lt is =
+    append_assoc before (map as_evaluated (own_bindings level)) (map as_evaluated (flat_map own_bindings (drop (i + 1) levels)))
+    ∙ (ap (λ (vs : List Evaluated). before ++ vs) (sym (map-append as_evaluated (own_bindings level) (flat_map own_bindings (drop (i + 1) levels))))
+    ∙ ap (λ (ls : List Level). before ++ map as_evaluated (flat_map own_bindings ls)) (sym (drop_more levels i level lt ∙ ap (λ (x : Level). x ∷ drop (i + 1) levels) (sym is))))
 
 -- ---- the module that names lead to
 

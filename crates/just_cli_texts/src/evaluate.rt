@@ -118,6 +118,7 @@ fn own_bindings(level: &Level) -> &[Binding]
 }
 
 /// The variables of levels with their texts.
+#[tactic(auto, using(crate::proofs::EvaluateLaws::levels_more))]
 fn variables_in(alloc: Global, levels: &[Level]) -> Result<Vec<Evaluated>, NoMemory>
     ensures { IfOk result (λ v. v.items ≡ map as_evaluated (flat_map own_bindings levels.now)) }
 {

@@ -49,7 +49,8 @@ pub(crate) fn whole_of<'l>(
 ) -> Result<Whole<'l>, NoMemory>
     requires { IsSoundlyMadeOf environ.now.pairs laid.now.layout laid.now.justfile }
     ensures laid { IfOk result (λ w. w.laid.now ≡ laid.now) }
-    ensures parts { IfOk result (λ w. ArePartsOf environ.now.pairs (laid_by laid.now) (parts_in w)) }
+    ensures parts { IfOk result (λ w.
+        ArePartsOf environ.now.pairs (laid_by laid.now) (parts_in w)) }
 {
     let texts = Meanings { environ };
     let winners = laid.winners.as_slice();
