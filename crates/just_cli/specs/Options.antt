@@ -2,6 +2,7 @@
 use Rattle.std.specs.Prelude.{ℕ, Bool, true, false, not, ◌||◌, ◌&&◌, if◌then◌else◌, nat_le, List, [], ◌∷◌, Option, Some, None, option_map, Result, Ok, Err, codes}
 use Rattle.std.specs.Int.NonZero.{non_zero_u64_get}
 use Rattle.just_path_text.specs.Environ.{or_else}
+use Rattle.just_config_words.specs.declared.subcommand.Subcommand.{Subcommand}
 use Rattle.just_config_words.specs.declared.subcommand.Subcommand.TheVariants as command
 use Rattle.just_config.specs.declared.config.Config.{Config}
 use Rattle.just_config.specs.Verbosities.{level}
