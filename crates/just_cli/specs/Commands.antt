@@ -1,5 +1,5 @@
 -- What commands ask of a justfile: steps from its place to what is to be done, or to a refusal.
-use Rattle.std.specs.Prelude.{ℕ, ◌≡◌, Bool, true, false, if◌then◌else◌, List, [], ◌∷◌, Option, Some, None, Result, Ok, Err, bytes_eq}
+use Rattle.std.specs.Prelude.{ℕ, ◌≡◌, Bool, true, false, if◌then◌else◌, List, Option, Some, None, Result, Ok, Err, bytes_eq}
 use Rattle.just_host_record.specs.World.{World}
 use Rattle.just_lang_types.specs.declared.recipe.Modulepath.{Modulepath}
 use Rattle.just_config.specs.declared.config.Config.{Config}

@@ -67,7 +67,10 @@ fn reply_behind(
 {
     let words = wanted.words.as_slice();
     match listed_by_default(alloc, config.default_list, &laid.justfile, words) {
-        Ok(None) => planned(alloc, wanted, laid, scopes),
+        Ok(None) => match planned(alloc, wanted, laid, scopes) {
+            Ok(replied) => Ok(replied),
+            Err(error) => Err(error),
+        },
         Ok(Some(names)) => match listing(alloc, config, environ, laid, names.as_slice()) {
             Ok(printed) => Ok(Replied::List(printed)),
             Err(error) => Err(error),
