@@ -1,5 +1,6 @@
 -- What commands print of a project is one thing, where each text of its parts is.
 use Rattle.std.proofs.Common.{◌≡◌, ◌++◌, ℕ, List, [], ◌∷◌, Option, Some, None, Result, Ok, Err, refl, sym, ◌∙◌, ap, subst, chars}
+use Rattle.just_lang_types.specs.declared.error.CompileError.{CompileError}
 use Rattle.just_lang_types.specs.declared.project.Justfile.{Justfile}
 use Rattle.just_lang_types.specs.declared.project.LangError.{LangError}
 use Rattle.just_lang_types.specs.declared.project.LangError.TheVariants as lang
@@ -131,12 +132,16 @@ module _ (f : EvaluateFormat) (modules : List Justfile) (scopes : Scopes) (root 
 
 -- ---- texts that are made anew
 
-refusal_one : (s : Source) (a b : LangError) → RefusesSource s a → a ≢ lang.NoMemory → RefusesSource s b → b ≢ lang.NoMemory → a ≡ b
-refusal_one s (lang.Compile c) (lang.Compile d) (f, h, is) own (g, k, at) other =
+refusals_one : (s : Source) (c : CompileError) (b : LangError) → RefusesSource s (lang.Compile c) → RefusesSource s b → b ≢ lang.NoMemory → lang.Compile c ≡ b
+refusals_one s c (lang.Compile d) (f, h, is) (g, k, at) other =
     ap (λ x. lang.Compile x) (is ∙ (ap (λ (x : Fault). compile_error s.path (kind_of x.kind) (position_of x)) (one_refusal (chars s.text) f g h k) ∙ sym at))
+refusals_one s c lang.NoMemory h g other = absurd (other refl)
+refusals_one s c _ h g other = absurd g
+
+refusal_one : (s : Source) (a b : LangError) → RefusesSource s a → a ≢ lang.NoMemory → RefusesSource s b → b ≢ lang.NoMemory → a ≡ b
+refusal_one s (lang.Compile c) b h own g other = refusals_one s c b h g other
 refusal_one s lang.NoMemory b h own g other = absurd (own refl)
-refusal_one s a lang.NoMemory h own g other = absurd (other refl)
-refusal_one s _ _ h own g other = absurd (h)
+refusal_one s _ b h own g other = absurd h
 
 either : (s : Source) (items : List AstItem) (l : LangError) → IsTree s.text items → RefusesSource s l → l ≢ lang.NoMemory → ⊥
 either s items (lang.Compile c) tree (f, refuses, is) own = found_or_refused (chars s.text) items f tree.0 tree.1 refuses

@@ -1,18 +1,14 @@
 -- A project of sources is found with their layout.
-use Rattle.std.proofs.Common.{◌≡◌, inl, inr, List, [], ◌∷◌, Some, None, Ok, Err, refl}
+use Rattle.std.proofs.Common.{◌≡◌, List, [], ◌∷◌, None, Ok, refl}
 use Rattle.just_path_text.specs.declared.environ.Environ.{Environ}
 use Rattle.just_lang_types.specs.declared.project.Justfile.{Justfile}
 use Rattle.just_lang_types.specs.declared.source.Source.{Source}
-use Rattle.just_lang_types.specs.declared.unstable_feature.UnstableFeature.{UnstableFeature}
 use Rattle.just_lang_types.specs.Modules.{AreModules}
 use Rattle.just_lang.specs.declared.laid.LaidJustfile.{LaidJustfile}
 use Rattle.just_lang.specs.Assembled.{IsSoundlyMadeOf, IsJustfileOfSources, IsLaidJustfile}
-use Rattle.just_exec.specs.declared.error.Error.{Error}
-use Rattle.just_exec.specs.declared.error.Error.TheVariants as error
 use Rattle.just_cli_plan.specs.declared.wanted.Wanted.{Wanted}
 use Rattle.just_cli_plan.specs.Features.{unstable_feature}
-use Rattle.just_cli_plan.specs.Own.{OrMemory}
-use Rattle.just_cli_plan.specs.Request.{SourcesRequest, ProjectRequest, FindsProject}
+use Rattle.just_cli_plan.specs.Request.{SourcesRequest, ProjectRequest}
 use Rattle.just_cli_plan.specs.Steps.{goes_on}
 use Rattle.just_cli_plan.proofs.Listed.{modules_listed}
 use Rattle.just_cli_texts.specs.Laid.{laid_by, FindsLaid}
@@ -34,11 +30,3 @@ module _ (wanted : Wanted) (environ : Environ) (sources : List Source) (l : Laid
   laid_found stable =
       let ms = modules_listed l.justfile in
       (refl, refl, record { layout_is = is.layout_is; wins_are = is.wins_are; made = is.made }, (ms.0, goes_on (project ms.0) (refl, refl, justfile_of, ms.1) (stable ms.0 ms.1, refl)))
-
-  feature_refuses : (e : Error) → (modules : List Justfile) × AreModules (l.justfile ∷ []) modules × (u : UnstableFeature) × (unstable_feature wanted.unstable modules ≡ Some u) × (e ≡ error.UnstableFeature u) → FindsProject it (Err e)
-  feature_refuses e (ms, are, u, uses, told) = goes_on (project ms) (refl, refl, justfile_of, are) (u, uses, told)
-
-  pub feature_refused : (e : Error) → OrMemory (λ f. (modules : List Justfile) × AreModules (l.justfile ∷ []) modules × (u : UnstableFeature) × (unstable_feature wanted.unstable modules ≡ Some u) × (f ≡ error.UnstableFeature u)) e
-      → OrMemory (λ f. FindsProject it (Err f)) e
-  feature_refused e (inl wants) = inl wants
-  feature_refused e (inr why) = inr (feature_refuses e why)

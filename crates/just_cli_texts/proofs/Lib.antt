@@ -8,5 +8,6 @@ pub mod OneListing
 pub mod OneTree
 pub mod PrintLaws
 pub mod Printers
+pub mod ResponseLaws
 pub mod TargetLaws
 pub mod Wholly

@@ -1,15 +1,17 @@
 -- The listing of a module, and the paths of its recipes, are one thing.
-use Rattle.std.proofs.Common.{◌≡◌, ℕ, Bool, true, false, List, [], ◌∷◌, ◌++◌, refl, sym, ap, ◌∙◌, subst}
+use Rattle.std.proofs.Common.{◌≡◌, ℕ, Bool, true, false, not, List, [], ◌∷◌, ◌++◌, refl, sym, ap, ◌∙◌, subst}
 use Rattle.std.specs.Prelude.{if◌then◌else◌}
 use Rattle.std.specs.List.{flat_map}
+use Rattle.just_print_entries.specs.declared.options.AliasStyle.{AliasStyle}
 use Rattle.just_print_entries.specs.declared.options.ListOptions.{ListOptions}
-use Rattle.just_print_entries.specs.Listings.{Piece, lines, inner, inner_line, inner_pieces, module_pieces, group_line, group_pieces, named_pieces, ungrouped_pieces, group_list, pieces_with, pieces, recipe_groups, AreWritten, IsListing}
+use Rattle.just_print_entries.specs.Listings.{Piece, lines, inner, inner_line, inner_pieces, module_pieces, group_line, group_pieces, named_pieces, ungrouped_pieces, listed_groups, has_ungrouped, group_list, pieces_with, pieces, recipe_groups, AreWritten, IsListing}
+use Rattle.just_print_entries.specs.Recipes.{other_aliases, widest, widths, recipe_lines, alias_lines, module_lines}
 use Rattle.just_print_lists.specs.declared.listed.ListedRecipe.{ListedRecipe}
 use Rattle.just_print_lists.specs.declared.listed.ListedAlias.{ListedAlias}
 use Rattle.just_print_lists.specs.declared.listed.ListedModule.{ListedModule}
-use Rattle.just_print_lists.specs.Groups.{ungrouped, grouped}
-use Rattle.just_print_lists.specs.Listed.{groups_of}
-use Rattle.just_print_lists.specs.Summaries.{public_modules, paths_of, AreInTurn, ArePaths}
+use Rattle.just_print_lists.specs.Groups.{is_nil, ungrouped, grouped}
+use Rattle.just_print_lists.specs.Listed.{groups_of, named_groups_of}
+use Rattle.just_print_lists.specs.Summaries.{public_recipes, public_modules, paths_of, AreInTurn, ArePaths}
 
 -- ---- paths
 
@@ -67,10 +69,15 @@ module _ (o u : ListOptions) (prefix : o.prefix.now ≡ u.prefix.now) (style : o
         ∙ ap (λ (l : List Piece). lines (inner_line u indent columns has_named later m) ∷ inner (indent ++ u.prefix.now) m ∷ l) (inner_same true ms)
 
     module_same : (ms : List ListedModule) → module_pieces o indent columns has_named ms ≡ module_pieces u indent columns has_named ms
-    module_same ms = rw (inside, inner_same false ms, style)
+    module_same ms =
+        ap (λ (b : Bool). if b then inner_pieces o indent columns has_named false ms else (lines (flat_map (module_lines indent columns o.alias_style) ms) ∷ [])) inside
+        ∙ (ap (λ (l : List Piece). if u.list_submodules then l else (lines (flat_map (module_lines indent columns o.alias_style) ms) ∷ [])) (inner_same false ms)
+        ∙ ap (λ (s : AliasStyle). if u.list_submodules then inner_pieces u indent columns has_named false ms else (lines (flat_map (module_lines indent columns s) ms) ∷ [])) style)
 
     group_same : (front : List ℕ) (rs : List ListedRecipe) (others : List ListedAlias) (ms : List ListedModule) → group_pieces o indent columns has_named front rs others ms ≡ group_pieces u indent columns has_named front rs others ms
-    group_same front rs others ms = rw (style, module_same ms)
+    group_same front rs others ms =
+        ap (λ (s : AliasStyle). lines (front ++ (flat_map (recipe_lines indent columns s) rs ++ flat_map (alias_lines indent columns s) others)) ∷ module_pieces o indent columns has_named ms) style
+        ∙ ap (λ (l : List Piece). lines (front ++ (flat_map (recipe_lines indent columns u.alias_style) rs ++ flat_map (alias_lines indent columns u.alias_style) others)) ∷ l) (module_same ms)
 
     named_same : (rs : List ListedRecipe) (ms : List ListedModule) (later : Bool) (gs : List (List ℕ)) → named_pieces o indent columns has_named rs ms later gs ≡ named_pieces u indent columns has_named rs ms later gs
     named_same rs ms later [] = refl
@@ -87,11 +94,20 @@ module _ (o u : ListOptions) (prefix : o.prefix.now ≡ u.prefix.now) (style : o
         ∙ ap (λ (l : List Piece). ungrouped_pieces u indent columns has_named is_there rs others ms ++ l) (named_same rs ms is_there gs)
 
   with_same : (given : List (List ℕ)) (indent : List ℕ) (m : ListedModule) (rs : List ListedRecipe) (others : List ListedAlias) (ms : List ListedModule) → pieces_with o given indent m rs others ms ≡ pieces_with u given indent m rs others ms
-  with_same given indent m rs others ms = list_same indent _ _ _ _ rs others ms ∙ rw (style, inside, unsorted)
+  with_same given indent m rs others ms =
+      let named : Bool = not (is_nil (named_groups_of m)) in
+      let there : Bool = has_ungrouped given rs others ms in
+      list_same indent (widest (widths o.alias_style o.list_submodules rs others ms)) named there (listed_groups o.unsorted given m) rs others ms
+      ∙ (ap (λ (s : AliasStyle). group_list u indent (widest (widths s o.list_submodules rs others ms)) named there (listed_groups o.unsorted given m) rs others ms) style
+      ∙ (ap (λ (b : Bool). group_list u indent (widest (widths u.alias_style b rs others ms)) named there (listed_groups o.unsorted given m) rs others ms) inside
+      ∙ ap (λ (b : Bool). group_list u indent (widest (widths u.alias_style u.list_submodules rs others ms)) named there (listed_groups b given m) rs others ms) unsorted))
 
   pieces_same : (given : List (List ℕ)) (indent : List ℕ) (m : ListedModule) → pieces o given indent m ≡ pieces u given indent m
   unfolding pieces
-  pieces_same given indent m = with_same given indent m _ _ _ ∙ rw (unsorted, style)
+  pieces_same given indent m =
+      with_same given indent m (public_recipes o.unsorted m) (other_aliases o.alias_style m) (public_modules o.unsorted m)
+      ∙ (ap (λ (b : Bool). pieces_with u given indent m (public_recipes b m) (other_aliases o.alias_style m) (public_modules b m)) unsorted
+      ∙ ap (λ (s : AliasStyle). pieces_with u given indent m (public_recipes u.unsorted m) (other_aliases s m) (public_modules u.unsorted m)) style)
 
   written_same : (ps : List Piece) (text : List ℕ) → AreWritten o ps text → AreWritten u ps text
   written_same ps text AreWritten.nothing = AreWritten.nothing

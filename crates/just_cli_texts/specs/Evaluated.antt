@@ -56,6 +56,10 @@ variable_named vs name = find (λ (v : Evaluated). bytes_eq v.name name) vs
 
 -- ---- what names come to
 
+-- all variables of a module
+abbrev pub all_text : EvaluateFormat → Scopes → Justfile → List ℕ
+all_text f scopes j = evaluated_text f (variables_of scopes j)
+
 module _ (modules : List Justfile) where
   abbrev pub step_in : Option Justfile → (Justfile → Result Justfile Error) → List ℕ → Result Justfile Error
   step_in None go name = Err (error.EvalUnknownSubmodule name)
@@ -67,14 +71,10 @@ module _ (modules : List Justfile) where
   evaluated_module (name ∷ names) j = step_in (module_named modules j name) (λ m. evaluated_module names m) name
 
 module _ (f : EvaluateFormat) (modules : List Justfile) (scopes : Scopes) where
-  -- all variables of a module
-  abbrev pub all_text : Justfile → List ℕ
-  all_text j = evaluated_text f (variables_of scopes j)
-
   -- a variable by its text alone, else a module of that name
   abbrev pub text_named : List ℕ → Option Evaluated → Option Justfile → Result (List ℕ) Error
   text_named name (Some v) m = Ok v.text
-  text_named name None (Some m) = Ok (all_text m)
+  text_named name None (Some m) = Ok (all_text f scopes m)
   text_named name None None = Err (error.EvalUnknownSubmoduleOrVariable name)
 
   abbrev pub text_in : Justfile → List ℕ → Result (List ℕ) Error
@@ -83,6 +83,6 @@ module _ (f : EvaluateFormat) (modules : List Justfile) (scopes : Scopes) where
   -- What is printed of what names come to from the root: all variables of the root where there are none; else of what the last of them is in the module that
   -- those in front of it lead to.
   pub data EvaluatesNames (root : Justfile) (names : List (List ℕ)) (r : Result (List ℕ) Error) : Type 0 where
-    whole : names ≡ [] → r ≡ Ok (all_text root) → EvaluatesNames root names r
+    whole : names ≡ [] → r ≡ Ok (all_text f scopes root) → EvaluatesNames root names r
     lost : (front : List (List ℕ)) (last : List ℕ) (e : Error) → names ≡ front ++ last ∷ [] → evaluated_module modules front root ≡ Err e → r ≡ Err e → EvaluatesNames root names r
     named : (front : List (List ℕ)) (last : List ℕ) (j : Justfile) → names ≡ front ++ last ∷ [] → evaluated_module modules front root ≡ Ok j → r ≡ text_in j last → EvaluatesNames root names r

@@ -7,42 +7,56 @@ ghost use Rattle.just_lang_types.specs.Modules.{AreModules};
 ghost use Rattle.just_eval_words.specs.Commands.{inner_at};
 ghost use Rattle.just_cli_plan.specs.Pairs.{Answers};
 ghost use Rattle.just_cli_texts.specs.Laid.{laid_by};
-ghost use Rattle.just_cli_texts.specs.Defaults.{is_listed, listed_by_default, ListsLaid};
+ghost use Rattle.just_cli_texts.specs.Defaults.{is_listed, names_if, listed_by_default, ListsLaid};
 
 use super::printed::Printed;
 use super::prints::alone_or;
 use super::targets::list;
 use super::whole::whole_of;
 use just_config::{Config, path_of_words};
-use just_eval_words::inner_module;
+use just_eval_words::module_named;
 use just_exec::Error;
 use just_lang::LaidJustfile;
 use just_lang_types::all_modules;
-use just_lang_types::project::{Justfile, LangError};
+use just_lang_types::project::Justfile;
 use just_path_text::{Environ, NoMemory, Seq, Text};
 use std::alloc::Global;
 
-/// Whether names lead to a module which is listed by default.
-fn is_listed(
-    alloc: Global,
+/// Whether names lead to a module which is listed by default, by the words or by its own setting.
+#[tactic(auto, using(crate::proofs::DefaultLaws::listed_there, crate::proofs::DefaultLaws::listed_nowhere, just_eval_words::proofs::Commanded::inner_here))]
+fn is_listed<'p>(given: bool, modules: &[&'p Justfile], root: &'p Justfile, names: &[Text]) -> bool
+    ensures { result ≡ is_listed given
+        (inner_at (map (λ m. m.now) modules.now) names.now root.now) }
+{
+    let mut inside = root;
+    'names: for name in names {
+        match module_named(modules, inside, name.as_str()) {
+            Some(next) => inside = next,
+            None => return false,
+        }
+    }
+    given || inside.settings.default_list
+}
+
+/// Names, where they lead to a module that is listed by default.
+fn names_if(
     given: bool,
     modules: &[&Justfile],
     root: &Justfile,
-    names: &[Text],
-) -> Result<bool, NoMemory>
-    ensures { IfOk result (λ b. b ≡ is_listed given
-        (inner_at (map (λ m. m.now) modules.now) names.now root.now)) }
+    names: Seq<Text>,
+) -> Option<Seq<Text>>
+    ensures { result ≡ names_if given (map (λ m. m.now) modules.now) root.now names }
 {
-    match inner_module(alloc, modules, root, names) {
-        Ok(inner) => Ok(given || inner.settings.default_list),
-        Err(LangError::NoMemory) => Err(NoMemory),
-        Err(_) => Ok(false),
+    if is_listed(given, modules, root, names.as_slice()) {
+        Some(names)
+    } else {
+        None
     }
 }
 
 /// The names of the module that is listed in the place of a run, if one is: words name it, or none name the root; and it is listed by default, by the
 /// words or by its own setting.
-#[tactic(auto, using(crate::proofs::DefaultLaws::no_names, crate::proofs::DefaultLaws::names_listed, crate::proofs::DefaultLaws::names_unlisted))]
+#[tactic(auto, using(just_lang_types::proofs::Nesting::same_modules, crate::proofs::DefaultLaws::names_there))]
 pub fn listed_by_default(
     alloc: Global,
     given: bool,
@@ -53,14 +67,13 @@ pub fn listed_by_default(
         → AreModules (justfile.now ∷ []) modules
         → names ≡ listed_by_default given modules justfile.now words.now) }
 {
-    let Some(names) = path_of_words(alloc, words)? else {
-        return Ok(None);
-    };
-    let modules = all_modules(alloc, justfile)?;
-    if is_listed(alloc, given, modules.as_slice(), justfile, names.as_slice())? {
-        return Ok(Some(names));
+    match path_of_words(alloc, words)? {
+        Some(names) => {
+            let modules = all_modules(alloc, justfile)?;
+            Ok(names_if(given, modules.as_slice(), justfile, names))
+        }
+        None => Ok(None),
     }
-    Ok(None)
 }
 
 /// The listing of the module of a justfile that names lead to, as a configuration lists it.

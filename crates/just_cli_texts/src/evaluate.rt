@@ -38,12 +38,16 @@ fn parts_of(alloc: Global, word: &str) -> Result<Seq<Text>, NoMemory>
 }
 
 /// The names in a word.
+#[tactic(auto, using(crate::proofs::EvaluateLaws::word_path, crate::proofs::EvaluateLaws::word_parts))]
 fn names_of_word(alloc: Global, word: &Text) -> Result<Seq<Text>, NoMemory>
     ensures { IfOk result (λ names. names ≡ names_of_word word.now) }
 {
     match path_of_words(alloc, slice::from_ref(word))? {
         Some(names) => Ok(names),
-        None => parts_of(alloc, word.as_str()),
+        None => {
+            let names = parts_of(alloc, word.as_str())?;
+            Ok(names)
+        }
     }
 }
 
@@ -114,6 +118,7 @@ fn own_bindings(level: &Level) -> &[Binding]
 }
 
 /// The variables of levels with their texts.
+#[tactic(auto, using(crate::proofs::EvaluateLaws::levels_more))]
 fn variables_in(alloc: Global, levels: &[Level]) -> Result<Vec<Evaluated>, NoMemory>
     ensures { IfOk result (λ v. v.items ≡ map as_evaluated (flat_map own_bindings levels.now)) }
 {
@@ -137,6 +142,7 @@ fn scope_of<'s>(scopes: &'s Scopes, path: &Modulepath) -> Option<&'s Scope>
 }
 
 /// The variables of a module with their texts.
+#[tactic(auto, using(crate::proofs::EvaluateLaws::scoped, crate::proofs::EvaluateLaws::unscoped))]
 fn variables_of(
     alloc: Global,
     scopes: &Scopes,
@@ -145,7 +151,10 @@ fn variables_of(
     ensures { IfOk result (λ v. v.items ≡ variables_of scopes.now justfile.now) }
 {
     match scope_of(scopes, &justfile.module_path) {
-        Some(scope) => variables_in(alloc, scope.levels.as_slice()),
+        Some(scope) => {
+            let variables = variables_in(alloc, scope.levels.as_slice())?;
+            Ok(variables)
+        }
         None => Ok(Vec::new(alloc)),
     }
 }
@@ -219,6 +228,7 @@ fn all_text(
 }
 
 /// What is printed of a name in a module: the text of a variable, else all variables of a module of that name.
+#[tactic(auto, using(crate::proofs::EvaluateLaws::text_variable, crate::proofs::EvaluateLaws::text_module, crate::proofs::EvaluateLaws::text_nowhere))]
 fn text_in(
     alloc: Global,
     format: EvaluateFormat,
@@ -234,10 +244,14 @@ fn text_in(
 {
     let variables = variables_of(alloc, scopes, justfile)?;
     if let Some(variable) = variable_named(variables.as_slice(), name) {
-        return Ok(variable.text.try_clone()?);
+        let text = variable.text.try_clone()?;
+        return Ok(text);
     }
     match module_named(modules, justfile, name) {
-        Some(inner) => Ok(all_text(alloc, format, scopes, inner)?),
+        Some(inner) => {
+            let text = all_text(alloc, format, scopes, inner)?;
+            Ok(text)
+        }
         None => Err(no_variable(alloc, name)),
     }
 }
@@ -267,6 +281,7 @@ fn text_of_names(
 }
 
 /// What a configuration prints of the values of a justfile's variables: those of the module that the first of some words names, or of that variable alone.
+#[tactic(auto, using(just_lang_types::proofs::Nesting::same_modules, crate::proofs::EvaluateLaws::refusal_in_all))]
 pub fn evaluate(
     alloc: Global,
     config: &Config,
@@ -285,12 +300,15 @@ pub fn evaluate(
 {
     let names = names_of_words(alloc, words)?;
     let modules = all_modules(alloc, justfile)?;
-    text_of_names(
+    match text_of_names(
         alloc,
         format_of(config),
         modules.as_slice(),
         scopes,
         justfile,
         names.as_slice(),
-    )
+    ) {
+        Ok(text) => Ok(text),
+        Err(error) => Err(error),
+    }
 }

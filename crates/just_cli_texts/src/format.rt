@@ -48,7 +48,7 @@ fn format_text(
 }
 
 /// The text of a source as it is written anew; or why it has no tree.
-#[tactic(auto, using(crate::proofs::FormatLaws::unformatted))]
+#[tactic(auto, using(crate::proofs::FormatLaws::formatted_so, crate::proofs::FormatLaws::unformatted))]
 pub fn formatted(
     alloc: Global,
     config: &Config,
@@ -60,7 +60,10 @@ pub fn formatted(
         Formats config.now environ.now.pairs source.now (Err e))) }
 {
     match parse(alloc, source) {
-        Ok(ast) => Ok(format_text(alloc, config, environ, ast.items.as_slice())?),
+        Ok(ast) => {
+            let text = format_text(alloc, config, environ, ast.items.as_slice())?;
+            Ok(text)
+        }
         Err(error) => Err(Error::from(error)),
     }
 }

@@ -15,7 +15,6 @@ use just_path_text::Environ;
 use std::alloc::Global;
 
 /// The justfile of the sources of a project, the first of which is its own, with their layout, where no unstable feature is used without leave.
-#[tactic(auto, using(crate::proofs::LayLaws::laid_found, crate::proofs::LayLaws::sound_of, crate::proofs::LayLaws::justfile_of, crate::proofs::LayLaws::feature_refused))]
 pub fn laid_of_sources(
     alloc: Global,
     sources: &[Source],

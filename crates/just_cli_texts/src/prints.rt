@@ -64,6 +64,7 @@ pub(crate) fn alone_or(text: Result<Text, Error>) -> Result<Printed, Error>
 }
 
 /// What a command prints of a project.
+#[tactic(auto, using(crate::proofs::PrintLaws::dump_printed, crate::proofs::PrintLaws::groups_printed, crate::proofs::PrintLaws::variables_printed, crate::proofs::PrintLaws::summary_printed, crate::proofs::PrintLaws::lists_printed, crate::proofs::PrintLaws::shows_printed, crate::proofs::PrintLaws::uses_printed))]
 fn prints_of(
     alloc: Global,
     config: &Config,
@@ -74,10 +75,22 @@ fn prints_of(
     ensures { Answers (PrintsOf config.now (Some command.now) (parts project.entry)) result }
 {
     match command {
-        Subcommand::Dump(_) => Ok(alone(dump(alloc, config, project)?)),
-        Subcommand::Groups(_) => Ok(alone(groups_of(alloc, config, project)?)),
-        Subcommand::Variables(_) => Ok(alone(variables_of(alloc, project)?)),
-        Subcommand::Summary(_) => Ok(summary(alloc, config, project)?),
+        Subcommand::Dump(_) => {
+            let text = dump(alloc, config, project)?;
+            Ok(alone(text))
+        }
+        Subcommand::Groups(_) => {
+            let text = groups_of(alloc, config, project)?;
+            Ok(alone(text))
+        }
+        Subcommand::Variables(_) => {
+            let text = variables_of(alloc, project)?;
+            Ok(alone(text))
+        }
+        Subcommand::Summary(_) => {
+            let summed = summary(alloc, config, project)?;
+            Ok(summed)
+        }
         Subcommand::List(words) => {
             let names = names_of(alloc, words.as_slice())?;
             alone_or(list(alloc, config, project, names.as_slice()))

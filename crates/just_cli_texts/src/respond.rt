@@ -22,20 +22,28 @@ fn requested(alloc: Global, words: &[Text]) -> Result<Option<Request>, NoMemory>
     }
 }
 
+/// The value of a variable of an environment.
+fn value_of(alloc: Global, environ: &Environ, name: &str) -> Result<Option<Text>, NoMemory>
+    ensures { IfOk result (λ o. o ≡ value_of name.now environ.now.pairs) }
+{
+    match environ.get(name) {
+        Some(text) => Ok(Some(Text::from_str(alloc, text)?)),
+        None => Ok(None),
+    }
+}
+
 /// The text of the response about a variable of an environment.
 fn about_variable(alloc: Global, environ: &Environ, name: &str) -> Result<Text, NoMemory>
     ensures { IfOk result (λ t. t
         ≡ response_text (response.EnvironmentVariable (value_of name.now environ.now.pairs))) }
 {
-    let found = match environ.get(name) {
-        Some(text) => Some(Text::from_str(alloc, text)?),
-        None => None,
-    };
+    let found = value_of(alloc, environ, name)?;
     let text = Response::EnvironmentVariable(found).text(alloc)?;
     Ok(Text::from(text))
 }
 
 /// The text of the response to a request, over an environment.
+#[tactic(auto, using(crate::proofs::ResponseLaws::responded_so, crate::proofs::ResponseLaws::unresponded))]
 pub fn respond(alloc: Global, environ: &Environ, words: &[Text]) -> Result<Text, Error>
     ensures text { IfOk result (λ t. responded environ.now.pairs (requested words.now) ≡ Ok t) }
     ensures refused { IfErr result (OrMemory (λ e.
@@ -43,7 +51,8 @@ pub fn respond(alloc: Global, environ: &Environ, words: &[Text]) -> Result<Text,
 {
     match requested(alloc, words)? {
         Some(Request::EnvironmentVariable(name)) => {
-            Ok(about_variable(alloc, environ, name.as_str())?)
+            let text = about_variable(alloc, environ, name.as_str())?;
+            Ok(text)
         }
         None => Err(Error::Config(ConfigError::RequestParse)),
     }

@@ -26,6 +26,7 @@ fn no_recipes(alloc: Global, paths: &[Text]) -> Result<Option<Text>, NoMemory>
 }
 
 /// The paths of a project's public recipes.
+#[tactic(auto, using(crate::proofs::PrintLaws::summed))]
 pub(crate) fn summary(
     alloc: Global,
     config: &Config,

@@ -14,6 +14,7 @@ use just_print_commands::{ListTextError, Project, ShowError, list_text, show_tex
 use std::alloc::Global;
 
 /// The names of a module path in the words of a command; none where they are no path.
+#[tactic(auto, using(crate::proofs::TargetLaws::path_named, crate::proofs::TargetLaws::path_unnamed))]
 pub fn names_of(alloc: Global, words: &[Text]) -> Result<Seq<Text>, NoMemory>
     ensures { IfOk result (λ names. names ≡ names_of words.now) }
 {
@@ -68,7 +69,7 @@ pub(crate) fn list(
 }
 
 /// The recipe that names lead to as its file has it.
-#[tactic(auto, using(crate::proofs::TargetLaws::unshown))]
+#[tactic(auto, using(crate::proofs::TargetLaws::shown_so, crate::proofs::TargetLaws::unshown))]
 pub(crate) fn show(
     alloc: Global,
     config: &Config,
@@ -86,7 +87,7 @@ pub(crate) fn show(
 }
 
 /// How the recipe that names lead to is used.
-#[tactic(auto, using(crate::proofs::TargetLaws::unshown))]
+#[tactic(auto, using(crate::proofs::TargetLaws::used_so, crate::proofs::TargetLaws::unshown))]
 pub(crate) fn usage(
     alloc: Global,
     project: Project<'_, '_, '_, '_, '_, '_>,

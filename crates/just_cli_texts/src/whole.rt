@@ -28,7 +28,7 @@ pub(crate) struct Whole<'l> {
 impl<'l> Whole<'l> {
     /// The project as commands ask it.
     pub(crate) fn project(&self) -> Project<'_, '_, 'l, '_, '_, 'l>
-        ensures { parts result.entry ≡ parts_in self.now }
+        ensures { parts result ≡ parts_in self.now }
     {
         Project {
             layout: &self.laid.layout,
@@ -49,7 +49,8 @@ pub(crate) fn whole_of<'l>(
 ) -> Result<Whole<'l>, NoMemory>
     requires { IsSoundlyMadeOf environ.now.pairs laid.now.layout laid.now.justfile }
     ensures laid { IfOk result (λ w. w.laid.now ≡ laid.now) }
-    ensures parts { IfOk result (λ w. ArePartsOf environ.now.pairs (laid_by laid.now) (parts_in w)) }
+    ensures parts { IfOk result (λ w.
+        ArePartsOf environ.now.pairs (laid_by laid.now) (parts_in w)) }
 {
     let texts = Meanings { environ };
     let winners = laid.winners.as_slice();

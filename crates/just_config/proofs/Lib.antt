@@ -3,5 +3,6 @@ pub mod Cuts
 pub mod Joins
 pub mod LastNames
 pub mod Fields
+pub mod Responses
 pub mod WholeNames
 pub mod ConfigSteps

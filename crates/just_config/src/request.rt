@@ -100,10 +100,13 @@ impl Response {
     /// ```
     /// // of the value `/h`: `{"environment-variable":"/h"}`
     /// ```
+    #[tactic(auto, using(crate::proofs::Responses::text_so))]
     pub fn text(&self, alloc: Global) -> Result<String, NoMemory>
         ensures { IfOk result (λ s. string_bytes s ≡ response_text self.now) }
     {
-        Ok(self.value(alloc)?.to_string(alloc)?)
+        let value = self.value(alloc)?;
+        let text = value.to_string(alloc)?;
+        Ok(text)
     }
 }
 

@@ -62,7 +62,10 @@ pub fn named_target<'p>(
     let Some((last, front)) = names.split_last() else {
         return Ok(Target::Module(root));
     };
-    let inside = inner_module(alloc, modules, root, front)?;
+    let inside = match inner_module(alloc, modules, root, front) {
+        Ok(inside) => inside,
+        Err(e) => return Err(e),
+    };
     let target = last_target(alloc, modules, inside, last.as_str(), last.as_str())?;
     Ok(target)
 }

@@ -48,16 +48,13 @@ module _ (environ : Pairs) (layout : Layout) (winners : List (List ℕ)) (names 
   pub soundly_made : (j : Justfile) → BreaksNone environ (wins_of names) (layout_of names) → IsMadeOf environ (wins_of names) (layout_of names) j → IsSoundlyMadeOf environ layout j
   soundly_made j h k = record { wins = wins_in winners; wins_are = importers; none_broken = over_names (λ w l. BreaksNone environ w l) h; made = over_names (λ w l. IsMadeOf environ w l j) k }
 
-pub made_of_sources : (sources : List Source) (environ : Pairs) (layout : Layout) (j : Justfile) → IsLayoutOf sources environ layout → IsSoundlyMadeOf environ layout j → IsJustfileOfSources sources environ j
-made_of_sources sources environ layout j h k = record { layout = layout; layout_is = h; made = k }
-
 -- the justfile with its layout
-pub laid_of_sources : (sources : List Source) (environ : Pairs) (layout : Layout) (p : LaidJustfile) → IsLayoutOf sources environ layout → p.layout ≡ layout → AreWins layout (wins_in p.winners) → IsSoundlyMadeOf environ layout p.justfile
-    → IsLaidJustfile sources environ p
-laid_of_sources sources environ layout p h same wins k = record {
-  layout_is = subst (λ (l : Layout). IsLayoutOf sources environ l) (sym same) h;
-  wins_are = subst (λ (l : Layout). AreWins l (wins_in p.winners)) (sym same) wins;
-  made = subst (λ (l : Layout). IsSoundlyMadeOf environ l p.justfile) (sym same) k;
+pub laid_of_sources : (sources : List Source) (environ : Pairs) (layout : Layout) (p : LaidJustfile) → IsLayoutOf sources environ layout
+    → (p.layout ≡ layout) × AreWins layout (wins_in p.winners) × IsSoundlyMadeOf environ layout p.justfile → IsLaidJustfile sources environ p
+laid_of_sources sources environ layout p h k = record {
+  layout_is = subst (λ (l : Layout). IsLayoutOf sources environ l) (sym k.0) h;
+  wins_are = subst (λ (l : Layout). AreWins l (wins_in p.winners)) (sym k.0) k.1;
+  made = subst (λ (l : Layout). IsSoundlyMadeOf environ l p.justfile) (sym k.0) k.2;
 }
 
 pub made_of_laid : (sources : List Source) (environ : Pairs) (p : LaidJustfile) → IsLaidJustfile sources environ p → IsJustfileOfSources sources environ p.justfile

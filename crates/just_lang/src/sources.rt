@@ -146,9 +146,8 @@ fn assemble_layout(
     layout: Layout,
 ) -> Result<LaidJustfile, LangError>
     requires { outermost layout.modules ≡ [] ∷ [] }
-    ensures layout { IfOk result (λ p. p.layout ≡ layout) }
-    ensures winners { IfOk result (λ p. AreWins layout (wins_in p.winners)) }
-    ensures justfile { IfOk result (λ p. IsSoundlyMadeOf environ.now.pairs layout p.justfile) }
+    ensures laid { IfOk result (λ p. (p.layout ≡ layout) × AreWins layout (wins_in p.winners) ×
+        IsSoundlyMadeOf environ.now.pairs layout p.justfile) }
     ensures refused { IfErr result (λ e. e ≢ LangError.NoMemory → HasError environ.now.pairs layout e) }
 {
     let imports = layout.imports.as_slice();
