@@ -45,7 +45,6 @@ fn planned(
 }
 
 /// The reply behind the values of the variables.
-#[tactic(auto, using(crate::proofs::Replying::lists_so, crate::proofs::Replying::unlisted_so, crate::proofs::Replying::plans_so, crate::proofs::Replying::unplanned_so))]
 fn reply_behind(
     alloc: Global,
     environ: &Environ,
@@ -80,7 +79,6 @@ fn reply_behind(
 }
 
 /// The reply behind the dotenv pairs.
-#[tactic(auto, using(crate::proofs::Replying::no_values, crate::proofs::Replying::behind_values, crate::proofs::Replying::refused_behind))]
 fn reply_loaded(
     alloc: Global,
     environ: &Environ,
