@@ -58,10 +58,6 @@ pub cleans_as : (folder given : List ℕ) (path some : Option Modulepath) (befor
 cleans_as folder given path some before after r one other cleans = subst (λ f. Cleans f path before after r) one (subst (λ p. Cleans given p before after r) other cleans)
 
 -- a line is told, or isn't; where memory is wanting for it, it isn't
-pub loud_or_quiet : (quiet : Bool) (old new : List Entry) (r : Result (Unit {0}) Error) → IfErr r (λ e. (quiet ≡ false) × IsPrintError e × (new ≡ old ++ entries_of e)) → IfErr r (λ e. IsPrintError e × (new ≡ old ++ entries_of e))
-loud_or_quiet quiet old new (Ok x) why = tt
-loud_or_quiet quiet old new (Err e) why = why.1
-
 pub told_of : (quiet : Bool) (old new : List Entry) (what : Cleaned) (line text : List ℕ) → line ≡ text → text ≡ cleaned_line what → new ≡ old ++ told_line quiet line → new ≡ old ++ told_line quiet (cleaned_line what)
 told_of quiet old new what line text is so grew = grew ∙ ap (λ l. old ++ told_line quiet l) (is ∙ so)
 

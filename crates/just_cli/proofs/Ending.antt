@@ -23,7 +23,7 @@ use Rattle.just_cli_texts.specs.declared.printed.Printed.{Printed}
 use Rattle.just_host_record.specs.declared.entry.Entry.{Entry}
 use Rattle.just_cli.specs.Acts.{Act}
 use Rattle.just_cli.specs.Asked.{Asked, Asks}
-use Rattle.just_cli.specs.Other.{Does, HeedsQuiet, LeavesFor}
+use Rattle.just_cli.specs.Other.{Does, HeedsQuiet, LeavesFor, StaysFor}
 use Rattle.just_cli.specs.Preparing.{LeavesActs}
 use Rattle.just_cli.specs.Printing.{IsPrinted}
 use Rattle.just_cli.specs.Quiet.{AsksQuiet, AskQuiet}
@@ -63,15 +63,15 @@ module _ (words : List (List ℕ)) (before between settled after : Moment) (kept
     ends = other_done (asked_by words before.world) before between settled after (words_ask_one words before.world) kept made (Asked.other c) c quiet r leaves none asks heeds does removes;
   }
 
-  question_ended : (c : Other) → LeavesFor c [] [] [] → HeedsQuiet (AsksQuiet words before.world) c quiet → (between ≡ before) × (made ≡ kept) × Asks words before.world [] [] before.world (Ok (Asked.other c)) → Does c quiet between settled r → IsEnded words before after r
-  question_ended c leaves heeds asks does = record {
+  question_ended : (c : Other) → LeavesFor c [] [] [] → (Does c quiet before settled r → settled.world ≡ before.world) → (after.world ≡ before.world → StaysFor c [] before.world after.world) → HeedsQuiet (AsksQuiet words before.world) c quiet → (between ≡ before) × (made ≡ kept) × Asks words before.world [] [] before.world (Ok (Asked.other c)) → Does c quiet between settled r → IsEnded words before after r
+  question_ended c leaves still stays heeds asks does = record {
     asked = Ok (Asked.other c);
-    ends = question_done (asked_by words before.world) before between settled after (words_ask_one words before.world) kept made c quiet r leaves none asks.1 asks.0 asks.2 heeds does removes;
+    ends = question_done (asked_by words before.world) before between settled after (words_ask_one words before.world) kept made c quiet r leaves still stays none asks.1 asks.0 asks.2 heeds does removes;
   }
 
   pub ended_other : (c : Other) → IsTask words before between kept made (task.Other c quiet) → Does c quiet between settled r → IsEnded words before after r
-  ended_other no_run.Help is does = question_ended no_run.Help refl tt is does
-  ended_other no_run.Version is does = question_ended no_run.Version refl tt is does
+  ended_other no_run.Help is does = question_ended no_run.Help refl (λ shows. shows.world) (λ same. same) tt is does
+  ended_other no_run.Version is does = question_ended no_run.Version refl (λ shows. shows.world) (λ same. same) tt is does
   ended_other (no_run.Init path) is does = command_ended (no_run.Init path) (λ listings acts es left. left) is.0 is.1 does
   ended_other (no_run.Show p) is does = command_ended (no_run.Show p) (λ listings acts es left. left) is.0 is.1 does
   ended_other no_run.Nothing is does = command_ended no_run.Nothing (λ listings acts es left. left) is.0 is.1 does

@@ -34,7 +34,7 @@ module _ (quiet : Bool) (old new : List Entry) (told : Option (List ℕ)) (r : R
     where
       by_result : (x : Result (Unit {0}) Error) → IfErr x (λ e. (quiet ≡ false) × IsPrintError e × (new ≡ old ++ entries_of e)) → IfErr x (λ e. (line : List ℕ) × (told ≡ Some line) × (quiet ≡ false) × IsPrintError e × (new ≡ old ++ entries_of e))
       by_result (Ok y) so = tt
-      by_result (Err e) so = (line, is, so)
+      by_result (Err e) so = (line, is, so.0, so.1, so.2)
 
 pub nothing_beside : (quiet : Bool) (old : List Entry) (told : Option (List ℕ)) → told ≡ None → old ≡ old ++ told_beside quiet told
 nothing_beside quiet old told is = sym (ap (λ o. old ++ told_beside quiet o) is ∙ append-nil old)

@@ -1,5 +1,5 @@
 -- The reply of a project, from what its steps answered.
-use Rattle.std.proofs.Common.{◌≡◌, inl, inr, ℕ, List, [], ◌∷◌, Some, None, Ok, Err, refl, sym, ap}
+use Rattle.std.proofs.Common.{◌≡◌, ◌∙◌, inl, inr, ℕ, List, [], ◌∷◌, Option, Some, None, Ok, Err, refl, sym, ap, subst}
 use Rattle.just_lang_types.specs.declared.project.Justfile.{Justfile}
 use Rattle.just_lang_types.specs.declared.scope.Scopes.{Scopes}
 use Rattle.just_lang_types.specs.declared.scope.DotenvOf.{DotenvOf}
@@ -21,28 +21,33 @@ module _ (c : Config) (q : LaidRequest) (scopes : Scopes) where
   abbrev behind : List Justfile → ScopesRequest
   behind modules = record { wanted = q.wanted; justfile = q.laid.justfile; modules = modules; scopes = scopes }
 
-  abbrev ListedAs : List (List ℕ) → Type 0
-  ListedAs names = (modules : List Justfile) → AreModules (q.laid.justfile ∷ []) modules → Some names ≡ listed_by_default c.default_list modules q.laid.justfile q.wanted.words
+  -- what was found of these words, by whichever list of the modules
+  abbrev FoundSo : List (List ℕ) → Option (List (List ℕ)) → Type 0
+  FoundSo seen o = (modules : List Justfile) → AreModules (q.laid.justfile ∷ []) modules → o ≡ listed_by_default c.default_list modules q.laid.justfile seen
 
-  abbrev Unlisted : Type 0
-  Unlisted = (modules : List Justfile) → AreModules (q.laid.justfile ∷ []) modules → None ≡ listed_by_default c.default_list modules q.laid.justfile q.wanted.words
+  module _ (seen : List (List ℕ)) (same : seen ≡ q.wanted.words) (o : Option (List (List ℕ))) (found : FoundSo seen o) where
+    listed_as : (x : Option (List (List ℕ))) → o ≡ x → (modules : List Justfile) → AreModules (q.laid.justfile ∷ []) modules → listed_by_default c.default_list modules q.laid.justfile q.wanted.words ≡ x
+    listed_as x is modules are = ap (λ (ws : List (List ℕ)). listed_by_default c.default_list modules q.laid.justfile ws) (sym same) ∙ (sym (found modules are) ∙ is)
 
-  pub lists_so : (names : List (List ℕ)) → ListedAs names → (p : Printed) → ListsLaid q.environ.pairs c q.laid names (Ok p) → (modules : List Justfile) → AreModules (q.laid.justfile ∷ []) modules → Replies c q (behind modules) (Ok (Reply.lists p))
-  lists_so names listed p lists modules are = Replies.by_list names (Ok p) (sym (listed modules are)) lists refl
+    -- a module is listed
+    module _ (names given : List (List ℕ)) (is : o ≡ Some names) (at : given ≡ names) where
+      pub lists_so : (p : Printed) → ListsLaid q.environ.pairs c q.laid given (Ok p) → (modules : List Justfile) → AreModules (q.laid.justfile ∷ []) modules → Replies c q (behind modules) (Ok (Reply.lists p))
+      lists_so p lists modules are = Replies.by_list names (Ok p) (listed_as (Some names) is modules are) (subst (λ (ns : List (List ℕ)). ListsLaid q.environ.pairs c q.laid ns (Ok p)) at lists) refl
 
-  pub unlisted_so : (names : List (List ℕ)) → ListedAs names → (e : Error) → OrMemory (λ x. ListsLaid q.environ.pairs c q.laid names (Err x)) e
-      → OrMemory (λ x. (modules : List Justfile) → AreModules (q.laid.justfile ∷ []) modules → Replies c q (behind modules) (Err x)) e
-  unlisted_so names listed e (inl wants) = inl wants
-  unlisted_so names listed e (inr lists) = inr (λ modules are. Replies.by_list names (Err e) (sym (listed modules are)) lists refl)
+      pub unlisted_so : (e : Error) → OrMemory (λ x. ListsLaid q.environ.pairs c q.laid given (Err x)) e → OrMemory (λ x. (modules : List Justfile) → AreModules (q.laid.justfile ∷ []) modules → Replies c q (behind modules) (Err x)) e
+      unlisted_so e (inl wants) = inl wants
+      unlisted_so e (inr lists) = inr (λ modules are. Replies.by_list names (Err e) (listed_as (Some names) is modules are) (subst (λ (ns : List (List ℕ)). ListsLaid q.environ.pairs c q.laid ns (Err e)) at lists) refl)
 
-  pub plans_so : Unlisted → (x : Reply) → ((modules : List Justfile) → AreModules (q.laid.justfile ∷ []) modules → (o : Outline) × PlansKeys (behind modules) (Ok o) × (x ≡ Reply.runs o))
-      → (modules : List Justfile) → AreModules (q.laid.justfile ∷ []) modules → Replies c q (behind modules) (Ok x)
-  plans_so none x plans modules are = let k = plans modules are in Replies.by_plan (Ok k.0) (sym (none modules are)) k.1 (ap (λ (y : Reply). Ok y) k.2)
+    -- none is
+    module _ (none : o ≡ None) where
+      pub plans_so : (x : Reply) → ((modules : List Justfile) → AreModules (q.laid.justfile ∷ []) modules → (o : Outline) × PlansKeys (behind modules) (Ok o) × (x ≡ Reply.runs o)) → (modules : List Justfile) → AreModules (q.laid.justfile ∷ []) modules
+          → Replies c q (behind modules) (Ok x)
+      plans_so x plans modules are = let k = plans modules are in Replies.by_plan (Ok k.0) (listed_as None none modules are) k.1 (ap (λ (y : Reply). Ok y) k.2)
 
-  pub unplanned_so : Unlisted → (e : Error) → OrMemory (λ x. (modules : List Justfile) → AreModules (q.laid.justfile ∷ []) modules → PlansKeys (behind modules) (Err x)) e
-      → OrMemory (λ x. (modules : List Justfile) → AreModules (q.laid.justfile ∷ []) modules → Replies c q (behind modules) (Err x)) e
-  unplanned_so none e (inl wants) = inl wants
-  unplanned_so none e (inr plans) = inr (λ modules are. Replies.by_plan (Err e) (sym (none modules are)) (plans modules are) refl)
+      pub unplanned_so : (e : Error) → OrMemory (λ x. (modules : List Justfile) → AreModules (q.laid.justfile ∷ []) modules → PlansKeys (behind modules) (Err x)) e
+          → OrMemory (λ x. (modules : List Justfile) → AreModules (q.laid.justfile ∷ []) modules → Replies c q (behind modules) (Err x)) e
+      unplanned_so e (inl wants) = inl wants
+      unplanned_so e (inr plans) = inr (λ modules are. Replies.by_plan (Err e) (listed_as None none modules are) (plans modules are) refl)
 
 -- ---- behind the dotenv pairs
 

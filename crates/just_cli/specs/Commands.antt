@@ -1,5 +1,5 @@
 -- What commands ask of a justfile: steps from its place to what is to be done, or to a refusal.
-use Rattle.std.specs.Prelude.{ℕ, ◌≡◌, Bool, true, false, if◌then◌else◌, List, [], ◌∷◌, Option, Some, None, Result, Ok, Err, bytes_eq}
+use Rattle.std.specs.Prelude.{ℕ, ◌≡◌, Bool, true, false, if◌then◌else◌, List, Option, Some, None, Result, Ok, Err, bytes_eq}
 use Rattle.just_host_record.specs.World.{World}
 use Rattle.just_lang_types.specs.declared.recipe.Modulepath.{Modulepath}
 use Rattle.just_config.specs.declared.config.Config.{Config}
@@ -25,6 +25,7 @@ use Rattle.just_cli_texts.specs.Targets.{names_of}
 use Rattle.just_cli.specs.declared.task.Other.{Other}
 use Rattle.just_cli.specs.declared.task.Other.TheVariants as no_run
 use Rattle.just_cli.specs.Acts.{Step, Begun, NoAct, Looks, Behind, BeginsBehind}
+use Rattle.just_cli.specs.Options.{is_any}
 use Rattle.just_cli.specs.Request.{FindsProjectAt, WithModules, LoadsPairs, BeginsProject, BeginsAt}
 use Rattle.just_cli.specs.Words.{LocatedRequest, JustfileRequest, TakesFile, BeginsFile}
 
@@ -57,8 +58,7 @@ EvaluatesAt told acts after q r = Behind FindsProjectAt (EvaluatesLaid q.config)
 
 -- the path of the recipes whose entries go; all go where no names are given
 abbrev pub path_if : List (List ℕ) → Option Modulepath
-path_if [] = None
-path_if (name ∷ names) = Some (record { components = name ∷ names })
+path_if names = if is_any names then Some (record { components = names }) else None
 
 abbrev pub CleansIt : Config → LaidRequest → Result Other Error → Type 0
 CleansIt c q r = r ≡ Ok (no_run.Clean q.wanted.cache_folder (path_if (names_of (words_of c.subcommand))))

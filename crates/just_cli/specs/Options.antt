@@ -2,6 +2,7 @@
 use Rattle.std.specs.Prelude.{ℕ, Bool, true, false, not, ◌||◌, ◌&&◌, if◌then◌else◌, nat_le, List, [], ◌∷◌, Option, Some, None, option_map, Result, Ok, Err, codes}
 use Rattle.std.specs.Int.NonZero.{non_zero_u64_get}
 use Rattle.just_path_text.specs.Environ.{or_else}
+use Rattle.just_config_words.specs.declared.subcommand.Subcommand.{Subcommand}
 use Rattle.just_config_words.specs.declared.subcommand.Subcommand.TheVariants as command
 use Rattle.just_config.specs.declared.config.Config.{Config}
 use Rattle.just_config.specs.Verbosities.{level}
@@ -58,6 +59,29 @@ not_built c = or_else (flag_not_built c) (command_not_built c.subcommand)
 abbrev pub shell_args_of : Config → Option (List (List ℕ))
 shell_args_of c = if c.clear_shell_args || is_any c.shell_arg then Some c.shell_arg else None
 
+-- whether a command prints the paths of recipes
+abbrev pub is_summary : Option Subcommand → Bool
+is_summary None = false
+is_summary (Some (command.Choose ws)) = false
+is_summary (Some (command.Clean ws)) = false
+is_summary (Some (command.Command ws)) = false
+is_summary (Some (command.Dump ws)) = false
+is_summary (Some (command.Edit ws)) = false
+is_summary (Some (command.Evaluate ws)) = false
+is_summary (Some (command.Fmt ws)) = false
+is_summary (Some (command.Groups ws)) = false
+is_summary (Some (command.Init ws)) = false
+is_summary (Some (command.List ws)) = false
+is_summary (Some (command.Request ws)) = false
+is_summary (Some (command.Show ws)) = false
+is_summary (Some (command.Summary ws)) = true
+is_summary (Some (command.Usage ws)) = false
+is_summary (Some (command.Variables ws)) = false
+
+-- whether unstable features are allowed: by the words, or for the paths of recipes alone
+abbrev pub allows_unstable : Config → Bool
+allows_unstable c = c.unstable || is_summary c.subcommand
+
 -- how recipes are run, in that working folder. The folder of the words for temporary ones is under that of the call, and clean
 abbrev pub flags_of : Config → List ℕ → RunFlags
 flags_of c folder =
@@ -91,7 +115,7 @@ wanted_of c folder cache =
       one = c.one;
       no_deps = c.no_deps;
       dotenv = dotenv_of c;
-      unstable = c.unstable;
+      unstable = allows_unstable c;
       jobs = c.jobs;
       cache_folder = cache;
       flags = flags_of c folder;

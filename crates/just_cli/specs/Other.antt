@@ -1,7 +1,7 @@
 -- What is done for words that ask for no run.
-use Rattle.std.specs.Prelude.{◌≡◌, Bool, List, [], Result}
+use Rattle.std.specs.Prelude.{ℕ, ◌≡◌, Bool, List, [], Option, Result}
 use Rattle.just_host_record.specs.declared.entry.Entry.{Entry}
-use Rattle.just_host_record.specs.World.{Moment}
+use Rattle.just_host_record.specs.World.{World, Moment}
 use Rattle.just_config.specs.declared.help.TheConstants.{HELP}
 use Rattle.just_cli.specs.declared.ended.Failure.{Failure}
 use Rattle.just_cli.specs.declared.ended.Report.{Report}
@@ -9,6 +9,7 @@ use Rattle.just_cli.specs.declared.init_text.TheConstants.{INIT_JUSTFILE}
 use Rattle.just_cli.specs.declared.task.Other.{Other}
 use Rattle.just_cli.specs.declared.task.Other.TheVariants as no_run
 use Rattle.just_cli.specs.Acts.{Act}
+use Rattle.just_cli.specs.Altered.{StaysAsItWas}
 use Rattle.just_cli.specs.Cleaning.{IsCleaned}
 use Rattle.just_cli.specs.Preparing.{LeavesActs}
 use Rattle.just_cli.specs.Printing.{IsPrinted, IsIdle}
@@ -44,3 +45,13 @@ LeavesFor (no_run.Show p) listings acts es = LeavesActs listings acts es
 LeavesFor no_run.Nothing listings acts es = LeavesActs listings acts es
 LeavesFor (no_run.Write path text) listings acts es = LeavesActs listings acts es
 LeavesFor (no_run.Clean folder path) listings acts es = LeavesActs listings acts es
+
+-- it leaves a told world as it was, but for paths at or below temporary folders; of a justfile that is written and of a cache that is cleaned what is done says it
+abbrev pub StaysFor : Other → List (List ℕ) → Option World → Option World → Type 0
+StaysFor no_run.Help folders told after = StaysAsItWas folders told after
+StaysFor no_run.Version folders told after = StaysAsItWas folders told after
+StaysFor (no_run.Init path) folders told after = Unit {0}
+StaysFor (no_run.Show p) folders told after = StaysAsItWas folders told after
+StaysFor no_run.Nothing folders told after = StaysAsItWas folders told after
+StaysFor (no_run.Write path text) folders told after = Unit {0}
+StaysFor (no_run.Clean folder path) folders told after = Unit {0}

@@ -18,7 +18,7 @@ use Rattle.just_cli.specs.Acts.{Act, folders_in}
 use Rattle.just_cli.specs.Altered.{EndsAsItWas, StaysAsItWas}
 use Rattle.just_cli.specs.Answered.{Asking, asked_by, IsFound, IsServed}
 use Rattle.just_cli.specs.Asked.{Asked}
-use Rattle.just_cli.specs.Other.{Does, HeedsQuiet, LeavesFor}
+use Rattle.just_cli.specs.Other.{Does, HeedsQuiet, LeavesFor, StaysFor}
 use Rattle.just_cli.specs.Record.{EndsWell, EndsIll, EndsUnopened, IsQuiet, Gains, AreRefusals, Removes}
 
 -- a result has a plan
@@ -97,6 +97,8 @@ pub record IsOther (q : Asking) (x : Asked) (c : Other) (before after : Moment) 
   pub quiet_is : HeedsQuiet q.quiet c quiet
   pub done : Does c quiet between settled result
   pub cleared : EndsCleared acts settled after
+  -- where no child was run to its end and nothing failed, the told world is as it was, but for paths at or below the temporary folders, and for what is done
+  pub untouched : (es : List Entry) → after.entries ≡ before.entries ++ es → IsQuiet es → StaysFor c (folders_in acts) before.world after.world
 
 -- how that ends which is asked for
 abbrev pub Ends : Asking → Moment → Moment → Result Report Failure → Result Asked Error → Type 0

@@ -28,6 +28,7 @@ ghost use Rattle.just_cli.specs.Tasks.{IsCommand};
 ghost use Rattle.just_exec.specs.declared.error.Error.{Error};
 
 use super::Error;
+use super::options::is_any;
 use super::place::project_at;
 use super::taken::take;
 use super::task::Other;
@@ -157,11 +158,11 @@ fn evaluate_at<H: Host>(
 fn path_if(names: Seq<Text>) -> Option<Modulepath>
     ensures { result ≡ path_if names }
 {
-    match names.as_slice() {
-        [] => return None,
-        [_, ..] => {}
+    if is_any(&names) {
+        Some(Modulepath { components: names })
+    } else {
+        None
     }
-    Some(Modulepath { components: names })
 }
 
 /// The cache of a project's recipes, and which of its entries are to go.

@@ -12,7 +12,7 @@ ghost use Rattle.just_cli.specs.Options.{is_any, command_not_built, dotenv_of, f
 ghost use Rattle.just_cli.specs.Words.{ReadsWords, IsBuilt, Configures};
 
 use super::Error;
-use super::options::{is_any, not_built};
+use super::options::{allows_unstable, is_any, not_built};
 use just_cache::Cache;
 use just_cli_plan::{Wanted, not_built_error};
 use just_config::{Arguments, Config, Read, read_words};
@@ -154,7 +154,7 @@ pub(crate) fn wanted(
         one: config.one,
         no_deps: config.no_deps,
         dotenv,
-        unstable: config.unstable,
+        unstable: allows_unstable(config),
         jobs: config.jobs,
         cache_folder,
         flags,

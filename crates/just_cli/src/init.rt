@@ -118,8 +118,13 @@ fn write<H: Host>(
     text: &str,
     quiet: bool,
 ) -> Result<(), Error>
-    ensures written { IfOk result (λ _. Writes path text.now (H.told host.old).world (H.told host.new).world (Ok tt) × ((H.told host.new).entries ≡ (H.told host.old).entries ++ told_line quiet (written_line path))) }
-    ensures unwritten { IfErr result (λ e. IsUnwritten path text.now quiet (H.told host.old).world (H.told host.new).world e × ((H.told host.new).entries ≡ (H.told host.old).entries ++ entries_of e)) }
+    ensures written { IfOk result (λ _.
+        Writes path text.now (H.told host.old).world (H.told host.new).world (Ok tt)
+        × ((H.told host.new).entries
+        ≡ (H.told host.old).entries ++ told_line quiet (written_line path))) }
+    ensures unwritten { IfErr result (λ e.
+        IsUnwritten path text.now quiet (H.told host.old).world (H.told host.new).world e
+        × ((H.told host.new).entries ≡ (H.told host.old).entries ++ entries_of e)) }
 {
     let line = match written_line(alloc, path.as_str()) {
         Ok(line) => line,

@@ -2,7 +2,7 @@
 
 ghost use Rattle.std.specs.Prelude.{◌≡◌};
 ghost use Rattle.std.specs.Option.{option_copied};
-ghost use Rattle.just_cli.specs.Options.{is_any, flag_not_built, command_not_built, not_built, is_lacking, is_missing};
+ghost use Rattle.just_cli.specs.Options.{is_any, flag_not_built, command_not_built, not_built, is_summary, allows_unstable, is_lacking, is_missing};
 
 use super::Error;
 use just_config::{Config, Subcommand};
@@ -49,6 +49,20 @@ pub(crate) fn not_built(config: &Config) -> Option<&'static str>
         return Some(word);
     }
     command_not_built(&config.subcommand)
+}
+
+/// Whether a command prints the paths of recipes.
+fn is_summary(command: &Option<Subcommand>) -> bool
+    ensures { result ≡ is_summary command.now }
+{
+    matches!(command, Some(Subcommand::Summary(_)))
+}
+
+/// Whether unstable features are allowed: by the words, or for the paths of recipes alone.
+pub(crate) fn allows_unstable(config: &Config) -> bool
+    ensures { result ≡ allows_unstable config.now }
+{
+    config.unstable || is_summary(&config.subcommand)
 }
 
 /// Whether a justfile lacks a recipe or a module that is asked for.

@@ -125,10 +125,10 @@ fn asked_at<H: Host>(
 {
     let kind = kind_of(&config.subcommand);
     if !is_placed(kind) {
-        return match reply_tried(alloc, environ, config, location, made, host) {
-            Ok(replied) => Ok(task_of(replied, quiet)),
-            Err(error) => Err(error),
-        };
+        match reply_tried(alloc, environ, config, location, made, host) {
+            Ok(replied) => return Ok(task_of(replied, quiet)),
+            Err(error) => return Err(error),
+        }
     }
     let asked = command_at(alloc, environ, config, kind, &location, made, host);
     drop(location);
@@ -155,10 +155,10 @@ fn asked_by<H: Host>(
     ensures found { IfOk result IsNoQuestion }
 {
     if !reads_justfile(kind_of(&config.subcommand)) {
-        return match asked_alone(alloc, environ, config, host) {
-            Ok(other) => Ok(Task::Other(other, quiet)),
-            Err(error) => Err(error),
-        };
+        match asked_alone(alloc, environ, config, host) {
+            Ok(other) => return Ok(Task::Other(other, quiet)),
+            Err(error) => return Err(error),
+        }
     }
     let location = match locate(alloc, host, config) {
         Ok(location) => location,

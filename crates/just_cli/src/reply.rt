@@ -45,7 +45,6 @@ fn planned(
 }
 
 /// The reply behind the values of the variables.
-#[tactic(auto, using(crate::proofs::Replying::lists_so, crate::proofs::Replying::unlisted_so, crate::proofs::Replying::plans_so, crate::proofs::Replying::unplanned_so))]
 fn reply_behind(
     alloc: Global,
     environ: &Environ,
@@ -67,7 +66,10 @@ fn reply_behind(
 {
     let words = wanted.words.as_slice();
     match listed_by_default(alloc, config.default_list, &laid.justfile, words) {
-        Ok(None) => planned(alloc, wanted, laid, scopes),
+        Ok(None) => match planned(alloc, wanted, laid, scopes) {
+            Ok(replied) => Ok(replied),
+            Err(error) => Err(error),
+        },
         Ok(Some(names)) => match listing(alloc, config, environ, laid, names.as_slice()) {
             Ok(printed) => Ok(Replied::List(printed)),
             Err(error) => Err(error),
@@ -77,7 +79,6 @@ fn reply_behind(
 }
 
 /// The reply behind the dotenv pairs.
-#[tactic(auto, using(crate::proofs::Replying::no_values, crate::proofs::Replying::behind_values, crate::proofs::Replying::refused_behind))]
 fn reply_loaded(
     alloc: Global,
     environ: &Environ,

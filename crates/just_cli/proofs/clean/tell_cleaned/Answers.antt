@@ -9,4 +9,4 @@ pub returns-in-Ok-tell_line-clause-told : goal.returns-in-Ok-tell_line-clause-to
 returns-in-Ok-tell_line-clause-told g c = told_of _ _ _ _ _ _ c.as_str.ensures.value c.in-Ok.ensures c.in-Ok-tell_line.ensures.told
 
 pub returns-clause-untold : goal.returns-clause-untold
-returns-clause-untold g c = c.in-Err-tell_line.ensures.untold.1
+returns-clause-untold g c = let untold = c.in-Err-tell_line.ensures.untold in (untold.1, untold.2)
