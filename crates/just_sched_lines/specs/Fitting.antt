@@ -47,7 +47,7 @@ FitsOutcome outcome.Well = ⊤
 FitsOutcome (outcome.Failed r) = FitsReason r
 
 abbrev pub FitsEvent : Event → Type 0
-FitsEvent (event.Asked n yes) = Is32 n
+FitsEvent (event.Asked n answer) = Is32 n
 FitsEvent (event.Took n) = Is32 n
 FitsEvent (event.Looked n sums seen) = Is32 n × AllByRecursion IsSum sums × FitsLook seen
 FitsEvent (event.Skipped n) = Is32 n
