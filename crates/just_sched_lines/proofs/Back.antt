@@ -69,7 +69,7 @@ outcome_read (outcome.Failed o) r h =
     ap (λ (b : Bool). if b then outcome.Well else outcome.Failed (reason_in (reason_text o ++ (10 ∷ r)))) (not_well o (10 ∷ r))
     ∙ ap (λ (x : Reason). outcome.Failed x) (reason_read o r h)
 
-answer_read : (yes : Bool) (r : List ℕ) → (first (answer_text yes ++ r) == 121) ≡ yes
+answer_read : (answer : Bool) (r : List ℕ) → (first (answer_text answer ++ r) == 121) ≡ answer
 answer_read true r = refl
 answer_read false r = refl
 
@@ -80,12 +80,12 @@ number_at t n x r e h = ap (λ (u : List ℕ). number u) e ∙ number_then n 32 
 skip_at : (t : List ℕ) (n : ℕ) (x r : List ℕ) → t ≡ (decimal n ++ (32 ∷ x)) ++ r → n < 2 ^ 32 → skip t ≡ x ++ r
 skip_at t n x r e h = ap (λ (u : List ℕ). skip u) e ∙ skip_then n 32 x r h refl
 
-asked_read : (n : ℕ) (yes : Bool) (r : List ℕ) → n < 2 ^ 32
-    → asked_in ((decimal n ++ (32 ∷ answer_text yes)) ++ (10 ∷ r)) ≡ event.Asked n yes
-asked_read n yes r h =
-    let node = number_then n 32 (answer_text yes) (10 ∷ r) h refl in
-    let answer = ap (λ (t : List ℕ). first t == 121) (skip_then n 32 (answer_text yes) (10 ∷ r) h refl) ∙ answer_read yes (10 ∷ r) in
-    λ i. event.Asked (node i) (answer i)
+asked_read : (n : ℕ) (answer : Bool) (r : List ℕ) → n < 2 ^ 32
+    → asked_in ((decimal n ++ (32 ∷ answer_text answer)) ++ (10 ∷ r)) ≡ event.Asked n answer
+asked_read n answer r h =
+    let node = number_then n 32 (answer_text answer) (10 ∷ r) h refl in
+    let said = ap (λ (t : List ℕ). first t == 121) (skip_then n 32 (answer_text answer) (10 ∷ r) h refl) ∙ answer_read answer (10 ∷ r) in
+    λ i. event.Asked (node i) (said i)
 
 looked_read : (n : ℕ) (sums : List (List ℕ)) (seen : Look) (r : List ℕ) → n < 2 ^ 32 → AllByRecursion IsSum sums → FitsLook seen
     → looked_in ((decimal n ++ (32 ∷ (look_text seen ++ flat_map sum_text sums))) ++ (10 ∷ r)) ≡ event.Looked n sums seen
@@ -138,7 +138,7 @@ done_read n o r h fits =
 
 -- an event is read back from its line, whatever stands behind the newline
 pub read_back : (e : Event) (r : List ℕ) → FitsEvent e → event_in (line_of e ++ (10 ∷ r)) ≡ e
-read_back (event.Asked n yes) r h = asked_read n yes r h
+read_back (event.Asked n answer) r h = asked_read n answer r h
 read_back (event.Took n) r h = ap (λ (m : ℕ). event.Took m) (number_read n (10 ∷ r) h refl)
 read_back (event.Looked n sums seen) r h = looked_read n sums seen r h.0 h.1 h.2
 read_back (event.Skipped n) r h = ap (λ (m : ℕ). event.Skipped m) (number_read n (10 ∷ r) h refl)

@@ -1,5 +1,5 @@
 -- Numbers are read back from their digits.
-use Rattle.std.proofs.Common.{◌≡◌, ℕ, zero, suc, pred, ◌<◌, ◌^◌, ◌&&◌, nat_le, Bool, true, false, if◌then◌else◌, List, [], ◌∷◌, ◌++◌, length, drop, decimal, ℤ, pos, negsuc, ap, ◌∙◌, refl, append_assoc, le-leb, arith}
+use Rattle.std.proofs.Common.{◌≡◌, ℕ, zero, suc, pred, ◌<◌, ◌≤◌, ◌^◌, ◌&&◌, nat_le, Bool, true, false, if◌then◌else◌, List, [], ◌∷◌, ◌++◌, length, drop, decimal, ℤ, pos, negsuc, ap, ◌∙◌, refl, append_assoc, le-leb, arith}
 use Rattle.std.specs.Char.{digit_value}
 use Rattle.std.specs.Fmt.{signed_decimal}
 use Rattle.std.specs.Int.Signed.{mag}
@@ -53,7 +53,7 @@ leads (c ∷ cs) t p d = digit_is c d.0
 leading : (n : ℕ) (t : List ℕ) → n < 2 ^ 32 → is_digit (first (decimal n ++ t)) ≡ true
 leading n t h = let d = decimal_is_IsNumeral n (omega arith) in leads (decimal n) t d.0.0 d.0.1
 
-pub signed_read : (z : ℤ) (t : List ℕ) → mag z < 2 ^ 31 → is_digit (first t) ≡ false → signed (signed_decimal z ++ t) ≡ z
+pub signed_read : (z : ℤ) (t : List ℕ) → mag z ≤ 2 ^ 31 → is_digit (first t) ≡ false → signed (signed_decimal z ++ t) ≡ z
 signed_read (pos n) t h q =
     ap (λ (b : Bool). if b then pos (number (decimal n ++ t)) else negsuc (pred (number (drop 1 (decimal n ++ t))))) (leading n t (omega arith))
     ∙ ap (λ (m : ℕ). pos m) (number_read n t (omega arith) q)

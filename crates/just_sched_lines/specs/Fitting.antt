@@ -1,5 +1,5 @@
 -- Histories whose numbers fit their types: all that a program can hold.
-use Rattle.std.specs.Prelude.{ℕ, ◌≡◌, ◌<◌, ◌^◌, ⊤, List, length}
+use Rattle.std.specs.Prelude.{ℕ, ◌≡◌, ◌<◌, ◌≤◌, ◌^◌, ⊤, List, length}
 use Rattle.std.specs.Int.Signed.{mag}
 use Rattle.std.specs.List.{AllByRecursion}
 use Rattle.hex.specs.Hex.{IsBytes}
@@ -28,8 +28,8 @@ FitsLook (look.OutputMissing j) = Is32 j
 FitsLook look.Full = ⊤
 
 abbrev pub FitsStatus : Status → Type 0
-FitsStatus (status.Code k) = mag k < 2 ^ 31
-FitsStatus (status.Signal k) = mag k < 2 ^ 31
+FitsStatus (status.Code k) = mag k ≤ 2 ^ 31
+FitsStatus (status.Signal k) = mag k ≤ 2 ^ 31
 FitsStatus status.Unknown = ⊤
 
 abbrev pub FitsReason : Reason → Type 0
@@ -47,7 +47,7 @@ FitsOutcome outcome.Well = ⊤
 FitsOutcome (outcome.Failed r) = FitsReason r
 
 abbrev pub FitsEvent : Event → Type 0
-FitsEvent (event.Asked n yes) = Is32 n
+FitsEvent (event.Asked n answer) = Is32 n
 FitsEvent (event.Took n) = Is32 n
 FitsEvent (event.Looked n sums seen) = Is32 n × AllByRecursion IsSum sums × FitsLook seen
 FitsEvent (event.Skipped n) = Is32 n

@@ -50,7 +50,7 @@ outcome_text (outcome.Failed r) = reason_text r
 
 -- the line of an event, without its newline
 abbrev pub line_of : Event → List ℕ
-line_of (event.Asked n yes) = codes "asked " ++ (decimal n ++ (codes " " ++ answer_text yes))
+line_of (event.Asked n answer) = codes "asked " ++ (decimal n ++ (codes " " ++ answer_text answer))
 line_of (event.Took n) = codes "took " ++ decimal n
 line_of (event.Looked n sums seen) =
     codes "looked " ++ (decimal n ++ (codes " " ++ (look_text seen ++ flat_map sum_text sums)))
