@@ -1,7 +1,6 @@
 -- The paths of a project's public recipes.
 use Rattle.std.specs.Prelude.{◌≡◌, ℕ, Bool, List, [], ◌∷◌, ◌++◌, map, codes}
 use Rattle.std.specs.List.{flat_map}
-use Rattle.just_lang_types.specs.declared.recipe.Modulepath.{Modulepath}
 use Rattle.just_print.specs.Printed.{newline, separated}
 use Rattle.just_print_lists.specs.declared.listed.ListedRecipe.{ListedRecipe}
 use Rattle.just_print_lists.specs.declared.listed.ListedModule.{ListedModule}
@@ -39,7 +38,3 @@ ArePaths unsorted root paths = (all : List ListedModule) × AreInTurn unsorted (
 -- texts on a line, with blanks between them
 abbrev pub joined_line : List (List ℕ) → List ℕ
 joined_line texts = separated (codes " ") texts ++ newline
-
--- what `--summary` prints
-abbrev pub IsSummary : Bool → ListedModule → List ℕ → Type 0
-IsSummary unsorted root text = (paths : List (List ℕ)) × ArePaths unsorted root paths × (text ≡ joined_line paths)

@@ -35,7 +35,8 @@ fn push_escaped(out: &mut String, c: char) -> Result<(), AllocError>
 
 /// Adds the characters of a text in double quotes.
 fn push_all_escaped(out: &mut String, letters: &[char]) -> Result<(), AllocError>
-    ensures { IfOk result (λ _. string_bytes out.new ≡ string_bytes out.old ++ flat_map escaped letters.now) }
+    ensures { IfOk result
+        (λ _. string_bytes out.new ≡ string_bytes out.old ++ flat_map escaped letters.now) }
 {
     'letters: for c in letters {
         push_escaped(out, *c)?;
@@ -56,7 +57,8 @@ fn push_quoted(out: &mut String, c: char) -> Result<(), AllocError>
 
 /// Adds the characters of a text in single quotes of a shell.
 fn push_all_quoted(out: &mut String, letters: &[char]) -> Result<(), AllocError>
-    ensures { IfOk result (λ _. string_bytes out.new ≡ string_bytes out.old ++ flat_map quoted_once letters.now) }
+    ensures { IfOk result
+        (λ _. string_bytes out.new ≡ string_bytes out.old ++ flat_map quoted_once letters.now) }
 {
     'letters: for c in letters {
         push_quoted(out, *c)?;
@@ -71,7 +73,8 @@ fn push_just(
     columns: usize,
     variable: &Evaluated,
 ) -> Result<(), AllocError>
-    ensures { IfOk result (λ _. string_bytes out.new ≡ string_bytes out.old ++ just_line columns variable.now) }
+    ensures { IfOk result
+        (λ _. string_bytes out.new ≡ string_bytes out.old ++ just_line columns variable.now) }
 {
     let letters = characters_of(alloc, variable.text.as_str())?;
     let name = variable.name.as_str();
@@ -84,7 +87,8 @@ fn push_just(
 
 /// Adds a variable as an assignment of a shell.
 fn push_shell(alloc: Global, out: &mut String, variable: &Evaluated) -> Result<(), AllocError>
-    ensures { IfOk result (λ _. string_bytes out.new ≡ string_bytes out.old ++ shell_line variable.now) }
+    ensures { IfOk result
+        (λ _. string_bytes out.new ≡ string_bytes out.old ++ shell_line variable.now) }
 {
     let letters = characters_of(alloc, variable.text.as_str())?;
     out.push_str(variable.name.as_str())?;
@@ -101,7 +105,8 @@ fn push_line(
     columns: usize,
     variable: &Evaluated,
 ) -> Result<(), AllocError>
-    ensures { IfOk result (λ _. string_bytes out.new ≡ string_bytes out.old ++ line format columns variable.now) }
+    ensures { IfOk result
+        (λ _. string_bytes out.new ≡ string_bytes out.old ++ line format columns variable.now) }
 {
     match format {
         EvaluateFormat::Just => push_just(alloc, out, columns, variable),
@@ -117,7 +122,9 @@ fn push_lines(
     columns: usize,
     variables: &[&Evaluated],
 ) -> Result<(), AllocError>
-    ensures { IfOk result (λ _. string_bytes out.new ≡ string_bytes out.old ++ flat_map (line format columns) (map (λ v. v.now) variables.now)) }
+    ensures { IfOk result
+        (λ _. string_bytes out.new
+        ≡ string_bytes out.old ++ flat_map (line format columns) (map (λ v. v.now) variables.now)) }
 {
     'variables: for variable in variables {
         push_line(alloc, out, format, columns, variable)?;

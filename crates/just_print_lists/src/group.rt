@@ -79,7 +79,9 @@ pub fn has_name(names: &[Text], name: &str) -> bool
 /// Those of some items that are public.
 #[tactic(auto, using(crate::proofs::Keeping::kept_more))]
 fn public_of<'j, T: Grouped>(alloc: Global, items: &[&'j T]) -> Result<Vec<&'j T>, NoMemory>
-    ensures { IfOk result (λ v. map (λ it. it.now) v.items ≡ filter (λ x. not (T.private x)) (map (λ it. it.now) items.now)) }
+    ensures { IfOk result
+        (λ v. map (λ it. it.now) v.items
+        ≡ filter (λ x. not (T.private x)) (map (λ it. it.now) items.now)) }
 {
     let mut kept = Vec::new(alloc);
     'items: for item in items {
@@ -94,7 +96,8 @@ pub fn public_in_order<'j, T: Named + Grouped>(
     unsorted: bool,
     items: &'j [T],
 ) -> Result<Vec<&'j T>, NoMemory>
-    ensures { IfOk result (λ v. map (λ it. it.now) v.items ≡ public_in_order T.name T.private unsorted items.now) }
+    ensures { IfOk result
+        (λ v. map (λ it. it.now) v.items ≡ public_in_order T.name T.private unsorted items.now) }
 {
     let ordered = in_order(alloc, unsorted, items)?;
     let kept = public_of(alloc, ordered.as_slice())?;
@@ -104,7 +107,8 @@ pub fn public_in_order<'j, T: Named + Grouped>(
 /// Those of some items that are in no group.
 #[tactic(auto, using(crate::proofs::Keeping::kept_more))]
 pub fn ungrouped<'j, T: Grouped>(alloc: Global, items: &[&'j T]) -> Result<Vec<&'j T>, NoMemory>
-    ensures { IfOk result (λ v. map (λ it. it.now) v.items ≡ ungrouped T.groups (map (λ it. it.now) items.now)) }
+    ensures { IfOk result
+        (λ v. map (λ it. it.now) v.items ≡ ungrouped T.groups (map (λ it. it.now) items.now)) }
 {
     let mut kept = Vec::new(alloc);
     'items: for item in items {
@@ -120,7 +124,9 @@ pub fn in_group<'j, T: Grouped>(
     group: &str,
     items: &[&'j T],
 ) -> Result<Vec<&'j T>, NoMemory>
-    ensures { IfOk result (λ v. map (λ it. it.now) v.items ≡ grouped T.groups group.now (map (λ it. it.now) items.now)) }
+    ensures { IfOk result
+        (λ v. map (λ it. it.now) v.items
+        ≡ grouped T.groups group.now (map (λ it. it.now) items.now)) }
 {
     let mut kept = Vec::new(alloc);
     'items: for item in items {

@@ -50,7 +50,8 @@ pub fn chosen_indentation(
     given: Option<&str>,
     set: Option<&str>,
 ) -> Result<Text, NoMemory>
-    ensures { IfOk result (λ t. t ≡ chosen_indentation (option_copied given.entry) (option_copied set.entry)) }
+    ensures { IfOk result
+        (λ t. t ≡ chosen_indentation (option_copied given.entry) (option_copied set.entry)) }
 {
     if let Some(text) = indentation_in(alloc, given)? {
         return Ok(text);

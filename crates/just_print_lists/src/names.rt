@@ -21,7 +21,9 @@ pub fn variables(alloc: Global, assignments: &[Assignment]) -> Result<String, No
 
 /// Adds the names of groups, each on a line behind the prefix.
 fn push_groups(out: &mut String, prefix: &str, groups: &[&Text]) -> Result<(), AllocError>
-    ensures { IfOk result (λ _. string_bytes out.new ≡ string_bytes out.old ++ flat_map (group_name prefix.now) (map (λ g. g.now) groups.now)) }
+    ensures { IfOk result
+        (λ _. string_bytes out.new
+        ≡ string_bytes out.old ++ flat_map (group_name prefix.now) (map (λ g. g.now) groups.now)) }
 {
     'groups: for group in groups {
         out.push_str(prefix)?;

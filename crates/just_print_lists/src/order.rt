@@ -91,7 +91,9 @@ fn keys_of<T: Named>(alloc: Global, items: &[T]) -> Result<Vec<(Text, usize)>, N
 
 /// Adds the item at a place, where there is one.
 fn push_at<'j, T>(found: &mut Vec<&'j T>, items: &'j [T], place: usize) -> Result<(), NoMemory>
-    ensures { OnOk result (map (λ item. item.now) found.new.items ≡ map (λ item. item.now) found.old.items ++ only_some (slice_get items.now place)) }
+    ensures { OnOk result
+        (map (λ item. item.now) found.new.items
+        ≡ map (λ item. item.now) found.old.items ++ only_some (slice_get items.now place)) }
 {
     match items.get(place) {
         Some(item) => Ok(found.push(item)?),
@@ -105,7 +107,9 @@ fn items_at<'j, T>(
     items: &'j [T],
     keys: &[(Text, usize)],
 ) -> Result<Vec<&'j T>, NoMemory>
-    ensures { IfOk result (λ v. map (λ item. item.now) v.items ≡ flat_map (λ k. only_some (slice_get items.now k.1)) keys.now) }
+    ensures { IfOk result
+        (λ v. map (λ item. item.now) v.items
+        ≡ flat_map (λ k. only_some (slice_get items.now k.1)) keys.now) }
 {
     let mut found = Vec::new(alloc);
     'keys: for key in keys {
@@ -141,7 +145,8 @@ pub fn in_order<'j, T: Named>(
     unsorted: bool,
     items: &'j [T],
 ) -> Result<Vec<&'j T>, NoMemory>
-    ensures { IfOk result (λ v. map (λ item. item.now) v.items ≡ in_order T.name unsorted items.now) }
+    ensures { IfOk result
+        (λ v. map (λ item. item.now) v.items ≡ in_order T.name unsorted items.now) }
 {
     if unsorted {
         all_of(alloc, items)
@@ -152,7 +157,9 @@ pub fn in_order<'j, T: Named>(
 
 /// Adds an item where it is wanted.
 pub fn push_where<'j, T>(kept: &mut Vec<&'j T>, wanted: bool, item: &'j T) -> Result<(), NoMemory>
-    ensures { OnOk result (map (λ it. it.now) kept.new.items ≡ map (λ it. it.now) kept.old.items ++ only_where wanted item.now) }
+    ensures { OnOk result
+        (map (λ it. it.now) kept.new.items
+        ≡ map (λ it. it.now) kept.old.items ++ only_where wanted item.now) }
 {
     if wanted { Ok(kept.push(item)?) } else { Ok(()) }
 }
@@ -170,7 +177,9 @@ pub fn begins_underscore(name: &str) -> bool
 /// Those of some items whose names aren't private.
 #[tactic(auto, using(crate::proofs::Keeping::kept_more))]
 fn names_public<'j, T: Named>(alloc: Global, items: &[&'j T]) -> Result<Vec<&'j T>, NoMemory>
-    ensures { IfOk result (λ v. map (λ it. it.now) v.items ≡ filter (λ x. not (begins_underscore (T.name x))) (map (λ it. it.now) items.now)) }
+    ensures { IfOk result
+        (λ v. map (λ it. it.now) v.items
+        ≡ filter (λ x. not (begins_underscore (T.name x))) (map (λ it. it.now) items.now)) }
 {
     let mut kept = Vec::new(alloc);
     'items: for item in items {

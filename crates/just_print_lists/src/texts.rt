@@ -8,7 +8,8 @@ use std::alloc::AllocError;
 
 /// Adds a text where it is wanted.
 pub fn push_if(out: &mut String, wanted: bool, text: &str) -> Result<(), AllocError>
-    ensures { IfOk result (λ _. string_bytes out.new ≡ string_bytes out.old ++ only_if wanted text.now) }
+    ensures { IfOk result
+        (λ _. string_bytes out.new ≡ string_bytes out.old ++ only_if wanted text.now) }
 {
     if wanted { out.push_str(text) } else { Ok(()) }
 }
@@ -28,7 +29,8 @@ pub fn push_blanks(out: &mut String, count: usize) -> Result<(), AllocError>
 
 /// Adds texts, each behind the sign.
 fn push_led(out: &mut String, sign: &str, texts: &[Text]) -> Result<(), AllocError>
-    ensures { IfOk result (λ _. string_bytes out.new ≡ string_bytes out.old ++ led sign.now texts.now) }
+    ensures { IfOk result
+        (λ _. string_bytes out.new ≡ string_bytes out.old ++ led sign.now texts.now) }
 {
     'texts: for text in texts {
         out.push_str(sign)?;
@@ -39,7 +41,8 @@ fn push_led(out: &mut String, sign: &str, texts: &[Text]) -> Result<(), AllocErr
 
 /// Adds texts with the sign between them.
 pub(crate) fn push_separated(out: &mut String, sign: &str, texts: &[Text]) -> Result<(), AllocError>
-    ensures { IfOk result (λ _. string_bytes out.new ≡ string_bytes out.old ++ separated sign.now texts.now) }
+    ensures { IfOk result
+        (λ _. string_bytes out.new ≡ string_bytes out.old ++ separated sign.now texts.now) }
 {
     match texts {
         [] => Ok(()),

@@ -1,7 +1,7 @@
 -- What was kept so far, and what is still to come.
-use Rattle.std.proofs.Common.{◌≡◌, ◌++◌, not, drop, map}
+use Rattle.std.proofs.Common.{◌≡◌, ◌++◌, drop, map}
 use Rattle.std.specs.Prelude.{filter}
-use Rattle.just_print_lists.specs.Groups.{is_nil, has_name}
+use Rattle.just_print_lists.specs.Groups.{is_nil}
 use Rattle.just_print_lists.proofs.group.ungrouped.Given as goal
 
 abbrev pub invariant-items : goal.invariant-items

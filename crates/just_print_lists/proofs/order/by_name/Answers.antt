@@ -1,5 +1,5 @@
 -- The keys are sorted, and the items are those at their places.
-use Rattle.std.proofs.Common.{ℕ, List, map, slice_get, ap, ◌∙◌}
+use Rattle.std.proofs.Common.{List, map, slice_get, ap, ◌∙◌}
 use Rattle.std.specs.List.{flat_map}
 use Rattle.just_print_lists.specs.Order.{only_some}
 use Rattle.just_print_lists.proofs.Sorting.{Key, items_by_name}

@@ -1,5 +1,5 @@
 -- The item at the place, where there is one.
-use Rattle.std.proofs.Common.{◌≡◌, length, slice_get, refl, sym}
+use Rattle.std.proofs.Common.{length, slice_get, refl, sym}
 use Rattle.std.proofs.lemmas.Option.{slice_get_read, slice_get_past}
 use Rattle.just_print_lists.proofs.Keeping.{got_more, got_none}
 use Rattle.just_print_lists.proofs.order.push_at.Goals as goal

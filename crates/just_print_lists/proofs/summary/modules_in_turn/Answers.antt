@@ -1,5 +1,5 @@
 -- A module is done, and the public ones within it are pending.
-use Rattle.std.proofs.Common.{rules, ◌≡◌, ◌++◌, [], ◌∷◌, List, map, reverse, Bor, sym, ap, ◌∙◌, subst}
+use Rattle.std.proofs.Common.{rules, ◌≡◌, ◌++◌, [], ◌∷◌, List, map, Bor, sym, ap, ◌∙◌, subst}
 use Rattle.std.proofs.lemmas.List.{map-append}
 use Rattle.just_print_lists.specs.declared.listed.ListedModule.{ListedModule}
 use Rattle.just_print_lists.proofs.InTurn.{Leaves, fewer, one_more}
