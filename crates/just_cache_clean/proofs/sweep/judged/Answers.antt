@@ -8,8 +8,8 @@ use Rattle.just_cache_clean.proofs.sweep.judged.Goals as goal
 
 pub returns-in-Ok-clause-judged : goal.returns-in-Ok-clause-judged
 returns-in-Ok-clause-judged g c =
-    judged_read (path_of c.args.wanted) c.args.digest.now (text_of c.args.path) c.as_bytes.result.now c.as_bytes-2.result.now (g.H.Host.told c.args.host.now) (g.H.Host.told c.read.new.self) c.in-Ok.text c.stays.result
-    c.requires.0 (c.as_bytes.ensures.value ∙ c.requires.1) c.as_bytes-2.ensures.value c.stays.ensures (record { entries = c.in-Ok.ensures.entries; own = c.in-Ok.ensures.own; told = c.in-Ok.ensures.told; world = c.in-Ok.ensures.world })
+    judged_read (path_of c.args.wanted) c.args.digest.now (text_of c.args.path) c.as_bytes.result.now c.as_bytes-in-Ok.result.now (g.H.Host.told c.args.host.now) (g.H.Host.told c.read.new.self) c.in-Ok.text c.stays.result
+    c.requires.0 (c.as_bytes.ensures.value ∙ c.requires.1) c.as_bytes-in-Ok.ensures.value c.stays.ensures (record { entries = c.in-Ok.ensures.entries; own = c.in-Ok.ensures.own; told = c.in-Ok.ensures.told; world = c.in-Ok.ensures.world })
 
 pub returns-then-is_no_text-clause-judged : goal.returns-then-is_no_text-clause-judged
 returns-then-is_no_text-clause-judged g c =
