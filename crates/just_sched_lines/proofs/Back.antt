@@ -1,7 +1,6 @@
 -- An event is read back from its line.
 use Rattle.std.proofs.Common.{◌≡◌, ℕ, ◌<◌, ◌≤◌, ◌^◌, ◌==◌, Bool, true, false, if◌then◌else◌, List, ◌∷◌, ◌++◌, length, decimal, ℤ, refl, ap, ◌∙◌, append_assoc, length-append, arith}
 use Rattle.std.specs.List.{AllByRecursion, flat_map}
-use Rattle.just_host_record.specs.Signals.{name_of}
 use Rattle.just_host_record.specs.declared.entry.Look.{Look}
 use Rattle.just_host_record.specs.declared.entry.Look.TheVariants as look
 use Rattle.just_host_record.specs.declared.entry.Status.{Status}

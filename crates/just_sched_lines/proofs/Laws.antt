@@ -1,10 +1,9 @@
 -- The text of a history tells it.
 use Rattle.std.proofs.Common.{◌≡◌, ℕ, ◌<◌, List, [], ◌∷◌, ◌++◌, length, drop, refl, sym, ap, ◌∙◌, append_assoc, length-append, arith}
-use Rattle.std.specs.List.{AllByRecursion}
 use Rattle.std.proofs.lemmas.List.{append_cancel_left}
 use Rattle.just_sched_history.specs.declared.event.Event.{Event}
 use Rattle.just_sched_lines.specs.Lines.{line_of, history_text}
-use Rattle.just_sched_lines.specs.Fitting.{FitsEvent, AreFitting}
+use Rattle.just_sched_lines.specs.Fitting.{AreFitting}
 use Rattle.just_sched_lines.proofs.Reading.{event_in}
 use Rattle.just_sched_lines.proofs.Back.{read_back}
 

@@ -1,5 +1,5 @@
 //! The lines of events, added to a text.
-ghost use Rattle.std.specs.Prelude.{◌≡◌, ◌++◌, IfOk, List, codes, decimal, string_bytes};
+ghost use Rattle.std.specs.Prelude.{◌≡◌, ◌++◌, IfOk, codes, decimal, string_bytes};
 ghost use Rattle.std.specs.List.{flat_map};
 ghost use Rattle.just_host_record.specs.Signals.{name_of};
 ghost use Rattle.just_sched_lines.specs.Lines.{answer_text, look_text, sum_text, line_of};
