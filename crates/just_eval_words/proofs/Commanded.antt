@@ -30,20 +30,18 @@ module _ (ms : List Justfile) where
   pub inner_refused : (names : List (List ℕ)) (i : ℕ) (name : List ℕ) (j : Justfile) → i < length names → name ≡ get_or names i name → module_named ms j name ≡ None → inner_at ms (drop i names) j ≡ Err (no_inner j name)
   inner_refused names i name j lt is h = inner_next names i name j lt is ∙ ap (λ (o : Option Justfile). within o (λ k. inner_at ms (drop (i + 1) names) k) (no_inner j name)) h
 
+  -- what follows from what a module has within it, where that follows in each module
+  within_then : {A B : Type 0} (o : Option Justfile) (inner : Justfile → Answer A) (whole : Justfile → Answer B) (next : A → Answer B) (e : LangError)
+      → ((m : Justfile) → whole m ≡ and_then (inner m) next) → within o whole e ≡ and_then (within o inner e) next
+  within_then None inner whole next e h = refl
+  within_then (Some m) inner whole next e h = h m
+
   -- names, and one more behind them
   named_split : (front : List (List ℕ)) (last : List ℕ) (j : Justfile) → named_at ms (front ++ last ∷ []) j ≡ and_then (inner_at ms front j) (λ m. last_target ms m last last)
   named_split [] last j = refl
-  named_split (name ∷ []) last j = pick (module_named ms j name)
-    where
-      pick : (o : Option Justfile) → within o (λ m. named_at ms (last ∷ []) m) (no_inner j name) ≡ and_then (within o (λ m. inner_at ms [] m) (no_inner j name)) (λ m. last_target ms m last last)
-      pick None = refl
-      pick (Some m) = refl
-  named_split (name ∷ other ∷ front) last j = pick (module_named ms j name)
-    where
-      pick : (o : Option Justfile)
-          → within o (λ m. named_at ms (other ∷ (front ++ last ∷ [])) m) (no_inner j name) ≡ and_then (within o (λ m. inner_at ms (other ∷ front) m) (no_inner j name)) (λ m. last_target ms m last last)
-      pick None = refl
-      pick (Some m) = named_split (other ∷ front) last m
+  named_split (name ∷ []) last j = within_then (module_named ms j name) (inner_at ms []) (named_at ms (last ∷ [])) (λ m. last_target ms m last last) (no_inner j name) (λ m. refl)
+  named_split (name ∷ other ∷ front) last j =
+      within_then (module_named ms j name) (inner_at ms (other ∷ front)) (named_at ms (other ∷ (front ++ last ∷ []))) (λ m. last_target ms m last last) (no_inner j name) (λ m. named_split (other ∷ front) last m)
 
   pub named_last : (names front : List (List ℕ)) (last : List ℕ) (j m : Justfile) (t : Target) → names ≡ front ++ last ∷ [] → inner_at ms front j ≡ Ok m → last_target ms m last last ≡ Ok t → named_at ms names j ≡ Ok t
   named_last names front last j m t is inner h =

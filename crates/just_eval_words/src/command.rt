@@ -66,6 +66,9 @@ pub fn named_target<'p>(
         Ok(inside) => inside,
         Err(e) => return Err(e),
     };
-    let target = last_target(alloc, modules, inside, last.as_str(), last.as_str())?;
+    let target = match last_target(alloc, modules, inside, last.as_str(), last.as_str()) {
+        Ok(target) => target,
+        Err(e) => return Err(e),
+    };
     Ok(target)
 }
