@@ -14,7 +14,9 @@ fn push_modules<'j>(
     pending: &mut Vec<&'j ListedModule>,
     modules: &[&'j ListedModule],
 ) -> Result<(), NoMemory>
-    ensures { OnOk result (map (λ m. m.now) pending.new.items ≡ map (λ m. m.now) pending.old.items ++ reverse (map (λ m. m.now) modules.now)) }
+    ensures { OnOk result
+        (map (λ m. m.now) pending.new.items
+        ≡ map (λ m. m.now) pending.old.items ++ reverse (map (λ m. m.now) modules.now)) }
 {
     let mut left = modules.len();
     'modules: while left > 0 {
@@ -31,7 +33,9 @@ fn push_inner<'j>(
     pending: &mut Vec<&'j ListedModule>,
     outer: &'j ListedModule,
 ) -> Result<(), NoMemory>
-    ensures { OnOk result (map (λ m. m.now) pending.new.items ≡ map (λ m. m.now) pending.old.items ++ reverse (public_modules unsorted outer.now)) }
+    ensures { OnOk result
+        (map (λ m. m.now) pending.new.items
+        ≡ map (λ m. m.now) pending.old.items ++ reverse (public_modules unsorted outer.now)) }
 {
     let inner = public_in_order(alloc, unsorted, outer.modules.as_slice())?;
     push_modules(pending, inner.as_slice())
@@ -84,7 +88,10 @@ fn push_paths(
     outer: &ListedModule,
     recipes: &[&ListedRecipe],
 ) -> Result<(), NoMemory>
-    ensures { OnOk result (paths.new.items ≡ paths.old.items ++ map (λ r. path_within outer.now r.name) (map (λ r. r.now) recipes.now)) }
+    ensures { OnOk result
+        (paths.new.items
+        ≡ paths.old.items
+        ++ map (λ r. path_within outer.now r.name) (map (λ r. r.now) recipes.now)) }
 {
     'recipes: for recipe in recipes {
         let path = path_within(alloc, outer, recipe.name.as_str())?;
@@ -112,7 +119,8 @@ fn paths_of_modules(
     unsorted: bool,
     modules: &[&ListedModule],
 ) -> Result<Vec<Text>, NoMemory>
-    ensures { IfOk result (λ v. v.items ≡ flat_map (paths_of unsorted) (map (λ m. m.now) modules.now)) }
+    ensures { IfOk result
+        (λ v. v.items ≡ flat_map (paths_of unsorted) (map (λ m. m.now) modules.now)) }
 {
     let mut paths = Vec::new(alloc);
     'modules: for outer in modules {

@@ -76,7 +76,8 @@ fn has_arguments(parameters: &[Parameter]) -> bool
 
 /// Adds a parameter's name, with `...` where it takes several values, in brackets where it may be left out.
 fn push_parameter(out: &mut String, parameter: &Parameter) -> Result<(), AllocError>
-    ensures { IfOk result (λ _. string_bytes out.new ≡ string_bytes out.old ++ parameter_text parameter.now) }
+    ensures { IfOk result
+        (λ _. string_bytes out.new ≡ string_bytes out.old ++ parameter_text parameter.now) }
 {
     if is_optional(parameter) {
         out.push_str("[")?;
@@ -91,7 +92,8 @@ fn push_parameter(out: &mut String, parameter: &Parameter) -> Result<(), AllocEr
 
 /// Adds a parameter behind a blank, unless it is an option.
 fn push_argument(out: &mut String, parameter: &Parameter) -> Result<(), AllocError>
-    ensures { IfOk result (λ _. string_bytes out.new ≡ string_bytes out.old ++ argument_text parameter.now) }
+    ensures { IfOk result
+        (λ _. string_bytes out.new ≡ string_bytes out.old ++ argument_text parameter.now) }
 {
     if is_option(parameter) {
         return Ok(());
@@ -102,7 +104,9 @@ fn push_argument(out: &mut String, parameter: &Parameter) -> Result<(), AllocErr
 
 /// Adds parameters, each behind a blank, but options.
 fn push_arguments(out: &mut String, parameters: &[Parameter]) -> Result<(), AllocError>
-    ensures { IfOk result (λ _. string_bytes out.new ≡ string_bytes out.old ++ flat_map argument_text parameters.now) }
+    ensures { IfOk result
+        (λ _. string_bytes out.new
+        ≡ string_bytes out.old ++ flat_map argument_text parameters.now) }
 {
     'parameters: for parameter in parameters {
         push_argument(out, parameter)?;
@@ -125,7 +129,8 @@ fn push_short(out: &mut String, short: Option<char>) -> Result<(), AllocError>
 
 /// Adds the long name of an option, where it has one, behind a comma or blanks.
 fn push_long(out: &mut String, has_short: bool, long: &Option<Text>) -> Result<(), AllocError>
-    ensures { IfOk result (λ _. string_bytes out.new ≡ string_bytes out.old ++ long_text has_short long.now) }
+    ensures { IfOk result
+        (λ _. string_bytes out.new ≡ string_bytes out.old ++ long_text has_short long.now) }
 {
     match long {
         Some(name) => {
@@ -139,7 +144,8 @@ fn push_long(out: &mut String, has_short: bool, long: &Option<Text>) -> Result<(
 
 /// Adds the name of an option's value, unless it takes none.
 fn push_value_name(out: &mut String, parameter: &Parameter) -> Result<(), AllocError>
-    ensures { IfOk result (λ _. string_bytes out.new ≡ string_bytes out.old ++ option_name parameter.now) }
+    ensures { IfOk result
+        (λ _. string_bytes out.new ≡ string_bytes out.old ++ option_name parameter.now) }
 {
     if parameter.flag || parameter.value.is_some() {
         return Ok(());
@@ -150,7 +156,8 @@ fn push_value_name(out: &mut String, parameter: &Parameter) -> Result<(), AllocE
 
 /// Adds an option: its names, and the name of its value.
 fn push_option(out: &mut String, parameter: &Parameter) -> Result<(), AllocError>
-    ensures { IfOk result (λ _. string_bytes out.new ≡ string_bytes out.old ++ option_text parameter.now) }
+    ensures { IfOk result
+        (λ _. string_bytes out.new ≡ string_bytes out.old ++ option_text parameter.now) }
 {
     push_short(out, parameter.short)?;
     push_long(out, parameter.short.is_some(), &parameter.long)?;
@@ -172,7 +179,8 @@ fn push_help(out: &mut String, help: &Option<Text>) -> Result<(), AllocError>
 
 /// Adds a default, where there is one.
 fn push_default_value(out: &mut String, default: &Option<Expr>) -> Result<(), AllocError>
-    ensures { IfOk result (λ _. string_bytes out.new ≡ string_bytes out.old ++ default_value default.now) }
+    ensures { IfOk result
+        (λ _. string_bytes out.new ≡ string_bytes out.old ++ default_value default.now) }
 {
     match default {
         Some(value) => {
@@ -186,7 +194,8 @@ fn push_default_value(out: &mut String, default: &Option<Expr>) -> Result<(), Al
 
 /// Adds the default of a parameter, where there is one and no value is set for it.
 fn push_default(out: &mut String, parameter: &Parameter) -> Result<(), AllocError>
-    ensures { IfOk result (λ _. string_bytes out.new ≡ string_bytes out.old ++ default_text parameter.now) }
+    ensures { IfOk result
+        (λ _. string_bytes out.new ≡ string_bytes out.old ++ default_text parameter.now) }
 {
     if parameter.value.is_some() {
         return Ok(());
@@ -196,7 +205,8 @@ fn push_default(out: &mut String, parameter: &Parameter) -> Result<(), AllocErro
 
 /// Adds patterns, where there are some.
 fn push_patterns(out: &mut String, texts: &[Text]) -> Result<(), AllocError>
-    ensures { IfOk result (λ _. string_bytes out.new ≡ string_bytes out.old ++ patterns_text texts.now) }
+    ensures { IfOk result
+        (λ _. string_bytes out.new ≡ string_bytes out.old ++ patterns_text texts.now) }
 {
     match texts {
         [] => Ok(()),
@@ -210,7 +220,8 @@ fn push_patterns(out: &mut String, texts: &[Text]) -> Result<(), AllocError>
 
 /// Adds the patterns of a parameter, where there are some.
 fn push_pattern(out: &mut String, pattern: &Option<Pattern>) -> Result<(), AllocError>
-    ensures { IfOk result (λ _. string_bytes out.new ≡ string_bytes out.old ++ pattern_text pattern.now) }
+    ensures { IfOk result
+        (λ _. string_bytes out.new ≡ string_bytes out.old ++ pattern_text pattern.now) }
 {
     match pattern {
         None => Ok(()),
@@ -220,7 +231,8 @@ fn push_pattern(out: &mut String, pattern: &Option<Pattern>) -> Result<(), Alloc
 
 /// Adds what is told of a parameter behind it.
 fn push_details(out: &mut String, parameter: &Parameter) -> Result<(), AllocError>
-    ensures { IfOk result (λ _. string_bytes out.new ≡ string_bytes out.old ++ details parameter.now) }
+    ensures { IfOk result
+        (λ _. string_bytes out.new ≡ string_bytes out.old ++ details parameter.now) }
 {
     push_help(out, &parameter.help)?;
     push_default(out, parameter)?;
@@ -229,7 +241,8 @@ fn push_details(out: &mut String, parameter: &Parameter) -> Result<(), AllocErro
 
 /// Adds a parameter on a new line, unless it is an option.
 fn push_argument_line(out: &mut String, parameter: &Parameter) -> Result<(), AllocError>
-    ensures { IfOk result (λ _. string_bytes out.new ≡ string_bytes out.old ++ argument_line parameter.now) }
+    ensures { IfOk result
+        (λ _. string_bytes out.new ≡ string_bytes out.old ++ argument_line parameter.now) }
 {
     if is_option(parameter) {
         return Ok(());
@@ -241,7 +254,8 @@ fn push_argument_line(out: &mut String, parameter: &Parameter) -> Result<(), All
 
 /// Adds an option on a new line.
 fn push_option_line(out: &mut String, parameter: &Parameter) -> Result<(), AllocError>
-    ensures { IfOk result (λ _. string_bytes out.new ≡ string_bytes out.old ++ option_line parameter.now) }
+    ensures { IfOk result
+        (λ _. string_bytes out.new ≡ string_bytes out.old ++ option_line parameter.now) }
 {
     if !is_option(parameter) {
         return Ok(());
@@ -253,7 +267,9 @@ fn push_option_line(out: &mut String, parameter: &Parameter) -> Result<(), Alloc
 
 /// Adds parameters but options, each on a new line.
 fn push_argument_lines(out: &mut String, parameters: &[Parameter]) -> Result<(), AllocError>
-    ensures { IfOk result (λ _. string_bytes out.new ≡ string_bytes out.old ++ flat_map argument_line parameters.now) }
+    ensures { IfOk result
+        (λ _. string_bytes out.new
+        ≡ string_bytes out.old ++ flat_map argument_line parameters.now) }
 {
     'parameters: for parameter in parameters {
         push_argument_line(out, parameter)?;
@@ -263,7 +279,8 @@ fn push_argument_lines(out: &mut String, parameters: &[Parameter]) -> Result<(),
 
 /// Adds options, each on a new line.
 fn push_option_lines(out: &mut String, parameters: &[Parameter]) -> Result<(), AllocError>
-    ensures { IfOk result (λ _. string_bytes out.new ≡ string_bytes out.old ++ flat_map option_line parameters.now) }
+    ensures { IfOk result
+        (λ _. string_bytes out.new ≡ string_bytes out.old ++ flat_map option_line parameters.now) }
 {
     'parameters: for parameter in parameters {
         push_option_line(out, parameter)?;
@@ -273,7 +290,8 @@ fn push_option_lines(out: &mut String, parameters: &[Parameter]) -> Result<(), A
 
 /// Adds the parameters but options below their word, where there are some.
 fn push_all_arguments(out: &mut String, parameters: &[Parameter]) -> Result<(), AllocError>
-    ensures { IfOk result (λ _. string_bytes out.new ≡ string_bytes out.old ++ arguments_text parameters.now) }
+    ensures { IfOk result
+        (λ _. string_bytes out.new ≡ string_bytes out.old ++ arguments_text parameters.now) }
 {
     if !has_arguments(parameters) {
         return Ok(());
@@ -284,7 +302,8 @@ fn push_all_arguments(out: &mut String, parameters: &[Parameter]) -> Result<(), 
 
 /// Adds the options below their word, where there are some.
 fn push_all_options(out: &mut String, parameters: &[Parameter]) -> Result<(), AllocError>
-    ensures { IfOk result (λ _. string_bytes out.new ≡ string_bytes out.old ++ options_text parameters.now) }
+    ensures { IfOk result
+        (λ _. string_bytes out.new ≡ string_bytes out.old ++ options_text parameters.now) }
 {
     if !has_options(parameters) {
         return Ok(());
@@ -296,7 +315,8 @@ fn push_all_options(out: &mut String, parameters: &[Parameter]) -> Result<(), Al
 
 /// Adds the first line: the path and the parameters, the options by one word.
 fn push_head(out: &mut String, path: &str, parameters: &[Parameter]) -> Result<(), AllocError>
-    ensures { IfOk result (λ _. string_bytes out.new ≡ string_bytes out.old ++ head_text path.now parameters.now) }
+    ensures { IfOk result
+        (λ _. string_bytes out.new ≡ string_bytes out.old ++ head_text path.now parameters.now) }
 {
     out.push_str(usage_word())?;
     out.push_str(path)?;
