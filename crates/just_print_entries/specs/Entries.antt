@@ -1,5 +1,5 @@
 -- The lines of a listing: signatures, what is said of them, and other names.
-use Rattle.std.specs.Prelude.{ℕ, ◌-◌, Bool, not, ◌&&◌, ◌||◌, ◌==◌, nat_lt, if◌then◌else◌, List, [], ◌∷◌, ◌++◌, chars, codes}
+use Rattle.std.specs.Prelude.{ℕ, ◌-◌, Bool, false, not, ◌&&◌, ◌||◌, ◌==◌, nat_lt, if◌then◌else◌, List, [], ◌∷◌, ◌++◌, chars, codes}
 use Rattle.std.specs.List.{flat_map, list_any}
 use Rattle.unicode_width.specs.Width.{str_width}
 use Rattle.just_config_words.specs.Cuts.{parts}
