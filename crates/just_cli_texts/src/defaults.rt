@@ -77,7 +77,6 @@ pub fn listed_by_default(
 }
 
 /// The listing of the module of a justfile that names lead to, as a configuration lists it.
-#[tactic(auto, using(crate::proofs::DefaultLaws::lists_so))]
 pub fn listing(
     alloc: Global,
     config: &Config,
