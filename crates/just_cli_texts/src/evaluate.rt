@@ -192,7 +192,7 @@ fn no_variable(alloc: Global, name: &str) -> Error
 }
 
 /// The module that names lead to, each that of a module or of an alias of one.
-#[tactic(auto, using(crate::proofs::EvaluateLaws::module_here, crate::proofs::EvaluateLaws::module_refused))]
+#[tactic(auto, using(crate::proofs::EvaluateLaws::module_here, crate::proofs::EvaluateLaws::module_lost))]
 fn evaluated_module<'p>(
     alloc: Global,
     modules: &[&'p Justfile],
