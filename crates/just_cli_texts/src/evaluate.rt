@@ -257,7 +257,7 @@ fn text_in(
 }
 
 /// What is printed of what names come to from the root.
-#[tactic(auto, using(crate::proofs::EvaluateLaws::names_whole, crate::proofs::EvaluateLaws::names_lost, crate::proofs::EvaluateLaws::names_named, crate::proofs::EvaluateLaws::names_unnamed))]
+#[tactic(auto, using(crate::proofs::EvaluateLaws::names_whole))]
 fn text_of_names(
     alloc: Global,
     format: EvaluateFormat,
