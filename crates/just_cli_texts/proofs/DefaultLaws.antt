@@ -1,13 +1,8 @@
 -- The listing that words ask for which name a module.
-use Rattle.std.proofs.Common.{◌≡◌, inl, inr, ℕ, ◌<◌, ◌||◌, Bool, true, false, List, [], ◌∷◌, length, drop, get_or, Option, Some, None, Result, Ok, Err, IfOk, IfErr, refl, sym, ap, ◌∙◌, subst}
+use Rattle.std.proofs.Common.{◌≡◌, inl, inr, ℕ, Bool, List, Option, Some, Result, Ok, Err, IfOk, IfErr, refl, ap, subst}
 use Rattle.std.specs.Option.{option_and_then}
 use Rattle.just_lang_types.specs.declared.project.Justfile.{Justfile}
-use Rattle.just_lang_types.specs.Modules.{settings_of}
 use Rattle.just_lang_layout.specs.Paths.{Pairs}
-use Rattle.just_eval_closure.specs.Answers.{Answer}
-use Rattle.just_eval_words.specs.Commands.{inner_at}
-use Rattle.just_eval_words.specs.Names.{module_named}
-use Rattle.just_eval_words.proofs.Commanded.{inner_refused}
 use Rattle.just_config.specs.declared.config.Config.{Config}
 use Rattle.just_config.specs.ModulePaths.{module_path}
 use Rattle.just_print_commands.specs.Projects.{Parts}
@@ -15,20 +10,10 @@ use Rattle.just_exec.specs.declared.error.Error.{Error}
 use Rattle.just_cli_plan.specs.Own.{OrMemory}
 use Rattle.just_cli_plan.specs.Pairs.{Answers}
 use Rattle.just_cli_texts.specs.declared.printed.Printed.{Printed}
-use Rattle.just_cli_texts.specs.Defaults.{is_listed, names_if, listed_by_default, ListsLaid}
+use Rattle.just_cli_texts.specs.Defaults.{names_if, listed_by_default, ListsLaid}
 use Rattle.just_cli_texts.specs.Laid.{LaidSources, ArePartsOf}
 use Rattle.just_cli_texts.specs.Prints.{as_printed}
 use Rattle.just_cli_texts.specs.Targets.{Lists}
-
--- ---- the module that names lead to
-
-module _ (given : Bool) (ms : List Justfile) (names : List (List ℕ)) (root : Justfile) where
-  pub listed_there : (inside : Justfile) → inner_at ms names root ≡ Ok inside → (given || (settings_of inside).default_list) ≡ is_listed given (inner_at ms names root)
-  listed_there inside is = sym (ap (λ (a : Answer Justfile). is_listed given a) is)
-
-  pub listed_nowhere : (i : ℕ) (name : List ℕ) (j : Justfile) → i < length names → name ≡ get_or names i name → module_named ms j name ≡ None → inner_at ms (drop i names) j ≡ inner_at ms names root
-      → false ≡ is_listed given (inner_at ms names root)
-  listed_nowhere i name j lt is none same = sym (ap (λ (a : Answer Justfile). is_listed given a) (sym same ∙ inner_refused ms names i name j lt is none))
 
 -- ---- the names that words are
 

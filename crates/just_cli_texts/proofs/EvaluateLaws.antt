@@ -65,15 +65,6 @@ module _ (ms : List Justfile) where
       → evaluated_module ms (drop i names) j ≡ Err (error.EvalUnknownSubmodule name)
   module_lost names i name j lt is h = module_next names i name j lt is ∙ ap (λ (o : Option Justfile). step_in ms o (λ k. evaluated_module ms (drop (i + 1) names) k) name) h
 
-  or_lost : (names all : List (List ℕ)) (j root : Justfile) (wanted e : Error) → evaluated_module ms names j ≡ Err wanted → evaluated_module ms names j ≡ evaluated_module ms all root → OrMemory (λ x. x ≡ wanted) e
-      → OrMemory (λ x. evaluated_module ms all root ≡ Err x) e
-  or_lost names all j root wanted e lost same (inl wants) = inl wants
-  or_lost names all j root wanted e lost same (inr is) = inr (sym same ∙ lost ∙ ap (λ (x : Error). Err x) (sym is))
-
-  pub module_refused : (names : List (List ℕ)) (i : ℕ) (name : List ℕ) (j root : Justfile) (e : Error) → i < length names → name ≡ get_or names i name → module_named ms j name ≡ None
-      → evaluated_module ms (drop i names) j ≡ evaluated_module ms names root → OrMemory (λ x. x ≡ error.EvalUnknownSubmodule name) e → OrMemory (λ x. evaluated_module ms names root ≡ Err x) e
-  module_refused names i name j root e lt is none same why = or_lost (drop i names) names j root (error.EvalUnknownSubmodule name) e (module_lost names i name j lt is none) same why
-
 -- ---- what is printed
 
 module _ (f : EvaluateFormat) (ms : List Justfile) (scopes : Scopes) (j : Justfile) (name : List ℕ) where

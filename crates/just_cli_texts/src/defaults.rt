@@ -23,7 +23,7 @@ use just_path_text::{Environ, NoMemory, Seq, Text};
 use std::alloc::Global;
 
 /// Whether names lead to a module which is listed by default, by the words or by its own setting.
-#[tactic(auto, using(crate::proofs::DefaultLaws::listed_there, crate::proofs::DefaultLaws::listed_nowhere, just_eval_words::proofs::Commanded::inner_here))]
+#[tactic(auto, using(just_eval_words::proofs::Commanded::inner_here, just_eval_words::proofs::Commanded::inner_refused))]
 fn is_listed<'p>(given: bool, modules: &[&'p Justfile], root: &'p Justfile, names: &[Text]) -> bool
     ensures { result ≡ is_listed given
         (inner_at (map (λ m. m.now) modules.now) names.now root.now) }
@@ -77,7 +77,6 @@ pub fn listed_by_default(
 }
 
 /// The listing of the module of a justfile that names lead to, as a configuration lists it.
-#[tactic(auto, using(crate::proofs::DefaultLaws::lists_so))]
 pub fn listing(
     alloc: Global,
     config: &Config,

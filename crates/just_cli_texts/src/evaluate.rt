@@ -192,7 +192,7 @@ fn no_variable(alloc: Global, name: &str) -> Error
 }
 
 /// The module that names lead to, each that of a module or of an alias of one.
-#[tactic(auto, using(crate::proofs::EvaluateLaws::module_here, crate::proofs::EvaluateLaws::module_refused))]
+#[tactic(auto, using(crate::proofs::EvaluateLaws::module_here, crate::proofs::EvaluateLaws::module_lost))]
 fn evaluated_module<'p>(
     alloc: Global,
     modules: &[&'p Justfile],
@@ -257,7 +257,7 @@ fn text_in(
 }
 
 /// What is printed of what names come to from the root.
-#[tactic(auto, using(crate::proofs::EvaluateLaws::names_whole, crate::proofs::EvaluateLaws::names_lost, crate::proofs::EvaluateLaws::names_named, crate::proofs::EvaluateLaws::names_unnamed))]
+#[tactic(auto, using(crate::proofs::EvaluateLaws::names_whole))]
 fn text_of_names(
     alloc: Global,
     format: EvaluateFormat,
@@ -272,16 +272,21 @@ fn text_of_names(
         (map (λ m. m.now) modules.now) scopes.now root.now names.now (Err e))) }
 {
     let Some((last, front)) = names.split_last() else {
-        return Ok(all_text(alloc, format, scopes, root)?);
+        let text = all_text(alloc, format, scopes, root)?;
+        return Ok(text);
     };
-    match evaluated_module(alloc, modules, root, front) {
-        Ok(inner) => text_in(alloc, format, modules, scopes, inner, last.as_str()),
-        Err(error) => Err(error),
-    }
+    let inner = match evaluated_module(alloc, modules, root, front) {
+        Ok(inner) => inner,
+        Err(error) => return Err(error),
+    };
+    let text = match text_in(alloc, format, modules, scopes, inner, last.as_str()) {
+        Ok(text) => text,
+        Err(error) => return Err(error),
+    };
+    Ok(text)
 }
 
 /// What a configuration prints of the values of a justfile's variables: those of the module that the first of some words names, or of that variable alone.
-#[tactic(auto, using(just_lang_types::proofs::Nesting::same_modules, crate::proofs::EvaluateLaws::refusal_in_all))]
 pub fn evaluate(
     alloc: Global,
     config: &Config,
@@ -300,15 +305,11 @@ pub fn evaluate(
 {
     let names = names_of_words(alloc, words)?;
     let modules = all_modules(alloc, justfile)?;
-    match text_of_names(
-        alloc,
-        format_of(config),
-        modules.as_slice(),
-        scopes,
-        justfile,
-        names.as_slice(),
-    ) {
-        Ok(text) => Ok(text),
-        Err(error) => Err(error),
-    }
+    let all = modules.as_slice();
+    let format = format_of(config);
+    let text = match text_of_names(alloc, format, all, scopes, justfile, names.as_slice()) {
+        Ok(text) => text,
+        Err(error) => return Err(error),
+    };
+    Ok(text)
 }

@@ -48,7 +48,6 @@ fn format_text(
 }
 
 /// The text of a source as it is written anew; or why it has no tree.
-#[tactic(auto, using(crate::proofs::FormatLaws::formatted_so, crate::proofs::FormatLaws::unformatted))]
 pub fn formatted(
     alloc: Global,
     config: &Config,
@@ -59,11 +58,10 @@ pub fn formatted(
     ensures refused { IfErr result (OrMemory (λ e.
         Formats config.now environ.now.pairs source.now (Err e))) }
 {
-    match parse(alloc, source) {
-        Ok(ast) => {
-            let text = format_text(alloc, config, environ, ast.items.as_slice())?;
-            Ok(text)
-        }
-        Err(error) => Err(Error::from(error)),
-    }
+    let ast = match parse(alloc, source) {
+        Ok(ast) => ast,
+        Err(error) => return Err(Error::from(error)),
+    };
+    let text = format_text(alloc, config, environ, ast.items.as_slice())?;
+    Ok(text)
 }

@@ -115,7 +115,6 @@ fn prints_of(
 }
 
 /// What the command of a configuration prints of a justfile with its layout.
-#[tactic(auto, using(crate::proofs::PrintLaws::prints_so))]
 pub fn prints(
     alloc: Global,
     config: &Config,
@@ -127,8 +126,9 @@ pub fn prints(
     ensures { Answers (Prints environ.now.pairs config.now (laid_by laid.now)) result }
 {
     let whole = whole_of(alloc, environ, laid)?;
-    match &config.subcommand {
-        Some(command) => prints_of(alloc, config, command, whole.project()),
+    let command = match &config.subcommand {
+        Some(command) => command,
         None => unreachable!(),
-    }
+    };
+    prints_of(alloc, config, command, whole.project())
 }

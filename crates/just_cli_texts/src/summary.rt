@@ -26,7 +26,6 @@ fn no_recipes(alloc: Global, paths: &[Text]) -> Result<Option<Text>, NoMemory>
 }
 
 /// The paths of a project's public recipes.
-#[tactic(auto, using(crate::proofs::PrintLaws::summed))]
 pub(crate) fn summary(
     alloc: Global,
     config: &Config,
@@ -35,8 +34,9 @@ pub(crate) fn summary(
     ensures { IfOk result (IsSummed config.now (parts project.entry)) }
 {
     let paths = public_paths(alloc, config.unsorted, project.tree)?;
-    let text = Text::from(joined_line(alloc, paths.as_slice())?);
     let told = no_recipes(alloc, paths.as_slice())?;
+    let line = joined_line(alloc, paths.as_slice())?;
+    let text = Text::from(line);
     Ok(Printed { text, told })
 }
 

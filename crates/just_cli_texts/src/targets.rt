@@ -50,7 +50,6 @@ fn error_of_show(alloc: Global, name: &str, refused: ShowError) -> Error
 }
 
 /// The listing of the module that names lead to, as a configuration lists it.
-#[tactic(auto, using(crate::proofs::TargetLaws::listed, crate::proofs::TargetLaws::unlisted))]
 pub(crate) fn list(
     alloc: Global,
     config: &Config,
@@ -62,14 +61,14 @@ pub(crate) fn list(
         Lists config.now (parts project.entry) names.now (Err e))) }
 {
     let options = list_options(config);
-    match list_text(alloc, project, &options, names) {
-        Ok(text) => Ok(Text::from(text)),
-        Err(refused) => Err(error_of_list(refused)),
-    }
+    let text = match list_text(alloc, project, &options, names) {
+        Ok(text) => text,
+        Err(refused) => return Err(error_of_list(refused)),
+    };
+    Ok(Text::from(text))
 }
 
 /// The recipe that names lead to as its file has it.
-#[tactic(auto, using(crate::proofs::TargetLaws::shown_so, crate::proofs::TargetLaws::unshown))]
 pub(crate) fn show(
     alloc: Global,
     config: &Config,
@@ -80,14 +79,15 @@ pub(crate) fn show(
     ensures refused { IfErr result (OrMemory (λ e.
         Shows config.now (parts project.entry) names.now (Err e))) }
 {
-    match show_text(alloc, project, borrowed(&config.indentation), names) {
-        Ok(text) => Ok(Text::from(text)),
-        Err(refused) => Err(error_of_show(alloc, "show", refused)),
-    }
+    let given = borrowed(&config.indentation);
+    let text = match show_text(alloc, project, given, names) {
+        Ok(text) => text,
+        Err(refused) => return Err(error_of_show(alloc, "show", refused)),
+    };
+    Ok(Text::from(text))
 }
 
 /// How the recipe that names lead to is used.
-#[tactic(auto, using(crate::proofs::TargetLaws::used_so, crate::proofs::TargetLaws::unshown))]
 pub(crate) fn usage(
     alloc: Global,
     project: Project<'_, '_, '_, '_, '_, '_>,
@@ -96,8 +96,9 @@ pub(crate) fn usage(
     ensures used { IfOk result (λ t. Uses (parts project.entry) names.now (Ok t)) }
     ensures refused { IfErr result (OrMemory (λ e. Uses (parts project.entry) names.now (Err e))) }
 {
-    match usage_text(alloc, project, names) {
-        Ok(text) => Ok(Text::from(text)),
-        Err(refused) => Err(error_of_show(alloc, "usage", refused)),
-    }
+    let text = match usage_text(alloc, project, names) {
+        Ok(text) => text,
+        Err(refused) => return Err(error_of_show(alloc, "usage", refused)),
+    };
+    Ok(Text::from(text))
 }

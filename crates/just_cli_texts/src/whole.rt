@@ -41,7 +41,7 @@ impl<'l> Whole<'l> {
 }
 
 /// A project with all that commands print of it.
-#[tactic(auto, using(crate::proofs::Wholly::has_modules, crate::proofs::Wholly::as_many_modules, crate::proofs::Wholly::parts_are))]
+#[tactic(auto, using(crate::proofs::Wholly::parts_are))]
 pub(crate) fn whole_of<'l>(
     alloc: Global,
     environ: &Environ,
