@@ -10,19 +10,4 @@ pub returns-in-Version : goal.returns-in-Version
 returns-in-Version g c = does_so c.args.other no_run.Version c.args.quiet _ _ _ c.in-Version.is c.show_version.ensures
 
 pub returns-in-Init : goal.returns-in-Init
-returns-in-Init g c = does_so c.args.other (no_run.Init c.in-Init.path) c.args.quiet _ _ _ c.in-Init.is c.write_justfile.ensures
-
-pub returns-in-Show : goal.returns-in-Show
-returns-in-Show g c = does_so c.args.other (no_run.Show c.in-Show.printed) c.args.quiet _ _ _ c.in-Show.is c.print.ensures
-
-pub returns-in-Nothing : goal.returns-in-Nothing
-returns-in-Nothing g c = does_so c.args.other no_run.Nothing c.args.quiet _ _ _ c.in-Nothing.is c.done.ensures
-
-pub returns-in-Write : goal.returns-in-Write
-returns-in-Write g c = does_so c.args.other (no_run.Write c.in-Write.path c.in-Write.text) c.args.quiet _ _ _ c.in-Write.is (rw c.as_str.ensures at c.write_justfile-in-Write.ensures)
-
-pub clean-requires : goal.clean-requires
-clean-requires g c = rw c.in-Clean.is at c.requires
-
-pub returns-in-Clean : goal.returns-in-Clean
-returns-in-Clean g c = does_so c.args.other (no_run.Clean c.in-Clean.folder c.in-Clean.path) c.args.quiet _ _ _ c.in-Clean.is c.clean.ensures
+returns-in-Init g c = does_so c.args.other (no_run.Init c.in-Init.path) c.args.quiet _ _ _ c.in-Init.is c.init.ensures

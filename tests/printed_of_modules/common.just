@@ -1,5 +1,0 @@
-out := 'out'
-
-# removes what was made
-clean:
-	@rm -r {{out}}
