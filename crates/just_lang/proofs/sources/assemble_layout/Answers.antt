@@ -7,8 +7,8 @@ use Rattle.just_lang.proofs.sources.assemble_layout.Goals as goal
 
 pub returns-in-Ok-clause-laid : goal.returns-in-Ok-clause-laid
 returns-in-Ok-clause-laid c = (
-      refl,
-      subst (λ (w : List (List ℕ)). AreWins c.args.layout (wins_in w)) (sym c.from.ensures)
-        (subst (λ (i : List (List ℕ)). AreImporters i c.in_ok-winners.winners.items) c.as_slice-imports.ensures c.in_ok-winners.ensures),
-      c.in-Ok.ensures.justfile,
-    )
+  refl,
+  subst (λ (w : List (List ℕ)). AreWins c.args.layout (wins_in w)) (sym c.from.ensures)
+      (subst (λ (i : List (List ℕ)). AreImporters i c.in_ok-winners.winners.items) c.as_slice-imports.ensures c.in_ok-winners.ensures),
+  c.in-Ok.ensures.justfile,
+)
