@@ -53,7 +53,8 @@ fn is_above(signature: &str, doc: &str) -> bool
 
 /// Adds a line of a doc above its entry.
 fn push_doc_line(out: &mut String, indent: &str, line: &str) -> Result<(), AllocError>
-    ensures { IfOk result (λ _. string_bytes out.new ≡ string_bytes out.old ++ doc_line indent.now line.now) }
+    ensures { IfOk result
+        (λ _. string_bytes out.new ≡ string_bytes out.old ++ doc_line indent.now line.now) }
 {
     out.push_str(indent)?;
     out.push_str("# ")?;
@@ -63,7 +64,8 @@ fn push_doc_line(out: &mut String, indent: &str, line: &str) -> Result<(), Alloc
 
 /// Adds a doc above its entry, each of its lines behind `# `.
 pub(crate) fn push_doc_above(out: &mut String, indent: &str, doc: &str) -> Result<(), AllocError>
-    ensures { IfOk result (λ _. string_bytes out.new ≡ string_bytes out.old ++ doc_above indent.now doc.now) }
+    ensures { IfOk result
+        (λ _. string_bytes out.new ≡ string_bytes out.old ++ doc_above indent.now doc.now) }
 {
     let mut rest = doc;
     'lines: while let Some((line, behind)) = cut(rest, '\n') {
@@ -86,7 +88,9 @@ fn push_doc_note(out: &mut String, doc: &str) -> Result<(), AllocError>
 
 /// Adds names, each behind a comma.
 fn push_led(out: &mut String, names: &[&Text]) -> Result<(), AllocError>
-    ensures { IfOk result (λ _. string_bytes out.new ≡ string_bytes out.old ++ led (codes ", ") (map (λ n. n.now) names.now)) }
+    ensures { IfOk result
+        (λ _. string_bytes out.new
+        ≡ string_bytes out.old ++ led (codes ", ") (map (λ n. n.now) names.now)) }
 {
     'names: for name in names {
         out.push_str(", ")?;
@@ -106,7 +110,9 @@ fn alias_word(is_one: bool) -> &'static str
 /// Adds the other names of a recipe in brackets, where there are some.
 #[tactic(auto, using(crate::proofs::Pushed::seen_nil))]
 fn push_alias_note(out: &mut String, names: &[&Text]) -> Result<(), AllocError>
-    ensures { IfOk result (λ _. string_bytes out.new ≡ string_bytes out.old ++ alias_note (map (λ n. n.now) names.now)) }
+    ensures { IfOk result
+        (λ _. string_bytes out.new
+        ≡ string_bytes out.old ++ alias_note (map (λ n. n.now) names.now)) }
 {
     match names {
         [] => Ok(()),
@@ -121,7 +127,9 @@ fn push_alias_note(out: &mut String, names: &[&Text]) -> Result<(), AllocError>
 
 /// Adds a doc and the other names of a recipe, in the order of the style.
 fn push_notes(out: &mut String, left: bool, doc: &str, names: &[&Text]) -> Result<(), AllocError>
-    ensures { IfOk result (λ _. string_bytes out.new ≡ string_bytes out.old ++ notes left doc.now (map (λ n. n.now) names.now)) }
+    ensures { IfOk result
+        (λ _. string_bytes out.new
+        ≡ string_bytes out.old ++ notes left doc.now (map (λ n. n.now) names.now)) }
 {
     if left {
         push_alias_note(out, names)?;
@@ -141,7 +149,11 @@ fn push_behind(
     doc: &str,
     names: &[&Text],
 ) -> Result<(), AllocError>
-    ensures { IfOk result (λ _. string_bytes out.new ≡ string_bytes out.old ++ behind margin.entry.columns (is_left margin.entry.style) signature.now doc.now (map (λ n. n.now) names.now)) }
+    ensures { IfOk result
+        (λ _. string_bytes out.new
+        ≡ string_bytes out.old
+        ++ behind margin.entry.columns (is_left margin.entry.style) signature.now doc.now
+        (map (λ n. n.now) names.now)) }
 {
     if is_nil(doc.as_bytes()) && is_nil(names) {
         return Ok(());
@@ -159,7 +171,11 @@ pub(crate) fn push_signature(
     doc: &str,
     names: &[&Text],
 ) -> Result<(), AllocError>
-    ensures { IfOk result (λ _. string_bytes out.new ≡ string_bytes out.old ++ signature_line margin.entry.indent.now margin.entry.columns (is_left margin.entry.style) signature.now doc.now (map (λ n. n.now) names.now)) }
+    ensures { IfOk result
+        (λ _. string_bytes out.new
+        ≡ string_bytes out.old
+        ++ signature_line margin.entry.indent.now margin.entry.columns (is_left margin.entry.style)
+        signature.now doc.now (map (λ n. n.now) names.now)) }
 {
     out.push_str(margin.indent)?;
     out.push_str(signature)?;
@@ -175,7 +191,11 @@ pub(crate) fn push_entry(
     doc: &str,
     names: &[&Text],
 ) -> Result<(), AllocError>
-    ensures { IfOk result (λ _. string_bytes out.new ≡ string_bytes out.old ++ entry_lines margin.entry.indent.now margin.entry.columns (is_left margin.entry.style) signature.now doc.now (map (λ n. n.now) names.now)) }
+    ensures { IfOk result
+        (λ _. string_bytes out.new
+        ≡ string_bytes out.old
+        ++ entry_lines margin.entry.indent.now margin.entry.columns (is_left margin.entry.style)
+        signature.now doc.now (map (λ n. n.now) names.now)) }
 {
     if is_above(signature, doc) {
         push_doc_above(out, margin.indent, doc)?;

@@ -49,7 +49,10 @@ fn push_pieces<'j>(
     indent: &str,
     outer: &'j ListedModule,
 ) -> Result<(), NoMemory>
-    ensures { OnOk result (map piece_of pending.new.items ≡ map piece_of pending.old.items ++ reverse (pieces options.now given.now indent.now outer.now)) }
+    ensures { OnOk result
+        (map piece_of pending.new.items
+        ≡ map piece_of pending.old.items
+        ++ reverse (pieces options.now given.now indent.now outer.now)) }
 {
     let parts = pieces(alloc, options, given, indent, outer)?;
     push_parts(pending, parts)
@@ -63,8 +66,11 @@ fn write_part<'j>(
     pending: &mut Vec<Part<'j>>,
     part: Part<'j>,
 ) -> Result<(), NoMemory>
-    ensures text { OnOk result (string_bytes out.new ≡ string_bytes out.old ++ added (piece_of part.entry)) }
-    ensures parts { OnOk result (map piece_of pending.new.items ≡ map piece_of pending.old.items ++ reverse (opened options.now (piece_of part.entry))) }
+    ensures text { OnOk result
+        (string_bytes out.new ≡ string_bytes out.old ++ added (piece_of part.entry)) }
+    ensures parts { OnOk result
+        (map piece_of pending.new.items
+        ≡ map piece_of pending.old.items ++ reverse (opened options.now (piece_of part.entry))) }
 {
     match part {
         Part::Lines(text) => {
@@ -104,7 +110,8 @@ fn listing(
 
 /// The first of some groups that a module doesn't have.
 fn unknown_group<'g>(given: &'g [Text], root: &ListedModule) -> Option<&'g Text>
-    ensures { MatchOption result (unknown_group given.now root.now ≡ None) (λ g. unknown_group given.now root.now ≡ Some g.now) }
+    ensures { MatchOption result (unknown_group given.now root.now ≡ None)
+        (λ g. unknown_group given.now root.now ≡ Some g.now) }
 {
     'given: for group in given {
         if !has_name(root.named_groups.as_slice(), group.as_str()) {
@@ -122,7 +129,10 @@ pub fn list(
 ) -> Result<String, ListError>
     ensures listed { IfOk result (λ t. IsListing options.now root.now (string_bytes t)) }
     ensures known { IfOk result (λ _. unknown_group options.now.groups.now root.now ≡ None) }
-    ensures refused { IfErr result (λ e. e ≢ error.NoMemory → MatchOption (unknown_group options.now.groups.now root.now) ⊥ (λ g. e ≡ error.UnknownGroup g)) }
+    ensures refused { IfErr result
+        (λ e. e ≢ error.NoMemory
+        → MatchOption (unknown_group options.now.groups.now root.now) ⊥
+        (λ g. e ≡ error.UnknownGroup g)) }
 {
     if let Some(group) = unknown_group(options.groups, root) {
         return Err(ListError::UnknownGroup(group.try_clone()?));

@@ -56,7 +56,10 @@ fn inner_line(
     is_later: bool,
     name: &str,
 ) -> Result<Text, AllocError>
-    ensures { IfOk result (λ t. t ≡ only_if (is_later && not frame.entry.has_named) newline ++ (frame.entry.indent.now ++ (name.now ++ (codes ":" ++ newline)))) }
+    ensures { IfOk result
+        (λ t. t
+        ≡ only_if (is_later && not frame.entry.has_named) newline
+        ++ (frame.entry.indent.now ++ (name.now ++ (codes ":" ++ newline)))) }
 {
     let mut out = String::new(alloc);
     push_if(&mut out, is_later && !frame.has_named, "\n")?;
@@ -88,7 +91,8 @@ fn push_inner<'j>(
     ensures { OnOk result
         (map piece_of parts.new.items
         ≡ map piece_of parts.old.items
-        ++ lines (inner_line options.now frame.entry.indent.now frame.entry.columns frame.entry.has_named is_later outer.now)
+        ++ lines (inner_line options.now frame.entry.indent.now frame.entry.columns
+        frame.entry.has_named is_later outer.now)
         ∷ inner (frame.entry.indent.now ++ options.now.prefix.now) outer.now ∷ []) }
 {
     let line = inner_line(alloc, frame, is_later, outer.name.as_str())?;
@@ -109,7 +113,8 @@ fn push_inners<'j>(
     ensures { OnOk result
         (map piece_of parts.new.items
         ≡ map piece_of parts.old.items
-        ++ inner_pieces options.now frame.entry.indent.now frame.entry.columns frame.entry.has_named false (map (λ m. m.now) modules.now)) }
+        ++ inner_pieces options.now frame.entry.indent.now frame.entry.columns frame.entry.has_named
+        false (map (λ m. m.now) modules.now)) }
 {
     let mut is_later = false;
     'modules: for outer in modules {
@@ -144,7 +149,8 @@ fn push_module_parts<'j>(
     ensures { OnOk result
         (map piece_of parts.new.items
         ≡ map piece_of parts.old.items
-        ++ module_pieces options.now frame.entry.indent.now frame.entry.columns frame.entry.has_named (map (λ m. m.now) modules.now)) }
+        ++ module_pieces options.now frame.entry.indent.now frame.entry.columns
+        frame.entry.has_named (map (λ m. m.now) modules.now)) }
 {
     if options.list_submodules {
         return push_inners(alloc, options, frame, parts, modules);
@@ -170,7 +176,9 @@ fn push_group<'j>(
     ensures { OnOk result
         (map piece_of parts.new.items
         ≡ map piece_of parts.old.items
-        ++ group_pieces options.now frame.entry.indent.now frame.entry.columns frame.entry.has_named (string_bytes front) (map (λ r. r.now) recipes.now) (map (λ a. a.now) aliases.now) (map (λ m. m.now) modules.now)) }
+        ++ group_pieces options.now frame.entry.indent.now frame.entry.columns frame.entry.has_named
+        (string_bytes front) (map (λ r. r.now) recipes.now) (map (λ a. a.now) aliases.now)
+        (map (λ m. m.now) modules.now)) }
 {
     let margin = margin_of(options, frame);
     let mut out = front;
@@ -194,7 +202,10 @@ fn push_named<'j>(
     ensures { OnOk result
         (map piece_of parts.new.items
         ≡ map piece_of parts.old.items
-        ++ group_pieces options.now frame.entry.indent.now frame.entry.columns frame.entry.has_named (group_line frame.entry.indent.now is_later group.now) (grouped recipe_groups group.now (map (λ r. r.now) recipes.now)) [] (grouped groups_of group.now (map (λ m. m.now) modules.now))) }
+        ++ group_pieces options.now frame.entry.indent.now frame.entry.columns frame.entry.has_named
+        (group_line frame.entry.indent.now is_later group.now)
+        (grouped recipe_groups group.now (map (λ r. r.now) recipes.now)) []
+        (grouped groups_of group.now (map (λ m. m.now) modules.now))) }
 {
     let front = group_line(alloc, frame.indent, is_later, group)?;
     let own = in_group(alloc, group, recipes)?;
@@ -225,7 +236,9 @@ fn push_all_named<'j>(
     ensures { OnOk result
         (map piece_of parts.new.items
         ≡ map piece_of parts.old.items
-        ++ named_pieces options.now frame.entry.indent.now frame.entry.columns frame.entry.has_named (map (λ r. r.now) recipes.now) (map (λ m. m.now) modules.now) is_later (map (λ g. g.now) groups.now)) }
+        ++ named_pieces options.now frame.entry.indent.now frame.entry.columns frame.entry.has_named
+        (map (λ r. r.now) recipes.now) (map (λ m. m.now) modules.now) is_later
+        (map (λ g. g.now) groups.now)) }
 {
     let mut behind = is_later;
     'groups: for group in groups {
@@ -267,9 +280,12 @@ fn arrange<'j>(
     options: &ListOptions<'_>,
     outer: &'j ListedModule,
 ) -> Result<Arranged<'j>, NoMemory>
-    ensures recipes { IfOk result (λ a. map (λ r. r.now) a.recipes.items ≡ public_recipes options.now.unsorted outer.now) }
-    ensures aliases { IfOk result (λ a. map (λ n. n.now) a.aliases.items ≡ other_aliases options.now.alias_style outer.now) }
-    ensures modules { IfOk result (λ a. map (λ m. m.now) a.modules.items ≡ public_modules options.now.unsorted outer.now) }
+    ensures recipes { IfOk result
+        (λ a. map (λ r. r.now) a.recipes.items ≡ public_recipes options.now.unsorted outer.now) }
+    ensures aliases { IfOk result
+        (λ a. map (λ n. n.now) a.aliases.items ≡ other_aliases options.now.alias_style outer.now) }
+    ensures modules { IfOk result
+        (λ a. map (λ m. m.now) a.modules.items ≡ public_modules options.now.unsorted outer.now) }
 {
     let recipes = public_in_order(alloc, options.unsorted, outer.recipes.as_slice())?;
     let aliases = other_aliases(alloc, options.alias_style, outer)?;
@@ -288,7 +304,9 @@ fn has_ungrouped(
     aliases: &[&ListedAlias],
     modules: &[&ListedModule],
 ) -> bool
-    ensures { result ≡ (is_nil given.now && not (is_nil recipes.now && (is_nil aliases.now && is_nil modules.now))) }
+    ensures { result
+        ≡ (is_nil given.now
+        && not (is_nil recipes.now && (is_nil aliases.now && is_nil modules.now))) }
 {
     is_nil(given) && !(is_nil(recipes) && (is_nil(aliases) && is_nil(modules)))
 }
@@ -303,10 +321,15 @@ fn push_ungrouped<'j>(
     given: &[Text],
     all: &Arranged<'j>,
 ) -> Result<bool, NoMemory>
-    ensures there { IfOk result (λ b. b ≡ has_ungrouped given.now (map (λ r. r.now) all.now.recipes.items) (map (λ a. a.now) all.now.aliases.items) (map (λ m. m.now) all.now.modules.items)) }
+    ensures there { IfOk result
+        (λ b. b
+        ≡ has_ungrouped given.now (map (λ r. r.now) all.now.recipes.items)
+        (map (λ a. a.now) all.now.aliases.items) (map (λ m. m.now) all.now.modules.items)) }
     ensures added { IfOk result (λ b. map piece_of parts.new.items
         ≡ map piece_of parts.old.items
-        ++ ungrouped_pieces options.now frame.entry.indent.now frame.entry.columns frame.entry.has_named b (map (λ r. r.now) all.now.recipes.items) (map (λ a. a.now) all.now.aliases.items) (map (λ m. m.now) all.now.modules.items)) }
+        ++ ungrouped_pieces options.now frame.entry.indent.now frame.entry.columns
+        frame.entry.has_named b (map (λ r. r.now) all.now.recipes.items)
+        (map (λ a. a.now) all.now.aliases.items) (map (λ m. m.now) all.now.modules.items)) }
 {
     let recipes = ungrouped(alloc, all.recipes.as_slice())?;
     let modules = ungrouped(alloc, all.modules.as_slice())?;
@@ -328,7 +351,7 @@ fn push_ungrouped<'j>(
     Ok(true)
 }
 
-/// Adds the named groups that are listed: those that are given, where some are, else all of a module.
+/// Adds the named groups that are listed: those that are given, where some are, else all.
 fn push_listed<'j>(
     alloc: Global,
     options: &ListOptions<'_>,
@@ -342,7 +365,9 @@ fn push_listed<'j>(
     ensures { OnOk result
         (map piece_of parts.new.items
         ≡ map piece_of parts.old.items
-        ++ named_pieces options.now frame.entry.indent.now frame.entry.columns frame.entry.has_named (map (λ r. r.now) all.now.recipes.items) (map (λ m. m.now) all.now.modules.items) is_later (listed_groups options.now.unsorted given.now outer.now)) }
+        ++ named_pieces options.now frame.entry.indent.now frame.entry.columns frame.entry.has_named
+        (map (λ r. r.now) all.now.recipes.items) (map (λ m. m.now) all.now.modules.items) is_later
+        (listed_groups options.now.unsorted given.now outer.now)) }
 {
     let recipes = all.recipes.as_slice();
     let modules = all.modules.as_slice();
@@ -377,7 +402,12 @@ fn push_arranged<'j>(
     ensures { OnOk result
         (map piece_of parts.new.items
         ≡ map piece_of parts.old.items
-        ++ group_list options.now frame.entry.indent.now frame.entry.columns frame.entry.has_named (has_ungrouped given.now (map (λ r. r.now) all.now.recipes.items) (map (λ a. a.now) all.now.aliases.items) (map (λ m. m.now) all.now.modules.items)) (listed_groups options.now.unsorted given.now outer.now) (map (λ r. r.now) all.now.recipes.items) (map (λ a. a.now) all.now.aliases.items) (map (λ m. m.now) all.now.modules.items)) }
+        ++ group_list options.now frame.entry.indent.now frame.entry.columns frame.entry.has_named
+        (has_ungrouped given.now (map (λ r. r.now) all.now.recipes.items)
+        (map (λ a. a.now) all.now.aliases.items) (map (λ m. m.now) all.now.modules.items))
+        (listed_groups options.now.unsorted given.now outer.now)
+        (map (λ r. r.now) all.now.recipes.items) (map (λ a. a.now) all.now.aliases.items)
+        (map (λ m. m.now) all.now.modules.items)) }
 {
     let is_later = push_ungrouped(alloc, options, frame, parts, given, all)?;
     push_listed(alloc, options, frame, parts, is_later, given, outer, all)
@@ -389,7 +419,11 @@ fn columns_of(
     options: &ListOptions<'_>,
     all: &Arranged<'_>,
 ) -> Result<usize, NoMemory>
-    ensures { IfOk result (λ n. n ≡ widest (widths options.now.alias_style options.now.list_submodules (map (λ r. r.now) all.now.recipes.items) (map (λ a. a.now) all.now.aliases.items) (map (λ m. m.now) all.now.modules.items))) }
+    ensures { IfOk result
+        (λ n. n
+        ≡ widest (widths options.now.alias_style options.now.list_submodules
+        (map (λ r. r.now) all.now.recipes.items) (map (λ a. a.now) all.now.aliases.items)
+        (map (λ m. m.now) all.now.modules.items))) }
 {
     let recipes = all.recipes.as_slice();
     let aliases = all.aliases.as_slice();
@@ -421,7 +455,8 @@ pub(crate) fn pieces<'j>(
     indent: &str,
     outer: &'j ListedModule,
 ) -> Result<Vec<Part<'j>>, NoMemory>
-    ensures { IfOk result (λ v. map piece_of v.items ≡ pieces options.now given.now indent.now outer.now) }
+    ensures { IfOk result
+        (λ v. map piece_of v.items ≡ pieces options.now given.now indent.now outer.now) }
 {
     let all = arrange(alloc, options, outer)?;
     let columns = columns_of(alloc, options, &all)?;

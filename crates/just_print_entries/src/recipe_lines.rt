@@ -98,7 +98,10 @@ fn with_names(
     names: &[&Text],
     parameters: &str,
 ) -> Result<usize, AllocError>
-    ensures { IfOk result (λ n. n ≡ fold wider so_far (map (λ name. width (signature name parameters.now)) (map (λ name. name.now) names.now))) }
+    ensures { IfOk result
+        (λ n. n
+        ≡ fold wider so_far
+        (map (λ name. width (signature name parameters.now)) (map (λ name. name.now) names.now))) }
 {
     let mut widest = so_far;
     'names: for name in names {
@@ -132,7 +135,9 @@ fn with_recipes(
     so_far: usize,
     recipes: &[&ListedRecipe],
 ) -> Result<usize, NoMemory>
-    ensures { IfOk result (λ n. n ≡ fold wider so_far (flat_map (recipe_widths style) (map (λ r. r.now) recipes.now))) }
+    ensures { IfOk result
+        (λ n. n
+        ≡ fold wider so_far (flat_map (recipe_widths style) (map (λ r. r.now) recipes.now))) }
 {
     let mut widest = so_far;
     'recipes: for recipe in recipes {
@@ -143,7 +148,8 @@ fn with_recipes(
 
 /// The width with other names of recipes of other modules.
 fn with_aliases(alloc: Global, so_far: usize, aliases: &[&ListedAlias]) -> Result<usize, AllocError>
-    ensures { IfOk result (λ n. n ≡ fold wider so_far (map alias_width (map (λ a. a.now) aliases.now))) }
+    ensures { IfOk result
+        (λ n. n ≡ fold wider so_far (map alias_width (map (λ a. a.now) aliases.now))) }
 {
     let mut widest = so_far;
     'aliases: for alias in aliases {
@@ -163,7 +169,8 @@ fn with_modules(
     so_far: usize,
     modules: &[&ListedModule],
 ) -> Result<usize, AllocError>
-    ensures { IfOk result (λ n. n ≡ fold wider so_far (map module_width (map (λ m. m.now) modules.now))) }
+    ensures { IfOk result
+        (λ n. n ≡ fold wider so_far (map module_width (map (λ m. m.now) modules.now))) }
 {
     let mut widest = so_far;
     'modules: for inner in modules {
@@ -179,7 +186,10 @@ fn unless_listed(
     so_far: usize,
     modules: &[&ListedModule],
 ) -> Result<usize, AllocError>
-    ensures { IfOk result (λ n. n ≡ fold wider so_far (if list_submodules then [] else map module_width (map (λ m. m.now) modules.now))) }
+    ensures { IfOk result
+        (λ n. n
+        ≡ fold wider so_far
+        (if list_submodules then [] else map module_width (map (λ m. m.now) modules.now))) }
 {
     if list_submodules {
         return Ok(so_far);
@@ -197,7 +207,10 @@ pub(crate) fn widest_of(
     aliases: &[&ListedAlias],
     modules: &[&ListedModule],
 ) -> Result<usize, NoMemory>
-    ensures { IfOk result (λ n. n ≡ widest (widths style list_submodules (map (λ r. r.now) recipes.now) (map (λ a. a.now) aliases.now) (map (λ m. m.now) modules.now))) }
+    ensures { IfOk result
+        (λ n. n
+        ≡ widest (widths style list_submodules (map (λ r. r.now) recipes.now)
+        (map (λ a. a.now) aliases.now) (map (λ m. m.now) modules.now))) }
 {
     let by_recipes = with_recipes(alloc, style, 0, recipes)?;
     let by_aliases = with_aliases(alloc, by_recipes, aliases)?;
@@ -213,7 +226,11 @@ fn push_other(
     signature: &str,
     target: &str,
 ) -> Result<(), AllocError>
-    ensures { IfOk result (λ _. string_bytes out.new ≡ string_bytes out.old ++ entry_lines margin.entry.indent.now margin.entry.columns (is_left margin.entry.style) signature.now (alias_doc target.now) []) }
+    ensures { IfOk result
+        (λ _. string_bytes out.new
+        ≡ string_bytes out.old
+        ++ entry_lines margin.entry.indent.now margin.entry.columns (is_left margin.entry.style)
+        signature.now (alias_doc target.now) []) }
 {
     let doc = alias_doc(alloc, target)?;
     push_entry(out, margin, signature, doc.as_str(), &[])
@@ -228,7 +245,11 @@ fn push_separate(
     recipe: &ListedRecipe,
     name: &str,
 ) -> Result<(), AllocError>
-    ensures { IfOk result (λ _. string_bytes out.new ≡ string_bytes out.old ++ separate_lines margin.entry.indent.now margin.entry.columns margin.entry.style recipe.now name.now) }
+    ensures { IfOk result
+        (λ _. string_bytes out.new
+        ≡ string_bytes out.old
+        ++ separate_lines margin.entry.indent.now margin.entry.columns margin.entry.style recipe.now
+        name.now) }
 {
     let text = two_texts(alloc, name, recipe.parameters.as_str())?;
     push_other(alloc, out, margin, text.as_str(), recipe.name.as_str())
@@ -242,7 +263,11 @@ fn push_separates(
     recipe: &ListedRecipe,
     names: &[&Text],
 ) -> Result<(), AllocError>
-    ensures { IfOk result (λ _. string_bytes out.new ≡ string_bytes out.old ++ flat_map (separate_lines margin.entry.indent.now margin.entry.columns margin.entry.style recipe.now) (map (λ n. n.now) names.now)) }
+    ensures { IfOk result
+        (λ _. string_bytes out.new
+        ≡ string_bytes out.old ++ flat_map
+        (separate_lines margin.entry.indent.now margin.entry.columns margin.entry.style recipe.now)
+        (map (λ n. n.now) names.now)) }
 {
     'names: for name in names {
         push_separate(alloc, out, margin, recipe, name.as_str())?;
@@ -268,7 +293,9 @@ fn push_own(
     ensures { IfOk result
         (λ _. string_bytes out.new
         ≡ string_bytes out.old
-        ++ entry_lines margin.entry.indent.now margin.entry.columns (is_left margin.entry.style) (signature recipe.now.name recipe.now.parameters) (unwrap_or recipe.now.doc []) (map (λ n. n.now) names.now)) }
+        ++ entry_lines margin.entry.indent.now margin.entry.columns (is_left margin.entry.style)
+        (signature recipe.now.name recipe.now.parameters) (unwrap_or recipe.now.doc [])
+        (map (λ n. n.now) names.now)) }
 {
     let text = two_texts(alloc, recipe.name.as_str(), recipe.parameters.as_str())?;
     push_entry(out, margin, text.as_str(), doc_text(&recipe.doc), names)
@@ -281,7 +308,11 @@ fn push_recipe(
     margin: Margin<'_>,
     recipe: &ListedRecipe,
 ) -> Result<(), NoMemory>
-    ensures { OnOk result (string_bytes out.new ≡ string_bytes out.old ++ recipe_lines margin.entry.indent.now margin.entry.columns margin.entry.style recipe.now) }
+    ensures { OnOk result
+        (string_bytes out.new
+        ≡ string_bytes out.old
+        ++ recipe_lines margin.entry.indent.now margin.entry.columns margin.entry.style
+        recipe.now) }
 {
     let names = shown(alloc, margin.style, recipe.aliases.as_slice())?;
     let inline = only_names(is_inline(margin.style), names.as_slice());
@@ -298,7 +329,11 @@ pub(crate) fn push_recipes(
     margin: Margin<'_>,
     recipes: &[&ListedRecipe],
 ) -> Result<(), NoMemory>
-    ensures { OnOk result (string_bytes out.new ≡ string_bytes out.old ++ flat_map (recipe_lines margin.entry.indent.now margin.entry.columns margin.entry.style) (map (λ r. r.now) recipes.now)) }
+    ensures { OnOk result
+        (string_bytes out.new
+        ≡ string_bytes out.old
+        ++ flat_map (recipe_lines margin.entry.indent.now margin.entry.columns margin.entry.style)
+        (map (λ r. r.now) recipes.now)) }
 {
     'recipes: for recipe in recipes {
         push_recipe(alloc, out, margin, recipe)?;
@@ -314,7 +349,11 @@ fn push_other_at(
     signature: &str,
     target: &[Text],
 ) -> Result<(), AllocError>
-    ensures { IfOk result (λ _. string_bytes out.new ≡ string_bytes out.old ++ entry_lines margin.entry.indent.now margin.entry.columns (is_left margin.entry.style) signature.now (alias_doc (path_text target.now)) []) }
+    ensures { IfOk result
+        (λ _. string_bytes out.new
+        ≡ string_bytes out.old
+        ++ entry_lines margin.entry.indent.now margin.entry.columns (is_left margin.entry.style)
+        signature.now (alias_doc (path_text target.now)) []) }
 {
     let path = path_text(alloc, target)?;
     push_other(alloc, out, margin, signature, path.as_str())
@@ -328,7 +367,10 @@ fn push_alias(
     margin: Margin<'_>,
     alias: &ListedAlias,
 ) -> Result<(), AllocError>
-    ensures { IfOk result (λ _. string_bytes out.new ≡ string_bytes out.old ++ alias_lines margin.entry.indent.now margin.entry.columns margin.entry.style alias.now) }
+    ensures { IfOk result
+        (λ _. string_bytes out.new
+        ≡ string_bytes out.old
+        ++ alias_lines margin.entry.indent.now margin.entry.columns margin.entry.style alias.now) }
 {
     let text = two_texts(alloc, alias.name.as_str(), alias.parameters.as_str())?;
     push_other_at(
@@ -347,7 +389,11 @@ pub(crate) fn push_aliases(
     margin: Margin<'_>,
     aliases: &[&ListedAlias],
 ) -> Result<(), AllocError>
-    ensures { IfOk result (λ _. string_bytes out.new ≡ string_bytes out.old ++ flat_map (alias_lines margin.entry.indent.now margin.entry.columns margin.entry.style) (map (λ a. a.now) aliases.now)) }
+    ensures { IfOk result
+        (λ _. string_bytes out.new
+        ≡ string_bytes out.old
+        ++ flat_map (alias_lines margin.entry.indent.now margin.entry.columns margin.entry.style)
+        (map (λ a. a.now) aliases.now)) }
 {
     'aliases: for alias in aliases {
         push_alias(alloc, out, margin, alias)?;
@@ -362,7 +408,10 @@ fn push_module(
     margin: Margin<'_>,
     inner: &ListedModule,
 ) -> Result<(), AllocError>
-    ensures { IfOk result (λ _. string_bytes out.new ≡ string_bytes out.old ++ module_lines margin.entry.indent.now margin.entry.columns margin.entry.style inner.now) }
+    ensures { IfOk result
+        (λ _. string_bytes out.new
+        ≡ string_bytes out.old
+        ++ module_lines margin.entry.indent.now margin.entry.columns margin.entry.style inner.now) }
 {
     let line = two_texts(alloc, inner.name.as_str(), " ...")?;
     let doc = doc_text(&inner.doc);
@@ -380,7 +429,11 @@ pub(crate) fn push_modules(
     margin: Margin<'_>,
     modules: &[&ListedModule],
 ) -> Result<(), AllocError>
-    ensures { IfOk result (λ _. string_bytes out.new ≡ string_bytes out.old ++ flat_map (module_lines margin.entry.indent.now margin.entry.columns margin.entry.style) (map (λ m. m.now) modules.now)) }
+    ensures { IfOk result
+        (λ _. string_bytes out.new
+        ≡ string_bytes out.old
+        ++ flat_map (module_lines margin.entry.indent.now margin.entry.columns margin.entry.style)
+        (map (λ m. m.now) modules.now)) }
 {
     'modules: for inner in modules {
         push_module(alloc, out, margin, inner)?;
