@@ -1,5 +1,5 @@
 -- The parts of a module are fewer than it with all within it.
-use Rattle.std.proofs.Common.{◌≡◌, ℕ, suc, ◌+◌, ◌<◌, ◌≤◌, Bool, true, false, not, cond, List, [], ◌∷◌, ◌++◌, map, reverse, refl, sym, ap, ◌∙◌, subst, arith}
+use Rattle.std.proofs.Common.{◌≡◌, ℕ, suc, ◌+◌, ◌<◌, ◌≤◌, Bool, true, false, not, List, [], ◌∷◌, ◌++◌, map, reverse, refl, ap, ◌∙◌, arith}
 use Rattle.just_print_entries.specs.declared.options.ListOptions.{ListOptions}
 use Rattle.just_print_lists.specs.declared.listed.ListedRecipe.{ListedRecipe}
 use Rattle.just_print_lists.specs.declared.listed.ListedAlias.{ListedAlias}
@@ -11,9 +11,9 @@ use Rattle.just_print_lists.specs.Order.{in_order}
 use Rattle.just_print_lists.specs.Groups.{has_name, is_nil, ungrouped, grouped}
 use Rattle.just_print_lists.specs.Summaries.{public_recipes, public_modules}
 use Rattle.just_print_entries.specs.Recipes.{other_aliases, widest, widths}
-use Rattle.just_print_entries.specs.Listings.{Piece, recipe_groups, group_line, inner_pieces, module_pieces, group_pieces, named_pieces, ungrouped_pieces, has_ungrouped, pieces_with, pieces}
+use Rattle.just_print_entries.specs.Listings.{Piece, recipe_groups, group_line, inner_pieces, module_pieces, group_pieces, named_pieces, ungrouped_pieces, has_ungrouped, pieces}
 use Rattle.just_print_entries.specs.Listings.Piece.{lines, inner}
-use Rattle.just_print_entries.specs.Written.{added, opened}
+use Rattle.just_print_entries.specs.Written.{opened}
 use Rattle.just_print_lists.proofs.Weights.{total, total_append, total_reverse, total_filter, total_in_order}
 
 abbrev pub sum_more : List ℕ → ℕ

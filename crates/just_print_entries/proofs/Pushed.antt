@@ -1,5 +1,5 @@
 -- Parts are added one after the other, and what is seen behind borrows.
-use Rattle.std.proofs.Common.{◌≡◌, Bool, List, [], ◌∷◌, ◌++◌, map, Bor, refl, sym, ap, ◌∙◌}
+use Rattle.std.proofs.Common.{◌≡◌, List, [], ◌∷◌, ◌++◌, map, Bor, refl, ap, ◌∙◌}
 use Rattle.std.proofs.lemmas.List.{map-append}
 use Rattle.just_print_lists.specs.Groups.{is_nil}
 use Rattle.just_print_entries.specs.declared.part.Part.{Part}

@@ -1,8 +1,8 @@
 -- Parts are written one after the other.
-use Rattle.std.proofs.Common.{◌≡◌, ℕ, List, [], ◌∷◌, ◌++◌, append-nil, append_assoc, reverse, refl, sym, ap, ◌∙◌, subst}
+use Rattle.std.proofs.Common.{◌≡◌, ℕ, List, [], ◌∷◌, ◌++◌, append-nil, append_assoc, reverse, sym, ap, ◌∙◌, subst}
 use Rattle.std.proofs.lemmas.List.{reverse-append, reverse-reverse}
 use Rattle.just_print_entries.specs.declared.options.ListOptions.{ListOptions}
-use Rattle.just_print_entries.specs.Listings.{Piece, pieces, AreWritten}
+use Rattle.just_print_entries.specs.Listings.{Piece, AreWritten}
 use Rattle.just_print_entries.specs.Listings.Piece.{lines, inner}
 use Rattle.just_print_entries.specs.Written.{added, opened}
 

@@ -1,8 +1,8 @@
 -- A part is written, or its own parts are pending.
-use Rattle.std.proofs.Common.{rules, ◌≡◌, ◌++◌, [], ◌∷◌, List, map, reverse, string_bytes, ap, ◌∙◌}
+use Rattle.std.proofs.Common.{rules, ◌≡◌, ◌++◌, [], ◌∷◌, List, map, string_bytes, ap, ◌∙◌}
 use Rattle.std.proofs.lemmas.List.{map-append}
 use Rattle.just_print_entries.specs.declared.part.Part.{Part}
-use Rattle.just_print_entries.specs.Listings.{Piece, pieces}
+use Rattle.just_print_entries.specs.Listings.{pieces}
 use Rattle.just_print_entries.specs.Written.{piece_of}
 use Rattle.just_print_entries.proofs.Writing.{one_written}
 use Rattle.just_print_entries.proofs.PieceWeights.{fewer_pieces}
