@@ -1,11 +1,16 @@
 -- Groups and places, one more at a time.
-use Rattle.std.proofs.Common.{◌≡◌, ◌↔◌, Bool, true, false, not, cond, List, ℕ, [], ◌∷◌, ◌++◌, map, append-nil, append_assoc, refl, sym, ap, ◌∙◌}
-use Rattle.std.specs.Prelude.{IsTrue, filter, if◌then◌else◌}
+use Rattle.std.proofs.Common.{◌≡◌, ◌↔◌, ◌+◌, ◌<◌, Bool, true, false, not, cond, List, ℕ, [], ◌∷◌, ◌++◌, map, length, drop, get_or, append-nil, append_assoc, refl, sym, ap, ◌∙◌}
+use Rattle.std.specs.Prelude.{IsTrue, filter, if◌then◌else◌, Option}
+use Rattle.std.specs.List.{flat_map}
+use Rattle.just_lang_syntax.specs.declared.ast.StringLiteral.{StringLiteral}
+use Rattle.just_lang_spots.specs.declared.entries.Entry.{Entry}
 use Rattle.just_lang_spots.specs.declared.spot.Spot.{Spot}
+use Rattle.just_lang_spots.specs.Entries.{entry, entries}
 use Rattle.just_lang_spots.specs.Places.{name_spot}
+use Rattle.just_lang_spots.proofs.ListLaws.{drop_here}
 use Rattle.just_print_lists.specs.Groups.{has_name}
 use Rattle.just_print_tree.specs.Told.{ToldRecipe}
-use Rattle.just_print_tree.specs.Groups.{recipe_spots, each_once}
+use Rattle.just_print_tree.specs.Groups.{recipe_spots, groups_where, each_once}
 
 -- ---- places
 
@@ -39,7 +44,7 @@ once_more found x xs =
     ]
 
 -- some texts, in front of others
-pub once_behind : (found gs rest : List (List ℕ))
+once_behind : (found gs rest : List (List ℕ))
     → (found ++ each_once found gs) ++ each_once (found ++ each_once found gs) rest ≡ found ++ each_once found (gs ++ rest)
 once_behind found [] rest = ap (λ (l : List (List ℕ)). l ++ each_once l rest) (append-nil found)
 once_behind found (x ∷ gs) rest =
@@ -52,3 +57,14 @@ once_behind found (x ∷ gs) rest =
       | false ↦
           ap (λ (l : List (List ℕ)). l ++ each_once l rest) (sym (append_assoc found (x ∷ []) new)) ∙ once_behind more gs rest ∙ append_assoc found (x ∷ []) (each_once more (gs ++ rest))
     ]
+
+-- the groups of one more item, in front of those of the items behind it
+pub groups_more : (text_of : StringLiteral → Option (List ℕ)) (places : List Spot) (items : List Entry) (i : ℕ) (x : Entry) (old new groups texts whole : List (List ℕ)) → i < length items → x ≡ get_or items i x
+    → groups ≡ groups_where text_of places (entry x) → texts ≡ groups → new ≡ old ++ each_once old texts
+    → old ++ each_once old (flat_map (groups_where text_of places) (entries (drop i items))) ≡ whole → new ++ each_once new (flat_map (groups_where text_of places) (entries (drop (i + 1) items))) ≡ whole
+groups_more text_of places items i x old new groups texts whole lt is of_it same more h =
+    let own : List (List ℕ) = groups_where text_of places (entry x) in
+    let rest : List (List ℕ) = flat_map (groups_where text_of places) (entries (drop (i + 1) items)) in
+    let here : flat_map (groups_where text_of places) (entries (drop i items)) ≡ own ++ rest = ap (λ (xs : List Entry). flat_map (groups_where text_of places) (entries xs)) (drop_here items i x lt is) in
+    let found : new ≡ old ++ each_once old own = more ∙ ap (λ (l : List (List ℕ)). old ++ each_once old l) (same ∙ of_it) in
+    ap (λ (l : List (List ℕ)). l ++ each_once l rest) found ∙ once_behind old own rest ∙ ap (λ (l : List (List ℕ)). old ++ each_once old l) (sym here) ∙ h

@@ -1,10 +1,11 @@
 -- A tree of modules is made from the last one to the first.
-use Rattle.std.proofs.Common.{◌≡◌, ℕ, zero, suc, ◌+◌, ◌<◌, ◌≤◌, List, [], ◌∷◌, ◌++◌, map, length, drop, get_or, reverse, length-append, refl, sym, ap, ◌∙◌, subst, arith}
+use Rattle.std.proofs.Common.{◌≡◌, ℕ, zero, suc, ◌+◌, ◌<◌, ◌≤◌, List, [], ◌∷◌, ◌++◌, map, length, drop, get_or, reverse, length-append, Bor, refl, sym, ap, ◌∙◌, subst, arith}
 use Rattle.std.specs.Prelude.{Option}
 use Rattle.std.proofs.lemmas.List.{map-append, length-map, drop_all}
 use Rattle.just_lang_syntax.specs.declared.ast.StringLiteral.{StringLiteral}
 use Rattle.just_lang_types.specs.declared.project.Justfile.{Justfile}
 use Rattle.just_lang_types.specs.Modules.{modules_of, AreModules}
+use Rattle.just_lang_types.proofs.Nesting.{same_modules}
 use Rattle.just_lang_layout.specs.declared.layout.File.{File}
 use Rattle.just_lang_layout.specs.declared.layout.Layout.{Layout}
 use Rattle.just_lang_layout.specs.declared.layout.Module.{Module}
@@ -14,10 +15,12 @@ use Rattle.just_lang_spots.proofs.ListLaws.{drop_here}
 use Rattle.just_print_lists.specs.declared.listed.ListedModule.{ListedModule}
 use Rattle.just_print_lists.specs.Listed.{modules_of as inner_of}
 use Rattle.just_print_tree.specs.declared.branch.Built.{Built}
+use Rattle.just_print_tree.specs.declared.told.Told.{Told}
 use Rattle.just_print_tree.specs.Told.{ToldRecipe, told_of, told_each}
-use Rattle.just_print_tree.specs.Branches.{Branch, module_spots, IsListed, IsBranch, AreListed, IsTreeOf}
-use Rattle.just_print_tree.specs.Kept.{branch, branches, AreTaken, IsGrown, AreGrown}
+use Rattle.just_print_tree.specs.Branches.{Branch, module_spots, IsListed, IsBranch, AreListed, IsTreeOf, HasModulesOf}
+use Rattle.just_print_tree.specs.Kept.{branch, branches, tolds, AreTaken, IsGrown, AreGrown}
 use Rattle.just_print_tree.proofs.Branching.{long, branches_turned}
+use Rattle.just_print_tree.proofs.ToldLaws.{justfiles}
 
 abbrev justfile_of : Branch → Justfile
 justfile_of b = b.justfile
@@ -133,11 +136,32 @@ grown_so text_of files all own m j count before middle new trees spots built tak
 
 -- ---- the whole tree
 
+-- the modules of a slice are those that were listed
+pub sliced : (j : Justfile) (found js : List (Bor Justfile)) → js ≡ found → AreModules (j ∷ []) (justfiles found) → AreModules (j ∷ []) (justfiles js)
+sliced j found js same are = subst (λ (l : List (Bor Justfile)). AreModules (j ∷ []) (justfiles l)) (sym same) are
+
+-- a layout has as many modules as were listed
+pub as_many : (layout : Layout) (ms : List Module) (j : Justfile) (js : List (Bor Justfile)) → HasModulesOf layout.modules j → ms ≡ layout.modules → AreModules (j ∷ []) (justfiles js) → length ms ≡ length js
+as_many layout ms j js has ms_are are =
+    let so_many : length has.0 ≡ length (justfiles js) = ap (λ (l : List Justfile). length l) (same_modules (j ∷ []) has.0 (justfiles js) has.1 are) in
+    ap (λ (l : List Module). length l) ms_are ∙ sym has.2 ∙ so_many ∙ length-map js (λ (i : Bor Justfile). i.now)
+
 no_more : (bs : List Branch) → map justfile_of bs ≡ [] → bs ≡ []
 no_more [] h = refl
 no_more (b ∷ bs) h = absurd (let no : ⊥ = cc in no)
 
 module _ (text_of : StringLiteral → Option (List ℕ)) (wins : Wins) (layout : Layout) where
+  -- the same of what the layout has
+  pub grown_there : (files : List File) (ms : List Module) (js : List Justfile) (all : List (List ToldRecipe)) (bs : List Branch) → files ≡ layout.files → ms ≡ layout.modules
+      → AreGrown text_of wins files all ms js bs → AreGrown text_of wins layout.files all layout.modules js bs
+  grown_there files ms js all bs files_are ms_are g =
+      subst (λ (l : List File). AreGrown text_of wins l all layout.modules js bs) files_are (subst (λ (l : List Module). AreGrown text_of wins files all l js bs) ms_are g)
+
+  pub told_there : (files : List File) (ms : List Module) (js : List Justfile) (kept all : List (List Told)) → files ≡ layout.files → ms ≡ layout.modules → all ≡ kept
+      → map tolds kept ≡ told_each wins files ms js → map tolds all ≡ told_each wins layout.files layout.modules js
+  told_there files ms js kept all files_are ms_are same all_is =
+      ap (λ (l : List (List Told)). map tolds l) same ∙ all_is ∙ ap (λ (l : List File). told_each wins l ms js) files_are ∙ ap (λ (l : List Module). told_each wins layout.files l js) ms_are
+
   -- the last branch that was made is that of the root, and there is no other one
   pub tree_is : (js : List Justfile) (all : List (List ToldRecipe)) (j : Justfile) (b : Branch) (bs : List Branch) → AreModules (j ∷ []) js → all ≡ told_each wins layout.files layout.modules js
       → AreGrown text_of wins layout.files all layout.modules js (b ∷ bs) → IsTreeOf text_of wins layout j b.listed

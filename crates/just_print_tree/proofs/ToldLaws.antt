@@ -43,11 +43,13 @@ told_long wins files (m ∷ ms) [] same = absurd (omega (arith, same))
 told_long wins files (m ∷ ms) (j ∷ js) same = ap suc (told_long wins files ms js (omega (arith, same)))
 
 -- the same by what the code keeps
+pub kept_long : (wins : Wins) (files : List File) (ms : List Module) (js : List Justfile) (kept : List (List Told)) → length ms ≡ length js → map tolds kept ≡ told_each wins files ms js → length kept ≡ length ms
+kept_long wins files ms js kept so_many are = sym (length-map kept tolds) ∙ ap (λ (l : List (List ToldRecipe)). length l) are ∙ told_long wins files ms js so_many
+
 pub told_at_place : (wins : Wins) (files : List File) (ms : List Module) (js : List Justfile) (n : ℕ) (m : Module) (j : Justfile) (kept : List (List Told)) (own same : List Told) → n < length ms → length ms ≡ length js
     → m ≡ get_or ms n m → j ≡ get_or js n j → map tolds kept ≡ told_each wins files ms js → own ≡ get_or kept n own → same ≡ own → tolds same ≡ told_of wins files m j
 told_at_place wins files ms js n m j kept own same lt so_many is there are here so =
-    let whole : length kept ≡ length (told_each wins files ms js) = sym (length-map kept tolds) ∙ ap (λ (l : List (List ToldRecipe)). length l) are in
-    let less : n < length kept = omega (arith, lt, whole, told_long wins files ms js so_many) in
+    let less : n < length kept = omega (arith, lt, kept_long wins files ms js kept so_many are) in
     ap tolds so ∙ read_map tolds kept n own less here ∙ ap (λ (l : List (List ToldRecipe)). get_or l n (tolds own)) are ∙ told_here wins files ms js n m j (tolds own) lt so_many is there
 
 -- those from a place on
@@ -59,7 +61,8 @@ told_from wins files (x ∷ ms) (y ∷ js) zero m j lt same a b =
     ap (λ z. told_of wins files z y ∷ told_each wins files ms js) (sym a) ∙ ap (λ z. told_of wins files m z ∷ told_each wins files ms js) (sym b)
 told_from wins files (x ∷ ms) (y ∷ js) (suc n) m j lt same a b = told_from wins files ms js n m j (omega (arith, lt)) (omega (arith, same)) a b
 
-abbrev justfiles : List (Bor Justfile) → List Justfile
+-- what the code lists of justfiles
+abbrev pub justfiles : List (Bor Justfile) → List Justfile
 justfiles js = map (λ (j : Bor Justfile). j.now) js
 
 -- one more module

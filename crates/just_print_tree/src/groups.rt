@@ -133,7 +133,6 @@ fn push_each_new(found: &mut Vec<Text>, texts: &[Text]) -> Result<(), NoMemory>
 }
 
 /// The groups that items at some places name, each once, in the order of the items.
-#[tactic(auto, using(crate::proofs::GroupLaws::once_behind))]
 pub(crate) fn groups_among<T: Texts>(
     alloc: Global,
     texts: &T,

@@ -18,6 +18,8 @@ mod sources;
 mod text_rows;
 mod texts;
 
+use just_lang_types::Source;
+use just_lang_types::project::LangError;
 use rows_common::{Wrong, at};
 use serde_json::{Error, Value};
 use std::alloc::Global;
@@ -42,8 +44,18 @@ pub(crate) fn agrees(alloc: Global, file: &str, fields: &[&str]) -> Result<bool,
     agrees
 }
 
-/// The value of a row's text.
-fn value_of(alloc: Global, row: &str) -> Result<Value, Wrong> {
+/// The sources of a row's `files`, as a row of `rules.jsonl` has them. It promises nothing beyond safety.
+pub(crate) fn sources_of(alloc: Global, row: &Value) -> Result<Vec<Source>, Wrong> {
+    rule_rows::sources(alloc, row)
+}
+
+/// The message of a rule, or of a path that leads nowhere. It promises nothing beyond safety.
+pub(crate) fn message_of(alloc: Global, error: &LangError) -> Result<String, Wrong> {
+    message::message(alloc, error)
+}
+
+/// The value of a row's text. It promises nothing beyond safety.
+pub(crate) fn value_of(alloc: Global, row: &str) -> Result<Value, Wrong> {
     match Value::from_str(alloc, row) {
         Ok(value) => Ok(value),
         Err(refused) => Err(if Error::is_memory(&refused) {

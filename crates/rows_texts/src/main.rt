@@ -1,5 +1,6 @@
-//! Compares the answers of the libraries of texts, `just_path`, `just_expand`, `just_dotenv` and `just_config_words`, and of the language
-//! (`language`) with rows of files: each argument names a file of such rows, and the end of the file's name tells what kind they are.
+//! Compares the answers of the libraries of texts, `just_path`, `just_expand`, `just_dotenv` and `just_config_words`, of the language
+//! (`language`) and of the printers (`listings`) with rows of files: each argument names a file of such rows, and the end of the file's name
+//! tells what kind they are.
 #![tactic(auto)]
 
 mod answer;
@@ -9,6 +10,7 @@ mod dotenv_rows;
 mod expansion_rows;
 mod json;
 mod language;
+mod listings;
 mod pairs;
 mod paths;
 mod row;
@@ -43,6 +45,8 @@ impl Compare for TextRows {
             expansion_rows::agrees(alloc, &self.expansions, fields)
         } else if file.ends_with("dotenv.tsv") {
             dotenv_rows::agrees(alloc, &self.dotenv, fields)
+        } else if listings::is_read(file) {
+            listings::agrees(alloc, fields)
         } else if language::is_read(file) {
             language::agrees(alloc, file, fields)
         } else {

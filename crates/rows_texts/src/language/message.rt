@@ -1,4 +1,4 @@
-//! The messages of broken rules.
+//! The messages of broken rules, and of paths that lead nowhere.
 
 use super::page::Page;
 use just_lang_types::project::LangError;
@@ -60,6 +60,42 @@ fn push_of_files(page: &mut Page, error: &LangError) -> bool {
     true
 }
 
+/// Adds a name between backquotes, with texts around it.
+fn push_naming(page: &mut Page, front: &str, name: &str, back: &str) {
+    page.push(front);
+    page.push("`");
+    page.push(name);
+    page.push("`");
+    page.push(back);
+}
+
+/// Adds the message of a path that leads nowhere; whether it is of one.
+fn push_of_paths(page: &mut Page, error: &LangError) -> bool {
+    match error {
+        LangError::UnknownRecipe { recipe } => {
+            push_naming(
+                page,
+                "justfile does not contain recipe ",
+                recipe.as_str(),
+                "",
+            );
+        }
+        LangError::UnknownSubmodule { path } => {
+            push_naming(
+                page,
+                "justfile does not contain submodule ",
+                path.as_str(),
+                "",
+            );
+        }
+        LangError::ModuleAbsent { module } => {
+            push_naming(page, "optional module ", module.as_str(), " is absent");
+        }
+        _ => return false,
+    }
+    true
+}
+
 /// Adds the message of a rule on texts.
 fn push_of_texts(page: &mut Page, error: &LangError) -> Result<(), Wrong> {
     match error {
@@ -78,11 +114,11 @@ fn push_of_texts(page: &mut Page, error: &LangError) -> Result<(), Wrong> {
     }
 }
 
-/// The message of a rule.
+/// The message of a rule, or of a path that leads nowhere.
 pub(crate) fn message(alloc: Global, error: &LangError) -> Result<String, Wrong> {
     let mut page = Page::new(alloc);
     page.push("error: ");
-    if !push_of_files(&mut page, error) {
+    if !push_of_files(&mut page, error) && !push_of_paths(&mut page, error) {
         push_of_texts(&mut page, error)?;
     }
     page.finished()

@@ -70,8 +70,8 @@ fn push_all(alloc: Global, sources: &mut Vec<Source>, files: &Value) -> Result<(
     push_files(alloc, sources, files, false)
 }
 
-/// The sources of a row.
-fn sources(alloc: Global, row: &Value) -> Result<Vec<Source>, Wrong> {
+/// The sources of a row. It promises nothing beyond safety.
+pub(crate) fn sources(alloc: Global, row: &Value) -> Result<Vec<Source>, Wrong> {
     let Some(files) = row.get("files") else {
         return Err(Wrong::Form);
     };

@@ -1,0 +1,2 @@
+-- The lemmas of the rows.
+pub mod ModuleCounts
