@@ -134,17 +134,26 @@ fn kept_names<'j>(alloc: Global, row: &Value, names: &'j [Text]) -> Result<Vec<&
     Ok(kept)
 }
 
-/// The names of a row as a call orders or picks them.
+/// Names as a call orders or picks them.
+fn picked<'j>(
+    alloc: Global,
+    row: &Value,
+    call: &str,
+    names: &'j [Text],
+) -> Result<Vec<&'j Text>, Wrong> {
+    match call {
+        "all_of" => Ok(all_of(alloc, names)?),
+        "by_name" => Ok(by_name(alloc, names)?),
+        "in_order" => Ok(in_order(alloc, flag_of(row, "unsorted")?, names)?),
+        "public_by_name" => Ok(public_by_name(alloc, names)?),
+        "push_where" => kept_names(alloc, row, names),
+        _ => Err(Wrong::Form),
+    }
+}
+
+/// The names of a row on a line, as a call orders or picks them.
 fn ordered(alloc: Global, row: &Value, call: &str) -> Result<String, Wrong> {
     let names = texts_of(alloc, row, "names")?;
-    let unsorted = flag_of(row, "unsorted")?;
-    let found = match call {
-        "all_of" => all_of(alloc, names.as_slice())?,
-        "by_name" => by_name(alloc, names.as_slice())?,
-        "in_order" => in_order(alloc, unsorted, names.as_slice())?,
-        "public_by_name" => public_by_name(alloc, names.as_slice())?,
-        "push_where" => kept_names(alloc, row, names.as_slice())?,
-        _ => return Err(Wrong::Form),
-    };
+    let found = picked(alloc, row, call, names.as_slice())?;
     line_of(alloc, found.as_slice())
 }
