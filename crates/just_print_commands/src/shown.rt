@@ -2,7 +2,7 @@
 ghost use Rattle.std.specs.Prelude.{◌≡◌, ◌≢◌, ◌++◌, [], Ok, Err, IfOk, IfErr, string_bytes};
 ghost use Rattle.std.specs.Option.{option_copied, unwrap_or};
 ghost use Rattle.just_lang_types.specs.declared.project.LangError.TheVariants as lang_error;
-ghost use Rattle.just_eval_words.specs.Names.{Target};
+ghost use Rattle.just_eval_words.specs.Names as lookup;
 ghost use Rattle.just_eval_words.specs.Sights.{located_of};
 ghost use Rattle.just_print_lists.specs.LongUsages.{alias_line};
 ghost use Rattle.just_print_tree.specs.Kept.{told};
@@ -89,7 +89,7 @@ fn recipe_at<'p>(
     names: &[Text],
 ) -> Result<Found<'p>, ShowError>
     ensures found { IfOk result (λ f.
-        named_of (parts project.entry) names.now ≡ Ok (Target.to_recipe (located_of f))) }
+        named_of (parts project.entry) names.now ≡ Ok (lookup.Target.to_recipe (located_of f))) }
     ensures refused { IfErr result (IsUnshown (parts project.entry) names.now) }
 {
     match named_target(alloc, project.justfiles, project.root, names)? {
