@@ -82,7 +82,7 @@ fn line_at(
 }
 
 /// The recipe that names lead to.
-#[tactic(auto, using(crate::proofs::Leading::unshown_path, crate::proofs::Leading::unshown_module))]
+#[tactic(auto, using(crate::proofs::Leading::unshown_path))]
 fn recipe_at<'p>(
     alloc: Global,
     project: Project<'_, '_, 'p, '_, '_, '_>,
@@ -99,7 +99,7 @@ fn recipe_at<'p>(
 }
 
 /// The recipe that names lead to, and the line of the alias that the last of them is, where it is one.
-#[tactic(auto, using(crate::proofs::Leading::unshown_none, crate::proofs::Leading::unshown_front, crate::proofs::Leading::found_so))]
+#[tactic(auto, using(crate::proofs::Leading::found_so))]
 fn found_at<'p>(
     alloc: Global,
     project: Project<'_, '_, 'p, '_, '_, '_>,
@@ -113,7 +113,10 @@ fn found_at<'p>(
         return Err(ShowError::Required);
     };
     let found = recipe_at(alloc, project, names)?;
-    let line = line_at(alloc, project, front, last.as_str())?;
+    let line = match line_at(alloc, project, front, last.as_str()) {
+        Ok(line) => line,
+        Err(e) => return Err(ShowError::Path(e)),
+    };
     Ok((found, line))
 }
 
