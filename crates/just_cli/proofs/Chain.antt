@@ -17,7 +17,6 @@ use Rattle.just_exec.specs.Refusals.{error_of_search}
 use Rattle.just_exec.specs.declared.error.Error.{Error}
 use Rattle.just_cli_plan.specs.declared.wanted.Wanted.{Wanted}
 use Rattle.just_cli_plan.specs.Own.{OrMemory, uncaptured_by, is_uncaptured}
-use Rattle.just_cli_plan.proofs.Listed.{modules_listed}
 use Rattle.just_lang_types.specs.declared.project.Justfile.{Justfile}
 use Rattle.just_lang_types.specs.declared.scope.DotenvOf.{DotenvOf}
 use Rattle.just_lang_types.specs.Modules.{AreModules, settings_of}
@@ -31,19 +30,21 @@ use Rattle.just_env.specs.Loads.{IsShellOf}
 use Rattle.just_exec.specs.declared.error.Error.TheVariants as error
 use Rattle.just_cli_plan.specs.Pairs.{LoadsPairs, BeginsLoading, Runs, Leaves, ErrorLeaves, entries_of as entries_in}
 use Rattle.just_cli.specs.Faults.{entries_of}
-use Rattle.just_cli_plan.specs.Request.{SourcesRequest, ProjectRequest, LoadedRequest, Outline, FindsProject, PlansProject}
-use Rattle.just_cli.specs.NewPath.{is_init, FindsFree}
-use Rattle.just_cli.specs.Acts.{Act, AreActs, folders_in, captures_in, uncaptured_in, Behind, BeginsBehind}
+use Rattle.just_cli_plan.specs.Request.{SourcesRequest, LoadedRequest, FindsProject}
+use Rattle.just_cli_texts.specs.Laid.{LaidSources, LaidRequest, FindsLaid}
+use Rattle.just_cli.specs.Acts.{Act, AreActs, Looks, folders_in, captures_in, uncaptured_in, Behind, BeginsBehind}
 use Rattle.just_cli.specs.Preparing.{AreMisses, EndsWith, IsProgram, Answers, Performs}
-use Rattle.just_cli.specs.Taken.{TakesWanted, PlansIt, BeginsIt, PerformsPlan}
+use Rattle.just_cli.specs.Replies.{Reply}
+use Rattle.just_cli.specs.Taken.{TakesWanted, BeginsIt, PerformsProject, PerformsReply}
 use Rattle.just_cli.specs.declared.task.Other.TheVariants as no_run
-use Rattle.just_cli.specs.Asked.{Asked, as_run, Searches, Decides, Serves, EnvironGiven, FolderGiven, Asks, AsksGlobal, BeginsServes, Begins as BeginsWords}
-use Rattle.just_cli.specs.Request.{acts_of_fault, AreActsOf, FindsProjectOf, AnswersAt, Tries, BeginsAt, BeginsTries}
+use Rattle.just_cli.specs.Asked.{Asked, Decides, Serves, EnvironGiven, FolderGiven, Asks, AsksGlobal, BeginsServes, Begins as BeginsWords}
+use Rattle.just_cli.specs.Request.{acts_of_fault, AreActsOf, FindsProjectOf, FindsProjectAt, WithModules, LoadsPairs as LoadsStep, RepliesTo, AnswersAt, BeginsProject, BeginsAt}
+use Rattle.just_cli.specs.Tasks.{BeginsDecides}
 use Rattle.just_cli.proofs.Acting.{no_fault}
 use Rattle.just_cli.proofs.Altering.{altered_same, quiet_rest}
 use Rattle.just_cli.proofs.Prepared.{acts_append, left_nothing, performs_as, performs_lost, performs_looking, performs_then, performs_behind}
 use Rattle.just_cli_plan.specs.Steps.{stops, goes_on}
-use Rattle.just_cli.specs.Words.{WordsRequest, ReadRequest, ArgumentsRequest, FolderRequest, ConfigRequest, LocatedRequest, JustfileRequest, ReadsWords, Configures, FindsLocation, BeginsIn}
+use Rattle.just_cli.specs.Words.{WordsRequest, ReadRequest, ArgumentsRequest, FolderRequest, ConfigRequest, LocatedRequest, JustfileRequest, ReadsWords, Configures, BeginsIn}
 
 -- ---- what is known
 
@@ -71,8 +72,8 @@ justfile_in wanted environ justfile = record { wanted = wanted; environ = enviro
 abbrev pub sources_in : Wanted → Environ → List Source → SourcesRequest
 sources_in wanted environ sources = record { wanted = wanted; environ = environ; sources = sources }
 
-abbrev pub project_in : Wanted → Environ → Justfile → List Justfile → ProjectRequest
-project_in wanted environ j modules = record { wanted = wanted; environ = environ; justfile = j; modules = modules }
+abbrev pub laid_in : Wanted → Environ → LaidSources → LaidRequest
+laid_in wanted environ l = record { wanted = wanted; environ = environ; laid = l }
 
 abbrev loaded_in : Wanted → Environ → Justfile → List Justfile → List DotenvOf → LoadedRequest
 loaded_in wanted environ j modules dotenv = record { wanted = wanted; environ = environ; justfile = j; modules = modules; dotenv = dotenv }
@@ -87,12 +88,11 @@ module _ (told : Option World) (wanted : Wanted) (environ : Environ) (justfile :
 
   module _ (sources : List Source) (loads : Loads told environ.pairs [] (justfile ∷ []) (Ok sources)) where
     -- what its sources make is the answer
-    sources_make : (r : Result ProjectRequest Error) → FindsProject (sources_in wanted environ sources) r → FindsProjectOf told (justfile_in wanted environ justfile) r
+    sources_make : (r : Result LaidRequest Error) → FindsLaid (sources_in wanted environ sources) r → FindsProjectOf told (justfile_in wanted environ justfile) r
     sources_make r finds = goes_on (sources_in wanted environ sources) (refl, refl, loads) finds
 
-    pub project_made : (j : Justfile) → ((ms : List Justfile) → AreModules (j ∷ []) ms → FindsProject (sources_in wanted environ sources) (Ok (project_in wanted environ j ms)))
-        → (ms : List Justfile) → AreModules (j ∷ []) ms → FindsProjectOf told (justfile_in wanted environ justfile) (Ok (project_in wanted environ j ms))
-    project_made j finds ms are = sources_make (Ok (project_in wanted environ j ms)) (finds ms are)
+    pub project_made : (l : LaidSources) → FindsLaid (sources_in wanted environ sources) (Ok (laid_in wanted environ l)) → FindsProjectOf told (justfile_in wanted environ justfile) (Ok (laid_in wanted environ l))
+    project_made l finds = sources_make (Ok (laid_in wanted environ l)) finds
 
     pub project_unmade : (e : Error) → OrMemory (λ x. FindsProject (sources_in wanted environ sources) (Err x)) e → OrMemory (λ x. FindsProjectOf told (justfile_in wanted environ justfile) (Err x)) e
     project_unmade e (inl wants) = inl wants
@@ -152,9 +152,26 @@ captured_still : (old new : Option World) (e : Error) → is_uncaptured e ≡ fa
 captured_still old new (error.DotenvCommand command (output.Io io)) captured left = absurd (true≢false captured)
 captured_still old new _ captured left = left
 
-module _ (before after : Moment) (wanted : Wanted) (environ : Environ) (j : Justfile) where
+-- of what the answer is that stands behind them, `looks` says
+module _ {B : Type 0} (looks : LoadedRequest → Result B Error → Type 0) (before after : Moment) (q : LaidRequest) where
+  abbrev wanted : Wanted
+  wanted = q.wanted
+
+  abbrev environ : Environ
+  environ = q.environ
+
+  abbrev j : Justfile
+  j = q.laid.justfile
+
   abbrev Begins : List Act → Option World → Type 0
-  Begins acts world = BeginsIt wanted environ j before.world acts world
+  Begins acts world = BeginsIt q before.world acts world
+
+  -- the answer by the list of the modules, and a part of a preparation that gives it
+  abbrev GivesIt : List Act → Option World → Result B Error → Type 0
+  GivesIt acts world r = WithModules (Behind LoadsStep (Looks (λ now. looks))) before.world acts world q r
+
+  abbrev pub PerformsIt : Result B Error → Type 0
+  PerformsIt r = Performs GivesIt Begins before after [] [] r
 
   -- the pairs, as a part of a preparation
   abbrev LoadsIt : List Act → Option World → Result (List DotenvOf) Error → Type 0
@@ -176,7 +193,7 @@ module _ (before after : Moment) (wanted : Wanted) (environ : Environ) (j : Just
     leaves = (es, children_acts cs es are, refl, all_run cs);
     folders = sym (no_folders cs);
     answers = (cs, refl, loads, left);
-    begun = λ modules. (cs, refl, left, begun);
+    begun = (cs, refl, left, begun);
     still = λ none alone quiet. left ∙ same_behind cs (sym (all_captured cs) ∙ alone);
     alters = λ nodes alone quiet. altered_same (folders_in (map Act.captured cs)) nodes before.world after.world (left ∙ same_behind cs (sym (all_captured cs) ∙ alone));
   }
@@ -194,7 +211,7 @@ module _ (before after : Moment) (wanted : Wanted) (environ : Environ) (j : Just
     leaves = (es, path, fault_acts path cs (uncaptured_by e) es are, refl, fault_program path cs e (uncaptured_by e) refl);
     folders = sym (fault_folders path cs (uncaptured_by e));
     answers = or_pairs cs path e shells why left;
-    begun = λ captured modules. (cs, no_fault cs path (uncaptured_by e) captured, captured_still (told_behind before.world cs) after.world e captured left, begun);
+    begun = λ captured. (cs, no_fault cs path (uncaptured_by e) captured, captured_still (told_behind before.world cs) after.world e captured left, begun);
     still = λ none alone quiet.
         error_still (told_behind before.world cs) after.world path e left (quiet_rest is_failed es (entries_in path e) quiet) ∙ same_behind cs (sym (fault_captured path cs (uncaptured_by e)) ∙ alone);
     alters = λ nodes alone quiet.
@@ -204,30 +221,29 @@ module _ (before after : Moment) (wanted : Wanted) (environ : Environ) (j : Just
 
   module _ (modules : List Justfile) (are : AreModules (j ∷ []) modules) where
     -- the dotenv pairs aren't loaded
-    lost_so : (acts : List Act) (e : Error) → OrMemory (λ x. LoadsIt acts after.world (Err x)) e → OrMemory (λ x. PlansIt wanted environ j before.world acts after.world (Err x)) e
+    lost_so : (acts : List Act) (e : Error) → OrMemory (λ x. LoadsIt acts after.world (Err x)) e → OrMemory (λ x. GivesIt acts after.world (Err x)) e
     lost_so acts e (inl wants) = inl wants
     lost_so acts e (inr (cs, is, loads, left)) = inr (modules, are, Behind.refused e (cs, is, loads, left) refl)
 
-    pub no_pairs : (e : Error) → Loaded (Err e) → PerformsPlan wanted environ j before after (Err e)
-    no_pairs e runs = performs_lost LoadsIt (PlansIt wanted environ j before.world) Begins Begins before after [] [] e (pairs_lost e runs) (λ acts why. lost_so acts e why) (λ acts b. b)
+    pub no_pairs : (e : Error) → Loaded (Err e) → PerformsIt (Err e)
+    no_pairs e runs = performs_lost LoadsIt GivesIt Begins Begins before after [] [] e (pairs_lost e runs) (λ acts why. lost_so acts e why) (λ acts b. b)
 
     module _ (pairs seen : List DotenvOf) (same : seen ≡ pairs) where
-      behind_pairs : (acts : List Act) (r : Result Outline Error) → LoadsIt acts after.world (Ok pairs) → PlansProject (loaded_in wanted environ j modules seen) r → PlansIt wanted environ j before.world acts after.world r
-      behind_pairs acts r (cs, is, loads, left) plans =
-          (modules, are, Behind.both (loaded_in wanted environ j modules pairs) acts [] after.world (cs, is, (refl, refl, refl, refl, loads), left) (refl, refl, subst (λ ps. PlansProject (loaded_in wanted environ j modules ps) r) same plans) (sym (append-nil acts)))
+      behind_pairs : (acts : List Act) (r : Result B Error) → LoadsIt acts after.world (Ok pairs) → looks (loaded_in wanted environ j modules seen) r → GivesIt acts after.world r
+      behind_pairs acts r (cs, is, loads, left) gives =
+          (modules, are, Behind.both (loaded_in wanted environ j modules pairs) acts [] after.world (cs, is, (refl, refl, refl, refl, loads), left) (refl, refl, subst (λ ps. looks (loaded_in wanted environ j modules ps) r) same gives) (sym (append-nil acts)))
 
-      or_behind : (acts : List Act) (e : Error) → LoadsIt acts after.world (Ok pairs) → OrMemory (λ x. (ms : List Justfile) → AreModules (j ∷ []) ms → PlansProject (loaded_in wanted environ j ms seen) (Err x)) e → OrMemory (λ x. PlansIt wanted environ j before.world acts after.world (Err x)) e
+      or_behind : (acts : List Act) (e : Error) → LoadsIt acts after.world (Ok pairs) → OrMemory (λ x. (ms : List Justfile) → AreModules (j ∷ []) ms → looks (loaded_in wanted environ j ms seen) (Err x)) e → OrMemory (λ x. GivesIt acts after.world (Err x)) e
       or_behind acts e loads (inl wants) = inl wants
-      or_behind acts e loads (inr plans) = inr (behind_pairs acts (Err e) loads (plans modules are))
+      or_behind acts e loads (inr gives) = inr (behind_pairs acts (Err e) loads (gives modules are))
 
-      pub loaded_plan : (o : Outline) → Loaded (Ok pairs) → ((ms : List Justfile) → AreModules (j ∷ []) ms → PlansProject (loaded_in wanted environ j ms seen) (Ok o)) → PerformsPlan wanted environ j before after (Ok o)
-      loaded_plan o runs plans =
-          performs_as LoadsIt (PlansIt wanted environ j before.world) Begins Begins before after [] [] pairs o (pairs_part pairs runs) (λ acts loads. behind_pairs acts (Ok o) loads (plans modules are)) (λ acts b. b)
+      pub loaded_answer : (x : B) → Loaded (Ok pairs) → ((ms : List Justfile) → AreModules (j ∷ []) ms → looks (loaded_in wanted environ j ms seen) (Ok x)) → PerformsIt (Ok x)
+      loaded_answer x runs gives =
+          performs_as LoadsIt GivesIt Begins Begins before after [] [] pairs x (pairs_part pairs runs) (λ acts loads. behind_pairs acts (Ok x) loads (gives modules are)) (λ acts b. b)
 
-      pub loaded_refused : (e : Error) → entries_of e ≡ [] → Loaded (Ok pairs) → OrMemory (λ x. (ms : List Justfile) → AreModules (j ∷ []) ms → PlansProject (loaded_in wanted environ j ms seen) (Err x)) e
-          → PerformsPlan wanted environ j before after (Err e)
+      pub loaded_refused : (e : Error) → entries_of e ≡ [] → Loaded (Ok pairs) → OrMemory (λ x. (ms : List Justfile) → AreModules (j ∷ []) ms → looks (loaded_in wanted environ j ms seen) (Err x)) e → PerformsIt (Err e)
       loaded_refused e silent runs why =
-          performs_looking LoadsIt (PlansIt wanted environ j before.world) Begins Begins before after after [] [] pairs (Err e) (pairs_part pairs runs) refl (left_nothing after.entries e silent) (λ acts loads. or_behind acts e loads why) (λ acts b. b)
+          performs_looking LoadsIt GivesIt Begins Begins before after after [] [] pairs (Err e) (pairs_part pairs runs) refl (left_nothing after.entries e silent) (λ acts loads. or_behind acts e loads why) (λ acts b. b)
 
 -- a refusal of arguments over a host, and of words, or want of memory
 abbrev pub RefusesRun : Option World → List Entry → List Act → Option World → Arguments → Environ → Error → Type 0
@@ -236,90 +252,84 @@ RefusesRun told listings acts after a environ e = OrMemory (λ f. Serves listing
 abbrev pub RefusesOver : List (List ℕ) → Option World → List Entry → List Act → Option World → Error → Type 0
 RefusesOver words told listings acts after e = OrMemory (λ f. Asks words told listings acts after (Err f)) e
 
--- ---- the justfile in a place
+-- ---- the project of the justfile in a place
 
-module _ (config : Config) (environ : Environ) (location : Location) (told : Option World) where
-  abbrev pub AsksAt : Bool → List Act → Option World → Result Outline Error → Type 0
-  AsksAt fallback acts after r = AnswersAt told acts after (located_in config environ location) r fallback
-
-  abbrev pub BeginsHere : List Act → Option World → Type 0
-  BeginsHere acts after = BeginsAt told acts after (located_in config environ location)
-
-  -- there is no file
-  pub no_file : (acts : List Act) (after : Option World) (e : Error) → OrMemory (λ x. TakesWanted config location told acts after (Err x)) e → OrMemory (λ x. AsksAt false acts after (Err x)) e
-  no_file acts after e (inl wants) = inl wants
-  no_file acts after e (inr lost) = inr (AnswersAt.no_project e (Behind.refused e (lost environ) refl) refl refl)
-
-  module _ (wanted : Wanted) (justfile : List ℕ) (between : Option World) where
-    -- its project isn't made
-    no_project : (acts : List Act) (after : Option World) (e : Error) → after ≡ between → TakesWanted config location told acts between (Ok (wanted, justfile)) → OrMemory (λ x. FindsProjectOf between (justfile_in wanted environ justfile) (Err x)) e
-        → OrMemory (λ x. AsksAt false acts after (Err x)) e
-    no_project acts after e world takes (inl wants) = inl wants
-    no_project acts after e world takes (inr lost) =
-        inr (AnswersAt.no_project e (Behind.both (justfile_in wanted environ justfile) acts [] between (takes environ) (refl, world, lost) (sym (append-nil acts))) refl refl)
-
-    module _ (middle : Option World) (still : middle ≡ between) (j : Justfile) (finds : (ms : List Justfile) → AreModules (j ∷ []) ms → FindsProjectOf between (justfile_in wanted environ justfile) (Ok (project_in wanted environ j ms)))
-        (fallback : Bool) (is : fallback ≡ (settings_of j).fallback) where
-      -- what is asked of its project is what is asked of it
-      answers : (acts more : List Act) (after : Option World) (r : Result Outline Error) → TakesWanted config location told acts between (Ok (wanted, justfile)) → PlansIt wanted environ j middle more after r → AsksAt fallback (acts ++ more) after r
-      answers acts more after r takes (ms, are, plans) =
-          AnswersAt.of_project (project_in wanted environ j ms) acts more middle
-          (Behind.both (justfile_in wanted environ justfile) acts [] between (takes environ) (refl, still, finds ms are) (sym (append-nil acts))) plans refl is
-
-      -- and what was begun of its project was begun of it
-      pub begun_behind : (acts more : List Act) (after : Option World) → TakesWanted config location told acts between (Ok (wanted, justfile)) → BeginsIt wanted environ j middle more after → BeginsHere (acts ++ more) after
-      begun_behind acts more after takes begins =
-          let ms = modules_listed j in
-          BeginsBehind.at_second (project_in wanted environ j ms.0) acts more middle
-          (Behind.both (justfile_in wanted environ justfile) acts [] between (takes environ) (refl, still, finds ms.0 ms.1) (sym (append-nil acts))) (begins ms.0) refl
-
-      pub all_answers : (acts more : List Act) (after : Option World) (r : Result Outline Error) → TakesWanted config location told acts between (Ok (wanted, justfile)) → Answers (PlansIt wanted environ j middle more after) r → Answers (AsksAt fallback (acts ++ more) after) r
-      all_answers acts more after (Ok o) takes plans = answers acts more after (Ok o) takes plans
-      all_answers acts more after (Err e) takes (inl wants) = inl wants
-      all_answers acts more after (Err e) takes (inr plans) = inr (answers acts more after (Err e) takes plans)
-
--- the parts of a preparation
 module _ (config : Config) (environ : Environ) (location : Location) (before : Moment) (kept : List (List ℕ)) where
+  abbrev here : LocatedRequest
+  here = located_in config environ location
+
   abbrev Takes : List Act → Option World → Result (Wanted × List ℕ) Error → Type 0
   Takes = TakesWanted config location before.world
 
   abbrev BeginsTaking : List Act → Option World → Type 0
   BeginsTaking = BeginsIn config location before.world
 
+  abbrev Finds : List Act → Option World → Result LaidRequest Error → Type 0
+  Finds acts world r = FindsProjectAt before.world acts world here r
+
+  abbrev BeginsFinding : List Act → Option World → Type 0
+  BeginsFinding acts world = BeginsProject before.world acts world here
+
+  -- there is no file
+  no_file : (acts : List Act) (after : Option World) (e : Error) → OrMemory (λ x. Takes acts after (Err x)) e → OrMemory (λ x. Finds acts after (Err x)) e
+  no_file acts after e (inl wants) = inl wants
+  no_file acts after e (inr lost) = inr (Behind.refused e (lost environ) refl)
+
+  pub place_untaken : (after : Moment) (keeps : List (List ℕ)) (e : Error) → Performs {A = Wanted × List ℕ} Takes BeginsTaking before after kept keeps (Err e) → PerformsProject here before after kept keeps (Err e)
+  place_untaken after keeps e p = performs_lost Takes Finds BeginsTaking BeginsFinding before after kept keeps e p (λ acts lost. no_file acts after.world e lost) (λ acts b. BeginsBehind.at_first b)
+
+  module _ (between after : Moment) (keeps : List (List ℕ)) (wanted : Wanted) (justfile : List ℕ) (taken : Performs {A = Wanted × List ℕ} Takes BeginsTaking before between kept keeps (Ok (wanted, justfile))) (still : after.world ≡ between.world) where
+    -- what its file makes is what is found
+    found_here : (acts : List Act) (r : Result LaidRequest Error) → Takes acts between.world (Ok (wanted, justfile)) → FindsProjectOf between.world (justfile_in wanted environ justfile) r → Finds acts after.world r
+    found_here acts r takes finds = Behind.both (justfile_in wanted environ justfile) acts [] between.world (takes environ) (refl, still, finds) (sym (append-nil acts))
+
+    or_found : (acts : List Act) (e : Error) → Takes acts between.world (Ok (wanted, justfile)) → OrMemory (λ x. FindsProjectOf between.world (justfile_in wanted environ justfile) (Err x)) e → OrMemory (λ x. Finds acts after.world (Err x)) e
+    or_found acts e takes (inl wants) = inl wants
+    or_found acts e takes (inr lost) = inr (found_here acts (Err e) takes lost)
+
+    begun_here : (acts : List Act) → BeginsTaking acts between.world → BeginsFinding acts after.world
+    begun_here acts b = BeginsBehind.at_first (subst (λ w. BeginsIn config location before.world acts w) (sym still) b)
+
+    pub place_lost : (e : Error) → (es : List Entry) × (after.entries ≡ between.entries ++ es) × EndsWith [] e es → OrMemory (λ x. FindsProjectOf between.world (justfile_in wanted environ justfile) (Err x)) e → PerformsProject here before after kept keeps (Err e)
+    place_lost e gains why =
+        performs_looking Takes Finds BeginsTaking BeginsFinding before between after kept keeps (wanted, justfile) (Err e) taken still gains (λ acts takes. or_found acts e takes why) begun_here
+
+    pub place_found : (l : LaidSources) → (es : List Entry) × (after.entries ≡ between.entries ++ es) × AreMisses es → FindsProjectOf between.world (justfile_in wanted environ justfile) (Ok (laid_in wanted environ l))
+        → PerformsProject here before after kept keeps (Ok (laid_in wanted environ l))
+    place_found l gains finds =
+        performs_looking Takes Finds BeginsTaking BeginsFinding before between after kept keeps (wanted, justfile) (Ok (laid_in wanted environ l)) taken still gains (λ acts takes. found_here acts (Ok (laid_in wanted environ l)) takes finds) begun_here
+
+  -- ---- the reply of the justfile there
+
+  abbrev AsksPlace : Bool → List Act → Option World → Result Reply Error → Type 0
+  AsksPlace fallback acts world r = AnswersAt before.world acts world here r fallback
+
   abbrev BeginsPlace : List Act → Option World → Type 0
-  BeginsPlace = BeginsHere config environ location before.world
+  BeginsPlace acts world = BeginsAt before.world acts world here
 
-  abbrev AsksPlace : Bool → List Act → Option World → Result Outline Error → Type 0
-  AsksPlace fallback = AsksAt config environ location before.world fallback
-
-  abbrev pub AskedAt : Bool → Moment → List (List ℕ) → Result Outline Error → Type 0
+  abbrev pub AskedAt : Bool → Moment → List (List ℕ) → Result Reply Error → Type 0
   AskedAt fallback after keeps r = Performs (AsksPlace fallback) BeginsPlace before after kept keeps r
 
-  pub place_untaken : (after : Moment) (keeps : List (List ℕ)) (e : Error) → Performs {A = Wanted × List ℕ} Takes BeginsTaking before after kept keeps (Err e) → AskedAt false after keeps (Err e)
-  place_untaken after keeps e p =
-      performs_lost Takes (AsksPlace false) BeginsTaking BeginsPlace before after kept keeps e p (λ acts lost. no_file config environ location before.world acts after.world e lost) (λ acts b. BeginsBehind.at_first (BeginsBehind.at_first b))
+  unasked : (acts : List Act) (after : Option World) (e : Error) → OrMemory (λ x. Finds acts after (Err x)) e → OrMemory (λ x. AsksPlace false acts after (Err x)) e
+  unasked acts after e (inl wants) = inl wants
+  unasked acts after e (inr lost) = inr (AnswersAt.no_project e lost refl refl)
 
-  module _ (between : Moment) (keeps : List (List ℕ)) (wanted : Wanted) (justfile : List ℕ) (taken : Performs {A = Wanted × List ℕ} Takes BeginsTaking before between kept keeps (Ok (wanted, justfile))) where
-    pub place_lost : (after : Moment) (e : Error) → after.world ≡ between.world → (es : List Entry) × (after.entries ≡ between.entries ++ es) × EndsWith [] e es
-        → OrMemory (λ x. FindsProjectOf between.world (justfile_in wanted environ justfile) (Err x)) e → AskedAt false after keeps (Err e)
-    place_lost after e world gains why =
-        performs_looking Takes (AsksPlace false) BeginsTaking BeginsPlace before between after kept keeps (wanted, justfile) (Err e) taken world gains
-        (λ acts takes. no_project config environ location before.world wanted justfile between.world acts after.world e world takes why)
-        (λ acts b. BeginsBehind.at_first (BeginsBehind.at_first (subst (λ w. BeginsIn config location before.world acts w) (sym world) b)))
+  pub place_unasked : (after : Moment) (keeps : List (List ℕ)) (e : Error) → PerformsProject here before after kept keeps (Err e) → AskedAt false after keeps (Err e)
+  place_unasked after keeps e p = performs_lost Finds (AsksPlace false) BeginsFinding BeginsPlace before after kept keeps e p (λ acts lost. unasked acts after.world e lost) (λ acts b. BeginsBehind.at_first b)
 
-    module _ (seen after : Moment) (still : seen.world ≡ between.world) (gains : (es : List Entry) × (seen.entries ≡ between.entries ++ es) × AreMisses es) (j : Justfile)
-        (finds : (ms : List Justfile) → AreModules (j ∷ []) ms → FindsProjectOf between.world (justfile_in wanted environ justfile) (Ok (project_in wanted environ j ms))) (fallback : Bool) (is : fallback ≡ (settings_of j).fallback) where
-      -- the file is there, and its project is made
-      taken_here : Performs {A = Wanted × List ℕ} (λ acts world r. Takes acts between.world r) (λ acts world. Unit {0}) before seen kept keeps (Ok (wanted, justfile))
-      taken_here =
-          performs_looking Takes (λ acts world r. Takes acts between.world r) BeginsTaking (λ acts world. Unit {0}) before between seen kept keeps (wanted, justfile) (Ok (wanted, justfile)) taken still gains (λ acts takes. takes) (λ acts b. tt)
+  module _ (between after : Moment) (keeps : List (List ℕ)) (q : LaidRequest) (found : PerformsProject here before between kept keeps (Ok q)) (fallback : Bool) (is : fallback ≡ (settings_of q.laid.justfile).fallback) where
+    abbrev RepliesIt : List Act → Option World → Result Reply Error → Type 0
+    RepliesIt acts world r = RepliesTo config between.world acts world q r
 
-      pub place_asked : (r : Result Outline Error) → PerformsPlan wanted environ j seen after r → AskedAt fallback after keeps r
-      place_asked r plan =
-          performs_then (λ acts world x. Takes acts between.world x) (PlansIt wanted environ j seen.world) (AsksPlace fallback) (λ acts world. Unit {0}) (BeginsIt wanted environ j seen.world) BeginsPlace before seen after kept keeps keeps (wanted, justfile) r taken_here
-          (performs_behind (PlansIt wanted environ j seen.world) (BeginsIt wanted environ j seen.world) seen after keeps r plan)
-          (λ acts more takes plans. all_answers config environ location before.world wanted justfile between.world seen.world still j finds fallback is acts more after.world r takes plans)
-          (λ acts more takes begins. begun_behind config environ location before.world wanted justfile between.world seen.world still j finds fallback is acts more after.world takes begins)
+    answers : (acts more : List Act) (r : Result Reply Error) → Finds acts between.world (Ok q) → Answers (RepliesIt more after.world) r → Answers (AsksPlace fallback (acts ++ more) after.world) r
+    answers acts more (Ok x) finds replies = AnswersAt.of_project q acts more between.world finds replies refl is
+    answers acts more (Err e) finds (inl wants) = inl wants
+    answers acts more (Err e) finds (inr replies) = inr (AnswersAt.of_project q acts more between.world finds replies refl is)
+
+    pub place_asked : (r : Result Reply Error) → PerformsReply config q between after r → AskedAt fallback after keeps r
+    place_asked r reply =
+        performs_then Finds RepliesIt (AsksPlace fallback) BeginsFinding (BeginsIt q between.world) BeginsPlace before between after kept keeps keeps q r found (performs_behind RepliesIt (BeginsIt q between.world) between after keeps r reply)
+        (λ acts more finds replies. answers acts more r finds replies) (λ acts more finds begins. BeginsBehind.at_second q acts more between.world finds begins refl)
 
 -- ---- behind the words
 
@@ -337,47 +347,15 @@ module _ (a : Arguments) (environ : Environ) (told : Option World) where
 
     module _ (config : Config) (configures : (environ : Environ) → Configures (folder_in a environ folder) (Ok (config_in config environ))) (listings : List Entry) where
       -- what is decided behind the configuration is the answer
-      decided : (acts : List Act) (after : Option World) (r : Result Asked Error) → Decides listings told acts after (config_in config environ) r → Serves listings told acts after (arguments_in a environ) r
+      pub decided : (acts : List Act) (after : Option World) (r : Result Asked Error) → Decides listings told acts after (config_in config environ) r → Serves listings told acts after (arguments_in a environ) r
       decided acts after r decides =
           Behind.both (folder_in a environ folder) [] acts told (refl, refl, (refl, refl, given)) (Behind.both (config_in config environ) [] acts told (refl, refl, configures environ) decides refl) refl
 
-      -- a new justfile is asked for at that path, or refused
-      module _ (asks : is_init config.subcommand ≡ true) where
-        pub new_path : (path : List ℕ) → FindsFree told config (Ok path) → Serves listings told [] told (arguments_in a environ) (Ok (Asked.other (no_run.Init path)))
-        new_path path finds = decided [] told (Ok (Asked.other (no_run.Init path))) (Decides.reads_none asks (refl, refl, (Ok path, finds, refl)))
-
-        pub no_path : (after : Option World) (e : Error) → after ≡ told → OrMemory (λ x. FindsFree told config (Err x)) e → RefusesRun told listings [] after a environ e
-        no_path after e world (inl wants) = inl wants
-        no_path after e world (inr why) = inr (decided [] after (Err e) (Decides.reads_none asks (refl, world, (Err e, why, refl))))
-
-    module _ (config : Config) (configures : (environ : Environ) → Configures (folder_in a environ folder) (Ok (config_in config environ))) (plain : is_init config.subcommand ≡ false) (listings : List Entry) where
-      -- what the search answers, and what stands behind it, is the answer
-      searched : (acts : List Act) (after : Option World) (r : Result Asked Error) → Searches listings told acts after (config_in config environ) r → Serves listings told acts after (arguments_in a environ) r
-      searched acts after r searches = decided config configures listings acts after r (Decides.reads_one plain searches)
-
-      -- the justfile isn't found
-      pub no_location : (after : Option World) (e : Error) → after ≡ told → OrMemory (λ x. FindsLocation told listings config (Err x)) e → RefusesRun told listings [] after a environ e
-      no_location after e world (inl wants) = inl wants
-      no_location after e world (inr lost) = inr (searched [] after (Err e) (Behind.refused e (refl, world, lost) refl))
-
-      module _ (location : Location) (finds : FindsLocation told listings config (Ok location)) where
-        -- what is asked of it is run
-        tried_answer : (acts : List Act) (after : Option World) (r : Result Outline Error) → Tries told acts after (located_in config environ location) r → Serves listings told acts after (arguments_in a environ) (as_run r)
-        tried_answer acts after r tries = searched acts after (as_run r) (Behind.both (located_in config environ location) [] acts told (refl, refl, (refl, refl, finds)) (r, tries, refl) refl)
-
-        pub tried_plan : (acts : List Act) (after : Option World) (o : Outline) → Tries told acts after (located_in config environ location) (Ok o) → Serves listings told acts after (arguments_in a environ) (Ok (Asked.run o))
-        tried_plan acts after o tries = tried_answer acts after (Ok o) tries
-
-        pub tried_refusal : (acts : List Act) (after : Option World) (e : Error) → OrMemory (λ x. Tries told acts after (located_in config environ location) (Err x)) e → RefusesRun told listings acts after a environ e
-        tried_refusal acts after e (inl wants) = inl wants
-        tried_refusal acts after e (inr tries) = inr (tried_answer acts after (Err e) tries)
-
-        -- and what was begun of it was begun of the words' arguments
-        pub tried_begun : (acts : List Act) (after : Option World) → BeginsTries told acts after (located_in config environ location) → BeginsServes listings told acts after (arguments_in a environ)
-        tried_begun acts after begins =
-            BeginsBehind.at_second (folder_in a environ folder) [] acts told (refl, refl, (refl, refl, given))
-            (BeginsBehind.at_second (config_in config environ) [] acts told (refl, refl, configures environ)
-            (plain, BeginsBehind.at_second (located_in config environ location) [] acts told (refl, refl, (refl, refl, finds)) begins refl) refl) refl
+      -- and what was begun of it was begun of the arguments
+      pub decided_begun : (acts : List Act) (after : Option World) → BeginsDecides listings told acts after (config_in config environ) → BeginsServes listings told acts after (arguments_in a environ)
+      decided_begun acts after (inl nothing) = BeginsBehind.at_second (folder_in a environ folder) [] acts told (refl, refl, (refl, refl, given)) (BeginsBehind.at_first nothing) refl
+      decided_begun acts after (inr begins) =
+          BeginsBehind.at_second (folder_in a environ folder) [] acts told (refl, refl, (refl, refl, given)) (BeginsBehind.at_second (config_in config environ) [] acts told (refl, refl, configures environ) begins refl) refl
 
 -- ---- from the words on
 

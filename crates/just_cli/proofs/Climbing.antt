@@ -8,7 +8,7 @@ use Rattle.just_search.specs.declared.location.Location.{Location}
 use Rattle.just_search.specs.Fallback.{FallsBack}
 use Rattle.just_exec.specs.Refusals.{error_of_search}
 use Rattle.just_exec.specs.declared.error.Error.{Error}
-use Rattle.just_cli_plan.specs.Request.{Outline}
+use Rattle.just_cli.specs.Replies.{Reply}
 use Rattle.just_cli.specs.Acts.{Act}
 use Rattle.just_cli.specs.Options.{is_lacking, lacks}
 use Rattle.just_cli.specs.Words.{ConfigRequest}
@@ -37,7 +37,7 @@ module _ (c : ConfigRequest) where
       either (inl stands) = inl stands
       either (inr none) = inr (StandsBehind.nothing none refl)
 
-  pub first_of_climb : (told : Option World) (acts : List Act) (after : Option World) (location : Location) (r : Result Outline Error) → TriesFrom c told acts after location r → IsFirstAnswer c told acts after location r
+  pub first_of_climb : (told : Option World) (acts : List Act) (after : Option World) (location : Location) (r : Result Reply Error) → TriesFrom c told acts after location r → IsFirstAnswer c told acts after location r
   first_of_climb told acts after location r (TriesFrom.stands t a xs l x f at stays) =
       let one : Tried = record { item = Ok l; told = t; acts = xs; after = a; answer = x; fallback = f } in
       record { before = []; it = one; comes = (refl, refl, at); acts_are = refl; after_is = refl; first_or_last = first_or_nothing one stays; answer = refl }
@@ -72,7 +72,7 @@ module _ (c : ConfigRequest) where
   -- ---- from the list to the climb
 
   -- the answer from one on: of a refusal itself, and of a justfile by the climb
-  abbrev FromItem : Option World → List Act → Option World → Item → Result Outline Error → Type 0
+  abbrev FromItem : Option World → List Act → Option World → Item → Result Reply Error → Type 0
   FromItem told acts after (Ok location) r = TriesFrom c told acts after location r
   FromItem told acts after (Err e) r = (acts ≡ []) × (after ≡ told) × (r ≡ Err (error_of_search e))
 
@@ -85,11 +85,11 @@ module _ (c : ConfigRequest) where
     lacking_or e fallback sets at none true lack = TriesFrom.highest told after acts location e (subst (λ f. AnswersAt told acts after (at_place c location) (Err e) f) sets at) lack none
     lacking_or e fallback sets at none false stands = TriesFrom.stands told after acts location (Err e) fallback at (ap (λ b. b && fallback) stands)
 
-    nothing_higher : (x : Result Outline Error) (fallback : Bool) → fallback ≡ true → AnswersAt told acts after (at_place c location) x fallback → FallsBack after c.config location.working_directory (Ok None) → TriesFrom c told acts after location x
+    nothing_higher : (x : Result Reply Error) (fallback : Bool) → fallback ≡ true → AnswersAt told acts after (at_place c location) x fallback → FallsBack after c.config location.working_directory (Ok None) → TriesFrom c told acts after location x
     nothing_higher (Ok o) fallback sets at none = TriesFrom.stands told after acts location (Ok o) fallback at refl
     nothing_higher (Err e) fallback sets at none = lacking_or e fallback sets at none (is_lacking e) refl
 
-    none_found : (x : Result Outline Error) (fallback : Bool) (l : Location) (r : Result (Option Location) SearchError) → l ≡ location → fallback ≡ true → AnswersAt told acts after (at_place c location) x fallback → FallsBack after c.config l.working_directory r
+    none_found : (x : Result Reply Error) (fallback : Bool) (l : Location) (r : Result (Option Location) SearchError) → l ≡ location → fallback ≡ true → AnswersAt told acts after (at_place c location) x fallback → FallsBack after c.config l.working_directory r
         → ◌≡◌ {A = Option Item} None (item_found r) → TriesFrom c told acts after location x
     none_found x fallback l (Ok None) same sets at falls is = nothing_higher x fallback sets at (subst (λ (z : Location). FallsBack after c.config z.working_directory (Ok None)) same falls)
     none_found x fallback l (Ok (Some next)) same sets at falls is = absurd (let no : ⊥ = cc in no)
@@ -104,7 +104,7 @@ module _ (c : ConfigRequest) where
   last_of_climb it told (Err e) is way = (is.2.0, is.2.1 ∙ is.1, is.2.2)
 
   -- one behind which another is tried
-  module _ (told between after : Option World) (front rest : List Act) (location : Location) (r : Result Outline Error) where
+  module _ (told between after : Option World) (front rest : List Act) (location : Location) (r : Result Reply Error) where
     fallen : (e : Error) (fallback : Bool) (l : Location) (found : Result (Option Location) SearchError) (next : Item) → AnswersAt told front between (at_place c location) (Err e) fallback → is_lacking e ≡ true → l ≡ location → fallback ≡ true
         → FallsBack between c.config l.working_directory found → Some next ≡ item_found found → FromItem between rest after next r → TriesFrom c told (front ++ rest) after location r
     fallen e fallback l (Ok None) next at lack same sets falls is more = absurd (let no : ⊥ = cc in no)
@@ -121,12 +121,12 @@ module _ (c : ConfigRequest) where
         (subst (λ w. TriesFrom c told (front ++ rest) w location (Err (error_of_search f))) (sym ends.1)
         (subst (λ l. TriesFrom c told l between location (Err (error_of_search f))) (sym (ap (λ l. front ++ l) ends.0 ∙ append-nil front)) lost))
 
-    fallen_by : (x : Result Outline Error) (fallback : Bool) (l : Location) (found : Result (Option Location) SearchError) (next : Item) → AnswersAt told front between (at_place c location) x fallback → lacks x ≡ true → l ≡ location → fallback ≡ true
+    fallen_by : (x : Result Reply Error) (fallback : Bool) (l : Location) (found : Result (Option Location) SearchError) (next : Item) → AnswersAt told front between (at_place c location) x fallback → lacks x ≡ true → l ≡ location → fallback ≡ true
         → FallsBack between c.config l.working_directory found → Some next ≡ item_found found → FromItem between rest after next r → TriesFrom c told (front ++ rest) after location r
     fallen_by (Ok o) fallback l found next at lack same sets falls is more = absurd (let no : ⊥ = cc in no)
     fallen_by (Err e) fallback l found next at lack same sets falls is more = fallen e fallback l found next at lack same sets falls is more
 
-  next_of_climb : (t : Tried) (told after : Option World) (rest : List Act) (item next : Item) (r : Result Outline Error) → IsTried c t told item → lacks t.answer ≡ true → StandsBehind c t (Some next) → FromItem t.after rest after next r → FromItem told (t.acts ++ rest) after item r
+  next_of_climb : (t : Tried) (told after : Option World) (rest : List Act) (item next : Item) (r : Result Reply Error) → IsTried c t told item → lacks t.answer ≡ true → StandsBehind c t (Some next) → FromItem t.after rest after next r → FromItem told (t.acts ++ rest) after item r
   next_of_climb t told after rest item next r is lack (StandsBehind.nothing none no_next) more = absurd (let no : ⊥ = cc in no)
   next_of_climb t told after rest (Ok location) next r is lack (StandsBehind.found l found at sets falls same) more =
       fallen_by told t.after after t.acts rest location r t.answer t.fallback l found next (asked_at t told location is) lack (same_place l location t.item at is.0) sets falls same more
@@ -140,7 +140,7 @@ module _ (c : ConfigRequest) where
       subst (λ l. FromItem told l it.after item it.answer) (sym (append_assoc t.acts (acts_of ts) it.acts))
       (next_of_climb t told it.after (acts_of ts ++ it.acts) item next it.answer is lack stands (climbs ts it t.after next more way))
 
-  pub climb_of_first : (told : Option World) (acts : List Act) (after : Option World) (location : Location) (r : Result Outline Error) → IsFirstAnswer c told acts after location r → TriesFrom c told acts after location r
+  pub climb_of_first : (told : Option World) (acts : List Act) (after : Option World) (location : Location) (r : Result Reply Error) → IsFirstAnswer c told acts after location r → TriesFrom c told acts after location r
   climb_of_first told acts after location r k =
       subst (λ x. TriesFrom c told acts after location x) (sym k.answer)
       (subst (λ w. TriesFrom c told acts w location k.it.answer) (sym k.after_is)

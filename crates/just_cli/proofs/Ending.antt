@@ -2,8 +2,6 @@
 use Rattle.std.proofs.Common.{◌≡◌, inl, inr, ℕ, Bool, List, [], Option, Some, None, Result, Ok, Err, refl, sym, ◌∙◌, subst}
 use Rattle.std.specs.Prelude.{OnOk, OnErr}
 use Rattle.just_host_record.specs.World.{Moment}
-use Rattle.just_host_record.proofs.Moments.{moment_by}
-use Rattle.just_config.specs.declared.help.TheConstants.{HELP}
 use Rattle.just_sched_history.specs.declared.event.Event.{Event}
 use Rattle.just_sched_history.specs.declared.event.Verdict.{Verdict}
 use Rattle.just_sched_history.specs.declared.plan.Plan.{Plan}
@@ -20,21 +18,20 @@ use Rattle.just_cli.specs.declared.ended.Report.{Report}
 use Rattle.just_cli.specs.declared.task.Other.{Other}
 use Rattle.just_cli.specs.declared.task.Other.TheVariants as no_run
 use Rattle.just_cli.specs.Answered.{asked_by}
+use Rattle.just_cli.specs.declared.task.Task.TheVariants as task
+use Rattle.just_cli_texts.specs.declared.printed.Printed.{Printed}
+use Rattle.just_host_record.specs.declared.entry.Entry.{Entry}
+use Rattle.just_cli.specs.Acts.{Act}
 use Rattle.just_cli.specs.Asked.{Asked, Asks}
-use Rattle.just_cli.specs.Other.{Does, HeedsQuiet, LeavesFor}
-use Rattle.just_cli.specs.Questions.{version_line, IsShown}
+use Rattle.just_cli.specs.Other.{Does, HeedsQuiet, LeavesFor, StaysFor}
+use Rattle.just_cli.specs.Preparing.{LeavesActs}
+use Rattle.just_cli.specs.Printing.{IsPrinted}
 use Rattle.just_cli.specs.Quiet.{AsksQuiet, AskQuiet}
 use Rattle.just_cli.specs.Record.{Removes}
 use Rattle.just_cli.specs.Run.{IsEnded}
-use Rattle.just_cli.specs.Tasks.{PreparesWords}
-use Rattle.just_cli.proofs.Altering.{removes_none}
-use Rattle.just_cli.proofs.Answered.{words_ask_one, is_found}
-use Rattle.just_cli.proofs.NewJustfile.{new_behind}
-use Rattle.just_cli.proofs.Runs.{IsToldBehind, refused_before, run_well, run_ill}
-
--- where no folder was made, nothing is removed
-pub ended_so : (words : List (List ℕ)) (before settled after : Moment) (kept made : List (List ℕ)) (r : Result Report Failure) → kept ≡ [] → made ≡ kept → IsEnded words before settled r → Removes made settled after → IsEnded words before after r
-ended_so words before settled after kept made r none same is removes = subst (λ (m : Moment). IsEnded words before m r) (sym (removes_none made settled after (same ∙ none) removes)) is
+use Rattle.just_cli.specs.Tasks.{HasPath, PreparesWords, IsTask}
+use Rattle.just_cli.proofs.Answered.{words_ask_one}
+use Rattle.just_cli.proofs.Runs.{IsToldBehind, other_done, question_done, refused_before, run_well, run_ill}
 
 -- each folder is removed, or memory is wanting behind some
 pub removed_so : {A E : Type 0} (folders : List (List ℕ)) (before after : Moment) (r : Result A E) → OnOk r (RemovesAll before folders after) → OnOk r (InTurn TriesFolder before folders after) → OnErr r (RemovesSome before folders after) → Removes folders before after
@@ -47,23 +44,49 @@ removed_so folders before after (Err e) all tried some = inr some
 pub does_so : (c d : Other) (quiet : Bool) (before after : Moment) (r : Result Report Failure) → c ≡ d → Does d quiet before after r → Does c quiet before after r
 does_so c d quiet before after r is done = subst (λ o. Does o quiet before after r) (sym is) done
 
--- what is done behind the reading of the words is done from their start on
-does_behind : (c : Other) (quiet : Bool) (before between after : Moment) (r : Result Report Failure) → between.world ≡ before.world → LeavesFor c before.entries between.entries → Does c quiet between after r → Does c quiet before after r
-does_behind no_run.Help quiet before between after r world same done = subst (λ (m : Moment). IsShown HELP.now m after r) (moment_by between before same world) done
-does_behind no_run.Version quiet before between after r world same done = subst (λ (m : Moment). IsShown version_line m after r) (moment_by between before same world) done
-does_behind (no_run.Init path) quiet before between after r world gains done = new_behind path quiet before between after world gains r done
+module _ (words : List (List ℕ)) (before between settled after : Moment) (kept made : List (List ℕ)) (quiet : Bool) (r : Result Report Failure) (none : kept ≡ []) (removes : Removes made settled after) where
+  abbrev Prepared : Asked → Type 0
+  Prepared x = PreparesWords words before between kept made (Ok x) × AsksQuiet words before.world quiet
 
-pub ended_other : (words : List (List ℕ)) (before between after : Moment) (c : Other) (quiet : Bool) (r : Result Report Failure) → between.world ≡ before.world → LeavesFor c before.entries between.entries
-    → Asks words before.world [] [] before.world (Ok (Asked.other c)) → HeedsQuiet (AsksQuiet words before.world) c quiet → Does c quiet between after r → IsEnded words before after r
-ended_other words before between after c quiet r world left asks quiet_is done = record {
-  asked = Ok (Asked.other c);
-  ends = record {
-    found = is_found (asked_by words before.world) before.world (words_ask_one words before.world) [] (inl refl) [] before.world (Ok (Asked.other c)) asks;
-    quiet = quiet;
-    quiet_is = quiet_is;
-    done = does_behind c quiet before between after r world left done;
-  };
-}
+  -- the listing of a module is printed
+  pub ended_listing : (p : Printed) → Prepared (Asked.listing p) → IsPrinted p quiet between settled r → IsEnded words before after r
+  ended_listing p asks done = record {
+    asked = Ok (Asked.listing p);
+    ends = other_done (asked_by words before.world) before between settled after (words_ask_one words before.world) kept made (Asked.listing p) (no_run.Show p) quiet r (λ listings acts es left. left) none asks.0 asks.1 done removes;
+  }
+
+  -- what a command asks for is done
+  command_ended : (c : Other) → ((listings : List Entry) (acts : List Act) (es : List Entry) → LeavesActs listings acts es → LeavesFor c listings acts es) → PreparesWords words before between kept made (Ok (Asked.other c)) → HeedsQuiet (AsksQuiet words before.world) c quiet
+      → Does c quiet between settled r → IsEnded words before after r
+  command_ended c leaves asks heeds does = record {
+    asked = Ok (Asked.other c);
+    ends = other_done (asked_by words before.world) before between settled after (words_ask_one words before.world) kept made (Asked.other c) c quiet r leaves none asks heeds does removes;
+  }
+
+  question_ended : (c : Other) → LeavesFor c [] [] [] → (Does c quiet before settled r → settled.world ≡ before.world) → (after.world ≡ before.world → StaysFor c [] before.world after.world) → HeedsQuiet (AsksQuiet words before.world) c quiet → (between ≡ before) × (made ≡ kept) × Asks words before.world [] [] before.world (Ok (Asked.other c)) → Does c quiet between settled r → IsEnded words before after r
+  question_ended c leaves still stays heeds asks does = record {
+    asked = Ok (Asked.other c);
+    ends = question_done (asked_by words before.world) before between settled after (words_ask_one words before.world) kept made c quiet r leaves still stays none asks.1 asks.0 asks.2 heeds does removes;
+  }
+
+  pub ended_other : (c : Other) → IsTask words before between kept made (task.Other c quiet) → Does c quiet between settled r → IsEnded words before after r
+  ended_other no_run.Help is does = question_ended no_run.Help refl (λ shows. shows.world) (λ same. same) tt is does
+  ended_other no_run.Version is does = question_ended no_run.Version refl (λ shows. shows.world) (λ same. same) tt is does
+  ended_other (no_run.Init path) is does = command_ended (no_run.Init path) (λ listings acts es left. left) is.0 is.1 does
+  ended_other (no_run.Show p) is does = command_ended (no_run.Show p) (λ listings acts es left. left) is.0 is.1 does
+  ended_other no_run.Nothing is does = command_ended no_run.Nothing (λ listings acts es left. left) is.0 is.1 does
+  ended_other (no_run.Write path text) is does = command_ended (no_run.Write path text) (λ listings acts es left. left) is.0 is.1 does
+  ended_other (no_run.Clean folder path) is does = command_ended (no_run.Clean folder path) (λ listings acts es left. left) is.0 is.1 does
+
+-- a path is one, where one is given
+pub has_path : (words : List (List ℕ)) (before after : Moment) (kept keeps : List (List ℕ)) (c : Other) (quiet : Bool) → IsTask words before after kept keeps (task.Other c quiet) → HasPath c
+has_path words before after kept keeps no_run.Help quiet is = tt
+has_path words before after kept keeps no_run.Version quiet is = tt
+has_path words before after kept keeps (no_run.Init path) quiet is = tt
+has_path words before after kept keeps (no_run.Show p) quiet is = tt
+has_path words before after kept keeps no_run.Nothing quiet is = tt
+has_path words before after kept keeps (no_run.Write path text) quiet is = tt
+has_path words before after kept keeps (no_run.Clean folder path) quiet is = is.2
 
 -- ---- a refusal, and a run
 

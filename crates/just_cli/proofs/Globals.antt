@@ -36,3 +36,7 @@ pub passed_by : (a : Arguments) (folder : List ℕ) (config : Config) (listings 
     → ArePassed (config.search_config ≡ search.GlobalJustfile) listings → ArePassed (a.global_justfile ≡ true) listings
 passed_by a folder config listings is (inl none) = inl none
 passed_by a folder config listings is (inr some) = inr (asked_of a (positional_of a.arguments).search_directory (sym (ap (λ c. c.search_config) is) ∙ some.0), some.1)
+
+-- the user's own justfile is the one that a configuration searches where the arguments ask for it
+pub global_by : (a : Arguments) (folder : List ℕ) (config : Config) → config ≡ config_of a folder → config.search_config ≡ search.GlobalJustfile → a.global_justfile ≡ true
+global_by a folder config is asks = asked_of a (positional_of a.arguments).search_directory (sym (ap (λ c. c.search_config) is) ∙ asks)

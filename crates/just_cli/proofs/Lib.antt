@@ -6,7 +6,10 @@ pub mod Arguments
 pub mod Asking
 pub mod Calls
 pub mod Chain
+pub mod CleaningLaws
+pub mod CleanPaths
 pub mod Climbing
+pub mod Commanding
 pub mod Ending
 pub mod Falls
 pub mod Globals
@@ -18,12 +21,16 @@ pub mod NewJustfile
 pub mod OneFile
 pub mod OneLocation
 pub mod OneNew
+pub mod OnePairs
 pub mod OneSearch
 pub mod OneTried
 pub mod PlainSearch
 pub mod Planless
 pub mod Prepared
+pub mod PrintingLaws
+pub mod Reading
 pub mod Refusals
+pub mod Replying
 pub mod Requests
 pub mod Runs
 pub mod Served

@@ -1,6 +1,5 @@
--- A new justfile is written and told of, from what the calls answered.
+-- A justfile is written and told of, from what the calls answered.
 use Rattle.std.proofs.Common.{◌≡◌, ◌++◌, ℕ, Bool, true, false, List, [], ◌∷◌, Option, Some, None, Result, Ok, Err, IfOk, IfErr, refl, sym, ap, ◌∙◌, subst, append_assoc, append-nil}
-use Rattle.just_host_record.specs.declared.entry.Call.TheVariants as call
 use Rattle.just_host_record.specs.declared.entry.Entry.{Entry}
 use Rattle.just_host_record.specs.declared.entry.Entry.TheVariants as entry
 use Rattle.just_host_record.specs.declared.entry.HostFault.{HostFault}
@@ -9,19 +8,15 @@ use Rattle.just_host_record.specs.declared.entry.Stream.TheVariants as stream
 use Rattle.just_host_record.specs.Changes.{place_written, written, Changes}
 use Rattle.just_host_record.specs.Record.{refused}
 use Rattle.just_host_record.specs.World.{World, Moment}
-use Rattle.just_env.specs.Answers.{GainsMisses}
 use Rattle.just_sched_history.specs.declared.event.Event.{Event}
 use Rattle.just_exec.specs.Codes.{exit_code}
 use Rattle.just_exec.specs.declared.error.Error.{Error}
-use Rattle.just_exec.specs.declared.error.Error.TheVariants as error
-use Rattle.just_cli_plan.specs.Own.{OrMemory}
 use Rattle.just_cli.specs.declared.ended.Failure.{Failure}
 use Rattle.just_cli.specs.declared.ended.Report.{Report}
 use Rattle.just_cli.specs.Faults.{entries_of, print_error, write_error}
-use Rattle.just_cli.specs.Record.{EndsBefore, IsTold}
-use Rattle.just_cli.specs.Written.{written_line, told_line, Writes, IsUnwritten, TellsLine, IsWritten}
-use Rattle.just_cli.proofs.Prepared.{all_misses}
-use Rattle.just_cli.proofs.Runs.{ends_before}
+use Rattle.just_cli.specs.Printing.{told_line, IsPrintError, IsIdle}
+use Rattle.just_cli.specs.Record.{IsTold}
+use Rattle.just_cli.specs.Written.{written_line, Writes, IsUnwritten, IsWritten}
 use Rattle.just_cli.proofs.Shown.{print_entries}
 
 -- ---- the line
@@ -60,76 +55,47 @@ writes_path path given bytes text told after r path_is text_is changes =
     (subst (λ (p : List ℕ). Changes (λ w. written w p bytes) (λ w place. place_written w p ≡ Ok place) told after r) path_is changes)
 
 -- whatever nothing it answers
-any_ok : (path : List ℕ) (told after : Option World) (x : Unit {0}) → Writes path told after (Ok x) → Writes path told after (Ok tt)
-any_ok path None after x writes = writes
-any_ok path (Some w) after x writes = writes
+any_ok : (path text : List ℕ) (told after : Option World) (x : Unit {0}) → Writes path text told after (Ok x) → Writes path text told after (Ok tt)
+any_ok path text None after x writes = writes
+any_ok path text (Some w) after x writes = writes
 
 -- it is written, and told of
-pub wrote : (path : List ℕ) (quiet : Bool) (line : List ℕ) (told middle after : Option World) (x : Unit {0}) (old mid new : List Entry) (r : Result (Unit {0}) Error)
-    → Writes path told middle (Ok x) → after ≡ middle → mid ≡ old ++ [] → line ≡ written_line path → IfOk r (λ y. new ≡ mid ++ told_line quiet line)
-    → IfOk r (λ y. Writes path told after (Ok tt) × (new ≡ old ++ told_line quiet (written_line path)))
-wrote path quiet line told middle after x old mid new (Ok y) writes world none is tells =
-    (subst (λ w. Writes path told w (Ok tt)) (sym world) (any_ok path told middle x writes), told_behind old mid new (told_line quiet line) none tells ∙ ap (λ l. old ++ told_line quiet l) is)
-wrote path quiet line told middle after x old mid new (Err e) writes world none is tells = tt
+pub wrote : (path text : List ℕ) (quiet : Bool) (line : List ℕ) (told middle after : Option World) (x : Unit {0}) (old mid new : List Entry) (r : Result (Unit {0}) Error)
+    → Writes path text told middle (Ok x) → after ≡ middle → mid ≡ old ++ [] → line ≡ written_line path → IfOk r (λ y. new ≡ mid ++ told_line quiet line)
+    → IfOk r (λ y. Writes path text told after (Ok tt) × (new ≡ old ++ told_line quiet (written_line path)))
+wrote path text quiet line told middle after x old mid new (Ok y) writes world none is tells =
+    (subst (λ w. Writes path text told w (Ok tt)) (sym world) (any_ok path text told middle x writes), told_behind old mid new (told_line quiet line) none tells ∙ ap (λ l. old ++ told_line quiet l) is)
+wrote path text quiet line told middle after x old mid new (Err e) writes world none is tells = tt
 
 -- it is written, and the line is lost
-pub not_told : (path : List ℕ) (quiet : Bool) (told middle after : Option World) (x : Unit {0}) (old mid new : List Entry) (r : Result (Unit {0}) Error)
-    → Writes path told middle (Ok x) → after ≡ middle → mid ≡ old ++ [] → IfErr r (λ e. (quiet ≡ false) × OrMemory (λ y. y ≡ error.StdoutIo (fault.Failed call.Print)) e × (new ≡ mid ++ entries_of e))
-    → IfErr r (λ e. IsUnwritten path quiet told after e × (new ≡ old ++ entries_of e))
-not_told path quiet told middle after x old mid new (Ok y) writes world none lost = tt
-not_told path quiet told middle after x old mid new (Err e) writes world none lost =
-    (IsUnwritten.untold lost.0 lost.1 (subst (λ w. Writes path told w (Ok tt)) (sym world) (any_ok path told middle x writes)), told_behind old mid new (entries_of e) none lost.2)
+pub not_told : (path text : List ℕ) (quiet : Bool) (told middle after : Option World) (x : Unit {0}) (old mid new : List Entry) (r : Result (Unit {0}) Error)
+    → Writes path text told middle (Ok x) → after ≡ middle → mid ≡ old ++ [] → IfErr r (λ e. (quiet ≡ false) × IsPrintError e × (new ≡ mid ++ entries_of e))
+    → IfErr r (λ e. IsUnwritten path text quiet told after e × (new ≡ old ++ entries_of e))
+not_told path text quiet told middle after x old mid new (Ok y) writes world none lost = tt
+not_told path text quiet told middle after x old mid new (Err e) writes world none lost =
+    (IsUnwritten.untold lost.0 lost.1 (subst (λ w. Writes path text told w (Ok tt)) (sym world) (any_ok path text told middle x writes)), told_behind old mid new (entries_of e) none lost.2)
 
 -- ---- the end
 
 -- it isn't written, or not told of
-pub unwritten_end : (path : List ℕ) (quiet : Bool) (before between after : Moment) (r : Result Report Failure) (e : Error) (h : List Event)
-    → r ≡ Err (record { error = e; plan = None; history = h; code = exit_code e }) → h ≡ [] → IsUnwritten path quiet before.world between.world e → between.entries ≡ before.entries ++ entries_of e
-    → (es : List Entry) × (after.entries ≡ between.entries ++ es) × IsTold quiet e es → after.world ≡ between.world → IsWritten path quiet before after r
-unwritten_end path quiet before between after r e h is no_history why grew tells world =
-    subst (λ q. IsWritten path quiet before after q) (sym is) (record {
+pub unwritten_end : (path text : List ℕ) (quiet : Bool) (before between after : Moment) (r : Result Report Failure) (e : Error) (h : List Event)
+    → r ≡ Err (record { error = e; plan = None; history = h; code = exit_code e }) → h ≡ [] → IsUnwritten path text quiet before.world between.world e → between.entries ≡ before.entries ++ entries_of e
+    → (es : List Entry) × (after.entries ≡ between.entries ++ es) × IsTold quiet e es → after.world ≡ between.world → IsWritten path text quiet before after r
+unwritten_end path text quiet before between after r e h is no_history why grew tells world =
+    subst (λ q. IsWritten path text quiet before after q) (sym is) (record {
       written = tt;
-      unwritten = (refl, no_history, refl, subst (λ w. IsUnwritten path quiet before.world w e) (sym world) why, ends_before [] quiet e before.entries between.entries after.entries (entries_of e) grew ([], tt, refl) tells);
+      unwritten = (
+        (refl, no_history, refl),
+        subst (λ w. IsUnwritten path text quiet before.world w e) (sym world) why,
+        (tells.0, tells.1 ∙ (ap (λ l. l ++ tells.0) grew ∙ append_assoc before.entries (entries_of e) tells.0), tells.2),
+      );
     })
 
--- ---- behind the search
-
-module _ (path : List ℕ) (quiet : Bool) (old entered new : List Entry) (gains : GainsMisses old entered) where
-  line_behind : TellsLine quiet path entered new → TellsLine quiet path old new
-  line_behind (misses, are, grew) = (
-    gains.0 ++ misses,
-    all_misses gains.0 misses gains.2 are,
-    grew ∙ (ap (λ xs. xs ++ (misses ++ told_line quiet (written_line path))) gains.1 ∙ (append_assoc old gains.0 (misses ++ told_line quiet (written_line path)) ∙ ap (λ xs. old ++ xs) (sym (append_assoc gains.0 misses (told_line quiet (written_line path)))))),
-  )
-
-  ends_behind_misses : (e : Error) → EndsBefore [] quiet e entered new → EndsBefore [] quiet e old new
-  ends_behind_misses e k =
-      let s = k.stretches in
-      record {
-        stretches = record {
-          pre = gains.0 ++ s.pre;
-          mid = s.mid;
-          post = s.post;
-          grew = s.grew ∙ (ap (λ xs. xs ++ (s.pre ++ (s.mid ++ s.post))) gains.1 ∙ (append_assoc old gains.0 (s.pre ++ (s.mid ++ s.post)) ∙ ap (λ xs. old ++ xs) (sym (append_assoc gains.0 s.pre (s.mid ++ s.post)))));
-        };
-        prepared = (gains.0 ++ k.prepared.0, all_misses gains.0 k.prepared.0 gains.2 k.prepared.1, ap (λ xs. gains.0 ++ xs) k.prepared.2 ∙ sym (append_assoc gains.0 k.prepared.0 (entries_of e)));
-        unopened = k.unopened;
-        told = k.told;
-      }
-
--- a new justfile that was written behind the search is written from its start on
-pub new_behind : (path : List ℕ) (quiet : Bool) (before between after : Moment) → between.world ≡ before.world → GainsMisses before.entries between.entries → (r : Result Report Failure) → IsWritten path quiet between after r → IsWritten path quiet before after r
-new_behind path quiet before between after world gains (Ok x) is = record {
-  written = (is.written.0, subst (λ w. Writes path w after.world (Ok tt)) world is.written.1, line_behind path quiet before.entries between.entries after.entries gains is.written.2);
+-- it is written, and told of
+pub written_end : (path text : List ℕ) (quiet : Bool) (before between after : Moment) (r : Result Report Failure) → Writes path text before.world between.world (Ok tt) × (between.entries ≡ before.entries ++ told_line quiet (written_line path)) → IsIdle between after r
+    → IsWritten path text quiet before after r
+written_end path text quiet before between after (Ok x) wrote_it idle = record {
+  written = (idle.well, subst (λ w. Writes path text before.world w (Ok tt)) (sym idle.world) wrote_it.0, idle.entries ∙ wrote_it.1);
   unwritten = tt;
 }
-new_behind path quiet before between after world gains (Err f) is = record {
-  written = tt;
-  unwritten = (
-    is.unwritten.0,
-    is.unwritten.1,
-    is.unwritten.2,
-    subst (λ w. IsUnwritten path quiet w after.world f.error) world is.unwritten.3,
-    ends_behind_misses path quiet before.entries between.entries after.entries gains f.error is.unwritten.4,
-  );
-}
+written_end path text quiet before between after (Err f) wrote_it idle = absurd idle.never

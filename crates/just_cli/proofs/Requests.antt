@@ -18,8 +18,8 @@ use Rattle.just_cli_plan.specs.Own.{is_fault, IsOwn}
 use Rattle.just_env.specs.declared.search_error.SearchError.{SearchError}
 use Rattle.just_search.specs.declared.search_result.Search.{Search}
 use Rattle.just_search.specs.Files.{parent_of}
-use Rattle.just_cli.specs.Acts.{Act, AreToldBehind, Step, Looks, Behind}
-use Rattle.just_cli.proofs.Acting.{Agrees, Agree, GivesOwnStep, looks_own, looks_agree, behind_agree, agrees_as, agrees_refusal, in_two, told_front, told_world, common, own_acts, behind_own}
+use Rattle.just_cli.specs.Acts.{Act, AreToldBehind, Looks, Behind}
+use Rattle.just_cli.proofs.Acting.{Agrees, Agree, GivesOwnStep, looks_own, looks_agree, behind_agree, agrees_as, agrees_refusal, in_two, told_later, behind_own}
 use Rattle.just_cli.proofs.OneFile.{materializes_one}
 use Rattle.just_cli.specs.Faults.{CallGives, FaultFits, io_error, folder_error}
 use Rattle.just_host_record.specs.declared.entry.Entry.{Entry}
@@ -29,17 +29,39 @@ use Rattle.just_search.specs.declared.location.Location.{Location}
 use Rattle.just_cli.specs.Options.{cache_beside, wanted_of, allowed}
 use Rattle.just_cli.specs.Words.{WordsRequest, ReadRequest, FolderRequest, ConfigRequest, LocatedRequest, JustfileRequest, FindsEnviron, ReadsWords, FindsFolder, GivesConfig, IsBuilt, Configures, FindsLocation, FindsJustfile, TakesFile}
 use Rattle.just_exec.specs.Refusals.{error_of_search}
-use Rattle.just_lang_types.specs.Modules.{settings_of}
+use Rattle.just_lang_types.specs.Modules.{settings_of, AreModules}
 use Rattle.just_cli_plan.proofs.AgreeLaws.{loads_agree}
-use Rattle.just_env.specs.Captures.{Capture, told_behind}
-use Rattle.just_cli_plan.specs.Request.{SourcesRequest, ProjectRequest, LoadedRequest, Outline, FindsProject, PlansSources}
-use Rattle.just_cli_plan.proofs.Loading.{own_world}
-use Rattle.std.proofs.lemmas.List.{append_cancel_left}
-use Rattle.just_cli_plan.proofs.Laws.{plans_agree}
-use Rattle.just_cli_plan.proofs.Requests.{finds_project}
-use Rattle.just_cli_plan.specs.Steps.{stops, goes_on}
-use Rattle.just_cli.specs.Asked.{Asked, as_run, as_new, EnvironGiven, FolderGiven, RunsTried, Searches, AsksNew, Decides, Serves, AsksAs, AsksRead, Asks}
-use Rattle.just_cli.specs.Request.{LoadsSources, FindsProjectOf, FindsProjectAt, PlansLoaded, AnswersAt, Tries, NoneFailed}
+use Rattle.just_lang_types.specs.declared.project.Justfile.{Justfile}
+use Rattle.just_lang_types.proofs.Nesting.{same_modules}
+use Rattle.just_lang_layout.specs.declared.layout.Layout.{Layout}
+use Rattle.just_lang.specs.Assembled.{IsSoundlyMadeOf}
+use Rattle.just_lang.specs.Projects.{AreWins}
+use Rattle.just_host_record.specs.World.{told_read}
+use Rattle.just_env.specs.declared.search_error.SearchError.TheVariants as search_error
+use Rattle.just_search.specs.declared.location.Origin.{Origin}
+use Rattle.just_search_load.specs.Loads.{source_at}
+use Rattle.just_search_load.specs.Shown.{ReadsText}
+use Rattle.just_cli_plan.specs.Request.{SourcesRequest, ProjectRequest, ScopesRequest, Outline, FindsProject, EvaluatesVariables}
+use Rattle.just_cli_plan.proofs.Files.{one_layout}
+use Rattle.just_cli_plan.proofs.Rules.{one_wins}
+use Rattle.just_cli_plan.proofs.OneProjectLaws.{soundly_one}
+use Rattle.just_cli_plan.proofs.Requests.{EndsProject, EndsLoaded, finds_project, finds_ending, evaluates_variables, plans_keys}
+use Rattle.just_cli_texts.specs.declared.kind.Kind.{Kind}
+use Rattle.just_cli_texts.specs.declared.kind.Kind.TheVariants as kind
+use Rattle.just_cli_texts.specs.Defaults.{ListsLaid}
+use Rattle.just_cli_texts.specs.Evaluated.{names_of_words, format_of}
+use Rattle.just_cli_texts.specs.Formatted.{Formats}
+use Rattle.just_cli_texts.specs.Kinds.{kind_of}
+use Rattle.just_cli_texts.specs.Laid.{LaidSources, LaidRequest, project_with, FindsLaid}
+use Rattle.just_cli_texts.specs.Prints.{as_printed}
+use Rattle.just_cli_texts.proofs.Printers.{texts}
+use Rattle.just_cli.specs.Commands.{as_shown, is_file, anew_or, PrintsIt, EvaluatesIt, EvaluatesLaid, CleansIt, FormatsFile, CommandsAt}
+use Rattle.just_cli.specs.Replies.{Reply, as_list, as_plan, Replies, RepliesLoaded}
+use Rattle.just_cli.proofs.OnePairs.{own_refused, Ends, modules_one, behind_own_of}
+use Rattle.just_cli_plan.specs.Steps.{Then, stops, goes_on}
+use Rattle.just_cli.specs.Asked.{Asked, as_reply, as_other, as_new, EnvironGiven, FolderGiven, RunsTried, CommandAsks, AsksBy, AsksAt, AsksAlone, Searches, Decides, Serves, AsksAs, AsksRead, Asks}
+use Rattle.just_cli.specs.Request.{LoadsSources, FindsProjectOf, FindsProjectAt, RepliesTo, AnswersAt, Tries, NoneFailed}
+use Rattle.just_cli.specs.declared.task.Other.{Other}
 use Rattle.just_cli.specs.declared.task.Other.TheVariants as no_run
 use Rattle.just_cli.proofs.Arguments.{arguments_one}
 use Rattle.just_cli.proofs.OneLocation.{by_one, own_unfailed}
@@ -47,7 +69,7 @@ use Rattle.just_cli.proofs.Climbing.{climb_of_first}
 use Rattle.just_cli.proofs.OneTried.{own_answer, AnswersOne, from_one}
 use Rattle.just_cli.proofs.OneNew.{new_own}
 use Rattle.just_cli.proofs.OneSearch.{search_refused}
-use Rattle.just_cli_plan.proofs.Steps.{GivesOwn, same_refusal, refused_or_found, same_found, then_own}
+use Rattle.just_cli_plan.proofs.Steps.{GivesOwn, GivesOwnOf, same_refusal, refused_or_found, same_found, then_own, then_own_of, own_of}
 
 -- an option that holds something holds one thing, and not nothing
 held_one : {A : Type 0} (o : Option A) (x y : A) → o ≡ Some x → o ≡ Some y → x ≡ y
@@ -237,92 +259,97 @@ module _ (w : World) where
       let refusals : p.0 ≡ q.0 = cc in
       ap (λ x. Err x) (p.2 ∙ ap (λ x. error_of_search x) refusals ∙ sym q.2)
 
--- ---- the chain
+-- ---- the project's justfile, with the layout of its sources
 
-pub own_refused : (A : Type 0) (r : Result Outline Error) (e : Error) → r ≡ Err e → IsOwn r → IsOwn {A = A} (Err e)
-own_refused A r e is own = subst (λ (z : Result Outline Error). IsOwn z) is own
+-- sources make it with one layout
+finds_laid : GivesOwn FindsLaid
+finds_laid s (Ok a) (Ok b) p m q n =
+    let h = p.2 in
+    let g = q.2 in
+    let layout : a.laid.layout ≡ b.laid.layout = one_layout s.sources s.environ.pairs a.laid.layout b.laid.layout h.layout_is g.layout_is in
+    let wins : a.laid.wins ≡ b.laid.wins = one_wins b.laid.layout a.laid.wins b.laid.wins (subst (λ (l : Layout). AreWins l a.laid.wins) layout h.wins_are) g.wins_are in
+    let justfile : a.laid.justfile ≡ b.laid.justfile = soundly_one s.environ.pairs b.laid.layout a.laid.justfile b.laid.justfile (subst (λ (l : Layout). IsSoundlyMadeOf s.environ.pairs l a.laid.justfile) layout h.made) g.made in
+    let laid : a.laid ≡ b.laid =
+    ap (λ x. let z : LaidSources = record { layout = x; wins = a.laid.wins; justfile = a.laid.justfile } in z) layout
+    ∙ (ap (λ x. let z : LaidSources = record { layout = b.laid.layout; wins = x; justfile = a.laid.justfile } in z) wins
+    ∙ ap (λ x. let z : LaidSources = record { layout = b.laid.layout; wins = b.laid.wins; justfile = x } in z) justfile) in
+    ap (λ x. Ok x)
+    (ap (λ x. let z : LaidRequest = record { wanted = x; environ = a.environ; laid = a.laid } in z) (p.0 ∙ sym q.0)
+    ∙ (ap (λ x. let z : LaidRequest = record { wanted = b.wanted; environ = x; laid = a.laid } in z) (p.1 ∙ sym q.1)
+    ∙ ap (λ x. let z : LaidRequest = record { wanted = b.wanted; environ = b.environ; laid = x } in z) laid))
+finds_laid s (Ok a) (Err f) p m q n = absurd (refused_or_found f (project_with a p.3.0) (finds_project s (Err f) (Ok (project_with a p.3.0)) q n p.3.1 tt))
+finds_laid s (Err e) (Ok b) p m q n = absurd (refused_or_found e (project_with b q.3.0) (finds_project s (Err e) (Ok (project_with b q.3.0)) p m q.3.1 tt))
+finds_laid s (Err e) (Err f) p m q n = same_refusal e f (finds_project s (Err e) (Err f) p m q n)
 
 finds_project_of : (w : World) → GivesOwn (FindsProjectOf (Some w))
-finds_project_of w = then_own (LoadsSources (Some w)) FindsProject (loads_sources w) finds_project
+finds_project_of w = then_own (LoadsSources (Some w)) FindsLaid (loads_sources w) finds_laid
 
 -- the project of the justfile in a place
 pub project_own : GivesOwnStep FindsProjectAt
 project_own = behind_own TakesFile (Looks FindsProjectOf) takes_file (looks_own FindsProjectOf finds_project_of)
 
--- the plan of sources, with the children that are run for it, and the world that is told behind these
-abbrev PlansIn : Step SourcesRequest Outline
-PlansIn told acts after s r = (cs : List Capture) × (acts ≡ map Act.captured cs) × PlansSources told cs s r × (after ≡ told_behind told cs)
+-- its modules come to an end
+modules_in : (s : SourcesRequest) (p : ProjectRequest) → FindsProject s (Ok p) → AreModules (p.justfile ∷ []) p.modules
+modules_in s p (stops e lost is) = absurd (refused_or_found e p (sym is))
+modules_in s p (goes_on k assembles checks) = subst (λ (z : ProjectRequest). AreModules (z.justfile ∷ []) z.modules) (sym checks.1) assembles.3
 
-children_go_on : (acts more rest left : List Act) (cs ds : List Capture) → acts ≡ map Act.captured cs → more ≡ map Act.captured ds → acts ++ rest ≡ more ++ left → map Act.captured cs ++ rest ≡ map Act.captured ds ++ left
-children_go_on acts more rest left cs ds is at all = ap (λ l. l ++ rest) (sym is) ∙ (all ∙ ap (λ l. l ++ left) at)
+laid_ends : (s : SourcesRequest) (q : LaidRequest) → FindsLaid s (Ok q) → Ends q
+laid_ends s q finds = λ modules are.
+    let project : ProjectRequest = project_with q finds.3.0 in
+    subst (λ (l : List Justfile). EndsProject (project_with q l)) (same_modules (q.laid.justfile ∷ []) finds.3.0 modules (modules_in s project finds.3.1) are) (finds_ending s tt project finds.3.1)
 
-plans_in : GivesOwnStep PlansIn
-plans_in w acts more rest left after later s r q (cs, is, p, world) own (ds, at, o, still) other all told =
-    let same = children_go_on acts more rest left cs ds is at all in
-    let told_ds : AreToldBehind (map Act.captured ds ++ left) = subst (λ l. AreToldBehind (l ++ left)) at told in
-    let told_cs : AreToldBehind (map Act.captured cs ++ rest) = subst (λ l. AreToldBehind l) (sym same) told_ds in
-    let are = told_front ds left told_ds in
-    let c = common cs ds rest left same (told_front cs rest told_cs) are in
-    let one = plans_agree w s cs ds c.0 c.1 c.2 c.3 r q p own o other in
-    let there = told_world w ds are in
-    record {
-      same = one.0;
-      rests = append_cancel_left (map Act.captured ds) rest left (ap (λ (l : List Capture). map Act.captured l ++ rest) (sym one.1) ∙ same);
-      world = there.0;
-      told = world ∙ (ap (λ (l : List Capture). told_behind (Some w) l) one.1 ∙ there.1);
-      also = still ∙ there.1;
-    }
+file_ends : (told : Option World) (j : JustfileRequest) (q : LaidRequest) → FindsProjectOf told j (Ok q) → Ends q
+file_ends told j q (stops e lost is) = absurd (refused_or_found e q (sym is))
+file_ends told j q (goes_on s loads finds) = laid_ends s q finds
 
--- from the place of a justfile to its plan, in a row
-abbrev PlansOf : Step JustfileRequest Outline
-PlansOf = Behind (Looks LoadsSources) PlansIn
+project_ends : (told after : Option World) (acts : List Act) (here : LocatedRequest) (q : LaidRequest) → FindsProjectAt told acts after here (Ok q) → Ends q
+project_ends told after acts here q (Behind.refused e lost is) = absurd (refused_or_found e q (sym is))
+project_ends told after acts here q (Behind.both j front back between takes (nothing, still, finds) split) = file_ends between j q finds
 
-abbrev PlansAt : Step LocatedRequest Outline
-PlansAt = Behind TakesFile PlansOf
+-- ---- replies
 
-plan_own : GivesOwnStep PlansAt
-plan_own = behind_own TakesFile PlansOf takes_file (behind_own (Looks LoadsSources) PlansIn (looks_own LoadsSources loads_sources) plans_in)
+own_plan : (x : Result Outline Error) (r : Result Reply Error) → r ≡ as_plan x → IsOwn r → IsOwn x
+own_plan (Ok o) r is own = tt
+own_plan (Err e) r is own = subst (λ (z : Result Reply Error). IsOwn z) is own
 
--- what is asked of a project is asked of its sources
-sources_of : (told : Option World) (j : JustfileRequest) (p : ProjectRequest) → FindsProjectOf told j (Ok p) → (s : SourcesRequest) × LoadsSources told j (Ok s) × FindsProject s (Ok p)
-sources_of told j p (stops e lost is) = absurd (refused_or_found e p (sym is))
-sources_of told j p (goes_on s loads finds) = (s, loads, finds)
+module _ (c : Config) (q : LaidRequest) where
+  replies_one : GivesOwn (Replies c q)
+  replies_one s r t (Replies.by_list names x some lists is) own (Replies.by_list others y also o at) other =
+      is ∙ (ap (λ z. as_list z) (texts.listings q.environ.pairs c q.laid others x y (subst (λ (ns : List (List ℕ)). ListsLaid q.environ.pairs c q.laid ns x) (held_one _ names others some also) lists) o) ∙ sym at)
+  replies_one s r t (Replies.by_list names x some lists is) own (Replies.by_plan y none o at) other = absurd (held_none _ names none some)
+  replies_one s r t (Replies.by_plan x none plans is) own (Replies.by_list names y some o at) other = absurd (held_none _ names none some)
+  replies_one s r t (Replies.by_plan x none plans is) own (Replies.by_plan y never o at) other =
+      is ∙ (ap (λ z. as_plan z) (plans_keys s x y plans (own_plan x r is own) o (own_plan y t at other)) ∙ sym at)
 
-planned_in : (told after : Option World) (acts : List Act) (s : SourcesRequest) (p : ProjectRequest) (x : Result Outline Error) → FindsProject s (Ok p) → PlansLoaded told acts after p x → IsOwn x → PlansIn told acts after s x
-planned_in told after acts s p x finds (Behind.refused e (cs, is, loads, leaves) refuses) own =
-    let owned = own_refused LoadedRequest x e refuses own in
-    (cs, own_acts {A = LoadedRequest} p.wanted.flags p.justfile cs (Err e) acts is owned, PlansSources.of_project p finds (stops e loads refuses), own_world {A = LoadedRequest} told after cs (Err e) owned leaves)
-planned_in told after acts s p x finds (Behind.both q front back between (cs, is, loads, leaves) (nothing, world, plans) split) own =
-    (cs, split ∙ (ap (λ l. front ++ l) nothing ∙ (append-nil front ∙ is)), PlansSources.of_project p finds (goes_on q loads plans), world ∙ own_world {A = LoadedRequest} told between cs (Ok q) tt leaves)
-
-planned_at : (told between after : Option World) (acts front back : List Act) (q : LocatedRequest) (p : ProjectRequest) (x : Result Outline Error) → FindsProjectAt told front between q (Ok p) → PlansLoaded between back after p x → IsOwn x → acts ≡ front ++ back
-    → PlansAt told acts after q x
-planned_at told between after acts front back q p x (Behind.refused e lost is) plans own all = absurd (refused_or_found e p (sym is))
-planned_at told between after acts front back q p x (Behind.both j some none among takes (nothing, still, finds) split) plans own all =
-    let k = sources_of among j p finds in
-    Behind.both j some back among takes (Behind.both k.0 [] back among (refl, refl, k.1) (planned_in among after back k.0 p x k.2 (subst (λ t. PlansLoaded t back after p x) still plans) own) refl)
-    (all ∙ ap (λ l. l ++ back) (split ∙ (ap (λ l. some ++ l) nothing ∙ append-nil some)))
+  loaded_one : GivesOwnOf EndsLoaded (RepliesLoaded c q)
+  loaded_one =
+      then_own_of EndsLoaded (λ (s : ScopesRequest). Unit {0}) EvaluatesVariables (Replies c q) evaluates_variables (λ k ends found p. tt) (own_of (λ (s : ScopesRequest). Unit {0}) (Replies c q) replies_one)
 
 -- a justfile gives one answer, and sets fallback or doesn't
 pub answers_one : AnswersOne
 answers_one w acts more rest left after later q r s f g (AnswersAt.no_project e a is none) own (AnswersAt.no_project d b at never) other all told = record {
   answer =
       agrees_as (Err e) (Err d) r s rest left after later is at
-      (agrees_refusal e d rest left after later (project_own w acts more rest left after later q (Err e) (Err d) a (own_refused ProjectRequest r e is own) b (own_refused ProjectRequest s d at other) all told));
+      (agrees_refusal e d rest left after later (project_own w acts more rest left after later q (Err e) (Err d) a (own_refused LaidRequest r e is own) b (own_refused LaidRequest s d at other) all told));
   fallback = none ∙ sym never;
 }
 answers_one w acts more rest left after later q r s f g (AnswersAt.no_project e a is none) own (AnswersAt.of_project p front back between b plans split at) other all told =
     let two = in_two more front back left split in
-    absurd (refused_or_found e p (project_own w acts front rest (back ++ left) after between q (Err e) (Ok p) a (own_refused ProjectRequest r e is own) b tt (all ∙ two) (subst (λ l. AreToldBehind l) two told)).same)
+    absurd (refused_or_found e p (project_own w acts front rest (back ++ left) after between q (Err e) (Ok p) a (own_refused LaidRequest r e is own) b tt (all ∙ two) (subst (λ l. AreToldBehind l) two told)).same)
 answers_one w acts more rest left after later q r s f g (AnswersAt.of_project p front back between a plans split is) own (AnswersAt.no_project d b at never) other all told =
     let two = in_two acts front back rest split in
-    absurd (refused_or_found d p (project_own w more front left (back ++ rest) later between q (Err d) (Ok p) b (own_refused ProjectRequest s d at other) a tt (sym all ∙ two) (subst (λ l. AreToldBehind l) (sym all ∙ two) told)).same)
+    absurd (refused_or_found d p (project_own w more front left (back ++ rest) later between q (Err d) (Ok p) b (own_refused LaidRequest s d at other) a tt (sym all ∙ two) (subst (λ l. AreToldBehind l) (sym all ∙ two) told)).same)
 answers_one w acts more rest left after later q r s f g (AnswersAt.of_project p front back between a plans split is) own (AnswersAt.of_project k fore hind among b others cut at) other all told =
     let two = in_two more fore hind left cut in
-    let project = project_own w front fore (back ++ rest) (hind ++ left) between among q (Ok p) (Ok k) a tt b tt (sym (in_two acts front back rest split) ∙ (all ∙ two)) (subst (λ l. AreToldBehind l) two told) in
+    let told_so : AreToldBehind (fore ++ (hind ++ left)) = subst (λ l. AreToldBehind l) two told in
+    let project = project_own w front fore (back ++ rest) (hind ++ left) between among q (Ok p) (Ok k) a tt b tt (sym (in_two acts front back rest split) ∙ (all ∙ two)) told_so in
+    let found : p ≡ k = same_found p k project.same in
     record {
-      answer = plan_own w acts more rest left after later q r s (planned_at (Some w) between after acts front back q p r a plans own split) own (planned_at (Some w) among later more fore hind q k s b others other cut) other all told;
-      fallback = is ∙ ap (λ (z : ProjectRequest). (settings_of z.justfile).fallback) (same_found p k project.same) ∙ sym at;
+      answer =
+          modules_one (RepliesLoaded q.config k) (loaded_one q.config k) project.world back hind rest left after later k (project_ends (Some w) among fore q k b) r s
+          (subst (λ (z : LaidRequest). RepliesTo q.config (Some project.world) back after z r) found (subst (λ t. RepliesTo q.config t back after p r) project.told plans)) own (subst (λ t. RepliesTo q.config t hind later k s) project.also others) other project.rests
+          (told_later fore (hind ++ left) told_so);
+      fallback = is ∙ ap (λ (z : LaidRequest). (settings_of z.laid.justfile).fallback) found ∙ sym at;
     }
 
 pub tries_own : GivesOwnStep Tries
@@ -331,12 +358,76 @@ tries_own w acts more rest left after later q r s (x, p, is) own (y, o, at) othe
     let one = from_one c answers_one w acts more rest left after later q.location x y (climb_of_first c (Some w) acts after q.location x p) (own_answer q.config x r is own) (climb_of_first c (Some w) more later q.location y o) (own_answer q.config y s at other) all told in
     record { same = is ∙ (ap (λ z. allowed q.config z) one.same ∙ sym at); rests = one.rests; world = one.world; told = one.told; also = one.also }
 
+-- ---- commands
+
+-- what is shown is determined where the text is
+prints_own : (c : Config) → GivesOwn (PrintsIt c)
+prints_own c q r s (x, p, is) own (y, o, at) other = is ∙ (ap (λ z. as_shown z) (texts.prints q.environ.pairs c q.laid x y p o) ∙ sym at)
+
+evaluates_own : (c : Config) → GivesOwn (EvaluatesIt c)
+evaluates_own c s r t (x, p, is) own (y, o, at) other =
+    is ∙ (ap (λ z. as_shown (as_printed z)) (texts.evaluates (format_of c) s.modules s.scopes s.justfile (names_of_words s.wanted.words) x y p o) ∙ sym at)
+
+values_one : (c : Config) → GivesOwnOf EndsLoaded (Then EvaluatesVariables (EvaluatesIt c))
+values_one c = then_own_of EndsLoaded (λ (s : ScopesRequest). Unit {0}) EvaluatesVariables (EvaluatesIt c) evaluates_variables (λ k ends found p. tt) (own_of (λ (s : ScopesRequest). Unit {0}) (EvaluatesIt c) (evaluates_own c))
+
+-- a file has one text
+text_one : (w : World) (path x y : List ℕ) → told_read w path ≡ Ok x → told_read w path ≡ Ok y → x ≡ y
+text_one w path x y p q = let both : ◌≡◌ {A = Result (List ℕ) Miss} (Ok x) (Ok y) = sym p ∙ q in cc
+
+miss_one : (w : World) (path : List ℕ) (x y : Miss) → told_read w path ≡ Err x → told_read w path ≡ Err y → x ≡ y
+miss_one w path x y p q = let both : ◌≡◌ {A = Result (List ℕ) Miss} (Err x) (Err y) = sym p ∙ q in cc
+
+text_or_miss : (w : World) (path x : List ℕ) (m : Miss) → told_read w path ≡ Ok x → told_read w path ≡ Err m → ⊥
+text_or_miss w path x m p q = let both : ◌≡◌ {A = Result (List ℕ) Miss} (Ok x) (Err m) = sym p ∙ q in let no : ⊥ = cc in no
+
+-- and one refusal that isn't a fault of the host's: the miss
+miss_of : (w : World) (path : List ℕ) (f : SearchError) → ReadsText (Some w) path (Err f) → is_fault (error_of_search f) ≡ false → (m : Miss) × (f ≡ search_error.Load path (fault.Missed m)) × (told_read w path ≡ Err m)
+miss_of w path f (fault.Missed m, is, fits) calm = (m, is, fits)
+miss_of w path f (fault.Failed c, is, fits) calm = absurd (true≢false (sym (ap (λ z. is_fault (error_of_search z)) is) ∙ calm))
+miss_of w path f (fault.NoMemory, is, fits) calm = absurd fits
+
+-- what is made anew is determined where the text is
+formats_own : (w : World) (c : Config) (from : Origin) → GivesOwn (FormatsFile (Some w) c from)
+formats_own w c from j r s (FormatsFile.unread f p is) own (FormatsFile.unread g q at) other =
+    let m = miss_of w j.justfile f p (own_refused LaidRequest r (error_of_search f) is own).0 in
+    let n = miss_of w j.justfile g q (own_refused LaidRequest s (error_of_search g) at other).0 in
+    let same : f ≡ g = m.1 ∙ (ap (λ z. search_error.Load j.justfile (fault.Missed z)) (miss_one w j.justfile m.0 n.0 m.2 n.2) ∙ sym n.1) in
+    is ∙ (ap (λ (z : SearchError). let into : Result Other Error = Err (error_of_search z) in into) same ∙ sym at)
+formats_own w c from j r s (FormatsFile.unread f p is) own (FormatsFile.read text y q formats at) other =
+    let m = miss_of w j.justfile f p (own_refused LaidRequest r (error_of_search f) is own).0 in absurd (text_or_miss w j.justfile text m.0 q m.2)
+formats_own w c from j r s (FormatsFile.read text x p formats is) own (FormatsFile.unread g q at) other =
+    let n = miss_of w j.justfile g q (own_refused LaidRequest s (error_of_search g) at other).0 in absurd (text_or_miss w j.justfile text n.0 p n.2)
+formats_own w c from j r s (FormatsFile.read text x p formats is) own (FormatsFile.read now y q others at) other =
+    let same : text ≡ now = text_one w j.justfile text now p q in
+    let anew : x ≡ y = texts.formats c j.environ.pairs (source_at j.justfile now) x y (subst (λ (t : List ℕ). Formats c j.environ.pairs (source_at j.justfile t) x) same formats) others in
+    is ∙ (ap (λ (t : List ℕ). anew_or c.check (is_file from) j.justfile t x) same ∙ (ap (λ z. anew_or c.check (is_file from) j.justfile now z) anew ∙ sym at))
+
+-- each of them asks one thing of the justfile in a place
+commands_own : (k : Kind) → GivesOwnStep (CommandsAt k)
+commands_own kind.Print w acts more rest left after later q r s p own o other all told =
+    behind_own FindsProjectAt (Looks (λ now. PrintsIt q.config)) project_own (looks_own (λ now. PrintsIt q.config) (λ v. prints_own q.config)) w acts more rest left after later q r s p own o other all told
+commands_own kind.Evaluate w acts more rest left after later q r s p own o other all told =
+    behind_own_of FindsProjectAt (EvaluatesLaid q.config) Ends project_own project_ends (modules_one (Then EvaluatesVariables (EvaluatesIt q.config)) (values_one q.config)) w acts more rest left after later q r s p own o other all told
+commands_own kind.Clean w acts more rest left after later q r s p own o other all told =
+    behind_own FindsProjectAt (Looks (λ now. CleansIt q.config)) project_own (looks_own (λ now. CleansIt q.config) (λ v k x y a m b n. a ∙ sym b)) w acts more rest left after later q r s p own o other all told
+commands_own kind.Format w acts more rest left after later q r s p own o other all told =
+    behind_own TakesFile (Looks (λ now. FormatsFile now q.config q.location.origin)) takes_file (looks_own (λ now. FormatsFile now q.config q.location.origin) (λ v. formats_own v q.config q.location.origin)) w acts more rest left after later q r s p own o other all told
+commands_own kind.Run w acts more rest left after later q r s p own o other all told = absurd p
+commands_own kind.New w acts more rest left after later q r s p own o other all told = absurd p
+commands_own kind.Respond w acts more rest left after later q r s p own o other all told = absurd p
+commands_own kind.Later w acts more rest left after later q r s p own o other all told = absurd p
+
 -- ---- behind the configuration
 
--- what is run, or a new justfile, is determined where what it comes from is
-own_run : (x : Result Outline Error) (r : Result Asked Error) → r ≡ as_run x → IsOwn r → IsOwn x
-own_run (Ok o) r is own = tt
-own_run (Err e) r is own = subst (λ (z : Result Asked Error). IsOwn z) is own
+-- what is asked for is determined where what it comes from is
+own_reply : (x : Result Reply Error) (r : Result Asked Error) → r ≡ as_reply x → IsOwn r → IsOwn x
+own_reply (Ok o) r is own = tt
+own_reply (Err e) r is own = subst (λ (z : Result Asked Error). IsOwn z) is own
+
+own_other : (x : Result Other Error) (r : Result Asked Error) → r ≡ as_other x → IsOwn r → IsOwn x
+own_other (Ok c) r is own = tt
+own_other (Err e) r is own = subst (λ (z : Result Asked Error). IsOwn z) is own
 
 own_new : (x : Result (List ℕ) Error) (r : Result Asked Error) → r ≡ as_new x → IsOwn r → IsOwn x
 own_new (Ok path) r is own = tt
@@ -344,11 +435,38 @@ own_new (Err e) r is own = subst (λ (z : Result Asked Error). IsOwn z) is own
 
 runs_own : GivesOwnStep RunsTried
 runs_own w acts more rest left after later q r s (x, p, is) own (y, o, at) other all told =
-    let one = tries_own w acts more rest left after later q x y p (own_run x r is own) o (own_run y s at other) all told in
-    record { same = is ∙ (ap (λ z. as_run z) one.same ∙ sym at); rests = one.rests; world = one.world; told = one.told; also = one.also }
+    let one = tries_own w acts more rest left after later q x y p (own_reply x r is own) o (own_reply y s at other) all told in
+    record { same = is ∙ (ap (λ z. as_reply z) one.same ∙ sym at); rests = one.rests; world = one.world; told = one.told; also = one.also }
 
-asks_new_own : (w : World) → GivesOwn (AsksNew (Some w))
-asks_new_own w k r s (x, p, is) own (y, q, at) other = is ∙ (ap (λ z. as_new z) (new_own w k.config x y p (own_new x r is own) q (own_new y s at other)) ∙ sym at)
+-- a command asks one thing of the justfile in a place
+command_own : (k : Kind) → GivesOwnStep (CommandAsks k)
+command_own k w acts more rest left after later q r s (x, p, is) own (y, o, at) other all told =
+    let one = commands_own k w acts more rest left after later q x y p (own_other x r is own) o (own_other y s at other) all told in
+    record { same = is ∙ (ap (λ z. as_other z) one.same ∙ sym at); rests = one.rests; world = one.world; told = one.told; also = one.also }
+
+by_own : (k : Kind) → GivesOwnStep (AsksBy k)
+by_own kind.Run = runs_own
+by_own kind.New = command_own kind.New
+by_own kind.Respond = command_own kind.Respond
+by_own kind.Format = command_own kind.Format
+by_own kind.Clean = command_own kind.Clean
+by_own kind.Evaluate = command_own kind.Evaluate
+by_own kind.Print = command_own kind.Print
+by_own kind.Later = command_own kind.Later
+
+at_own : GivesOwnStep AsksAt
+at_own w acts more rest left after later q r s p own o other all told = by_own (kind_of q.config.subcommand) w acts more rest left after later q r s p own o other all told
+
+-- and so does one that reads none
+alone_own : (w : World) (k : Kind) → GivesOwn (AsksAlone k (Some w))
+alone_own w kind.New c r s (x, p, is) own (y, q, at) other = is ∙ (ap (λ z. as_new z) (new_own w c.config x y p (own_new x r is own) q (own_new y s at other)) ∙ sym at)
+alone_own w kind.Respond c r s p own q other = p ∙ sym q
+alone_own w kind.Run c r s p own q other = absurd p
+alone_own w kind.Format c r s p own q other = absurd p
+alone_own w kind.Clean c r s p own q other = absurd p
+alone_own w kind.Evaluate c r s p own q other = absurd p
+alone_own w kind.Print c r s p own q other = absurd p
+alone_own w kind.Later c r s p own q other = absurd p
 
 -- what only the words answer takes no act
 one_text : (w : World) (acts more rest left : List Act) (after later : Option World) (x : Asked) (r s : Result Asked Error) → (acts ≡ []) × (after ≡ Some w) × (r ≡ Ok x) → (more ≡ []) × (later ≡ Some w) × (s ≡ Ok x) → acts ++ rest ≡ more ++ left
@@ -365,13 +483,14 @@ one_text w acts more rest left after later x r s (none, world, is) (never, still
 module _ (ls ms : List Entry) (none : NoneFailed ls) (never : NoneFailed ms) where
   searches_agree : Agree (Searches ls) (Searches ms)
   searches_agree =
-      behind_agree (Looks (λ told. FindsJustfile (FindsLocation told ls))) (Looks (λ told. FindsJustfile (FindsLocation told ms))) RunsTried RunsTried
-      (looks_agree (λ told. FindsJustfile (FindsLocation told ls)) (λ told. FindsJustfile (FindsLocation told ms)) (λ w. finds_justfile w ls ms none never)) runs_own
+      behind_agree (Looks (λ told. FindsJustfile (FindsLocation told ls))) (Looks (λ told. FindsJustfile (FindsLocation told ms))) AsksAt AsksAt
+      (looks_agree (λ told. FindsJustfile (FindsLocation told ls)) (λ told. FindsJustfile (FindsLocation told ms)) (λ w. finds_justfile w ls ms none never)) at_own
 
   decides_agree : Agree (Decides ls) (Decides ms)
-  decides_agree w acts more rest left after later c r s (Decides.reads_none is p) own (Decides.reads_none at q) other all told = looks_own AsksNew asks_new_own w acts more rest left after later c r s p own q other all told
-  decides_agree w acts more rest left after later c r s (Decides.reads_none is p) own (Decides.reads_one at q) other all told = absurd (true≢false (sym is ∙ at))
-  decides_agree w acts more rest left after later c r s (Decides.reads_one is p) own (Decides.reads_none at q) other all told = absurd (true≢false (sym at ∙ is))
+  decides_agree w acts more rest left after later c r s (Decides.reads_none is listed p) own (Decides.reads_none at empty q) other all told =
+      looks_own (AsksAlone (kind_of c.config.subcommand)) (λ v. alone_own v (kind_of c.config.subcommand)) w acts more rest left after later c r s p own q other all told
+  decides_agree w acts more rest left after later c r s (Decides.reads_none is listed p) own (Decides.reads_one at q) other all told = absurd (true≢false (sym at ∙ is))
+  decides_agree w acts more rest left after later c r s (Decides.reads_one is p) own (Decides.reads_none at empty q) other all told = absurd (true≢false (sym is ∙ at))
   decides_agree w acts more rest left after later c r s (Decides.reads_one is p) own (Decides.reads_one at q) other all told = searches_agree w acts more rest left after later c r s p own q other all told
 
   serves_agree : Agree (Serves ls) (Serves ms)

@@ -1,11 +1,13 @@
 -- A run keeps its promise: from what its steps, its drive, the telling of its error and the removal of its folders ensure.
-use Rattle.std.proofs.Common.{◌≡◌, ◌++◌, inl, inr, ℕ, Bool, true, false, true≢false, List, [], Option, Some, None, Result, Ok, Err, IfOk, IfErr, refl, sym, ◌∙◌, ap, subst, append_assoc, append-nil}
+use Rattle.std.proofs.Common.{◌≡◌, ◌++◌, inl, inr, ℕ, Bool, true, false, true≢false, List, [], ◌∷◌, Option, Some, None, Result, Ok, Err, IfOk, IfErr, refl, sym, ◌∙◌, ap, subst, append_assoc, append-nil}
 use Rattle.std.specs.List.{list_any}
 use Rattle.std.proofs.Math.Logic.{∥∥₁_map}
 use Rattle.std.proofs.lemmas.List.{append_cancel_left}
 use Rattle.just_host_record.specs.World.{World, Moment}
 use Rattle.just_host_record.specs.Record.{is_failed, is_started}
 use Rattle.just_host_record.specs.declared.entry.Entry.{Entry}
+use Rattle.just_host_record.specs.declared.entry.Entry.TheVariants as entry
+use Rattle.just_host_record.specs.declared.entry.Stream.TheVariants as stream
 use Rattle.just_sched_history.specs.declared.event.Event.{Event}
 use Rattle.just_sched_history.specs.declared.event.Verdict.{Verdict}
 use Rattle.just_sched_history.specs.declared.event.Verdict.TheVariants as verdict
@@ -28,12 +30,20 @@ use Rattle.just_cli.specs.Acts.{Act, AreActs, folders_in, captures_in}
 use Rattle.just_cli.specs.Altered.{IsAltered, EndsAsItWas, StaysAsItWas}
 use Rattle.just_cli_plan.specs.Pairs.{entries_of as entries_in}
 use Rattle.just_cli.specs.Preparing.{EndsWith, LeavesActs, EndsActs, Performs, Prepares}
-use Rattle.just_cli.specs.Record.{Gains, IsTold, is_captured, IsQuiet, Removes, EndsWell, EndsIll, EndsUnopened, EndsBefore}
+use Rattle.just_config.specs.declared.help.TheConstants.{HELP}
+use Rattle.just_cli_texts.specs.declared.printed.Printed.{Printed}
+use Rattle.just_cli.specs.declared.task.Other.{Other}
+use Rattle.just_cli.specs.declared.task.Other.TheVariants as no_run
+use Rattle.just_cli.specs.Faults.{entries_of}
+use Rattle.just_cli.specs.Other.{Does, HeedsQuiet, LeavesFor, StaysFor}
+use Rattle.just_cli.specs.Printing.{told_beside, IsUnprintedBy, IsPrinted, IsIdle}
+use Rattle.just_cli.specs.Questions.{version_line, IsShown}
+use Rattle.just_cli.specs.Record.{Gains, IsTold, AreRefusals, is_captured, IsQuiet, Removes, EndsWell, EndsIll, EndsUnopened, EndsBefore}
 use Rattle.just_cli_plan.specs.Request.{outline_of}
 use Rattle.just_cli.specs.Answered.{Asking, RefusedFor, IsServed}
 use Rattle.just_cli.specs.Asked.{Asked}
 use Rattle.just_cli.specs.Request.{ArePassed}
-use Rattle.just_cli.specs.Run.{HasPlan, IsRun, IsRefused, refusal}
+use Rattle.just_cli.specs.Run.{HasPlan, IsRun, IsRefused, IsOther, refusal}
 use Rattle.just_exec.specs.Codes.{exit_code}
 use Rattle.just_cli.proofs.Altering.{quiet_first, quiet_rest, clearing, removes_none, behind_book, ends_as_it_was, stays_as_it_was}
 use Rattle.just_cli.proofs.Answered.{AsksOneIn, is_found}
@@ -140,6 +150,102 @@ pub refused_before : (q : Asking) (before between middle after : Moment) → Ask
 refused_before q before between middle after one quiet kept made r e h is no_history none (listings, passed, p) asks_quiet tells world removes =
     let same : r ≡ Err (refusal e) = is ∙ ap (λ es. let x : Failure = record { error = e; plan = None; history = es; code = exit_code e } in Err x) no_history in
     subst (λ x. IsRefused q e before after x) (sym same) (refused q before between middle after quiet kept made none e listings p tells world removes one passed asks_quiet)
+
+-- ---- what is no run
+
+-- the folders are removed behind it
+cleared_so : (folders acts : List (List ℕ)) (settled after : Moment) → folders ≡ acts → Removes folders settled after → Gains AreRefusals settled after × Removes acts settled after
+cleared_so folders acts settled after same removes =
+    let c = clearing folders settled after removes in
+    ((c.0, c.1, c.2), subst (λ fs. Removes fs settled after) same removes)
+
+-- the record gained some entries, and the world stays
+abbrev GainsStill : Moment → Moment → Type 0
+GainsStill between settled = (xs : List Entry) × (settled.entries ≡ between.entries ++ xs) × (settled.world ≡ between.world)
+
+shown_still : (text : List ℕ) (between settled : Moment) (r : Result Report Failure) → IsShown text between settled r → GainsStill between settled
+shown_still text between settled (Ok x) k = (entry.Printed stream.Out text ∷ [], k.shown.1, k.world)
+shown_still text between settled (Err f) k =
+    let ends = k.unshown.4 in
+    let s = ends.stretches in (s.pre ++ (s.mid ++ s.post), s.grew, k.world)
+
+unprinted_gains : (p : Printed) (quiet : Bool) (e : Error) (old now : List Entry) → IsUnprintedBy p quiet e old now → (xs : List Entry) × (now ≡ old ++ xs)
+unprinted_gains p quiet e old now (IsUnprintedBy.no_text why grew) = (entries_of e, grew)
+unprinted_gains p quiet e old now (IsUnprintedBy.no_line line some loud why grew) = (entry.Printed stream.Out p.text ∷ entries_of e, grew)
+
+printed_still : (p : Printed) (quiet : Bool) (between settled : Moment) (r : Result Report Failure) → IsPrinted p quiet between settled r → GainsStill between settled
+printed_still p quiet between settled (Ok x) k = (entry.Printed stream.Out p.text ∷ told_beside quiet p.told, k.printed.1, k.world)
+printed_still p quiet between settled (Err f) k =
+    let why = k.unprinted.1 in
+    let gains = unprinted_gains p quiet f.error between.entries why.0 why.1 in
+    let told = why.2 in
+    (gains.0 ++ told.0, told.1 ∙ (ap (λ l. l ++ told.0) gains.1 ∙ append_assoc between.entries gains.0 told.0), k.world)
+
+idle_still : (between settled : Moment) (r : Result Report Failure) → IsIdle between settled r → GainsStill between settled
+idle_still between settled r k = ([], k.entries ∙ sym (append-nil between.entries), k.world)
+
+module _ (q : Asking) (before between settled after : Moment) (listings : List Entry) (kept made : List (List ℕ)) (none : kept ≡ []) (x : Asked) (p : Ready q listings before between kept made (Ok x)) (removes : Removes made settled after) where
+  removed_here : Removes (folders_in p.acts) settled after
+  removed_here = subst (λ fs. Removes fs settled after) (made_are kept made (folders_in p.acts) none p.folders) removes
+
+  still_behind : GainsStill between settled → (es : List Entry) → after.entries ≡ before.entries ++ es → IsQuiet es → StaysAsItWas (folders_in p.acts) before.world after.world
+  still_behind (xs, gained, world) es grown calm =
+      let c = clearing (folders_in p.acts) settled after removed_here in
+      let rest = xs ++ c.0 in
+      let same : es ≡ listings ++ (p.entries ++ rest) =
+      append_cancel_left before.entries es (listings ++ (p.entries ++ rest))
+      (sym grown ∙ (c.1 ∙ (ap (λ l. l ++ c.0) (gained ∙ ap (λ l. l ++ xs) p.grew) ∙ (append_assoc ((before.entries ++ listings) ++ p.entries) xs c.0 ∙ (append_assoc (before.entries ++ listings) p.entries rest ∙ append_assoc before.entries listings (p.entries ++ rest)))))) in
+      let alone : captures_in p.acts ≡ [] =
+      no_children p.acts p.leaves.0 p.leaves.1
+      (ap (λ l. list_any is_captured l) (sym p.leaves.2) ∙ quiet_first is_captured p.entries rest (quiet_rest is_captured listings (p.entries ++ rest) (ap (λ l. list_any is_captured l) (sym same) ∙ calm.no_capture))) in
+      let still : list_any is_failed (p.entries ++ rest) ≡ false = quiet_rest is_failed listings (p.entries ++ rest) (ap (λ l. list_any is_failed l) (sym same) ∙ calm.no_failure) in
+      stays_as_it_was (folders_in p.acts) before.world between.world after.world (λ empty. p.still empty alone (quiet_first is_failed p.entries rest still)) (p.alters [] alone (quiet_first is_failed p.entries rest still))
+      (λ empty. ap (λ (m : Moment). m.world) (removes_none (folders_in p.acts) settled after empty removed_here) ∙ world)
+      (subst (λ w. IsAltered (folders_in p.acts) [] w after.world) world (c.3 [] (quiet_rest is_failed xs c.0 (quiet_rest is_failed p.entries rest still))))
+
+  stays_for : (c : Other) (quiet : Bool) (r : Result Report Failure) → Does c quiet between settled r → (es : List Entry) → after.entries ≡ before.entries ++ es → IsQuiet es → StaysFor c (folders_in p.acts) before.world after.world
+  stays_for no_run.Help quiet r does es grown calm = still_behind (shown_still HELP.now between settled r does) es grown calm
+  stays_for no_run.Version quiet r does es grown calm = still_behind (shown_still version_line between settled r does) es grown calm
+  stays_for (no_run.Init path) quiet r does es grown calm = tt
+  stays_for (no_run.Show what) quiet r does es grown calm = still_behind (printed_still what quiet between settled r does) es grown calm
+  stays_for no_run.Nothing quiet r does es grown calm = still_behind (idle_still between settled r does) es grown calm
+  stays_for (no_run.Write path text) quiet r does es grown calm = tt
+  stays_for (no_run.Clean folder path) quiet r does es grown calm = tt
+
+-- what was done for it
+pub other_done : (q : Asking) (before between settled after : Moment) → AsksOneIn q before.world → (kept made : List (List ℕ)) (x : Asked) (c : Other) (quiet : Bool) (r : Result Report Failure)
+    → ((listings : List Entry) (acts : List Act) (es : List Entry) → LeavesActs listings acts es → LeavesFor c listings acts es) → kept ≡ [] → Prepares {A = Asked} q.global q.asks q.begins before between kept made (Ok x)
+    → HeedsQuiet q.quiet c quiet → Does c quiet between settled r → Removes made settled after → IsOther q x c before after r
+other_done q before between settled after one kept made x c quiet r leaves none (listings, passed, p) heeds does removes = record {
+  listings = listings;
+  acts = p.acts;
+  between = between;
+  settled = settled;
+  found = is_found q before.world one listings passed p.acts between.world (Ok x) p.answers;
+  prepared = (listings ++ p.entries, p.grew ∙ append_assoc before.entries listings p.entries, leaves listings p.acts (listings ++ p.entries) (leaves_behind listings p.acts p.entries p.leaves));
+  quiet = quiet;
+  quiet_is = heeds;
+  done = does;
+  cleared = cleared_so made (folders_in p.acts) settled after (made_are kept made (folders_in p.acts) none p.folders) removes;
+  untouched = λ es grown calm. stays_for q before between settled after listings kept made none x p removes c quiet r does es grown calm;
+}
+
+-- a question takes nothing
+pub question_done : (q : Asking) (before between settled after : Moment) → AsksOneIn q before.world → (kept made : List (List ℕ)) (c : Other) (quiet : Bool) (r : Result Report Failure) → LeavesFor c [] [] [] → (Does c quiet before settled r → settled.world ≡ before.world) → (after.world ≡ before.world → StaysFor c [] before.world after.world) → kept ≡ [] → made ≡ kept → between ≡ before
+    → q.asks [] [] before.world (Ok (Asked.other c)) → HeedsQuiet q.quiet c quiet → Does c quiet between settled r → Removes made settled after → IsOther q (Asked.other c) c before after r
+question_done q before between settled after one kept made c quiet r leaves still stays none same at asks heeds does removes = record {
+  listings = [];
+  acts = [];
+  between = before;
+  settled = settled;
+  found = is_found q before.world one [] (inl refl) [] before.world (Ok (Asked.other c)) asks;
+  prepared = ([], sym (append-nil before.entries), leaves);
+  quiet = quiet;
+  quiet_is = heeds;
+  done = subst (λ (m : Moment). Does c quiet m settled r) at does;
+  cleared = cleared_so made [] settled after (same ∙ none) removes;
+  untouched = λ es grown calm. stays (ap (λ (m : Moment). m.world) (removes_none made settled after (same ∙ none) removes) ∙ still (subst (λ (m : Moment). Does c quiet m settled r) at does));
+}
 
 -- ---- with a plan
 

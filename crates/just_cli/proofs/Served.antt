@@ -10,7 +10,6 @@ use Rattle.just_sched_history.specs.Start.{run_over}
 use Rattle.just_sched_history.specs.declared.plan.Plan.{Plan}
 use Rattle.just_exec.specs.declared.error.Error.{Error}
 use Rattle.just_cli_plan.specs.Own.{is_fault, is_uncaptured}
-use Rattle.just_cli_plan.specs.Request.{Outline}
 use Rattle.just_cli_plan.proofs.Steps.{refused_or_found}
 use Rattle.just_cli.specs.declared.ended.Failure.{Failure}
 use Rattle.just_cli.specs.declared.ended.Report.{Report}
@@ -45,10 +44,10 @@ module _ (q : Asking) (listings : List Entry) (acts : List Act) (jobs : Option �
   stood_before unplanned (call_failed is asks) k = inr (inr (hindered_before unplanned (ap (λ b. b || is_uncaptured f.error) is) k))
   stood_before unplanned (uncaptured is asks) k = inr (inr (hindered_before unplanned (or_true (is_fault f.error) (is_uncaptured f.error) is) k))
 
-  -- where it is refused, no run is asked for, or it is refused beside that
-  stood_against : (o : Outline) → f.plan ≡ None → Fits q listings acts opened.world (Err f.error) (Ok (Asked.run o)) → EndsUnopened listings acts quiet f.error before opened after → Stood
-  stood_against o unplanned (inl same) k = absurd (refused_or_found f.error (Asked.run o) (sym same))
-  stood_against o unplanned (inr beside) k = stood_before unplanned beside k
+  -- where it is refused, nothing is asked for that is found, or it is refused beside that
+  stood_against : (x : Asked) → f.plan ≡ None → Fits q listings acts opened.world (Err f.error) (Ok x) → EndsUnopened listings acts quiet f.error before opened after → Stood
+  stood_against x unplanned (inl same) k = absurd (refused_or_found f.error x (sym same))
+  stood_against x unplanned (inr beside) k = stood_before unplanned beside k
 
   module _ (p : Plan) (is : f.plan ≡ Some p) (k : EndsIll listings acts p jobs messages quiet f.history f.error before opened settled after) where
     -- the run of the book, as one over what the record had gained
@@ -71,21 +70,21 @@ module _ (q : Asking) (listings : List Entry) (acts : List Act) (jobs : Option �
   abbrev ServedOver : Option World → Result Report Failure → Type 0
   ServedOver told result =
       MatchOption told (Unit {0}) (λ w.
-      NoneFailed listings → (o : Outline) → AsksIn q acts (Ok (Asked.run o)) → IfErr result (λ f. ∥ StoodAgainst q listings acts jobs before opened after f ∥₁))
+      NoneFailed listings → (x : Asked) → AsksIn q acts (Ok x) → IfErr result (λ f. ∥ StoodAgainst q listings acts jobs before opened after f ∥₁))
 
   refusal_over : (told : Option World) (quiet : Bool) (e : Error) → IsAnswered q told listings acts opened.world (Err e) → EndsUnopened listings acts quiet e before opened after → ServedOver told (Err (refusal e))
   refusal_over None quiet e answered left = tt
   refusal_over (Some w) quiet e answered left =
-      λ none o asks. ∣ stood_against q listings acts jobs [] quiet (refusal e) before opened opened after o refl (answered none (Ok (Asked.run o)) asks tt) left ∣₁
+      λ none x asks. ∣ stood_against q listings acts jobs [] quiet (refusal e) before opened opened after x refl (answered none (Ok x) asks tt) left ∣₁
 
   failure_over : (told : Option World) (settled : Moment) (messages : List Bool) (quiet : Bool) (f : Failure) (p : Plan) → f.plan ≡ Some p → ∥ EndsIll listings acts p jobs messages quiet f.history f.error before opened settled after ∥₁ → ServedOver told (Err f)
   failure_over None settled messages quiet f p is left = tt
   failure_over (Some w) settled messages quiet f p is left =
-      λ none o asks. ∥∥₁_map left (λ k. stood_within q listings acts jobs messages quiet f before opened settled after p is k (list_all is_favourable k.kept.gained) refl)
+      λ none x asks. ∥∥₁_map left (λ k. stood_within q listings acts jobs messages quiet f before opened settled after p is k (list_all is_favourable k.kept.gained) refl)
 
   report_over : (told : Option World) (r : Report) → ServedOver told (Ok r)
   report_over None r = tt
-  report_over (Some w) r = λ none o asks. tt
+  report_over (Some w) r = λ none x asks. tt
 
   -- a refusal serves what is asked for
   pub refusal_served : (quiet : Bool) (e : Error) → IsAnswered q before.world listings acts opened.world (Err e) → EndsUnopened listings acts quiet e before opened after → IsServed q listings acts jobs before opened after (Err (refusal e))

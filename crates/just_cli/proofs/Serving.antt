@@ -1,6 +1,5 @@
 -- What the preparation of a task answers and leaves, from what its calls do.
-use Rattle.std.proofs.Common.{◌≡◌, ◌++◌, inl, ℕ, Bool, true, false, List, [], Option, None, option_map, Result, Ok, Err, refl, sym, ◌∙◌, ap, subst, append-nil}
-use Rattle.std.specs.Int.NonZero.{non_zero_u64_get}
+use Rattle.std.proofs.Common.{◌≡◌, ◌++◌, inl, ℕ, Bool, true, false, List, [], Option, None, Result, Ok, Err, refl, sym, ◌∙◌, ap, subst, append-nil}
 use Rattle.just_path_text.specs.declared.environ.Environ.{Environ}
 use Rattle.just_host_record.specs.World.{World, Moment}
 use Rattle.just_host_record.proofs.Moments.{moment_by}
@@ -11,30 +10,27 @@ use Rattle.just_config_words.specs.Words.{Means}
 use Rattle.just_config.specs.declared.config.Config.{Config}
 use Rattle.just_config.specs.declared.search_config.SearchConfig.TheVariants as search
 use Rattle.just_config.specs.Config.{refusal, config_of}
-use Rattle.just_env.specs.Answers.{GainsMisses}
 use Rattle.just_search.specs.declared.location.Location.{Location}
 use Rattle.just_search.specs.Removals.{with_entries}
 use Rattle.just_exec.specs.declared.error.Error.{Error}
 use Rattle.just_exec.specs.declared.error.Error.TheVariants as error
 use Rattle.just_cli_plan.specs.Own.{OrMemory}
-use Rattle.just_cli_plan.specs.Request.{Outline, outline_of}
+use Rattle.just_cli_texts.specs.Kinds.{kind_of, reads_justfile}
 use Rattle.just_cli.specs.declared.task.Other.TheVariants as no_run
 use Rattle.just_cli.specs.declared.task.Task.{Task}
 use Rattle.just_cli.specs.declared.task.Task.TheVariants as task
-use Rattle.just_cli.specs.Acts.{Act, BeginsBehind}
-use Rattle.just_cli.specs.Asked.{Asked, Serves, EnvironGiven, FolderGiven, Asks, AsksGlobal, BeginsServes, Begins}
+use Rattle.just_cli.specs.Acts.{Act, Behind, BeginsBehind}
+use Rattle.just_cli.specs.Asked.{Asked, AsksAlone, AsksAt, BeginsAsks, Decides, Serves, EnvironGiven, FolderGiven, Asks, AsksGlobal, BeginsServes, Begins}
 use Rattle.just_cli.specs.Faults.{entries_of}
-use Rattle.just_cli.specs.NewPath.{is_init, FindsFree}
 use Rattle.just_cli.specs.Preparing.{AreMisses, EndsWith}
 use Rattle.just_cli.specs.Quiet.{AsksQuiet}
-use Rattle.just_cli.specs.Request.{ArePassed, Tries, BeginsTries}
-use Rattle.just_cli.specs.Taken.{PerformsTries}
-use Rattle.just_cli.specs.Tasks.{PreparesArguments, PreparesWords, IsServed, IsTask}
-use Rattle.just_cli.specs.Words.{ReadsWords, Configures, FindsLocation}
-use Rattle.just_cli.proofs.Chain.{arguments_in, folder_in, config_in, located_in, words_in, no_folder, no_configuration, new_path, no_path, no_location, tried_plan, tried_refusal, tried_begun, no_environ, no_words, words_ask, words_begin, asks_global}
+use Rattle.just_cli.specs.Request.{ArePassed}
+use Rattle.just_cli.specs.Tasks.{asked_in, quiet_in, IsNoQuestion, BeginsDecides, PerformsAsked, PreparesConfig, PreparesArguments, PreparesWords, IsTask}
+use Rattle.just_cli.specs.Words.{ConfigRequest, LocatedRequest, ReadsWords, Configures, FindsLocation}
+use Rattle.just_cli.proofs.Chain.{arguments_in, folder_in, config_in, located_in, words_in, no_folder, no_configuration, decided, decided_begun, no_environ, no_words, words_ask, words_begin, asks_global}
 use Rattle.just_cli.proofs.Asking.{asks_quiet}
-use Rattle.just_cli.proofs.Globals.{passed_by}
-use Rattle.just_cli.proofs.Prepared.{ends_call, ends_nothing, ends_search, performs_refusal, performs_as, performs_lost, prepares_over, memory_behind}
+use Rattle.just_cli.proofs.Globals.{global_by}
+use Rattle.just_cli.proofs.Prepared.{ends_call, ends_nothing, ends_search, performs_refusal, performs_answer, performs_as, performs_lost, prepares_over, memory_behind}
 use Rattle.just_cli.proofs.Silent.{words_silent, configuration_silent}
 
 -- what arguments ask for over a host
@@ -59,6 +55,74 @@ Served a environ before after kept keeps r = PreparesArguments (arguments_in a e
 one_world : (a b : Moment) → a ≡ b → a.world ≡ b.world
 one_world a b same = ap (λ (m : Moment). m.world) same
 
+-- ---- behind the configuration
+
+module _ (c : ConfigRequest) (before : Moment) (kept : List (List ℕ)) where
+  abbrev DecidesIt : List Entry → List Act → Option World → Result Asked Error → Type 0
+  DecidesIt listings acts world r = Decides listings before.world acts world c r
+
+  abbrev BeginsDeciding : List Entry → List Act → Option World → Type 0
+  BeginsDeciding listings acts world = BeginsDecides listings before.world acts world c
+
+  -- a command that reads no justfile
+  module _ (alone : reads_justfile (kind_of c.config.subcommand) ≡ false) (after : Moment) (world : after.world ≡ before.world) where
+    behind_nothing : (es : List Entry) → after.entries ≡ before.entries ++ es → after.entries ≡ (with_entries before []).entries ++ es
+    behind_nothing es grew = grew ∙ ap (λ l. l ++ es) (sym (append-nil before.entries))
+
+    pub alone_found : (x : Asked) → (es : List Entry) × (after.entries ≡ before.entries ++ es) × AreMisses es → AsksAlone (kind_of c.config.subcommand) before.world c (Ok x) → PreparesConfig c before after kept kept (Ok x)
+    alone_found x gains asks =
+        ([], inl refl, performs_answer (DecidesIt []) (BeginsDeciding []) (with_entries before []) after kept world (inl (refl, world)) x (gains.0, behind_nothing gains.0 gains.1, gains.2) (Decides.reads_none alone refl (refl, world, asks)))
+
+    or_alone : (e : Error) → OrMemory (λ x. AsksAlone (kind_of c.config.subcommand) before.world c (Err x)) e → OrMemory (λ x. DecidesIt [] [] after.world (Err x)) e
+    or_alone e (inl wants) = inl wants
+    or_alone e (inr asks) = inr (Decides.reads_none alone refl (refl, world, asks))
+
+    pub alone_refused : (e : Error) → (es : List Entry) × (after.entries ≡ before.entries ++ es) × EndsWith [] e es → OrMemory (λ x. AsksAlone (kind_of c.config.subcommand) before.world c (Err x)) e → PreparesConfig c before after kept kept (Err e)
+    alone_refused e gains why =
+        ([], inl refl, performs_refusal (DecidesIt []) (BeginsDeciding []) (with_entries before []) after kept world (inl (refl, world)) e (gains.0, behind_nothing gains.0 gains.1, gains.2) (or_alone e why))
+
+  -- the justfile is searched
+  module _ (reads : reads_justfile (kind_of c.config.subcommand) ≡ true) (listings : List Entry) (passed : ArePassed (c.config.search_config ≡ search.GlobalJustfile) listings) where
+    or_unfound : (after : Option World) (e : Error) → after ≡ before.world → OrMemory (λ x. FindsLocation before.world listings c.config (Err x)) e → OrMemory (λ x. DecidesIt listings [] after (Err x)) e
+    or_unfound after e world (inl wants) = inl wants
+    or_unfound after e world (inr lost) = inr (Decides.reads_one reads (Behind.refused e (refl, world, lost) refl))
+
+    pub location_lost : (after : Moment) (e : Error) → after.world ≡ before.world → after.entries ≡ before.entries ++ (listings ++ entries_of e) → OrMemory (λ x. FindsLocation before.world listings c.config (Err x)) e → PreparesConfig c before after kept kept (Err e)
+    location_lost after e world grew lost =
+        ends_search (c.config.search_config ≡ search.GlobalJustfile) DecidesIt BeginsDeciding before after kept listings passed e world (inl (refl, world)) grew (or_unfound after.world e world lost)
+
+    module _ (middle after : Moment) (listed : middle.entries ≡ before.entries ++ listings) (still : middle.world ≡ before.world) (location : Location) (finds : FindsLocation before.world listings c.config (Ok location)) where
+      listed_so : middle ≡ with_entries before listings
+      listed_so = moment_by middle (with_entries before listings) listed still
+
+      abbrev there : LocatedRequest
+      there = located_in c.config c.environ location
+
+      asked_here : (keeps : List (List ℕ)) (r : Result Asked Error) → PerformsAsked there middle after kept keeps r → PerformsAsked there (with_entries before listings) after kept keeps r
+      asked_here keeps r asks = subst (λ (m : Moment). PerformsAsked there m after kept keeps r) listed_so asks
+
+      abbrev AsksIt : List Act → Option World → Result Asked Error → Type 0
+      AsksIt acts world x = AsksAt before.world acts world there x
+
+      abbrev BeginsAsking : List Act → Option World → Type 0
+      BeginsAsking acts world = BeginsAsks before.world acts world there
+
+      decided_so : (acts : List Act) (r : Result Asked Error) → AsksIt acts after.world r → DecidesIt listings acts after.world r
+      decided_so acts r asks = Decides.reads_one reads (Behind.both there [] acts before.world (refl, refl, (refl, refl, finds)) asks refl)
+
+      or_decided : (acts : List Act) (e : Error) → OrMemory (λ x. AsksIt acts after.world (Err x)) e → OrMemory (λ x. DecidesIt listings acts after.world (Err x)) e
+      or_decided acts e (inl wants) = inl wants
+      or_decided acts e (inr asks) = inr (decided_so acts (Err e) asks)
+
+      begun_so : (acts : List Act) → BeginsAsking acts after.world → BeginsDeciding listings acts after.world
+      begun_so acts begins = inr (reads, BeginsBehind.at_second there [] acts before.world (refl, refl, (refl, refl, finds)) begins refl)
+
+      pub place_asked : (keeps : List (List ℕ)) (r : Result Asked Error) → PerformsAsked there middle after kept keeps r → PreparesConfig c before after kept keeps r
+      place_asked keeps (Ok x) asks = (listings, passed, performs_as AsksIt (DecidesIt listings) BeginsAsking (BeginsDeciding listings) (with_entries before listings) after kept keeps x x (asked_here keeps (Ok x) asks) (λ acts so. decided_so acts (Ok x) so) begun_so)
+      place_asked keeps (Err e) asks = (listings, passed, performs_lost AsksIt (DecidesIt listings) BeginsAsking (BeginsDeciding listings) (with_entries before listings) after kept keeps e (asked_here keeps (Err e) asks) (λ acts why. or_decided acts e why) begun_so)
+
+-- ---- behind the arguments
+
 module _ (before : Moment) (a : Arguments) (environ : Environ) (kept : List (List ℕ)) where
   pub folder_lost : (after : Moment) (e : Error) → after.world ≡ before.world → after.entries ≡ before.entries ++ entries_of e → OrMemory (λ x. FolderGiven before.world (Err x)) e → Served a environ before after kept kept (Err e)
   folder_lost after e world grew lost =
@@ -70,70 +134,15 @@ module _ (before : Moment) (a : Arguments) (environ : Environ) (kept : List (Lis
         ends_nothing (a.global_justfile ≡ true) (ServesIt before.world a environ) (BeginsIt before.world a environ) before after kept e world (no_act before.world after.world a environ [] world) same (configuration_silent (λ k. folder_in a k folder) environ e why)
         (no_configuration a environ before.world folder given after.world e world why)
 
-    module _ (config : Config) (gives : (refusal a ≡ None) × (config ≡ config_of a folder)) (configures : (k : Environ) → Configures (folder_in a k folder) (Ok (config_in config k)))
-        (plain : is_init config.subcommand ≡ false) (seen : Moment) (same : seen ≡ before) (listings : List Entry) (passed : ArePassed (config.search_config ≡ search.GlobalJustfile) listings) where
-      pub location_lost : (after : Moment) (e : Error) → after.world ≡ seen.world → after.entries ≡ seen.entries ++ (listings ++ entries_of e) → OrMemory (λ x. FindsLocation seen.world listings config (Err x)) e → Served a environ before after kept kept (Err e)
-      location_lost after e world grew lost =
-          let still : after.world ≡ before.world = world ∙ one_world seen before same in
-          ends_search (a.global_justfile ≡ true) (ServesIt before.world a environ) (BeginsIt before.world a environ) before after kept listings (passed_by a folder config listings gives.1 passed) e still (no_act before.world after.world a environ listings still)
-          (grew ∙ ap (λ (m : Moment). m.entries ++ (listings ++ entries_of e)) same)
-          (no_location a environ before.world folder given config configures plain listings after.world e still (subst (λ t. OrMemory (λ x. FindsLocation t listings config (Err x)) e) (one_world seen before same) lost))
-
-      module _ (middle after : Moment) (listed : middle.entries ≡ seen.entries ++ listings) (still : middle.world ≡ seen.world) (location : Location) (finds : FindsLocation seen.world listings config (Ok location)) where
-        found : FindsLocation before.world listings config (Ok location)
-        found = subst (λ t. FindsLocation t listings config (Ok location)) (one_world seen before same) finds
-
-        -- behind the listings
-        listed_so : middle ≡ with_entries before listings
-        listed_so = moment_by middle (with_entries before listings) (listed ∙ ap (λ (m : Moment). m.entries ++ listings) same) (still ∙ one_world seen before same)
-
-        -- what is asked of it and of those behind it
-        tries_here : (keeps : List (List ℕ)) (r : Result Outline Error) → PerformsTries (located_in config environ location) middle after kept keeps r → PerformsTries (located_in config environ location) (with_entries before listings) after kept keeps r
-        tries_here keeps r tries = subst (λ (m : Moment). PerformsTries (located_in config environ location) m after kept keeps r) listed_so tries
-
-        abbrev TriesIt : List Act → Option World → Result Outline Error → Type 0
-        TriesIt acts world x = Tries before.world acts world (located_in config environ location) x
-
-        abbrev BeginsTrying : List Act → Option World → Type 0
-        BeginsTrying acts world = BeginsTries before.world acts world (located_in config environ location)
-
-        pub place_planned : (keeps : List (List ℕ)) (o : Outline) → PerformsTries (located_in config environ location) middle after kept keeps (Ok o) → Served a environ before after kept keeps (Ok (Asked.run o))
-        place_planned keeps o tries = (
-          listings,
-          passed_by a folder config listings gives.1 passed,
-          performs_as TriesIt (ServesIt before.world a environ listings) BeginsTrying (BeginsIt before.world a environ listings) (with_entries before listings) after kept keeps o (Asked.run o) (tries_here keeps (Ok o) tries)
-              (λ acts so. tried_plan a environ before.world folder given config configures plain listings location found acts after.world o so)
-              (λ acts begins. tried_begun a environ before.world folder given config configures plain listings location found acts after.world begins),
-        )
-
-        pub place_refused : (keeps : List (List ℕ)) (e : Error) → PerformsTries (located_in config environ location) middle after kept keeps (Err e) → Served a environ before after kept keeps (Err e)
-        place_refused keeps e tries = (
-          listings,
-          passed_by a folder config listings gives.1 passed,
-          performs_lost TriesIt (ServesIt before.world a environ listings) BeginsTrying (BeginsIt before.world a environ listings) (with_entries before listings) after kept keeps e (tries_here keeps (Err e) tries)
-              (λ acts why. tried_refusal a environ before.world folder given config configures plain listings location found acts after.world e why)
-              (λ acts begins. tried_begun a environ before.world folder given config configures plain listings location found acts after.world begins),
-        )
-
-    -- a new justfile is asked for
-    module _ (config : Config) (configures : (k : Environ) → Configures (folder_in a k folder) (Ok (config_in config k))) (asks : is_init config.subcommand ≡ true) (seen : Moment) (same : seen ≡ before) where
-      pub new_found : (after : Moment) (path : List ℕ) → after.world ≡ seen.world → (es : List Entry) × (after.entries ≡ seen.entries ++ es) × AreMisses es → FindsFree seen.world config (Ok path)
-          → (after.world ≡ before.world) × GainsMisses before.entries after.entries × Serves [] before.world [] before.world (arguments_in a environ) (Ok (Asked.other (no_run.Init path)))
-      new_found after path world gains finds = (
-        world ∙ one_world seen before same,
-        (gains.0, gains.1 ∙ ap (λ (m : Moment). m.entries ++ gains.0) same, gains.2),
-        new_path a environ before.world folder given config configures [] asks path (subst (λ t. FindsFree t config (Ok path)) (one_world seen before same) finds),
-      )
-
-      pub new_refused : (after : Moment) (e : Error) → after.world ≡ seen.world → (es : List Entry) × (after.entries ≡ seen.entries ++ es) × EndsWith [] e es → OrMemory (λ x. FindsFree seen.world config (Err x)) e → Served a environ before after kept kept (Err e)
-      new_refused after e world gains why =
-          let still : after.world ≡ before.world = world ∙ one_world seen before same in (
-            [],
-            inl refl,
-            performs_refusal (ServesIt before.world a environ []) (BeginsIt before.world a environ []) (with_entries before []) after kept still (no_act before.world after.world a environ [] still) e
-                (gains.0, gains.1 ∙ ap (λ es. es ++ gains.0) (ap (λ (m : Moment). m.entries) same ∙ sym (append-nil before.entries)), gains.2)
-                (no_path a environ before.world folder given config configures [] asks after.world e still (subst (λ t. OrMemory (λ x. FindsFree t config (Err x)) e) (one_world seen before same) why)),
-          )
+    -- what the configuration asks for is what the arguments ask for
+    pub configured : (config : Config) → (refusal a ≡ None) × (config ≡ config_of a folder) → ((k : Environ) → Configures (folder_in a k folder) (Ok (config_in config k)))
+        → (seen after : Moment) → seen ≡ before → (keeps : List (List ℕ)) (r : Result Asked Error) → PreparesConfig (config_in config environ) seen after kept keeps r → Served a environ before after kept keeps r
+    configured config gives configures seen after same keeps r asks =
+        prepares_over (config.search_config ≡ search.GlobalJustfile) (a.global_justfile ≡ true) (λ listings acts world x. Decides listings seen.world acts world (config_in config environ) x) (ServesIt before.world a environ)
+        (λ listings acts world. BeginsDecides listings seen.world acts world (config_in config environ)) (BeginsIt before.world a environ) (global_by a folder config gives.1) after
+        (λ listings acts x decides. decided a environ before.world folder given config configures listings acts after.world x (subst (λ t. Decides listings t acts after.world (config_in config environ) x) (one_world seen before same) decides))
+        (λ listings acts begins. decided_begun a environ before.world folder given config configures listings acts after.world (subst (λ t. BeginsDecides listings t acts after.world (config_in config environ)) (one_world seen before same) begins))
+        before seen kept keeps r same asks
 
 module _ (words : List (List ℕ)) (before : Moment) (kept : List (List ℕ)) where
   pub environ_lost : (after : Moment) (e : Error) → after.world ≡ before.world → after.entries ≡ before.entries ++ entries_of e → OrMemory (λ x. EnvironGiven before.world (Err x)) e → PreparesWords words before after kept kept (Err e)
@@ -159,22 +168,21 @@ module _ (words : List (List ℕ)) (before : Moment) (kept : List (List ℕ)) wh
       asks_so : (quiet : Bool) → quiet ≡ a.quiet → AsksQuiet words before.world quiet
       asks_so quiet quiet_is = asks_quiet words before.world environ given a quiet means quiet_is
 
-      -- a run, or a new justfile
-      pub words_run : (o : Outline) (quiet : Bool) → Served a environ seen after kept keeps (Ok (Asked.run o)) × (quiet ≡ a.quiet) → PreparesWords words before after kept keeps (Ok (Asked.run o)) × AsksQuiet words before.world quiet
-      words_run o quiet served = (served_so (Ok (Asked.run o)) served.0, asks_so quiet served.1)
+      task_so : (x : Asked) (quiet : Bool) → Served a environ seen after kept keeps (Ok x) → quiet ≡ a.quiet → PreparesWords words before after kept keeps (Ok x) × AsksQuiet words before.world quiet
+      task_so x quiet served is = (served_so (Ok x) served, asks_so quiet is)
 
-      words_new : (path : List ℕ) → Serves [] seen.world [] seen.world (arguments_in a environ) (Ok (Asked.other (no_run.Init path))) → Asks words before.world [] [] before.world (Ok (Asked.other (no_run.Init path)))
-      words_new path serves =
-          subst (λ t. Asks words before.world [] [] t (Ok (Asked.other (no_run.Init path)))) still (words_ask words before.world environ given a means seen.world still [] [] seen.world (Ok (Asked.other (no_run.Init path))) serves)
+      pub words_served : (t : Task) → Served a environ seen after kept keeps (Ok (asked_in t)) → quiet_in t ≡ a.quiet → IsNoQuestion t → IsTask words before after kept keeps t
+      words_served (task.Run p jobs messages quiet) served is found = task_so (asked_in (task.Run p jobs messages quiet)) quiet served is
+      words_served (task.List p quiet) served is found = task_so (Asked.listing p) quiet served is
+      words_served (task.Other no_run.Help quiet) served is found = absurd found
+      words_served (task.Other no_run.Version quiet) served is found = absurd found
+      words_served (task.Other (no_run.Init path) quiet) served is found = task_so (Asked.other (no_run.Init path)) quiet served is
+      words_served (task.Other (no_run.Show p) quiet) served is found = task_so (Asked.other (no_run.Show p)) quiet served is
+      words_served (task.Other no_run.Nothing quiet) served is found = task_so (Asked.other no_run.Nothing) quiet served is
+      words_served (task.Other (no_run.Write path text) quiet) served is found = task_so (Asked.other (no_run.Write path text)) quiet served is
+      words_served (task.Other (no_run.Clean folder path) quiet) served is found = (served_so (Ok (Asked.other (no_run.Clean folder path))) served, asks_so quiet is, found)
 
-      pub words_served : (t : Task) → IsServed (arguments_in a environ) seen after kept keeps (Ok t) → IsTask words before after kept keeps t
-      words_served (task.Run p jobs messages quiet) served = words_run (outline_of p (option_map non_zero_u64_get jobs) messages) quiet served
-      words_served (task.Other no_run.Help quiet) served = absurd served
-      words_served (task.Other no_run.Version quiet) served = absurd served
-      words_served (task.Other (no_run.Init path) quiet) (world, keep, gains, serves, quiet_is) =
-          (world ∙ still, keep, (gains.0, gains.1 ∙ ap (λ (m : Moment). m.entries ++ gains.0) same, gains.2), words_new path serves, asks_so quiet quiet_is)
-
-      pub words_unserved : (e : Error) → IsServed (arguments_in a environ) seen after kept keeps (Err e) → PreparesWords words before after kept keeps (Err e)
+      pub words_unserved : (e : Error) → Served a environ seen after kept keeps (Err e) → PreparesWords words before after kept keeps (Err e)
       words_unserved e served = served_so (Err e) served
 
   -- a run that isn't started, for want of memory

@@ -10,7 +10,7 @@ use Rattle.just_exec.specs.Refusals.{error_of_search}
 use Rattle.just_exec.specs.declared.error.Error.{Error}
 use Rattle.just_exec.specs.declared.error.Error.TheVariants as error
 use Rattle.just_cli_plan.specs.Own.{OrMemory, is_uncaptured}
-use Rattle.just_cli_plan.specs.Request.{Outline}
+use Rattle.just_cli.specs.Replies.{Reply}
 use Rattle.just_cli.specs.Acts.{Act}
 use Rattle.just_cli_plan.specs.Pairs.{entries_of as entries_in}
 use Rattle.just_cli.specs.Faults.{entries_of}
@@ -68,10 +68,10 @@ missing_captured (error.ModuleAbsent m) is = refl
 missing_captured _ is = absurd (cc)
 
 module _ (c : ConfigRequest) (location : Location) (before : Moment) (kept : List (List ℕ)) where
-  abbrev AsksIt : Bool → List Act → Option World → Result Outline Error → Type 0
+  abbrev AsksIt : Bool → List Act → Option World → Result Reply Error → Type 0
   AsksIt fallback acts world r = AnswersAt before.world acts world (at_place c location) r fallback
 
-  abbrev From : List Act → Option World → Result Outline Error → Type 0
+  abbrev From : List Act → Option World → Result Reply Error → Type 0
   From acts world r = TriesFrom c before.world acts world location r
 
   -- what was begun of it, and from it on
@@ -86,7 +86,7 @@ module _ (c : ConfigRequest) (location : Location) (before : Moment) (kept : Lis
 
   -- ---- its answer stands
 
-  pub stands_planned : (after : Moment) (keeps : List (List ℕ)) (fallback : Bool) (o : Outline) → Performs (AsksIt fallback) BeginsIt before after kept keeps (Ok o) → PerformsFrom c location before after kept keeps (Ok o)
+  pub stands_planned : (after : Moment) (keeps : List (List ℕ)) (fallback : Bool) (o : Reply) → Performs (AsksIt fallback) BeginsIt before after kept keeps (Ok o) → PerformsFrom c location before after kept keeps (Ok o)
   stands_planned after keeps fallback o p = performs_as (AsksIt fallback) From BeginsIt Begins before after kept keeps o o p (λ acts at. TriesFrom.stands before.world after.world acts location (Ok o) fallback at refl) (from_it after.world)
 
   module _ (after : Moment) (keeps : List (List ℕ)) (fallback may : Bool) (e : Error) (is : may ≡ (fallback && is_lacking e)) (p : Performs (AsksIt fallback) BeginsIt before after kept keeps (Err e)) where
@@ -149,7 +149,7 @@ module _ (c : ConfigRequest) (location : Location) (before : Moment) (kept : Lis
 -- what is asked from this place on, behind these acts, is what is asked from the first place on; and so is what is begun from it on
 abbrev pub Reaches : ConfigRequest → Location → Location → Option World → List Act → Option World → Result (Unit {0}) Error → Type 0
 Reaches c location place told acts now (Ok x) =
-    ((rest : List Act) (after : Option World) (r : Result Outline Error) → TriesFrom c now rest after place r → TriesFrom c told (acts ++ rest) after location r)
+    ((rest : List Act) (after : Option World) (r : Result Reply Error) → TriesFrom c now rest after place r → TriesFrom c told (acts ++ rest) after location r)
     × ((rest : List Act) (after : Option World) → BeginsFrom c now rest after place → BeginsFrom c told (acts ++ rest) after location)
 Reaches c location place told acts now (Err e) = ⊥
 
@@ -179,12 +179,12 @@ begins_behind c place next between after more (e, at, lack, falls) rest later (b
 
 module _ (c : ConfigRequest) (location place : Location) (before between after : Moment) (kept keep keeps : List (List ℕ)) (p : Performs (Reaches c location place before.world) Anyhow before between kept keep (Ok tt)) where
   -- the answer
-  answer_reached : (r : Result Outline Error) (acts more : List Act) → Reaches c location place before.world acts between.world (Ok tt) → Answers (λ x. TriesFrom c between.world more after.world place x) r → Answers (λ x. TriesFrom c before.world (acts ++ more) after.world location x) r
+  answer_reached : (r : Result Reply Error) (acts more : List Act) → Reaches c location place before.world acts between.world (Ok tt) → Answers (λ x. TriesFrom c between.world more after.world place x) r → Answers (λ x. TriesFrom c before.world (acts ++ more) after.world location x) r
   answer_reached (Ok o) acts more reach tries = reach.0 more after.world (Ok o) tries
   answer_reached (Err e) acts more reach (inl wants) = inl wants
   answer_reached (Err e) acts more reach (inr tries) = inr (reach.0 more after.world (Err e) tries)
 
-  pub reached : (r : Result Outline Error) → PerformsFrom c place between after keep keeps r → PerformsFrom c location before after kept keeps r
+  pub reached : (r : Result Reply Error) → PerformsFrom c place between after keep keeps r → PerformsFrom c location before after kept keeps r
   reached r q =
       performs_then (Reaches c location place before.world) (λ acts later x. TriesFrom c between.world acts later place x) (λ acts later x. TriesFrom c before.world acts later location x) Anyhow (λ acts later. BeginsFrom c between.world acts later place)
       (λ acts later. BeginsFrom c before.world acts later location) before between after kept keep keeps tt r p q (λ acts more reach tries. answer_reached r acts more reach tries) (λ acts more reach begins. reach.1 more after.world begins)
@@ -206,35 +206,35 @@ module _ (c : ConfigRequest) (location place : Location) (before between after :
 -- ---- names that may be missing
 
 module _ (q : LocatedRequest) (before after : Moment) (kept keeps : List (List ℕ)) where
-  abbrev FromPlace : List Act → Option World → Result Outline Error → Type 0
+  abbrev FromPlace : List Act → Option World → Result Reply Error → Type 0
   FromPlace acts later r = TriesFrom (record { config = q.config; environ = q.environ }) before.world acts later q.location r
 
   abbrev BeginsPlace : List Act → Option World → Type 0
   BeginsPlace acts later = BeginsTries before.world acts later q
 
-  abbrev TriesIt : List Act → Option World → Result Outline Error → Type 0
+  abbrev TriesIt : List Act → Option World → Result Reply Error → Type 0
   TriesIt acts later r = Tries before.world acts later q r
 
   -- the answer of the climb is that of the first of those that are tried
-  first : (acts : List Act) (r : Result Outline Error) → FromPlace acts after.world r → IsFirstAnswer (record { config = q.config; environ = q.environ }) before.world acts after.world q.location r
+  first : (acts : List Act) (r : Result Reply Error) → FromPlace acts after.world r → IsFirstAnswer (record { config = q.config; environ = q.environ }) before.world acts after.world q.location r
   first acts r from = first_of_climb (record { config = q.config; environ = q.environ }) before.world acts after.world q.location r from
 
-  pub tries_planned : (o : Outline) → Performs FromPlace BeginsPlace before after kept keeps (Ok o) → PerformsTries q before after kept keeps (Ok o)
+  pub tries_planned : (o : Reply) → Performs FromPlace BeginsPlace before after kept keeps (Ok o) → PerformsTries q before after kept keeps (Ok o)
   tries_planned o p = performs_as FromPlace TriesIt BeginsPlace BeginsPlace before after kept keeps o o p (λ acts from. (Ok o, first acts (Ok o) from, refl)) (λ acts b. b)
 
   module _ (e : Error) (may : Bool) (is : may ≡ (q.config.allow_missing && is_missing e)) (p : Performs FromPlace BeginsPlace before after kept keeps (Err e)) where
-    allowed_so : (acts : List Act) → may ≡ true → (o : Outline) → o ≡ empty_outline q.config → OrMemory (λ x. FromPlace acts after.world (Err x)) e → TriesIt acts after.world (Ok o)
+    allowed_so : (acts : List Act) → may ≡ true → (o : Reply) → o ≡ Reply.runs (empty_outline q.config) → OrMemory (λ x. FromPlace acts after.world (Err x)) e → TriesIt acts after.world (Ok o)
     allowed_so acts so o nothing (inl wants) = absurd (memory_there e wants (and_true q.config.allow_missing (is_missing e) (sym is ∙ so)).1)
-    allowed_so acts so o nothing (inr from) = (Err e, first acts (Err e) from, ap (λ x. Ok x) nothing ∙ ap (λ b. if b then Ok (empty_outline q.config) else Err e) (sym so ∙ is))
+    allowed_so acts so o nothing (inr from) = (Err e, first acts (Err e) from, ap (λ x. Ok x) nothing ∙ ap (λ b. if b then Ok (Reply.runs (empty_outline q.config)) else Err e) (sym so ∙ is))
 
-    pub tries_allowed : may ≡ true → (o : Outline) → o ≡ empty_outline q.config → PerformsTries q before after kept keeps (Ok o)
+    pub tries_allowed : may ≡ true → (o : Reply) → o ≡ Reply.runs (empty_outline q.config) → PerformsTries q before after kept keeps (Ok o)
     tries_allowed so o nothing =
         let missing : is_missing e ≡ true = (and_true q.config.allow_missing (is_missing e) (sym is ∙ so)).1 in
         performs_instead FromPlace TriesIt BeginsPlace BeginsPlace before after kept keeps e o (λ parent. missing_in parent e missing) (missing_captured e missing) p (λ acts from. allowed_so acts so o nothing from) (λ acts b. b)
 
     refused_so : (acts : List Act) → may ≡ false → OrMemory (λ x. FromPlace acts after.world (Err x)) e → OrMemory (λ x. TriesIt acts after.world (Err x)) e
     refused_so acts stays (inl wants) = inl wants
-    refused_so acts stays (inr from) = inr (Err e, first acts (Err e) from, ap (λ b. if b then Ok (empty_outline q.config) else Err e) (sym stays ∙ is))
+    refused_so acts stays (inr from) = inr (Err e, first acts (Err e) from, ap (λ b. if b then Ok (Reply.runs (empty_outline q.config)) else Err e) (sym stays ∙ is))
 
     pub tries_refused : may ≡ false → PerformsTries q before after kept keeps (Err e)
     tries_refused stays = performs_lost FromPlace TriesIt BeginsPlace BeginsPlace before after kept keeps e p (λ acts from. refused_so acts stays from) (λ acts b. b)

@@ -5,7 +5,6 @@ use Rattle.just_host_record.specs.World.{World, Moment}
 use Rattle.just_exec.specs.declared.error.Error.{Error}
 use Rattle.just_exec.specs.declared.error.Error.TheVariants as error
 use Rattle.just_cli_plan.specs.Own.{is_fault, is_too_big, is_uncaptured, IsOwn}
-use Rattle.just_cli_plan.specs.Request.{Outline}
 use Rattle.just_cli.specs.declared.ended.Failure.{Failure}
 use Rattle.just_cli.specs.declared.ended.Report.{Report}
 use Rattle.just_cli.specs.Acts.{Act, AreToldBehind}
@@ -72,15 +71,15 @@ pub record IsFound (q : Asking) (told : Option World) (listings : List Entry) (a
   pub asked : AsksFor q listings acts after found
   pub answered : IsAnswered q told listings acts after found
 
--- ---- how a run is served
+-- ---- how it is served
 
--- what stood against a run between these moments, whose preparation ended at the second: memory is wanting, a pattern is too big, or the record shows it
+-- what stood against it between these moments, whose preparation ended at the second: memory is wanting, a pattern is too big, or the record shows it
 abbrev pub StoodAgainst : Asking → List Entry → List Act → Option ℕ → Moment → Moment → Moment → Failure → Type 0
 StoodAgainst q listings acts jobs before between after f =
     (f.error ≡ error.NoMemory) ⊎ (IsTooBig q listings acts between.world f.error ⊎ Hindered listings acts f jobs before.entries after.entries)
 
--- Over a told world a run that is asked for with these acts ends well, where no listing for the user's own justfile failed, unless something stood against it.
+-- Over a told world what is asked for with these acts ends well, where no listing for the user's own justfile failed, unless something stood against it.
 abbrev pub IsServed : Asking → List Entry → List Act → Option ℕ → Moment → Moment → Moment → Result Report Failure → Type 0
 IsServed q listings acts jobs before between after result =
     MatchOption before.world (Unit {0}) (λ w.
-    NoneFailed listings → (o : Outline) → AsksIn q acts (Ok (Asked.run o)) → IfErr result (λ f. ∥ StoodAgainst q listings acts jobs before between after f ∥₁))
+    NoneFailed listings → (x : Asked) → AsksIn q acts (Ok x) → IfErr result (λ f. ∥ StoodAgainst q listings acts jobs before between after f ∥₁))

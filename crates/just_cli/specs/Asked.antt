@@ -11,18 +11,26 @@ use Rattle.just_config_words.specs.declared.words.Read.TheVariants as read
 use Rattle.just_config_words.specs.Words.{Means}
 use Rattle.just_exec.specs.declared.error.Error.{Error}
 use Rattle.just_cli_plan.specs.Request.{Outline}
+use Rattle.just_cli_texts.specs.declared.kind.Kind.{Kind}
+use Rattle.just_cli_texts.specs.declared.kind.Kind.TheVariants as kind
+use Rattle.just_cli_texts.specs.declared.printed.Printed.{Printed}
+use Rattle.just_cli_texts.specs.Kinds.{kind_of, reads_justfile, words_of}
+use Rattle.just_cli_texts.specs.Prints.{as_printed}
+use Rattle.just_cli_texts.specs.Responses.{requested, responded}
 use Rattle.just_cli.specs.declared.task.Other.{Other}
 use Rattle.just_cli.specs.declared.task.Other.TheVariants as no_run
 use Rattle.just_cli.specs.Acts.{Act, Step, Begun, NoAct, Looks, Behind, BeginsBehind}
 use Rattle.just_cli.specs.Faults.{CallGives, io_error, folder_error}
-use Rattle.just_cli.specs.NewPath.{is_init, FindsFree}
+use Rattle.just_cli.specs.Commands.{as_shown, CommandsAt, BeginsCommand}
+use Rattle.just_cli.specs.NewPath.{FindsFree}
+use Rattle.just_cli.specs.Replies.{Reply}
 use Rattle.just_cli.specs.Request.{Tries, BeginsTries}
 use Rattle.just_cli.specs.Words.{ReadRequest, ArgumentsRequest, ConfigRequest, LocatedRequest, FindsEnviron, ReadsWords, FindsFolder, Configures, FindsLocation, FindsJustfile}
 
--- What is asked for: what is no run; the list of the recipes; a run of that outline; or a dry run of it. Nothing asks for a list or a dry run yet.
+-- What is asked for: what is no run; the listing of a module in the place of a run; a run of that outline; or a dry run of it. Nothing asks for a dry run yet.
 pub data Asked : Type 0 where
   other : Other → Asked
-  listing : Asked
+  listing : Printed → Asked
   run : Outline → Asked
   dry : Outline → Asked
 
@@ -43,29 +51,64 @@ FolderGiven told = CallGives call.Current folder_error (option_map folder_shown 
 
 -- ---- behind the configuration
 
--- a run of what the justfiles answer that are tried
-abbrev pub as_run : Result Outline Error → Result Asked Error
-as_run (Ok o) = Ok (Asked.run o)
-as_run (Err e) = Err e
+-- what the justfiles answer that are tried
+abbrev pub as_reply : Result Reply Error → Result Asked Error
+as_reply (Ok (Reply.lists p)) = Ok (Asked.listing p)
+as_reply (Ok (Reply.runs o)) = Ok (Asked.run o)
+as_reply (Err e) = Err e
 
 abbrev pub RunsTried : Step LocatedRequest Asked
-RunsTried told acts after q r = (x : Result Outline Error) × Tries told acts after q x × (r ≡ as_run x)
+RunsTried told acts after q r = (x : Result Reply Error) × Tries told acts after q x × (r ≡ as_reply x)
+
+-- what a command asks for
+abbrev pub as_other : Result Other Error → Result Asked Error
+as_other (Ok c) = Ok (Asked.other c)
+as_other (Err e) = Err e
+
+abbrev pub CommandAsks : Kind → Step LocatedRequest Asked
+CommandAsks k told acts after q r = (x : Result Other Error) × CommandsAt k told acts after q x × (r ≡ as_other x)
+
+-- words without a command ask the justfiles that are tried, and a command asks the one in the place
+abbrev pub AsksBy : Kind → Step LocatedRequest Asked
+AsksBy kind.Run told acts after q r = RunsTried told acts after q r
+AsksBy kind.New told acts after q r = CommandAsks kind.New told acts after q r
+AsksBy kind.Respond told acts after q r = CommandAsks kind.Respond told acts after q r
+AsksBy kind.Format told acts after q r = CommandAsks kind.Format told acts after q r
+AsksBy kind.Clean told acts after q r = CommandAsks kind.Clean told acts after q r
+AsksBy kind.Evaluate told acts after q r = CommandAsks kind.Evaluate told acts after q r
+AsksBy kind.Print told acts after q r = CommandAsks kind.Print told acts after q r
+AsksBy kind.Later told acts after q r = CommandAsks kind.Later told acts after q r
+
+abbrev pub AsksAt : Step LocatedRequest Asked
+AsksAt told acts after q r = AsksBy (kind_of q.config.subcommand) told acts after q r
 
 abbrev pub Searches : List Entry → Step ConfigRequest Asked
-Searches listings = Behind (Looks (λ told. FindsJustfile (FindsLocation told listings))) RunsTried
+Searches listings = Behind (Looks (λ told. FindsJustfile (FindsLocation told listings))) AsksAt
 
 -- a new justfile at the path that is free for it
 abbrev pub as_new : Result (List ℕ) Error → Result Asked Error
 as_new (Ok path) = Ok (Asked.other (no_run.Init path))
 as_new (Err e) = Err e
 
-abbrev pub AsksNew : Option World → ConfigRequest → Result Asked Error → Type 0
-AsksNew told c r = (x : Result (List ℕ) Error) × FindsFree told c.config x × (r ≡ as_new x)
+-- the response to a request
+abbrev pub Responds : ConfigRequest → Result Asked Error → Type 0
+Responds c r = r ≡ as_other (as_shown (as_printed (responded c.environ.pairs (requested (words_of c.config.subcommand)))))
 
--- A command that reads no justfile is decided by itself, behind the configuration; else the justfile is searched.
+-- a command that reads no justfile: a new justfile, or the response to a request
+abbrev pub AsksAlone : Kind → Option World → ConfigRequest → Result Asked Error → Type 0
+AsksAlone kind.New told c r = (x : Result (List ℕ) Error) × FindsFree told c.config x × (r ≡ as_new x)
+AsksAlone kind.Respond told c r = Responds c r
+AsksAlone kind.Run told c r = ⊥
+AsksAlone kind.Format told c r = ⊥
+AsksAlone kind.Clean told c r = ⊥
+AsksAlone kind.Evaluate told c r = ⊥
+AsksAlone kind.Print told c r = ⊥
+AsksAlone kind.Later told c r = ⊥
+
+-- A command that reads no justfile is decided by itself, behind the configuration, and nothing is listed for it; else the justfile is searched.
 pub data Decides (listings : List Entry) (told : Option World) (acts : List Act) (after : Option World) (c : ConfigRequest) (r : Result Asked Error) : Type 0 where
-  reads_none : is_init c.config.subcommand ≡ true → Looks AsksNew told acts after c r → Decides listings told acts after c r
-  reads_one : is_init c.config.subcommand ≡ false → Searches listings told acts after c r → Decides listings told acts after c r
+  reads_none : reads_justfile (kind_of c.config.subcommand) ≡ false → listings ≡ [] → Looks (AsksAlone (kind_of c.config.subcommand)) told acts after c r → Decides listings told acts after c r
+  reads_one : reads_justfile (kind_of c.config.subcommand) ≡ true → Searches listings told acts after c r → Decides listings told acts after c r
 
 -- ---- the whole chain
 
@@ -96,9 +139,22 @@ AsksGlobal words told = (environ : Environ) × (a : Arguments) × EnvironGiven t
 -- ---- what was begun, where memory was wanting
 
 -- of the steps behind the configuration, and behind arguments; a command that reads no justfile takes no act
+abbrev pub BeginsBy : Kind → Begun LocatedRequest
+BeginsBy kind.Run told acts after q = BeginsTries told acts after q
+BeginsBy kind.New told acts after q = BeginsCommand kind.New told acts after q
+BeginsBy kind.Respond told acts after q = BeginsCommand kind.Respond told acts after q
+BeginsBy kind.Format told acts after q = BeginsCommand kind.Format told acts after q
+BeginsBy kind.Clean told acts after q = BeginsCommand kind.Clean told acts after q
+BeginsBy kind.Evaluate told acts after q = BeginsCommand kind.Evaluate told acts after q
+BeginsBy kind.Print told acts after q = BeginsCommand kind.Print told acts after q
+BeginsBy kind.Later told acts after q = BeginsCommand kind.Later told acts after q
+
+abbrev pub BeginsAsks : Begun LocatedRequest
+BeginsAsks told acts after q = BeginsBy (kind_of q.config.subcommand) told acts after q
+
 abbrev pub BeginsSearches : List Entry → Begun ConfigRequest
 BeginsSearches listings told acts after c =
-    (is_init c.config.subcommand ≡ false) × BeginsBehind NoAct (Looks (λ told. FindsJustfile (FindsLocation told listings))) BeginsTries told acts after c
+    (reads_justfile (kind_of c.config.subcommand) ≡ true) × BeginsBehind NoAct (Looks (λ told. FindsJustfile (FindsLocation told listings))) BeginsAsks told acts after c
 
 abbrev pub BeginsServes : List Entry → Begun ArgumentsRequest
 BeginsServes listings = BeginsBehind NoAct (Looks (λ told. FindsFolder (FolderGiven told))) (BeginsBehind NoAct (Looks (λ told. Configures)) (BeginsSearches listings))

@@ -1,5 +1,5 @@
 -- Where a new justfile is written, for words that ask for one.
-use Rattle.std.specs.Prelude.{ℕ, ◌≡◌, ◌⊎◌, Bool, true, false, List, Option, Some, None, Result, Ok, Err, MatchOption}
+use Rattle.std.specs.Prelude.{ℕ, ◌≡◌, ◌⊎◌, Bool, true, false, List, Option, Result, Ok, Err, MatchOption}
 use Rattle.just_path.specs.View.{meta_told}
 use Rattle.just_path.specs.declared.host.Miss.{Miss}
 use Rattle.just_path.specs.declared.meta.Kind.{Kind}
@@ -8,8 +8,6 @@ use Rattle.just_path.specs.declared.meta.Meta.{Meta}
 use Rattle.just_host_record.specs.declared.entry.Call.TheVariants as call
 use Rattle.just_host_record.specs.declared.entry.HostFault.TheVariants as fault
 use Rattle.just_host_record.specs.World.{World, view_of}
-use Rattle.just_config_words.specs.declared.subcommand.Subcommand.{Subcommand}
-use Rattle.just_config_words.specs.declared.subcommand.Subcommand.TheVariants as command
 use Rattle.just_config.specs.declared.config.Config.{Config}
 use Rattle.just_env.specs.declared.search_error.SearchError.{SearchError}
 use Rattle.just_search.specs.declared.search_result.Search.{Search}
@@ -18,25 +16,6 @@ use Rattle.just_exec.specs.Refusals.{error_of_search}
 use Rattle.just_exec.specs.declared.error.Error.{Error}
 use Rattle.just_exec.specs.declared.error.Error.TheVariants as error
 use Rattle.just_cli_plan.specs.Steps.{Then}
-
--- whether a command asks for a new justfile
-abbrev pub is_init : Option Subcommand → Bool
-is_init (Some (command.Choose ws)) = false
-is_init (Some (command.Clean ws)) = false
-is_init (Some (command.Command ws)) = false
-is_init (Some (command.Dump ws)) = false
-is_init (Some (command.Edit ws)) = false
-is_init (Some (command.Evaluate ws)) = false
-is_init (Some (command.Fmt ws)) = false
-is_init (Some (command.Groups ws)) = false
-is_init (Some (command.Init ws)) = true
-is_init (Some (command.List ws)) = false
-is_init (Some (command.Request ws)) = false
-is_init (Some (command.Show ws)) = false
-is_init (Some (command.Summary ws)) = false
-is_init (Some (command.Usage ws)) = false
-is_init (Some (command.Variables ws)) = false
-is_init None = false
 
 -- ---- what stands at a path
 

@@ -14,6 +14,7 @@ use Rattle.just_env.specs.declared.ask.DotenvAsk.{DotenvAsk}
 use Rattle.just_cache.specs.Places.{cache_folder}
 use Rattle.just_search.specs.Finding.{folder_of, given_path}
 use Rattle.just_cli_plan.specs.declared.wanted.Wanted.{Wanted}
+use Rattle.just_cli.specs.Replies.{Reply}
 
 -- ---- what isn't built
 
@@ -27,46 +28,26 @@ word_if given word = if given then Some word else None
 
 -- the word of the first flag that isn't built
 abbrev pub flag_not_built : Config → Option (List ℕ)
-flag_not_built c =
-    or_else (word_if c.default_list (codes "--default-list"))
-    (word_if c.dry_run (codes "--dry-run"))
+flag_not_built c = word_if c.dry_run (codes "--dry-run")
 
--- the word of a command
-abbrev pub command_word : Subcommand → List ℕ
-command_word (command.Choose ws) = codes "--choose"
-command_word (command.Clean ws) = codes "--clean"
-command_word (command.Command ws) = codes "--command"
-command_word (command.Dump ws) = codes "--dump"
-command_word (command.Edit ws) = codes "--edit"
-command_word (command.Evaluate ws) = codes "--evaluate"
-command_word (command.Fmt ws) = codes "--fmt"
-command_word (command.Groups ws) = codes "--groups"
-command_word (command.Init ws) = codes "--init"
-command_word (command.List ws) = codes "--list"
-command_word (command.Request ws) = codes "--request"
-command_word (command.Show ws) = codes "--show"
-command_word (command.Summary ws) = codes "--summary"
-command_word (command.Usage ws) = codes "--usage"
-command_word (command.Variables ws) = codes "--variables"
-
--- the word of one that isn't built; `--init` alone is
+-- the word of a command that isn't built
 abbrev pub command_not_built : Option Subcommand → Option (List ℕ)
 command_not_built None = None
-command_not_built (Some (command.Choose ws)) = Some (command_word (command.Choose ws))
-command_not_built (Some (command.Clean ws)) = Some (command_word (command.Clean ws))
-command_not_built (Some (command.Command ws)) = Some (command_word (command.Command ws))
-command_not_built (Some (command.Dump ws)) = Some (command_word (command.Dump ws))
-command_not_built (Some (command.Edit ws)) = Some (command_word (command.Edit ws))
-command_not_built (Some (command.Evaluate ws)) = Some (command_word (command.Evaluate ws))
-command_not_built (Some (command.Fmt ws)) = Some (command_word (command.Fmt ws))
-command_not_built (Some (command.Groups ws)) = Some (command_word (command.Groups ws))
+command_not_built (Some (command.Choose ws)) = Some (codes "--choose")
+command_not_built (Some (command.Clean ws)) = None
+command_not_built (Some (command.Command ws)) = Some (codes "--command")
+command_not_built (Some (command.Dump ws)) = None
+command_not_built (Some (command.Edit ws)) = Some (codes "--edit")
+command_not_built (Some (command.Evaluate ws)) = None
+command_not_built (Some (command.Fmt ws)) = None
+command_not_built (Some (command.Groups ws)) = None
 command_not_built (Some (command.Init ws)) = None
-command_not_built (Some (command.List ws)) = Some (command_word (command.List ws))
-command_not_built (Some (command.Request ws)) = Some (command_word (command.Request ws))
-command_not_built (Some (command.Show ws)) = Some (command_word (command.Show ws))
-command_not_built (Some (command.Summary ws)) = Some (command_word (command.Summary ws))
-command_not_built (Some (command.Usage ws)) = Some (command_word (command.Usage ws))
-command_not_built (Some (command.Variables ws)) = Some (command_word (command.Variables ws))
+command_not_built (Some (command.List ws)) = None
+command_not_built (Some (command.Request ws)) = None
+command_not_built (Some (command.Show ws)) = None
+command_not_built (Some (command.Summary ws)) = None
+command_not_built (Some (command.Usage ws)) = None
+command_not_built (Some (command.Variables ws)) = None
 
 -- the word of what isn't built, of the first in the order of the options
 abbrev pub not_built : Config → Option (List ℕ)
@@ -77,6 +58,29 @@ not_built c = or_else (flag_not_built c) (command_not_built c.subcommand)
 -- the arguments of the shell, where some are given or all are cleared
 abbrev pub shell_args_of : Config → Option (List (List ℕ))
 shell_args_of c = if c.clear_shell_args || is_any c.shell_arg then Some c.shell_arg else None
+
+-- whether a command prints the paths of recipes
+abbrev pub is_summary : Option Subcommand → Bool
+is_summary None = false
+is_summary (Some (command.Choose ws)) = false
+is_summary (Some (command.Clean ws)) = false
+is_summary (Some (command.Command ws)) = false
+is_summary (Some (command.Dump ws)) = false
+is_summary (Some (command.Edit ws)) = false
+is_summary (Some (command.Evaluate ws)) = false
+is_summary (Some (command.Fmt ws)) = false
+is_summary (Some (command.Groups ws)) = false
+is_summary (Some (command.Init ws)) = false
+is_summary (Some (command.List ws)) = false
+is_summary (Some (command.Request ws)) = false
+is_summary (Some (command.Show ws)) = false
+is_summary (Some (command.Summary ws)) = true
+is_summary (Some (command.Usage ws)) = false
+is_summary (Some (command.Variables ws)) = false
+
+-- whether unstable features are allowed: by the words, or for the paths of recipes alone
+abbrev pub allows_unstable : Config → Bool
+allows_unstable c = c.unstable || is_summary c.subcommand
 
 -- how recipes are run, in that working folder. The folder of the words for temporary ones is under that of the call, and clean
 abbrev pub flags_of : Config → List ℕ → RunFlags
@@ -111,7 +115,7 @@ wanted_of c folder cache =
       one = c.one;
       no_deps = c.no_deps;
       dotenv = dotenv_of c;
-      unstable = c.unstable;
+      unstable = allows_unstable c;
       jobs = c.jobs;
       cache_folder = cache;
       flags = flags_of c folder;
@@ -191,8 +195,8 @@ is_lacking (error.WriteJustfile justfile io) = false
 is_lacking (error.Interrupted signal) = false
 is_lacking error.NoMemory = false
 
-abbrev pub lacks : Result Outline Error → Bool
-lacks (Ok o) = false
+abbrev pub lacks : Result Reply Error → Bool
+lacks (Ok x) = false
 lacks (Err e) = is_lacking e
 
 -- whether a recipe or a module that is asked for is missing: the justfile lacks it, or the file of an optional module isn't there
@@ -272,6 +276,6 @@ abbrev pub empty_outline : Config → Outline
 empty_outline c = record { nodes = []; invocations = []; jobs = option_map non_zero_u64_get c.jobs; messages = [] }
 
 -- the answer to the words, where they may allow that a name is missing: then nothing is run
-abbrev pub allowed : Config → Result Outline Error → Result Outline Error
-allowed c (Ok o) = Ok o
-allowed c (Err e) = if c.allow_missing && is_missing e then Ok (empty_outline c) else Err e
+abbrev pub allowed : Config → Result Reply Error → Result Reply Error
+allowed c (Ok x) = Ok x
+allowed c (Err e) = if c.allow_missing && is_missing e then Ok (Reply.runs (empty_outline c)) else Err e

@@ -1,17 +1,18 @@
 -- What the preparation of a run leaves in its host's record, makes of a told world, and answers.
-use Rattle.std.specs.Prelude.{ℕ, ◌≡◌, ◌⊎◌, ◌++◌, Bool, true, false, List, [], ◌∷◌, Option, option_map, Result, Ok, Err}
+use Rattle.std.specs.Prelude.{ℕ, ◌≡◌, ◌⊎◌, ◌++◌, true, false, List, [], ◌∷◌, Option, option_map, Result, Ok, Err}
 use Rattle.std.specs.List.{list_any, AllByRecursion}
 use Rattle.std.specs.Int.NonZero.{non_zero_u64_get}
-use Rattle.std.specs.declared.num.NonZeroU64.{NonZeroU64}
 use Rattle.just_host_record.specs.declared.entry.Entry.{Entry}
 use Rattle.just_host_record.specs.Record.{is_missed, is_failed}
 use Rattle.just_host_record.specs.World.{World, Moment}
-use Rattle.just_sched_history.specs.declared.plan.Plan.{Plan}
 use Rattle.just_sched_history.specs.declared.plan_node.PlanNode.{PlanNode}
 use Rattle.just_search.specs.Removals.{with_entries}
 use Rattle.just_exec.specs.declared.error.Error.{Error}
 use Rattle.just_cli_plan.specs.Own.{OrMemory, is_uncaptured}
-use Rattle.just_cli_plan.specs.Request.{Outline, outline_of}
+use Rattle.just_cli_plan.specs.Request.{outline_of}
+use Rattle.just_cli.specs.declared.replied.Replied.{Replied}
+use Rattle.just_cli.specs.declared.replied.Replied.TheVariants as replied
+use Rattle.just_cli.specs.Replies.{Reply}
 use Rattle.just_cli.specs.Acts.{Act, AreActs, folders_in, captures_in, uncaptured_in}
 use Rattle.just_cli.specs.Altered.{IsAltered}
 use Rattle.just_cli_plan.specs.Pairs.{entries_of as entries_in}
@@ -80,7 +81,11 @@ abbrev pub Prepares : {A : Type 0} → Type 0 → (List Entry → List Act → O
 Prepares global asks begins before after kept keeps r =
     (listings : List Entry) × ArePassed global listings × Performs (asks listings) (begins listings) (with_entries before listings) after kept keeps r
 
--- a plan, its job limit, if it has one, and of each node whether the message of its exit code is told, as they are asked for
-abbrev pub outlined : Result (Plan × Option NonZeroU64 × List Bool) Error → Result Outline Error
-outlined (Ok p) = Ok (outline_of p.0 (option_map non_zero_u64_get p.1) p.2)
-outlined (Err e) = Err e
+-- a listing, or a plan, its job limit, if it has one, and of each node whether the message of its exit code is told, as they are asked for
+abbrev pub reply_of : Replied → Reply
+reply_of (replied.List p) = Reply.lists p
+reply_of (replied.Plan p jobs messages) = Reply.runs (outline_of p (option_map non_zero_u64_get jobs) messages)
+
+abbrev pub as_asked : Result Replied Error → Result Reply Error
+as_asked (Ok x) = Ok (reply_of x)
+as_asked (Err e) = Err e

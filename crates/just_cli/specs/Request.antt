@@ -1,4 +1,4 @@
--- What is asked of the justfiles that are tried: steps from the place of one to the plan of a run, or to a refusal.
+-- What is asked of the justfiles that are tried: steps from the place of one to the listing of a module, to the plan of a run, or to a refusal.
 use Rattle.std.specs.Prelude.{ℕ, ◌≡◌, ◌⊎◌, ◌++◌, Bool, true, false, List, [], ◌∷◌, map, Option, Some, None, Result, Ok, Err}
 use Rattle.std.specs.List.{list_any, flat_map, AllByRecursion}
 use Rattle.just_host_record.specs.declared.entry.Entry.{Entry}
@@ -16,13 +16,16 @@ use Rattle.just_exec_work.specs.declared.run_flags.RunFlags.{RunFlags}
 use Rattle.just_cli_plan.specs.Own.{uncaptured_by}
 use Rattle.just_cli_plan.specs.Pairs.{Leaves, BeginsLoading}
 use Rattle.just_cli_plan.specs.Steps.{Then}
-use Rattle.just_cli_plan.specs.Request.{SourcesRequest, ProjectRequest, LoadedRequest, Outline, FindsProject, LoadsDotenv, PlansProject}
+use Rattle.just_cli_plan.specs.Request.{SourcesRequest, ProjectRequest, LoadedRequest, LoadsDotenv}
 use Rattle.just_search.specs.declared.location.Location.{Location}
 use Rattle.just_search.specs.Fallback.{FallsBack}
-use Rattle.just_lang_types.specs.Modules.{settings_of}
 use Rattle.just_lang_types.specs.declared.project.Justfile.{Justfile}
+use Rattle.just_lang_types.specs.Modules.{settings_of, AreModules}
+use Rattle.just_config.specs.declared.config.Config.{Config}
+use Rattle.just_cli_texts.specs.Laid.{LaidRequest, project_with, FindsLaid}
 use Rattle.just_cli.specs.Acts.{Act, Step, Begun, NoAct, Looks, Behind, BeginsBehind}
 use Rattle.just_cli.specs.Options.{lacks, allowed}
+use Rattle.just_cli.specs.Replies.{Reply, RepliesLoaded}
 use Rattle.just_cli.specs.Words.{ConfigRequest, LocatedRequest, JustfileRequest, TakesFile, BeginsFile}
 
 -- ---- from the place of a justfile to its plan
@@ -32,12 +35,12 @@ abbrev pub LoadsSources : Option World → JustfileRequest → Result SourcesReq
 LoadsSources told j (Ok s) = (s.wanted ≡ j.wanted) × (s.environ ≡ j.environ) × Loads told j.environ.pairs [] (j.justfile ∷ []) (Ok s.sources)
 LoadsSources told j (Err e) = (f : SearchError) × Loads told j.environ.pairs [] (j.justfile ∷ []) (Err f) × (e ≡ error_of_search f)
 
--- the project of a justfile
-abbrev pub FindsProjectOf : Option World → JustfileRequest → Result ProjectRequest Error → Type 0
-FindsProjectOf told = Then (LoadsSources told) FindsProject
+-- the project of a justfile, with the layout of its sources
+abbrev pub FindsProjectOf : Option World → JustfileRequest → Result LaidRequest Error → Type 0
+FindsProjectOf told = Then (LoadsSources told) FindsLaid
 
 -- the project of the justfile in a place
-abbrev pub FindsProjectAt : Step LocatedRequest ProjectRequest
+abbrev pub FindsProjectAt : Step LocatedRequest LaidRequest
 FindsProjectAt = Behind TakesFile (Looks FindsProjectOf)
 
 -- the act of a child of that program that couldn't be run to its end, where a fault tells why
@@ -58,17 +61,21 @@ abbrev pub LoadsPairs : Step ProjectRequest LoadedRequest
 LoadsPairs told acts after p r =
     (cs : List Capture) × AreActsOf p.wanted.flags p.justfile cs r acts × LoadsDotenv told cs p r × Leaves told cs after r
 
--- the steps behind the project
-abbrev pub PlansLoaded : Step ProjectRequest Outline
-PlansLoaded = Behind LoadsPairs (Looks (λ told. PlansProject))
+-- a step from a project, by the list of its modules
+abbrev pub WithModules : {B : Type 0} → Step ProjectRequest B → Step LaidRequest B
+WithModules step told acts after q r = (modules : List Justfile) × AreModules (q.laid.justfile ∷ []) modules × step told acts after (project_with q modules) r
+
+-- the reply behind the project, by what a configuration says
+abbrev pub RepliesTo : Config → Step LaidRequest Reply
+RepliesTo c told acts after q r = WithModules (Behind LoadsPairs (Looks (λ now. RepliesLoaded c q))) told acts after q r
 
 -- ---- the justfiles that are tried
 
 -- the answer to what is asked of the justfile in a place, and whether that justfile sets fallback; one whose project is refused sets none
-pub data AnswersAt (told : Option World) (acts : List Act) (after : Option World) (q : LocatedRequest) (r : Result Outline Error) (fallback : Bool) : Type 0 where
+pub data AnswersAt (told : Option World) (acts : List Act) (after : Option World) (q : LocatedRequest) (r : Result Reply Error) (fallback : Bool) : Type 0 where
   no_project : (e : Error) → FindsProjectAt told acts after q (Err e) → r ≡ Err e → fallback ≡ false → AnswersAt told acts after q r fallback
-  of_project : (p : ProjectRequest) (front rest : List Act) (between : Option World) → FindsProjectAt told front between q (Ok p) → PlansLoaded between rest after p r → acts ≡ front ++ rest
-      → fallback ≡ (settings_of p.justfile).fallback → AnswersAt told acts after q r fallback
+  of_project : (p : LaidRequest) (front rest : List Act) (between : Option World) → FindsProjectAt told front between q (Ok p) → RepliesTo q.config between rest after p r → acts ≡ front ++ rest
+      → fallback ≡ (settings_of p.laid.justfile).fallback → AnswersAt told acts after q r fallback
 
 -- a place in which a configuration asks something of the justfile
 abbrev pub at_place : ConfigRequest → Location → LocatedRequest
@@ -84,7 +91,7 @@ pub record Tried : Type 0 where
   pub told : Option World
   pub acts : List Act
   pub after : Option World
-  pub answer : Result Outline Error
+  pub answer : Result Reply Error
   pub fallback : Bool
 
 -- a justfile has its answer; a refusal answers itself, and takes no act
@@ -121,7 +128,7 @@ acts_of ts = flat_map (λ t. t.acts) ts
 
 -- The answer of the first of those that are tried from a place on that doesn't lack what is asked for; or of the last of them, behind which nothing
 -- stands. Nothing is looked at, and no act is taken, for one that stands behind it.
-pub record IsFirstAnswer (c : ConfigRequest) (told : Option World) (acts : List Act) (after : Option World) (location : Location) (r : Result Outline Error) : Type 0 where
+pub record IsFirstAnswer (c : ConfigRequest) (told : Option World) (acts : List Act) (after : Option World) (location : Location) (r : Result Reply Error) : Type 0 where
   pub before : List Tried
   pub it : Tried
   pub comes : ComesTo c (λ now item. IsTried c it now item) told (Ok location) before
@@ -131,9 +138,9 @@ pub record IsFirstAnswer (c : ConfigRequest) (told : Option World) (acts : List 
   pub answer : r ≡ it.answer
 
 -- the same from the place of the first of them, which the words may allow
-abbrev pub Tries : Step LocatedRequest Outline
+abbrev pub Tries : Step LocatedRequest Reply
 Tries told acts after q r =
-    (x : Result Outline Error) × IsFirstAnswer (record { config = q.config; environ = q.environ }) told acts after q.location x × (r ≡ allowed q.config x)
+    (x : Result Reply Error) × IsFirstAnswer (record { config = q.config; environ = q.environ }) told acts after q.location x × (r ≡ allowed q.config x)
 
 -- ---- refused listings
 
@@ -151,9 +158,9 @@ NoneFailed listings = list_any is_failed listings ≡ false
 abbrev pub BeginsProject : Begun LocatedRequest
 BeginsProject = BeginsBehind BeginsFile TakesFile NoAct
 
-abbrev pub BeginsPairs : Begun ProjectRequest
+abbrev pub BeginsPairs : Begun LaidRequest
 BeginsPairs told acts after p =
-    (cs : List Capture) × (acts ≡ map Act.captured cs) × (after ≡ told_behind told cs) × BeginsLoading told p.wanted p.environ p.justfile cs
+    (cs : List Capture) × (acts ≡ map Act.captured cs) × (after ≡ told_behind told cs) × BeginsLoading told p.wanted p.environ p.laid.justfile cs
 
 -- of one that is tried: its project is found, and pairs are loaded; behind these nothing is done
 abbrev pub BeginsAt : Begun LocatedRequest

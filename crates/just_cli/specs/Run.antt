@@ -13,12 +13,13 @@ use Rattle.just_cli_plan.specs.Request.{Outline, outline_of}
 use Rattle.just_cli.specs.declared.ended.Failure.{Failure}
 use Rattle.just_cli.specs.declared.ended.Report.{Report}
 use Rattle.just_cli.specs.declared.task.Other.{Other}
+use Rattle.just_cli.specs.declared.task.Other.TheVariants as no_run
 use Rattle.just_cli.specs.Acts.{Act, folders_in}
 use Rattle.just_cli.specs.Altered.{EndsAsItWas, StaysAsItWas}
 use Rattle.just_cli.specs.Answered.{Asking, asked_by, IsFound, IsServed}
 use Rattle.just_cli.specs.Asked.{Asked}
-use Rattle.just_cli.specs.Other.{Does, HeedsQuiet}
-use Rattle.just_cli.specs.Record.{EndsWell, EndsIll, EndsUnopened, IsQuiet}
+use Rattle.just_cli.specs.Other.{Does, HeedsQuiet, LeavesFor, StaysFor}
+use Rattle.just_cli.specs.Record.{EndsWell, EndsIll, EndsUnopened, IsQuiet, Gains, AreRefusals, Removes}
 
 -- a result has a plan
 abbrev pub HasPlan : Result Report Failure → Plan → Type 0
@@ -71,24 +72,38 @@ pub record IsRefused (q : Asking) (e : Error) (before after : Moment) (result : 
   pub failure : result ≡ Err (refusal e)
   -- the book wasn't opened
   pub left : EndsUnopened listings acts quiet e before between after
-  -- over a told world no run is asked for, unless something stood against it
+  -- over a told world nothing else is asked for, unless something stood against it
   pub complete : IsServed q listings acts None before between after result
   pub faults : is_fault e ≡ true → faults_of before.entries < faults_of after.entries
   pub misses : is_miss e ≡ true → misses_of before.entries < misses_of after.entries
   -- where no child was run to its end and nothing failed, the told world is as it was, but for paths at or below the temporary folders
   pub untouched : (es : List Entry) → after.entries ≡ before.entries ++ es → IsQuiet es → StaysAsItWas (folders_in acts) before.world after.world
 
+-- Behind the moment when it was done the temporary folders were removed, which leaves misses and failures alone.
+abbrev pub EndsCleared : List Act → Moment → Moment → Type 0
+EndsCleared acts settled after = Gains AreRefusals settled after × Removes (folders_in acts) settled after
+
 -- What is no run is asked for, and done.
-pub record IsOther (q : Asking) (c : Other) (before after : Moment) (result : Result Report Failure) : Type 0 where
-  pub found : IsFound q before.world [] [] before.world (Ok (Asked.other c))
+pub record IsOther (q : Asking) (x : Asked) (c : Other) (before after : Moment) (result : Result Report Failure) : Type 0 where
+  -- it is asked for, over these listings and with these acts; and the moments when it was found, and when it was done
+  pub listings : List Entry
+  pub acts : List Act
+  pub between : Moment
+  pub settled : Moment
+  pub found : IsFound q before.world listings acts between.world (Ok x)
+  pub prepared : Gains (LeavesFor c listings acts) before between
+  -- whether quiet is asked for
   pub quiet : Bool
   pub quiet_is : HeedsQuiet q.quiet c quiet
-  pub done : Does c quiet before after result
+  pub done : Does c quiet between settled result
+  pub cleared : EndsCleared acts settled after
+  -- where no child was run to its end and nothing failed, the told world is as it was, but for paths at or below the temporary folders, and for what is done
+  pub untouched : (es : List Entry) → after.entries ≡ before.entries ++ es → IsQuiet es → StaysFor c (folders_in acts) before.world after.world
 
 -- how that ends which is asked for
 abbrev pub Ends : Asking → Moment → Moment → Result Report Failure → Result Asked Error → Type 0
-Ends q before after result (Ok (Asked.other c)) = IsOther q c before after result
-Ends q before after result (Ok Asked.listing) = ⊥
+Ends q before after result (Ok (Asked.other c)) = IsOther q (Asked.other c) c before after result
+Ends q before after result (Ok (Asked.listing p)) = IsOther q (Asked.listing p) (no_run.Show p) before after result
 Ends q before after result (Ok (Asked.run o)) = IsRun q o before after result
 Ends q before after result (Ok (Asked.dry o)) = ⊥
 Ends q before after result (Err e) = IsRefused q e before after result

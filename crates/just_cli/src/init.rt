@@ -1,34 +1,24 @@
-//! The justfile that `--init` writes.
+//! A justfile that is written: the one of `--init`, or one that is written anew.
 
-ghost use Rattle.std.specs.Prelude.{◌≡◌, ◌++◌, false, [], List, Result, Ok, Err, IfOk, IfErr, MatchResult, string_bytes};
+ghost use Rattle.std.specs.Prelude.{◌≡◌, ◌++◌, [], List, Result, Ok, Err, IfOk, IfErr, MatchResult, string_bytes};
 ghost use Rattle.just_path.specs.Path.{text_of};
-ghost use Rattle.just_host_record.specs.declared.entry.Call.TheVariants.{Print as PrintCall};
 ghost use Rattle.just_host_record.specs.declared.entry.Entry.{Entry};
-ghost use Rattle.just_host_record.specs.declared.entry.HostFault.TheVariants.{Failed as CallFailed};
-ghost use Rattle.just_exec.specs.declared.error.Error.TheVariants.{StdoutIo as NotPrinted};
 ghost use Rattle.just_cli_plan.specs.Own.{OrMemory};
 ghost use Rattle.just_cli.specs.Faults.{entries_of, write_error as told_error};
-ghost use Rattle.just_cli.specs.NewPath.{is_init, is_written_to, FindsPath, IsFree, FindsFree};
+ghost use Rattle.just_cli.specs.NewPath.{is_written_to, FindsPath, IsFree, FindsFree};
 ghost use Rattle.just_cli.specs.Preparing.{AreMisses, EndsWith};
-ghost use Rattle.just_cli.specs.Written.{written_line, told_line, Writes, IsUnwritten, IsWritten};
+ghost use Rattle.just_cli.specs.Printing.{told_line};
+ghost use Rattle.just_cli.specs.Written.{written_line, Writes, IsUnwritten, IsWritten};
 
 use super::failure::fail;
-use super::init_text::INIT_JUSTFILE;
-use super::show::{empty_plan, print_error};
-use super::{Ended, Error, Report};
-use just_config::{Config, Subcommand};
-use just_host::{Call, Host, HostFault, Stream};
+use super::printing::{done, tell_line};
+use super::{Ended, Error};
+use just_config::Config;
+use just_host::{Call, Host, HostFault};
 use just_path::{Kind, PathFault, Utf8Path, Utf8PathBuf};
 use just_path_text::{NoMemory, Seq};
 use just_search::Search;
 use std::alloc::Global;
-
-/// Whether a command asks for a new justfile.
-pub(crate) fn is_init(command: &Option<Subcommand>) -> bool
-    ensures { result ≡ is_init command.now }
-{
-    matches!(command, Some(Subcommand::Init(_)))
-}
 
 /// Whether it is a file, or what is written as one.
 fn is_written_to(kind: Kind) -> bool
@@ -120,50 +110,45 @@ fn write_error(justfile: Utf8PathBuf, fault: HostFault) -> Error
     }
 }
 
-/// Tells a line on standard error, unless the words ask for quiet.
-#[tactic(auto, using(crate::proofs::NewJustfile::line_quiet, crate::proofs::NewJustfile::line_told))]
-fn tell_line<H: Host>(host: &mut H, quiet: bool, line: &str) -> Result<(), Error>
-    ensures told { IfOk result (λ _. (H.told host.new).entries ≡ (H.told host.old).entries ++ told_line quiet line.now) }
-    ensures untold { IfErr result (λ e. (quiet ≡ false) × OrMemory (λ x. x ≡ NotPrinted (CallFailed PrintCall)) e × ((H.told host.new).entries ≡ (H.told host.old).entries ++ entries_of e)) }
-    ensures world { (H.told host.new).world ≡ (H.told host.old).world }
-{
-    if quiet {
-        return Ok(());
-    }
-    match host.print(Stream::Err, line) {
-        Ok(()) => Ok(()),
-        Err(fault) => Err(print_error(fault)),
-    }
-}
-
-/// Writes the justfile at a path, and tells of it.
-fn write<H: Host>(alloc: Global, host: &mut H, path: Utf8PathBuf, quiet: bool) -> Result<(), Error>
-    ensures written { IfOk result (λ _. Writes path (H.told host.old).world (H.told host.new).world (Ok tt) × ((H.told host.new).entries ≡ (H.told host.old).entries ++ told_line quiet (written_line path))) }
-    ensures unwritten { IfErr result (λ e. IsUnwritten path quiet (H.told host.old).world (H.told host.new).world e × ((H.told host.new).entries ≡ (H.told host.old).entries ++ entries_of e)) }
+/// Writes a text to the justfile at a path, and tells of it.
+fn write<H: Host>(
+    alloc: Global,
+    host: &mut H,
+    path: Utf8PathBuf,
+    text: &str,
+    quiet: bool,
+) -> Result<(), Error>
+    ensures written { IfOk result (λ _.
+        Writes path text.now (H.told host.old).world (H.told host.new).world (Ok tt)
+        × ((H.told host.new).entries
+        ≡ (H.told host.old).entries ++ told_line quiet (written_line path))) }
+    ensures unwritten { IfErr result (λ e.
+        IsUnwritten path text.now quiet (H.told host.old).world (H.told host.new).world e
+        × ((H.told host.new).entries ≡ (H.told host.old).entries ++ entries_of e)) }
 {
     let line = match written_line(alloc, path.as_str()) {
         Ok(line) => line,
         Err(NoMemory) => return Err(Error::NoMemory),
     };
-    match host.write(path.as_path(), INIT_JUSTFILE.as_bytes()) {
+    match host.write(path.as_path(), text.as_bytes()) {
         Ok(()) => tell_line(host, quiet, line.as_str()),
         Err(fault) => Err(write_error(path, fault)),
     }
 }
 
-/// Writes the justfile at a path, in the place of a run, and tells of it on standard error, unless the words ask for quiet.
-pub(crate) fn init<H: Host>(alloc: Global, host: H, path: Utf8PathBuf, quiet: bool) -> Ended<H>
-    ensures { IsWritten path quiet (H.told host) (H.told result.host) result.result }
+/// Writes a text to the justfile at a path, in the place of a run, and tells of it on standard error, unless the words ask for quiet.
+pub(crate) fn write_justfile<H: Host>(
+    alloc: Global,
+    host: H,
+    path: Utf8PathBuf,
+    text: &str,
+    quiet: bool,
+) -> Ended<H>
+    ensures { IsWritten path text.now quiet (H.told host) (H.told result.host) result.result }
 {
     let mut host = host;
-    match write(alloc, &mut host, path, quiet) {
-        Ok(()) => Ended {
-            host,
-            result: Ok(Report {
-                plan: empty_plan(alloc),
-                history: Seq::new(alloc),
-            }),
-        },
+    match write(alloc, &mut host, path, text, quiet) {
+        Ok(()) => done(alloc, host),
         Err(error) => fail(alloc, host, error, quiet, None, Seq::new(alloc)),
     }
 }

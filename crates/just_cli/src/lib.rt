@@ -1,6 +1,8 @@
 //! The room of the command line, and its door: a run, from the words to the children, by the top calls and what they answer.
 #![tactic(auto)]
 
+mod clean;
+mod commands;
 mod configured;
 mod ended;
 mod failure;
@@ -10,8 +12,12 @@ mod init_text;
 mod law;
 mod options;
 mod other;
+mod place;
 mod prepare;
+mod printing;
 mod program;
+mod replied;
+mod reply;
 mod runner;
 mod show;
 mod taken;

@@ -2,7 +2,7 @@
 
 ghost use Rattle.std.specs.Prelude.{◌≡◌};
 ghost use Rattle.std.specs.Option.{option_copied};
-ghost use Rattle.just_cli.specs.Options.{is_any, flag_not_built, command_word, command_not_built, not_built, is_lacking, is_missing};
+ghost use Rattle.just_cli.specs.Options.{is_any, flag_not_built, command_not_built, not_built, is_summary, allows_unstable, is_lacking, is_missing};
 
 use super::Error;
 use just_config::{Config, Subcommand};
@@ -12,9 +12,6 @@ use just_path_text::{Seq, Text};
 fn flag_not_built(config: &Config) -> Option<&'static str>
     ensures { option_copied result ≡ flag_not_built config.now }
 {
-    if config.default_list {
-        return Some("--default-list");
-    }
     if config.dry_run {
         Some("--dry-run")
     } else {
@@ -32,36 +29,15 @@ pub(crate) fn is_any(texts: &Seq<Text>) -> bool
     }
 }
 
-/// The word of a command.
-fn command_word(command: &Subcommand) -> &'static str
-    ensures { result.now ≡ command_word command.now }
-{
-    match command {
-        Subcommand::Choose(_) => "--choose",
-        Subcommand::Clean(_) => "--clean",
-        Subcommand::Command(_) => "--command",
-        Subcommand::Dump(_) => "--dump",
-        Subcommand::Edit(_) => "--edit",
-        Subcommand::Evaluate(_) => "--evaluate",
-        Subcommand::Fmt(_) => "--fmt",
-        Subcommand::Groups(_) => "--groups",
-        Subcommand::Init(_) => "--init",
-        Subcommand::List(_) => "--list",
-        Subcommand::Request(_) => "--request",
-        Subcommand::Show(_) => "--show",
-        Subcommand::Summary(_) => "--summary",
-        Subcommand::Usage(_) => "--usage",
-        Subcommand::Variables(_) => "--variables",
-    }
-}
-
-/// The word of the command, where one is given.
+/// The word of a command that isn't built.
 fn command_not_built(command: &Option<Subcommand>) -> Option<&'static str>
     ensures { option_copied result ≡ command_not_built command.now }
 {
     match command {
-        None | Some(Subcommand::Init(_)) => None,
-        Some(command) => Some(command_word(command)),
+        Some(Subcommand::Choose(_)) => Some("--choose"),
+        Some(Subcommand::Command(_)) => Some("--command"),
+        Some(Subcommand::Edit(_)) => Some("--edit"),
+        _ => None,
     }
 }
 
@@ -73,6 +49,20 @@ pub(crate) fn not_built(config: &Config) -> Option<&'static str>
         return Some(word);
     }
     command_not_built(&config.subcommand)
+}
+
+/// Whether a command prints the paths of recipes.
+fn is_summary(command: &Option<Subcommand>) -> bool
+    ensures { result ≡ is_summary command.now }
+{
+    matches!(command, Some(Subcommand::Summary(_)))
+}
+
+/// Whether unstable features are allowed: by the words, or for the paths of recipes alone.
+pub(crate) fn allows_unstable(config: &Config) -> bool
+    ensures { result ≡ allows_unstable config.now }
+{
+    config.unstable || is_summary(&config.subcommand)
 }
 
 /// Whether a justfile lacks a recipe or a module that is asked for.

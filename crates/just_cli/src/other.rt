@@ -3,9 +3,13 @@
 ghost use Rattle.std.specs.Prelude.{◌≡◌, IfOk};
 ghost use Rattle.just_cli.specs.Other.{Does};
 ghost use Rattle.just_cli.specs.Questions.{version_line, IsShown};
+ghost use Rattle.just_cli.specs.Tasks.{HasPath};
 
+use super::clean::clean;
 use super::failure::fail;
-use super::init::init;
+use super::init::write_justfile;
+use super::init_text::INIT_JUSTFILE;
+use super::printing::{done, print};
 use super::show::show;
 use super::task::Other;
 use super::{Ended, Error};
@@ -31,13 +35,18 @@ fn show_version<H: Host>(alloc: Global, host: H) -> Ended<H>
     }
 }
 
-/// Does what words ask for that is no run: prints the help or the version to standard output, or writes a new justfile.
+/// Does what words ask for that is no run: prints a text to standard output, writes a justfile, or cleans a cache.
 pub(crate) fn do_other<H: Host>(alloc: Global, host: H, other: Other, quiet: bool) -> Ended<H>
+    requires { HasPath other }
     ensures { Does other quiet (H.told host) (H.told result.host) result.result }
 {
     match other {
         Other::Help => show(alloc, host, HELP),
         Other::Version => show_version(alloc, host),
-        Other::Init(path) => init(alloc, host, path, quiet),
+        Other::Init(path) => write_justfile(alloc, host, path, INIT_JUSTFILE, quiet),
+        Other::Show(printed) => print(alloc, host, printed, quiet),
+        Other::Nothing => done(alloc, host),
+        Other::Write(path, text) => write_justfile(alloc, host, path, text.as_str(), quiet),
+        Other::Clean(folder, path) => clean(alloc, host, folder, path, quiet),
     }
 }

@@ -1,20 +1,174 @@
 //! From the words to the task: the steps of a request, in their order.
 
-ghost use Rattle.std.specs.Prelude.{map, IfOk, IfErr, Err};
+ghost use Rattle.std.specs.Prelude.{◌≡◌, ◌++◌, true, false, [], List, None, map, IfOk, IfErr, MatchResult, Ok, Err};
+ghost use Rattle.just_host_record.specs.declared.entry.Entry.{Entry};
+ghost use Rattle.just_cli_plan.specs.Own.{OrMemory};
+ghost use Rattle.just_cli_texts.specs.Kinds.{kind_of, reads_justfile};
+ghost use Rattle.just_cli_texts.specs.declared.kind.Kind.TheVariants as kind;
+ghost use Rattle.just_cli.specs.Asked.{AsksAlone, Responds, as_other, as_reply};
+ghost use Rattle.just_cli.specs.Faults.{entries_of};
+ghost use Rattle.just_cli.specs.Options.{command_not_built};
+ghost use Rattle.just_cli.specs.Preparing.{AreMisses, EndsWith, reply_of};
 ghost use Rattle.just_cli.specs.Quiet.{AskQuiet};
-ghost use Rattle.just_cli.specs.Tasks.{IsTask, IsServed, PreparesWords};
+ghost use Rattle.just_cli.specs.Tasks.{as_task, quiet_in, IsCommand, IsNoQuestion, IsTask, PerformsAsked, PreparesConfig, PreparesArguments, PreparesWords};
 
 use super::Error;
+use super::commands::command_at;
 use super::configured::{configure, read};
 use super::given::{current_folder, environment, locate};
-use super::init::{find_free, is_init};
+use super::init::find_free;
+use super::replied::Replied;
 use super::task::{Other, Task};
-use super::tried::plan_tried;
-use just_config::{Arguments, Read};
+use super::tried::reply_tried;
+use just_cli_texts::{alone, is_new, is_placed, kind_of, reads_justfile, respond, words_of};
+use just_config::{Arguments, Config, Read};
 use just_host::Host;
 use just_path::Utf8PathBuf;
 use just_path_text::Environ;
+use just_search::Location;
 use std::alloc::Global;
+
+/// The path of a new justfile. The record gains the miss of the path, and the entry of the refused call.
+fn new_alone<H: Host>(
+    alloc: Global,
+    environ: &Environ,
+    config: &Config,
+    host: &mut H,
+) -> Result<Other, Error>
+    ensures grew { (es : List Entry) × ((H.told host.new).entries ≡ (H.told host.old).entries ++ es)
+        × MatchResult result (λ _. AreMisses es) (λ e. EndsWith [] e es) }
+    ensures world { (H.told host.new).world ≡ (H.told host.old).world }
+    ensures asked { IfOk result (λ x. AsksAlone kind.New (H.told host.old).world
+        (record { config = config.now; environ = environ.now }) (as_other (Ok x))) }
+    ensures refused { IfErr result (OrMemory (λ e. AsksAlone kind.New (H.told host.old).world
+        (record { config = config.now; environ = environ.now }) (Err e))) }
+    ensures found { IfOk result IsCommand }
+{
+    match find_free(alloc, host, config) {
+        Ok(path) => Ok(Other::Init(path)),
+        Err(error) => Err(error),
+    }
+}
+
+/// The response to a request.
+fn respond_alone(alloc: Global, environ: &Environ, config: &Config) -> Result<Other, Error>
+    ensures asked { IfOk result (λ x. Responds
+        (record { config = config.now; environ = environ.now }) (as_other (Ok x))) }
+    ensures refused { IfErr result (OrMemory (λ e. Responds
+        (record { config = config.now; environ = environ.now }) (Err e))) }
+    ensures found { IfOk result IsCommand }
+    ensures silent { IfErr result (λ e. entries_of e ≡ []) }
+{
+    match respond(alloc, environ, words_of(&config.subcommand)) {
+        Ok(text) => Ok(Other::Show(alone(text))),
+        Err(error) => Err(error),
+    }
+}
+
+/// What a command asks for that reads no justfile. The record gains the miss of the path of a new justfile, and the entry of the refused call.
+fn asked_alone<H: Host>(
+    alloc: Global,
+    environ: &Environ,
+    config: &Config,
+    host: &mut H,
+) -> Result<Other, Error>
+    requires { reads_justfile (kind_of config.now.subcommand) ≡ false }
+    ensures grew { (es : List Entry) × ((H.told host.new).entries ≡ (H.told host.old).entries ++ es)
+        × MatchResult result (λ _. AreMisses es) (λ e. EndsWith [] e es) }
+    ensures world { (H.told host.new).world ≡ (H.told host.old).world }
+    ensures asked { IfOk result (λ x. AsksAlone (kind_of config.now.subcommand)
+        (H.told host.old).world (record { config = config.now; environ = environ.now })
+        (as_other (Ok x))) }
+    ensures refused { IfErr result (OrMemory (λ e. AsksAlone (kind_of config.now.subcommand)
+        (H.told host.old).world (record { config = config.now; environ = environ.now })
+        (Err e))) }
+    ensures found { IfOk result IsCommand }
+{
+    if is_new(kind_of(&config.subcommand)) {
+        return new_alone(alloc, environ, config, host);
+    }
+    match respond_alone(alloc, environ, config) {
+        Ok(other) => Ok(other),
+        Err(error) => Err(error),
+    }
+}
+
+/// The task of a reply.
+fn task_of(replied: Replied, quiet: bool) -> Task
+    ensures asked { as_task (Ok result) ≡ as_reply (Ok (reply_of replied)) }
+    ensures quiet { quiet_in result ≡ quiet }
+    ensures found { IsNoQuestion result }
+{
+    match replied {
+        Replied::List(printed) => Task::List(printed, quiet),
+        Replied::Plan(plan, jobs, messages) => Task::Run(plan, jobs, messages, quiet),
+    }
+}
+
+/// What is asked of the justfile in a place, and of those that are tried behind it. The record gains what asking them leaves.
+fn asked_at<H: Host>(
+    alloc: Global,
+    environ: &Environ,
+    config: &Config,
+    location: Location,
+    quiet: bool,
+    made: &mut Vec<Utf8PathBuf>,
+    host: &mut H,
+) -> Result<Task, Error>
+    requires reads { reads_justfile (kind_of config.now.subcommand) ≡ true }
+    requires built { command_not_built config.now.subcommand ≡ None }
+    ensures asked { PerformsAsked
+        (record { config = config.now; environ = environ.now; location = location })
+        (H.told host.old) (H.told host.new) made.old.items made.new.items (as_task result) }
+    ensures quiet { IfOk result (λ t. quiet_in t ≡ quiet) }
+    ensures found { IfOk result IsNoQuestion }
+{
+    let kind = kind_of(&config.subcommand);
+    if !is_placed(kind) {
+        match reply_tried(alloc, environ, config, location, made, host) {
+            Ok(replied) => return Ok(task_of(replied, quiet)),
+            Err(error) => return Err(error),
+        }
+    }
+    let asked = command_at(alloc, environ, config, kind, &location, made, host);
+    drop(location);
+    match asked {
+        Ok(other) => Ok(Task::Other(other, quiet)),
+        Err(error) => Err(error),
+    }
+}
+
+/// What a configuration asks for. The record gains the entries of listings that were refused as the user's own justfile was looked for, and what asking the
+/// justfile leaves.
+fn asked_by<H: Host>(
+    alloc: Global,
+    environ: &Environ,
+    config: &Config,
+    quiet: bool,
+    made: &mut Vec<Utf8PathBuf>,
+    host: &mut H,
+) -> Result<Task, Error>
+    requires built { command_not_built config.now.subcommand ≡ None }
+    ensures asked { PreparesConfig (record { config = config.now; environ = environ.now })
+        (H.told host.old) (H.told host.new) made.old.items made.new.items (as_task result) }
+    ensures quiet { IfOk result (λ t. quiet_in t ≡ quiet) }
+    ensures found { IfOk result IsNoQuestion }
+{
+    if !reads_justfile(kind_of(&config.subcommand)) {
+        match asked_alone(alloc, environ, config, host) {
+            Ok(other) => return Ok(Task::Other(other, quiet)),
+            Err(error) => return Err(error),
+        }
+    }
+    let location = match locate(alloc, host, config) {
+        Ok(location) => location,
+        Err(error) => return Err(error),
+    };
+    match asked_at(alloc, environ, config, location, quiet, made, host) {
+        Ok(task) => Ok(task),
+        Err(error) => Err(error),
+    }
+}
 
 /// What arguments ask for: a run, or what is no run.
 fn serve<H: Host>(
@@ -24,8 +178,10 @@ fn serve<H: Host>(
     made: &mut Vec<Utf8PathBuf>,
     host: &mut H,
 ) -> Result<Task, Error>
-    ensures { IsServed (record { arguments = arguments; environ = environ.now })
-        (H.told host.old) (H.told host.new) made.old.items made.new.items result }
+    ensures asked { PreparesArguments (record { arguments = arguments; environ = environ.now })
+        (H.told host.old) (H.told host.new) made.old.items made.new.items (as_task result) }
+    ensures quiet { IfOk result (λ t. quiet_in t ≡ arguments.quiet) }
+    ensures found { IfOk result IsNoQuestion }
 {
     let quiet = arguments.quiet;
     let folder = match current_folder(host) {
@@ -39,18 +195,8 @@ fn serve<H: Host>(
         Ok(config) => config,
         Err(error) => return Err(error),
     };
-    if is_init(&config.subcommand) {
-        match find_free(alloc, host, &config) {
-            Ok(path) => return Ok(Task::Other(Other::Init(path), quiet)),
-            Err(error) => return Err(error),
-        }
-    }
-    let location = match locate(alloc, host, &config) {
-        Ok(location) => location,
-        Err(error) => return Err(error),
-    };
-    match plan_tried(alloc, environ, &config, location, made, host) {
-        Ok((plan, jobs, messages)) => Ok(Task::Run(plan, jobs, messages, quiet)),
+    match asked_by(alloc, environ, &config, quiet, made, host) {
+        Ok(task) => Ok(task),
         Err(error) => Err(error),
     }
 }

@@ -10,6 +10,7 @@ ghost use Rattle.just_cli.specs.Words.{told_with};
 use super::failure::fail;
 use super::other::do_other;
 use super::prepare::prepare;
+use super::printing::print;
 use super::task::Task;
 use super::{Ended, Error, Report};
 use just_cli_plan::error_for;
@@ -40,6 +41,7 @@ fn run_made<R: Threads + Wait + Sync, H: Host + Send + Drop>(
     let mut made = Vec::new(alloc);
     let (plan, jobs, messages, quiet) = match prepare(alloc, words, &mut made, &mut host) {
         Ok(Task::Run(plan, jobs, messages, quiet)) => (plan, jobs, messages, quiet),
+        Ok(Task::List(printed, quiet)) => return (print(alloc, host, printed, quiet), made),
         Ok(Task::Other(other, quiet)) => return (do_other(alloc, host, other, quiet), made),
         Err((error, quiet)) => {
             return (fail(alloc, host, error, quiet, None, Seq::new(alloc)), made);
@@ -78,8 +80,8 @@ fn run_made<R: Threads + Wait + Sync, H: Host + Send + Drop>(
 
 /// Runs what the words ask for over a host: reads the words, with the variables of its environment, finds the justfile, reads its project, loads
 /// the project's dotenv files, evaluates its variables, makes the plan, and drives it to its end. A justfile in markdown or on standard input is read from a
-/// temporary folder, which is removed at the end, so far as it can be. Where the words ask for the help or the version, that is
-/// printed to standard output, and where they ask for a new justfile, that is written; the report then has a plan of no node. An error is told on standard error. The words are those behind the
+/// temporary folder, which is removed at the end, so far as it can be. Where the words ask for no run, a text is printed to standard output, a justfile is
+/// written, or a cache is cleaned; the report then has a plan of no node. An error is told on standard error. The words are those behind the
 /// program's name. It waits for the children.
 pub fn run_with<R: Threads + Wait + Sync, H: Host + Send + Drop>(
     rt: &R,

@@ -1,7 +1,9 @@
 //! What words ask for.
 
+use just_cli_texts::Printed;
+use just_lang_types::Modulepath;
 use just_path::Utf8PathBuf;
-use just_path_text::Seq;
+use just_path_text::{Seq, Text};
 use just_sched::Plan;
 use std::num::NonZeroU64;
 
@@ -11,6 +13,8 @@ pub enum Task {
     /// A run of a plan, under a job limit, if there is one; of each node whether the message of its exit code is told; and whether the words
     /// ask for quiet.
     Run(Plan, Option<NonZeroU64>, Seq<bool>, bool),
+    /// The listing of a module in the place of a run, and whether the words ask for quiet.
+    List(Printed, bool),
     /// What is no run, and whether the words ask for quiet.
     Other(Other, bool),
 }
@@ -24,4 +28,12 @@ pub enum Other {
     Version,
     /// A new justfile, which is written at that path.
     Init(Utf8PathBuf),
+    /// A text that is printed.
+    Show(Printed),
+    /// Nothing is left to be done.
+    Nothing,
+    /// A justfile that is written anew at that path.
+    Write(Utf8PathBuf, Text),
+    /// A cache in that folder that is cleaned: of the entries of recipes whose paths begin with that one, else of all.
+    Clean(Utf8PathBuf, Option<Modulepath>),
 }

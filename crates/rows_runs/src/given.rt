@@ -1,5 +1,6 @@
 //! What a row gives: its words, and the host that they run over.
 
+use crate::digits::bytes_of_digits;
 use just_host::{Ending, MemHost, Plot, Status, Thing, Tree};
 use just_path::Utf8PathBuf;
 use just_path_text::{Environ, NoMemory, Seq, Text};
@@ -84,6 +85,17 @@ impl Reader {
         }
     }
 
+    /// The bytes that hexadecimal digits stand for.
+    fn bytes_of_digits(&mut self, digits: &str) -> Seq<u8> {
+        match bytes_of_digits(self.alloc, digits) {
+            Ok(bytes) => Seq::from(bytes),
+            Err(wrong) => {
+                self.fail(wrong);
+                Seq::new(self.alloc)
+            }
+        }
+    }
+
     /// Adds an item to a list.
     fn push<T: Drop>(&mut self, all: &mut Vec<T>, item: T) {
         if all.push(item).is_err() {
@@ -129,6 +141,44 @@ fn file(reader: &mut Reader, text: &str) -> Thing {
     }
 }
 
+/// The file of some digits, which are its bytes.
+fn file_of_digits(reader: &mut Reader, digits: Option<&Value>) -> Thing {
+    let digits = match digits {
+        Some(digits) => reader.text(digits),
+        None => {
+            reader.fail(Wrong::Form);
+            ""
+        }
+    };
+    Thing::File {
+        bytes: reader.bytes_of_digits(digits),
+        executable: false,
+    }
+}
+
+/// What an object stands for: a link with its target, or a file with the digits of its bytes.
+fn thing_told(reader: &mut Reader, told: &Value) -> Thing {
+    match told.get("link") {
+        Some(target) => {
+            let target = reader.text(target);
+            Thing::Link(reader.owned(target))
+        }
+        None => file_of_digits(reader, told.get("hex")),
+    }
+}
+
+/// What stands at a path of a row: a folder, where that is null; what an object tells; else the file of a text.
+fn thing(reader: &mut Reader, told: &Value) -> Thing {
+    match told {
+        Value::Null => Thing::Folder,
+        Value::Object(_) => thing_told(reader, told),
+        other => {
+            let text = reader.text(other);
+            file(reader, text)
+        }
+    }
+}
+
 /// Puts each folder above a path into a tree; the root is the one whose path is empty here.
 fn put_folders(reader: &mut Reader, tree: &mut Tree, path: &str) {
     for (place, _) in path.match_indices("/") {
@@ -140,12 +190,11 @@ fn put_folders(reader: &mut Reader, tree: &mut Tree, path: &str) {
     }
 }
 
-/// Puts a file of a row into a tree, and each folder above it.
-fn put_file(reader: &mut Reader, tree: &mut Tree, path: &str, text: &Value) {
-    let text = reader.text(text);
+/// Puts what a row tells of a path into a tree, and each folder above it.
+fn put_thing(reader: &mut Reader, tree: &mut Tree, path: &str, told: &Value) {
     put_folders(reader, tree, path);
-    let file = file(reader, text);
-    reader.put(tree, path, file);
+    let thing = thing(reader, told);
+    reader.put(tree, path, thing);
 }
 
 /// The tree of some files, with the current folder and those above them.
@@ -154,8 +203,8 @@ fn tree_read(reader: &mut Reader, current: &str, files: &Value) -> Tree {
     reader.put(&mut tree, current, Thing::Folder);
     match files {
         Value::Object(files) => {
-            for (path, text) in files {
-                put_file(reader, &mut tree, path.as_str(), text);
+            for (path, told) in files {
+                put_thing(reader, &mut tree, path.as_str(), told);
             }
         }
         _ => reader.fail(Wrong::Form),
@@ -309,13 +358,20 @@ fn fails(reader: &mut Reader, row: &Value) -> Seq<u32> {
     Seq::from(fails)
 }
 
-/// What is to happen in a row.
-fn plot(reader: &mut Reader, row: &Value) -> Plot {
+/// A list of one number.
+fn alone(reader: &mut Reader, number: u32) -> Seq<u32> {
+    let mut numbers = Vec::new(reader.alloc);
+    reader.push(&mut numbers, number);
+    Seq::from(numbers)
+}
+
+/// What is to happen in a row, where the calls of these numbers fail.
+fn plot(reader: &mut Reader, row: &Value, fails: Seq<u32>) -> Plot {
     Plot {
         endings: endings(reader, row),
         answers: answers(reader, row),
         input: bytes(reader, row.get("input")),
-        fails: fails(reader, row),
+        fails,
         signals: Seq::new(reader.alloc),
     }
 }
@@ -331,16 +387,31 @@ fn tree_of(reader: &mut Reader, row: &Value, current: &str) -> Tree {
     }
 }
 
-/// The host of a row. It promises nothing beyond safety.
-pub(crate) fn host(alloc: Global, row: &Value) -> Result<MemHost, Wrong> {
+/// The host of a row, where the calls of these numbers fail.
+fn host_of(reader: Reader, row: &Value, fails: Seq<u32>) -> Result<MemHost, Wrong> {
+    let mut reader = reader;
+    let alloc = reader.alloc;
     let current = text(row, "current")?;
     let folder = Utf8PathBuf::from_str(alloc, current)?;
-    let mut reader = Reader::new(alloc);
     let environ = environ(&mut reader, row);
     let tree = tree_of(&mut reader, row, current);
-    let plot = plot(&mut reader, row);
+    let plot = plot(&mut reader, row, fails);
     match MemHost::new(alloc, tree, folder, environ, plot) {
         Ok(host) => reader.finished(host),
         Err(NoMemory) => Err(Wrong::NoMemory),
     }
+}
+
+/// The host of a row. It promises nothing beyond safety.
+pub(crate) fn host(alloc: Global, row: &Value) -> Result<MemHost, Wrong> {
+    let mut reader = Reader::new(alloc);
+    let fails = fails(&mut reader, row);
+    host_of(reader, row, fails)
+}
+
+/// The host of a row, where the call of that number fails, and no other. It promises nothing beyond safety.
+pub(crate) fn failing_host(alloc: Global, row: &Value, number: u32) -> Result<MemHost, Wrong> {
+    let mut reader = Reader::new(alloc);
+    let fails = alone(&mut reader, number);
+    host_of(reader, row, fails)
 }

@@ -24,6 +24,14 @@ pub(crate) fn changes(row: &Value) -> Option<&[Value]> {
     }
 }
 
+/// The children of a row whose output is captured, if it says that. It promises nothing beyond safety.
+pub(crate) fn captured(row: &Value) -> Option<&[Value]> {
+    match row.get("captured") {
+        Some(Value::Array(children)) => Some(children.as_slice()),
+        _ => None,
+    }
+}
+
 /// Adds the code that a row wants.
 fn push_code(page: &mut Page, row: &Value) {
     page.push("code ");
@@ -122,6 +130,17 @@ fn push_all_changes(page: &mut Page, children: &[Value]) {
     }
 }
 
+/// Adds the children of a row whose output is captured, a line each.
+fn push_all_captured(page: &mut Page, children: &[Value]) {
+    page.begin("captured");
+    for child in children {
+        push_program(page, child, true);
+        page.push(" fed  [");
+        page.push_field(text(child, "input"));
+        page.push("]\n");
+    }
+}
+
 /// The number of calls that fail in a row.
 fn failure_count(row: &Value) -> usize {
     match row.get("failed") {
@@ -174,6 +193,9 @@ pub(crate) fn wanted(alloc: Global, row: &Value) -> Result<String, Wrong> {
     push_record(&mut page, row);
     if let Some(children) = changes(row) {
         push_all_changes(&mut page, children);
+    }
+    if let Some(children) = captured(row) {
+        push_all_captured(&mut page, children);
     }
     push_files(&mut page, row);
     page.finished()

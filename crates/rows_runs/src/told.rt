@@ -139,6 +139,27 @@ fn push_all_changes(page: &mut Page, entries: &[Entry]) {
     }
 }
 
+/// Adds what a child is fed.
+fn push_input(page: &mut Page, input: &[u8]) {
+    page.push(" fed ");
+    match str::from_utf8(input) {
+        Ok(text) => page.push_item(text),
+        Err(_) => page.push_shown(&input),
+    }
+}
+
+/// Adds the children whose output was captured, a line each.
+fn push_all_captured(page: &mut Page, entries: &[Entry]) {
+    page.begin("captured");
+    for entry in entries {
+        if let Entry::Captured(spec, input, _, _) = entry {
+            push_child(page, spec.get());
+            push_input(page, input.as_slice());
+            page.push("\n");
+        }
+    }
+}
+
 /// A thing as it is shown, without what stands behind it in its list.
 fn alone(shown: &str) -> &str {
     match shown.rsplit_once(')') {
@@ -170,22 +191,26 @@ pub(crate) fn push_tree(page: &mut Page, tree: &Tree) {
     }
 }
 
-/// Adds what a host's record tells, with the changes of environments where they are asked for.
-fn push_record(page: &mut Page, entries: &[Entry], with_changes: bool) {
+/// Adds what a host's record tells.
+fn push_record(page: &mut Page, entries: &[Entry]) {
     page.begin("failed calls");
     page.push_shown(&failure_count(entries));
     push_output(page, entries);
     push_error(page, entries);
     push_prompts(page, entries);
     push_children(page, entries);
-    if with_changes {
-        push_all_changes(page, entries);
-    }
 }
 
-/// Adds what a host tells behind a run: its record, with the changes of environments where they are asked for, and its files. It promises nothing beyond safety.
-pub(crate) fn push_behind(page: &mut Page, host: MemHost, with_changes: bool) {
-    push_record(page, host.entries(), with_changes);
+/// Adds what a host tells behind a run: its record, with the changes of environments and captured children where they are asked
+/// for, and its files. It promises nothing beyond safety.
+pub(crate) fn push_behind(page: &mut Page, host: MemHost, with_changes: bool, with_captured: bool) {
+    push_record(page, host.entries());
+    if with_changes {
+        push_all_changes(page, host.entries());
+    }
+    if with_captured {
+        push_all_captured(page, host.entries());
+    }
     push_tree(page, host.tree());
     drop(host);
 }

@@ -6,11 +6,11 @@ use Rattle.just_cli.proofs.init.write.Goals as goal
 
 pub returns-in-Ok-write-clause-written : goal.returns-in-Ok-write-clause-written
 returns-in-Ok-write-clause-written g c =
-    wrote _ _ _ _ _ _ _ _ _ _ c.tell_line.result (writes_path _ _ _ _ _ _ _ c.as_path.ensures c.as_bytes.ensures.value c.in-Ok-write.ensures.world) c.tell_line.ensures.world c.in-Ok-write.ensures.entries (c.as_str-in-Ok-write.ensures.value ∙ (c.in-Ok.ensures ∙ ap (λ p. written_line p) c.as_str.ensures)) c.tell_line.ensures.told
+    wrote _ _ _ _ _ _ _ _ _ _ _ c.tell_line.result (writes_path _ _ _ _ _ _ _ c.as_path.ensures c.as_bytes.ensures.value c.in-Ok-write.ensures.world) c.tell_line.ensures.world c.in-Ok-write.ensures.entries (c.as_str-in-Ok-write.ensures.value ∙ (c.in-Ok.ensures ∙ ap (λ p. written_line p) c.as_str.ensures)) c.tell_line.ensures.told
 
 pub returns-in-Ok-write-clause-unwritten : goal.returns-in-Ok-write-clause-unwritten
 returns-in-Ok-write-clause-unwritten g c =
-    not_told _ _ _ _ _ _ _ _ _ c.tell_line.result (writes_path _ _ _ _ _ _ _ c.as_path.ensures c.as_bytes.ensures.value c.in-Ok-write.ensures.world) c.tell_line.ensures.world c.in-Ok-write.ensures.entries c.tell_line.ensures.untold
+    not_told _ _ _ _ _ _ _ _ _ _ c.tell_line.result (writes_path _ _ _ _ _ _ _ c.as_path.ensures c.as_bytes.ensures.value c.in-Ok-write.ensures.world) c.tell_line.ensures.world c.in-Ok-write.ensures.entries c.tell_line.ensures.untold
 
 pub returns-in-Err-write-clause-unwritten : goal.returns-in-Err-write-clause-unwritten
 returns-in-Err-write-clause-unwritten g c = (

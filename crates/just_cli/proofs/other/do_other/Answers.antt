@@ -1,4 +1,6 @@
 -- Each is done as it is to be.
+use Rattle.std.proofs.Common.{rules}
+use Rattle.just_cli.specs.Tasks.{IsPathOrNone}
 use Rattle.just_cli.specs.declared.task.Other.TheVariants as no_run
 use Rattle.just_cli.proofs.Ending.{does_so}
 use Rattle.just_cli.proofs.other.do_other.Goals as goal
@@ -10,4 +12,20 @@ pub returns-in-Version : goal.returns-in-Version
 returns-in-Version g c = does_so c.args.other no_run.Version c.args.quiet _ _ _ c.in-Version.is c.show_version.ensures
 
 pub returns-in-Init : goal.returns-in-Init
-returns-in-Init g c = does_so c.args.other (no_run.Init c.in-Init.path) c.args.quiet _ _ _ c.in-Init.is c.init.ensures
+returns-in-Init g c = does_so c.args.other (no_run.Init c.in-Init.path) c.args.quiet _ _ _ c.in-Init.is c.write_justfile.ensures
+
+pub returns-in-Show : goal.returns-in-Show
+returns-in-Show g c = does_so c.args.other (no_run.Show c.in-Show.printed) c.args.quiet _ _ _ c.in-Show.is c.print.ensures
+
+pub returns-in-Nothing : goal.returns-in-Nothing
+returns-in-Nothing g c = does_so c.args.other no_run.Nothing c.args.quiet _ _ _ c.in-Nothing.is c.done.ensures
+
+pub returns-in-Write : goal.returns-in-Write
+returns-in-Write g c = does_so c.args.other (no_run.Write c.in-Write.path c.in-Write.text) c.args.quiet _ _ _ c.in-Write.is (rw c.as_str.ensures at c.write_justfile-in-Write.ensures)
+
+pub clean-requires : goal.clean-requires
+clean-requires g c =
+    let known : IsPathOrNone c.in-Clean.path = rw c.in-Clean.is at c.requires in search rules
+
+pub returns-in-Clean : goal.returns-in-Clean
+returns-in-Clean g c = does_so c.args.other (no_run.Clean c.in-Clean.folder c.in-Clean.path) c.args.quiet _ _ _ c.in-Clean.is c.clean.ensures

@@ -15,11 +15,11 @@ returns-in-Err-clause-quiet g c = quiet_without_environ _ _ _ c.in-Err.ensures.r
 pub returns-in-Ok-serve-clause-asked : goal.returns-in-Ok-serve-clause-asked
 returns-in-Ok-serve-clause-asked g c =
     let means = rw c.in-Ok-Go.field-0-is at c.in-Ok-Go.ensures.read in
-    words_served _ (g.H.Host.told c.args.host.now) _ _ c.in-Ok.ensures.gives _ means (g.H.Host.told c.environment.new.host) (moment_by (g.H.Host.told c.environment.new.host) (g.H.Host.told c.args.host.now) c.in-Ok.ensures.grew c.environment.ensures.world) (g.H.Host.told c.serve.new.host) _ _ c.in-Ok-serve.ensures
+    words_served _ (g.H.Host.told c.args.host.now) _ _ c.in-Ok.ensures.gives _ means (g.H.Host.told c.environment.new.host) (moment_by (g.H.Host.told c.environment.new.host) (g.H.Host.told c.args.host.now) c.in-Ok.ensures.grew c.environment.ensures.world) (g.H.Host.told c.serve.new.host) _ _ c.in-Ok-serve.ensures.asked c.in-Ok-serve.ensures.quiet c.in-Ok-serve.ensures.found
 
 pub returns-in-Ok-Go-clause-refused : goal.returns-in-Ok-Go-clause-refused
 returns-in-Ok-Go-clause-refused g c =
-    words_unserved _ (g.H.Host.told c.args.host.now) _ _ c.in-Ok.ensures.gives _ (rw c.in-Ok-Go.field-0-is at c.in-Ok-Go.ensures.read) (g.H.Host.told c.environment.new.host) (moment_by (g.H.Host.told c.environment.new.host) (g.H.Host.told c.args.host.now) c.in-Ok.ensures.grew c.environment.ensures.world) (g.H.Host.told c.serve.new.host) _ _ c.in-Err-serve.ensures
+    words_unserved _ (g.H.Host.told c.args.host.now) _ _ c.in-Ok.ensures.gives _ (rw c.in-Ok-Go.field-0-is at c.in-Ok-Go.ensures.read) (g.H.Host.told c.environment.new.host) (moment_by (g.H.Host.told c.environment.new.host) (g.H.Host.told c.args.host.now) c.in-Ok.ensures.grew c.environment.ensures.world) (g.H.Host.told c.serve.new.host) _ _ c.in-Err-serve.ensures.asked
 
 pub returns-in-Ok-Go-clause-quiet : goal.returns-in-Ok-Go-clause-quiet
 returns-in-Ok-Go-clause-quiet g c = quiet_of_words _ _ _ c.in-Ok.ensures.gives _ _ _ (rw c.in-Ok-Go.field-0-is at c.in-Ok-Go.ensures.read) refl
@@ -31,7 +31,9 @@ pub returns-clause-quiet : goal.returns-clause-quiet
 returns-clause-quiet g c = quiet_without_words _ _ _ c.in-Ok.ensures.gives _ c.in-Err-read.ensures.refused
 
 pub returns-in-Ok-Help-clause-asked : goal.returns-in-Ok-Help-clause-asked
-returns-in-Ok-Help-clause-asked g c = (c.environment.ensures.world, refl, c.in-Ok.ensures.grew, asks_help _ _ _ c.in-Ok.ensures.gives (rw c.in-Ok-Help.field-0-is at c.in-Ok-Help.ensures.read), tt)
+returns-in-Ok-Help-clause-asked g c =
+    (moment_by (g.H.Host.told c.environment.new.host) (g.H.Host.told c.args.host.now) c.in-Ok.ensures.grew c.environment.ensures.world, refl, asks_help _ _ _ c.in-Ok.ensures.gives (rw c.in-Ok-Help.field-0-is at c.in-Ok-Help.ensures.read))
 
 pub returns-in-Ok-Version-clause-asked : goal.returns-in-Ok-Version-clause-asked
-returns-in-Ok-Version-clause-asked g c = (c.environment.ensures.world, refl, c.in-Ok.ensures.grew, asks_version _ _ _ c.in-Ok.ensures.gives (rw c.in-Ok-Version.field-0-is at c.in-Ok-Version.ensures.read), tt)
+returns-in-Ok-Version-clause-asked g c =
+    (moment_by (g.H.Host.told c.environment.new.host) (g.H.Host.told c.args.host.now) c.in-Ok.ensures.grew c.environment.ensures.world, refl, asks_version _ _ _ c.in-Ok.ensures.gives (rw c.in-Ok-Version.field-0-is at c.in-Ok-Version.ensures.read))

@@ -1,7 +1,8 @@
 -- Words end as they are to at each end of what is done for them, whatever the removal of the folders makes of the host then.
-use Rattle.std.proofs.Common.{refl}
+use Rattle.std.proofs.Common.{refl, rules}
+use Rattle.just_cli.specs.Tasks.{HasPath}
 use Rattle.just_cli.proofs.Asking.{quiet_read}
-use Rattle.just_cli.proofs.Ending.{ended_so, ended_other, ended_refused, ended_well, ended_ill}
+use Rattle.just_cli.proofs.Ending.{ended_listing, ended_other, has_path, ended_refused, ended_well, ended_ill}
 use Rattle.just_cli.proofs.Serving.{unstarted}
 use Rattle.just_cli.proofs.runner.run_made.Goals as goal
 
@@ -16,11 +17,19 @@ returns g c = λ after removes.
     ended_refused _ (g.H.Host.told c.args.host) back (g.H.Host.told c.fail-in-Err-drive.result.host) after _ _ _ _ _ _ c.fail-in-Err-drive.ensures.failed c.new-in-Err-drive.ensures c.new-made.ensures.items
     (unstarted _ (g.H.Host.told c.args.host) _ (g.H.Host.told c.prepare.new.host) back _ _ c.in-Err-drive.ensures.back.0 c.in-Err-drive.ensures.back.1 asks.0) (quiet_read _ _ _ _ asks.1) c.fail-in-Err-drive.ensures.told c.fail-in-Err-drive.ensures.world removes
 
+pub returns-in-Ok-List : goal.returns-in-Ok-List
+returns-in-Ok-List g c = λ after removes.
+    let asks = rw c.in-Ok-List.field-0-is at c.in-Ok-List.ensures.asked in
+    ended_listing _ (g.H.Host.told c.args.host) (g.H.Host.told c.prepare.new.host) (g.H.Host.told c.print.result.host) after _ _ c.in-Ok-List.quiet _ c.new-made.ensures.items removes c.in-Ok-List.printed asks c.print.ensures
+
+pub do_other-requires : goal.do_other-requires
+do_other-requires g c =
+    let known : HasPath c.in-Ok-Other.other = has_path _ (g.H.Host.told c.args.host) (g.H.Host.told c.prepare.new.host) _ _ c.in-Ok-Other.other c.in-Ok-Other.quiet (rw c.in-Ok-Other.field-0-is at c.in-Ok-Other.ensures.asked) in search rules
+
 pub returns-in-Ok-Other : goal.returns-in-Ok-Other
 returns-in-Ok-Other g c = λ after removes.
     let asks = rw c.in-Ok-Other.field-0-is at c.in-Ok-Other.ensures.asked in
-    ended_so _ (g.H.Host.told c.args.host) (g.H.Host.told c.do_other.result.host) after _ _ _ c.new-made.ensures.items asks.1
-    (ended_other _ (g.H.Host.told c.args.host) (g.H.Host.told c.prepare.new.host) (g.H.Host.told c.do_other.result.host) c.in-Ok-Other.other c.in-Ok-Other.quiet _ asks.0 asks.2 asks.3 asks.4 c.do_other.ensures) removes
+    ended_other _ (g.H.Host.told c.args.host) (g.H.Host.told c.prepare.new.host) (g.H.Host.told c.do_other.result.host) after _ _ c.in-Ok-Other.quiet _ c.new-made.ensures.items removes c.in-Ok-Other.other asks c.do_other.ensures
 
 pub returns-in-None : goal.returns-in-None
 returns-in-None g c = λ after removes.

@@ -1,0 +1,77 @@
+-- What a command does.
+use Rattle.std.specs.Prelude.{ℕ, Bool, true, false, List, [], Option, Some, None}
+use Rattle.just_config_words.specs.declared.subcommand.Subcommand.{Subcommand}
+use Rattle.just_config_words.specs.declared.subcommand.Subcommand.TheVariants as command
+use Rattle.just_cli_texts.specs.declared.kind.Kind.{Kind}
+use Rattle.just_cli_texts.specs.declared.kind.Kind.TheVariants as kind
+
+-- words without a command ask for a run
+abbrev pub kind_of : Option Subcommand → Kind
+kind_of None = kind.Run
+kind_of (Some (command.Choose ws)) = kind.Later
+kind_of (Some (command.Clean ws)) = kind.Clean
+kind_of (Some (command.Command ws)) = kind.Later
+kind_of (Some (command.Dump ws)) = kind.Print
+kind_of (Some (command.Edit ws)) = kind.Later
+kind_of (Some (command.Evaluate ws)) = kind.Evaluate
+kind_of (Some (command.Fmt ws)) = kind.Format
+kind_of (Some (command.Groups ws)) = kind.Print
+kind_of (Some (command.Init ws)) = kind.New
+kind_of (Some (command.List ws)) = kind.Print
+kind_of (Some (command.Request ws)) = kind.Respond
+kind_of (Some (command.Show ws)) = kind.Print
+kind_of (Some (command.Summary ws)) = kind.Print
+kind_of (Some (command.Usage ws)) = kind.Print
+kind_of (Some (command.Variables ws)) = kind.Print
+
+-- whether it reads a justfile
+abbrev pub reads_justfile : Kind → Bool
+reads_justfile kind.Run = true
+reads_justfile kind.New = false
+reads_justfile kind.Respond = false
+reads_justfile kind.Format = true
+reads_justfile kind.Clean = true
+reads_justfile kind.Evaluate = true
+reads_justfile kind.Print = true
+reads_justfile kind.Later = true
+
+-- whether it asks for a new justfile
+abbrev pub is_new : Kind → Bool
+is_new kind.Run = false
+is_new kind.New = true
+is_new kind.Respond = false
+is_new kind.Format = false
+is_new kind.Clean = false
+is_new kind.Evaluate = false
+is_new kind.Print = false
+is_new kind.Later = false
+
+-- whether it asks something of the justfile in its place
+abbrev pub is_placed : Kind → Bool
+is_placed kind.Run = false
+is_placed kind.New = false
+is_placed kind.Respond = false
+is_placed kind.Format = true
+is_placed kind.Clean = true
+is_placed kind.Evaluate = true
+is_placed kind.Print = true
+is_placed kind.Later = false
+
+-- the words of a command
+abbrev pub words_of : Option Subcommand → List (List ℕ)
+words_of None = []
+words_of (Some (command.Choose ws)) = ws
+words_of (Some (command.Clean ws)) = ws
+words_of (Some (command.Command ws)) = ws
+words_of (Some (command.Dump ws)) = ws
+words_of (Some (command.Edit ws)) = ws
+words_of (Some (command.Evaluate ws)) = ws
+words_of (Some (command.Fmt ws)) = ws
+words_of (Some (command.Groups ws)) = ws
+words_of (Some (command.Init ws)) = ws
+words_of (Some (command.List ws)) = ws
+words_of (Some (command.Request ws)) = ws
+words_of (Some (command.Show ws)) = ws
+words_of (Some (command.Summary ws)) = ws
+words_of (Some (command.Usage ws)) = ws
+words_of (Some (command.Variables ws)) = ws

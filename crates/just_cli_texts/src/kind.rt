@@ -1,0 +1,114 @@
+//! What a command does.
+
+ghost use Rattle.std.specs.Prelude.{◌≡◌};
+ghost use Rattle.just_cli_texts.specs.Kinds.{is_new, is_placed, kind_of, reads_justfile, words_of};
+
+use just_config::Subcommand;
+use just_path_text::Text;
+
+/// What a command does.
+#[derive(Clone, Copy)]
+pub enum Kind {
+    /// There is no command: recipes are run, or a module is listed.
+    Run,
+    /// A new justfile is written.
+    New,
+    /// A request is answered.
+    Respond,
+    /// The justfile is written anew in one style.
+    Format,
+    /// The cache is cleaned.
+    Clean,
+    /// Values of variables are printed.
+    Evaluate,
+    /// A text is printed that the project alone gives.
+    Print,
+    /// It isn't built yet.
+    Later,
+}
+
+/// What a command does, where there is one.
+pub fn kind_of(command: &Option<Subcommand>) -> Kind
+    ensures { result ≡ kind_of command.now }
+{
+    match command {
+        None => Kind::Run,
+        Some(Subcommand::Init(_)) => Kind::New,
+        Some(Subcommand::Request(_)) => Kind::Respond,
+        Some(Subcommand::Fmt(_)) => Kind::Format,
+        Some(Subcommand::Clean(_)) => Kind::Clean,
+        Some(Subcommand::Evaluate(_)) => Kind::Evaluate,
+        Some(Subcommand::Choose(_) | Subcommand::Command(_) | Subcommand::Edit(_)) => Kind::Later,
+        Some(
+            Subcommand::Dump(_)
+            | Subcommand::Groups(_)
+            | Subcommand::List(_)
+            | Subcommand::Show(_)
+            | Subcommand::Summary(_)
+            | Subcommand::Usage(_)
+            | Subcommand::Variables(_),
+        ) => Kind::Print,
+    }
+}
+
+/// Whether a justfile is read for it.
+pub fn reads_justfile(kind: Kind) -> bool
+    ensures { result ≡ reads_justfile kind }
+{
+    match kind {
+        Kind::New | Kind::Respond => false,
+        Kind::Run | Kind::Format | Kind::Clean | Kind::Evaluate | Kind::Print | Kind::Later => true,
+    }
+}
+
+/// Whether it asks for a new justfile.
+pub fn is_new(kind: Kind) -> bool
+    ensures { result ≡ is_new kind }
+{
+    match kind {
+        Kind::New => true,
+        Kind::Run
+        | Kind::Respond
+        | Kind::Format
+        | Kind::Clean
+        | Kind::Evaluate
+        | Kind::Print
+        | Kind::Later => false,
+    }
+}
+
+/// Whether it asks something of the justfile in its place.
+pub fn is_placed(kind: Kind) -> bool
+    ensures { result ≡ is_placed kind }
+{
+    match kind {
+        Kind::Format | Kind::Clean | Kind::Evaluate | Kind::Print => true,
+        Kind::Run | Kind::New | Kind::Respond | Kind::Later => false,
+    }
+}
+
+/// The words of a command.
+pub fn words_of(command: &Option<Subcommand>) -> &[Text]
+    ensures { result.now ≡ words_of command.now }
+{
+    match command {
+        None => &[],
+        Some(
+            Subcommand::Choose(words)
+            | Subcommand::Clean(words)
+            | Subcommand::Command(words)
+            | Subcommand::Dump(words)
+            | Subcommand::Edit(words)
+            | Subcommand::Evaluate(words)
+            | Subcommand::Fmt(words)
+            | Subcommand::Groups(words)
+            | Subcommand::Init(words)
+            | Subcommand::List(words)
+            | Subcommand::Request(words)
+            | Subcommand::Show(words)
+            | Subcommand::Summary(words)
+            | Subcommand::Usage(words)
+            | Subcommand::Variables(words),
+        ) => words.as_slice(),
+    }
+}

@@ -1,0 +1,5 @@
+out := 'out'
+
+# removes what was made
+clean:
+	@rm -r {{out}}
