@@ -36,10 +36,16 @@ fn refuse_others<F: Files>(files: &F, path: &str) -> io::Result<()> {
     }
 }
 
-/// Writes a file, which is made where it lacks: it holds these bytes and no others. What is no file isn't opened. No clause: nothing is claimed of files.
-pub fn write<F: Files>(files: &F, path: &str, bytes: &[u8]) -> io::Result<()> {
-    refuse_others(files, path)?;
-    fs::write(files, path, bytes)
+/// Writes a file, which is made where it lacks: it holds these bytes and no others. A file that is there stays until the new one is
+/// whole. What is no file isn't opened. No clause: nothing is claimed of files.
+pub fn write<F: Files>(
+    files: &F,
+    alloc: Global,
+    path: Utf8Path<'_>,
+    bytes: &[u8],
+) -> io::Result<()> {
+    refuse_others(files, path.as_str())?;
+    super::written::write(files, alloc, path, bytes)
 }
 
 /// Removes a file, a link or an empty folder; of a link not what it leads to. No clause: nothing is claimed of files.

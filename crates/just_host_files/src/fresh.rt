@@ -32,7 +32,7 @@ fn random_number<F: Files>(files: &F) -> io::Result<u64> {
 }
 
 /// A path in a folder whose name begins with `prefix`, and hardly stands there.
-fn random_path<F: Files>(
+pub(crate) fn random_path<F: Files>(
     files: &F,
     alloc: Global,
     parent: Utf8Path<'_>,

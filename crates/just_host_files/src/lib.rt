@@ -8,6 +8,7 @@ mod items;
 mod ready;
 pub mod system;
 mod text;
+mod written;
 
 pub use copies::{copied_bytes, copies_of, path_or_empty};
 pub use fresh::{fresh_folder, in_memory};

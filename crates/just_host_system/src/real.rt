@@ -327,7 +327,7 @@ impl<R: Runtime + Files<File = File> + Processes<Started = SystemProcess>> Host 
     }
 
     fn write(&mut self, path: Utf8Path<'_>, bytes: &[u8]) -> Result<(), HostFault> {
-        let told = disk::write(&self.rt, path.as_str(), bytes);
+        let told = disk::write(&self.rt, self.alloc, path, bytes);
         answer(&mut self.log, self.alloc, Call::Write, path, told)
     }
 
