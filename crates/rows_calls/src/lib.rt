@@ -1,4 +1,5 @@
-//! Tests that need code: each public call once, over hosts; the hosts by themselves; and runs of a plan.
+//! Tests that need code: each public call once, over hosts; the hosts by themselves; and runs of a plan. Functions here promise nothing
+//! beyond safety: they only call and compare.
 #![tactic(auto)]
 
 #[cfg(test)]

@@ -1,5 +1,6 @@
 //! Compares the answers of the language's crates with rows that an independent reading of it gave. The end of a
-//! file's name tells what they are: those of `rules.jsonl` and `shapes.tsv` are told of where they are read.
+//! file's name tells what they are: those of `rules.jsonl` and `shapes.tsv` are told of where they are read. Functions here promise
+//! nothing beyond safety: they only call and compare.
 //!
 //! A row of another file is one JSON object, told by its fields: with `text` and `ok` it is one of `parse`,
 //! where `print` is the printed tree and `kind`, `line` and `column` tell a refusal. Beside these stand `unindent` and `gives`; `least`,
