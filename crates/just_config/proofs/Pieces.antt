@@ -87,14 +87,15 @@ cut_next {bs} {x} {rest} u it =
     let es = past_word.0 in
     let whole : u.0 ≡ gap.0 ++ (word.0 ++ es) = past_gap.1 ∙ ap (λ (a : List ℕ). gap.0 ++ a) past_word.1 in
     let good : scalars es ≡ true = scalars_behind word.0 es (scalars_behind gap.0 (word.0 ++ es) (sym (ap scalars whole) ∙ u.1.0)) in
-    let left : IsUtf8 rest = (es, (good, past_word.2)) in
-    (left,
+    let left : IsUtf8 rest = (es, (good, past_word.2)) in (
+      left,
       ap (pieces_behind []) (sym (chars_from_encodes u.0 bs u u.1.1) ∙ whole)
-      ∙ skipped gap.0 (word.0 ++ es) gap.2
-      ∙ gathered [] word.0 es word.2
-      ∙ ap (λ (v : List ℕ). pieces_behind v es) word.1
-      ∙ ended x es it.2 (begins_white es rest it.5.0 past_word.2 it.5.1)
-      ∙ ap (λ (cs : List ℕ). x ∷ pieces_behind [] cs) (chars_from_encodes es rest left past_word.2))
+          ∙ skipped gap.0 (word.0 ++ es) gap.2
+          ∙ gathered [] word.0 es word.2
+          ∙ ap (λ (v : List ℕ). pieces_behind v es) word.1
+          ∙ ended x es it.2 (begins_white es rest it.5.0 past_word.2 it.5.1)
+          ∙ ap (λ (cs : List ℕ). x ∷ pieces_behind [] cs) (chars_from_encodes es rest left past_word.2),
+    )
 
 pub cut_end : {bs : List ℕ} → IsUtf8 bs → NoCharPasses is_not_whitespace bs → pieces bs ≡ []
 cut_end {bs} u n = ap (pieces_behind []) (sym (chars_from_encodes n.0 bs u n.1) ∙ sym (append-nil n.0)) ∙ skipped n.0 [] n.2
