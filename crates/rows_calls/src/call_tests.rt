@@ -93,7 +93,8 @@ fn response(alloc: Global, value: Option<&str>) -> Result<String, NoMemory> {
         Some(value) => Some(Text::from_str(alloc, value)?),
         None => None,
     };
-    Response::EnvironmentVariable(found).text(alloc)
+    let response = Response::EnvironmentVariable(found);
+    response.text(alloc)
 }
 
 #[test]

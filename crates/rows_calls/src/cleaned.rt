@@ -12,7 +12,7 @@ use just_path_text::NoMemory;
 use std::alloc::Global;
 
 /// The path of one name; where it is none, memory is told to be wanting, so that the test fails.
-#[tactic(auto, using(crate::proofs::Paths::one_is_path))]
+#[tactic(auto, using(crate::proofs::Paths::path_of_one))]
 fn path(alloc: Global, name: &str) -> Result<Modulepath, NoMemory>
     ensures { IfOk result (λ p. IsPath p.components) }
 {

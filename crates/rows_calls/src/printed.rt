@@ -59,7 +59,7 @@ fn absent(alloc: Global) -> Result<String, AllocError> {
 }
 
 /// Adds the line of an error.
-fn push_error(all: &mut String, error: &Error) -> Result<(), AllocError> {
+fn push_error(all: &mut String, error: Error) -> Result<(), AllocError> {
     writeln!(all, "{error}")
 }
 
@@ -67,14 +67,14 @@ fn push_error(all: &mut String, error: &Error) -> Result<(), AllocError> {
 fn refusals(alloc: Global, name: &str) -> Result<String, NoMemory> {
     let mut all = String::new(alloc);
     let subcommand = Text::from_str(alloc, "show")?;
-    push_error(&mut all, &Error::RecipeRequired { subcommand })?;
+    push_error(&mut all, Error::RecipeRequired { subcommand })?;
     let group = Text::from_str(alloc, name)?;
-    push_error(&mut all, &Error::UnknownGroup { group })?;
+    push_error(&mut all, Error::UnknownGroup { group })?;
     let submodule = Text::from_str(alloc, name)?;
-    push_error(&mut all, &Error::EvalUnknownSubmodule { submodule })?;
+    push_error(&mut all, Error::EvalUnknownSubmodule { submodule })?;
     let name = Text::from_str(alloc, name)?;
-    push_error(&mut all, &Error::EvalUnknownSubmoduleOrVariable { name })?;
-    push_error(&mut all, &Error::FormatCheckFoundDiff)?;
+    push_error(&mut all, Error::EvalUnknownSubmoduleOrVariable { name })?;
+    push_error(&mut all, Error::FormatCheckFoundDiff)?;
     Ok(all)
 }
 
