@@ -1,5 +1,5 @@
 -- A cache is cleaned and told of, from what the calls answered.
-use Rattle.std.proofs.Common.{◌≡◌, ◌++◌, inl, inr, append-nil, ℕ, ◌==◌, Bool, true, false, List, [], ◌∷◌, Option, Some, None, Result, Ok, Err, refl, sym, ap, ◌∙◌, subst, append_assoc}
+use Rattle.std.proofs.Common.{◌≡◌, ◌++◌, inl, inr, append-nil, ℕ, ◌==◌, ◌≢◌, eq-eqb, ne_eqb, Bool, false, List, [], ◌∷◌, Option, Some, None, Result, Ok, Err, refl, sym, ap, ◌∙◌, subst, append_assoc}
 use denote.Ref.{Bor}
 use Rattle.std.specs.Option.{option_copied}
 use Rattle.std.specs.Prelude.{if◌then◌else◌, codes, decimal, IfOk, IfErr, IfSome}
@@ -25,11 +25,11 @@ use Rattle.just_cache_clean.specs.EntryTexts.{IsPath}
 
 -- ---- the line
 
-pub one_entry : (n : ℕ) (text : List ℕ) → (n == 1) ≡ true → text ≡ codes "removed " ++ (decimal n ++ codes " cache entry\n") → text ≡ codes "removed " ++ ((decimal n ++ (if n == 1 then codes " cache entry" else codes " cache entries")) ++ codes "\n")
-one_entry n text is same = same ∙ sym (ap (λ b. codes "removed " ++ ((decimal n ++ (if b then codes " cache entry" else codes " cache entries")) ++ codes "\n")) is ∙ ap (λ l. codes "removed " ++ l) (append_assoc (decimal n) (codes " cache entry") (codes "\n")))
+pub one_entry : (n : ℕ) (text : List ℕ) → n ≡ 1 → text ≡ codes "removed " ++ (decimal n ++ codes " cache entry\n") → text ≡ codes "removed " ++ ((decimal n ++ (if n == 1 then codes " cache entry" else codes " cache entries")) ++ codes "\n")
+one_entry n text is same = same ∙ sym (ap (λ b. codes "removed " ++ ((decimal n ++ (if b then codes " cache entry" else codes " cache entries")) ++ codes "\n")) (eq-eqb n 1 is) ∙ ap (λ l. codes "removed " ++ l) (append_assoc (decimal n) (codes " cache entry") (codes "\n")))
 
-pub more_entries : (n : ℕ) (text : List ℕ) → (n == 1) ≡ false → text ≡ codes "removed " ++ (decimal n ++ codes " cache entries\n") → text ≡ codes "removed " ++ ((decimal n ++ (if n == 1 then codes " cache entry" else codes " cache entries")) ++ codes "\n")
-more_entries n text is same = same ∙ sym (ap (λ b. codes "removed " ++ ((decimal n ++ (if b then codes " cache entry" else codes " cache entries")) ++ codes "\n")) is ∙ ap (λ l. codes "removed " ++ l) (append_assoc (decimal n) (codes " cache entries") (codes "\n")))
+pub more_entries : (n : ℕ) (text : List ℕ) → n ≢ 1 → text ≡ codes "removed " ++ (decimal n ++ codes " cache entries\n") → text ≡ codes "removed " ++ ((decimal n ++ (if n == 1 then codes " cache entry" else codes " cache entries")) ++ codes "\n")
+more_entries n text is same = same ∙ sym (ap (λ b. codes "removed " ++ ((decimal n ++ (if b then codes " cache entry" else codes " cache entries")) ++ codes "\n")) (ne_eqb n 1 is) ∙ ap (λ l. codes "removed " ++ l) (append_assoc (decimal n) (codes " cache entries") (codes "\n")))
 
 -- ---- the entries and the line
 
