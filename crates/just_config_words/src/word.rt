@@ -32,10 +32,8 @@ impl Word {
         ensures { IfOk result (λ w. w ≡ text.now) }
     {
         let text = Text::from_str(alloc, text)?;
-        match Rc::new(alloc, text) {
-            Ok(kept) => Ok(Word { kept }),
-            Err(_) => Err(NoMemory),
-        }
+        let kept = Rc::new(alloc, text)?;
+        Ok(Word { kept })
     }
 
     /// The same word for a further option; its text isn't copied.

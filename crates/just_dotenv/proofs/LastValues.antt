@@ -1,5 +1,5 @@
 -- The last values of pairs, as they grow.
-use Rattle.std.proofs.Common.{◌≡◌, ℕ, Bool, true, false, cond, List, [], ◌∷◌, ◌++◌, Option, Some, None, bytes_eq, refl, ap, sym, ◌∙◌}
+use Rattle.std.proofs.Common.{◌≡◌, ℕ, Bool, true, false, cond, List, [], ◌∷◌, ◌++◌, Option, Some, None, bytes_eq, refl, ap, sym, subst, ◌∙◌}
 use Rattle.std.specs.BTreeMap.{BTreeMap, get, Updates, is_at}
 use Rattle.std.specs.Cmp.Lexicographic.{slice_cmp}
 use Rattle.std.specs.Map.{lookup}
@@ -34,10 +34,16 @@ pub values_none : (m : BTreeMap (List ℕ) (List ℕ)) → m.entries ≡ [] → 
 values_none m e q = ap (λ es. lookup (is_at (slice_cmp nat_cmp q)) es) e
 
 -- one more pair has its value, all other names keep theirs
-pub values_more : (pairs : Pairs) (m n : BTreeMap (List ℕ) (List ℕ)) (p : List ℕ × List ℕ) → AreLastValues pairs m → Updates (slice_cmp nat_cmp) m n p.0 (Some p.1) → AreLastValues (pairs ++ p ∷ []) n
-values_more pairs m n p are updates q =
+values_push : (pairs : Pairs) (m n : BTreeMap (List ℕ) (List ℕ)) (p : List ℕ × List ℕ) → AreLastValues pairs m → Updates (slice_cmp nat_cmp) m n p.0 (Some p.1) → AreLastValues (pairs ++ p ∷ []) n
+values_push pairs m n p are updates q =
     updates q
     ∙ ap (λ b. cond b (Some p.1) (get (slice_cmp nat_cmp) m q)) (is_eq-slice_cmp p.0 q)
     ∙ ap (λ o. cond (bytes_eq p.0 q) (Some p.1) o) (are q)
     ∙ chosen (bytes_eq p.0 q) p.1 (value_of q pairs)
     ∙ sym (value_behind q pairs p)
+
+-- the same, by copies of its name and its value
+pub values_more : (pairs : Pairs) (m n : BTreeMap (List ℕ) (List ℕ)) (p : List ℕ × List ℕ) (name value : List ℕ) → AreLastValues pairs m → Updates (slice_cmp nat_cmp) m n name (Some value) → name ≡ p.0 → value ≡ p.1 → AreLastValues (pairs ++ p ∷ []) n
+values_more pairs m n p name value are updates named valued =
+    values_push pairs m n p are
+    (subst (λ (v : List ℕ). Updates (slice_cmp nat_cmp) m n p.0 (Some v)) valued (subst (λ (k : List ℕ). Updates (slice_cmp nat_cmp) m n k (Some value)) named updates))

@@ -70,11 +70,12 @@ numbers_none paths m e q = ap (λ es. lookup (is_at (slice_cmp nat_cmp q)) es) e
 front_length : (xs : List (List ℕ)) (i : ℕ) → i < length xs → length (take i xs) ≡ i
 front_length xs i h = length-take-le i xs (omega arith)
 
--- the numbers of the paths so far, and that of the next
-pub numbers_more : (paths : List (List ℕ)) (i : ℕ) (m n : BTreeMap (List ℕ) ℕ) (y : List ℕ) → i < length paths → y ≡ get_or paths i y → AreNumbers (take i paths) m → Updates (slice_cmp nat_cmp) m n y (Some (unwrap_or (get (slice_cmp nat_cmp) m y) i)) → AreNumbers (take (i + 1) paths) n
-numbers_more paths i m n y lt is are updates =
-    subst (λ (xs : List (List ℕ)). AreNumbers xs n) (front_more paths i y lt is)
-    (numbers_push (take i paths) m n y are (subst (λ (k : ℕ). Updates (slice_cmp nat_cmp) m n y (Some (unwrap_or (get (slice_cmp nat_cmp) m y) k))) (sym (front_length paths i lt)) updates))
+-- the numbers of the paths so far, and that of a copy of the next
+pub numbers_more : (paths : List (List ℕ)) (i : ℕ) (m n : BTreeMap (List ℕ) ℕ) (x y : List ℕ) → i < length paths → x ≡ get_or paths i x → y ≡ x → AreNumbers (take i paths) m → Updates (slice_cmp nat_cmp) m n y (Some (unwrap_or (get (slice_cmp nat_cmp) m y) i)) → AreNumbers (take (i + 1) paths) n
+numbers_more paths i m n x y lt is same are updates =
+    let put : Updates (slice_cmp nat_cmp) m n x (Some (unwrap_or (get (slice_cmp nat_cmp) m x) i)) = subst (λ (z : List ℕ). Updates (slice_cmp nat_cmp) m n z (Some (unwrap_or (get (slice_cmp nat_cmp) m z) i))) same updates in
+    subst (λ (xs : List (List ℕ)). AreNumbers xs n) (front_more paths i x lt is)
+    (numbers_push (take i paths) m n x are (subst (λ (k : ℕ). Updates (slice_cmp nat_cmp) m n x (Some (unwrap_or (get (slice_cmp nat_cmp) m x) k))) (sym (front_length paths i lt)) put))
 
 -- the numbers of all paths
 pub numbers_end : (paths : List (List ℕ)) (i : ℕ) (m : BTreeMap (List ℕ) ℕ) → length paths ≤ i → AreNumbers (take i paths) m → AreNumbers paths m
