@@ -15,6 +15,7 @@ use just_host_record::{MAX_BYTES, Stream};
 use just_path::{Item, Kind, Meta, Miss, Utf8PathBuf};
 use just_path_text::{NoMemory, Seq, Text};
 use std::alloc::Global;
+use std::collections::BTreeSet;
 use std::env;
 use std::env::FillError;
 use std::fs::{self, DirEntry, FileType, Files};
@@ -295,6 +296,40 @@ pub fn pairs<E: Env + Files>(env: &E, alloc: Global) -> Result<Seq<(Text, Text)>
     }
     let (pairs, _) = pairs_below(env, alloc, usize::MAX)?;
     Ok(pairs)
+}
+
+/// The pairs of an environment that has many entries, each of them a pair whose name no other has. None of any other environment. It has no clause, since
+/// nothing is claimed of what the system answers.
+pub fn many_pairs<E: Env + Files>(
+    env: &E,
+    alloc: Global,
+) -> Result<Option<Seq<(Text, Text)>>, NoMemory> {
+    let mut room = Vec::new(alloc);
+    room.resize(256, 0u8)?;
+    if read_entry(env, &mut room, ONE_BY_ONE)?.is_none() {
+        return Ok(None);
+    }
+    let Some(entries) = all_entries(env, alloc) else {
+        return Ok(None);
+    };
+    let pairs = pairs_of_entries(alloc, entries.as_slice())?;
+    let count = entries.as_slice().iter().filter(|byte| **byte == 0).count();
+    if pairs.len() == count && have_own_names(alloc, pairs.as_slice())? {
+        Ok(Some(pairs))
+    } else {
+        Ok(None)
+    }
+}
+
+/// Whether no two of the pairs have one name.
+fn have_own_names(alloc: Global, pairs: &[(Text, Text)]) -> Result<bool, NoMemory> {
+    let mut names: BTreeSet<&str> = BTreeSet::new(alloc);
+    for pair in pairs {
+        if !names.insert(pair.0.as_str())? {
+            return Ok(false);
+        }
+    }
+    Ok(true)
 }
 
 /// The pairs among so many first entries of the environment, and whether there are no others.
