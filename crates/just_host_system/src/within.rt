@@ -16,7 +16,8 @@ fn tell_pair(command: &mut Command, pair: &(Text, Text)) -> Result<(), NoMemory>
     ensures program { OnOk result (command_program command.new ≡ command_program command.old) }
     ensures arguments { OnOk result (command_args command.new ≡ command_args command.old) }
     ensures folder { OnOk result (command_dir command.new ≡ command_dir command.old) }
-    ensures vars { OnOk result ((name : List ℕ) → command_var command.new name ≡ (if bytes_eq pair.now.0 name then Some (Some pair.now.1) else command_var command.old name)) }
+    ensures vars { OnOk result ((name : List ℕ) → command_var command.new name
+        ≡ (if bytes_eq pair.now.0 name then Some (Some pair.now.1) else command_var command.old name)) }
     ensures clears { OnOk result (clears_env command.new ≡ true) }
 {
     command.env(pair.0.as_str(), pair.1.as_str())?;
@@ -29,7 +30,8 @@ fn tell_pairs(command: &mut Command, pairs: &[(Text, Text)]) -> Result<(), NoMem
     ensures program { OnOk result (command_program command.new ≡ command_program command.old) }
     ensures arguments { OnOk result (command_args command.new ≡ command_args command.old) }
     ensures folder { OnOk result (command_dir command.new ≡ command_dir command.old) }
-    ensures vars { OnOk result ((name : List ℕ) → command_var command.new name ≡ told_after name (command_var command.old name) pairs.now) }
+    ensures vars { OnOk result ((name : List ℕ) → command_var command.new name
+        ≡ told_after name (command_var command.old name) pairs.now) }
     ensures clears { OnOk result (clears_env command.new ≡ true) }
 {
     for pair in pairs {
@@ -44,7 +46,9 @@ fn keep_change(command: &mut Command, change: &(Text, Option<Text>)) -> Result<(
     ensures program { OnOk result (command_program command.new ≡ command_program command.old) }
     ensures arguments { OnOk result (command_args command.new ≡ command_args command.old) }
     ensures folder { OnOk result (command_dir command.new ≡ command_dir command.old) }
-    ensures vars { OnOk result ((name : List ℕ) → command_var command.new name ≡ (if bytes_eq change.now.0 name then option_map (λ v. Some v) change.now.1 else command_var command.old name)) }
+    ensures vars { OnOk result ((name : List ℕ) → command_var command.new name
+        ≡ (if bytes_eq change.now.0 name then option_map (λ v. Some v) change.now.1
+        else command_var command.old name)) }
     ensures clears { OnOk result (clears_env command.new ≡ true) }
 {
     match &change.1 {
@@ -64,7 +68,8 @@ fn keep_changes(command: &mut Command, changes: &[(Text, Option<Text>)]) -> Resu
     ensures program { OnOk result (command_program command.new ≡ command_program command.old) }
     ensures arguments { OnOk result (command_args command.new ≡ command_args command.old) }
     ensures folder { OnOk result (command_dir command.new ≡ command_dir command.old) }
-    ensures vars { OnOk result ((name : List ℕ) → command_var command.new name ≡ kept_after name (command_var command.old name) changes.now) }
+    ensures vars { OnOk result ((name : List ℕ) → command_var command.new name
+        ≡ kept_after name (command_var command.old name) changes.now) }
     ensures clears { OnOk result (clears_env command.new ≡ true) }
 {
     for change in changes {

@@ -75,7 +75,8 @@ fn error_of_constant(alloc: Global, layout: &Layout, spot: Spot) -> Result<LangE
 /// Refuses the first broken rule on the texts of files and on their number, for which nothing has to be known of the files' names.
 #[tactic(auto, using(crate::proofs::ProjectLaws::files_have_error))]
 pub fn check_files(alloc: Global, layout: &Layout) -> Result<(), LangError>
-    ensures { IfErr result (λ e. e ≢ LangError.NoMemory → (environ : Pairs) → HasError environ layout.now e) }
+    ensures { IfErr result (λ e. e ≢ LangError.NoMemory
+        → (environ : Pairs) → HasError environ layout.now e) }
 {
     if let Some(broken) = first_on_files(layout) {
         let error = error_of_rule(alloc, layout, broken)?;

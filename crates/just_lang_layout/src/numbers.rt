@@ -23,7 +23,8 @@ pub(crate) struct Paths {
 
 /// Gives a path that number, unless it has one.
 fn put_first(numbers: &mut BTreeMap<Text, usize>, path: Text, at: usize) -> Result<(), NoMemory>
-    ensures { OnOk result (Updates (slice_cmp nat_cmp) numbers.old numbers.new path (Some (unwrap_or (get (slice_cmp nat_cmp) numbers.old path) at))) }
+    ensures { OnOk result (Updates (slice_cmp nat_cmp) numbers.old numbers.new path
+        (Some (unwrap_or (get (slice_cmp nat_cmp) numbers.old path) at))) }
 {
     let number = match numbers.get(&path) {
         Some(number) => *number,

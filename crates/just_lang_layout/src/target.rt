@@ -79,7 +79,8 @@ fn import_target(
     optional: bool,
     string: &StringLiteral,
 ) -> Result<Target, NoMemory>
-    ensures { IfOk result (IsImportTarget environ.now.pairs paths.now.all.items root.now optional string.now) }
+    ensures { IfOk result
+        (IsImportTarget environ.now.pairs paths.now.all.items root.now optional string.now) }
 {
     match meaning(alloc, environ, string)? {
         None => Ok(Target::Nothing),
@@ -185,7 +186,8 @@ fn module_target(
     optional: bool,
     string: &Option<StringLiteral>,
 ) -> Result<Target, NoMemory>
-    ensures { IfOk result (IsModuleTarget environ.now.pairs paths.now.all.items root.now name.now optional string.now) }
+    ensures { IfOk result
+        (IsModuleTarget environ.now.pairs paths.now.all.items root.now name.now optional string.now) }
 {
     let Some(string) = string else {
         return module_beside(alloc, paths.all.as_slice(), root, name, optional);
@@ -241,7 +243,8 @@ fn item_targets(
     root: &Utf8PathBuf,
     items: &[AstItem],
 ) -> Result<Seq<Target>, NoMemory>
-    ensures { IfOk result (AreItemTargets environ.now.pairs paths.now.all.items root.now items.now) }
+    ensures { IfOk result
+        (AreItemTargets environ.now.pairs paths.now.all.items root.now items.now) }
 {
     let mut targets = Vec::new(alloc);
     for item in items {
