@@ -36,7 +36,7 @@ values_none m e q = ap (λ es. lookup (is_at (slice_cmp nat_cmp q)) es) e
 -- one more pair has its value, all other names keep theirs
 values_push : (pairs : Pairs) (m n : BTreeMap (List ℕ) (List ℕ)) (p : List ℕ × List ℕ) → AreLastValues pairs m → Updates (slice_cmp nat_cmp) m n p.0 (Some p.1) → AreLastValues (pairs ++ p ∷ []) n
 values_push pairs m n p are updates q =
-    updates q
+    updates.0 q
     ∙ ap (λ b. cond b (Some p.1) (get (slice_cmp nat_cmp) m q)) (is_eq-slice_cmp p.0 q)
     ∙ ap (λ o. cond (bytes_eq p.0 q) (Some p.1) o) (are q)
     ∙ chosen (bytes_eq p.0 q) p.1 (value_of q pairs)

@@ -15,7 +15,7 @@ use Rattle.just_lang_layout.specs.Numbers.{AreNumbers}
 use Rattle.just_lang_layout.proofs.Lists.{front_more}
 
 -- a place, or else the last one where its item passes
-or_last : Option ℕ → Bool → ℕ → Option ℕ
+abbrev or_last : Option ℕ → Bool → ℕ → Option ℕ
 or_last (Some n) b k = Some n
 or_last None b k = cond b (Some k) None
 
@@ -57,7 +57,7 @@ module _ (m : BTreeMap (List ℕ) ℕ) (y q : List ℕ) (k : ℕ) where
 -- one more path has its number, unless it had one
 numbers_push : (xs : List (List ℕ)) (m n : BTreeMap (List ℕ) ℕ) (y : List ℕ) → AreNumbers xs m → Updates (slice_cmp nat_cmp) m n y (Some (unwrap_or (get (slice_cmp nat_cmp) m y) (length xs))) → AreNumbers (xs ++ y ∷ []) n
 numbers_push xs m n y are updates q =
-    updates q
+    updates.0 q
     ∙ ap (λ b. cond b (Some (unwrap_or (get (slice_cmp nat_cmp) m y) (length xs))) (get (slice_cmp nat_cmp) m q)) (is_eq-slice_cmp y q)
     ∙ at_path m y q (length xs) (bytes_eq y q) refl
     ∙ ap (λ o. or_last o (bytes_eq y q) (length xs)) (are q)
