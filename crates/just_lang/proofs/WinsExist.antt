@@ -48,6 +48,7 @@ self_number : (g : ℕ) → nat_eq g g ≡ true
 self_number g = grind (arith, nat_tests)
 
 found : (g : ℕ) (xs : List ℕ) → is_in g xs ≡ true → Contains xs g
+unfolding is_in
 found g [] h = absurd (false≢true h)
 found g (x ∷ xs) h = elim (or_one (nat_eq g x) (is_in g xs) h) [
   | inl t ↦ (0, omega arith, same_number g x t)
@@ -55,6 +56,7 @@ found g (x ∷ xs) h = elim (or_one (nat_eq g x) (is_in g xs) h) [
 ]
 
 found_at : (g : ℕ) (xs : List ℕ) (k : ℕ) → k < length xs → get_or xs k g ≡ g → is_in g xs ≡ true
+unfolding is_in
 found_at g [] k lt e = absurd (omega (arith, lt))
 found_at g (x ∷ xs) zero lt e = or_left (nat_eq g x) (is_in g xs) (subst (λ t. nat_eq g t ≡ true) (sym e) (self_number g))
 found_at g (x ∷ xs) (suc k) lt e = or_right (nat_eq g x) (is_in g xs) (found_at g xs k (omega (arith, lt)) e)
@@ -71,6 +73,7 @@ joins edges v w x (along a b c i more) r = along v b x i (joins edges b w x more
 
 -- what is told is so
 sound : (edges : List (List ℕ)) (k f g : ℕ) → through edges k f g ≡ true → Reaches edges f g
+unfolding is_in through
 sound edges zero f g h = edge f g (found g (targets edges f) h)
 sound edges (suc k) f g h = elim (or_one (through edges k f g) (through edges k f k && through edges k k g) h) [
   | inl t ↦ sound edges k f g t
@@ -99,6 +102,7 @@ cut_path edges k v x (over a b c i lt more) = over_cut edges k v b x i (place_by
 
 -- what is so is told
 complete : (edges : List (List ℕ)) (k v x : ℕ) → Below edges k v x → through edges k v x ≡ true
+unfolding is_in through
 complete edges zero v x (straight a b i) = found_at x (targets edges v) i.0 i.1 i.2
 complete edges zero v x (over a b c i lt more) = absurd (omega (arith, lt))
 complete edges (suc k) v x b = elim (cut_path edges k v x b) [
