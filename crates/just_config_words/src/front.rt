@@ -8,6 +8,7 @@ ghost use Rattle.just_config_words.specs.Steps.{IsStep, IsNextWord, IsFront};
 
 use super::fault::{Test, fault_of, has};
 use super::parsed::{is_value, parsed_options, words_taken};
+use super::word::Word;
 use super::{Occurrence, ParsedOption, UsageKind};
 use just_path_text::{NoMemory, Text};
 use std::alloc::Global;
@@ -51,7 +52,7 @@ pub(crate) enum Front<'a> {
 #[tactic(auto, using(crate::proofs::Added::occurrences_more))]
 fn add_occurrences(
     given: &mut Vec<Occurrence>,
-    word: &Text,
+    word: &Word,
     parsed: Vec<ParsedOption>,
 ) -> Result<(), NoMemory>
     ensures { IfOk result (λ u. given.new.items ≡ given.old.items ++ occurrences word.now parsed.items) }
@@ -82,7 +83,8 @@ fn read_word(
         return Ok(Step::Version);
     }
     let taken = words_taken(parsed.as_slice());
-    add_occurrences(given, word, parsed)?;
+    let shared = Word::new(alloc, word.as_str())?;
+    add_occurrences(given, &shared, parsed)?;
     Ok(Step::Taken(taken))
 }
 

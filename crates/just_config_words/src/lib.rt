@@ -17,6 +17,7 @@ mod subcommand;
 mod table;
 mod usage;
 mod variable;
+mod word;
 mod words;
 
 pub use arguments::Arguments;

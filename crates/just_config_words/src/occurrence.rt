@@ -5,6 +5,7 @@ ghost use Rattle.just_config_words.specs.Occurrences.{is_of, is_given, times, va
 
 use super::Entry;
 use super::parsed::add_copies;
+use super::word::Word;
 use just_path_text::{NoMemory, Seq, Text};
 use std::alloc::Global;
 
@@ -12,7 +13,7 @@ use std::alloc::Global;
 pub struct Occurrence {
     pub option: Entry,
     /// The word that it stands in, or the name of the variable that gives it.
-    pub word: Text,
+    pub word: Word,
     pub values: Seq<Text>,
 }
 

@@ -6,6 +6,7 @@ ghost use Rattle.just_config_words.specs.Letters.{begins_with_letter};
 
 use super::cut::{cut, strip};
 use super::table::{entry_lettered, entry_named};
+use super::word::Word;
 use super::{Entry, Occurrence, Values};
 use just_path_text::{NoMemory, Seq, Text};
 use std::alloc::Global;
@@ -55,7 +56,7 @@ impl ParsedOption {
     ghost use Rattle.just_config_words.specs.Faults.{occurrence_in};
 
     /// Adds the option, which stands in this word.
-    pub(crate) fn add_to(self, given: &mut Vec<Occurrence>, word: &Text) -> Result<(), NoMemory>
+    pub(crate) fn add_to(self, given: &mut Vec<Occurrence>, word: &Word) -> Result<(), NoMemory>
         ensures { IfOk result
             (λ u. given.new.items ≡ given.old.items ++ occurrence_in word.now self) }
     {
@@ -67,7 +68,7 @@ impl ParsedOption {
         } = self;
         match option {
             Some(option) => {
-                let word = word.try_clone()?;
+                let word = word.share()?;
                 given.push(Occurrence {
                     option,
                     word,

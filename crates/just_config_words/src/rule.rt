@@ -29,7 +29,7 @@ fn second_command(given: &[Occurrence]) -> Option<&Text>
     'given: for occurrence in given {
         if occurrence.option.kind.is_command() {
             if had {
-                return Some(&occurrence.word);
+                return Some(occurrence.word.text());
             }
             had = true;
         }
@@ -48,7 +48,7 @@ fn together<'a>(first: &[&str], second: &[&str], given: &'a [Occurrence]) -> Opt
         let is_first = occurrence.is_one_of(first);
         let is_second = occurrence.is_one_of(second);
         if (is_first && had_second) || (is_second && had_first) {
-            return Some(&occurrence.word);
+            return Some(occurrence.word.text());
         }
         had_first = had_first || is_first;
         had_second = had_second || is_second;
@@ -100,7 +100,7 @@ fn word_of<'a>(names: &[&str], given: &'a [Occurrence]) -> Option<&'a Text>
 {
     'given: for occurrence in given {
         if occurrence.is_one_of(names) {
-            return Some(&occurrence.word);
+            return Some(occurrence.word.text());
         }
     }
     None

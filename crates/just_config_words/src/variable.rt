@@ -5,6 +5,7 @@ ghost use Rattle.just_config_words.specs.Variables.{text_for, variable_name, ill
 
 use super::occurrence::is_given;
 use super::table::{Row, rows};
+use super::word::Word;
 use super::{Kind, Occurrence};
 use just_path_text::{Environ, NoMemory, Seq, Text};
 use std::alloc::Global;
@@ -59,7 +60,7 @@ fn fill_row(
     if row.form.is_given_by(text) {
         given.push(Occurrence {
             option: row.entry(alloc)?,
-            word: Text::from_str(alloc, variable)?,
+            word: Word::new(alloc, variable)?,
             values: carried(alloc, row.kind, text)?,
         })?;
     }

@@ -4,3 +4,4 @@ pub mod Values
 pub mod ValueLaws
 pub mod LineLaws
 pub mod FileLaws
+pub mod LastValues

@@ -5,3 +5,4 @@ pub mod Meaning
 pub mod File
 pub mod Readers
 pub mod Texts
+pub mod LastValues

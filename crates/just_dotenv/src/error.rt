@@ -1,6 +1,7 @@
 //! Why a dotenv text gives no pairs.
 ghost use Rattle.std.specs.Prelude.{◌≡◌};
 
+use just_path_text::NoMemory;
 use std::alloc::{AllocError, AllocFailed};
 use std::error::Error;
 use std::fmt;
@@ -13,6 +14,20 @@ pub enum DotenvError {
     Line(usize),
     /// Memory was wanting, which says nothing of the text.
     NoMemory,
+}
+
+impl From<NoMemory> for DotenvError {
+    ghost use Rattle.std.specs.Prelude.{◌≡◌};
+    ghost use Rattle.just_dotenv.specs.declared.error.DotenvError.{DotenvError};
+    ghost use Rattle.just_dotenv.specs.declared.error.DotenvError.TheVariants.{NoMemory as OutOfMemory};
+
+    ghost from_gives = { λ e r. r ≡ OutOfMemory };
+
+    fn from(_refused: NoMemory) -> DotenvError
+        ensures { result ≡ DotenvError.NoMemory }
+    {
+        DotenvError::NoMemory
+    }
 }
 
 impl From<AllocError> for DotenvError {

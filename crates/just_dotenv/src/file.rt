@@ -5,10 +5,11 @@ ghost use Rattle.just_dotenv.specs.Readers.{as_line, line, ReadsLine};
 
 use super::DotenvError;
 use super::line::read_line;
-use super::scope::Scope;
+use super::scope::{Scope, add_pair};
 use just_lang_read::{Cursor, ReadError};
 use just_path_text::{Environ, Seq, Text};
 use std::alloc::{AllocError, Global};
+use std::collections::BTreeMap;
 
 /// Answers the pairs of a dotenv text, in its order, one for each line that has one. A name that stands twice has two pairs.
 ///
@@ -24,7 +25,7 @@ use std::alloc::{AllocError, Global};
 /// // A is `1`, B is `/h 1`, and C is `$A`
 /// let refused = read(alloc, "A=1\n=2\n", &environ); // Err(DotenvError::Line(2))
 /// ```
-#[tactic(auto, using(crate::proofs::FileLaws::up_to_none))]
+#[tactic(auto, using(crate::proofs::FileLaws::up_to_none, crate::proofs::LastValues::values_none))]
 pub fn read(alloc: Global, text: &str, environ: &Environ) -> Result<Seq<(Text, Text)>, DotenvError>
     // What is answered, the text gives in this environment.
     ensures given { IfOk result (Gives (chars text.now) environ.now.pairs) }
@@ -36,13 +37,15 @@ pub fn read(alloc: Global, text: &str, environ: &Environ) -> Result<Seq<(Text, T
     let characters = characters(alloc, text)?;
     let mut cursor = first_line(characters.as_slice());
     let mut pairs: Vec<(Text, Text)> = Vec::new(alloc);
+    let mut values: BTreeMap<Text, Text> = BTreeMap::new(alloc);
     'lines: while !cursor.is_at_end() {
         let scope = Scope {
             environ,
             earlier: pairs.as_slice(),
+            values: &values,
         };
         match next_pair(alloc, &mut cursor, &scope) {
-            Ok(Some(pair)) => pairs.push(pair)?,
+            Ok(Some(pair)) => add_pair(&mut pairs, &mut values, pair)?,
             Ok(None) => {}
             Err(refusal) => return Err(refusal),
         }

@@ -53,7 +53,7 @@ impl Part {
     {
         match self {
             Part::Letter(c) => text.push(*c),
-            Part::Name(name) | Part::Braced(name) => text.push_str(scope.look_up(name.as_str())),
+            Part::Name(name) | Part::Braced(name) => text.push_str(scope.look_up(name)),
             Part::Gap | Part::Sign => text.push_str("$"),
         }
     }

@@ -15,6 +15,7 @@ use just_host_record::{MAX_BYTES, Stream};
 use just_path::{Item, Kind, Meta, Miss, Utf8PathBuf};
 use just_path_text::{NoMemory, Seq, Text};
 use std::alloc::Global;
+use std::collections::BTreeSet;
 use std::env;
 use std::env::FillError;
 use std::fs::{self, DirEntry, FileType, Files};
@@ -281,18 +282,90 @@ pub fn show<P: Print + Eprint>(printer: &P, stream: Stream, text: &str) -> io::R
     }
 }
 
+/// How many entries of the environment are asked for one by one: for each the runtime goes through all in front of it.
+const ONE_BY_ONE: usize = 1000;
+
 /// The pairs of the environment that are UTF-8. It has no clause, since nothing is claimed of what the system answers.
-pub fn pairs<E: Env>(env: &E, alloc: Global) -> Result<Seq<(Text, Text)>, NoMemory> {
+pub fn pairs<E: Env + Files>(env: &E, alloc: Global) -> Result<Seq<(Text, Text)>, NoMemory> {
+    let (pairs, is_whole) = pairs_below(env, alloc, ONE_BY_ONE)?;
+    if is_whole {
+        return Ok(pairs);
+    }
+    if let Some(entries) = all_entries(env, alloc) {
+        return pairs_of_entries(alloc, entries.as_slice());
+    }
+    let (pairs, _) = pairs_below(env, alloc, usize::MAX)?;
+    Ok(pairs)
+}
+
+/// The pairs of an environment that has many entries, each of them a pair whose name no other has. None of any other environment. It has no clause, since
+/// nothing is claimed of what the system answers.
+pub fn many_pairs<E: Env + Files>(
+    env: &E,
+    alloc: Global,
+) -> Result<Option<Seq<(Text, Text)>>, NoMemory> {
+    let mut room = Vec::new(alloc);
+    room.resize(256, 0u8)?;
+    if read_entry(env, &mut room, ONE_BY_ONE)?.is_none() {
+        return Ok(None);
+    }
+    let Some(entries) = all_entries(env, alloc) else {
+        return Ok(None);
+    };
+    let pairs = pairs_of_entries(alloc, entries.as_slice())?;
+    let count = entries.as_slice().iter().filter(|byte| **byte == 0).count();
+    if pairs.len() == count && have_own_names(alloc, pairs.as_slice())? {
+        Ok(Some(pairs))
+    } else {
+        Ok(None)
+    }
+}
+
+/// Whether no two of the pairs have one name.
+fn have_own_names(alloc: Global, pairs: &[(Text, Text)]) -> Result<bool, NoMemory> {
+    let mut names: BTreeSet<&str> = BTreeSet::new(alloc);
+    for pair in pairs {
+        if !names.insert(pair.0.as_str())? {
+            return Ok(false);
+        }
+    }
+    Ok(true)
+}
+
+/// The pairs among so many first entries of the environment, and whether there are no others.
+fn pairs_below<E: Env>(
+    env: &E,
+    alloc: Global,
+    count: usize,
+) -> Result<(Seq<(Text, Text)>, bool), NoMemory> {
     let mut pairs = Vec::new(alloc);
     let mut room = Vec::new(alloc);
     room.resize(256, 0u8)?;
-    for i in 0..usize::MAX {
+    for i in 0..count {
         let Some(n) = read_entry(env, &mut room, i)? else {
-            break;
+            return Ok((Seq::from(pairs), true));
         };
         if let Some(entry) = room.as_slice().get(..n) {
             put_pair(alloc, &mut pairs, entry)?;
         }
+    }
+    Ok((Seq::from(pairs), false))
+}
+
+/// All entries of the environment, as the system keeps them for this process, which never changes it: each with a NUL behind it. None where they
+/// can't be read.
+fn all_entries<F: Files>(files: &F, alloc: Global) -> Option<Vec<u8>> {
+    let mut bytes = Vec::new(alloc);
+    let mut file = fs::open(files, "/proc/self/environ").ok()?;
+    file.read_to_end(&mut bytes).ok()?;
+    Some(bytes)
+}
+
+/// The pairs of entries that have a NUL behind each.
+fn pairs_of_entries(alloc: Global, entries: &[u8]) -> Result<Seq<(Text, Text)>, NoMemory> {
+    let mut pairs = Vec::new(alloc);
+    for entry in entries.split(|byte| *byte == 0) {
+        put_pair(alloc, &mut pairs, entry)?;
     }
     Ok(Seq::from(pairs))
 }

@@ -1,5 +1,5 @@
 -- What a child's command is to say, and what its end is to mean.
-use Rattle.std.specs.Prelude.{ℕ, ◌≡◌, if◌then◌else◌, Bool, false, not, ◌&&◌, List, [], ◌∷◌, ◌++◌, Option, Some, None, Result, Ok, Err, option_map, ℤ, codes}
+use Rattle.std.specs.Prelude.{ℕ, ◌≡◌, if◌then◌else◌, Bool, true, false, not, ◌&&◌, List, [], ◌∷◌, ◌++◌, Option, Some, None, Result, Ok, Err, option_map, ℤ, codes}
 use Rattle.std.specs.List.{list_any}
 use Rattle.std.specs.Str.{bytes_eq}
 use Rattle.std.specs.Process.{command_program, command_args, command_arg0, command_dir, command_var, clears_env, exit_code, exit_signal}
@@ -16,6 +16,16 @@ use Rattle.just_host_record.specs.declared.entry.Status.TheVariants.{Code, Signa
 abbrev pub said_after : List ℕ → Option (Option (List ℕ)) → List (List ℕ × Option (List ℕ)) → Option (Option (List ℕ))
 said_after name before [] = before
 said_after name before (c ∷ cs) = said_after name (if bytes_eq c.0 name then Some c.1 else before) cs
+
+-- what is said of a variable behind these pairs, one after the other, where that was said before
+abbrev pub told_after : List ℕ → Option (Option (List ℕ)) → List (List ℕ × List ℕ) → Option (Option (List ℕ))
+told_after name before [] = before
+told_after name before (p ∷ ps) = told_after name (if bytes_eq p.0 name then Some (Some p.1) else before) ps
+
+-- the same behind these changes, where nothing is inherited: nothing is said of a variable that is taken out
+abbrev pub kept_after : List ℕ → Option (Option (List ℕ)) → List (List ℕ × Option (List ℕ)) → Option (Option (List ℕ))
+kept_after name before [] = before
+kept_after name before (c ∷ cs) = kept_after name (if bytes_eq c.0 name then option_map (λ v. Some v) c.1 else before) cs
 
 -- the program of a child: the file of its script, where that runs itself
 abbrev pub program_with : List ℕ → Spec → Option Script → List ℕ
@@ -34,6 +44,14 @@ pub record IsCommandWith (path : List ℕ) (file : List ℕ) (spec : Spec) (comm
   pub folder : command_dir command ≡ spec.folder
   pub changes : (name : List ℕ) → command_var command name ≡ said_after name None spec.changes
   pub inherits : clears_env command ≡ false
+
+-- the same over an environment of these pairs, of which the last of a name counts: nothing is inherited
+pub record IsCommandWithin (path : List ℕ) (pairs : List (List ℕ × List ℕ)) (file : List ℕ) (spec : Spec) (command : Command Global) : Type 0 where
+  pub program : command_program command ≡ path
+  pub arguments : command_args command ≡ arguments_with file spec spec.script
+  pub folder : command_dir command ≡ spec.folder
+  pub variables : (name : List ℕ) → command_var command name ≡ kept_after name (told_after name None pairs) spec.changes
+  pub whole : clears_env command ≡ true
 
 -- a command that is the spec
 abbrev pub IsCommandOf : List ℕ → Spec → Command Global → Type 0

@@ -11,7 +11,7 @@ use std::os::unix::process::{CommandExt, ExitStatusExt};
 use std::process::{Command, ExitStatus};
 
 /// The program of a child whose script is in that file, if it has one.
-fn program_with<'a>(file: &'a str, spec: &'a Spec) -> &'a str
+pub(crate) fn program_with<'a>(file: &'a str, spec: &'a Spec) -> &'a str
     ensures { result.now ≡ program_with file.now spec.now spec.now.script }
 {
     match &spec.script {
@@ -21,7 +21,7 @@ fn program_with<'a>(file: &'a str, spec: &'a Spec) -> &'a str
 }
 
 /// Adds the arguments of a child: those of a script stand behind its file, which is the program itself where the script runs itself.
-fn add_words(command: &mut Command, file: &str, spec: &Spec) -> Result<(), NoMemory>
+pub(crate) fn add_words(command: &mut Command, file: &str, spec: &Spec) -> Result<(), NoMemory>
     ensures program { OnOk result (command_program command.new ≡ command_program command.old) }
     ensures arguments { OnOk result (command_args command.new ≡ command_args command.old ++ arguments_with file.now spec.now spec.now.script) }
     ensures folder { OnOk result (command_dir command.new ≡ command_dir command.old) }

@@ -8,6 +8,8 @@ mod command;
 mod real;
 mod script;
 mod shell;
+mod surrounding;
+mod within;
 
 pub use child::{RealChild, RealDone};
 pub use real::RealHost;

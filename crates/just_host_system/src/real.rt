@@ -19,6 +19,8 @@ use super::child::{RealChild, RealDone};
 use super::command::{command_at, command_of, names_shell};
 use super::script::{ScriptFile, place, remove};
 use super::shell::Shell;
+use super::surrounding::Surrounding;
+use super::within::command_within;
 use just_host_files::disk::{self, is_absent};
 use just_host_files::system::{
     ask, canonical, here, list, look, names, pairs, read, read_text, show, target,
@@ -38,13 +40,15 @@ use std::rt::{Env, Files, Runtime};
 ///
 /// A path that the system can't take, such as one with a NUL, isn't found. What is neither a file nor a folder isn't
 /// read. The script of a child is written to a file in a fresh folder, which goes when the child's end is noted; what can't be removed stays.
-/// The shell is looked for in `PATH` at the first start, and started from where it stood then as long as it can be.
+/// The shell is looked for in `PATH` at the first start, and started from where it stood then as long as it can be. An environment of more than a
+/// thousand pairs is looked at then too, and each child is told them.
 #[derive(Drop)]
 pub struct RealHost<R> {
     rt: R,
     alloc: Global,
     log: Log,
     shell: Shell,
+    surrounding: Surrounding,
 }
 
 impl<R: Runtime> RealHost<R> {
@@ -59,6 +63,7 @@ impl<R: Runtime> RealHost<R> {
             alloc,
             log: Log::new(alloc),
             shell: Shell::Unknown,
+            surrounding: Surrounding::Unknown,
         })
     }
 }
@@ -171,18 +176,35 @@ fn spawn_shell<R: Runtime + Processes<Started = SystemProcess>>(
     begin(rt, command_at(alloc, path, spec, file)).ok()
 }
 
-/// Starts the child. Where that fails, the file of its script goes.
+/// Starts a child that inherits the environment.
 /// No clause: nothing is said of what the system starts; the command is `command_for`'s.
-fn spawn<R: Runtime + Processes<Started = SystemProcess>>(
+fn spawn_inheriting<R: Runtime + Processes<Started = SystemProcess>>(
     rt: &R,
     alloc: Global,
     shell: &mut Shell,
     spec: &Spec,
     file: &Option<ScriptFile>,
 ) -> io::Result<Child<SystemProcess>> {
-    let told = match spawn_shell(rt, alloc, shell, spec, path_of(file)) {
+    match spawn_shell(rt, alloc, shell, spec, path_of(file)) {
         Some(child) => Ok(child),
         None => begin(rt, command_for(alloc, spec, file)),
+    }
+}
+
+/// Starts the child. Where that fails, the file of its script goes.
+/// No clause: nothing is said of what the system starts; the command is `command_for`'s, or `command_within`'s where the environment is large.
+fn spawn<R: Runtime + Processes<Started = SystemProcess>>(
+    rt: &R,
+    alloc: Global,
+    shell: &mut Shell,
+    surrounding: &mut Surrounding,
+    spec: &Spec,
+    file: &Option<ScriptFile>,
+) -> io::Result<Child<SystemProcess>> {
+    surrounding.look(rt, alloc);
+    let told = match surrounding.pairs() {
+        Some(pairs) => begin(rt, command_within(alloc, pairs, spec, path_of(file))),
+        None => spawn_inheriting(rt, alloc, shell, spec, file),
     };
     if told.is_err() {
         clear(rt, file);
@@ -416,7 +438,14 @@ impl<R: Runtime + Files<File = File> + Processes<Started = SystemProcess>> Host 
         };
         match place_script(&self.rt, &mut self.log, self.alloc, spec) {
             Ok(file) => {
-                let told = spawn(&self.rt, self.alloc, &mut self.shell, spec, &file);
+                let told = spawn(
+                    &self.rt,
+                    self.alloc,
+                    &mut self.shell,
+                    &mut self.surrounding,
+                    spec,
+                    &file,
+                );
                 answer_start(&mut self.log, copy, file, told)
             }
             Err(fault) => Err(fault),

@@ -20,6 +20,7 @@ pub mod Counts
 pub mod CycleRules
 pub mod Behind
 pub mod Refusals
+pub mod WinsExist
 pub mod ProjectLaws
 pub mod Unbroken
 pub mod BeforeLaws

@@ -1,5 +1,5 @@
 -- What sources break, by what their layout breaks.
-use Rattle.std.proofs.Common.{◌≡◌, ◌∙◌, inl, inr, ℕ, List, sym, ap, subst}
+use Rattle.std.proofs.Common.{◌≡◌, ◌∙◌, inl, inr, ℕ, List, ◌++◌, Option, Some, refl, sym, ap, subst}
 use Rattle.std.specs.Prelude.{◌≢◌}
 use Rattle.just_lang_types.specs.declared.project.LangError.{LangError}
 use Rattle.just_lang_types.specs.declared.project.LangError.TheVariants as error
@@ -14,8 +14,14 @@ use Rattle.just_lang_spots.specs.Standing.{Wins}
 use Rattle.just_lang_spots.specs.Winners.{wins_in}
 use Rattle.just_lang_names.specs.declared.names.Names.{Names}
 use Rattle.just_lang_names.specs.Names.{layout_of, wins_of}
-use Rattle.just_lang.specs.Errors.{error_of_files, BreaksNone, IsErrorIn}
+use Rattle.just_lang_rulebook.specs.declared.broken.Broken.{Broken}
+use Rattle.just_lang_rulebook.specs.First.{first_broken}
+use Rattle.just_lang_rulebook.specs.Rules.{rules_on_files, rules_on_attributes, rules_on_duplicates}
+use Rattle.just_lang_rulebook.proofs.Orders.{behind_first}
+use Rattle.just_lang.specs.Errors.{error_of_files, error_of_rule, BreaksNone, IsErrorIn}
 use Rattle.just_lang.specs.Projects.{HasNone, HasError, AreWell, IsFirstError}
+use Rattle.just_lang.proofs.Behind.{front_found}
+use Rattle.just_lang.proofs.WinsExist.{wins_exist}
 
 -- over copies of the imports and of the importers
 pub same_importers : (imports kept winners rows : List (List ℕ)) → kept ≡ imports → rows ≡ winners → AreImporters kept winners → AreImporters imports rows
@@ -41,6 +47,16 @@ module _ (environ : Pairs) (layout : Layout) (winners : List (List ℕ)) (names 
   pub layout_has_error : (e : LangError) → IsErrorIn environ (wins_of names) (layout_of names) e → HasError environ layout e
   unfolding HasError
   layout_has_error e h = (wins_in winners, importers, over_names (λ w l. IsErrorIn environ w l e) h)
+
+-- a layout that breaks a rule on files, whichever of its files win over which
+pub files_have_error : (environ : Pairs) (layout : Layout) (o : Option Broken) (b : Broken) (e : LangError) → o ≡ first_broken (rules_on_files layout) → o ≡ Some b → e ≡ error_of_rule layout b → HasError environ layout e
+unfolding HasError IsErrorIn
+files_have_error environ layout o b e h k is =
+    let wins = wins_exist layout in (
+      wins.0,
+      wins.1,
+      inl (b, front_found environ wins.0 layout (Some b) b (behind_first (rules_on_files layout) (rules_on_attributes environ layout ++ rules_on_duplicates environ wins.0 layout) b o h k) refl, is),
+    )
 
 -- over sources
 module _ (sources : List Source) (environ : Pairs) where

@@ -6,7 +6,7 @@ ghost use Rattle.just_lang_names.specs.Names.{AreNames, layout_of, wins_of};
 ghost use Rattle.just_lang.specs.Errors.{BreaksNone, IsErrorIn};
 ghost use Rattle.just_lang.specs.Projects.{HasNone, HasError, AreWell, IsFirstError};
 
-use super::errors::{check_rules, error_of_files};
+use super::errors::{check_files, check_rules, error_of_files};
 use super::recipe::standing_recipes;
 use just_lang_layout::{Layout, lay};
 use just_lang_names::{Names, names_of};
@@ -67,5 +67,8 @@ pub fn first_broken(alloc: Global, sources: &[Source], environ: &Environ) -> Res
         Ok(layout) => layout,
         Err(refused) => return Err(error_of_files(refused)),
     };
-    check_layout(alloc, environ, &layout)
+    match check_files(alloc, &layout) {
+        Ok(()) => check_layout(alloc, environ, &layout),
+        Err(error) => Err(error),
+    }
 }

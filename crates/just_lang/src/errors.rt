@@ -2,14 +2,16 @@
 ghost use Rattle.std.specs.Prelude.{◌≡◌, ◌≢◌, IfOk, IfErr};
 ghost use Rattle.just_lang_types.specs.declared.project.LangError.{LangError};
 ghost use Rattle.just_lang_layout.specs.Laid.{path_of};
+ghost use Rattle.just_lang_layout.specs.Paths.{Pairs};
 ghost use Rattle.just_lang_names.specs.Names.{layout_of, wins_of};
 ghost use Rattle.just_lang.specs.CycleTables.{AreRecipes};
 ghost use Rattle.just_lang.specs.Errors.{error_of_files, error_of_rule, error_of_constant, BreaksNone, IsErrorIn};
+ghost use Rattle.just_lang.specs.Projects.{HasError};
 
 use super::recipe::Recipes;
 use super::rule::first_rule;
 use just_lang_layout::{File, Layout, LayoutError};
-use just_lang_rulebook::{Broken, first_not_constant};
+use just_lang_rulebook::{Broken, first_not_constant, first_on_files};
 use just_lang_spots::Spot;
 use just_lang_types::CompileError;
 use just_lang_types::project::LangError;
@@ -68,6 +70,19 @@ fn error_of_constant(alloc: Global, layout: &Layout, spot: Spot) -> Result<LangE
         line: spot.line,
         column: spot.column,
     })
+}
+
+/// Refuses the first broken rule on the texts of files and on their number, for which nothing has to be known of the files' names.
+#[tactic(auto, using(crate::proofs::ProjectLaws::files_have_error))]
+pub fn check_files(alloc: Global, layout: &Layout) -> Result<(), LangError>
+    ensures { IfErr result (λ e. e ≢ LangError.NoMemory
+        → (environ : Pairs) → HasError environ layout.now e) }
+{
+    if let Some(broken) = first_on_files(layout) {
+        let error = error_of_rule(alloc, layout, broken)?;
+        return Err(error);
+    }
+    Ok(())
 }
 
 /// Refuses the first broken rule of a project with a layout.

@@ -14,7 +14,7 @@ ghost use Rattle.just_lang.specs.Tables.{AreTables};
 
 use super::before::before_each;
 use super::disabled::{Disabling, causes};
-use super::errors::{check_rules, error_of_files};
+use super::errors::{check_files, check_rules, error_of_files};
 use super::laid::LaidJustfile;
 use super::recipe::{Recipes, standing_recipes};
 use super::tables::Tables;
@@ -181,7 +181,13 @@ pub fn assemble_laid(
         Ok(layout) => layout,
         Err(refused) => return Err(error_of_files(refused)),
     };
-    assemble_layout(alloc, environ, layout)
+    match check_files(alloc, &layout) {
+        Ok(()) => assemble_layout(alloc, environ, layout),
+        Err(error) => {
+            drop(layout);
+            Err(error)
+        }
+    }
 }
 
 /// The justfile of sources, the first of which is the root; or the error of the first rule that they break.

@@ -7,6 +7,7 @@ pub mod TextsExist
 pub mod Meanings
 pub mod Strings
 pub mod Homes
+pub mod PathNumbers
 pub mod TargetLists
 pub mod OneTable
 pub mod Stacks

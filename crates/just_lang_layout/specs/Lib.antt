@@ -3,6 +3,7 @@ pub mod Files
 pub mod Items
 pub mod Paths
 pub mod Targets
+pub mod Numbers
 pub mod Walk
 pub mod Stack
 pub mod Imports

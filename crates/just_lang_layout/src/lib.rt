@@ -6,6 +6,7 @@ mod imports;
 mod items;
 mod laid;
 mod layout;
+mod numbers;
 mod path;
 mod pending;
 mod target;

@@ -4,13 +4,14 @@ ghost use Rattle.std.specs.Prelude.{◌≡◌, ◌&&◌, IfOk, Some, position, c
 ghost use Rattle.std.specs.Option.{option_copied};
 ghost use Rattle.just_path_text.specs.Environ.{home_of};
 ghost use Rattle.just_lang_layout.specs.Paths.{Means, path_under};
-ghost use Rattle.just_lang_layout.specs.Targets.{number_of, import_at, import_target, module_at, module_target, is_module_end, is_module_file, module_base, one_of, module_beside, IsImportTarget, IsModuleTarget, IsTarget, AreItemTargets, AreFileTargets, paths_of, AreTargets};
+ghost use Rattle.just_lang_layout.specs.Targets.{import_at, import_target, module_at, module_target, is_module_end, is_module_file, module_base, one_of, module_beside, IsImportTarget, IsModuleTarget, IsTarget, AreItemTargets, AreFileTargets, paths_of, AreTargets};
 
 use super::File;
+use super::numbers::Paths;
 use super::path::{meaning, path_under};
 use just_lang_syntax::{AstItem, StringLiteral};
 use just_path::{Utf8Path, Utf8PathBuf};
-use just_path_text::{Environ, NoMemory, Seq};
+use just_path_text::{Environ, NoMemory, Seq, Text};
 use std::alloc::Global;
 
 /// What an item names. A file is told by its number.
@@ -31,20 +32,14 @@ pub enum Target {
     Homeless,
 }
 
-/// The number of the first file of that path.
-fn number_of(paths: &[Utf8PathBuf], path: &str) -> Option<usize>
-    ensures { result ≡ number_of paths.now path.now }
-{
-    paths.iter().position(|p| p.as_str() == path)
-}
-
-fn import_at(paths: &[Utf8PathBuf], optional: bool, path: Option<Utf8PathBuf>) -> Target
-    ensures { result ≡ import_at paths.now optional path }
+fn import_at(paths: &Paths, optional: bool, path: Option<Utf8PathBuf>) -> Target
+    ensures { result ≡ import_at paths.now.all.items optional path }
 {
     let Some(path) = path else {
         return Target::Homeless;
     };
-    match number_of(paths, path.as_str()) {
+    let place = Text::from(path.into_string());
+    match paths.number(&place) {
         Some(number) => Target::Import(number),
         None => {
             if optional {
@@ -56,13 +51,14 @@ fn import_at(paths: &[Utf8PathBuf], optional: bool, path: Option<Utf8PathBuf>) -
     }
 }
 
-fn module_at(paths: &[Utf8PathBuf], optional: bool, path: Option<Utf8PathBuf>) -> Target
-    ensures { result ≡ module_at paths.now optional path }
+fn module_at(paths: &Paths, optional: bool, path: Option<Utf8PathBuf>) -> Target
+    ensures { result ≡ module_at paths.now.all.items optional path }
 {
     let Some(path) = path else {
         return Target::Homeless;
     };
-    match number_of(paths, path.as_str()) {
+    let place = Text::from(path.into_string());
+    match paths.number(&place) {
         Some(number) => Target::Module(number),
         None => {
             if optional {
@@ -78,12 +74,13 @@ fn module_at(paths: &[Utf8PathBuf], optional: bool, path: Option<Utf8PathBuf>) -
 fn import_target(
     alloc: Global,
     environ: &Environ,
-    paths: &[Utf8PathBuf],
+    paths: &Paths,
     root: &Utf8PathBuf,
     optional: bool,
     string: &StringLiteral,
 ) -> Result<Target, NoMemory>
-    ensures { IfOk result (IsImportTarget environ.now.pairs paths.now root.now optional string.now) }
+    ensures { IfOk result
+        (IsImportTarget environ.now.pairs paths.now.all.items root.now optional string.now) }
 {
     match meaning(alloc, environ, string)? {
         None => Ok(Target::Nothing),
@@ -183,16 +180,17 @@ fn module_beside(
 fn module_target(
     alloc: Global,
     environ: &Environ,
-    paths: &[Utf8PathBuf],
+    paths: &Paths,
     root: &Utf8PathBuf,
     name: &str,
     optional: bool,
     string: &Option<StringLiteral>,
 ) -> Result<Target, NoMemory>
-    ensures { IfOk result (IsModuleTarget environ.now.pairs paths.now root.now name.now optional string.now) }
+    ensures { IfOk result
+        (IsModuleTarget environ.now.pairs paths.now.all.items root.now name.now optional string.now) }
 {
     let Some(string) = string else {
-        return module_beside(alloc, paths, root, name, optional);
+        return module_beside(alloc, paths.all.as_slice(), root, name, optional);
     };
     match meaning(alloc, environ, string)? {
         None => Ok(Target::Nothing),
@@ -208,11 +206,11 @@ fn module_target(
 fn item_target(
     alloc: Global,
     environ: &Environ,
-    paths: &[Utf8PathBuf],
+    paths: &Paths,
     root: &Utf8PathBuf,
     item: &AstItem,
 ) -> Result<Target, NoMemory>
-    ensures { IfOk result (IsTarget environ.now.pairs paths.now root.now item.now) }
+    ensures { IfOk result (IsTarget environ.now.pairs paths.now.all.items root.now item.now) }
 {
     match item {
         AstItem::Import { optional, path, .. } => {
@@ -241,11 +239,12 @@ fn item_target(
 fn item_targets(
     alloc: Global,
     environ: &Environ,
-    paths: &[Utf8PathBuf],
+    paths: &Paths,
     root: &Utf8PathBuf,
     items: &[AstItem],
 ) -> Result<Seq<Target>, NoMemory>
-    ensures { IfOk result (AreItemTargets environ.now.pairs paths.now root.now items.now) }
+    ensures { IfOk result
+        (AreItemTargets environ.now.pairs paths.now.all.items root.now items.now) }
 {
     let mut targets = Vec::new(alloc);
     for item in items {
@@ -270,10 +269,10 @@ pub(crate) fn paths_of(alloc: Global, files: &[File]) -> Result<Vec<Utf8PathBuf>
 fn file_targets(
     alloc: Global,
     environ: &Environ,
-    paths: &[Utf8PathBuf],
+    paths: &Paths,
     files: &[File],
 ) -> Result<Seq<Seq<Target>>, NoMemory>
-    ensures { IfOk result (AreFileTargets environ.now.pairs paths.now files.now) }
+    ensures { IfOk result (AreFileTargets environ.now.pairs paths.now.all.items files.now) }
 {
     let mut table = Vec::new(alloc);
     for file in files {
@@ -291,6 +290,8 @@ pub(crate) fn targets(
 ) -> Result<Seq<Seq<Target>>, NoMemory>
     ensures { IfOk result (AreTargets environ.now.pairs files.now) }
 {
-    let paths = paths_of(alloc, files)?;
-    file_targets(alloc, environ, paths.as_slice(), files)
+    let all = paths_of(alloc, files)?;
+    let paths = Paths::new(alloc, all)?;
+    let table = file_targets(alloc, environ, &paths, files)?;
+    Ok(table)
 }

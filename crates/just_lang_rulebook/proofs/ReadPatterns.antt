@@ -1,10 +1,11 @@
 -- What regular expressions' grammar reads, by the answers of the library.
 use Rattle.std.proofs.Common.{◌≡◌, ◌≢◌, ℕ, ◌≤◌, ◌<◌, inl, inr, true, false, List, Option, Some, None, IsSomeAnd, IfSome, chars, refl, sym, subst, ap, arith}
-use Rattle.std.specs.Prelude.{nat_le, Result, Ok, Err, IfOk, IfErr}
+use Rattle.std.specs.Prelude.{nat_le, map, option_map, string_bytes, Result, Ok, Err, IfOk, IfErr}
+use Rattle.std.specs.Result.{result_err}
 use Rattle.std.proofs.lemmas.Bool.Decides.{nat_tests}
 use Rattle.regex.specs.Patterns.{default_config, Re}
 use Rattle.regex_syntax.specs.Verdict.{Reads, Refuses}
-use Rattle.regex.specs.Failures.{IsPattern, IsRightKind}
+use Rattle.regex.specs.Failures.{IsPattern, IsRightKind, IsOfParser}
 use Rattle.regex.specs.Sources.{IsRefusal}
 use Rattle.regex.specs.Strings.{regex_source, regex_config, IsReadFromSource}
 use Rattle.regex.specs.declared.string.regex.Regex.{Regex}
@@ -12,6 +13,9 @@ use Rattle.regex.specs.declared.error.Error.{Error}
 use Rattle.regex.specs.declared.error.Error.TheVariants as error
 use Rattle.regex_syntax.specs.Brackets.{Nested}
 use Rattle.regex_syntax.specs.Grammar.{Names, read}
+use Rattle.regex_syntax.specs.declared.Config.{Config}
+use Rattle.regex_syntax.specs.declared.Parsed.{Parsed}
+use Rattle.regex_syntax.specs.declared.error.Error as parser
 use Rattle.regex_syntax.specs.declared.error.ErrorKind.{ErrorKind}
 use Rattle.regex_syntax.specs.declared.error.ErrorKind.TheVariants.{OutOfMemory}
 use Rattle.just_path_text.specs.declared.memory.NoMemory.{NoMemory}
@@ -49,6 +53,19 @@ refused_is source kind n h =
         | inr q ↦ deep_read (read default_config (chars source)) _ (λ x d. d) q.1
       ]
     ]
+
+-- what is read, by the answer of the grammar's reader
+pub parsed_is : (config : Config) (source : List ℕ) (parsed : Result Parsed parser.Error) → config ≡ default_config → IfOk parsed (λ p. Reads config source p.hir (map (option_map string_bytes) p.names.items)) → result_err parsed ≡ None → is_pattern source ≡ true
+parsed_is config source (Ok p) same h e = pattern_is source (p.hir, map (option_map string_bytes) p.names.items, subst (λ (c : Config). Reads c source p.hir (map (option_map string_bytes) p.names.items)) same h)
+parsed_is config source (Err x) same h e = absurd (let no : ⊥ = cc in no)
+
+-- and what isn't
+pub unparsed_is : (config : Config) (source : List ℕ) (parsed : Result Parsed parser.Error) (given : parser.Error) (told : Error) → config ≡ default_config → IfErr parsed (λ e. Refuses config source e.kind) → result_err parsed ≡ Some given
+    → IsOfParser given told → told ≢ error.OutOfMemory → is_pattern source ≡ false
+unparsed_is config source (Ok p) given told same h e of n = absurd (let no : ⊥ = cc in no)
+unparsed_is config source (Err x) given told same h e of n =
+    let is : x ≡ given = cc in
+    refused_is source given.kind (λ k. n (of.0 k)) (subst (λ (g : parser.Error). Refuses default_config source g.kind) is (subst (λ (c : Config). Refuses c source x.kind) same h))
 
 -- why a text isn't built, by what the library answers
 pub refusal_by_is : (source : List ℕ) (built : Result Regex Error) (answer : Result (Option Refusal) NoMemory) → IfOk built (λ r. regex_source r ≡ source) → IfOk built (λ r. regex_config r ≡ default_config)

@@ -20,8 +20,8 @@ use just_lang_types::CompileKind;
 use just_path_text::{Environ, NoMemory, Seq};
 use std::alloc::Global;
 
-/// The first broken rule on files.
-fn first_on_files(layout: &Layout) -> Option<Broken>
+/// The first broken rule on the texts of files and on their number.
+pub fn first_on_files(layout: &Layout) -> Option<Broken>
     ensures { result ≡ first_broken (rules_on_files layout.now) }
 {
     if let Some(spot) = first_fault(layout, FaultKind::Syntax) {

@@ -41,7 +41,7 @@ pub use duplicate_kinds::{
 pub use duplicate_names::{DuplicateRecipe, DuplicateVariable};
 pub use files::{first_fault, first_source_limit};
 pub use guards::GuardAndInfallible;
-pub use in_front::first_broken_in_front;
+pub use in_front::{first_broken_in_front, first_on_files};
 pub use item_lists::items_of_files;
 pub use items::first_in_items;
 pub use line_front::front;

@@ -6,7 +6,7 @@ ghost use Rattle.just_lang_spots.specs.Spots.{first_spot};
 ghost use Rattle.just_lang_rulebook.specs.Patterns.{is_pattern, pattern_pair, patterns_of, unread_spots, IsTooBig, IsFirstTooBig};
 
 use super::patterns::{PatternText, patterns_of, push_of_item};
-use super::refusals::{Refusal, own_refusal, pattern_refusal};
+use super::refusals::{Refusal, is_pattern, pattern_refusal};
 use just_lang_spots::{Entry, Rule, Spot, earlier, spot_where};
 use just_lang_syntax::AstItem;
 use just_lang_types::Texts;
@@ -17,10 +17,8 @@ use std::alloc::Global;
 fn is_unread(alloc: Global, text: &str) -> Result<bool, NoMemory>
     ensures { IfOk result (λ b. b ≡ not (is_pattern text.now)) }
 {
-    match own_refusal(alloc, text)? {
-        Some(Refusal::Syntax) => Ok(true),
-        Some(Refusal::Size) | None => Ok(false),
-    }
+    let is_read = is_pattern(alloc, text)?;
+    Ok(!is_read)
 }
 
 /// The first of some patterns that the grammar doesn't read.

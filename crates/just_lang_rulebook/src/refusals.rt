@@ -4,6 +4,7 @@ ghost use Rattle.just_lang_rulebook.specs.Patterns.{whole_pattern, is_pattern, r
 
 use just_path_text::NoMemory;
 use regex::{Error, Regex};
+use regex_syntax::{Config, parse};
 use std::alloc::{AllocError, Global};
 
 /// Why a pattern is refused.
@@ -38,21 +39,36 @@ fn refusal_by(built: Result<Regex, Error>) -> Result<Option<Refusal>, NoMemory>
     }
 }
 
+/// Whether the grammar of regular expressions reads the text, nested within the limit. It is read, and nothing is built of it.
+#[tactic(auto, using(crate::proofs::ReadPatterns::parsed_is, crate::proofs::ReadPatterns::unparsed_is))]
+pub(crate) fn is_pattern(alloc: Global, text: &str) -> Result<bool, NoMemory>
+    ensures { IfOk result (λ b. b ≡ is_pattern text.now) }
+{
+    let config = Config::default();
+    match parse(alloc, text, &config).err() {
+        None => Ok(true),
+        Some(error) => match Error::from(error) {
+            Error::OutOfMemory => Err(NoMemory),
+            Error::Syntax(_) | Error::CompiledTooBig | Error::Internal => Ok(false),
+        },
+    }
+}
+
 /// Why the library refuses to build the text, where it does.
-pub(crate) fn own_refusal(alloc: Global, text: &str) -> Result<Option<Refusal>, NoMemory>
+fn own_refusal(alloc: Global, text: &str) -> Result<Option<Refusal>, NoMemory>
     ensures { IfOk result (IsOwnRefusal (is_pattern text.now)) }
 {
     refusal_by(Regex::new(alloc, text))
 }
 
 /// Why a pattern of a parameter is refused, where it is. It has to be a regular expression by itself, and is then built for whole
-/// values too: `a)(b` is none, though `^(?:a)(b)$` is one. When one that is read is too big is the library's answer; no clause
+/// values alone: `a)(b` is none, though `^(?:a)(b)$` is one. When one that is read is too big is the library's answer; no clause
 /// tells more of it.
 pub fn pattern_refusal(alloc: Global, text: &str) -> Result<Option<Refusal>, NoMemory>
     ensures { IfOk result (IsRefusal text.now) }
 {
-    if let Some(own) = own_refusal(alloc, text)? {
-        return Ok(Some(own));
+    if !is_pattern(alloc, text)? {
+        return Ok(Some(Refusal::Syntax));
     }
     let whole = whole_pattern(alloc, text)?;
     match own_refusal(alloc, whole.as_str())? {

@@ -4,4 +4,4 @@ use Rattle.just_lang_layout.specs.Targets.{AreItemTargets}
 use Rattle.just_lang_layout.proofs.target.item_targets.Given as goal
 
 abbrev pub invariant-loop-item : goal.invariant-loop-item
-invariant-loop-item l = AreItemTargets l.environ.pairs l.paths l.root (take l.item-index l.items) l.targets.items
+invariant-loop-item l = AreItemTargets l.environ.pairs l.paths.all.items l.root (take l.item-index l.items) l.targets.items
