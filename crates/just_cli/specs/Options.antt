@@ -126,7 +126,6 @@ wanted_of c folder cache =
 -- whether a justfile lacks a recipe or a module that is asked for
 abbrev pub is_lacking : Error → Bool
 is_lacking (error.Usage u) = false
-is_lacking (error.NotBuilt word) = false
 is_lacking (error.Config c) = false
 is_lacking (error.CurrentDir io) = false
 is_lacking (error.Search s) = false
@@ -173,6 +172,15 @@ is_lacking (error.UnknownGroup group) = false
 is_lacking (error.EvalUnknownSubmodule submodule) = false
 is_lacking (error.EvalUnknownSubmoduleOrVariable name) = false
 is_lacking error.FormatCheckFoundDiff = false
+is_lacking error.NoChoosableRecipes = false
+is_lacking (error.ChooserInvoke shell arguments chooser io) = false
+is_lacking (error.ChooserRead chooser io) = false
+is_lacking (error.ChooserWrite chooser io) = false
+is_lacking (error.ChooserStatus chooser ending) = false
+is_lacking (error.EditorInvoke editor io) = false
+is_lacking (error.EditorStatus editor ending) = false
+is_lacking (error.CommandInvoke binary arguments io) = false
+is_lacking (error.CommandStatus binary arguments ending) = false
 is_lacking error.ClosureLimit = false
 is_lacking (error.InvalidShebang recipe shebang) = false
 is_lacking (error.Code recipe line code message) = false
@@ -202,7 +210,6 @@ lacks (Err e) = is_lacking e
 -- whether a recipe or a module that is asked for is missing: the justfile lacks it, or the file of an optional module isn't there
 abbrev pub is_missing : Error → Bool
 is_missing (error.Usage u) = false
-is_missing (error.NotBuilt word) = false
 is_missing (error.Config c) = false
 is_missing (error.CurrentDir io) = false
 is_missing (error.Search s) = false
@@ -249,6 +256,15 @@ is_missing (error.UnknownGroup group) = false
 is_missing (error.EvalUnknownSubmodule submodule) = false
 is_missing (error.EvalUnknownSubmoduleOrVariable name) = false
 is_missing error.FormatCheckFoundDiff = false
+is_missing error.NoChoosableRecipes = false
+is_missing (error.ChooserInvoke shell arguments chooser io) = false
+is_missing (error.ChooserRead chooser io) = false
+is_missing (error.ChooserWrite chooser io) = false
+is_missing (error.ChooserStatus chooser ending) = false
+is_missing (error.EditorInvoke editor io) = false
+is_missing (error.EditorStatus editor ending) = false
+is_missing (error.CommandInvoke binary arguments io) = false
+is_missing (error.CommandStatus binary arguments ending) = false
 is_missing error.ClosureLimit = false
 is_missing (error.InvalidShebang recipe shebang) = false
 is_missing (error.Code recipe line code message) = false
