@@ -1,6 +1,7 @@
 //! The room of the command line: what commands print of a project, and what a command does.
 #![tactic(auto)]
 
+mod choices;
 mod defaults;
 mod format;
 mod kind;
@@ -14,6 +15,7 @@ mod targets;
 mod values;
 mod whole;
 
+pub use choices::feed;
 pub use defaults::{listed_by_default, listing};
 pub use format::formatted;
 pub use just_cli_plan::Wanted;
