@@ -29,7 +29,7 @@ use Rattle.just_env.specs.Captures.{Capture, told_behind, AreAmongMisses}
 use Rattle.just_env.specs.Loads.{IsShellOf}
 use Rattle.just_exec.specs.declared.error.Error.TheVariants as error
 use Rattle.just_cli_plan.specs.Pairs.{LoadsPairs, BeginsLoading, Runs, Leaves, ErrorLeaves, entries_of as entries_in}
-use Rattle.just_cli.specs.Faults.{entries_of}
+use Rattle.just_cli_children.specs.Faults.{entries_of}
 use Rattle.just_cli_plan.specs.Request.{SourcesRequest, LoadedRequest, FindsProject}
 use Rattle.just_cli_texts.specs.Laid.{LaidSources, LaidRequest, FindsLaid}
 use Rattle.just_cli.specs.Acts.{Act, AreActs, Looks, folders_in, captures_in, uncaptured_in, Behind, BeginsBehind}

@@ -47,7 +47,7 @@ use Rattle.just_cli.specs.Asked.{Asked, AsksAlone, Responds, AsksAt, AsksBy, Beg
 use Rattle.just_cli.specs.NewPath.{FindsFree}
 use Rattle.just_cli.specs.Replies.{Reply}
 use Rattle.just_cli.specs.Commands.{as_shown, is_file, anew, anew_or, CommandsAt, PrintsIt, EvaluatesIt, FormatsFile, FormatsAt, BeginsCommand}
-use Rattle.just_cli.specs.Faults.{entries_of}
+use Rattle.just_cli_children.specs.Faults.{entries_of}
 use Rattle.just_cli.specs.Options.{command_not_built}
 use Rattle.just_cli.specs.Preparing.{AreMisses, EndsWith, Answers, Performs, reply_of}
 use Rattle.just_cli.specs.Request.{FindsProjectAt, Tries, BeginsProject, BeginsTries}

@@ -46,7 +46,7 @@ use Rattle.just_cli.specs.declared.task.Other.{Other}
 use Rattle.just_cli.specs.declared.task.Other.TheVariants as no_run
 use Rattle.just_cli.specs.Commands.{as_shown, checked, anew_or, EvaluatesIt}
 use Rattle.just_cli.specs.Replies.{Reply, as_list, as_plan, Replies, RepliesLoaded}
-use Rattle.just_cli.specs.Faults.{entries_of}
+use Rattle.just_cli_children.specs.Faults.{entries_of}
 use Rattle.just_cli.specs.Options.{is_lacking, is_missing}
 use Rattle.just_cli.proofs.Silent.{IsSilent, then_silent, or_silent}
 

@@ -21,7 +21,7 @@ use Rattle.just_search.specs.Files.{parent_of}
 use Rattle.just_cli.specs.Acts.{Act, AreToldBehind, Looks, Behind}
 use Rattle.just_cli.proofs.Acting.{Agrees, Agree, GivesOwnStep, looks_own, looks_agree, behind_agree, agrees_as, agrees_refusal, in_two, told_later, behind_own}
 use Rattle.just_cli.proofs.OneFile.{materializes_one}
-use Rattle.just_cli.specs.Faults.{CallGives, FaultFits, io_error, folder_error}
+use Rattle.just_cli_children.specs.Faults.{CallGives, FaultFits, io_error, folder_error}
 use Rattle.just_host_record.specs.declared.entry.Entry.{Entry}
 use Rattle.just_config.specs.declared.config.Config.{Config}
 use Rattle.just_env.specs.Answers.{entries_of}

@@ -34,7 +34,7 @@ use Rattle.just_config.specs.declared.help.TheConstants.{HELP}
 use Rattle.just_cli_texts.specs.declared.printed.Printed.{Printed}
 use Rattle.just_cli.specs.declared.task.Other.{Other}
 use Rattle.just_cli.specs.declared.task.Other.TheVariants as no_run
-use Rattle.just_cli.specs.Faults.{entries_of}
+use Rattle.just_cli_children.specs.Faults.{entries_of}
 use Rattle.just_cli.specs.Other.{Does, HeedsQuiet, LeavesFor, StaysFor}
 use Rattle.just_cli.specs.Printing.{told_beside, IsUnprintedBy, IsPrinted, IsIdle}
 use Rattle.just_cli.specs.Questions.{version_line, IsShown}

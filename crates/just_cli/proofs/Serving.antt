@@ -21,7 +21,7 @@ use Rattle.just_cli.specs.declared.task.Task.{Task}
 use Rattle.just_cli.specs.declared.task.Task.TheVariants as task
 use Rattle.just_cli.specs.Acts.{Act, Behind, BeginsBehind}
 use Rattle.just_cli.specs.Asked.{Asked, AsksAlone, AsksAt, BeginsAsks, Decides, Serves, EnvironGiven, FolderGiven, Asks, AsksGlobal, BeginsServes, Begins}
-use Rattle.just_cli.specs.Faults.{entries_of}
+use Rattle.just_cli_children.specs.Faults.{entries_of}
 use Rattle.just_cli.specs.Preparing.{AreMisses, EndsWith}
 use Rattle.just_cli.specs.Quiet.{AsksQuiet}
 use Rattle.just_cli.specs.Request.{ArePassed}

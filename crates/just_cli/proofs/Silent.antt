@@ -4,7 +4,7 @@ use Rattle.just_path_text.specs.declared.environ.Environ.{Environ}
 use Rattle.just_exec.specs.declared.error.Error.{Error}
 use Rattle.just_cli_plan.specs.Own.{OrMemory}
 use Rattle.just_cli_plan.specs.Steps.{Then, stops, goes_on}
-use Rattle.just_cli.specs.Faults.{entries_of}
+use Rattle.just_cli_children.specs.Faults.{entries_of}
 use Rattle.just_cli.specs.Words.{WordsRequest, FolderRequest, ReadsWords, GivesConfig, IsBuilt, Configures}
 
 -- a step refuses by no call

@@ -13,7 +13,7 @@ use Rattle.just_cli_plan.specs.Own.{OrMemory, is_uncaptured}
 use Rattle.just_cli.specs.Replies.{Reply}
 use Rattle.just_cli.specs.Acts.{Act}
 use Rattle.just_cli_plan.specs.Pairs.{entries_of as entries_in}
-use Rattle.just_cli.specs.Faults.{entries_of}
+use Rattle.just_cli_children.specs.Faults.{entries_of}
 use Rattle.just_cli.specs.Options.{is_lacking, is_missing, empty_outline}
 use Rattle.just_cli.specs.Preparing.{Answers, Performs}
 use Rattle.just_cli.specs.Words.{ConfigRequest, LocatedRequest}

@@ -20,7 +20,7 @@ use Rattle.just_cli_texts.specs.Responses.{requested, responded}
 use Rattle.just_cli.specs.declared.task.Other.{Other}
 use Rattle.just_cli.specs.declared.task.Other.TheVariants as no_run
 use Rattle.just_cli.specs.Acts.{Act, Step, Begun, NoAct, Looks, Behind, BeginsBehind}
-use Rattle.just_cli.specs.Faults.{CallGives, io_error, folder_error}
+use Rattle.just_cli_children.specs.Faults.{CallGives, io_error, folder_error}
 use Rattle.just_cli.specs.Commands.{as_shown, CommandsAt, BeginsCommand}
 use Rattle.just_cli.specs.NewPath.{FindsFree}
 use Rattle.just_cli.specs.Replies.{Reply}

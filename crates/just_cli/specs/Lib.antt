@@ -6,7 +6,6 @@ pub mod Asked
 pub mod Cleaning
 pub mod Commands
 pub mod Exit
-pub mod Faults
 pub mod NewPath
 pub mod Options
 pub mod Other

@@ -16,7 +16,7 @@ use Rattle.just_cli.specs.Replies.{Reply}
 use Rattle.just_cli.specs.Acts.{Act, AreActs, folders_in, captures_in, uncaptured_in}
 use Rattle.just_cli.specs.Altered.{IsAltered}
 use Rattle.just_cli_plan.specs.Pairs.{entries_of as entries_in}
-use Rattle.just_cli.specs.Faults.{entries_of}
+use Rattle.just_cli_children.specs.Faults.{entries_of}
 use Rattle.just_cli.specs.Request.{ArePassed}
 
 -- misses alone: of files that aren't there, as a project and its dotenv files are loaded

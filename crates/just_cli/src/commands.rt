@@ -20,7 +20,7 @@ ghost use Rattle.just_cli_texts.specs.Targets.{names_of};
 ghost use Rattle.just_cli_texts.specs.declared.kind.Kind.TheVariants as kind;
 ghost use Rattle.just_cli_texts.specs.Formatted.{Formats};
 ghost use Rattle.just_cli.specs.Commands.{is_file, path_if, anew, anew_or, EvaluatesIt, FormatsFile};
-ghost use Rattle.just_cli.specs.Faults.{entries_of};
+ghost use Rattle.just_cli_children.specs.Faults.{entries_of};
 ghost use Rattle.just_cli.specs.declared.task.Other.TheVariants as no_run;
 ghost use Rattle.just_cli.specs.Preparing.{AreMisses, EndsWith};
 ghost use Rattle.just_cli.specs.Taken.{laid_in, loaded_in, PerformsValues, PerformsCommand};

@@ -6,7 +6,7 @@ ghost use Rattle.just_cli_plan.specs.Own.{OrMemory};
 ghost use Rattle.just_cli_texts.specs.Kinds.{kind_of, reads_justfile};
 ghost use Rattle.just_cli_texts.specs.declared.kind.Kind.TheVariants as kind;
 ghost use Rattle.just_cli.specs.Asked.{AsksAlone, Responds, as_other, as_reply};
-ghost use Rattle.just_cli.specs.Faults.{entries_of};
+ghost use Rattle.just_cli_children.specs.Faults.{entries_of};
 ghost use Rattle.just_cli.specs.Options.{command_not_built};
 ghost use Rattle.just_cli.specs.Preparing.{AreMisses, EndsWith, reply_of};
 ghost use Rattle.just_cli.specs.Quiet.{AskQuiet};

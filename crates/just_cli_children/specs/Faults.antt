@@ -10,6 +10,7 @@ use Rattle.just_host_record.specs.declared.entry.HostFault.{HostFault}
 use Rattle.just_host_record.specs.declared.entry.HostFault.TheVariants as fault
 use Rattle.just_exec.specs.declared.error.Error.{Error}
 use Rattle.just_exec.specs.declared.error.Error.TheVariants as error
+use Rattle.just_cli_plan.specs.Own.{OrMemory}
 use Rattle.just_cli_plan.specs.Pairs.{entries_of as entries_in}
 
 -- the fault of asking for the current folder, as a fault of a host
@@ -53,3 +54,7 @@ FaultFits c shown fault.NoMemory = ⊥
 abbrev pub CallGives : {A : Type 0} → Call → (HostFault → Error) → Option (Result A Miss) → Result A Error → Type 0
 CallGives c told shown (Ok x) = MatchOption shown (Unit {0}) (λ s. s ≡ Ok x)
 CallGives c told shown (Err e) = (f : HostFault) × (e ≡ told f) × FaultFits c shown f
+
+-- a print that failed, or for which memory was wanting
+abbrev pub IsPrintError : Error → Type 0
+IsPrintError e = OrMemory (λ x. x ≡ error.StdoutIo (fault.Failed call.Print)) e
