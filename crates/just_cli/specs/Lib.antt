@@ -3,9 +3,12 @@ pub mod Acts
 pub mod Altered
 pub mod Answered
 pub mod Asked
+pub mod Choosing
 pub mod Cleaning
 pub mod Commands
+pub mod Dry
 pub mod Exit
+pub mod Invoked
 pub mod NewPath
 pub mod Options
 pub mod Other

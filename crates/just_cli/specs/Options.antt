@@ -1,7 +1,6 @@
--- What of a configuration isn't built yet, what is asked of a justfile, and which names may be missing.
-use Rattle.std.specs.Prelude.{ℕ, Bool, true, false, not, ◌||◌, ◌&&◌, if◌then◌else◌, nat_le, List, [], ◌∷◌, Option, Some, None, option_map, Result, Ok, Err, codes}
+-- What a configuration asks of a justfile, and which names may be missing.
+use Rattle.std.specs.Prelude.{ℕ, Bool, true, false, not, ◌||◌, ◌&&◌, if◌then◌else◌, nat_le, List, [], ◌∷◌, Option, Some, None, option_map, Result, Ok, Err}
 use Rattle.std.specs.Int.NonZero.{non_zero_u64_get}
-use Rattle.just_path_text.specs.Environ.{or_else}
 use Rattle.just_config_words.specs.declared.subcommand.Subcommand.{Subcommand}
 use Rattle.just_config_words.specs.declared.subcommand.Subcommand.TheVariants as command
 use Rattle.just_config.specs.declared.config.Config.{Config}
@@ -16,44 +15,12 @@ use Rattle.just_search.specs.Finding.{folder_of, given_path}
 use Rattle.just_cli_plan.specs.declared.wanted.Wanted.{Wanted}
 use Rattle.just_cli.specs.Replies.{Reply}
 
--- ---- what isn't built
+-- ---- what is asked for
 
+-- whether there is a text
 abbrev pub is_any : List (List ℕ) → Bool
 is_any [] = false
 is_any (t ∷ ts) = true
-
--- an option's word, where the option is given
-abbrev pub word_if : Bool → List ℕ → Option (List ℕ)
-word_if given word = if given then Some word else None
-
--- the word of the first flag that isn't built
-abbrev pub flag_not_built : Config → Option (List ℕ)
-flag_not_built c = word_if c.dry_run (codes "--dry-run")
-
--- the word of a command that isn't built
-abbrev pub command_not_built : Option Subcommand → Option (List ℕ)
-command_not_built None = None
-command_not_built (Some (command.Choose ws)) = Some (codes "--choose")
-command_not_built (Some (command.Clean ws)) = None
-command_not_built (Some (command.Command ws)) = Some (codes "--command")
-command_not_built (Some (command.Dump ws)) = None
-command_not_built (Some (command.Edit ws)) = Some (codes "--edit")
-command_not_built (Some (command.Evaluate ws)) = None
-command_not_built (Some (command.Fmt ws)) = None
-command_not_built (Some (command.Groups ws)) = None
-command_not_built (Some (command.Init ws)) = None
-command_not_built (Some (command.List ws)) = None
-command_not_built (Some (command.Request ws)) = None
-command_not_built (Some (command.Show ws)) = None
-command_not_built (Some (command.Summary ws)) = None
-command_not_built (Some (command.Usage ws)) = None
-command_not_built (Some (command.Variables ws)) = None
-
--- the word of what isn't built, of the first in the order of the options
-abbrev pub not_built : Config → Option (List ℕ)
-not_built c = or_else (flag_not_built c) (command_not_built c.subcommand)
-
--- ---- what is asked for
 
 -- the arguments of the shell, where some are given or all are cleared
 abbrev pub shell_args_of : Config → Option (List (List ℕ))
