@@ -8,13 +8,13 @@ ghost use Rattle.just_exec.specs.declared.error.Error.TheVariants as error;
 ghost use Rattle.just_cli_plan.specs.Own.{OrMemory};
 ghost use Rattle.just_path.specs.Path.{text_of};
 ghost use Rattle.just_search.specs.Finding.{given_path};
-ghost use Rattle.just_cli.specs.Options.{is_any, command_not_built, dotenv_of, flags_of, cache_beside, wanted_of};
-ghost use Rattle.just_cli.specs.Words.{ReadsWords, IsBuilt, Configures};
+ghost use Rattle.just_cli.specs.Options.{is_any, dotenv_of, flags_of, cache_beside, wanted_of};
+ghost use Rattle.just_cli.specs.Words.{ReadsWords, Configures};
 
 use super::Error;
-use super::options::{allows_unstable, is_any, not_built};
+use super::options::{allows_unstable, is_any};
 use just_cache::Cache;
-use just_cli_plan::{Wanted, not_built_error};
+use just_cli_plan::Wanted;
 use just_config::{Arguments, Config, Read, read_words};
 use just_env::DotenvAsk;
 use just_exec_work::RunFlags;
@@ -161,20 +161,6 @@ pub(crate) fn wanted(
     })
 }
 
-/// A configuration all of which is built.
-fn built(alloc: Global, config: Config) -> Result<Config, Error>
-    ensures same { IfOk result (λ c. c ≡ config) }
-    ensures command { IfOk result (λ c. command_not_built c.subcommand ≡ None) }
-    ensures built { IfOk result (λ c. (environ : Environ) → IsBuilt (record { config = config; environ = environ }) (Ok (record { config = c; environ = environ }))) }
-    ensures refused { IfErr result (OrMemory (λ e. (environ : Environ) → IsBuilt (record { config = config; environ = environ }) (Err e))) }
-{
-    if let Some(word) = not_built(&config) {
-        drop(config);
-        return Err(not_built_error(alloc, word));
-    }
-    Ok(config)
-}
-
 /// The configuration that arguments give in the folder where they were given.
 pub(crate) fn configure(
     alloc: Global,
@@ -182,12 +168,11 @@ pub(crate) fn configure(
     folder: Utf8PathBuf,
 ) -> Result<Config, Error>
     ensures gives { IfOk result (λ c. (refusal arguments ≡ None) × (c ≡ config_of arguments folder)) }
-    ensures built { IfOk result (λ c. command_not_built c.subcommand ≡ None) }
     ensures config { IfOk result (λ c. (environ : Environ) → Configures (record { arguments = arguments; environ = environ; folder = folder }) (Ok (record { config = c; environ = environ }))) }
     ensures refused { IfErr result (OrMemory (λ e. (environ : Environ) → Configures (record { arguments = arguments; environ = environ; folder = folder }) (Err e))) }
 {
     match Config::from_arguments(alloc, arguments, folder) {
-        Ok(config) => built(alloc, config),
+        Ok(config) => Ok(config),
         Err(error) => Err(Error::from(error)),
     }
 }

@@ -1,14 +1,17 @@
 //! The room of the command line, and its door: a run, from the words to the children, by the top calls and what they answer.
 #![tactic(auto)]
 
+mod choose;
 mod clean;
 mod commands;
 mod configured;
+mod dry;
 mod ended;
 mod failure;
 mod given;
 mod init;
 mod init_text;
+mod invoke;
 mod law;
 mod options;
 mod other;
