@@ -89,3 +89,8 @@ reply_of (replied.Plan p jobs messages) = Reply.runs (outline_of p (option_map n
 abbrev pub as_asked : Result Replied Error → Result Reply Error
 as_asked (Ok x) = Ok (reply_of x)
 as_asked (Err e) = Err e
+
+-- the same, where there may be none
+abbrev pub as_chosen : Result (Option Replied) Error → Result (Option Reply) Error
+as_chosen (Ok x) = Ok (option_map reply_of x)
+as_chosen (Err e) = Err e

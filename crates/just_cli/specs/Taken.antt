@@ -18,7 +18,7 @@ use Rattle.just_lang.specs.declared.laid.LaidJustfile.{LaidJustfile}
 use Rattle.just_cli_texts.specs.declared.kind.Kind.{Kind}
 use Rattle.just_cli_texts.specs.Laid.{laid_by, LaidRequest}
 use Rattle.just_cli.specs.declared.task.Other.{Other}
-use Rattle.just_cli.specs.Choosing.{Chooses, BeginsChooses, TriesBehind, BeginsTriesBehind, ChoosesAt, BeginsChoosesAt}
+use Rattle.just_cli.specs.Choosing.{AsksChooser, BeginsAsking, Chooses, BeginsChooses, TriesBehind, BeginsTriesBehind, RunsWords, BeginsWords, ChoosesAt, BeginsChoosesAt}
 use Rattle.just_cli.specs.Commands.{EvaluatesLaid, InvokesLaid, CommandsAt, BeginsCommand}
 use Rattle.just_cli.specs.Replies.{Reply}
 use Rattle.just_cli.specs.Options.{is_lacking, lacks, allowed}
@@ -120,6 +120,11 @@ PerformsTries q before after kept keeps r =
 abbrev pub PerformsChoosing : Config → LaidRequest → Moment → Moment → Result (List (List ℕ)) Error → Type 0
 PerformsChoosing c q before after r = Performs (λ acts later x. Chooses c before.world acts later q x) (λ acts later. BeginsChooses c before.world acts later q) before after [] [] r
 
+-- what a chooser answers that is fed that
+abbrev pub PerformsAnswer : Config → LaidRequest → List ℕ → Moment → Moment → Result (List (List ℕ)) Error → Type 0
+PerformsAnswer c q input before after r =
+    Performs (λ acts later x. AsksChooser c q before.world acts later input x) (λ acts later. BeginsAsking c q before.world acts later input) before after [] [] r
+
 -- what is asked of a project that was found in a place, and of those that are tried behind it
 abbrev pub PerformsBehind : ConfigRequest → Location → LaidRequest → Moment → Moment → List (List ℕ) → List (List ℕ) → Result Reply Error → Type 0
 PerformsBehind c location p before after kept keeps r =
@@ -130,6 +135,11 @@ abbrev pub PerformsAllowed : ConfigRequest → Location → LaidRequest → Mome
 PerformsAllowed c location p before after kept keeps r =
     Performs (λ acts later x. (y : Result Reply Error) × TriesBehind c location before.world acts later p y × (x ≡ allowed c.config y))
     (λ acts later. BeginsTriesBehind c location before.world acts later p) before after kept keeps r
+
+-- the same by words that are chosen
+abbrev pub PerformsWords : LocatedRequest → LaidRequest → List (List ℕ) → Moment → Moment → List (List ℕ) → List (List ℕ) → Result (Option Reply) Error → Type 0
+PerformsWords q p words before after kept keeps r =
+    Performs (λ acts later x. RunsWords q p before.world acts later words x) (λ acts later. BeginsWords q p before.world acts later words) before after kept keeps r
 
 -- all of it: there is a reply where a word is chosen
 abbrev pub PerformsChoices : LocatedRequest → Moment → Moment → List (List ℕ) → List (List ℕ) → Result (Option Reply) Error → Type 0

@@ -1,10 +1,10 @@
 //! What is asked of the justfiles that are tried by words that are chosen.
 
-ghost use Rattle.std.specs.Prelude.{◌≡◌, Ok, Err};
+ghost use Rattle.just_path_text.specs.declared.environ.Environ.{Environ as Variables};
 ghost use Rattle.just_lang.specs.Assembled.{IsSoundlyMadeOf};
 ghost use Rattle.just_cli_plan.specs.Projects.{IsEnding};
-ghost use Rattle.just_cli.specs.Preparing.{as_asked, as_choice};
-ghost use Rattle.just_cli.specs.Taken.{laid_in, PerformsChoosing, PerformsBehind, PerformsAllowed, PerformsChoices};
+ghost use Rattle.just_cli.specs.Preparing.{as_asked, as_chosen};
+ghost use Rattle.just_cli.specs.Taken.{laid_in, PerformsAnswer, PerformsChoosing, PerformsBehind, PerformsAllowed, PerformsWords, PerformsChoices};
 
 use super::Error;
 use super::options::is_any;
@@ -32,8 +32,10 @@ fn answered<H: Host>(
     laid: &LaidJustfile,
     input: &str,
 ) -> Result<Seq<Text>, Error>
-    ensures { PerformsAnswer config.now (record { wanted = wanted.now; laid = laid_by laid.now })
-        input.now (H.told host.old) (H.told host.new) result }
+    // Whatever the environment is, of which nothing is asked.
+    ensures { (environ : Variables)
+        → PerformsAnswer config.now (laid_in wanted.now environ laid.now) input.now
+        (H.told host.old) (H.told host.new) result }
 {
     let shell = shell(alloc, &wanted.flags, &laid.justfile.settings)?;
     let chooser = chooser_of(alloc, config, laid.justfile.source.as_str())?;
@@ -151,7 +153,7 @@ fn reply_to_words<H: Host>(
     requires sound { IsSoundlyMadeOf environ.now.pairs laid.layout laid.justfile }
     ensures { PerformsWords (record { config = config; environ = environ.now; location = location })
         (laid_in wanted environ.now laid) words
-        (H.told host.old) (H.told host.new) made.old.items made.new.items (as_choice result) }
+        (H.told host.old) (H.told host.new) made.old.items made.new.items (as_chosen result) }
 {
     if !is_any(&words) {
         return Ok(None);
@@ -180,7 +182,7 @@ pub(crate) fn choose_tried<H: Host>(
 ) -> Result<Option<Replied>, Error>
     ensures { PerformsChoices
         (record { config = config; environ = environ.now; location = location })
-        (H.told host.old) (H.told host.new) made.old.items made.new.items (as_choice result) }
+        (H.told host.old) (H.told host.new) made.old.items made.new.items (as_chosen result) }
 {
     let (wanted, laid) = match project_at(alloc, environ, &config, &location, made, host) {
         Ok(found) => found,

@@ -24,15 +24,16 @@ abbrev pub line_if : Bool → ListedModule → ListedRecipe → List (List ℕ)
 line_if chosen outer r = if chosen then spaced_path outer r.name ∷ [] else []
 
 -- one more
-pub one_more : (groups : List (List ℕ)) (justfile : Option (Bor Justfile)) (outer : ListedModule) (r : Bor ListedRecipe) (rs : List (Bor ListedRecipe))
-    → lines_among groups justfile outer (r ∷ rs) ≡ line_if (is_choosable groups (option_copied justfile) r.now) outer r.now ++ lines_among groups justfile outer rs
-one_more groups justfile outer r rs = by (is_choosable groups (option_copied justfile) r.now) where
-  abbrev rest : List ListedRecipe
+module _ (groups : List (List ℕ)) (justfile : Option (Bor Justfile)) (outer : ListedModule) (r : Bor ListedRecipe) (rs : List (Bor ListedRecipe)) where
+  rest : List ListedRecipe
   rest = filter (is_choosable groups (option_copied justfile)) (map (λ (x : Bor ListedRecipe). x.now) rs)
 
-  by : (b : Bool) → map (λ (x : ListedRecipe). spaced_path outer x.name) (if b then r.now ∷ rest else rest) ≡ line_if b outer r.now ++ map (λ (x : ListedRecipe). spaced_path outer x.name) rest
-  by true = refl
-  by false = refl
+  by_chosen : (b : Bool) → map (λ (x : ListedRecipe). spaced_path outer x.name) (if b then r.now ∷ rest else rest) ≡ line_if b outer r.now ++ map (λ (x : ListedRecipe). spaced_path outer x.name) rest
+  by_chosen true = refl
+  by_chosen false = refl
+
+  pub one_more : lines_among groups justfile outer (r ∷ rs) ≡ line_if (is_choosable groups (option_copied justfile) r.now) outer r.now ++ lines_among groups justfile outer rs
+  one_more = by_chosen (is_choosable groups (option_copied justfile) r.now)
 
 -- some lines are fed, and none are refused
 some_fed : (lines : List (List ℕ)) → is_nil lines ≡ false → Ok (fed lines) ≡ fed_unless_none lines

@@ -28,9 +28,9 @@ use std::alloc::Global;
 fn justfile_at<'p>(modules: &[&'p Justfile], path: &Modulepath) -> Option<&'p Justfile>
     ensures { option_copied result ≡ justfile_at (map (λ m. m.now) modules.now) path.now }
 {
-    'modules: for module in modules {
-        if module.module_path.same(path) {
-            return Some(*module);
+    'modules: for one in modules {
+        if one.module_path.same(path) {
+            return Some(*one);
         }
     }
     None
@@ -49,10 +49,10 @@ fn recipe_named<'r>(recipes: &'r [Recipe], name: &str) -> Option<&'r Recipe>
 }
 
 /// The recipe of that name in a module, if there is one.
-fn recipe_in<'p>(module: Option<&'p Justfile>, name: &str) -> Option<&'p Recipe>
-    ensures { option_copied result ≡ recipe_in (option_copied module) name.now }
+fn recipe_in<'p>(parent: Option<&'p Justfile>, name: &str) -> Option<&'p Recipe>
+    ensures { option_copied result ≡ recipe_in (option_copied parent) name.now }
 {
-    match module {
+    match parent {
         Some(justfile) => recipe_named(justfile.recipes.as_slice(), name),
         None => None,
     }
@@ -90,11 +90,11 @@ fn is_of_groups(groups: &[Text], own: &[Text]) -> bool
 }
 
 /// Whether a recipe of a module can be chosen, where recipes of these groups can, or of any where none are given.
-fn is_choosable(groups: &[Text], module: Option<&Justfile>, recipe: &ListedRecipe) -> bool
-    ensures { result ≡ is_choosable groups.now (option_copied module) recipe.now }
+fn is_choosable(groups: &[Text], parent: Option<&Justfile>, recipe: &ListedRecipe) -> bool
+    ensures { result ≡ is_choosable groups.now (option_copied parent) recipe.now }
 {
     is_of_groups(groups, recipe.groups.as_slice())
-        && needs_none(recipe_in(module, recipe.name.as_str()))
+        && needs_none(recipe_in(parent, recipe.name.as_str()))
 }
 
 /// Adds names, each with a blank behind it.
@@ -139,6 +139,7 @@ fn push_choice(
 }
 
 /// Adds the lines of those recipes of a module that can be chosen.
+#[tactic(auto, using(crate::proofs::ChoiceLaws::one_more))]
 fn push_choices(
     alloc: Global,
     lines: &mut Vec<Text>,
@@ -205,6 +206,7 @@ fn fed(alloc: Global, lines: &[Text]) -> Result<String, NoMemory>
 }
 
 /// What a chooser is fed of a justfile with its layout: the spaced paths of the recipes that can be chosen, one a line.
+#[tactic(auto, using(crate::proofs::ChoiceLaws::feeds_some, crate::proofs::ChoiceLaws::feeds_none))]
 pub fn feed(
     alloc: Global,
     config: &Config,

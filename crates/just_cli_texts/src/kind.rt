@@ -97,12 +97,8 @@ pub fn is_placed(kind: Kind) -> bool
     ensures { result ≡ is_placed kind }
 {
     match kind {
-        Kind::Format
-        | Kind::Clean
-        | Kind::Evaluate
-        | Kind::Print
-        | Kind::Edit
-        | Kind::Command => true,
+        Kind::Format | Kind::Clean | Kind::Evaluate | Kind::Print | Kind::Edit | Kind::Command =>
+            true,
         Kind::Run | Kind::New | Kind::Respond | Kind::Choose => false,
     }
 }
