@@ -49,10 +49,10 @@ pub fn changes_of_module(
     ensures innermost { IfOk result (AreChanges
         (change dotenv.now settings.now.export unexports.now (module_levels levels.now))) }
 {
-    let mut made = BTreeMap::new(alloc);
-    put_pairs(&mut made, dotenv)?;
-    put_levels(alloc, &mut made, settings.export, unexports, levels)?;
-    let list = in_order(alloc, made)?;
+    let mut changed = BTreeMap::new(alloc);
+    put_pairs(&mut changed, dotenv)?;
+    put_levels(alloc, &mut changed, settings.export, unexports, levels)?;
+    let list = in_order(alloc, changed)?;
     Ok(list)
 }
 
