@@ -27,7 +27,7 @@ use Rattle.just_config.specs.declared.config.Config.{Config}
 use Rattle.just_env.specs.Answers.{entries_of}
 use Rattle.just_search.specs.declared.location.Location.{Location}
 use Rattle.just_cli.specs.Options.{cache_beside, wanted_of, allowed}
-use Rattle.just_cli.specs.Words.{WordsRequest, ReadRequest, FolderRequest, ConfigRequest, LocatedRequest, JustfileRequest, FindsEnviron, ReadsWords, FindsFolder, GivesConfig, IsBuilt, Configures, FindsLocation, FindsJustfile, TakesFile}
+use Rattle.just_cli.specs.Words.{WordsRequest, ReadRequest, FolderRequest, ConfigRequest, LocatedRequest, JustfileRequest, FindsEnviron, ReadsWords, FindsFolder, Configures, FindsLocation, FindsJustfile, TakesFile}
 use Rattle.just_exec.specs.Refusals.{error_of_search}
 use Rattle.just_lang_types.specs.Modules.{settings_of, AreModules}
 use Rattle.just_cli_plan.proofs.AgreeLaws.{loads_agree}
@@ -149,20 +149,11 @@ reads_words k (Err e) (Ok b) p m q n = absurd (read_or_fault b.meaning p.0 (one_
 reads_words k (Err e) (Err f) p m q n = ap (λ x. Err x) (p.2 ∙ ap (λ u. error.Usage u) (one_meaning k.words k.environ.pairs (Err p.0) (Err q.0) p.1 q.1) ∙ sym q.2)
 
 -- arguments give one configuration, or are refused with one error
-gives_config : GivesOwn GivesConfig
-gives_config k (Ok a) (Ok b) p m q n = ap (λ x. Ok x) (p.1 ∙ sym q.1)
-gives_config k (Ok a) (Err f) p m q n = absurd (held_none _ q.0 p.0 q.1)
-gives_config k (Err e) (Ok b) p m q n = absurd (held_none _ p.0 q.0 p.1)
-gives_config k (Err e) (Err f) p m q n = ap (λ x. Err x) (p.2 ∙ ap (λ c. error.Config c) (held_one _ p.0 q.0 p.1 q.1) ∙ sym q.2)
-
-is_built : GivesOwn IsBuilt
-is_built k (Ok a) (Ok b) p m q n = ap (λ x. Ok x) (p.1 ∙ sym q.1)
-is_built k (Ok a) (Err f) p m q n = absurd (held_none _ q.0 p.0 q.1)
-is_built k (Err e) (Ok b) p m q n = absurd (held_none _ p.0 q.0 p.1)
-is_built k (Err e) (Err f) p m q n = ap (λ x. Err x) (p.2 ∙ ap (λ x. error.NotBuilt x) (held_one _ p.0 q.0 p.1 q.1) ∙ sym q.2)
-
 configures : GivesOwn Configures
-configures = then_own GivesConfig IsBuilt gives_config is_built
+configures k (Ok a) (Ok b) p m q n = ap (λ x. Ok x) (p.1 ∙ sym q.1)
+configures k (Ok a) (Err f) p m q n = absurd (held_none _ q.0 p.0 q.1)
+configures k (Err e) (Ok b) p m q n = absurd (held_none _ p.0 q.0 p.1)
+configures k (Err e) (Err f) p m q n = ap (λ x. Err x) (p.2 ∙ ap (λ c. error.Config c) (held_one _ p.0 q.0 p.1 q.1) ∙ sym q.2)
 
 -- ---- the place of the justfile
 
@@ -371,6 +362,9 @@ evaluates_own c s r t (x, p, is) own (y, o, at) other =
 values_one : (c : Config) → GivesOwnOf EndsLoaded (Then EvaluatesVariables (EvaluatesIt c))
 values_one c = then_own_of EndsLoaded (λ (s : ScopesRequest). Unit {0}) EvaluatesVariables (EvaluatesIt c) evaluates_variables (λ k ends found p. tt) (own_of (λ (s : ScopesRequest). Unit {0}) (EvaluatesIt c) (evaluates_own c))
 
+invokes_one : (c : Config) → GivesOwnOf EndsLoaded (Then EvaluatesVariables (InvokesIt c))
+invokes_one c = then_own_of EndsLoaded (λ (s : ScopesRequest). Unit {0}) EvaluatesVariables (InvokesIt c) evaluates_variables (λ k ends found p. tt) (own_of (λ (s : ScopesRequest). Unit {0}) (InvokesIt c) (λ s x y a m b n. a ∙ sym b))
+
 -- a file has one text
 text_one : (w : World) (path x y : List ℕ) → told_read w path ≡ Ok x → told_read w path ≡ Ok y → x ≡ y
 text_one w path x y p q = let both : ◌≡◌ {A = Result (List ℕ) Miss} (Ok x) (Ok y) = sym p ∙ q in cc
@@ -416,7 +410,11 @@ commands_own kind.Format w acts more rest left after later q r s p own o other a
 commands_own kind.Run w acts more rest left after later q r s p own o other all told = absurd p
 commands_own kind.New w acts more rest left after later q r s p own o other all told = absurd p
 commands_own kind.Respond w acts more rest left after later q r s p own o other all told = absurd p
-commands_own kind.Later w acts more rest left after later q r s p own o other all told = absurd p
+commands_own kind.Edit w acts more rest left after later q r s p own o other all told =
+    behind_own TakesFile (Looks (λ now. EditsIt)) takes_file (looks_own (λ now. EditsIt) (λ v k x y a m b n. a ∙ sym b)) w acts more rest left after later q r s p own o other all told
+commands_own kind.Command w acts more rest left after later q r s p own o other all told =
+    behind_own_of FindsProjectAt (InvokesLaid q.config) Ends project_own project_ends (modules_one (Then EvaluatesVariables (InvokesIt q.config)) (invokes_one q.config)) w acts more rest left after later q r s p own o other all told
+commands_own kind.Choose w acts more rest left after later q r s p own o other all told = absurd p
 
 -- ---- behind the configuration
 
@@ -452,7 +450,9 @@ by_own kind.Format = command_own kind.Format
 by_own kind.Clean = command_own kind.Clean
 by_own kind.Evaluate = command_own kind.Evaluate
 by_own kind.Print = command_own kind.Print
-by_own kind.Later = command_own kind.Later
+by_own kind.Edit = command_own kind.Edit
+by_own kind.Command = command_own kind.Command
+by_own kind.Choose = choices_own
 
 at_own : GivesOwnStep AsksAt
 at_own w acts more rest left after later q r s p own o other all told = by_own (kind_of q.config.subcommand) w acts more rest left after later q r s p own o other all told
@@ -466,7 +466,9 @@ alone_own w kind.Format c r s p own q other = absurd p
 alone_own w kind.Clean c r s p own q other = absurd p
 alone_own w kind.Evaluate c r s p own q other = absurd p
 alone_own w kind.Print c r s p own q other = absurd p
-alone_own w kind.Later c r s p own q other = absurd p
+alone_own w kind.Edit c r s p own q other = absurd p
+alone_own w kind.Command c r s p own q other = absurd p
+alone_own w kind.Choose c r s p own q other = absurd p
 
 -- what only the words answer takes no act
 one_text : (w : World) (acts more rest left : List Act) (after later : Option World) (x : Asked) (r s : Result Asked Error) → (acts ≡ []) × (after ≡ Some w) × (r ≡ Ok x) → (more ≡ []) × (later ≡ Some w) × (s ≡ Ok x) → acts ++ rest ≡ more ++ left
