@@ -145,11 +145,23 @@ error_still : (old new : Option World) (path : List ℕ) (e : Error) → ErrorLe
 error_still old new path (error.DotenvCommand command (output.Io (fault.Missed m))) left quiet = left
 error_still old new path (error.DotenvCommand command (output.Io (fault.Failed c))) left quiet = absurd (true≢false quiet)
 error_still old new path (error.DotenvCommand command (output.Io fault.NoMemory)) left quiet = left
+error_still old new path (error.ChooserInvoke shell arguments chooser (fault.Missed m)) left quiet = left
+error_still old new path (error.ChooserInvoke shell arguments chooser (fault.Failed c)) left quiet = absurd (true≢false quiet)
+error_still old new path (error.ChooserInvoke shell arguments chooser fault.NoMemory) left quiet = left
+error_still old new path (error.ChooserRead chooser (fault.Missed m)) left quiet = left
+error_still old new path (error.ChooserRead chooser (fault.Failed c)) left quiet = absurd (true≢false quiet)
+error_still old new path (error.ChooserRead chooser fault.NoMemory) left quiet = left
+error_still old new path (error.ChooserWrite chooser (fault.Missed m)) left quiet = left
+error_still old new path (error.ChooserWrite chooser (fault.Failed c)) left quiet = absurd (true≢false quiet)
+error_still old new path (error.ChooserWrite chooser fault.NoMemory) left quiet = left
 error_still old new path _ left quiet = left
 
 -- and so does one that doesn't tell that a child wasn't run to its end
 captured_still : (old new : Option World) (e : Error) → is_uncaptured e ≡ false → ErrorLeaves old new e → new ≡ old
 captured_still old new (error.DotenvCommand command (output.Io io)) captured left = absurd (true≢false captured)
+captured_still old new (error.ChooserInvoke shell arguments chooser io) captured left = absurd (true≢false captured)
+captured_still old new (error.ChooserRead chooser io) captured left = absurd (true≢false captured)
+captured_still old new (error.ChooserWrite chooser io) captured left = absurd (true≢false captured)
 captured_still old new _ captured left = left
 
 -- of what the answer is that stands behind them, `looks` says

@@ -1,5 +1,5 @@
 -- Each step of a request gives one answer of its own at most, and so does the request.
-use Rattle.std.proofs.Common.{◌≡◌, ℕ, true, false, true≢false, List, [], ◌∷◌, map, Option, Some, None, Result, Ok, Err, ◌++◌, refl, sym, ◌∙◌, ap, subst, append-nil}
+use Rattle.std.proofs.Common.{◌≡◌, ℕ, Bool, true, false, true≢false, List, [], ◌∷◌, map, Option, Some, None, Result, Ok, Err, ◌++◌, refl, sym, ◌∙◌, ap, subst, append-nil}
 use Rattle.just_path_text.specs.declared.environ.Environ.{Environ}
 use Rattle.just_path.specs.declared.host.Miss.{Miss}
 use Rattle.just_host_record.specs.World.{World}
@@ -55,17 +55,19 @@ use Rattle.just_cli_texts.specs.Kinds.{kind_of}
 use Rattle.just_cli_texts.specs.Laid.{LaidSources, LaidRequest, project_with, FindsLaid}
 use Rattle.just_cli_texts.specs.Prints.{as_printed}
 use Rattle.just_cli_texts.proofs.Printers.{texts}
-use Rattle.just_cli.specs.Commands.{as_shown, is_file, anew_or, PrintsIt, EvaluatesIt, EvaluatesLaid, CleansIt, FormatsFile, CommandsAt}
+use Rattle.just_cli.specs.Choosing.{ChoosesFor, ChoosesAt}
+use Rattle.just_cli.specs.Commands.{as_shown, is_file, anew_or, PrintsIt, EvaluatesIt, EvaluatesLaid, CleansIt, FormatsFile, EditsIt, InvokesIt, InvokesLaid, CommandsAt}
 use Rattle.just_cli.specs.Replies.{Reply, as_list, as_plan, Replies, RepliesLoaded}
 use Rattle.just_cli.proofs.OnePairs.{own_refused, Ends, modules_one, behind_own_of}
 use Rattle.just_cli_plan.specs.Steps.{Then, stops, goes_on}
-use Rattle.just_cli.specs.Asked.{Asked, as_reply, as_other, as_new, EnvironGiven, FolderGiven, RunsTried, CommandAsks, AsksBy, AsksAt, AsksAlone, Searches, Decides, Serves, AsksAs, AsksRead, Asks}
+use Rattle.just_cli.specs.Asked.{Asked, as_reply, as_choice, as_other, as_new, EnvironGiven, FolderGiven, RunsTried, ChoosesTried, CommandAsks, AsksBy, AsksAt, AsksAlone, Searches, Decides, Serves, AsksAs, AsksRead, Asks}
 use Rattle.just_cli.specs.Request.{LoadsSources, FindsProjectOf, FindsProjectAt, RepliesTo, AnswersAt, Tries, NoneFailed}
 use Rattle.just_cli.specs.declared.task.Other.{Other}
 use Rattle.just_cli.specs.declared.task.Other.TheVariants as no_run
 use Rattle.just_cli.proofs.Arguments.{arguments_one}
 use Rattle.just_cli.proofs.OneLocation.{by_one, own_unfailed}
 use Rattle.just_cli.proofs.Climbing.{climb_of_first}
+use Rattle.just_cli.proofs.OneChoice.{RepliesOne, choices_one}
 use Rattle.just_cli.proofs.OneTried.{own_answer, AnswersOne, from_one}
 use Rattle.just_cli.proofs.OneNew.{new_own}
 use Rattle.just_cli.proofs.OneSearch.{search_refused}
@@ -419,9 +421,13 @@ commands_own kind.Choose w acts more rest left after later q r s p own o other a
 -- ---- behind the configuration
 
 -- what is asked for is determined where what it comes from is
-own_reply : (x : Result Reply Error) (r : Result Asked Error) → r ≡ as_reply x → IsOwn r → IsOwn x
-own_reply (Ok o) r is own = tt
-own_reply (Err e) r is own = subst (λ (z : Result Asked Error). IsOwn z) is own
+own_reply : (dry : Bool) (x : Result Reply Error) (r : Result Asked Error) → r ≡ as_reply dry x → IsOwn r → IsOwn x
+own_reply dry (Ok o) r is own = tt
+own_reply dry (Err e) r is own = subst (λ (z : Result Asked Error). IsOwn z) is own
+
+own_choice : (dry : Bool) (x : Result (Option Reply) Error) (r : Result Asked Error) → r ≡ as_choice dry x → IsOwn r → IsOwn x
+own_choice dry (Ok o) r is own = tt
+own_choice dry (Err e) r is own = subst (λ (z : Result Asked Error). IsOwn z) is own
 
 own_other : (x : Result Other Error) (r : Result Asked Error) → r ≡ as_other x → IsOwn r → IsOwn x
 own_other (Ok c) r is own = tt
@@ -433,8 +439,21 @@ own_new (Err e) r is own = subst (λ (z : Result Asked Error). IsOwn z) is own
 
 runs_own : GivesOwnStep RunsTried
 runs_own w acts more rest left after later q r s (x, p, is) own (y, o, at) other all told =
-    let one = tries_own w acts more rest left after later q x y p (own_reply x r is own) o (own_reply y s at other) all told in
-    record { same = is ∙ (ap (λ z. as_reply z) one.same ∙ sym at); rests = one.rests; world = one.world; told = one.told; also = one.also }
+    let one = tries_own w acts more rest left after later q x y p (own_reply q.config.dry_run x r is own) o (own_reply q.config.dry_run y s at other) all told in
+    record { same = is ∙ (ap (λ z. as_reply q.config.dry_run z) one.same ∙ sym at); rests = one.rests; world = one.world; told = one.told; also = one.also }
+
+-- and so is what words ask for that are chosen
+replies_behind : RepliesOne
+replies_behind c w acts more rest left after later p ends r s h own g other all told = modules_one (RepliesLoaded c p) (loaded_one c p) w acts more rest left after later p ends r s h own g other all told
+
+choices_at : GivesOwnStep ChoosesAt
+choices_at w acts more rest left after later q r s p own o other all told =
+    behind_own_of FindsProjectAt (ChoosesFor q) Ends project_own project_ends (λ v front fore rests lefts behind late k. choices_one answers_one replies_behind q k v front fore rests lefts behind late) w acts more rest left after later q r s p own o other all told
+
+choices_own : GivesOwnStep ChoosesTried
+choices_own w acts more rest left after later q r s (x, p, is) own (y, o, at) other all told =
+    let one = choices_at w acts more rest left after later q x y p (own_choice q.config.dry_run x r is own) o (own_choice q.config.dry_run y s at other) all told in
+    record { same = is ∙ (ap (λ z. as_choice q.config.dry_run z) one.same ∙ sym at); rests = one.rests; world = one.world; told = one.told; also = one.also }
 
 -- a command asks one thing of the justfile in a place
 command_own : (k : Kind) → GivesOwnStep (CommandAsks k)
