@@ -13,12 +13,12 @@ returns-in-Err-locate-clause-asked g c =
     let (listings, passed, grew, why) = c.in-Err-locate.ensures.located in
     location_lost _ (g.H.Host.told c.args.host.now) _ (rw (c.reads_justfile.ensures, c.kind_of.ensures) at c.if-not-reads_justfile.false) listings passed (g.H.Host.told c.locate.new.host) _ c.locate.ensures.world grew why
 
-pub returns-in-Ok-asked_at-clause-asked : goal.returns-in-Ok-asked_at-clause-asked
-returns-in-Ok-asked_at-clause-asked g c =
+pub returns-in-Ok-asked_of-clause-asked : goal.returns-in-Ok-asked_of-clause-asked
+returns-in-Ok-asked_of-clause-asked g c =
     let (listings, passed, grew, finds) = c.in-Ok-locate.ensures.located in
-    place_asked _ (g.H.Host.told c.args.host.now) _ (rw (c.reads_justfile.ensures, c.kind_of.ensures) at c.if-not-reads_justfile.false) listings passed (g.H.Host.told c.locate.new.host) (g.H.Host.told c.asked_at.new.host) grew c.locate.ensures.world _ finds _ _ c.in-Ok-asked_at.ensures.asked
+    place_asked _ (g.H.Host.told c.args.host.now) _ (rw (c.reads_justfile.ensures, c.kind_of.ensures) at c.if-not-reads_justfile.false) listings passed (g.H.Host.told c.locate.new.host) (g.H.Host.told c.asked_of.new.host) grew c.locate.ensures.world _ finds _ _ c.in-Ok-asked_of.ensures.asked
 
-pub returns-in-Err-asked_at-clause-asked : goal.returns-in-Err-asked_at-clause-asked
-returns-in-Err-asked_at-clause-asked g c =
+pub returns-in-Err-asked_of-clause-asked : goal.returns-in-Err-asked_of-clause-asked
+returns-in-Err-asked_of-clause-asked g c =
     let (listings, passed, grew, finds) = c.in-Ok-locate.ensures.located in
-    place_asked _ (g.H.Host.told c.args.host.now) _ (rw (c.reads_justfile.ensures, c.kind_of.ensures) at c.if-not-reads_justfile.false) listings passed (g.H.Host.told c.locate.new.host) (g.H.Host.told c.asked_at.new.host) grew c.locate.ensures.world _ finds _ _ c.in-Err-asked_at.ensures.asked
+    place_asked _ (g.H.Host.told c.args.host.now) _ (rw (c.reads_justfile.ensures, c.kind_of.ensures) at c.if-not-reads_justfile.false) listings passed (g.H.Host.told c.locate.new.host) (g.H.Host.told c.asked_of.new.host) grew c.locate.ensures.world _ finds _ _ c.in-Err-asked_of.ensures.asked
