@@ -8,8 +8,10 @@ pub mod Calls
 pub mod Chain
 pub mod CleaningLaws
 pub mod CleanPaths
+pub mod Choices
 pub mod Climbing
 pub mod Commanding
+pub mod DryLaws
 pub mod Ending
 pub mod Falls
 pub mod Globals
@@ -18,6 +20,7 @@ pub mod Loading
 pub mod Locating
 pub mod NewPath
 pub mod NewJustfile
+pub mod OneChoice
 pub mod OneFile
 pub mod OneLocation
 pub mod OneNew

@@ -93,6 +93,12 @@ abbrev pub invoke_error : Role → HostFault → Error
 invoke_error (role.Editor editor) io = error.EditorInvoke editor io
 invoke_error (role.Command binary arguments) io = error.CommandInvoke binary arguments io
 
+-- the same of one that wasn't started; want of memory is told as itself
+abbrev pub start_error : Role → HostFault → Error
+start_error part (fault.Missed m) = invoke_error part (fault.Missed m)
+start_error part (fault.Failed c) = invoke_error part (fault.Failed c)
+start_error part fault.NoMemory = error.NoMemory
+
 abbrev pub status_error : Role → Status → Error
 status_error (role.Editor editor) ending = error.EditorStatus editor ending
 status_error (role.Command binary arguments) ending = error.CommandStatus binary arguments ending

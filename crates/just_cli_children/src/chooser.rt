@@ -1,6 +1,6 @@
 //! The program in which recipes are chosen.
 
-ghost use Rattle.std.specs.Prelude.{◌≡◌, [], None, Ok, Err, IfOk, IfErr};
+ghost use Rattle.std.specs.Prelude.{ℕ, List, ◌≡◌, [], None, Ok, Err, IfOk, IfErr};
 ghost use Rattle.std.specs.Str.Lossy.{utf8_lossy};
 ghost use Rattle.just_path.specs.Path.{text_of};
 ghost use Rattle.just_cli_plan.specs.Own.{OrMemory, uncaptured_by};
@@ -86,7 +86,7 @@ fn words_of_code(
     ensures words { IfOk result (λ ws. words_of_code chooser ending printed.now ≡ Ok ws) }
     ensures refused { IfErr result (OrMemory (λ e.
         words_of_code chooser ending printed.now ≡ Err e)) }
-    ensures silent { IfErr result (λ e. entries_of [] e ≡ []) }
+    ensures silent { IfErr result (λ e. (path : List ℕ) → entries_of path e ≡ []) }
     ensures captured { IfErr result (λ e. uncaptured_by e ≡ None) }
 {
     match ending {

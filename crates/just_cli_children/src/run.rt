@@ -1,7 +1,7 @@
 //! A child that is run alone.
 
 ghost use Rattle.std.specs.Prelude.{◌≡◌, None};
-ghost use Rattle.just_cli_children.specs.Children.{invoke_error, status_error, ended_so, RunsAlone};
+ghost use Rattle.just_cli_children.specs.Children.{invoke_error, start_error, status_error, ended_so, RunsAlone};
 
 use super::child::{Child, Role};
 use just_exec::Error;
@@ -46,7 +46,9 @@ fn ended_so(role: Role, status: Status) -> Result<(), Error>
 }
 
 /// The error of a child that wasn't started; want of memory is told as itself.
-fn start_error(role: Role, fault: HostFault) -> Error {
+fn start_error(role: Role, fault: HostFault) -> Error
+    ensures { result ≡ start_error role fault }
+{
     match fault {
         HostFault::NoMemory => Error::NoMemory,
         HostFault::Missed(_) | HostFault::Failed(_) => invoke_error(role, fault),
