@@ -1,5 +1,5 @@
 -- A plan is told, and a child is run alone, from what the calls answered.
-use Rattle.std.proofs.Common.{◌≡◌, ◌++◌, Bool, List, [], Option, Some, None, Result, Ok, Err, refl, sym, ◌∙◌, ap, subst, append-nil}
+use Rattle.std.proofs.Common.{◌≡◌, ◌++◌, Bool, List, [], None, Result, Ok, Err, refl, sym, subst}
 use Rattle.just_host_record.specs.World.{Moment}
 use Rattle.just_host_record.specs.declared.entry.Entry.{Entry}
 use Rattle.just_sched_history.specs.declared.event.Event.{Event}

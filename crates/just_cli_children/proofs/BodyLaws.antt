@@ -1,13 +1,12 @@
 -- What bodies start whose commands end well.
-use Rattle.std.proofs.Common.{◌≡◌, ◌<◌, ℕ, zero, suc, Bool, true, false, List, [], ◌∷◌, length, Option, Some, None, refl, sym, ◌∙◌, ap, arith}
+use Rattle.std.proofs.Common.{◌≡◌, ◌<◌, ℕ, zero, suc, Bool, true, false, List, [], ◌∷◌, length, Option, Some, None, refl, ◌∙◌, ap, arith}
 use Rattle.std.specs.Prelude.{◌-◌, ◌&&◌, if◌then◌else◌, slice_get, is_some, pos}
 use Rattle.just_host_record.specs.declared.entry.Status.{Status}
 use Rattle.just_host_record.specs.declared.entry.Status.TheVariants as status
 use Rattle.just_exec_work.specs.declared.work.Command.{Command}
-use Rattle.just_exec_work.specs.declared.work.Step.{Step}
 use Rattle.just_exec_work.specs.declared.work.Step.TheVariants as step
 use Rattle.just_exec_work.specs.declared.work.Work.{Work}
-use Rattle.just_exec_work.specs.Steps.{commands_of, is_code, goes_on, start_or_well, step_behind, after}
+use Rattle.just_exec_work.specs.Steps.{commands_of, is_code, start_or_well, step_behind, after}
 use Rattle.just_cli_children.specs.DryRuns.{zeros, StartsAll}
 
 abbrev zero_code : Status

@@ -1,5 +1,5 @@
 -- What a dry run tells: what a run would whose commands all end with the code 0, and which looks at no cache.
-use Rattle.std.specs.Prelude.{ℕ, ◌≡◌, ◌<◌, List, [], ◌∷◌, ◌++◌, length, replicate, Result, Ok, Err, pos}
+use Rattle.std.specs.Prelude.{ℕ, ◌≡◌, ◌<◌, List, ◌∷◌, ◌++◌, length, replicate, Result, Ok, Err, pos}
 use Rattle.std.specs.List.{flat_map}
 use Rattle.just_host_record.specs.declared.entry.Entry.{Entry}
 use Rattle.just_host_record.specs.declared.entry.Status.{Status}

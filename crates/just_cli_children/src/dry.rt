@@ -1,6 +1,5 @@
 //! What a dry run tells.
 
-ghost use Rattle.std.specs.Prelude.{◌≡◌};
 ghost use Rattle.just_sched_history.specs.Match.{printed_entries};
 ghost use Rattle.just_cli_children.specs.DryRuns.{echoed, told_of, told_of_all, Tells};
 ghost use Rattle.just_exec_work.specs.Steps.{commands_of};

@@ -2,7 +2,7 @@
 
 ghost use Rattle.std.specs.Prelude.{◌≡◌, ◌∷◌, [], IfOk};
 ghost use Rattle.just_path.specs.Path.{text_of};
-ghost use Rattle.just_cli_children.specs.Children.{editor_of, program_spec, editor_child};
+ghost use Rattle.just_cli_children.specs.Children.{editor_of, editor_child};
 
 use super::child::{Child, Role};
 use just_host_record::Spec;

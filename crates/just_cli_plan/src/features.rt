@@ -2,7 +2,6 @@
 
 ghost use Rattle.std.specs.Prelude.{◌≡◌, map};
 ghost use Rattle.std.specs.List.{list_any};
-ghost use Rattle.just_lang_types.specs.Modules.{recipes_of, settings_of};
 ghost use Rattle.just_cli_plan.specs.Features.{is_cached, feature_of, feature_in, unstable_feature};
 
 use just_config::UnstableFeature;

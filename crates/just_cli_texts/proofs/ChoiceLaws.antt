@@ -1,6 +1,6 @@
 -- Lines of recipes that can be chosen, one recipe at a time; and what a chooser is fed.
 use denote.Ref.{Bor}
-use Rattle.std.proofs.Common.{◌≡◌, ◌++◌, inl, inr, ℕ, Bool, true, false, List, [], ◌∷◌, map, filter, Option, Result, Ok, Err, refl, sym, ◌∙◌, ap}
+use Rattle.std.proofs.Common.{◌≡◌, ◌++◌, ℕ, Bool, true, false, List, [], ◌∷◌, map, filter, Option, Result, Ok, Err, refl, ◌∙◌, ap}
 use Rattle.std.specs.Prelude.{if◌then◌else◌}
 use Rattle.std.specs.Option.{option_copied}
 use Rattle.just_lang_types.specs.declared.project.Justfile.{Justfile}

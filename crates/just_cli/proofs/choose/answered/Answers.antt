@@ -1,5 +1,4 @@
 -- The chooser answers, which is run by the shell of the root.
-use Rattle.just_cli_texts.specs.Laid.{LaidRequest}
 use Rattle.just_cli.specs.Taken.{laid_in}
 use Rattle.just_cli.proofs.Choices.{unanswered, chooser_answers}
 use Rattle.just_cli.proofs.choose.answered.Goals as goal

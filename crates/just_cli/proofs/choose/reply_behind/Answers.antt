@@ -1,6 +1,5 @@
 -- The reply stands, or another justfile is asked.
 use Rattle.std.proofs.Common.{refl}
-use Rattle.just_cli_texts.specs.Laid.{LaidRequest}
 use Rattle.just_cli.specs.Taken.{laid_in}
 use Rattle.just_cli.proofs.Choices.{behind_planned, behind_refused, behind_highest, behind_unlooked, behind_next}
 use Rattle.just_cli.proofs.choose.reply_behind.Goals as goal

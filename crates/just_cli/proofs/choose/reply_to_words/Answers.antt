@@ -1,5 +1,4 @@
 -- There is no word, or they are those of a run.
-use Rattle.just_cli_texts.specs.Laid.{LaidRequest}
 use Rattle.just_cli.specs.Taken.{laid_in}
 use Rattle.just_cli.specs.Words.{LocatedRequest}
 use Rattle.just_cli.proofs.Choices.{no_words, words_short, words_replied, words_refused}

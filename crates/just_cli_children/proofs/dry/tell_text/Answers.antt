@@ -1,5 +1,4 @@
 -- It is told, or isn't; an empty one is none.
-use Rattle.std.proofs.Common.{◌∷◌, refl, sym, ap, subst}
 use Rattle.just_cli_children.proofs.DryLaws.{empty_told, text_told, text_untold}
 use Rattle.just_cli_children.proofs.dry.tell_text.Goals as goal
 

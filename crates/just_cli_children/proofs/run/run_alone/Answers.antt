@@ -1,6 +1,6 @@
 -- The child is started, waited for and settled; or one of these is refused.
 use Rattle.just_cli_children.specs.Children.{RunsAlone}
-use Rattle.std.proofs.Common.{refl, sym}
+use Rattle.std.proofs.Common.{refl}
 use Rattle.just_cli_children.proofs.ChildLaws.{unstarted_so, waited_well, waited_ill}
 use Rattle.just_cli_children.proofs.run.run_alone.Goals as goal
 
