@@ -14,6 +14,7 @@ pub mod Commanding
 pub mod DryLaws
 pub mod Ending
 pub mod Falls
+pub mod FolderActs
 pub mod Globals
 pub mod Laws
 pub mod Loading

@@ -3,6 +3,7 @@ pub mod Acts
 pub mod Altered
 pub mod Answered
 pub mod Asked
+pub mod Childless
 pub mod Choosing
 pub mod Cleaning
 pub mod Commands

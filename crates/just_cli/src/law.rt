@@ -1,8 +1,15 @@
-//! Which of the justfiles that are tried answers.
+//! Which of the justfiles that are tried answers, and what a dry run leaves undone.
+ghost use Rattle.just_cli.specs.Childless.{RunsNoChild};
 ghost use Rattle.just_cli.specs.Whole.{FirstAnswers};
 
 /// Over a told world the answer of the justfiles that are tried is that of the first in the whole list of those that `fallback` leads to that lacks nothing of what is asked
 /// for, or of the last of them. It does nothing; its contract is a law.
 pub fn first_answers()
     ensures { FirstAnswers }
+{}
+
+/// A dry run runs no child: of arguments without a command that ask for one, whatever they come to and whatever was begun of them, nothing is done beside what is
+/// looked at but temporary folders that are made. It does nothing; its contract is a law.
+pub fn dry_runs_run_no_child()
+    ensures { RunsNoChild }
 {}
