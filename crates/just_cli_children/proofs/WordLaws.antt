@@ -1,8 +1,17 @@
 -- Words of a text, one character at a time.
-use Rattle.std.proofs.Common.{◌≡◌, ◌++◌, ℕ, true, false, List, [], ◌∷◌, refl, sym, ◌∙◌, ap, append_assoc}
+use Rattle.std.proofs.Common.{◌≡◌, ◌==◌, ◌++◌, ℕ, true, false, List, [], ◌∷◌, length, refl, sym, ◌∙◌, ap, append_assoc, append-nil}
 use Rattle.std.specs.Prelude.{if◌then◌else◌, encode_utf8}
 use Rattle.std.specs.Char.{is_whitespace}
 use Rattle.just_cli_children.specs.Words.{ended, words_from}
+
+-- an empty word is none, and any other stands alone
+pub ended_none : (words : List (List ℕ)) (word : List ℕ) → (length word == 0) ≡ true → words ≡ words ++ ended word []
+ended_none words [] empty = sym (append-nil words)
+ended_none words (b ∷ bs) empty = absurd (let no : ⊥ = cc in no)
+
+pub ended_some : (words new : List (List ℕ)) (word : List ℕ) → (length word == 0) ≡ false → new ≡ words ++ word ∷ [] → new ≡ words ++ ended word []
+ended_some words new [] some added = absurd (let no : ⊥ = cc in no)
+ended_some words new (b ∷ bs) some added = added
 
 -- a word that has ended stands in front of others
 pub ended_behind : (word : List ℕ) (words : List (List ℕ)) → ended word [] ++ words ≡ ended word words

@@ -8,10 +8,11 @@ use just_path_text::{NoMemory, Seq, Text};
 use std::alloc::Global;
 
 /// Adds a word that has ended, where it isn't empty.
+#[tactic(auto, using(crate::proofs::WordLaws::ended_none, crate::proofs::WordLaws::ended_some))]
 fn end_word(words: &mut Vec<Text>, word: String) -> Result<(), NoMemory>
     ensures { OnOk result (words.new.items ≡ words.old.items ++ ended (string_bytes word) []) }
 {
-    if word.is_empty() {
+    if word.as_str().is_empty() {
         return Ok(());
     }
     words.push(Text::from(word))?;
