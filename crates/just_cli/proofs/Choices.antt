@@ -17,11 +17,11 @@ use Rattle.just_cli_plan.specs.Pairs.{Runs}
 use Rattle.just_cli_texts.specs.Choices.{fed_unless_none}
 use Rattle.just_cli_texts.specs.Laid.{LaidRequest}
 use Rattle.just_cli_children.specs.Choosers.{RunsChooser, BeginsChooser}
-use Rattle.just_cli_children.specs.Configs.{with_words}
+use Rattle.just_cli_children.specs.Configs.{with_words, is_any}
 use Rattle.just_cli_children.specs.Faults.{entries_of}
 use Rattle.just_cli.specs.Acts.{Act, Behind, BeginsBehind}
 use Rattle.just_cli.specs.Choosing.{shell_for, chooser_for, project_for, request_for, falls_from, FeedsFor, AsksChooser, BeginsAsking, Chooses, BeginsChooses, TriesBehind, BeginsTriesBehind, RunsWords, BeginsWords, ChoosesFor, BeginsChoosesFor, ChoosesAt, BeginsChoosesAt, as_some}
-use Rattle.just_cli.specs.Options.{is_any, is_lacking, is_missing, empty_outline, allowed}
+use Rattle.just_cli.specs.Options.{is_lacking, is_missing, empty_outline, allowed}
 use Rattle.just_cli.specs.Preparing.{Answers, Performs}
 use Rattle.just_cli.specs.Replies.{Reply}
 use Rattle.just_cli.specs.Request.{FindsProjectAt, RepliesTo, BeginsProject, BeginsPairs, BeginsFrom}

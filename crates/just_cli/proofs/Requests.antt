@@ -26,7 +26,8 @@ use Rattle.just_host_record.specs.declared.entry.Entry.{Entry}
 use Rattle.just_config.specs.declared.config.Config.{Config}
 use Rattle.just_env.specs.Answers.{entries_of}
 use Rattle.just_search.specs.declared.location.Location.{Location}
-use Rattle.just_cli.specs.Options.{cache_beside, wanted_of, allowed}
+use Rattle.just_cli_children.specs.Configs.{cache_beside, wanted_of}
+use Rattle.just_cli.specs.Options.{allowed}
 use Rattle.just_cli.specs.Words.{WordsRequest, ReadRequest, FolderRequest, ConfigRequest, LocatedRequest, JustfileRequest, FindsEnviron, ReadsWords, FindsFolder, Configures, FindsLocation, FindsJustfile, TakesFile}
 use Rattle.just_exec.specs.Refusals.{error_of_search}
 use Rattle.just_lang_types.specs.Modules.{settings_of, AreModules}

@@ -26,7 +26,7 @@ use Rattle.just_cli_children.specs.Children.{editor_child, words_child}
 use Rattle.just_cli.specs.declared.task.Other.{Other}
 use Rattle.just_cli.specs.declared.task.Other.TheVariants as no_run
 use Rattle.just_cli.specs.Acts.{Step, Begun, NoAct, Looks, Behind, BeginsBehind}
-use Rattle.just_cli.specs.Options.{is_any}
+use Rattle.just_cli_children.specs.Configs.{is_any}
 use Rattle.just_cli.specs.Request.{FindsProjectAt, WithModules, LoadsPairs, BeginsProject, BeginsAt}
 use Rattle.just_cli.specs.Words.{LocatedRequest, JustfileRequest, TakesFile, BeginsFile}
 

@@ -22,7 +22,7 @@ use Rattle.just_cli_plan.specs.declared.wanted.Wanted.{Wanted}
 use Rattle.just_search.specs.declared.search_result.Search.{Search}
 use Rattle.just_search.specs.Files.{parent_of, Materializes}
 use Rattle.just_cli.specs.Acts.{Act, Step, Begun}
-use Rattle.just_cli.specs.Options.{cache_beside, wanted_of}
+use Rattle.just_cli_children.specs.Configs.{cache_beside, wanted_of}
 
 -- ---- what is known behind each step; the environment goes along, since values ask it too
 

@@ -7,12 +7,11 @@ ghost use Rattle.just_cli.specs.Preparing.{as_asked, as_chosen};
 ghost use Rattle.just_cli.specs.Taken.{laid_in, PerformsAnswer, PerformsChoosing, PerformsBehind, PerformsAllowed, PerformsWords, PerformsChoices};
 
 use super::Error;
-use super::options::is_any;
 use super::place::project_at;
 use super::replied::Replied;
 use super::reply::reply_of;
 use super::tried::{falls_back, is_allowed, plan_nothing, reply_from};
-use just_cli_children::{choose, chooser_of, wanted_with, with_words};
+use just_cli_children::{choose, chooser_of, is_any, wanted_with, with_words};
 use just_cli_plan::Wanted;
 use just_cli_texts::{LaidJustfile, feed};
 use just_config::Config;

@@ -28,11 +28,10 @@ ghost use Rattle.just_cli.specs.Tasks.{IsCommand};
 ghost use Rattle.just_exec.specs.declared.error.Error.{Error};
 
 use super::Error;
-use super::options::is_any;
 use super::place::project_at;
 use super::taken::take;
 use super::task::Other;
-use just_cli_children::{editor_child, words_child};
+use just_cli_children::{editor_child, is_any, words_child};
 use just_cli_plan::{Wanted, load_pairs, scopes_of};
 use just_cli_texts::{Kind, LaidJustfile, alone, evaluate, formatted, names_of, prints, words_of};
 use just_config::Config;

@@ -1,7 +1,89 @@
--- The configuration of a run in the place of a command.
-use Rattle.std.specs.Prelude.{ℕ, List, None}
+-- What a configuration asks of a justfile; and the configuration of a run in the place of a command.
+use Rattle.std.specs.Prelude.{ℕ, Bool, true, false, not, ◌||◌, if◌then◌else◌, nat_le, List, [], ◌∷◌, Option, Some, None, option_map}
+use Rattle.just_config_words.specs.declared.subcommand.Subcommand.{Subcommand}
+use Rattle.just_config_words.specs.declared.subcommand.Subcommand.TheVariants as command
 use Rattle.just_config.specs.declared.config.Config.{Config}
+use Rattle.just_config.specs.Verbosities.{level}
+use Rattle.just_search.specs.Finding.{folder_of, given_path}
+use Rattle.just_env.specs.declared.ask.DotenvAsk.{DotenvAsk}
+use Rattle.just_exec_work.specs.declared.run_flags.RunFlags.{RunFlags}
+use Rattle.just_cache.specs.Places.{cache_folder}
 use Rattle.just_cli_plan.specs.declared.wanted.Wanted.{Wanted}
+
+-- ---- what is asked for
+
+-- whether there is a text
+abbrev pub is_any : List (List ℕ) → Bool
+is_any [] = false
+is_any (t ∷ ts) = true
+
+-- the arguments of the shell, where some are given or all are cleared
+abbrev pub shell_args_of : Config → Option (List (List ℕ))
+shell_args_of c = if c.clear_shell_args || is_any c.shell_arg then Some c.shell_arg else None
+
+-- whether a command prints the paths of recipes
+abbrev pub is_summary : Option Subcommand → Bool
+is_summary None = false
+is_summary (Some (command.Choose ws)) = false
+is_summary (Some (command.Clean ws)) = false
+is_summary (Some (command.Command ws)) = false
+is_summary (Some (command.Dump ws)) = false
+is_summary (Some (command.Edit ws)) = false
+is_summary (Some (command.Evaluate ws)) = false
+is_summary (Some (command.Fmt ws)) = false
+is_summary (Some (command.Groups ws)) = false
+is_summary (Some (command.Init ws)) = false
+is_summary (Some (command.List ws)) = false
+is_summary (Some (command.Request ws)) = false
+is_summary (Some (command.Show ws)) = false
+is_summary (Some (command.Summary ws)) = true
+is_summary (Some (command.Usage ws)) = false
+is_summary (Some (command.Variables ws)) = false
+
+-- whether unstable features are allowed: by the words, or for the paths of recipes alone
+abbrev pub allows_unstable : Config → Bool
+allows_unstable c = c.unstable || is_summary c.subcommand
+
+-- how recipes are run, in that working folder. The folder of the words for temporary ones is under that of the call, and clean
+abbrev pub flags_of : Config → List ℕ → RunFlags
+flags_of c folder =
+    record {
+      shell = c.shell;
+      shell_args = shell_args_of c;
+      quiet = nat_le (level c.verbosity) 0;
+      loquacious = nat_le 2 (level c.verbosity);
+      dry_run = c.dry_run;
+      no_cache = c.no_cache;
+      yes = c.yes;
+      explain = c.explain;
+      tempdir = option_map (given_path c) c.tempdir;
+      folder = folder;
+    }
+
+-- which dotenv files are asked for
+abbrev pub dotenv_of : Config → DotenvAsk
+dotenv_of c = record { commands = c.dotenv_command; filenames = c.dotenv_filename; paths = c.dotenv_path; load = not c.no_dotenv; dry_run = c.dry_run }
+
+-- the folder of the cache of a justfile's recipes: beside the file
+abbrev pub cache_beside : List ℕ → List ℕ
+cache_beside file = cache_folder (folder_of file)
+
+-- what is asked of a justfile that is run in the first of these folders, and whose cache is the other
+abbrev pub wanted_of : Config → List ℕ → List ℕ → Wanted
+wanted_of c folder cache =
+    record {
+      words = c.arguments;
+      overrides = c.overrides;
+      one = c.one;
+      no_deps = c.no_deps;
+      dotenv = dotenv_of c;
+      unstable = allows_unstable c;
+      jobs = c.jobs;
+      cache_folder = cache;
+      flags = flags_of c folder;
+    }
+
+-- ---- a run in the place of a command
 
 -- the same, whose command is gone, and whose words are these
 abbrev pub with_words : Config → List (List ℕ) → Config

@@ -14,6 +14,7 @@ mod faults;
 mod law;
 mod run;
 mod text_words;
+mod wants;
 mod words;
 
 pub use child::{Child, Role};
@@ -30,4 +31,5 @@ pub use just_path_text::{NoMemory, Seq, Text};
 pub use just_sched_history::Plan;
 pub use law::well_bodies_start_all;
 pub use run::run_alone;
+pub use wants::{is_any, wanted};
 pub use words::words_child;
