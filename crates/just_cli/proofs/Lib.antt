@@ -9,6 +9,7 @@ pub mod Chain
 pub mod CleaningLaws
 pub mod CleanPaths
 pub mod Choices
+pub mod ChosenLaws
 pub mod Climbing
 pub mod Commanding
 pub mod DryLaws

@@ -5,6 +5,7 @@ pub mod Answered
 pub mod Asked
 pub mod Childless
 pub mod Choosing
+pub mod ChosenRuns
 pub mod Cleaning
 pub mod Commands
 pub mod Dry
