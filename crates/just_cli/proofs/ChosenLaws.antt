@@ -3,14 +3,14 @@ use Rattle.std.proofs.Common.{◌≡◌, ◌++◌, ℕ, Bool, true, List, [], �
 use Rattle.std.specs.Prelude.{◌||◌}
 use Rattle.just_host_record.specs.World.{World}
 use Rattle.just_lang_types.specs.Modules.{AreModules}
-use Rattle.just_lang.specs.Projects.{IsJustfileOfSources}
+use Rattle.just_lang.specs.Assembled.{IsJustfileOfSources}
 use Rattle.just_config_words.specs.declared.subcommand.Subcommand.{Subcommand}
 use Rattle.just_config_words.specs.declared.subcommand.Subcommand.TheVariants as command
 use Rattle.just_config.specs.declared.config.Config.{Config}
 use Rattle.just_exec.specs.declared.error.Error.{Error}
 use Rattle.just_cli_plan.specs.Features.{unstable_feature}
 use Rattle.just_cli_plan.specs.Request.{SourcesRequest, ProjectRequest, FindsProject}
-use Rattle.just_cli_plan.specs.Steps.{Then, stops, goes_on}
+use Rattle.just_cli_plan.specs.Steps.{stops, goes_on}
 use Rattle.just_cli_plan.specs.declared.wanted.Wanted.{Wanted}
 use Rattle.just_cli_plan.proofs.Steps.{refused_or_found}
 use Rattle.just_cli_texts.specs.Laid.{LaidRequest, project_with, FindsLaid}
