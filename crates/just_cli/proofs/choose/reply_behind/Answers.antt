@@ -11,13 +11,13 @@ pub returns-then-not-falls_back : goal.returns-then-not-falls_back
 returns-then-not-falls_back g c =
     behind_refused _ _ (laid_in c.args.wanted c.args.environ.now c.args.laid) (g.H.Host.told c.args.host.now) _ (g.H.Host.told c.reply_of-replied.new.host) _ _ refl _ c.falls_back.ensures (rw c.in-Err.is at c.reply_of-replied.ensures) c.if-not-falls_back.true
 
-pub returns-in-Some : goal.returns-in-Some
-returns-in-Some g c =
+pub returns-in-Ok-Some : goal.returns-in-Ok-Some
+returns-in-Ok-Some g c =
     behind_next _ _ (laid_in c.args.wanted c.args.environ.now c.args.laid) (g.H.Host.told c.args.host.now) _ (g.H.Host.told c.reply_of-replied.new.host) _ _ refl _ c.falls_back.ensures (rw c.in-Err.is at c.reply_of-replied.ensures) c.if-not-falls_back.false
     (g.H.Host.told c.find_fallback.new.host) c.find_fallback.ensures.world _ (rw c.as_path.ensures at c.in-Ok-Some.ensures.found) c.in-Ok-Some.ensures.entries (g.H.Host.told c.reply_from.new.host) _ _ c.reply_from.ensures
 
-pub returns-in-None : goal.returns-in-None
-returns-in-None g c =
+pub returns-in-Ok-None : goal.returns-in-Ok-None
+returns-in-Ok-None g c =
     behind_highest _ _ (laid_in c.args.wanted c.args.environ.now c.args.laid) (g.H.Host.told c.args.host.now) _ (g.H.Host.told c.reply_of-replied.new.host) _ _ refl _ c.falls_back.ensures (rw c.in-Err.is at c.reply_of-replied.ensures) c.if-not-falls_back.false
     (g.H.Host.told c.find_fallback.new.host) c.find_fallback.ensures.world (rw c.as_path.ensures at c.in-Ok-None.ensures.found) c.in-Ok-None.ensures.entries
 

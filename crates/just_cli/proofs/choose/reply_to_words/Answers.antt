@@ -9,8 +9,8 @@ returns-then-not-is_any g c =
     let q : LocatedRequest = record { config = c.args.config; environ = c.args.environ.now; location = c.args.location } in
     no_words q (laid_in c.args.wanted c.args.environ.now c.args.laid) (g.H.Host.told c.args.host.now) _ c.args.words (rw c.is_any.ensures at c.if-not-is_any.true)
 
-pub returns-in-Err-copies : goal.returns-in-Err-copies
-returns-in-Err-copies g c =
+pub returns-in-Err : goal.returns-in-Err
+returns-in-Err g c =
     let q : LocatedRequest = record { config = c.args.config; environ = c.args.environ.now; location = c.args.location } in
     words_short q (laid_in c.args.wanted c.args.environ.now c.args.laid) (g.H.Host.told c.args.host.now) _ c.args.words (rw c.is_any.ensures at c.if-not-is_any.false)
 
