@@ -53,8 +53,7 @@ module _ (words : List (List ℕ)) where
   project_too s p k wanted environ (stops e lost is) same = absurd (refused_or_found e k (sym is))
   project_too s p k wanted environ (goes_on z assembles checks) same =
       let here : project_with p k.modules ≡ z = sym same ∙ checks.1 in
-      goes_on (project_with (project_for p words) k.modules)
-      (
+      goes_on (project_with (project_for p words) k.modules) (
         ap (λ (w : Wanted). wanted_with w words) wanted,
         environ,
         subst (λ (y : ProjectRequest). IsJustfileOfSources s.sources s.environ.pairs y.justfile) (sym here) assembles.2,
