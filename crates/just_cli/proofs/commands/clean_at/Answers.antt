@@ -4,6 +4,7 @@ use Rattle.just_cli.specs.Acts.{Looks, NoAct}
 use Rattle.just_cli.specs.Commands.{CleansIt}
 use Rattle.just_cli.specs.declared.task.Other.{Other}
 use Rattle.just_exec.specs.declared.error.Error.{Error}
+use Rattle.just_exec.specs.declared.error.Error.TheVariants as error
 use Rattle.std.specs.Prelude.{Result, Ok}
 use Rattle.just_cli.proofs.CleanPaths.{is_clean}
 use Rattle.just_cli.proofs.Commanding.{project_lost, project_then, look_found, look_refused}
@@ -22,7 +23,7 @@ pub returns-clause-cleans : goal.returns-clause-cleans
 returns-clause-cleans g c =
     let now = g.H.Host.told c.project_at.new.host in
     project_then (Looks (λ told. CleansIt c.args.config.now)) NoAct _ (g.H.Host.told c.args.host.now) _ now now _ _ c.in-Ok.ensures.project _
-    (look_refused (CleansIt c.args.config.now) now _ _ refl (inl refl))
+    (look_refused (CleansIt c.args.config.now) now _ error.NoMemory refl (inl refl))
 
 pub returns-in-Ok-clean_of-clause-found : goal.returns-in-Ok-clean_of-clause-found
 returns-in-Ok-clean_of-clause-found g c = is_clean _ _ _ c.in-Ok-clean_of.ensures.cleans
