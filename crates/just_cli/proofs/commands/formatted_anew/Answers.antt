@@ -14,8 +14,8 @@ pub returns-in-Ok-clause-silent : goal.returns-in-Ok-clause-silent
 returns-in-Ok-clause-silent c =
     formats_silent c.args.config.now _ c.args.source.now c.args.file c.args.path _ (inr (anew_found c.args.config.now _ c.args.source.now c.args.file c.args.path _ c.in-Ok.ensures.text _ (rw c.as_str.ensures at c.in-Err-anew.ensures.anew)))
 
-pub returns-in-Err-clause-refused : goal.returns-in-Err-clause-refused
-returns-in-Err-clause-refused c = source_refused c.args.config.now _ c.args.source.now c.args.file c.args.path _ c.in-Err.ensures.refused
+pub returns-clause-refused : goal.returns-clause-refused
+returns-clause-refused c = source_refused c.args.config.now _ c.args.source.now c.args.file c.args.path _ c.in-Err.ensures.refused
 
-pub returns-in-Err-clause-silent : goal.returns-in-Err-clause-silent
-returns-in-Err-clause-silent c = formats_silent c.args.config.now _ c.args.source.now c.args.file c.args.path _ (source_refused c.args.config.now _ c.args.source.now c.args.file c.args.path _ c.in-Err.ensures.refused)
+pub returns-clause-silent : goal.returns-clause-silent
+returns-clause-silent c = formats_silent c.args.config.now _ c.args.source.now c.args.file c.args.path _ (source_refused c.args.config.now _ c.args.source.now c.args.file c.args.path _ c.in-Err.ensures.refused)

@@ -9,6 +9,6 @@ pub returns-in-Ok-laid_of-clause-project : goal.returns-in-Ok-laid_of-clause-pro
 returns-in-Ok-laid_of-clause-project g c =
     place_found _ _ _ (g.H.Host.told c.args.host.now) _ (g.H.Host.told c.take.new.host) (g.H.Host.told c.laid_of.new.host) _ _ _ c.in-Ok.ensures c.laid_of.ensures.world _ c.in-Ok-laid_of.ensures.grew (rw c.as_path.ensures at c.in-Ok-laid_of.ensures.project)
 
-pub returns-in-Err-laid_of-clause-project : goal.returns-in-Err-laid_of-clause-project
-returns-in-Err-laid_of-clause-project g c =
+pub returns-clause-project : goal.returns-clause-project
+returns-clause-project g c =
     place_lost _ _ _ (g.H.Host.told c.args.host.now) _ (g.H.Host.told c.take.new.host) (g.H.Host.told c.laid_of.new.host) _ _ _ c.in-Ok.ensures c.laid_of.ensures.world _ c.in-Err-laid_of.ensures.grew (rw c.as_path.ensures at c.in-Err-laid_of.ensures.refused)
