@@ -1,11 +1,15 @@
 -- A text that a command prints; or that isn't printed.
 use Rattle.std.specs.Prelude.{ℕ, ◌≡◌, ◌++◌, Bool, false, if◌then◌else◌, List, [], ◌∷◌, Option, Some, None, Result, IfOk, IfErr}
+use Rattle.just_host_record.specs.declared.entry.Call.TheVariants as call
 use Rattle.just_host_record.specs.declared.entry.Entry.{Entry}
 use Rattle.just_host_record.specs.declared.entry.Entry.TheVariants as entry
+use Rattle.just_host_record.specs.declared.entry.HostFault.TheVariants as fault
 use Rattle.just_host_record.specs.declared.entry.Stream.TheVariants as stream
 use Rattle.just_host_record.specs.World.{Moment}
 use Rattle.just_exec.specs.Codes.{exit_code}
 use Rattle.just_exec.specs.declared.error.Error.{Error}
+use Rattle.just_exec.specs.declared.error.Error.TheVariants as error
+use Rattle.just_cli_plan.specs.Own.{OrMemory}
 use Rattle.just_cli_texts.specs.declared.printed.Printed.{Printed}
 use Rattle.just_cli.specs.declared.ended.Failure.{Failure}
 use Rattle.just_cli.specs.declared.ended.Report.{Report}
@@ -25,6 +29,10 @@ told_line quiet line = if quiet then [] else entry.Printed stream.Err line ∷ [
 abbrev pub told_beside : Bool → Option (List ℕ) → List Entry
 told_beside quiet None = []
 told_beside quiet (Some line) = told_line quiet line
+
+-- why a line that goes with something isn't told: memory is wanting; or it was to be told, and its print failed
+abbrev pub IsUntold : Bool → Error → Type 0
+IsUntold quiet e = OrMemory (λ x. (quiet ≡ false) × (x ≡ error.StdoutIo (fault.Failed call.Print))) e
 
 -- behind some entries the error is told
 abbrev pub TellsError : Bool → Error → List Entry → List Entry → Type 0

@@ -11,10 +11,10 @@ pub returns-then-is_new-clause-refused : goal.returns-then-is_new-clause-refused
 returns-then-is_new-clause-refused g c = all_unasked_as _ kind.New (new_then _ (rw (c.is_new.ensures, c.kind_of.ensures) at c.if-is_new.true)) _ _ _ c.new_alone.ensures.refused
 
 pub returns-in-Ok-clause-asked : goal.returns-in-Ok-clause-asked
-returns-in-Ok-clause-asked g c = alone_as _ kind.Respond (responds_then _ (rw (c.is_new.ensures, c.kind_of.ensures) at c.if-is_new.false) c.requires) _ _ _ c.in-Ok.ensures.asked
+returns-in-Ok-clause-asked g c = alone_as _ kind.Respond (responds_then _ (rw (c.is_new.ensures, c.kind_of.ensures) at c.if-is_new.false) c.requires.alone) _ _ _ c.in-Ok.ensures.asked
 
 pub returns-in-Err-clause-refused : goal.returns-in-Err-clause-refused
-returns-in-Err-clause-refused g c = unasked_as _ kind.Respond (responds_then _ (rw (c.is_new.ensures, c.kind_of.ensures) at c.if-is_new.false) c.requires) _ _ _ c.in-Err.ensures.refused
+returns-in-Err-clause-refused g c = unasked_as _ kind.Respond (responds_then _ (rw (c.is_new.ensures, c.kind_of.ensures) at c.if-is_new.false) c.requires.alone) _ _ _ c.in-Err.ensures.refused
 
 pub returns-in-Err-clause-grew : goal.returns-in-Err-clause-grew
 returns-in-Err-clause-grew g c = left_nothing _ _ c.in-Err.ensures.silent
