@@ -187,7 +187,7 @@ fn asked_of<H: Host>(
     made: &mut Vec<Utf8PathBuf>,
     host: &mut H,
 ) -> Result<Task, Error>
-    requires { reads_justfile (kind_of config.subcommand) ≡ true }
+    requires reads { reads_justfile (kind_of config.subcommand) ≡ true }
     ensures asked { PerformsAsked
         (record { config = config; environ = environ.now; location = location })
         (H.told host.old) (H.told host.new) made.old.items made.new.items (as_task result) }

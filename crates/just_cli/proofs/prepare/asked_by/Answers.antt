@@ -6,11 +6,11 @@ use Rattle.just_cli.proofs.prepare.asked_by.Goals as goal
 
 pub asked_alone-requires-clause-alone : goal.asked_alone-requires-clause-alone
 asked_alone-requires-clause-alone g c =
-    let alone : reads_justfile (kind_of c.args.config.now.subcommand) ≡ false = rw (c.reads_justfile.ensures, c.kind_of.ensures) at c.if-not-reads_justfile.true in search rules
+    let alone : reads_justfile (kind_of c.args.config.subcommand) ≡ false = rw (c.reads_justfile.ensures, c.kind_of.ensures) at c.if-not-reads_justfile.true in search rules
 
-pub asked_at-requires-clause-reads : goal.asked_at-requires-clause-reads
-asked_at-requires-clause-reads g c =
-    let reads : reads_justfile (kind_of c.args.config.now.subcommand) ≡ true = rw (c.reads_justfile.ensures, c.kind_of.ensures) at c.if-not-reads_justfile.false in search rules
+pub asked_of-requires-clause-reads : goal.asked_of-requires-clause-reads
+asked_of-requires-clause-reads g c =
+    let reads : reads_justfile (kind_of c.args.config.subcommand) ≡ true = rw (c.reads_justfile.ensures, c.kind_of.ensures) at c.if-not-reads_justfile.false in search rules
 
 pub returns-in-Ok-clause-asked : goal.returns-in-Ok-clause-asked
 returns-in-Ok-clause-asked g c = alone_found _ (g.H.Host.told c.args.host.now) _ (rw (c.reads_justfile.ensures, c.kind_of.ensures) at c.if-not-reads_justfile.true) (g.H.Host.told c.asked_alone.new.host) c.asked_alone.ensures.world _ c.in-Ok.ensures.grew c.in-Ok.ensures.asked

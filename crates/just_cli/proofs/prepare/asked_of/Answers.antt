@@ -1,10 +1,12 @@
 -- What is chosen answers, or what is asked of the justfile in its place.
-use Rattle.std.proofs.Common.{sym}
+use Rattle.std.proofs.Common.{◌≡◌, false, rules, sym}
+use Rattle.just_cli_texts.specs.Kinds.{kind_of, is_choice}
 use Rattle.just_cli.proofs.Commanding.{chooses_then, choice_asked, choice_lost}
 use Rattle.just_cli.proofs.prepare.asked_of.Goals as goal
 
-pub asked_at-given-requires : goal.asked_at-given-requires
-asked_at-given-requires g c = rw (c.is_choice.ensures, c.kind_of.ensures) at c.if-not-is_choice.true
+pub asked_at-requires-clause-given : goal.asked_at-requires-clause-given
+asked_at-requires-clause-given g c =
+    let given : is_choice (kind_of c.args.config.subcommand) ≡ false = rw (c.is_choice.ensures, c.kind_of.ensures) at c.if-not-is_choice.true in search rules
 
 pub returns-in-Ok-choose_tried-clause-asked : goal.returns-in-Ok-choose_tried-clause-asked
 returns-in-Ok-choose_tried-clause-asked g c =
