@@ -2,7 +2,7 @@
 use Rattle.std.proofs.Common.{◌++◌, ◌∷◌, ◌∙◌, refl}
 use Rattle.std.proofs.lemmas.Grind.{put_two}
 use Rattle.just_print.specs.SmallTexts.{ticked}
-use Rattle.just_print.proofs.Written.{text_here}
+use Rattle.just_exec.proofs.Written.{text_here}
 use Rattle.just_exec.proofs.children.tell_behind.Goals as goal
 
 pub texts-preserved : goal.texts-preserved
