@@ -42,7 +42,7 @@ fn tell_work<H: Host>(host: &mut H, work: &Work) -> Result<(), Error>
 {
     match work {
         Work::Lines(commands) => tell_echoes(host, commands.as_slice()),
-        Work::Script(command) => tell_text(host, command.echo.as_str()),
+        Work::Script(command) => tell_text(host, command.get().echo.as_str()),
         Work::Empty => Ok(()),
     }
 }
