@@ -37,7 +37,7 @@ fn scope_of<'s>(scopes: &'s Scopes, path: &Modulepath) -> Option<&'s Scope>
 
 /// The levels of a scope, if there is one.
 fn levels_in<'s>(scope: Option<&'s Scope>) -> &'s [Level]
-    ensures { result.now ≡ levels_in (option_copied scope) }
+    ensures { result.now ≡ levels_in (option_copied scope.entry) }
 {
     match scope {
         Some(scope) => scope.levels.as_slice(),
