@@ -1,5 +1,5 @@
 -- A cache is cleaned and told of, from what the calls answered.
-use Rattle.std.proofs.Common.{◌≡◌, ◌++◌, inl, inr, append-nil, ℕ, ◌==◌, ◌≢◌, eq-eqb, ne_eqb, Bool, false, List, [], ◌∷◌, Option, Some, None, Result, Ok, Err, refl, sym, ap, ◌∙◌, subst, append_assoc}
+use Rattle.std.proofs.Common.{◌≡◌, ◌++◌, inl, inr, append-nil, ℕ, ◌==◌, ◌≢◌, eq-eqb, ne_eqb, Bool, false, List, [], Option, Some, None, Result, Ok, Err, refl, sym, ap, ◌∙◌, subst, append_assoc}
 use denote.Ref.{Bor}
 use Rattle.std.specs.Option.{option_copied}
 use Rattle.std.specs.Prelude.{if◌then◌else◌, codes, decimal, IfOk, IfErr, IfSome}

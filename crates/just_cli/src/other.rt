@@ -39,7 +39,7 @@ fn show_version<H: Host>(alloc: Global, host: H) -> Ended<H>
 /// Does what words ask for that is no run: prints a text to standard output, writes a justfile, cleans a cache, or runs a child alone. It waits for that
 /// child.
 pub(crate) fn do_other<H: Host>(alloc: Global, host: H, other: Other, quiet: bool) -> Ended<H>
-    requires { HasPath other }
+    requires path { HasPath other }
     ensures { Does other quiet (H.told host) (H.told result.host) result.result }
 {
     match other {
