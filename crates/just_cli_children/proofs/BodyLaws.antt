@@ -29,11 +29,15 @@ last_zero : (n : ℕ) → slice_get (zeros (suc n)) n ≡ Some zero_code
 last_zero zero = refl
 last_zero (suc n) = last_zero n
 
+less_one : (m : ℕ) → suc m - 1 ≡ m
+less_one m = omega (arith)
+
 after_zeros : (w : Work) (n : ℕ) → after w (zeros n) ≡ start_or_well w n
 after_zeros w zero = refl
 after_zeros w (suc n) =
-    ap (λ k. step_behind w (suc k) (slice_get (commands_of w) k) (slice_get (zeros (suc n)) k)) (length_zeros n)
-    ∙ (ap (λ (o : Option Status). step_behind w (suc n) (slice_get (commands_of w) n) o) (last_zero n) ∙ behind_zero w (suc n) (slice_get (commands_of w) n))
+    ap (λ k. step_behind w (suc (length (zeros n))) (slice_get (commands_of w) k) (slice_get (zeros (suc n)) k)) (less_one (length (zeros n)))
+    ∙ (ap (λ k. step_behind w (suc k) (slice_get (commands_of w) k) (slice_get (zeros (suc n)) k)) (length_zeros n)
+    ∙ (ap (λ (o : Option Status). step_behind w (suc n) (slice_get (commands_of w) n) o) (last_zero n) ∙ behind_zero w (suc n) (slice_get (commands_of w) n)))
 
 some_at : (cs : List Command) (n : ℕ) → n < length cs → is_some (slice_get cs n) ≡ true
 some_at [] n less = absurd (omega (arith, less))

@@ -1,5 +1,5 @@
 -- A chooser that is run, from what the host answered.
-use Rattle.std.proofs.Common.{◌≡◌, ◌≢◌, ◌++◌, inl, inr, ℕ, List, [], ◌∷◌, Option, Some, None, MatchOption, Result, Ok, Err, IfOk, IfErr, refl, sym, ◌∙◌, ap, subst, append-nil}
+use Rattle.std.proofs.Common.{◌≡◌, ◌≢◌, ◌++◌, inl, inr, ℕ, List, [], ◌∷◌, Option, Some, None, MatchOption, Result, Ok, Err, IfOk, IfErr, IsErrAnd, refl, sym, ◌∙◌, ap, subst, append-nil}
 use Rattle.just_lang_types.specs.declared.settings.Interpreter.{Interpreter}
 use Rattle.just_host_record.specs.declared.entry.Call.{Call}
 use Rattle.just_host_record.specs.declared.entry.Call.TheVariants as call
@@ -43,6 +43,11 @@ module _ (sh : Interpreter) (folder chooser input : List ℕ) (before after : Mo
   -- memory is wanting before
   pub ran_short : after.world ≡ before.world → after.entries ≡ before.entries → RanSo (Err error.NoMemory)
   ran_short world same = ([], inl refl, (before.entries, sh.command, refl, none_gained, same ∙ sym (append-nil before.entries)), world, BeginsChooser.nothing refl)
+
+  -- so for whatever is answered then
+  pub ran_memory : (r : Result (List (List ℕ)) Error) → after.world ≡ before.world → after.entries ≡ before.entries → IsErrAnd r (λ e. e ≡ error.NoMemory) → RanSo r
+  ran_memory (Ok x) world entries memory = absurd memory
+  ran_memory (Err e) world entries memory = subst (λ (x : Error). RanSo (Err x)) (sym memory) (ran_short world entries)
 
   -- ---- its child was run to its end
 

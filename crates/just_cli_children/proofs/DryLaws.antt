@@ -1,7 +1,7 @@
 -- What is told of a plan, one text at a time.
-use Rattle.std.proofs.Common.{◌≡◌, ◌==◌, ◌++◌, ◌+◌, inl, inr, true, false, ◌<◌, ◌≤◌, ℕ, List, [], ◌∷◌, length, drop, get_or, Result, Ok, Err, refl, sym, ◌∙◌, ap, subst, append_assoc, append-nil}
+use Rattle.std.proofs.Common.{◌≡◌, ◌==◌, ◌++◌, ◌+◌, inl, inr, true, false, ◌<◌, ◌≤◌, ℕ, List, [], ◌∷◌, length, drop, drop_of_length-le, get_or, Result, Ok, Err, refl, sym, ◌∙◌, ap, subst, append_assoc, append-nil, arith}
 use Rattle.std.specs.List.{flat_map}
-use Rattle.std.proofs.lemmas.List.{drop_more, drop_of_length-le}
+use Rattle.std.proofs.lemmas.List.{drop_more}
 use Rattle.just_host_record.specs.World.{Moment}
 use Rattle.just_host_record.specs.Record.{refused, IsOwnFault, IsNoMiss}
 use Rattle.just_host_record.specs.declared.entry.Call.TheVariants as call
@@ -44,7 +44,7 @@ tells_none x before after io e grew world is own never =
 -- a text that may be empty
 pub empty_told : (text : List ℕ) (m : Moment) → (length text == 0) ≡ true → Tells (printed_entries text) m m (Ok tt)
 empty_told [] m is = tells_nothing m
-empty_told (b ∷ bs) m is = absurd (let no : ⊥ = cc in no)
+empty_told (b ∷ bs) m is = grind arith
 
 pub text_told : (text : List ℕ) (before after : Moment) → (length text == 0) ≡ false → after.entries ≡ before.entries ++ entry.Printed stream.Err text ∷ [] → after.world ≡ before.world → Tells (printed_entries text) before after (Ok tt)
 text_told [] before after is grew world = absurd (let no : ⊥ = cc in no)

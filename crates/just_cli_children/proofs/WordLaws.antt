@@ -1,5 +1,5 @@
 -- Words of a text, one character at a time.
-use Rattle.std.proofs.Common.{◌≡◌, ◌==◌, ◌++◌, ℕ, true, false, List, [], ◌∷◌, length, refl, sym, ◌∙◌, ap, append_assoc, append-nil}
+use Rattle.std.proofs.Common.{◌≡◌, ◌==◌, ◌++◌, ℕ, true, false, List, [], ◌∷◌, length, refl, sym, ◌∙◌, ap, append_assoc, append-nil, arith}
 use Rattle.std.specs.Prelude.{if◌then◌else◌, encode_utf8}
 use Rattle.std.specs.Char.{is_whitespace}
 use Rattle.just_cli_children.specs.Words.{ended, words_from}
@@ -7,7 +7,7 @@ use Rattle.just_cli_children.specs.Words.{ended, words_from}
 -- an empty word is none, and any other stands alone
 pub ended_none : (words : List (List ℕ)) (word : List ℕ) → (length word == 0) ≡ true → words ≡ words ++ ended word []
 ended_none words [] empty = sym (append-nil words)
-ended_none words (b ∷ bs) empty = absurd (let no : ⊥ = cc in no)
+ended_none words (b ∷ bs) empty = grind arith
 
 pub ended_some : (words new : List (List ℕ)) (word : List ℕ) → (length word == 0) ≡ false → new ≡ words ++ word ∷ [] → new ≡ words ++ ended word []
 ended_some words new [] some added = absurd (let no : ⊥ = cc in no)

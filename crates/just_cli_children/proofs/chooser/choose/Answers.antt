@@ -6,17 +6,17 @@ use Rattle.just_host_record.specs.World.{Touched, LeftAlone}
 use Rattle.just_env.specs.Captures.{Capture, entries_of_capture}
 use Rattle.just_env.specs.Commands.{command_spec}
 use Rattle.just_cli_children.specs.Choosers.{IsChosenBy}
-use Rattle.just_cli_children.proofs.ChooserLaws.{ran_short, ran_one, ran_none}
+use Rattle.just_cli_children.proofs.ChooserLaws.{ran_memory, ran_one, ran_none}
 use Rattle.just_cli_children.proofs.chooser.choose.Goals as goal
 
 pub returns-in_err-spec : goal.returns-in_err-spec
-returns-in_err-spec g c = ran_short c.args.shell.now (text_of c.args.folder) c.args.chooser c.args.input.now (g.H.Host.told c.args.host.now) (g.H.Host.told c.args.host.now) refl refl
+returns-in_err-spec g c = ran_memory c.args.shell.now (text_of c.args.folder) c.args.chooser c.args.input.now (g.H.Host.told c.args.host.now) (g.H.Host.told c.args.host.now) _ refl refl (search rules)
 
 pub returns-in_err-program : goal.returns-in_err-program
-returns-in_err-program g c = ran_short c.args.shell.now (text_of c.args.folder) c.args.chooser c.args.input.now (g.H.Host.told c.args.host.now) (g.H.Host.told c.args.host.now) refl refl
+returns-in_err-program g c = ran_memory c.args.shell.now (text_of c.args.folder) c.args.chooser c.args.input.now (g.H.Host.told c.args.host.now) (g.H.Host.told c.args.host.now) _ refl refl (search rules)
 
 pub returns-in_err-arguments : goal.returns-in_err-arguments
-returns-in_err-arguments g c = ran_short c.args.shell.now (text_of c.args.folder) c.args.chooser c.args.input.now (g.H.Host.told c.args.host.now) (g.H.Host.told c.args.host.now) refl refl
+returns-in_err-arguments g c = ran_memory c.args.shell.now (text_of c.args.folder) c.args.chooser c.args.input.now (g.H.Host.told c.args.host.now) (g.H.Host.told c.args.host.now) _ refl refl (search rules)
 
 pub returns-in-Ok : goal.returns-in-Ok
 returns-in-Ok g c =
@@ -27,8 +27,8 @@ returns-in-Ok g c =
     let alone : LeftAlone (g.H.Host.told c.args.host.now).world after.world c.in_ok-spec.spec = search rules in
     let chosen : IsChosenBy c.args.shell.now (text_of c.args.folder) (g.H.Host.told c.args.host.now).world c.args.chooser c.args.input.now k = record { spec = is; fed = refl; unsignalled = refl; left = (touched, alone) } in
     let gained : after.entries ≡ (g.H.Host.told c.args.host.now).entries ++ entries_of_capture k = search rules in
-    ran_one c.args.shell.now (text_of c.args.folder) c.args.chooser c.args.input.now (g.H.Host.told c.args.host.now) after k chosen gained refl _ c.words_of_code.ensures.words c.words_of_code.ensures.refused c.words_of_code.ensures.silent c.words_of_code.ensures.captured
+    ran_one c.args.shell.now (text_of c.args.folder) c.args.chooser c.args.input.now (g.H.Host.told c.args.host.now) after k chosen gained refl _ (rw c.as_slice-in-Ok.ensures at c.words_of_code.ensures.words) (rw c.as_slice-in-Ok.ensures at c.words_of_code.ensures.refused) c.words_of_code.ensures.silent c.words_of_code.ensures.captured
 
 pub returns : goal.returns
 returns g c =
-    ran_none c.args.shell.now (text_of c.args.folder) c.args.chooser c.args.input.now (g.H.Host.told c.args.host.now) (g.H.Host.told c.capture.new.self) c.in-Err.fault _ c.in-Err.ensures.fault (search rules) c.in-Err.ensures.leaves (search rules)
+    ran_none c.args.shell.now (text_of c.args.folder) c.args.chooser c.args.input.now (g.H.Host.told c.args.host.now) (g.H.Host.told c.capture.new.self) c.in-Err.fault _ (rw c.as_bytes.ensures at c.in-Err.ensures.fault) (search rules) c.in-Err.ensures.leaves (search rules)

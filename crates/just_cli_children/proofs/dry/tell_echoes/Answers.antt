@@ -10,11 +10,11 @@ commands-init g c = leads_first (λ (k : Command). printed_entries k.echo) c.arg
 
 pub commands-preserved : goal.commands-preserved
 commands-preserved g c =
-    leads_next (λ (k : Command). printed_entries k.echo) c.args.commands.now (g.H.Host.told c.args.host.now) (g.H.Host.told c.commands.host) (g.H.Host.told c.tell_text.new.host) c.commands.command-index c.command-item.result c.commands-test.true c.command-item.is c.commands.invariant _ c.in-Ok.ensures
+    leads_next (λ (k : Command). printed_entries k.echo) c.args.commands.now (g.H.Host.told c.args.host.now) (g.H.Host.told c.commands.host) (g.H.Host.told c.tell_text.new.host) c.commands.command-index c.command-item.result c.commands-test.true c.command-item.is c.commands.invariant _ (rw c.as_str.ensures at c.in-Ok.ensures)
 
 pub returns-in-Err : goal.returns-in-Err
 returns-in-Err g c =
-    leads_lost (λ (k : Command). printed_entries k.echo) c.args.commands.now (g.H.Host.told c.args.host.now) (g.H.Host.told c.commands.host) (g.H.Host.told c.tell_text.new.host) c.commands.command-index c.command-item.result c.commands-test.true c.command-item.is c.commands.invariant _ c.in-Err.ensures
+    leads_lost (λ (k : Command). printed_entries k.echo) c.args.commands.now (g.H.Host.told c.args.host.now) (g.H.Host.told c.commands.host) (g.H.Host.told c.tell_text.new.host) c.commands.command-index c.command-item.result c.commands-test.true c.command-item.is c.commands.invariant _ (rw c.as_str.ensures at c.in-Err.ensures)
 
 pub returns : goal.returns
 returns g c =

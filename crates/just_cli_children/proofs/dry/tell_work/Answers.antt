@@ -6,7 +6,7 @@ pub returns-in-Lines : goal.returns-in-Lines
 returns-in-Lines g c = lines_told _ _ (g.H.Host.told c.args.host.now) (g.H.Host.told c.tell_echoes.new.host) _ c.in-Lines.is (rw c.as_slice.ensures at c.tell_echoes.ensures)
 
 pub returns-in-Script : goal.returns-in-Script
-returns-in-Script g c = script_told _ _ (g.H.Host.told c.args.host.now) (g.H.Host.told c.tell_text.new.host) _ c.in-Script.is (rw c.as_str.ensures at c.tell_text.ensures)
+returns-in-Script g c = script_told _ _ (g.H.Host.told c.args.host.now) (g.H.Host.told c.tell_text.new.host) _ c.in-Script.is (rw c.get.ensures at (rw c.as_str.ensures at c.tell_text.ensures))
 
 pub returns-in-Empty : goal.returns-in-Empty
 returns-in-Empty g c = nothing_told _ (g.H.Host.told c.args.host.now) c.in-Empty.is
