@@ -32,7 +32,7 @@ returns-in-Clean g c = does_so c.args.other (no_run.Clean c.in-Clean.folder c.in
 
 pub invoke-requires : goal.invoke-requires
 invoke-requires g c =
-    let known : HasNoScript c.in-Invoke.child = rw c.in-Invoke.is at c.requires in search rules
+    let known : HasNoScript c.in-Invoke.child = rw c.in-Invoke.is at c.requires.path in search rules
 
 pub returns-in-Invoke : goal.returns-in-Invoke
 returns-in-Invoke g c = does_so c.args.other (no_run.Invoke c.in-Invoke.child) c.args.quiet _ _ _ c.in-Invoke.is c.invoke.ensures

@@ -27,8 +27,8 @@ returns-in-Ok g c =
     let alone : LeftAlone (g.H.Host.told c.args.host.now).world after.world c.in_ok-spec.spec = search rules in
     let chosen : IsChosenBy c.args.shell.now (text_of c.args.folder) (g.H.Host.told c.args.host.now).world c.args.chooser c.args.input.now k = record { spec = is; fed = refl; unsignalled = refl; left = (touched, alone) } in
     let gained : after.entries ≡ (g.H.Host.told c.args.host.now).entries ++ entries_of_capture k = search rules in
-    ran_one c.args.shell.now (text_of c.args.folder) c.args.chooser c.args.input.now (g.H.Host.told c.args.host.now) after k chosen gained refl _ (rw c.as_slice-in-Ok.ensures at c.words_of_code.ensures.words) (rw c.as_slice-in-Ok.ensures at c.words_of_code.ensures.refused) c.words_of_code.ensures.silent c.words_of_code.ensures.captured
+    ran_one c.args.shell.now (text_of c.args.folder) c.args.chooser c.args.input.now (g.H.Host.told c.args.host.now) after k chosen gained refl _ (rw c.as_slice-in-Ok.ensures.value at c.words_of_code.ensures.words) (rw c.as_slice-in-Ok.ensures.value at c.words_of_code.ensures.refused) c.words_of_code.ensures.silent c.words_of_code.ensures.captured
 
 pub returns : goal.returns
 returns g c =
-    ran_none c.args.shell.now (text_of c.args.folder) c.args.chooser c.args.input.now (g.H.Host.told c.args.host.now) (g.H.Host.told c.capture.new.self) c.in-Err.fault _ (rw c.as_bytes.ensures at c.in-Err.ensures.fault) (search rules) c.in-Err.ensures.leaves (search rules)
+    ran_none c.args.shell.now (text_of c.args.folder) c.args.chooser c.args.input.now (g.H.Host.told c.args.host.now) (g.H.Host.told c.capture.new.self) c.in-Err.fault _ (rw c.as_bytes.ensures.value at c.in-Err.ensures.fault) (search rules) c.in-Err.ensures.leaves (search rules)

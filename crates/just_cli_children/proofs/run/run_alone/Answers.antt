@@ -14,10 +14,10 @@ returns-in-Err g c =
 
 pub returns-in-Ok-settle : goal.returns-in-Ok-settle
 returns-in-Ok-settle g c =
-    waited_well c.args.child (g.H.Host.told c.args.host.now) (g.H.Host.told c.room.new.self) c.room.ensures.entries c.room.ensures.world (g.H.Host.told c.start.new.self) (g.H.Host.told c.settle.new.self) _ _ _ _ c.in-Ok.ensures.number c.number.ensures c.wait.ensures
+    waited_well c.args.child (g.H.Host.told c.args.host.now) (g.H.Host.told c.room.new.self) c.room.ensures.entries c.room.ensures.world (g.H.Host.told c.start.new.self) (g.H.Host.told c.settle.new.self) _ _ _ _ c.in-Ok.ensures.number c.number-number.ensures c.wait.ensures
     c.in-Ok.ensures.entries c.in-Ok.ensures.leaves c.settle.ensures.entries c.settle.ensures.touched _ _ c.in-Ok-settle.ensures.answer c.ended_so.ensures
 
 pub returns : goal.returns
 returns g c =
-    waited_ill c.args.child (g.H.Host.told c.args.host.now) (g.H.Host.told c.room.new.self) c.room.ensures.entries c.room.ensures.world (g.H.Host.told c.start.new.self) (g.H.Host.told c.settle.new.self) _ _ _ _ c.in-Ok.ensures.number c.number.ensures c.wait.ensures
+    waited_ill c.args.child (g.H.Host.told c.args.host.now) (g.H.Host.told c.room.new.self) c.room.ensures.entries c.room.ensures.world (g.H.Host.told c.start.new.self) (g.H.Host.told c.settle.new.self) _ _ _ _ c.in-Ok.ensures.number c.number-number.ensures c.wait.ensures
     c.in-Ok.ensures.entries c.in-Ok.ensures.leaves c.settle.ensures.entries c.settle.ensures.touched _ _ c.in-Err-settle.ensures.answer c.invoke_error.ensures
