@@ -20,8 +20,8 @@ returns-in-Ok-reply_allowed g c =
     words_replied q (laid_in c.args.wanted c.args.environ.now c.args.laid) (g.H.Host.told c.args.host.now) _ (g.H.Host.told c.reply_allowed.new.host) _ c.args.words (rw c.is_any.ensures at c.if-not-is_any.false) _
     (rw (c.with_words-config.ensures, c.wanted_with-wanted.ensures, c.in-Ok.ensures) at c.in-Ok-reply_allowed.ensures)
 
-pub returns-in-Err-reply_allowed : goal.returns-in-Err-reply_allowed
-returns-in-Err-reply_allowed g c =
+pub returns : goal.returns
+returns g c =
     let q : LocatedRequest = record { config = c.args.config; environ = c.args.environ.now; location = c.args.location } in
     words_refused q (laid_in c.args.wanted c.args.environ.now c.args.laid) (g.H.Host.told c.args.host.now) _ (g.H.Host.told c.reply_allowed.new.host) _ c.args.words (rw c.is_any.ensures at c.if-not-is_any.false) _
     (rw (c.with_words-config.ensures, c.wanted_with-wanted.ensures, c.in-Ok.ensures) at c.in-Err-reply_allowed.ensures)
