@@ -54,22 +54,22 @@ FolderGiven told = CallGives call.Current folder_error (option_map folder_shown 
 
 -- a plan is run, or only told
 abbrev pub as_run : Bool → Outline → Asked
-as_run dry o = if dry then Asked.dry o else Asked.run o
+as_run only_told o = if only_told then Asked.dry o else Asked.run o
 
 -- what the justfiles answer that are tried
 abbrev pub as_reply : Bool → Result Reply Error → Result Asked Error
-as_reply dry (Ok (Reply.lists p)) = Ok (Asked.listing p)
-as_reply dry (Ok (Reply.runs o)) = Ok (as_run dry o)
-as_reply dry (Err e) = Err e
+as_reply only_told (Ok (Reply.lists p)) = Ok (Asked.listing p)
+as_reply only_told (Ok (Reply.runs o)) = Ok (as_run only_told o)
+as_reply only_told (Err e) = Err e
 
 abbrev pub RunsTried : Step LocatedRequest Asked
 RunsTried told acts after q r = (x : Result Reply Error) × Tries told acts after q x × (r ≡ as_reply q.config.dry_run x)
 
 -- what they answer to the words that are chosen; where none are, nothing is left to be done
 abbrev pub as_choice : Bool → Result (Option Reply) Error → Result Asked Error
-as_choice dry (Ok None) = Ok (Asked.other no_run.Nothing)
-as_choice dry (Ok (Some x)) = as_reply dry (Ok x)
-as_choice dry (Err e) = Err e
+as_choice only_told (Ok None) = Ok (Asked.other no_run.Nothing)
+as_choice only_told (Ok (Some x)) = as_reply only_told (Ok x)
+as_choice only_told (Err e) = Err e
 
 abbrev pub ChoosesTried : Step LocatedRequest Asked
 ChoosesTried told acts after q r = (x : Result (Option Reply) Error) × ChoosesAt told acts after q x × (r ≡ as_choice q.config.dry_run x)
