@@ -1,5 +1,5 @@
 -- Words that are chosen, and their run, as parts of a preparation, from the answers of their calls.
-use Rattle.std.proofs.Common.{◌≡◌, ◌++◌, inl, inr, ℕ, Bool, true, false, List, [], ◌∷◌, Option, Some, None, Result, Ok, Err, refl, sym, ◌∙◌, ap, subst, append-nil}
+use Rattle.std.proofs.Common.{◌≡◌, ◌++◌, inl, inr, ℕ, Bool, true, false, List, [], ◌∷◌, Option, Some, None, Result, Ok, Err, IsErrAnd, refl, sym, ◌∙◌, ap, subst, append-nil}
 use Rattle.std.specs.Prelude.{◌&&◌, if◌then◌else◌}
 use Rattle.just_host_record.specs.World.{World, Moment}
 use Rattle.just_lang_types.specs.declared.settings.Interpreter.{Interpreter}
@@ -48,6 +48,11 @@ module _ (c : Config) (q : LaidRequest) (input : List ℕ) (before : Moment) whe
   -- memory is wanting before
   pub unanswered : PerformsAnswer c q input before before (Err error.NoMemory)
   unanswered = performs_refusal Asks BeginsAsks before before [] refl ([], refl, refl, BeginsChooser.nothing refl) error.NoMemory (left_nothing before.entries error.NoMemory refl) (inl refl)
+
+  -- so for whatever is answered then
+  pub unanswered_so : (r : Result (List (List ℕ)) Error) → IsErrAnd r (λ e. e ≡ error.NoMemory) → PerformsAnswer c q input before before r
+  unanswered_so (Ok x) memory = absurd memory
+  unanswered_so (Err e) memory = subst (λ (x : Error). PerformsAnswer c q input before before (Err x)) (sym memory) unanswered
 
   -- a chooser answers, which is run by the shell of the root
   pub chooser_answers : (after : Moment) (sh : Interpreter) (chooser : List ℕ) (r : Result (List (List ℕ)) Error) → sh ≡ shell_for q → chooser ≡ chooser_for c q

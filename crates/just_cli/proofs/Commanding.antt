@@ -232,18 +232,18 @@ module _ (looks : Option World → JustfileRequest → Result Other Error → Ty
   abbrev AsksFile : List Act → Option World → Result Other Error → Type 0
   AsksFile acts world r = Behind TakesFile (Looks looks) before.world acts world place r
 
-  abbrev BeginsAsking : List Act → Option World → Type 0
-  BeginsAsking acts world = BeginsBehind BeginsFile TakesFile NoAct before.world acts world place
+  abbrev BeginsAskingFile : List Act → Option World → Type 0
+  BeginsAskingFile acts world = BeginsBehind BeginsFile TakesFile NoAct before.world acts world place
 
   abbrev pub AskedFile : Moment → List (List ℕ) → Result Other Error → Type 0
-  AskedFile after keeps r = Performs AsksFile BeginsAsking before after kept keeps r
+  AskedFile after keeps r = Performs AsksFile BeginsAskingFile before after kept keeps r
 
   or_untaken : (acts : List Act) (after : Option World) (e : Error) → OrMemory (λ x. Takes acts after (Err x)) e → OrMemory (λ x. AsksFile acts after (Err x)) e
   or_untaken acts after e (inl wants) = inl wants
   or_untaken acts after e (inr lost) = inr (Behind.refused e (lost environ) refl)
 
   pub file_untaken : (after : Moment) (keeps : List (List ℕ)) (e : Error) → Performs {A = Wanted × List ℕ} Takes BeginsTaking before after kept keeps (Err e) → AskedFile after keeps (Err e)
-  file_untaken after keeps e p = performs_lost Takes AsksFile BeginsTaking BeginsAsking before after kept keeps e p (λ acts lost. or_untaken acts after.world e lost) (λ acts b. BeginsBehind.at_first b)
+  file_untaken after keeps e p = performs_lost Takes AsksFile BeginsTaking BeginsAskingFile before after kept keeps e p (λ acts lost. or_untaken acts after.world e lost) (λ acts b. BeginsBehind.at_first b)
 
   module _ (between after : Moment) (keeps : List (List ℕ)) (wanted : Wanted) (justfile : List ℕ) (taken : Performs {A = Wanted × List ℕ} Takes BeginsTaking before between kept keeps (Ok (wanted, justfile))) (still : after.world ≡ between.world) where
     abbrev file_there : JustfileRequest
@@ -259,7 +259,7 @@ module _ (looks : Option World → JustfileRequest → Result Other Error → Ty
 
     pub file_asked : (r : Result Other Error) → (es : List Entry) × (after.entries ≡ between.entries ++ es) × MatchResult r (λ _. AreMisses es) (λ e. EndsWith [] e es) → Answers (looks between.world file_there) r → AskedFile after keeps r
     file_asked r gains gives =
-        performs_looking Takes AsksFile BeginsTaking BeginsAsking before between after kept keeps (wanted, justfile) r taken still gains (λ acts takes. all_there acts r takes gives)
+        performs_looking Takes AsksFile BeginsTaking BeginsAskingFile before between after kept keeps (wanted, justfile) r taken still gains (λ acts takes. all_there acts r takes gives)
         (λ acts b. BeginsBehind.at_first (subst (λ w. BeginsIn config location before.world acts w) (sym still) b))
 
 -- ---- kinds

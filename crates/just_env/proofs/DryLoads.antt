@@ -1,5 +1,5 @@
 -- A run that only shows its commands runs no child for dotenv pairs.
-use Rattle.std.proofs.Common.{◌≡◌, ◌++◌, inl, inr, Bool, true, false, true≢false, List, [], ◌∷◌, Result, Ok, Err, refl, sym, ◌∙◌, ap, subst}
+use Rattle.std.proofs.Common.{◌≡◌, ◌++◌, inl, inr, ℕ, Bool, true, false, true≢false, List, [], ◌∷◌, Result, Ok, Err, refl, sym, ◌∙◌, ap, subst}
 use Rattle.std.specs.Prelude.{◌&&◌, ◌||◌, not, Option, if◌then◌else◌}
 use Rattle.just_host_record.specs.World.{World}
 use Rattle.just_dotenv.specs.Meaning.{Pairs}
