@@ -50,7 +50,7 @@ fn recipe_named<'r>(recipes: &'r [Recipe], name: &str) -> Option<&'r Recipe>
 
 /// The recipe of that name in a module, if there is one.
 fn recipe_in<'p>(parent: Option<&'p Justfile>, name: &str) -> Option<&'p Recipe>
-    ensures { option_copied result ≡ recipe_in (option_copied parent) name.now }
+    ensures { option_copied result ≡ recipe_in (option_copied parent.entry) name.now }
 {
     match parent {
         Some(justfile) => recipe_named(justfile.recipes.as_slice(), name),
@@ -74,7 +74,7 @@ fn any_needed(parameters: &[Parameter]) -> bool
 
 /// Whether there is a recipe, and it needs no argument.
 fn needs_none(recipe: Option<&Recipe>) -> bool
-    ensures { result ≡ needs_none (option_copied recipe) }
+    ensures { result ≡ needs_none (option_copied recipe.entry) }
 {
     match recipe {
         Some(recipe) => !any_needed(recipe.parameters.as_slice()),
@@ -91,7 +91,7 @@ fn is_of_groups(groups: &[Text], own: &[Text]) -> bool
 
 /// Whether a recipe of a module can be chosen, where recipes of these groups can, or of any where none are given.
 fn is_choosable(groups: &[Text], parent: Option<&Justfile>, recipe: &ListedRecipe) -> bool
-    ensures { result ≡ is_choosable groups.now (option_copied parent) recipe.now }
+    ensures { result ≡ is_choosable groups.now (option_copied parent.entry) recipe.now }
 {
     is_of_groups(groups, recipe.groups.as_slice())
         && needs_none(recipe_in(parent, recipe.name.as_str()))
@@ -150,7 +150,7 @@ fn push_choices(
 ) -> Result<(), NoMemory>
     ensures { OnOk result (lines.new.items ≡ lines.old.items
         ++ map (λ r. spaced_path outer.now r.name)
-        (filter (is_choosable groups.now (option_copied justfile))
+        (filter (is_choosable groups.now (option_copied justfile.entry))
         (map (λ r. r.now) recipes.now))) }
 {
     'recipes: for recipe in recipes {
