@@ -13,7 +13,7 @@ use Rattle.just_host_record.specs.Record.{refused, noted, IsOwnFault, IsNoMiss}
 use Rattle.just_host_record.specs.World.{World, view_of}
 use Rattle.just_exec.specs.declared.error.Error.{Error}
 use Rattle.just_cli_plan.specs.Own.{OrMemory}
-use Rattle.just_cli.specs.Faults.{entries_of, fault_of_path, io_error, folder_error}
+use Rattle.just_cli_children.specs.Faults.{entries_of, fault_of_path, io_error, folder_error}
 use Rattle.just_cli.specs.Asked.{EnvironGiven, FolderGiven}
 
 -- the error of a refused call has its entry

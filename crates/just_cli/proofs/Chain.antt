@@ -29,12 +29,13 @@ use Rattle.just_env.specs.Captures.{Capture, told_behind, AreAmongMisses}
 use Rattle.just_env.specs.Loads.{IsShellOf}
 use Rattle.just_exec.specs.declared.error.Error.TheVariants as error
 use Rattle.just_cli_plan.specs.Pairs.{LoadsPairs, BeginsLoading, Runs, Leaves, ErrorLeaves, entries_of as entries_in}
-use Rattle.just_cli.specs.Faults.{entries_of}
+use Rattle.just_cli_children.specs.Faults.{entries_of}
 use Rattle.just_cli_plan.specs.Request.{SourcesRequest, LoadedRequest, FindsProject}
 use Rattle.just_cli_texts.specs.Laid.{LaidSources, LaidRequest, FindsLaid}
 use Rattle.just_cli.specs.Acts.{Act, AreActs, Looks, folders_in, captures_in, uncaptured_in, Behind, BeginsBehind}
 use Rattle.just_cli.specs.Preparing.{AreMisses, EndsWith, IsProgram, Answers, Performs}
 use Rattle.just_cli.specs.Replies.{Reply}
+use Rattle.just_cli.specs.Choosing.{AreActsBy}
 use Rattle.just_cli.specs.Taken.{TakesWanted, BeginsIt, PerformsProject, PerformsReply}
 use Rattle.just_cli.specs.declared.task.Other.TheVariants as no_run
 use Rattle.just_cli.specs.Asked.{Asked, Decides, Serves, EnvironGiven, FolderGiven, Asks, AsksGlobal, BeginsServes, Begins as BeginsWords}
@@ -145,11 +146,23 @@ error_still : (old new : Option World) (path : List ℕ) (e : Error) → ErrorLe
 error_still old new path (error.DotenvCommand command (output.Io (fault.Missed m))) left quiet = left
 error_still old new path (error.DotenvCommand command (output.Io (fault.Failed c))) left quiet = absurd (true≢false quiet)
 error_still old new path (error.DotenvCommand command (output.Io fault.NoMemory)) left quiet = left
+error_still old new path (error.ChooserInvoke shell arguments chooser (fault.Missed m)) left quiet = left
+error_still old new path (error.ChooserInvoke shell arguments chooser (fault.Failed c)) left quiet = absurd (true≢false quiet)
+error_still old new path (error.ChooserInvoke shell arguments chooser fault.NoMemory) left quiet = left
+error_still old new path (error.ChooserRead chooser (fault.Missed m)) left quiet = left
+error_still old new path (error.ChooserRead chooser (fault.Failed c)) left quiet = absurd (true≢false quiet)
+error_still old new path (error.ChooserRead chooser fault.NoMemory) left quiet = left
+error_still old new path (error.ChooserWrite chooser (fault.Missed m)) left quiet = left
+error_still old new path (error.ChooserWrite chooser (fault.Failed c)) left quiet = absurd (true≢false quiet)
+error_still old new path (error.ChooserWrite chooser fault.NoMemory) left quiet = left
 error_still old new path _ left quiet = left
 
 -- and so does one that doesn't tell that a child wasn't run to its end
 captured_still : (old new : Option World) (e : Error) → is_uncaptured e ≡ false → ErrorLeaves old new e → new ≡ old
 captured_still old new (error.DotenvCommand command (output.Io io)) captured left = absurd (true≢false captured)
+captured_still old new (error.ChooserInvoke shell arguments chooser io) captured left = absurd (true≢false captured)
+captured_still old new (error.ChooserRead chooser io) captured left = absurd (true≢false captured)
+captured_still old new (error.ChooserWrite chooser io) captured left = absurd (true≢false captured)
 captured_still old new _ captured left = left
 
 -- of what the answer is that stands behind them, `looks` says
@@ -244,6 +257,50 @@ module _ {B : Type 0} (looks : LoadedRequest → Result B Error → Type 0) (bef
       pub loaded_refused : (e : Error) → entries_of e ≡ [] → Loaded (Ok pairs) → OrMemory (λ x. (ms : List Justfile) → AreModules (j ∷ []) ms → looks (loaded_in wanted environ j ms seen) (Err x)) e → PerformsIt (Err e)
       loaded_refused e silent runs why =
           performs_looking LoadsIt GivesIt Begins Begins before after after [] [] pairs (Err e) (pairs_part pairs runs) refl (left_nothing after.entries e silent) (λ acts loads. or_behind acts e loads why) (λ acts b. b)
+
+-- ---- children of one program
+
+module _ {A : Type 0} (gives : List Capture → Result A Error → Type 0) (begins : List Capture → Type 0) (program : List ℕ) (before after : Moment) where
+  abbrev pub RunsThem : List Act → Option World → Result A Error → Type 0
+  RunsThem acts world r = (cs : List Capture) × AreActsBy program cs r acts × gives cs r × Leaves before.world cs world r
+
+  abbrev pub BeginsThem : List Act → Option World → Type 0
+  BeginsThem acts world = (cs : List Capture) × (acts ≡ map Act.captured cs) × (world ≡ told_behind before.world cs) × begins cs
+
+  none_behind : (cs : List Capture) → cs ≡ [] → told_behind before.world cs ≡ before.world
+  none_behind cs none = ap (λ (l : List Capture). told_behind before.world l) none
+
+  or_run : (cs : List Capture) (e : Error) → OrMemory (λ x. gives cs (Err x)) e → ErrorLeaves (told_behind before.world cs) after.world e → OrMemory (λ x. RunsThem (map Act.captured cs ++ acts_of_fault program (uncaptured_by e)) after.world (Err x)) e
+  or_run cs e (inl wants) left = inl wants
+  or_run cs e (inr so) left = inr (cs, refl, so, left)
+
+  -- they were run to their end, or one wasn't
+  pub children_ran : (r : Result A Error) → Runs gives begins (λ p. p ≡ program) before after r → Performs RunsThem BeginsThem before after [] [] r
+  children_ran (Ok x) (cs, so, (es, are, grew), left, begun) = record {
+    acts = map Act.captured cs;
+    entries = es;
+    grew = grew;
+    leaves = (es, children_acts cs es are, refl, all_run cs);
+    folders = sym (no_folders cs);
+    answers = (cs, refl, so, left);
+    begun = (cs, refl, left, begun);
+    still = λ none alone quiet. left ∙ none_behind cs (sym (all_captured cs) ∙ alone);
+    alters = λ nodes alone quiet. altered_same (folders_in (map Act.captured cs)) nodes before.world after.world (left ∙ none_behind cs (sym (all_captured cs) ∙ alone));
+  }
+  children_ran (Err e) (cs, why, (middle, path, named, (es, are, grew), more), left, begun) = record {
+    acts = map Act.captured cs ++ acts_of_fault program (uncaptured_by e);
+    entries = es ++ entries_in program e;
+    grew = more ∙ (ap (λ p. middle ++ entries_in p e) named ∙ (ap (λ l. l ++ entries_in program e) grew ∙ append_assoc before.entries es (entries_in program e)));
+    leaves = (es, program, fault_acts program cs (uncaptured_by e) es are, refl, fault_program program cs e (uncaptured_by e) refl);
+    folders = sym (fault_folders program cs (uncaptured_by e));
+    answers = or_run cs e why left;
+    begun = λ captured. (cs, no_fault cs program (uncaptured_by e) captured, captured_still (told_behind before.world cs) after.world e captured left, begun);
+    still = λ none alone quiet.
+        error_still (told_behind before.world cs) after.world program e left (quiet_rest is_failed es (entries_in program e) quiet) ∙ none_behind cs (sym (fault_captured program cs (uncaptured_by e)) ∙ alone);
+    alters = λ nodes alone quiet.
+        altered_same (folders_in (map Act.captured cs ++ acts_of_fault program (uncaptured_by e))) nodes before.world after.world
+        (error_still (told_behind before.world cs) after.world program e left (quiet_rest is_failed es (entries_in program e) quiet) ∙ none_behind cs (sym (fault_captured program cs (uncaptured_by e)) ∙ alone));
+  }
 
 -- a refusal of arguments over a host, and of words, or want of memory
 abbrev pub RefusesRun : Option World → List Entry → List Act → Option World → Arguments → Environ → Error → Type 0

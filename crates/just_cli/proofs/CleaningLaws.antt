@@ -17,7 +17,7 @@ use Rattle.just_exec.specs.declared.error.Error.TheVariants as error
 use Rattle.just_cli.specs.declared.ended.Failure.{Failure}
 use Rattle.just_cli.specs.declared.ended.Report.{Report}
 use Rattle.just_cli.specs.Cleaning.{cleaned_line, IsTidied, IsUntidied, IsCleaned}
-use Rattle.just_cli.specs.Faults.{entries_of}
+use Rattle.just_cli_children.specs.Faults.{entries_of}
 use Rattle.just_cli.specs.Printing.{told_line, IsPrintError, IsUntold, IsIdle}
 use Rattle.just_cli.specs.Record.{IsTold}
 use Rattle.just_cli.specs.Tasks.{IsPathOrNone}

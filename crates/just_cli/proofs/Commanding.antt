@@ -1,10 +1,12 @@
 -- What commands ask of a justfile, as parts of a preparation.
 use Rattle.std.proofs.Common.{◌≡◌, ◌++◌, inl, inr, ℕ, Bool, true, false, List, [], ◌∷◌, Option, Some, None, Result, Ok, Err, refl, sym, ◌∙◌, ap, subst, append-nil}
-use Rattle.std.specs.Prelude.{MatchResult, IfOk, IfErr}
+use Rattle.std.specs.Prelude.{MatchResult, IfOk, IfErr, option_map}
+use Rattle.std.specs.Int.NonZero.{non_zero_u64_get}
 use Rattle.std.specs.declared.num.NonZeroU64.{NonZeroU64}
 use Rattle.just_sched_history.specs.declared.plan.Plan.{Plan}
 use Rattle.just_cli.specs.declared.replied.Replied.{Replied}
 use Rattle.just_cli.specs.declared.replied.Replied.TheVariants as replied
+use Rattle.just_cli.specs.declared.task.Task.{Task}
 use Rattle.just_cli.specs.declared.task.Task.TheVariants as task
 use Rattle.just_path_text.specs.declared.environ.Environ.{Environ}
 use Rattle.just_host_record.specs.World.{World, Moment}
@@ -29,29 +31,31 @@ use Rattle.just_exec.specs.Refusals.{error_of_lang, error_of_search}
 use Rattle.just_exec.specs.declared.error.Error.{Error}
 use Rattle.just_cli_plan.specs.declared.wanted.Wanted.{Wanted}
 use Rattle.just_cli_plan.specs.Own.{OrMemory}
-use Rattle.just_cli_plan.specs.Request.{LoadedRequest, ScopesRequest, EvaluatesVariables}
+use Rattle.just_cli_plan.specs.Request.{LoadedRequest, ScopesRequest, EvaluatesVariables, outline_of}
 use Rattle.just_cli_plan.specs.Steps.{Then, stops, goes_on}
 use Rattle.just_cli_texts.specs.declared.kind.Kind.{Kind}
 use Rattle.just_cli_texts.specs.declared.kind.Kind.TheVariants as kind
 use Rattle.just_cli_texts.specs.declared.printed.Printed.{Printed}
 use Rattle.just_cli_texts.specs.Evaluated.{names_of_words, format_of, EvaluatesNames}
 use Rattle.just_cli_texts.specs.Formatted.{Formats}
-use Rattle.just_cli_texts.specs.Kinds.{kind_of, is_new, is_placed, reads_justfile, words_of}
+use Rattle.just_cli_texts.specs.Kinds.{kind_of, is_choice, is_new, is_placed, reads_justfile, words_of}
 use Rattle.just_cli_texts.specs.Laid.{LaidRequest}
 use Rattle.just_cli_texts.specs.Prints.{alone, as_printed, Prints}
 use Rattle.just_cli_texts.specs.Responses.{requested, responded}
 use Rattle.just_cli.specs.declared.task.Other.{Other}
 use Rattle.just_cli.specs.declared.task.Other.TheVariants as no_run
 use Rattle.just_cli.specs.Acts.{Act, Step, Begun, NoAct, Looks, Behind, BeginsBehind}
-use Rattle.just_cli.specs.Asked.{Asked, AsksAlone, Responds, AsksAt, AsksBy, BeginsAsks, BeginsBy, as_other, as_reply}
+use Rattle.just_cli.specs.Asked.{Asked, AsksAlone, Responds, AsksAt, AsksBy, BeginsAsks, BeginsBy, as_choice, as_other, as_reply, as_run}
+use Rattle.just_cli.specs.Choosing.{ChoosesAt, BeginsChoosesAt}
 use Rattle.just_cli.specs.NewPath.{FindsFree}
 use Rattle.just_cli.specs.Replies.{Reply}
-use Rattle.just_cli.specs.Commands.{as_shown, is_file, anew, anew_or, CommandsAt, PrintsIt, EvaluatesIt, FormatsFile, FormatsAt, BeginsCommand}
-use Rattle.just_cli.specs.Faults.{entries_of}
-use Rattle.just_cli.specs.Options.{command_not_built}
-use Rattle.just_cli.specs.Preparing.{AreMisses, EndsWith, Answers, Performs, reply_of}
+use Rattle.just_cli.specs.Commands.{as_shown, is_file, anew, anew_or, CommandsAt, PrintsIt, EvaluatesIt, InvokesIt, FormatsFile, BeginsCommand}
+use Rattle.just_cli_children.specs.declared.child.Child.{Child}
+use Rattle.just_cli_children.specs.Children.{words_child}
+use Rattle.just_cli_children.specs.Faults.{entries_of}
+use Rattle.just_cli.specs.Preparing.{AreMisses, EndsWith, Answers, Performs, as_chosen, reply_of}
 use Rattle.just_cli.specs.Request.{FindsProjectAt, Tries, BeginsProject, BeginsTries}
-use Rattle.just_cli.specs.Taken.{TakesWanted, PerformsProject, PerformsCommand, PerformsTries}
+use Rattle.just_cli.specs.Taken.{TakesWanted, PerformsProject, PerformsChoices, PerformsCommand, PerformsTries}
 use Rattle.just_cli.specs.Tasks.{as_task, PerformsAsked}
 use Rattle.just_cli.specs.Words.{ConfigRequest, LocatedRequest, JustfileRequest, TakesFile, BeginsFile, BeginsIn}
 use Rattle.just_cli.proofs.Prepared.{left_nothing, performs_as, performs_refusal, performs_answer, performs_lost, performs_looking, performs_then, performs_behind}
@@ -151,6 +155,25 @@ module _ (c : Config) (q : LaidRequest) (dotenv : List DotenvOf) where
     unevaluated_so e (inl wants) = inl wants
     unevaluated_so e (inr names) = inr (λ modules are. goes_on (behind scopes modules) (refl, refl, refl, valued modules are) (Err e, names modules are, refl))
 
+-- ---- children of words
+
+module _ (c : Config) (q : LaidRequest) (dotenv : List DotenvOf) where
+  abbrev loaded_so : List Justfile → LoadedRequest
+  loaded_so modules = record { wanted = q.wanted; environ = q.environ; justfile = q.laid.justfile; modules = modules; dotenv = dotenv }
+
+  abbrev ByEach : (List Justfile → Type 0) → Type 0
+  ByEach holds = (modules : List Justfile) → AreModules (q.laid.justfile ∷ []) modules → holds modules
+
+  pub uninvoked : (e : Error) → OrMemory (λ x. (l : LangError) × ByEach (λ modules. IsEvaluation modules dotenv q.environ q.wanted.overrides (Err l)) × (x ≡ error_of_lang l)) e → OrMemory (λ x. ByEach (λ modules. Then EvaluatesVariables (InvokesIt c) (loaded_so modules) (Err x))) e
+  uninvoked e (inl wants) = inl wants
+  uninvoked e (inr (l, refused, is)) = inr (λ modules are. stops e (l, refused modules are, is) refl)
+
+  pub invokes_so : (scopes : Scopes) → ByEach (λ modules. IsEvaluation modules dotenv q.environ q.wanted.overrides (Ok scopes)) → (child : Child) → child ≡ words_child c q.wanted.flags scopes q.laid.justfile
+      → ByEach (λ modules. Then EvaluatesVariables (InvokesIt c) (loaded_so modules) (Ok (no_run.Invoke child)))
+  invokes_so scopes valued child is modules are =
+      let behind : ScopesRequest = record { wanted = q.wanted; justfile = q.laid.justfile; modules = modules; scopes = scopes } in
+      goes_on behind (refl, refl, refl, valued modules are) (ap (λ (x : Child). let into : Result Other Error = Ok (no_run.Invoke x) in into) is)
+
 -- ---- a text that is made anew
 
 module _ (c : Config) (environ : Pairs) (s : Source) (file : Bool) (path : List ℕ) where
@@ -195,7 +218,8 @@ module _ (told : Option World) (c : Config) (from : Origin) (j : JustfileRequest
 
 -- ---- the justfile's file
 
-module _ (config : Config) (environ : Environ) (location : Location) (before : Moment) (kept : List (List ℕ)) where
+-- of what the answer is that is looked for behind it, `looks` says
+module _ (looks : Option World → JustfileRequest → Result Other Error → Type 0) (config : Config) (environ : Environ) (location : Location) (before : Moment) (kept : List (List ℕ)) where
   abbrev place : LocatedRequest
   place = record { config = config; environ = environ; location = location }
 
@@ -205,57 +229,72 @@ module _ (config : Config) (environ : Environ) (location : Location) (before : M
   abbrev BeginsTaking : List Act → Option World → Type 0
   BeginsTaking = BeginsIn config location before.world
 
-  abbrev FormatsIt : List Act → Option World → Result Other Error → Type 0
-  FormatsIt acts world r = FormatsAt before.world acts world place r
+  abbrev AsksFile : List Act → Option World → Result Other Error → Type 0
+  AsksFile acts world r = Behind TakesFile (Looks looks) before.world acts world place r
 
-  abbrev BeginsFormat : List Act → Option World → Type 0
-  BeginsFormat acts world = BeginsBehind BeginsFile TakesFile NoAct before.world acts world place
+  abbrev BeginsAskingFile : List Act → Option World → Type 0
+  BeginsAskingFile acts world = BeginsBehind BeginsFile TakesFile NoAct before.world acts world place
 
-  or_untaken : (acts : List Act) (after : Option World) (e : Error) → OrMemory (λ x. Takes acts after (Err x)) e → OrMemory (λ x. FormatsIt acts after (Err x)) e
+  abbrev pub AskedFile : Moment → List (List ℕ) → Result Other Error → Type 0
+  AskedFile after keeps r = Performs AsksFile BeginsAskingFile before after kept keeps r
+
+  or_untaken : (acts : List Act) (after : Option World) (e : Error) → OrMemory (λ x. Takes acts after (Err x)) e → OrMemory (λ x. AsksFile acts after (Err x)) e
   or_untaken acts after e (inl wants) = inl wants
   or_untaken acts after e (inr lost) = inr (Behind.refused e (lost environ) refl)
 
-  pub format_untaken : (after : Moment) (keeps : List (List ℕ)) (e : Error) → Performs {A = Wanted × List ℕ} Takes BeginsTaking before after kept keeps (Err e) → PerformsCommand kind.Format place before after kept keeps (Err e)
-  format_untaken after keeps e p = performs_lost Takes FormatsIt BeginsTaking BeginsFormat before after kept keeps e p (λ acts lost. or_untaken acts after.world e lost) (λ acts b. BeginsBehind.at_first b)
+  pub file_untaken : (after : Moment) (keeps : List (List ℕ)) (e : Error) → Performs {A = Wanted × List ℕ} Takes BeginsTaking before after kept keeps (Err e) → AskedFile after keeps (Err e)
+  file_untaken after keeps e p = performs_lost Takes AsksFile BeginsTaking BeginsAskingFile before after kept keeps e p (λ acts lost. or_untaken acts after.world e lost) (λ acts b. BeginsBehind.at_first b)
 
   module _ (between after : Moment) (keeps : List (List ℕ)) (wanted : Wanted) (justfile : List ℕ) (taken : Performs {A = Wanted × List ℕ} Takes BeginsTaking before between kept keeps (Ok (wanted, justfile))) (still : after.world ≡ between.world) where
     abbrev file_there : JustfileRequest
     file_there = record { wanted = wanted; environ = environ; justfile = justfile }
 
-    formats_here : (acts : List Act) (r : Result Other Error) → Takes acts between.world (Ok (wanted, justfile)) → FormatsFile between.world config location.origin file_there r → FormatsIt acts after.world r
-    formats_here acts r takes formats = Behind.both file_there acts [] between.world (takes environ) (refl, still, formats) (sym (append-nil acts))
+    asked_there : (acts : List Act) (r : Result Other Error) → Takes acts between.world (Ok (wanted, justfile)) → looks between.world file_there r → AsksFile acts after.world r
+    asked_there acts r takes gives = Behind.both file_there acts [] between.world (takes environ) (refl, still, gives) (sym (append-nil acts))
 
-    all_formats : (acts : List Act) (r : Result Other Error) → Takes acts between.world (Ok (wanted, justfile)) → Answers (FormatsFile between.world config location.origin file_there) r → Answers (FormatsIt acts after.world) r
-    all_formats acts (Ok x) takes formats = formats_here acts (Ok x) takes formats
-    all_formats acts (Err e) takes (inl wants) = inl wants
-    all_formats acts (Err e) takes (inr formats) = inr (formats_here acts (Err e) takes formats)
+    all_there : (acts : List Act) (r : Result Other Error) → Takes acts between.world (Ok (wanted, justfile)) → Answers (looks between.world file_there) r → Answers (AsksFile acts after.world) r
+    all_there acts (Ok x) takes gives = asked_there acts (Ok x) takes gives
+    all_there acts (Err e) takes (inl wants) = inl wants
+    all_there acts (Err e) takes (inr gives) = inr (asked_there acts (Err e) takes gives)
 
-    pub format_there : (r : Result Other Error) → (es : List Entry) × (after.entries ≡ between.entries ++ es) × MatchResult r (λ _. AreMisses es) (λ e. EndsWith [] e es) → Answers (FormatsFile between.world config location.origin file_there) r
-        → PerformsCommand kind.Format place before after kept keeps r
-    format_there r gains formats =
-        performs_looking Takes FormatsIt BeginsTaking BeginsFormat before between after kept keeps (wanted, justfile) r taken still gains (λ acts takes. all_formats acts r takes formats)
+    pub file_asked : (r : Result Other Error) → (es : List Entry) × (after.entries ≡ between.entries ++ es) × MatchResult r (λ _. AreMisses es) (λ e. EndsWith [] e es) → Answers (looks between.world file_there) r → AskedFile after keeps r
+    file_asked r gains gives =
+        performs_looking Takes AsksFile BeginsTaking BeginsAskingFile before between after kept keeps (wanted, justfile) r taken still gains (λ acts takes. all_there acts r takes gives)
         (λ acts b. BeginsBehind.at_first (subst (λ w. BeginsIn config location before.world acts w) (sym still) b))
 
 -- ---- kinds
 
--- a command that is built, reads a justfile and isn't asked of it in its place is none
-pub runs_then : (s : Option Subcommand) → is_placed (kind_of s) ≡ false → reads_justfile (kind_of s) ≡ true → command_not_built s ≡ None → kind_of s ≡ kind.Run
-runs_then None placed reads built = refl
-runs_then (Some (command.Choose ws)) placed reads built = absurd (let no : ⊥ = cc in no)
-runs_then (Some (command.Clean ws)) placed reads built = absurd (let no : ⊥ = cc in no)
-runs_then (Some (command.Command ws)) placed reads built = absurd (let no : ⊥ = cc in no)
-runs_then (Some (command.Dump ws)) placed reads built = absurd (let no : ⊥ = cc in no)
-runs_then (Some (command.Edit ws)) placed reads built = absurd (let no : ⊥ = cc in no)
-runs_then (Some (command.Evaluate ws)) placed reads built = absurd (let no : ⊥ = cc in no)
-runs_then (Some (command.Fmt ws)) placed reads built = absurd (let no : ⊥ = cc in no)
-runs_then (Some (command.Groups ws)) placed reads built = absurd (let no : ⊥ = cc in no)
-runs_then (Some (command.Init ws)) placed reads built = absurd (let no : ⊥ = cc in no)
-runs_then (Some (command.List ws)) placed reads built = absurd (let no : ⊥ = cc in no)
-runs_then (Some (command.Request ws)) placed reads built = absurd (let no : ⊥ = cc in no)
-runs_then (Some (command.Show ws)) placed reads built = absurd (let no : ⊥ = cc in no)
-runs_then (Some (command.Summary ws)) placed reads built = absurd (let no : ⊥ = cc in no)
-runs_then (Some (command.Usage ws)) placed reads built = absurd (let no : ⊥ = cc in no)
-runs_then (Some (command.Variables ws)) placed reads built = absurd (let no : ⊥ = cc in no)
+-- a command that reads a justfile, isn't asked of it in its place and chooses nothing is none
+pub runs_then : (s : Option Subcommand) → is_placed (kind_of s) ≡ false → reads_justfile (kind_of s) ≡ true → is_choice (kind_of s) ≡ false → kind_of s ≡ kind.Run
+runs_then None placed reads given = refl
+runs_then (Some (command.Choose ws)) placed reads given = absurd (let no : ⊥ = cc in no)
+runs_then (Some (command.Clean ws)) placed reads given = absurd (let no : ⊥ = cc in no)
+runs_then (Some (command.Command ws)) placed reads given = absurd (let no : ⊥ = cc in no)
+runs_then (Some (command.Dump ws)) placed reads given = absurd (let no : ⊥ = cc in no)
+runs_then (Some (command.Edit ws)) placed reads given = absurd (let no : ⊥ = cc in no)
+runs_then (Some (command.Evaluate ws)) placed reads given = absurd (let no : ⊥ = cc in no)
+runs_then (Some (command.Fmt ws)) placed reads given = absurd (let no : ⊥ = cc in no)
+runs_then (Some (command.Groups ws)) placed reads given = absurd (let no : ⊥ = cc in no)
+runs_then (Some (command.Init ws)) placed reads given = absurd (let no : ⊥ = cc in no)
+runs_then (Some (command.List ws)) placed reads given = absurd (let no : ⊥ = cc in no)
+runs_then (Some (command.Request ws)) placed reads given = absurd (let no : ⊥ = cc in no)
+runs_then (Some (command.Show ws)) placed reads given = absurd (let no : ⊥ = cc in no)
+runs_then (Some (command.Summary ws)) placed reads given = absurd (let no : ⊥ = cc in no)
+runs_then (Some (command.Usage ws)) placed reads given = absurd (let no : ⊥ = cc in no)
+runs_then (Some (command.Variables ws)) placed reads given = absurd (let no : ⊥ = cc in no)
+
+-- one by which something is chosen
+pub chooses_then : (k : Kind) → is_choice k ≡ true → k ≡ kind.Choose
+chooses_then kind.Run is = absurd (let no : ⊥ = cc in no)
+chooses_then kind.New is = absurd (let no : ⊥ = cc in no)
+chooses_then kind.Respond is = absurd (let no : ⊥ = cc in no)
+chooses_then kind.Format is = absurd (let no : ⊥ = cc in no)
+chooses_then kind.Clean is = absurd (let no : ⊥ = cc in no)
+chooses_then kind.Evaluate is = absurd (let no : ⊥ = cc in no)
+chooses_then kind.Print is = absurd (let no : ⊥ = cc in no)
+chooses_then kind.Choose is = refl
+chooses_then kind.Edit is = absurd (let no : ⊥ = cc in no)
+chooses_then kind.Command is = absurd (let no : ⊥ = cc in no)
 
 -- one that reads no justfile and asks for no new one asks for a response
 pub responds_then : (k : Kind) → is_new k ≡ false → reads_justfile k ≡ false → k ≡ kind.Respond
@@ -266,7 +305,9 @@ responds_then kind.Format other alone = absurd (let no : ⊥ = cc in no)
 responds_then kind.Clean other alone = absurd (let no : ⊥ = cc in no)
 responds_then kind.Evaluate other alone = absurd (let no : ⊥ = cc in no)
 responds_then kind.Print other alone = absurd (let no : ⊥ = cc in no)
-responds_then kind.Later other alone = absurd (let no : ⊥ = cc in no)
+responds_then kind.Choose other alone = absurd (let no : ⊥ = cc in no)
+responds_then kind.Edit other alone = absurd (let no : ⊥ = cc in no)
+responds_then kind.Command other alone = absurd (let no : ⊥ = cc in no)
 
 pub new_then : (k : Kind) → is_new k ≡ true → k ≡ kind.New
 new_then kind.Run is = absurd (let no : ⊥ = cc in no)
@@ -276,7 +317,9 @@ new_then kind.Format is = absurd (let no : ⊥ = cc in no)
 new_then kind.Clean is = absurd (let no : ⊥ = cc in no)
 new_then kind.Evaluate is = absurd (let no : ⊥ = cc in no)
 new_then kind.Print is = absurd (let no : ⊥ = cc in no)
-new_then kind.Later is = absurd (let no : ⊥ = cc in no)
+new_then kind.Choose is = absurd (let no : ⊥ = cc in no)
+new_then kind.Edit is = absurd (let no : ⊥ = cc in no)
+new_then kind.Command is = absurd (let no : ⊥ = cc in no)
 
 -- ---- commands that read no justfile
 
@@ -313,11 +356,26 @@ module _ (c : ConfigRequest) where
 
 -- ---- tasks of replies
 
-pub listed_task : (x : Replied) (p : Printed) (quiet : Bool) → x ≡ replied.List p → as_task (Ok (task.List p quiet)) ≡ as_reply (Ok (reply_of x))
-listed_task x p quiet is = sym (ap (λ y. as_reply (Ok (reply_of y))) is)
+pub listed_task : (dry : Bool) (x : Replied) (p : Printed) (quiet : Bool) → x ≡ replied.List p → as_task (Ok (task.List p quiet)) ≡ as_reply dry (Ok (reply_of x))
+listed_task dry x p quiet is = sym (ap (λ y. as_reply dry (Ok (reply_of y))) is)
 
-pub planned_task : (x : Replied) (p : Plan) (jobs : Option NonZeroU64) (messages : List Bool) (quiet : Bool) → x ≡ replied.Plan p jobs messages → as_task (Ok (task.Run p jobs messages quiet)) ≡ as_reply (Ok (reply_of x))
-planned_task x p jobs messages quiet is = sym (ap (λ y. as_reply (Ok (reply_of y))) is)
+pub planned_task : (dry : Bool) (x : Replied) (p : Plan) (jobs : Option NonZeroU64) (messages : List Bool) (t : Task) → as_task (Ok t) ≡ Ok (as_run dry (outline_of p (option_map non_zero_u64_get jobs) messages)) → x ≡ replied.Plan p jobs messages
+    → as_task (Ok t) ≡ as_reply dry (Ok (reply_of x))
+planned_task dry x p jobs messages t asked is = asked ∙ sym (ap (λ y. as_reply dry (Ok (reply_of y))) is)
+
+-- a plan is run, or only told
+pub run_task : (dry : Bool) (p : Plan) (jobs : Option NonZeroU64) (messages : List Bool) (quiet : Bool) → dry ≡ false → as_task (Ok (task.Run p jobs messages quiet)) ≡ Ok (as_run dry (outline_of p (option_map non_zero_u64_get jobs) messages))
+run_task dry p jobs messages quiet is = sym (ap (λ (b : Bool). let into : Result Asked Error = Ok (as_run b (outline_of p (option_map non_zero_u64_get jobs) messages)) in into) is)
+
+pub dry_task : (dry : Bool) (p : Plan) (jobs : Option NonZeroU64) (messages : List Bool) (quiet : Bool) → dry ≡ true → as_task (Ok (task.Dry p jobs messages quiet)) ≡ Ok (as_run dry (outline_of p (option_map non_zero_u64_get jobs) messages))
+dry_task dry p jobs messages quiet is = sym (ap (λ (b : Bool). let into : Result Asked Error = Ok (as_run b (outline_of p (option_map non_zero_u64_get jobs) messages)) in into) is)
+
+-- a reply to words that are chosen
+pub chosen_task : (dry : Bool) (o : Option Replied) (x : Replied) (t : Task) → as_task (Ok t) ≡ as_reply dry (Ok (reply_of x)) → o ≡ Some x → as_task (Ok t) ≡ as_choice dry (as_chosen (Ok o))
+chosen_task dry o x t asked is = asked ∙ sym (ap (λ (y : Option Replied). as_choice dry (as_chosen (Ok y))) is)
+
+pub unchosen_task : (dry : Bool) (o : Option Replied) (quiet : Bool) → o ≡ None → as_task (Ok (task.Other no_run.Nothing quiet)) ≡ as_choice dry (as_chosen (Ok o))
+unchosen_task dry o quiet is = sym (ap (λ (y : Option Replied). as_choice dry (as_chosen (Ok y))) is)
 
 -- ---- what is asked of the justfile in a place
 
@@ -339,8 +397,8 @@ module _ (q : LocatedRequest) (before after : Moment) (kept keeps : List (List �
     abbrev BeginsHere : List Act → Option World → Type 0
     BeginsHere acts world = BeginsAsks before.world acts world q
 
-    tried_so : (acts : List Act) (world : Option World) (x : Result Reply Error) → Tried acts world x → AsksHere acts world (as_reply x)
-    tried_so acts world x tries = subst (λ k. AsksBy k before.world acts world q (as_reply x)) (sym is) (x, tries, refl)
+    tried_so : (acts : List Act) (world : Option World) (x : Result Reply Error) → Tried acts world x → AsksHere acts world (as_reply q.config.dry_run x)
+    tried_so acts world x tries = subst (λ k. AsksBy k before.world acts world q (as_reply q.config.dry_run x)) (sym is) (x, tries, refl)
 
     or_tried : (acts : List Act) (e : Error) → OrMemory (λ x. Tried acts after.world (Err x)) e → OrMemory (λ x. AsksHere acts after.world (Err x)) e
     or_tried acts e (inl wants) = inl wants
@@ -349,11 +407,41 @@ module _ (q : LocatedRequest) (before after : Moment) (kept keeps : List (List �
     begun_so : (acts : List Act) → BeginsTrying acts after.world → BeginsHere acts after.world
     begun_so acts begins = subst (λ k. BeginsBy k before.world acts after.world q) (sym is) begins
 
-    pub reply_asked : (x : Reply) (a : Asked) → as_reply (Ok x) ≡ Ok a → PerformsTries q before after kept keeps (Ok x) → PerformsAsked q before after kept keeps (Ok a)
+    pub reply_asked : (x : Reply) (a : Asked) → as_reply q.config.dry_run (Ok x) ≡ Ok a → PerformsTries q before after kept keeps (Ok x) → PerformsAsked q before after kept keeps (Ok a)
     reply_asked x a same tries = performs_as Tried AsksHere BeginsTrying BeginsHere before after kept keeps x a tries (λ acts so. subst (λ r. AsksHere acts after.world r) same (tried_so acts after.world (Ok x) so)) begun_so
 
     pub reply_lost : (e : Error) → PerformsTries q before after kept keeps (Err e) → PerformsAsked q before after kept keeps (Err e)
     reply_lost e tries = performs_lost Tried AsksHere BeginsTrying BeginsHere before after kept keeps e tries (λ acts why. or_tried acts e why) begun_so
+
+  -- or by words that are chosen
+  module _ (is : kind_of q.config.subcommand ≡ kind.Choose) where
+    abbrev Chosen : List Act → Option World → Result (Option Reply) Error → Type 0
+    Chosen acts world x = ChoosesAt before.world acts world q x
+
+    abbrev BeginsChoosing : List Act → Option World → Type 0
+    BeginsChoosing acts world = BeginsChoosesAt before.world acts world q
+
+    abbrev AsksChosen : List Act → Option World → Result Asked Error → Type 0
+    AsksChosen acts world x = AsksAt before.world acts world q x
+
+    abbrev BeginsChosen : List Act → Option World → Type 0
+    BeginsChosen acts world = BeginsAsks before.world acts world q
+
+    chosen_so : (acts : List Act) (world : Option World) (x : Result (Option Reply) Error) → Chosen acts world x → AsksChosen acts world (as_choice q.config.dry_run x)
+    chosen_so acts world x chooses = subst (λ k. AsksBy k before.world acts world q (as_choice q.config.dry_run x)) (sym is) (x, chooses, refl)
+
+    or_chosen : (acts : List Act) (e : Error) → OrMemory (λ x. Chosen acts after.world (Err x)) e → OrMemory (λ x. AsksChosen acts after.world (Err x)) e
+    or_chosen acts e (inl wants) = inl wants
+    or_chosen acts e (inr chooses) = inr (chosen_so acts after.world (Err e) chooses)
+
+    begun_chosen : (acts : List Act) → BeginsChoosing acts after.world → BeginsChosen acts after.world
+    begun_chosen acts begins = subst (λ k. BeginsBy k before.world acts after.world q) (sym is) begins
+
+    pub choice_asked : (x : Option Reply) (a : Asked) → as_choice q.config.dry_run (Ok x) ≡ Ok a → PerformsChoices q before after kept keeps (Ok x) → PerformsAsked q before after kept keeps (Ok a)
+    choice_asked x a same chooses = performs_as Chosen AsksChosen BeginsChoosing BeginsChosen before after kept keeps x a chooses (λ acts so. subst (λ r. AsksChosen acts after.world r) same (chosen_so acts after.world (Ok x) so)) begun_chosen
+
+    pub choice_lost : (e : Error) → PerformsChoices q before after kept keeps (Err e) → PerformsAsked q before after kept keeps (Err e)
+    choice_lost e chooses = performs_lost Chosen AsksChosen BeginsChoosing BeginsChosen before after kept keeps e chooses (λ acts why. or_chosen acts e why) begun_chosen
 
   -- a command is asked of it
   module _ (k : Kind) (is : kind_of q.config.subcommand ≡ k) (placed : is_placed k ≡ true) where
@@ -377,7 +465,9 @@ module _ (q : LocatedRequest) (before after : Moment) (kept keeps : List (List �
     by_kind kind.Run p acts world x asks = absurd (let no : ⊥ = cc in no)
     by_kind kind.New p acts world x asks = absurd (let no : ⊥ = cc in no)
     by_kind kind.Respond p acts world x asks = absurd (let no : ⊥ = cc in no)
-    by_kind kind.Later p acts world x asks = absurd (let no : ⊥ = cc in no)
+    by_kind kind.Edit p acts world x asks = (x, asks, refl)
+    by_kind kind.Command p acts world x asks = (x, asks, refl)
+    by_kind kind.Choose p acts world x asks = absurd (let no : ⊥ = cc in no)
 
     begins_by_kind : (j : Kind) → is_placed j ≡ true → (acts : List Act) (world : Option World) → BeginsCommand j before.world acts world q → BeginsBy j before.world acts world q
     begins_by_kind kind.Format p acts world begins = begins
@@ -387,7 +477,9 @@ module _ (q : LocatedRequest) (before after : Moment) (kept keeps : List (List �
     begins_by_kind kind.Run p acts world begins = absurd (let no : ⊥ = cc in no)
     begins_by_kind kind.New p acts world begins = absurd (let no : ⊥ = cc in no)
     begins_by_kind kind.Respond p acts world begins = absurd (let no : ⊥ = cc in no)
-    begins_by_kind kind.Later p acts world begins = absurd (let no : ⊥ = cc in no)
+    begins_by_kind kind.Edit p acts world begins = begins
+    begins_by_kind kind.Command p acts world begins = begins
+    begins_by_kind kind.Choose p acts world begins = absurd (let no : ⊥ = cc in no)
 
     asked_so : (acts : List Act) (x : Result Other Error) → CommandsIt acts after.world x → AsksPlaced acts after.world (as_other x)
     asked_so acts x asks = subst (λ j. AsksBy j before.world acts after.world q (as_other x)) (sym is) (by_kind k placed acts after.world x asks)

@@ -22,6 +22,7 @@ use Rattle.just_cli.specs.declared.task.Task.TheVariants as task
 use Rattle.just_cli_texts.specs.declared.printed.Printed.{Printed}
 use Rattle.just_host_record.specs.declared.entry.Entry.{Entry}
 use Rattle.just_cli.specs.Acts.{Act}
+use Rattle.just_cli.specs.Dry.{IsPlanTold}
 use Rattle.just_cli.specs.Asked.{Asked, Asks}
 use Rattle.just_cli.specs.Other.{Does, HeedsQuiet, LeavesFor, StaysFor}
 use Rattle.just_cli.specs.Preparing.{LeavesActs}
@@ -31,7 +32,7 @@ use Rattle.just_cli.specs.Record.{Removes}
 use Rattle.just_cli.specs.Run.{IsEnded}
 use Rattle.just_cli.specs.Tasks.{HasPath, PreparesWords, IsTask}
 use Rattle.just_cli.proofs.Answered.{words_ask_one}
-use Rattle.just_cli.proofs.Runs.{IsToldBehind, other_done, question_done, refused_before, run_well, run_ill}
+use Rattle.just_cli.proofs.Runs.{IsToldBehind, dry_done, other_done, question_done, refused_before, run_well, run_ill}
 
 -- each folder is removed, or memory is wanting behind some
 pub removed_so : {A E : Type 0} (folders : List (List ℕ)) (before after : Moment) (r : Result A E) → OnOk r (RemovesAll before folders after) → OnOk r (InTurn TriesFolder before folders after) → OnErr r (RemovesSome before folders after) → Removes folders before after
@@ -53,6 +54,13 @@ module _ (words : List (List ℕ)) (before between settled after : Moment) (kept
   ended_listing p asks done = record {
     asked = Ok (Asked.listing p);
     ends = other_done (asked_by words before.world) before between settled after (words_ask_one words before.world) kept made (Asked.listing p) (no_run.Show p) quiet r (λ listings acts es left. left) none asks.0 asks.1 done removes;
+  }
+
+  -- a plan is told
+  pub ended_dry : (plan : Plan) (jobs : Option ℕ) (messages : List Bool) → Prepared (Asked.dry (outline_of plan jobs messages)) → IsPlanTold plan quiet between settled r → IsEnded words before after r
+  ended_dry plan jobs messages asks told = record {
+    asked = Ok (Asked.dry (outline_of plan jobs messages));
+    ends = dry_done (asked_by words before.world) before between settled after (words_ask_one words before.world) kept made plan jobs messages quiet r none asks.0 asks.1 told removes;
   }
 
   -- what a command asks for is done
@@ -77,8 +85,9 @@ module _ (words : List (List ℕ)) (before between settled after : Moment) (kept
   ended_other no_run.Nothing is does = command_ended no_run.Nothing (λ listings acts es left. left) is.0 is.1 does
   ended_other (no_run.Write path text) is does = command_ended (no_run.Write path text) (λ listings acts es left. left) is.0 is.1 does
   ended_other (no_run.Clean folder path) is does = command_ended (no_run.Clean folder path) (λ listings acts es left. left) is.0 is.1 does
+  ended_other (no_run.Invoke child) is does = command_ended (no_run.Invoke child) (λ listings acts es left. left) is.0 is.1 does
 
--- a path is one, where one is given
+-- a path is one, where one is given, and a child has no script
 pub has_path : (words : List (List ℕ)) (before after : Moment) (kept keeps : List (List ℕ)) (c : Other) (quiet : Bool) → IsTask words before after kept keeps (task.Other c quiet) → HasPath c
 has_path words before after kept keeps no_run.Help quiet is = tt
 has_path words before after kept keeps no_run.Version quiet is = tt
@@ -87,6 +96,7 @@ has_path words before after kept keeps (no_run.Show p) quiet is = tt
 has_path words before after kept keeps no_run.Nothing quiet is = tt
 has_path words before after kept keeps (no_run.Write path text) quiet is = tt
 has_path words before after kept keeps (no_run.Clean folder path) quiet is = is.2
+has_path words before after kept keeps (no_run.Invoke child) quiet is = is.2
 
 -- ---- a refusal, and a run
 

@@ -140,6 +140,11 @@ fault_shown nodes h (error.StdoutIo fault.NoMemory) es a is = absurd (cc)
 fault_shown nodes h (error.WriteJustfile justfile io) es a is = absurd a
 fault_shown nodes h (error.Search (search.StdinIo io)) es a is = absurd a
 fault_shown nodes h (error.DotenvCommand command (output.Io io)) es a is = absurd a
+fault_shown nodes h (error.ChooserInvoke shell arguments chooser io) es a is = absurd a
+fault_shown nodes h (error.ChooserRead chooser io) es a is = absurd a
+fault_shown nodes h (error.ChooserWrite chooser io) es a is = absurd a
+fault_shown nodes h (error.EditorInvoke editor io) es a is = absurd a
+fault_shown nodes h (error.CommandInvoke binary arguments io) es a is = absurd a
 fault_shown nodes h (error.Search (search.TempdirIo io)) es a is = absurd a
 fault_shown nodes h _ es a is = absurd (cc)
 
@@ -175,6 +180,11 @@ miss_shown nodes h (error.StdoutIo fault.NoMemory) es a is = absurd (cc)
 miss_shown nodes h (error.WriteJustfile justfile io) es a is = absurd a
 miss_shown nodes h (error.Search (search.StdinIo io)) es a is = absurd a
 miss_shown nodes h (error.DotenvCommand command (output.Io io)) es a is = absurd a
+miss_shown nodes h (error.ChooserInvoke shell arguments chooser io) es a is = absurd a
+miss_shown nodes h (error.ChooserRead chooser io) es a is = absurd a
+miss_shown nodes h (error.ChooserWrite chooser io) es a is = absurd a
+miss_shown nodes h (error.EditorInvoke editor io) es a is = absurd a
+miss_shown nodes h (error.CommandInvoke binary arguments io) es a is = absurd a
 miss_shown nodes h (error.Search (search.TempdirIo io)) es a is = absurd a
 miss_shown nodes h _ es a is = absurd (cc)
 
@@ -205,6 +215,11 @@ fault_refused (error.StdoutIo io) is parent = failed_counted [] io is
 fault_refused (error.WriteJustfile justfile io) is parent = failed_counted justfile io is
 fault_refused (error.Search (search.StdinIo io)) is parent = failed_counted dash io is
 fault_refused (error.DotenvCommand command (output.Io io)) is parent = failed_counted parent io is
+fault_refused (error.ChooserInvoke shell arguments chooser io) is parent = failed_counted parent io is
+fault_refused (error.ChooserRead chooser io) is parent = failed_counted parent io is
+fault_refused (error.ChooserWrite chooser io) is parent = failed_counted parent io is
+fault_refused (error.EditorInvoke editor io) is parent = failed_counted [] io is
+fault_refused (error.CommandInvoke binary arguments io) is parent = failed_counted [] io is
 fault_refused (error.Search (search.TempdirIo io)) is parent = failed_counted parent io is
 fault_refused _ is parent = absurd (cc)
 
@@ -224,6 +239,11 @@ miss_refused (error.StdoutIo io) is parent = missed_counted [] io is
 miss_refused (error.WriteJustfile justfile io) is parent = missed_counted justfile io is
 miss_refused (error.Search (search.StdinIo io)) is parent = missed_counted dash io is
 miss_refused (error.DotenvCommand command (output.Io io)) is parent = missed_counted parent io is
+miss_refused (error.ChooserInvoke shell arguments chooser io) is parent = missed_counted parent io is
+miss_refused (error.ChooserRead chooser io) is parent = missed_counted parent io is
+miss_refused (error.ChooserWrite chooser io) is parent = missed_counted parent io is
+miss_refused (error.EditorInvoke editor io) is parent = missed_counted [] io is
+miss_refused (error.CommandInvoke binary arguments io) is parent = missed_counted [] io is
 miss_refused (error.Search (search.TempdirIo io)) is parent = missed_counted parent io is
 miss_refused _ is parent = absurd (cc)
 

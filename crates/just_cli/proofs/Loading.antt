@@ -11,7 +11,7 @@ use Rattle.just_env.specs.Answers.{Gains, entries_of as search_entries}
 use Rattle.just_search_load.specs.Loads.{Loads}
 use Rattle.just_exec.specs.Refusals.{error_of_lang, error_of_search}
 use Rattle.just_exec.specs.declared.error.Error.{Error}
-use Rattle.just_cli.specs.Faults.{entries_of}
+use Rattle.just_cli_children.specs.Faults.{entries_of}
 use Rattle.just_cli_plan.specs.Own.{OrMemory}
 use Rattle.just_cli.specs.Preparing.{EndsWith}
 use Rattle.just_cli.proofs.PlainSearch.{is_plain}

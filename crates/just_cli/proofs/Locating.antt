@@ -15,7 +15,7 @@ use Rattle.just_search.specs.Record.{FindGains}
 use Rattle.just_exec.specs.Refusals.{error_of_search}
 use Rattle.just_exec.specs.declared.error.Error.{Error}
 use Rattle.just_cli_plan.specs.Own.{OrMemory}
-use Rattle.just_cli.specs.Faults.{entries_of}
+use Rattle.just_cli_children.specs.Faults.{entries_of}
 use Rattle.just_cli.specs.Request.{ArePassed}
 use Rattle.just_cli.specs.Words.{FindsLocation, told_with}
 use Rattle.just_cli.proofs.Loading.{same_entries}

@@ -13,7 +13,7 @@ use Rattle.just_exec.specs.Codes.{exit_code}
 use Rattle.just_exec.specs.declared.error.Error.{Error}
 use Rattle.just_cli.specs.declared.ended.Failure.{Failure}
 use Rattle.just_cli.specs.declared.ended.Report.{Report}
-use Rattle.just_cli.specs.Faults.{entries_of, print_error, write_error}
+use Rattle.just_cli_children.specs.Faults.{entries_of, print_error, write_error}
 use Rattle.just_cli.specs.Printing.{told_line, IsPrintError, IsIdle}
 use Rattle.just_cli.specs.Record.{IsTold}
 use Rattle.just_cli.specs.Written.{written_line, Writes, IsUnwritten, IsWritten}

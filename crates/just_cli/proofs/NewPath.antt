@@ -17,7 +17,7 @@ use Rattle.just_exec.specs.Refusals.{error_of_search}
 use Rattle.just_exec.specs.declared.error.Error.{Error}
 use Rattle.just_cli_plan.specs.Own.{OrMemory}
 use Rattle.just_cli_plan.specs.Steps.{stops, goes_on}
-use Rattle.just_cli.specs.Faults.{entries_of}
+use Rattle.just_cli_children.specs.Faults.{entries_of}
 use Rattle.just_cli.specs.NewPath.{is_written_to, is_file_found, ShowsFile, FindsPath, IsFree, FindsFree}
 use Rattle.just_cli.specs.Preparing.{AreMisses, EndsWith}
 use Rattle.just_cli.proofs.Loading.{same_entries}

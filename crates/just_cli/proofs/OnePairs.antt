@@ -35,7 +35,7 @@ no_children : (cs : List Capture) → [] ≡ map Act.captured cs → cs ≡ []
 no_children [] is = refl
 no_children (c ∷ cs) is = absurd (let no : ⊥ = cc in no)
 
-children_go_on : (acts more rest left : List Act) (cs ds : List Capture) → acts ≡ map Act.captured cs → more ≡ map Act.captured ds → acts ++ rest ≡ more ++ left → map Act.captured cs ++ rest ≡ map Act.captured ds ++ left
+pub children_go_on : (acts more rest left : List Act) (cs ds : List Capture) → acts ≡ map Act.captured cs → more ≡ map Act.captured ds → acts ++ rest ≡ more ++ left → map Act.captured cs ++ rest ≡ map Act.captured ds ++ left
 children_go_on acts more rest left cs ds is at all = ap (λ l. l ++ rest) (sym is) ∙ (all ∙ ap (λ l. l ++ left) at)
 
 -- the modules of what was found come to an end, in whichever list

@@ -73,11 +73,11 @@ module _ (c : ConfigRequest) (one_answer : AnswersOne) where
   At told acts after location r fallback = AnswersAt told acts after (at_place c location) r fallback
 
   -- a refusal of the search that is the answer
-  search_of : (f : SearchError) → IsOwn {A = Reply} (Err (error_of_search f)) → tells_failure f ≡ false
+  pub search_of : (f : SearchError) → IsOwn {A = Reply} (Err (error_of_search f)) → tells_failure f ≡ false
   search_of f own = own_search f own.0
 
   -- one that answers isn't one behind which another is tried
-  stands_or_lacks : (r : Result Reply Error) (fallback : Bool) (e : Error) → r ≡ Err e → fallback ≡ true → (lacks r && fallback) ≡ false → is_lacking e ≡ true → ⊥
+  pub stands_or_lacks : (r : Result Reply Error) (fallback : Bool) (e : Error) → r ≡ Err e → fallback ≡ true → (lacks r && fallback) ≡ false → is_lacking e ≡ true → ⊥
   stands_or_lacks r fallback e same sets stays lack = true≢false (sym lack ∙ (sym (and_true (is_lacking e)) ∙ (ap (λ b. is_lacking e && b) (sym sets) ∙ (ap (λ x. lacks x && fallback) (sym same) ∙ stays))))
 
   module _ (w : World) (told also : Option World) (told_is : told ≡ Some w) (also_is : also ≡ Some w) (location other : Location) (place : location ≡ other) where
@@ -93,7 +93,7 @@ module _ (c : ConfigRequest) (one_answer : AnswersOne) where
       falls_one v c.config location.working_directory r s (subst (λ t. FallsBack t c.config location.working_directory r) is p) own
       (subst (λ (z : Location). FallsBack (Some v) c.config z.working_directory s) (sym place) (subst (λ t. FallsBack t c.config other.working_directory s) at q)) owned
 
-  tries_one : (told : Option World) (acts : List Act) (after : Option World) (location : Location) (r : Result Reply Error) → TriesFrom c told acts after location r
+  pub tries_one : (told : Option World) (acts : List Act) (after : Option World) (location : Location) (r : Result Reply Error) → TriesFrom c told acts after location r
       → (also : Option World) (more : List Act) (later : Option World) (other : Location) (s : Result Reply Error) → TriesFrom c also more later other s
       → (w : World) → told ≡ Some w → also ≡ Some w → location ≡ other → (rest left : List Act) → acts ++ rest ≡ more ++ left → AreToldBehind (more ++ left) → IsOwn r → IsOwn s → Agrees {R = Result Reply Error} r s rest left after later
   tries_one told acts after location r (TriesFrom.stands t a xs l x f at stays) also more later other s (TriesFrom.stands u b ys m y g by none) w ti ui place rest left all told_so own owned =

@@ -44,9 +44,9 @@ use Rattle.just_cli_texts.specs.Responses.{responded}
 use Rattle.just_cli_texts.specs.Targets.{names_of, error_of_list, error_of_show, UnshownBy, Lists, Shows, Uses}
 use Rattle.just_cli.specs.declared.task.Other.{Other}
 use Rattle.just_cli.specs.declared.task.Other.TheVariants as no_run
-use Rattle.just_cli.specs.Commands.{as_shown, checked, anew_or, EvaluatesIt}
+use Rattle.just_cli.specs.Commands.{as_shown, checked, anew_or, EvaluatesIt, InvokesIt}
 use Rattle.just_cli.specs.Replies.{Reply, as_list, as_plan, Replies, RepliesLoaded}
-use Rattle.just_cli.specs.Faults.{entries_of}
+use Rattle.just_cli_children.specs.Faults.{entries_of}
 use Rattle.just_cli.specs.Options.{is_lacking, is_missing}
 use Rattle.just_cli.proofs.Silent.{IsSilent, then_silent, or_silent}
 
@@ -181,6 +181,16 @@ pub values_silent : (c : Config) (p : List Justfile → LoadedRequest) (j : Just
     → OrMemory (λ x. (ms : List Justfile) → AreModules (j ∷ []) ms → Then EvaluatesVariables (EvaluatesIt c) (p ms) (Err x)) e → entries_of e ≡ []
 values_silent c p j modules are e why =
     all_silent (Then EvaluatesVariables (EvaluatesIt c)) (then_silent EvaluatesVariables (EvaluatesIt c) (λ k f told. by_lang told.0 f told.2) (evaluates_silent c)) p j modules are e why
+
+-- ---- children of words
+
+invokes_silent : (c : Config) → IsSilent (InvokesIt c)
+invokes_silent c s e is = absurd (let no : ⊥ = cc in no)
+
+pub invocation_silent : (c : Config) (p : List Justfile → LoadedRequest) (j : Justfile) (modules : List Justfile) → AreModules (j ∷ []) modules → (e : Error)
+    → OrMemory (λ x. (ms : List Justfile) → AreModules (j ∷ []) ms → Then EvaluatesVariables (InvokesIt c) (p ms) (Err x)) e → entries_of e ≡ []
+invocation_silent c p j modules are e why =
+    all_silent (Then EvaluatesVariables (InvokesIt c)) (then_silent EvaluatesVariables (InvokesIt c) (λ k f told. by_lang told.0 f told.2) (invokes_silent c)) p j modules are e why
 
 -- ---- a text that is made anew
 

@@ -13,7 +13,7 @@ use Rattle.just_search.specs.Removals.{with_entries}
 use Rattle.just_cli.specs.Acts.{Act, entries_of_act, folders_in, captures_in, uncaptured_in, AreActs}
 use Rattle.just_cli.specs.Altered.{IsAltered}
 use Rattle.just_cli_plan.specs.Pairs.{entries_of as entries_in}
-use Rattle.just_cli.specs.Faults.{entries_of}
+use Rattle.just_cli_children.specs.Faults.{entries_of}
 use Rattle.just_cli.specs.Preparing.{AreMisses, EndsWith, LeavesActs, IsProgram, Leaves, Answers, UnlessUncaptured, Performs, Prepares}
 use Rattle.just_cli.specs.Request.{ArePassed}
 use Rattle.just_cli.proofs.Altering.{altered_same, altered_then, altered_more, quiet_first, quiet_rest}

@@ -14,7 +14,7 @@ use Rattle.just_exec.specs.declared.error.Error.{Error}
 use Rattle.just_cli_texts.specs.declared.printed.Printed.{Printed}
 use Rattle.just_cli.specs.declared.ended.Failure.{Failure}
 use Rattle.just_cli.specs.declared.ended.Report.{Report}
-use Rattle.just_cli.specs.Faults.{entries_of, print_error}
+use Rattle.just_cli_children.specs.Faults.{entries_of, print_error}
 use Rattle.just_cli.specs.Printing.{told_line, told_beside, IsPrintError, IsUnprintedBy, IsPrinted, IsIdle}
 use Rattle.just_cli.specs.Record.{IsTold}
 use Rattle.just_cli.proofs.NewJustfile.{print_refused}

@@ -11,7 +11,7 @@ use Rattle.just_search_load.specs.Numbers.{number_of}
 use Rattle.just_search_load.specs.Shown.{ReadsText}
 use Rattle.just_exec.specs.Refusals.{error_of_search}
 use Rattle.just_exec.specs.declared.error.Error.{Error}
-use Rattle.just_cli.specs.Faults.{entries_of}
+use Rattle.just_cli_children.specs.Faults.{entries_of}
 use Rattle.just_cli_plan.specs.Own.{OrMemory}
 use Rattle.just_cli.specs.Preparing.{AreMisses, EndsWith}
 use Rattle.just_cli.proofs.Loading.{same_entries}

@@ -1,5 +1,5 @@
 -- Each step of a request gives one answer of its own at most, and so does the request.
-use Rattle.std.proofs.Common.{◌≡◌, ℕ, true, false, true≢false, List, [], ◌∷◌, map, Option, Some, None, Result, Ok, Err, ◌++◌, refl, sym, ◌∙◌, ap, subst, append-nil}
+use Rattle.std.proofs.Common.{◌≡◌, ℕ, Bool, true, false, true≢false, List, [], ◌∷◌, map, Option, Some, None, Result, Ok, Err, ◌++◌, refl, sym, ◌∙◌, ap, subst, append-nil}
 use Rattle.just_path_text.specs.declared.environ.Environ.{Environ}
 use Rattle.just_path.specs.declared.host.Miss.{Miss}
 use Rattle.just_host_record.specs.World.{World}
@@ -21,13 +21,14 @@ use Rattle.just_search.specs.Files.{parent_of}
 use Rattle.just_cli.specs.Acts.{Act, AreToldBehind, Looks, Behind}
 use Rattle.just_cli.proofs.Acting.{Agrees, Agree, GivesOwnStep, looks_own, looks_agree, behind_agree, agrees_as, agrees_refusal, in_two, told_later, behind_own}
 use Rattle.just_cli.proofs.OneFile.{materializes_one}
-use Rattle.just_cli.specs.Faults.{CallGives, FaultFits, io_error, folder_error}
+use Rattle.just_cli_children.specs.Faults.{CallGives, FaultFits, io_error, folder_error}
 use Rattle.just_host_record.specs.declared.entry.Entry.{Entry}
 use Rattle.just_config.specs.declared.config.Config.{Config}
 use Rattle.just_env.specs.Answers.{entries_of}
 use Rattle.just_search.specs.declared.location.Location.{Location}
-use Rattle.just_cli.specs.Options.{cache_beside, wanted_of, allowed}
-use Rattle.just_cli.specs.Words.{WordsRequest, ReadRequest, FolderRequest, ConfigRequest, LocatedRequest, JustfileRequest, FindsEnviron, ReadsWords, FindsFolder, GivesConfig, IsBuilt, Configures, FindsLocation, FindsJustfile, TakesFile}
+use Rattle.just_cli_children.specs.Configs.{cache_beside, wanted_of}
+use Rattle.just_cli.specs.Options.{allowed}
+use Rattle.just_cli.specs.Words.{WordsRequest, ReadRequest, FolderRequest, ConfigRequest, LocatedRequest, JustfileRequest, FindsEnviron, ReadsWords, FindsFolder, Configures, FindsLocation, FindsJustfile, TakesFile}
 use Rattle.just_exec.specs.Refusals.{error_of_search}
 use Rattle.just_lang_types.specs.Modules.{settings_of, AreModules}
 use Rattle.just_cli_plan.proofs.AgreeLaws.{loads_agree}
@@ -55,17 +56,19 @@ use Rattle.just_cli_texts.specs.Kinds.{kind_of}
 use Rattle.just_cli_texts.specs.Laid.{LaidSources, LaidRequest, project_with, FindsLaid}
 use Rattle.just_cli_texts.specs.Prints.{as_printed}
 use Rattle.just_cli_texts.proofs.Printers.{texts}
-use Rattle.just_cli.specs.Commands.{as_shown, is_file, anew_or, PrintsIt, EvaluatesIt, EvaluatesLaid, CleansIt, FormatsFile, CommandsAt}
+use Rattle.just_cli.specs.Choosing.{ChoosesFor, ChoosesAt}
+use Rattle.just_cli.specs.Commands.{as_shown, is_file, anew_or, PrintsIt, EvaluatesIt, EvaluatesLaid, CleansIt, FormatsFile, EditsIt, InvokesIt, InvokesLaid, CommandsAt}
 use Rattle.just_cli.specs.Replies.{Reply, as_list, as_plan, Replies, RepliesLoaded}
 use Rattle.just_cli.proofs.OnePairs.{own_refused, Ends, modules_one, behind_own_of}
 use Rattle.just_cli_plan.specs.Steps.{Then, stops, goes_on}
-use Rattle.just_cli.specs.Asked.{Asked, as_reply, as_other, as_new, EnvironGiven, FolderGiven, RunsTried, CommandAsks, AsksBy, AsksAt, AsksAlone, Searches, Decides, Serves, AsksAs, AsksRead, Asks}
+use Rattle.just_cli.specs.Asked.{Asked, as_reply, as_choice, as_other, as_new, EnvironGiven, FolderGiven, RunsTried, ChoosesTried, CommandAsks, AsksBy, AsksAt, AsksAlone, Searches, Decides, Serves, AsksAs, AsksRead, Asks}
 use Rattle.just_cli.specs.Request.{LoadsSources, FindsProjectOf, FindsProjectAt, RepliesTo, AnswersAt, Tries, NoneFailed}
 use Rattle.just_cli.specs.declared.task.Other.{Other}
 use Rattle.just_cli.specs.declared.task.Other.TheVariants as no_run
 use Rattle.just_cli.proofs.Arguments.{arguments_one}
 use Rattle.just_cli.proofs.OneLocation.{by_one, own_unfailed}
 use Rattle.just_cli.proofs.Climbing.{climb_of_first}
+use Rattle.just_cli.proofs.OneChoice.{RepliesOne, choices_one}
 use Rattle.just_cli.proofs.OneTried.{own_answer, AnswersOne, from_one}
 use Rattle.just_cli.proofs.OneNew.{new_own}
 use Rattle.just_cli.proofs.OneSearch.{search_refused}
@@ -149,20 +152,11 @@ reads_words k (Err e) (Ok b) p m q n = absurd (read_or_fault b.meaning p.0 (one_
 reads_words k (Err e) (Err f) p m q n = ap (λ x. Err x) (p.2 ∙ ap (λ u. error.Usage u) (one_meaning k.words k.environ.pairs (Err p.0) (Err q.0) p.1 q.1) ∙ sym q.2)
 
 -- arguments give one configuration, or are refused with one error
-gives_config : GivesOwn GivesConfig
-gives_config k (Ok a) (Ok b) p m q n = ap (λ x. Ok x) (p.1 ∙ sym q.1)
-gives_config k (Ok a) (Err f) p m q n = absurd (held_none _ q.0 p.0 q.1)
-gives_config k (Err e) (Ok b) p m q n = absurd (held_none _ p.0 q.0 p.1)
-gives_config k (Err e) (Err f) p m q n = ap (λ x. Err x) (p.2 ∙ ap (λ c. error.Config c) (held_one _ p.0 q.0 p.1 q.1) ∙ sym q.2)
-
-is_built : GivesOwn IsBuilt
-is_built k (Ok a) (Ok b) p m q n = ap (λ x. Ok x) (p.1 ∙ sym q.1)
-is_built k (Ok a) (Err f) p m q n = absurd (held_none _ q.0 p.0 q.1)
-is_built k (Err e) (Ok b) p m q n = absurd (held_none _ p.0 q.0 p.1)
-is_built k (Err e) (Err f) p m q n = ap (λ x. Err x) (p.2 ∙ ap (λ x. error.NotBuilt x) (held_one _ p.0 q.0 p.1 q.1) ∙ sym q.2)
-
 configures : GivesOwn Configures
-configures = then_own GivesConfig IsBuilt gives_config is_built
+configures k (Ok a) (Ok b) p m q n = ap (λ x. Ok x) (p.1 ∙ sym q.1)
+configures k (Ok a) (Err f) p m q n = absurd (held_none _ q.0 p.0 q.1)
+configures k (Err e) (Ok b) p m q n = absurd (held_none _ p.0 q.0 p.1)
+configures k (Err e) (Err f) p m q n = ap (λ x. Err x) (p.2 ∙ ap (λ c. error.Config c) (held_one _ p.0 q.0 p.1 q.1) ∙ sym q.2)
 
 -- ---- the place of the justfile
 
@@ -371,6 +365,9 @@ evaluates_own c s r t (x, p, is) own (y, o, at) other =
 values_one : (c : Config) → GivesOwnOf EndsLoaded (Then EvaluatesVariables (EvaluatesIt c))
 values_one c = then_own_of EndsLoaded (λ (s : ScopesRequest). Unit {0}) EvaluatesVariables (EvaluatesIt c) evaluates_variables (λ k ends found p. tt) (own_of (λ (s : ScopesRequest). Unit {0}) (EvaluatesIt c) (evaluates_own c))
 
+invokes_one : (c : Config) → GivesOwnOf EndsLoaded (Then EvaluatesVariables (InvokesIt c))
+invokes_one c = then_own_of EndsLoaded (λ (s : ScopesRequest). Unit {0}) EvaluatesVariables (InvokesIt c) evaluates_variables (λ k ends found p. tt) (own_of (λ (s : ScopesRequest). Unit {0}) (InvokesIt c) (λ s x y a m b n. a ∙ sym b))
+
 -- a file has one text
 text_one : (w : World) (path x y : List ℕ) → told_read w path ≡ Ok x → told_read w path ≡ Ok y → x ≡ y
 text_one w path x y p q = let both : ◌≡◌ {A = Result (List ℕ) Miss} (Ok x) (Ok y) = sym p ∙ q in cc
@@ -416,14 +413,22 @@ commands_own kind.Format w acts more rest left after later q r s p own o other a
 commands_own kind.Run w acts more rest left after later q r s p own o other all told = absurd p
 commands_own kind.New w acts more rest left after later q r s p own o other all told = absurd p
 commands_own kind.Respond w acts more rest left after later q r s p own o other all told = absurd p
-commands_own kind.Later w acts more rest left after later q r s p own o other all told = absurd p
+commands_own kind.Edit w acts more rest left after later q r s p own o other all told =
+    behind_own TakesFile (Looks (λ now. EditsIt)) takes_file (looks_own (λ now. EditsIt) (λ v k x y a m b n. a ∙ sym b)) w acts more rest left after later q r s p own o other all told
+commands_own kind.Command w acts more rest left after later q r s p own o other all told =
+    behind_own_of FindsProjectAt (InvokesLaid q.config) Ends project_own project_ends (modules_one (Then EvaluatesVariables (InvokesIt q.config)) (invokes_one q.config)) w acts more rest left after later q r s p own o other all told
+commands_own kind.Choose w acts more rest left after later q r s p own o other all told = absurd p
 
 -- ---- behind the configuration
 
 -- what is asked for is determined where what it comes from is
-own_reply : (x : Result Reply Error) (r : Result Asked Error) → r ≡ as_reply x → IsOwn r → IsOwn x
-own_reply (Ok o) r is own = tt
-own_reply (Err e) r is own = subst (λ (z : Result Asked Error). IsOwn z) is own
+own_reply : (dry : Bool) (x : Result Reply Error) (r : Result Asked Error) → r ≡ as_reply dry x → IsOwn r → IsOwn x
+own_reply dry (Ok o) r is own = tt
+own_reply dry (Err e) r is own = subst (λ (z : Result Asked Error). IsOwn z) is own
+
+own_choice : (dry : Bool) (x : Result (Option Reply) Error) (r : Result Asked Error) → r ≡ as_choice dry x → IsOwn r → IsOwn x
+own_choice dry (Ok o) r is own = tt
+own_choice dry (Err e) r is own = subst (λ (z : Result Asked Error). IsOwn z) is own
 
 own_other : (x : Result Other Error) (r : Result Asked Error) → r ≡ as_other x → IsOwn r → IsOwn x
 own_other (Ok c) r is own = tt
@@ -435,8 +440,21 @@ own_new (Err e) r is own = subst (λ (z : Result Asked Error). IsOwn z) is own
 
 runs_own : GivesOwnStep RunsTried
 runs_own w acts more rest left after later q r s (x, p, is) own (y, o, at) other all told =
-    let one = tries_own w acts more rest left after later q x y p (own_reply x r is own) o (own_reply y s at other) all told in
-    record { same = is ∙ (ap (λ z. as_reply z) one.same ∙ sym at); rests = one.rests; world = one.world; told = one.told; also = one.also }
+    let one = tries_own w acts more rest left after later q x y p (own_reply q.config.dry_run x r is own) o (own_reply q.config.dry_run y s at other) all told in
+    record { same = is ∙ (ap (λ z. as_reply q.config.dry_run z) one.same ∙ sym at); rests = one.rests; world = one.world; told = one.told; also = one.also }
+
+-- and so is what words ask for that are chosen
+replies_behind : RepliesOne
+replies_behind c w acts more rest left after later p ends r s h own g other all told = modules_one (RepliesLoaded c p) (loaded_one c p) w acts more rest left after later p ends r s h own g other all told
+
+choices_at : GivesOwnStep ChoosesAt
+choices_at w acts more rest left after later q r s p own o other all told =
+    behind_own_of FindsProjectAt (ChoosesFor q) Ends project_own project_ends (λ v front fore rests lefts behind late k. choices_one answers_one replies_behind q k v front fore rests lefts behind late) w acts more rest left after later q r s p own o other all told
+
+choices_own : GivesOwnStep ChoosesTried
+choices_own w acts more rest left after later q r s (x, p, is) own (y, o, at) other all told =
+    let one = choices_at w acts more rest left after later q x y p (own_choice q.config.dry_run x r is own) o (own_choice q.config.dry_run y s at other) all told in
+    record { same = is ∙ (ap (λ z. as_choice q.config.dry_run z) one.same ∙ sym at); rests = one.rests; world = one.world; told = one.told; also = one.also }
 
 -- a command asks one thing of the justfile in a place
 command_own : (k : Kind) → GivesOwnStep (CommandAsks k)
@@ -452,7 +470,9 @@ by_own kind.Format = command_own kind.Format
 by_own kind.Clean = command_own kind.Clean
 by_own kind.Evaluate = command_own kind.Evaluate
 by_own kind.Print = command_own kind.Print
-by_own kind.Later = command_own kind.Later
+by_own kind.Edit = command_own kind.Edit
+by_own kind.Command = command_own kind.Command
+by_own kind.Choose = choices_own
 
 at_own : GivesOwnStep AsksAt
 at_own w acts more rest left after later q r s p own o other all told = by_own (kind_of q.config.subcommand) w acts more rest left after later q r s p own o other all told
@@ -466,7 +486,9 @@ alone_own w kind.Format c r s p own q other = absurd p
 alone_own w kind.Clean c r s p own q other = absurd p
 alone_own w kind.Evaluate c r s p own q other = absurd p
 alone_own w kind.Print c r s p own q other = absurd p
-alone_own w kind.Later c r s p own q other = absurd p
+alone_own w kind.Edit c r s p own q other = absurd p
+alone_own w kind.Command c r s p own q other = absurd p
+alone_own w kind.Choose c r s p own q other = absurd p
 
 -- what only the words answer takes no act
 one_text : (w : World) (acts more rest left : List Act) (after later : Option World) (x : Asked) (r s : Result Asked Error) → (acts ≡ []) × (after ≡ Some w) × (r ≡ Ok x) → (more ≡ []) × (later ≡ Some w) × (s ≡ Ok x) → acts ++ rest ≡ more ++ left

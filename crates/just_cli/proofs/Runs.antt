@@ -4,7 +4,8 @@ use Rattle.std.specs.List.{list_any}
 use Rattle.std.proofs.Math.Logic.{∥∥₁_map}
 use Rattle.std.proofs.lemmas.List.{append_cancel_left}
 use Rattle.just_host_record.specs.World.{World, Moment}
-use Rattle.just_host_record.specs.Record.{is_failed, is_started}
+use Rattle.just_host_record.specs.Record.{children, is_failed, is_started}
+use Rattle.just_host_record.specs.declared.entry.Call.TheVariants as call
 use Rattle.just_host_record.specs.declared.entry.Entry.{Entry}
 use Rattle.just_host_record.specs.declared.entry.Entry.TheVariants as entry
 use Rattle.just_host_record.specs.declared.entry.Stream.TheVariants as stream
@@ -34,16 +35,21 @@ use Rattle.just_config.specs.declared.help.TheConstants.{HELP}
 use Rattle.just_cli_texts.specs.declared.printed.Printed.{Printed}
 use Rattle.just_cli.specs.declared.task.Other.{Other}
 use Rattle.just_cli.specs.declared.task.Other.TheVariants as no_run
-use Rattle.just_cli.specs.Faults.{entries_of}
+use Rattle.just_cli_children.specs.declared.child.Child.{Child}
+use Rattle.just_cli_children.specs.Children.{RunsAlone}
+use Rattle.just_cli_children.specs.DryRuns.{told_of_all, Tells}
+use Rattle.just_cli_children.specs.Faults.{entries_of}
+use Rattle.just_cli.specs.Dry.{IsPlanTold}
+use Rattle.just_cli.specs.Invoked.{IsInvoked}
 use Rattle.just_cli.specs.Other.{Does, HeedsQuiet, LeavesFor, StaysFor}
-use Rattle.just_cli.specs.Printing.{told_beside, IsUnprintedBy, IsPrinted, IsIdle}
+use Rattle.just_cli.specs.Printing.{told_beside, TellsError, IsUnprintedBy, IsPrinted, IsIdle}
 use Rattle.just_cli.specs.Questions.{version_line, IsShown}
 use Rattle.just_cli.specs.Record.{Gains, IsTold, AreRefusals, is_captured, IsQuiet, Removes, EndsWell, EndsIll, EndsUnopened, EndsBefore}
 use Rattle.just_cli_plan.specs.Request.{outline_of}
 use Rattle.just_cli.specs.Answered.{Asking, RefusedFor, IsServed}
 use Rattle.just_cli.specs.Asked.{Asked}
 use Rattle.just_cli.specs.Request.{ArePassed}
-use Rattle.just_cli.specs.Run.{HasPlan, IsRun, IsRefused, IsOther, refusal}
+use Rattle.just_cli.specs.Run.{HasPlan, IsRun, IsRefused, IsOther, IsDry, refusal}
 use Rattle.just_exec.specs.Codes.{exit_code}
 use Rattle.just_cli.proofs.Altering.{quiet_first, quiet_rest, clearing, removes_none, behind_book, ends_as_it_was, stays_as_it_was}
 use Rattle.just_cli.proofs.Answered.{AsksOneIn, is_found}
@@ -159,37 +165,69 @@ cleared_so folders acts settled after same removes =
     let c = clearing folders settled after removes in
     ((c.0, c.1, c.2), subst (λ fs. Removes fs settled after) same removes)
 
--- the record gained some entries, and the world stays
+-- the record gained some entries, and where they show no child and no failure, the world stays
 abbrev GainsStill : Moment → Moment → Type 0
-GainsStill between settled = (xs : List Entry) × (settled.entries ≡ between.entries ++ xs) × (settled.world ≡ between.world)
+GainsStill between settled = (xs : List Entry) × (settled.entries ≡ between.entries ++ xs) × (list_any is_started xs ≡ false → list_any is_failed xs ≡ false → settled.world ≡ between.world)
+
+-- behind some entries the error is told
+still_behind_told : (quiet : Bool) (e : Error) (between now settled : Moment) → GainsStill between now → TellsError quiet e now.entries settled.entries → settled.world ≡ now.world → GainsStill between settled
+still_behind_told quiet e between now settled (xs, grew, still) told world = (
+  xs ++ told.0,
+  told.1 ∙ (ap (λ l. l ++ told.0) grew ∙ append_assoc between.entries xs told.0),
+  λ child fail. world ∙ still (quiet_first is_started xs told.0 child) (quiet_first is_failed xs told.0 fail),
+)
 
 shown_still : (text : List ℕ) (between settled : Moment) (r : Result Report Failure) → IsShown text between settled r → GainsStill between settled
-shown_still text between settled (Ok x) k = (entry.Printed stream.Out text ∷ [], k.shown.1, k.world)
+shown_still text between settled (Ok x) k = (entry.Printed stream.Out text ∷ [], k.shown.1, λ child fail. k.world)
 shown_still text between settled (Err f) k =
     let ends = k.unshown.4 in
-    let s = ends.stretches in (s.pre ++ (s.mid ++ s.post), s.grew, k.world)
+    let s = ends.stretches in (s.pre ++ (s.mid ++ s.post), s.grew, λ child fail. k.world)
 
 unprinted_gains : (p : Printed) (quiet : Bool) (e : Error) (old now : List Entry) → IsUnprintedBy p quiet e old now → (xs : List Entry) × (now ≡ old ++ xs)
 unprinted_gains p quiet e old now (IsUnprintedBy.no_text why grew) = (entries_of e, grew)
 unprinted_gains p quiet e old now (IsUnprintedBy.no_line line some loud why grew) = (entry.Printed stream.Out p.text ∷ entries_of e, grew)
 
 printed_still : (p : Printed) (quiet : Bool) (between settled : Moment) (r : Result Report Failure) → IsPrinted p quiet between settled r → GainsStill between settled
-printed_still p quiet between settled (Ok x) k = (entry.Printed stream.Out p.text ∷ told_beside quiet p.told, k.printed.1, k.world)
+printed_still p quiet between settled (Ok x) k = (entry.Printed stream.Out p.text ∷ told_beside quiet p.told, k.printed.1, λ child fail. k.world)
 printed_still p quiet between settled (Err f) k =
     let why = k.unprinted.1 in
     let gains = unprinted_gains p quiet f.error between.entries why.0 why.1 in
     let told = why.2 in
-    (gains.0 ++ told.0, told.1 ∙ (ap (λ l. l ++ told.0) gains.1 ∙ append_assoc between.entries gains.0 told.0), k.world)
+    (gains.0 ++ told.0, told.1 ∙ (ap (λ l. l ++ told.0) gains.1 ∙ append_assoc between.entries gains.0 told.0), λ child fail. k.world)
 
 idle_still : (between settled : Moment) (r : Result Report Failure) → IsIdle between settled r → GainsStill between settled
-idle_still between settled r k = ([], k.entries ∙ sym (append-nil between.entries), k.world)
+idle_still between settled r k = ([], k.entries ∙ sym (append-nil between.entries), λ child fail. k.world)
+
+-- a child that is run alone is shown, or its failure
+alone_still : (c : Child) (between settled : Moment) (r : Result (Unit {0}) Error) → RunsAlone c between settled r → GainsStill between settled
+alone_still c between settled r (RunsAlone.ended s grew touched is) = (entry.Started (children between.entries) c.spec ∷ entry.Ended (children between.entries) s ∷ [], grew, λ child fail. absurd (true≢false child))
+alone_still c between settled r (RunsAlone.unwaited grew touched is) = (entry.Started (children between.entries) c.spec ∷ entry.Failed call.Wait ∷ [], grew, λ child fail. absurd (true≢false child))
+alone_still c between settled r (RunsAlone.unstarted grew touched is) = (entry.Failed call.Start ∷ [], grew, λ child fail. absurd (true≢false fail))
+alone_still c between settled r (RunsAlone.no_memory grew world is) = ([], grew ∙ sym (append-nil between.entries), λ child fail. world)
+
+invoked_still : (c : Child) (quiet : Bool) (between settled : Moment) (r : Result Report Failure) → IsInvoked c quiet between settled r → GainsStill between settled
+invoked_still c quiet between settled (Ok x) k = alone_still c between settled (Ok tt) k.well.1
+invoked_still c quiet between settled (Err f) k =
+    let why = k.unwell.1 in
+    still_behind_told quiet f.error between why.0 settled (alone_still c between why.0 (Err f.error) why.1) why.2 why.3
+
+-- what is told of a plan leaves the world
+tells_still : (all : List Entry) (between settled : Moment) (r : Result (Unit {0}) Error) → Tells all between settled r → GainsStill between settled
+tells_still all between settled r (Tells.all_told grew world is) = (all, grew, λ child fail. world)
+tells_still all between settled r (Tells.cut_short e cut world is) = (cut.front ++ entries_of e, cut.grew, λ child fail. world)
+
+dry_still : (plan : Plan) (quiet : Bool) (between settled : Moment) (r : Result Report Failure) → IsPlanTold plan quiet between settled r → GainsStill between settled
+dry_still plan quiet between settled (Ok x) k = tells_still (told_of_all plan.nodes) between settled (Ok tt) k.told.2
+dry_still plan quiet between settled (Err f) k =
+    let why = k.untold.1 in
+    still_behind_told quiet f.error between why.0 settled (tells_still (told_of_all plan.nodes) between why.0 (Err f.error) why.1) why.2 why.3
 
 module _ (q : Asking) (before between settled after : Moment) (listings : List Entry) (kept made : List (List ℕ)) (none : kept ≡ []) (x : Asked) (p : Ready q listings before between kept made (Ok x)) (removes : Removes made settled after) where
   removed_here : Removes (folders_in p.acts) settled after
   removed_here = subst (λ fs. Removes fs settled after) (made_are kept made (folders_in p.acts) none p.folders) removes
 
   still_behind : GainsStill between settled → (es : List Entry) → after.entries ≡ before.entries ++ es → IsQuiet es → StaysAsItWas (folders_in p.acts) before.world after.world
-  still_behind (xs, gained, world) es grown calm =
+  still_behind (xs, gained, stays) es grown calm =
       let c = clearing (folders_in p.acts) settled after removed_here in
       let rest = xs ++ c.0 in
       let same : es ≡ listings ++ (p.entries ++ rest) =
@@ -199,6 +237,8 @@ module _ (q : Asking) (before between settled after : Moment) (listings : List E
       no_children p.acts p.leaves.0 p.leaves.1
       (ap (λ l. list_any is_captured l) (sym p.leaves.2) ∙ quiet_first is_captured p.entries rest (quiet_rest is_captured listings (p.entries ++ rest) (ap (λ l. list_any is_captured l) (sym same) ∙ calm.no_capture))) in
       let still : list_any is_failed (p.entries ++ rest) ≡ false = quiet_rest is_failed listings (p.entries ++ rest) (ap (λ l. list_any is_failed l) (sym same) ∙ calm.no_failure) in
+      let childless : list_any is_started rest ≡ false = quiet_rest is_started p.entries rest (quiet_rest is_started listings (p.entries ++ rest) (ap (λ l. list_any is_started l) (sym same) ∙ calm.no_child)) in
+      let world : settled.world ≡ between.world = stays (quiet_first is_started xs c.0 childless) (quiet_first is_failed xs c.0 (quiet_rest is_failed p.entries rest still)) in
       stays_as_it_was (folders_in p.acts) before.world between.world after.world (λ empty. p.still empty alone (quiet_first is_failed p.entries rest still)) (p.alters [] alone (quiet_first is_failed p.entries rest still))
       (λ empty. ap (λ (m : Moment). m.world) (removes_none (folders_in p.acts) settled after empty removed_here) ∙ world)
       (subst (λ w. IsAltered (folders_in p.acts) [] w after.world) world (c.3 [] (quiet_rest is_failed xs c.0 (quiet_rest is_failed p.entries rest still))))
@@ -211,6 +251,26 @@ module _ (q : Asking) (before between settled after : Moment) (listings : List E
   stays_for no_run.Nothing quiet r does es grown calm = still_behind (idle_still between settled r does) es grown calm
   stays_for (no_run.Write path text) quiet r does es grown calm = tt
   stays_for (no_run.Clean folder path) quiet r does es grown calm = tt
+  stays_for (no_run.Invoke child) quiet r does es grown calm = still_behind (invoked_still child quiet between settled r does) es grown calm
+
+-- a plan is told for it
+pub dry_done : (q : Asking) (before between settled after : Moment) → AsksOneIn q before.world → (kept made : List (List ℕ)) (plan : Plan) (jobs : Option ℕ) (messages : List Bool) (quiet : Bool) (r : Result Report Failure) → kept ≡ []
+    → Prepares {A = Asked} q.global q.asks q.begins before between kept made (Ok (Asked.dry (outline_of plan jobs messages))) → q.quiet quiet → IsPlanTold plan quiet between settled r → Removes made settled after → IsDry q (outline_of plan jobs messages) before after r
+dry_done q before between settled after one kept made plan jobs messages quiet r none (listings, passed, p) asks_quiet told removes = record {
+  listings = listings;
+  acts = p.acts;
+  between = between;
+  settled = settled;
+  found = is_found q before.world one listings passed p.acts between.world (Ok (Asked.dry (outline_of plan jobs messages))) p.answers;
+  prepared = (listings ++ p.entries, p.grew ∙ append_assoc before.entries listings p.entries, leaves_behind listings p.acts p.entries p.leaves);
+  quiet = quiet;
+  quiet_is = asks_quiet;
+  plan = plan;
+  outlined = refl;
+  told = told;
+  cleared = cleared_so made (folders_in p.acts) settled after (made_are kept made (folders_in p.acts) none p.folders) removes;
+  untouched = λ es grown calm. still_behind q before between settled after listings kept made none (Asked.dry (outline_of plan jobs messages)) p removes (dry_still plan quiet between settled r told) es grown calm;
+}
 
 -- what was done for it
 pub other_done : (q : Asking) (before between settled after : Moment) → AsksOneIn q before.world → (kept made : List (List ℕ)) (x : Asked) (c : Other) (quiet : Bool) (r : Result Report Failure)

@@ -21,7 +21,7 @@ use Rattle.just_cli.specs.declared.task.Task.{Task}
 use Rattle.just_cli.specs.declared.task.Task.TheVariants as task
 use Rattle.just_cli.specs.Acts.{Act, Behind, BeginsBehind}
 use Rattle.just_cli.specs.Asked.{Asked, AsksAlone, AsksAt, BeginsAsks, Decides, Serves, EnvironGiven, FolderGiven, Asks, AsksGlobal, BeginsServes, Begins}
-use Rattle.just_cli.specs.Faults.{entries_of}
+use Rattle.just_cli_children.specs.Faults.{entries_of}
 use Rattle.just_cli.specs.Preparing.{AreMisses, EndsWith}
 use Rattle.just_cli.specs.Quiet.{AsksQuiet}
 use Rattle.just_cli.specs.Request.{ArePassed}
@@ -173,6 +173,7 @@ module _ (words : List (List ℕ)) (before : Moment) (kept : List (List ℕ)) wh
 
       pub words_served : (t : Task) → Served a environ seen after kept keeps (Ok (asked_in t)) → quiet_in t ≡ a.quiet → IsNoQuestion t → IsTask words before after kept keeps t
       words_served (task.Run p jobs messages quiet) served is found = task_so (asked_in (task.Run p jobs messages quiet)) quiet served is
+      words_served (task.Dry p jobs messages quiet) served is found = task_so (asked_in (task.Dry p jobs messages quiet)) quiet served is
       words_served (task.List p quiet) served is found = task_so (Asked.listing p) quiet served is
       words_served (task.Other no_run.Help quiet) served is found = absurd found
       words_served (task.Other no_run.Version quiet) served is found = absurd found
@@ -181,6 +182,7 @@ module _ (words : List (List ℕ)) (before : Moment) (kept : List (List ℕ)) wh
       words_served (task.Other no_run.Nothing quiet) served is found = task_so (Asked.other no_run.Nothing) quiet served is
       words_served (task.Other (no_run.Write path text) quiet) served is found = task_so (Asked.other (no_run.Write path text)) quiet served is
       words_served (task.Other (no_run.Clean folder path) quiet) served is found = (served_so (Ok (Asked.other (no_run.Clean folder path))) served, asks_so quiet is, found)
+      words_served (task.Other (no_run.Invoke child) quiet) served is found = (served_so (Ok (Asked.other (no_run.Invoke child))) served, asks_so quiet is, found)
 
       pub words_unserved : (e : Error) → Served a environ seen after kept keeps (Err e) → PreparesWords words before after kept keeps (Err e)
       words_unserved e served = served_so (Err e) served

@@ -12,7 +12,7 @@ use Rattle.just_cli.specs.declared.ended.Report.{Report}
 use Rattle.just_exec.specs.declared.error.Error.{Error}
 use Rattle.just_exec.specs.declared.error.Error.TheVariants as error
 use Rattle.just_cli_plan.specs.Own.{OrMemory}
-use Rattle.just_cli.specs.Faults.{entries_of, print_error}
+use Rattle.just_cli_children.specs.Faults.{entries_of, print_error}
 use Rattle.just_cli.specs.Questions.{IsShown}
 use Rattle.just_cli.specs.Record.{IsTold}
 use Rattle.just_exec.specs.Codes.{exit_code}

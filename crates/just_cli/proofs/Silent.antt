@@ -4,8 +4,8 @@ use Rattle.just_path_text.specs.declared.environ.Environ.{Environ}
 use Rattle.just_exec.specs.declared.error.Error.{Error}
 use Rattle.just_cli_plan.specs.Own.{OrMemory}
 use Rattle.just_cli_plan.specs.Steps.{Then, stops, goes_on}
-use Rattle.just_cli.specs.Faults.{entries_of}
-use Rattle.just_cli.specs.Words.{WordsRequest, FolderRequest, ReadsWords, GivesConfig, IsBuilt, Configures}
+use Rattle.just_cli_children.specs.Faults.{entries_of}
+use Rattle.just_cli.specs.Words.{WordsRequest, FolderRequest, ReadsWords, Configures}
 
 -- a step refuses by no call
 abbrev pub IsSilent : {A B : Type 0} → (A → Result B Error → Type 0) → Type 0
@@ -23,14 +23,8 @@ or_silent holds e each (inr is) = each e is
 pub words_silent : (q : WordsRequest) (e : Error) → OrMemory (λ x. ReadsWords q (Err x)) e → entries_of e ≡ []
 words_silent q e why = or_silent (λ x. ReadsWords q (Err x)) e (λ x faulty. ap (λ y. entries_of y) faulty.2) why
 
-gives_silent : IsSilent GivesConfig
-gives_silent q e why = ap (λ x. entries_of x) why.2
-
-built_silent : IsSilent IsBuilt
-built_silent c e why = ap (λ x. entries_of x) why.2
-
 configures_silent : IsSilent Configures
-configures_silent = then_silent GivesConfig IsBuilt gives_silent built_silent
+configures_silent q e why = ap (λ x. entries_of x) why.2
 
 pub configuration_silent : (q : Environ → FolderRequest) (environ : Environ) (e : Error) → OrMemory (λ x. (k : Environ) → Configures (q k) (Err x)) e → entries_of e ≡ []
 configuration_silent q environ e why = or_silent (λ x. (k : Environ) → Configures (q k) (Err x)) e (λ x configures. configures_silent (q environ) x (configures environ)) why

@@ -26,7 +26,7 @@ use Rattle.just_sched_history.specs.declared.plan_node.PlanNode.{PlanNode}
 use Rattle.just_cli.specs.Acts.{Act, folders_in, uncaptured_in, AreActs}
 use Rattle.just_cli.specs.Altered.{IsAltered}
 use Rattle.just_cli_plan.specs.Pairs.{entries_of as entries_in}
-use Rattle.just_cli.specs.Options.{cache_beside, wanted_of}
+use Rattle.just_cli_children.specs.Configs.{cache_beside, wanted_of}
 use Rattle.just_cli.specs.Preparing.{Performs}
 use Rattle.just_cli.specs.Taken.{TakesWanted}
 use Rattle.just_cli.specs.Words.{LocatedRequest, JustfileRequest, TakesFile, BeginsIn}

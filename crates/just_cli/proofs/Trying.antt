@@ -13,7 +13,7 @@ use Rattle.just_cli_plan.specs.Own.{OrMemory, is_uncaptured}
 use Rattle.just_cli.specs.Replies.{Reply}
 use Rattle.just_cli.specs.Acts.{Act}
 use Rattle.just_cli_plan.specs.Pairs.{entries_of as entries_in}
-use Rattle.just_cli.specs.Faults.{entries_of}
+use Rattle.just_cli_children.specs.Faults.{entries_of}
 use Rattle.just_cli.specs.Options.{is_lacking, is_missing, empty_outline}
 use Rattle.just_cli.specs.Preparing.{Answers, Performs}
 use Rattle.just_cli.specs.Words.{ConfigRequest, LocatedRequest}
@@ -26,42 +26,42 @@ use Rattle.just_cli.proofs.Planless.{lacking_silent}
 use Rattle.just_cli.proofs.Prepared.{performs_as, performs_lost, performs_instead, performs_looking, performs_then, performs_answer}
 
 -- want of memory lacks nothing, and names nothing that may be missing
-memory_lacks : (e : Error) → e ≡ error.NoMemory → is_lacking e ≡ true → ⊥
+pub memory_lacks : (e : Error) → e ≡ error.NoMemory → is_lacking e ≡ true → ⊥
 memory_lacks e wants lack = true≢false (sym lack ∙ ap (λ x. is_lacking x) wants)
 
-memory_there : (e : Error) → e ≡ error.NoMemory → is_missing e ≡ true → ⊥
+pub memory_there : (e : Error) → e ≡ error.NoMemory → is_missing e ≡ true → ⊥
 memory_there e wants missing = true≢false (sym missing ∙ ap (λ x. is_missing x) wants)
 
-and_false : (fallback lack : Bool) → (fallback && lack) ≡ false → (lack && fallback) ≡ false
+pub and_false : (fallback lack : Bool) → (fallback && lack) ≡ false → (lack && fallback) ≡ false
 and_false true true stays = stays
 and_false true false stays = refl
 and_false false true stays = refl
 and_false false false stays = refl
 
-and_true : (fallback lack : Bool) → (fallback && lack) ≡ true → (fallback ≡ true) × (lack ≡ true)
+pub and_true : (fallback lack : Bool) → (fallback && lack) ≡ true → (fallback ≡ true) × (lack ≡ true)
 and_true true true is = (refl, refl)
 and_true true false is = absurd (cc)
 and_true false lack is = absurd (cc)
 
 -- names that are missing are told of no call
-lacking_in : (parent : List ℕ) (e : Error) → is_lacking e ≡ true → entries_in parent e ≡ []
+pub lacking_in : (parent : List ℕ) (e : Error) → is_lacking e ≡ true → entries_in parent e ≡ []
 lacking_in parent (error.UnknownRecipe recipe) is = refl
 lacking_in parent (error.UnknownSubmodule path) is = refl
 lacking_in parent _ is = absurd (cc)
 
-missing_in : (parent : List ℕ) (e : Error) → is_missing e ≡ true → entries_in parent e ≡ []
+pub missing_in : (parent : List ℕ) (e : Error) → is_missing e ≡ true → entries_in parent e ≡ []
 missing_in parent (error.UnknownRecipe recipe) is = refl
 missing_in parent (error.UnknownSubmodule path) is = refl
 missing_in parent (error.ModuleAbsent m) is = refl
 missing_in parent _ is = absurd (cc)
 
 -- nor of a child that wasn't run to its end
-lacking_captured : (e : Error) → is_lacking e ≡ true → is_uncaptured e ≡ false
+pub lacking_captured : (e : Error) → is_lacking e ≡ true → is_uncaptured e ≡ false
 lacking_captured (error.UnknownRecipe recipe) is = refl
 lacking_captured (error.UnknownSubmodule path) is = refl
 lacking_captured _ is = absurd (cc)
 
-missing_captured : (e : Error) → is_missing e ≡ true → is_uncaptured e ≡ false
+pub missing_captured : (e : Error) → is_missing e ≡ true → is_uncaptured e ≡ false
 missing_captured (error.UnknownRecipe recipe) is = refl
 missing_captured (error.UnknownSubmodule path) is = refl
 missing_captured (error.ModuleAbsent m) is = refl

@@ -1,5 +1,5 @@
 -- What words ask for: one chain of steps from the words to a run, to what is no run, or to a refusal.
-use Rattle.std.specs.Prelude.{ℕ, ◌≡◌, true, false, List, [], Option, option_map, Result, Ok, Err}
+use Rattle.std.specs.Prelude.{ℕ, ◌≡◌, Bool, true, false, if◌then◌else◌, List, [], Option, Some, None, option_map, Result, Ok, Err}
 use Rattle.just_path_text.specs.declared.environ.Environ.{Environ}
 use Rattle.just_path.specs.declared.host.Miss.{Miss}
 use Rattle.just_host_record.specs.declared.entry.Call.TheVariants as call
@@ -20,14 +20,15 @@ use Rattle.just_cli_texts.specs.Responses.{requested, responded}
 use Rattle.just_cli.specs.declared.task.Other.{Other}
 use Rattle.just_cli.specs.declared.task.Other.TheVariants as no_run
 use Rattle.just_cli.specs.Acts.{Act, Step, Begun, NoAct, Looks, Behind, BeginsBehind}
-use Rattle.just_cli.specs.Faults.{CallGives, io_error, folder_error}
+use Rattle.just_cli_children.specs.Faults.{CallGives, io_error, folder_error}
+use Rattle.just_cli.specs.Choosing.{ChoosesAt, BeginsChoosesAt}
 use Rattle.just_cli.specs.Commands.{as_shown, CommandsAt, BeginsCommand}
 use Rattle.just_cli.specs.NewPath.{FindsFree}
 use Rattle.just_cli.specs.Replies.{Reply}
 use Rattle.just_cli.specs.Request.{Tries, BeginsTries}
 use Rattle.just_cli.specs.Words.{ReadRequest, ArgumentsRequest, ConfigRequest, LocatedRequest, FindsEnviron, ReadsWords, FindsFolder, Configures, FindsLocation, FindsJustfile}
 
--- What is asked for: what is no run; the listing of a module in the place of a run; a run of that outline; or a dry run of it. Nothing asks for a dry run yet.
+-- What is asked for: what is no run; the listing of a module in the place of a run; a run of that outline; or a dry run of it.
 pub data Asked : Type 0 where
   other : Other → Asked
   listing : Printed → Asked
@@ -51,14 +52,27 @@ FolderGiven told = CallGives call.Current folder_error (option_map folder_shown 
 
 -- ---- behind the configuration
 
+-- a plan is run, or only told
+abbrev pub as_run : Bool → Outline → Asked
+as_run only_told o = if only_told then Asked.dry o else Asked.run o
+
 -- what the justfiles answer that are tried
-abbrev pub as_reply : Result Reply Error → Result Asked Error
-as_reply (Ok (Reply.lists p)) = Ok (Asked.listing p)
-as_reply (Ok (Reply.runs o)) = Ok (Asked.run o)
-as_reply (Err e) = Err e
+abbrev pub as_reply : Bool → Result Reply Error → Result Asked Error
+as_reply only_told (Ok (Reply.lists p)) = Ok (Asked.listing p)
+as_reply only_told (Ok (Reply.runs o)) = Ok (as_run only_told o)
+as_reply only_told (Err e) = Err e
 
 abbrev pub RunsTried : Step LocatedRequest Asked
-RunsTried told acts after q r = (x : Result Reply Error) × Tries told acts after q x × (r ≡ as_reply x)
+RunsTried told acts after q r = (x : Result Reply Error) × Tries told acts after q x × (r ≡ as_reply q.config.dry_run x)
+
+-- what they answer to the words that are chosen; where none are, nothing is left to be done
+abbrev pub as_choice : Bool → Result (Option Reply) Error → Result Asked Error
+as_choice only_told (Ok None) = Ok (Asked.other no_run.Nothing)
+as_choice only_told (Ok (Some x)) = as_reply only_told (Ok x)
+as_choice only_told (Err e) = Err e
+
+abbrev pub ChoosesTried : Step LocatedRequest Asked
+ChoosesTried told acts after q r = (x : Result (Option Reply) Error) × ChoosesAt told acts after q x × (r ≡ as_choice q.config.dry_run x)
 
 -- what a command asks for
 abbrev pub as_other : Result Other Error → Result Asked Error
@@ -68,7 +82,7 @@ as_other (Err e) = Err e
 abbrev pub CommandAsks : Kind → Step LocatedRequest Asked
 CommandAsks k told acts after q r = (x : Result Other Error) × CommandsAt k told acts after q x × (r ≡ as_other x)
 
--- words without a command ask the justfiles that are tried, and a command asks the one in the place
+-- words without a command ask the justfiles that are tried, and so do words that are chosen; a command asks the one in the place
 abbrev pub AsksBy : Kind → Step LocatedRequest Asked
 AsksBy kind.Run told acts after q r = RunsTried told acts after q r
 AsksBy kind.New told acts after q r = CommandAsks kind.New told acts after q r
@@ -77,7 +91,9 @@ AsksBy kind.Format told acts after q r = CommandAsks kind.Format told acts after
 AsksBy kind.Clean told acts after q r = CommandAsks kind.Clean told acts after q r
 AsksBy kind.Evaluate told acts after q r = CommandAsks kind.Evaluate told acts after q r
 AsksBy kind.Print told acts after q r = CommandAsks kind.Print told acts after q r
-AsksBy kind.Later told acts after q r = CommandAsks kind.Later told acts after q r
+AsksBy kind.Edit told acts after q r = CommandAsks kind.Edit told acts after q r
+AsksBy kind.Command told acts after q r = CommandAsks kind.Command told acts after q r
+AsksBy kind.Choose told acts after q r = ChoosesTried told acts after q r
 
 abbrev pub AsksAt : Step LocatedRequest Asked
 AsksAt told acts after q r = AsksBy (kind_of q.config.subcommand) told acts after q r
@@ -103,7 +119,9 @@ AsksAlone kind.Format told c r = ⊥
 AsksAlone kind.Clean told c r = ⊥
 AsksAlone kind.Evaluate told c r = ⊥
 AsksAlone kind.Print told c r = ⊥
-AsksAlone kind.Later told c r = ⊥
+AsksAlone kind.Edit told c r = ⊥
+AsksAlone kind.Command told c r = ⊥
+AsksAlone kind.Choose told c r = ⊥
 
 -- A command that reads no justfile is decided by itself, behind the configuration, and nothing is listed for it; else the justfile is searched.
 pub data Decides (listings : List Entry) (told : Option World) (acts : List Act) (after : Option World) (c : ConfigRequest) (r : Result Asked Error) : Type 0 where
@@ -147,7 +165,9 @@ BeginsBy kind.Format told acts after q = BeginsCommand kind.Format told acts aft
 BeginsBy kind.Clean told acts after q = BeginsCommand kind.Clean told acts after q
 BeginsBy kind.Evaluate told acts after q = BeginsCommand kind.Evaluate told acts after q
 BeginsBy kind.Print told acts after q = BeginsCommand kind.Print told acts after q
-BeginsBy kind.Later told acts after q = BeginsCommand kind.Later told acts after q
+BeginsBy kind.Edit told acts after q = BeginsCommand kind.Edit told acts after q
+BeginsBy kind.Command told acts after q = BeginsCommand kind.Command told acts after q
+BeginsBy kind.Choose told acts after q = BeginsChoosesAt told acts after q
 
 abbrev pub BeginsAsks : Begun LocatedRequest
 BeginsAsks told acts after q = BeginsBy (kind_of q.config.subcommand) told acts after q

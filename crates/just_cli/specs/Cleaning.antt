@@ -10,7 +10,7 @@ use Rattle.just_exec.specs.Refusals.{error_of_cache}
 use Rattle.just_exec.specs.declared.error.Error.{Error}
 use Rattle.just_cli.specs.declared.ended.Failure.{Failure}
 use Rattle.just_cli.specs.declared.ended.Report.{Report}
-use Rattle.just_cli.specs.Faults.{entries_of}
+use Rattle.just_cli_children.specs.Faults.{entries_of}
 use Rattle.just_cli.specs.Printing.{IsPlanless, told_line, IsUntold, TellsError}
 use Rattle.just_cli.specs.Questions.{IsNothing}
 

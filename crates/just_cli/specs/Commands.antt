@@ -22,10 +22,11 @@ use Rattle.just_cli_texts.specs.Kinds.{words_of}
 use Rattle.just_cli_texts.specs.Laid.{LaidRequest}
 use Rattle.just_cli_texts.specs.Prints.{alone, as_printed, Prints}
 use Rattle.just_cli_texts.specs.Targets.{names_of}
+use Rattle.just_cli_children.specs.Children.{editor_child, words_child}
 use Rattle.just_cli.specs.declared.task.Other.{Other}
 use Rattle.just_cli.specs.declared.task.Other.TheVariants as no_run
 use Rattle.just_cli.specs.Acts.{Step, Begun, NoAct, Looks, Behind, BeginsBehind}
-use Rattle.just_cli.specs.Options.{is_any}
+use Rattle.just_cli_children.specs.Configs.{is_any}
 use Rattle.just_cli.specs.Request.{FindsProjectAt, WithModules, LoadsPairs, BeginsProject, BeginsAt}
 use Rattle.just_cli.specs.Words.{LocatedRequest, JustfileRequest, TakesFile, BeginsFile}
 
@@ -98,6 +99,25 @@ pub data FormatsFile (told : Option World) (c : Config) (from : Origin) (j : Jus
 abbrev pub FormatsAt : Step LocatedRequest Other
 FormatsAt told acts after q r = Behind TakesFile (Looks (λ now. FormatsFile now q.config q.location.origin)) told acts after q r
 
+-- ---- the justfile in an editor: it is only found
+
+abbrev pub EditsIt : JustfileRequest → Result Other Error → Type 0
+EditsIt j r = r ≡ Ok (no_run.Invoke (editor_child j.environ.pairs j.wanted.flags.folder j.justfile))
+
+abbrev pub EditsAt : Step LocatedRequest Other
+EditsAt told acts after q r = Behind TakesFile (Looks (λ now. EditsIt)) told acts after q r
+
+-- ---- the words of a command in the environment of the root, behind the values of the variables
+
+abbrev pub InvokesIt : Config → ScopesRequest → Result Other Error → Type 0
+InvokesIt c s r = r ≡ Ok (no_run.Invoke (words_child c s.wanted.flags s.scopes s.justfile))
+
+abbrev pub InvokesLaid : Config → Step LaidRequest Other
+InvokesLaid c told acts after q r = WithModules (Behind LoadsPairs (Looks (λ now. Then EvaluatesVariables (InvokesIt c)))) told acts after q r
+
+abbrev pub InvokesAt : Step LocatedRequest Other
+InvokesAt told acts after q r = Behind FindsProjectAt (InvokesLaid q.config) told acts after q r
+
 -- ---- by what a command does
 
 -- a command that reads a justfile asks this of the one in a place
@@ -109,7 +129,9 @@ CommandsAt kind.Format told acts after q r = FormatsAt told acts after q r
 CommandsAt kind.Run told acts after q r = ⊥
 CommandsAt kind.New told acts after q r = ⊥
 CommandsAt kind.Respond told acts after q r = ⊥
-CommandsAt kind.Later told acts after q r = ⊥
+CommandsAt kind.Edit told acts after q r = EditsAt told acts after q r
+CommandsAt kind.Command told acts after q r = InvokesAt told acts after q r
+CommandsAt kind.Choose told acts after q r = ⊥
 
 -- what was begun of it, where memory was wanting
 abbrev pub BeginsCommand : Kind → Begun LocatedRequest
@@ -120,4 +142,6 @@ BeginsCommand kind.Format told acts after q = BeginsBehind BeginsFile TakesFile 
 BeginsCommand kind.Run told acts after q = ⊥
 BeginsCommand kind.New told acts after q = ⊥
 BeginsCommand kind.Respond told acts after q = ⊥
-BeginsCommand kind.Later told acts after q = ⊥
+BeginsCommand kind.Edit told acts after q = BeginsBehind BeginsFile TakesFile NoAct told acts after q
+BeginsCommand kind.Command told acts after q = BeginsAt told acts after q
+BeginsCommand kind.Choose told acts after q = ⊥

@@ -3,10 +3,14 @@ pub mod Acts
 pub mod Altered
 pub mod Answered
 pub mod Asked
+pub mod Childless
+pub mod Choosing
+pub mod ChosenRuns
 pub mod Cleaning
 pub mod Commands
+pub mod Dry
 pub mod Exit
-pub mod Faults
+pub mod Invoked
 pub mod NewPath
 pub mod Options
 pub mod Other

@@ -1,132 +1,17 @@
--- What of a configuration isn't built yet, what is asked of a justfile, and which names may be missing.
-use Rattle.std.specs.Prelude.{ℕ, Bool, true, false, not, ◌||◌, ◌&&◌, if◌then◌else◌, nat_le, List, [], ◌∷◌, Option, Some, None, option_map, Result, Ok, Err, codes}
+-- Which names may be missing.
+use Rattle.std.specs.Prelude.{Bool, true, false, ◌&&◌, if◌then◌else◌, [], option_map, Result, Ok, Err}
 use Rattle.std.specs.Int.NonZero.{non_zero_u64_get}
-use Rattle.just_path_text.specs.Environ.{or_else}
-use Rattle.just_config_words.specs.declared.subcommand.Subcommand.{Subcommand}
-use Rattle.just_config_words.specs.declared.subcommand.Subcommand.TheVariants as command
 use Rattle.just_config.specs.declared.config.Config.{Config}
-use Rattle.just_config.specs.Verbosities.{level}
 use Rattle.just_exec.specs.declared.error.Error.{Error}
 use Rattle.just_exec.specs.declared.error.Error.TheVariants as error
 use Rattle.just_cli_plan.specs.Request.{Outline}
-use Rattle.just_exec_work.specs.declared.run_flags.RunFlags.{RunFlags}
-use Rattle.just_env.specs.declared.ask.DotenvAsk.{DotenvAsk}
-use Rattle.just_cache.specs.Places.{cache_folder}
-use Rattle.just_search.specs.Finding.{folder_of, given_path}
-use Rattle.just_cli_plan.specs.declared.wanted.Wanted.{Wanted}
 use Rattle.just_cli.specs.Replies.{Reply}
-
--- ---- what isn't built
-
-abbrev pub is_any : List (List ℕ) → Bool
-is_any [] = false
-is_any (t ∷ ts) = true
-
--- an option's word, where the option is given
-abbrev pub word_if : Bool → List ℕ → Option (List ℕ)
-word_if given word = if given then Some word else None
-
--- the word of the first flag that isn't built
-abbrev pub flag_not_built : Config → Option (List ℕ)
-flag_not_built c = word_if c.dry_run (codes "--dry-run")
-
--- the word of a command that isn't built
-abbrev pub command_not_built : Option Subcommand → Option (List ℕ)
-command_not_built None = None
-command_not_built (Some (command.Choose ws)) = Some (codes "--choose")
-command_not_built (Some (command.Clean ws)) = None
-command_not_built (Some (command.Command ws)) = Some (codes "--command")
-command_not_built (Some (command.Dump ws)) = None
-command_not_built (Some (command.Edit ws)) = Some (codes "--edit")
-command_not_built (Some (command.Evaluate ws)) = None
-command_not_built (Some (command.Fmt ws)) = None
-command_not_built (Some (command.Groups ws)) = None
-command_not_built (Some (command.Init ws)) = None
-command_not_built (Some (command.List ws)) = None
-command_not_built (Some (command.Request ws)) = None
-command_not_built (Some (command.Show ws)) = None
-command_not_built (Some (command.Summary ws)) = None
-command_not_built (Some (command.Usage ws)) = None
-command_not_built (Some (command.Variables ws)) = None
-
--- the word of what isn't built, of the first in the order of the options
-abbrev pub not_built : Config → Option (List ℕ)
-not_built c = or_else (flag_not_built c) (command_not_built c.subcommand)
-
--- ---- what is asked for
-
--- the arguments of the shell, where some are given or all are cleared
-abbrev pub shell_args_of : Config → Option (List (List ℕ))
-shell_args_of c = if c.clear_shell_args || is_any c.shell_arg then Some c.shell_arg else None
-
--- whether a command prints the paths of recipes
-abbrev pub is_summary : Option Subcommand → Bool
-is_summary None = false
-is_summary (Some (command.Choose ws)) = false
-is_summary (Some (command.Clean ws)) = false
-is_summary (Some (command.Command ws)) = false
-is_summary (Some (command.Dump ws)) = false
-is_summary (Some (command.Edit ws)) = false
-is_summary (Some (command.Evaluate ws)) = false
-is_summary (Some (command.Fmt ws)) = false
-is_summary (Some (command.Groups ws)) = false
-is_summary (Some (command.Init ws)) = false
-is_summary (Some (command.List ws)) = false
-is_summary (Some (command.Request ws)) = false
-is_summary (Some (command.Show ws)) = false
-is_summary (Some (command.Summary ws)) = true
-is_summary (Some (command.Usage ws)) = false
-is_summary (Some (command.Variables ws)) = false
-
--- whether unstable features are allowed: by the words, or for the paths of recipes alone
-abbrev pub allows_unstable : Config → Bool
-allows_unstable c = c.unstable || is_summary c.subcommand
-
--- how recipes are run, in that working folder. The folder of the words for temporary ones is under that of the call, and clean
-abbrev pub flags_of : Config → List ℕ → RunFlags
-flags_of c folder =
-    record {
-      shell = c.shell;
-      shell_args = shell_args_of c;
-      quiet = nat_le (level c.verbosity) 0;
-      loquacious = nat_le 2 (level c.verbosity);
-      dry_run = c.dry_run;
-      no_cache = c.no_cache;
-      yes = c.yes;
-      explain = c.explain;
-      tempdir = option_map (given_path c) c.tempdir;
-      folder = folder;
-    }
-
--- which dotenv files are asked for
-abbrev pub dotenv_of : Config → DotenvAsk
-dotenv_of c = record { commands = c.dotenv_command; filenames = c.dotenv_filename; paths = c.dotenv_path; load = not c.no_dotenv; dry_run = c.dry_run }
-
--- the folder of the cache of a justfile's recipes: beside the file
-abbrev pub cache_beside : List ℕ → List ℕ
-cache_beside file = cache_folder (folder_of file)
-
--- what is asked of a justfile that is run in the first of these folders, and whose cache is the other
-abbrev pub wanted_of : Config → List ℕ → List ℕ → Wanted
-wanted_of c folder cache =
-    record {
-      words = c.arguments;
-      overrides = c.overrides;
-      one = c.one;
-      no_deps = c.no_deps;
-      dotenv = dotenv_of c;
-      unstable = allows_unstable c;
-      jobs = c.jobs;
-      cache_folder = cache;
-      flags = flags_of c folder;
-    }
 
 -- ---- names that are missing
 
 -- whether a justfile lacks a recipe or a module that is asked for
 abbrev pub is_lacking : Error → Bool
 is_lacking (error.Usage u) = false
-is_lacking (error.NotBuilt word) = false
 is_lacking (error.Config c) = false
 is_lacking (error.CurrentDir io) = false
 is_lacking (error.Search s) = false
@@ -173,6 +58,15 @@ is_lacking (error.UnknownGroup group) = false
 is_lacking (error.EvalUnknownSubmodule submodule) = false
 is_lacking (error.EvalUnknownSubmoduleOrVariable name) = false
 is_lacking error.FormatCheckFoundDiff = false
+is_lacking error.NoChoosableRecipes = false
+is_lacking (error.ChooserInvoke shell arguments chooser io) = false
+is_lacking (error.ChooserRead chooser io) = false
+is_lacking (error.ChooserWrite chooser io) = false
+is_lacking (error.ChooserStatus chooser ending) = false
+is_lacking (error.EditorInvoke editor io) = false
+is_lacking (error.EditorStatus editor ending) = false
+is_lacking (error.CommandInvoke binary arguments io) = false
+is_lacking (error.CommandStatus binary arguments ending) = false
 is_lacking error.ClosureLimit = false
 is_lacking (error.InvalidShebang recipe shebang) = false
 is_lacking (error.Code recipe line code message) = false
@@ -202,7 +96,6 @@ lacks (Err e) = is_lacking e
 -- whether a recipe or a module that is asked for is missing: the justfile lacks it, or the file of an optional module isn't there
 abbrev pub is_missing : Error → Bool
 is_missing (error.Usage u) = false
-is_missing (error.NotBuilt word) = false
 is_missing (error.Config c) = false
 is_missing (error.CurrentDir io) = false
 is_missing (error.Search s) = false
@@ -249,6 +142,15 @@ is_missing (error.UnknownGroup group) = false
 is_missing (error.EvalUnknownSubmodule submodule) = false
 is_missing (error.EvalUnknownSubmoduleOrVariable name) = false
 is_missing error.FormatCheckFoundDiff = false
+is_missing error.NoChoosableRecipes = false
+is_missing (error.ChooserInvoke shell arguments chooser io) = false
+is_missing (error.ChooserRead chooser io) = false
+is_missing (error.ChooserWrite chooser io) = false
+is_missing (error.ChooserStatus chooser ending) = false
+is_missing (error.EditorInvoke editor io) = false
+is_missing (error.EditorStatus editor ending) = false
+is_missing (error.CommandInvoke binary arguments io) = false
+is_missing (error.CommandStatus binary arguments ending) = false
 is_missing error.ClosureLimit = false
 is_missing (error.InvalidShebang recipe shebang) = false
 is_missing (error.Code recipe line code message) = false

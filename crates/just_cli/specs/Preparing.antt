@@ -16,7 +16,7 @@ use Rattle.just_cli.specs.Replies.{Reply}
 use Rattle.just_cli.specs.Acts.{Act, AreActs, folders_in, captures_in, uncaptured_in}
 use Rattle.just_cli.specs.Altered.{IsAltered}
 use Rattle.just_cli_plan.specs.Pairs.{entries_of as entries_in}
-use Rattle.just_cli.specs.Faults.{entries_of}
+use Rattle.just_cli_children.specs.Faults.{entries_of}
 use Rattle.just_cli.specs.Request.{ArePassed}
 
 -- misses alone: of files that aren't there, as a project and its dotenv files are loaded
@@ -89,3 +89,8 @@ reply_of (replied.Plan p jobs messages) = Reply.runs (outline_of p (option_map n
 abbrev pub as_asked : Result Replied Error → Result Reply Error
 as_asked (Ok x) = Ok (reply_of x)
 as_asked (Err e) = Err e
+
+-- the same, where there may be none
+abbrev pub as_chosen : Result (Option Replied) Error → Result (Option Reply) Error
+as_chosen (Ok x) = Ok (option_map reply_of x)
+as_chosen (Err e) = Err e

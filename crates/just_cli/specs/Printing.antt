@@ -13,7 +13,8 @@ use Rattle.just_cli_plan.specs.Own.{OrMemory}
 use Rattle.just_cli_texts.specs.declared.printed.Printed.{Printed}
 use Rattle.just_cli.specs.declared.ended.Failure.{Failure}
 use Rattle.just_cli.specs.declared.ended.Report.{Report}
-use Rattle.just_cli.specs.Faults.{entries_of}
+use Rattle.just_cli_children.specs.Faults.{entries_of}
+pub use Rattle.just_cli_children.specs.Faults.{IsPrintError}
 use Rattle.just_cli.specs.Questions.{IsNothing}
 use Rattle.just_cli.specs.Record.{IsTold}
 
@@ -28,10 +29,6 @@ told_line quiet line = if quiet then [] else entry.Printed stream.Err line ∷ [
 abbrev pub told_beside : Bool → Option (List ℕ) → List Entry
 told_beside quiet None = []
 told_beside quiet (Some line) = told_line quiet line
-
--- a print that failed, or for which memory was wanting
-abbrev pub IsPrintError : Error → Type 0
-IsPrintError e = OrMemory (λ x. x ≡ error.StdoutIo (fault.Failed call.Print)) e
 
 -- why a line that goes with something isn't told: memory is wanting; or it was to be told, and its print failed
 abbrev pub IsUntold : Bool → Error → Type 0

@@ -1,4 +1,4 @@
--- How words end: by a run, by what is no run, or by a refusal.
+-- How words end: by a run, by a dry run, by what is no run, or by a refusal.
 use Rattle.std.specs.Prelude.{ℕ, ◌≡◌, ◌<◌, ◌++◌, Bool, true, List, [], Some, None, Result, Ok, Err, IfOk, IfErr}
 use Rattle.just_host_record.specs.Record.{faults_of, misses_of}
 use Rattle.just_host_record.specs.World.{Moment}
@@ -18,7 +18,9 @@ use Rattle.just_cli.specs.Acts.{Act, folders_in}
 use Rattle.just_cli.specs.Altered.{EndsAsItWas, StaysAsItWas}
 use Rattle.just_cli.specs.Answered.{Asking, asked_by, IsFound, IsServed}
 use Rattle.just_cli.specs.Asked.{Asked}
+use Rattle.just_cli.specs.Dry.{IsPlanTold}
 use Rattle.just_cli.specs.Other.{Does, HeedsQuiet, LeavesFor, StaysFor}
+use Rattle.just_cli.specs.Preparing.{LeavesActs}
 use Rattle.just_cli.specs.Record.{EndsWell, EndsIll, EndsUnopened, IsQuiet, Gains, AreRefusals, Removes}
 
 -- a result has a plan
@@ -100,12 +102,32 @@ pub record IsOther (q : Asking) (x : Asked) (c : Other) (before after : Moment) 
   -- where no child was run to its end and nothing failed, the told world is as it was, but for paths at or below the temporary folders, and for what is done
   pub untouched : (es : List Entry) → after.entries ≡ before.entries ++ es → IsQuiet es → StaysFor c (folders_in acts) before.world after.world
 
+-- A dry run is asked for, and its plan told: no child is started, and no cache looked at.
+pub record IsDry (q : Asking) (o : Outline) (before after : Moment) (result : Result Report Failure) : Type 0 where
+  -- it is asked for, over these listings and with these acts; and the moments when it was found, and when it was told
+  pub listings : List Entry
+  pub acts : List Act
+  pub between : Moment
+  pub settled : Moment
+  pub found : IsFound q before.world listings acts between.world (Ok (Asked.dry o))
+  pub prepared : Gains (LeavesActs listings acts) before between
+  -- whether quiet is asked for
+  pub quiet : Bool
+  pub quiet_is : q.quiet quiet
+  -- a plan of that outline is told
+  pub plan : Plan
+  pub outlined : outline_of plan o.jobs o.messages ≡ o
+  pub told : IsPlanTold plan quiet between settled result
+  pub cleared : EndsCleared acts settled after
+  -- where no child was run to its end and nothing failed, the told world is as it was, but for paths at or below the temporary folders
+  pub untouched : (es : List Entry) → after.entries ≡ before.entries ++ es → IsQuiet es → StaysAsItWas (folders_in acts) before.world after.world
+
 -- how that ends which is asked for
 abbrev pub Ends : Asking → Moment → Moment → Result Report Failure → Result Asked Error → Type 0
 Ends q before after result (Ok (Asked.other c)) = IsOther q (Asked.other c) c before after result
 Ends q before after result (Ok (Asked.listing p)) = IsOther q (Asked.listing p) (no_run.Show p) before after result
 Ends q before after result (Ok (Asked.run o)) = IsRun q o before after result
-Ends q before after result (Ok (Asked.dry o)) = ⊥
+Ends q before after result (Ok (Asked.dry o)) = IsDry q o before after result
 Ends q before after result (Err e) = IsRefused q e before after result
 
 -- The words end by what they ask for.

@@ -18,9 +18,10 @@ use Rattle.just_lang.specs.declared.laid.LaidJustfile.{LaidJustfile}
 use Rattle.just_cli_texts.specs.declared.kind.Kind.{Kind}
 use Rattle.just_cli_texts.specs.Laid.{laid_by, LaidRequest}
 use Rattle.just_cli.specs.declared.task.Other.{Other}
-use Rattle.just_cli.specs.Commands.{EvaluatesLaid, CommandsAt, BeginsCommand}
+use Rattle.just_cli.specs.Choosing.{AsksChooser, BeginsAsking, Chooses, BeginsChooses, TriesBehind, BeginsTriesBehind, RunsWords, BeginsWords, ChoosesAt, BeginsChoosesAt}
+use Rattle.just_cli.specs.Commands.{EvaluatesLaid, InvokesLaid, CommandsAt, BeginsCommand}
 use Rattle.just_cli.specs.Replies.{Reply}
-use Rattle.just_cli.specs.Options.{is_lacking, lacks}
+use Rattle.just_cli.specs.Options.{is_lacking, lacks, allowed}
 use Rattle.just_cli.specs.Preparing.{Performs}
 use Rattle.just_cli.specs.Request.{FindsProjectAt, RepliesTo, AnswersAt, at_place, Tries, BeginsProject, BeginsPairs, BeginsFrom, BeginsTries}
 use Rattle.just_cli.specs.Words.{ConfigRequest, LocatedRequest, TakesFile}
@@ -60,6 +61,10 @@ PerformsCommand k q before after kept keeps r =
 -- what is printed of the values of its variables; no temporary folder is made for them
 abbrev pub PerformsValues : Config → LaidRequest → Moment → Moment → Result Other Error → Type 0
 PerformsValues c q before after r = Performs (λ acts later x. EvaluatesLaid c before.world acts later q x) (λ acts later. BeginsPairs before.world acts later q) before after [] [] r
+
+-- the child of a command's words; no temporary folder is made for it
+abbrev pub PerformsInvocation : Config → LaidRequest → Moment → Moment → Result Other Error → Type 0
+PerformsInvocation c q before after r = Performs (λ acts later x. InvokesLaid c before.world acts later q x) (λ acts later. BeginsPairs before.world acts later q) before after [] [] r
 
 -- ---- the reply of a project, as a part of a preparation
 
@@ -108,3 +113,35 @@ PerformsFall c location before after kept keeps next =
 abbrev pub PerformsTries : LocatedRequest → Moment → Moment → List (List ℕ) → List (List ℕ) → Result Reply Error → Type 0
 PerformsTries q before after kept keeps r =
     Performs (λ acts later x. Tries before.world acts later q x) (λ acts later. BeginsTries before.world acts later q) before after kept keeps r
+
+-- ---- words that are chosen, as parts of a preparation
+
+-- the words; no temporary folder is made for them
+abbrev pub PerformsChoosing : Config → LaidRequest → Moment → Moment → Result (List (List ℕ)) Error → Type 0
+PerformsChoosing c q before after r = Performs (λ acts later x. Chooses c before.world acts later q x) (λ acts later. BeginsChooses c before.world acts later q) before after [] [] r
+
+-- what a chooser answers that is fed that
+abbrev pub PerformsAnswer : Config → LaidRequest → List ℕ → Moment → Moment → Result (List (List ℕ)) Error → Type 0
+PerformsAnswer c q input before after r =
+    Performs (λ acts later x. AsksChooser c q before.world acts later input x) (λ acts later. BeginsAsking c q before.world acts later input) before after [] [] r
+
+-- what is asked of a project that was found in a place, and of those that are tried behind it
+abbrev pub PerformsBehind : ConfigRequest → Location → LaidRequest → Moment → Moment → List (List ℕ) → List (List ℕ) → Result Reply Error → Type 0
+PerformsBehind c location p before after kept keeps r =
+    Performs (λ acts later x. TriesBehind c location before.world acts later p x) (λ acts later. BeginsTriesBehind c location before.world acts later p) before after kept keeps r
+
+-- the same, which the words may allow
+abbrev pub PerformsAllowed : ConfigRequest → Location → LaidRequest → Moment → Moment → List (List ℕ) → List (List ℕ) → Result Reply Error → Type 0
+PerformsAllowed c location p before after kept keeps r =
+    Performs (λ acts later x. (y : Result Reply Error) × TriesBehind c location before.world acts later p y × (x ≡ allowed c.config y))
+    (λ acts later. BeginsTriesBehind c location before.world acts later p) before after kept keeps r
+
+-- the same by words that are chosen
+abbrev pub PerformsWords : LocatedRequest → LaidRequest → List (List ℕ) → Moment → Moment → List (List ℕ) → List (List ℕ) → Result (Option Reply) Error → Type 0
+PerformsWords q p words before after kept keeps r =
+    Performs (λ acts later x. RunsWords q p before.world acts later words x) (λ acts later. BeginsWords q p before.world acts later words) before after kept keeps r
+
+-- all of it: there is a reply where a word is chosen
+abbrev pub PerformsChoices : LocatedRequest → Moment → Moment → List (List ℕ) → List (List ℕ) → Result (Option Reply) Error → Type 0
+PerformsChoices q before after kept keeps r =
+    Performs (λ acts later x. ChoosesAt before.world acts later q x) (λ acts later. BeginsChoosesAt before.world acts later q) before after kept keeps r

@@ -7,6 +7,7 @@ use Rattle.just_lang_types.specs.declared.recipe.Modulepath.{Modulepath}
 use Rattle.just_cache_clean.specs.EntryTexts.{IsPath}
 use Rattle.just_config.specs.declared.search_config.SearchConfig.TheVariants as search
 use Rattle.just_cli_plan.specs.Request.{outline_of}
+use Rattle.just_cli_children.specs.declared.child.Child.{Child}
 use Rattle.just_cli.specs.declared.task.Other.{Other}
 use Rattle.just_cli.specs.declared.task.Other.TheVariants as no_run
 use Rattle.just_cli.specs.declared.task.Task.{Task}
@@ -21,11 +22,13 @@ use Rattle.just_cli.specs.Words.{ArgumentsRequest, ConfigRequest, LocatedRequest
 -- what a task is, and whether it heeds quiet
 abbrev pub asked_in : Task → Asked
 asked_in (task.Run p jobs messages quiet) = Asked.run (outline_of p (option_map non_zero_u64_get jobs) messages)
+asked_in (task.Dry p jobs messages quiet) = Asked.dry (outline_of p (option_map non_zero_u64_get jobs) messages)
 asked_in (task.List p quiet) = Asked.listing p
 asked_in (task.Other c quiet) = Asked.other c
 
 abbrev pub quiet_in : Task → Bool
 quiet_in (task.Run p jobs messages quiet) = quiet
+quiet_in (task.Dry p jobs messages quiet) = quiet
 quiet_in (task.List p quiet) = quiet
 quiet_in (task.Other c quiet) = quiet
 
@@ -38,6 +41,10 @@ abbrev pub IsPathOrNone : Option Modulepath → Type 0
 IsPathOrNone None = Unit {0}
 IsPathOrNone (Some p) = IsPath p.components
 
+-- a child has no script
+abbrev pub HasNoScript : Child → Type 0
+HasNoScript child = child.spec.script ≡ None
+
 abbrev pub HasPath : Other → Type 0
 HasPath no_run.Help = Unit {0}
 HasPath no_run.Version = Unit {0}
@@ -46,8 +53,9 @@ HasPath (no_run.Show p) = Unit {0}
 HasPath no_run.Nothing = Unit {0}
 HasPath (no_run.Write path text) = Unit {0}
 HasPath (no_run.Clean folder path) = IsPathOrNone path
+HasPath (no_run.Invoke child) = HasNoScript child
 
--- it is neither the help nor the version; and a path is one
+-- it is neither the help nor the version; a path is one, and a child has no script
 abbrev pub IsCommand : Other → Type 0
 IsCommand no_run.Help = ⊥
 IsCommand no_run.Version = ⊥
@@ -56,9 +64,11 @@ IsCommand (no_run.Show p) = Unit {0}
 IsCommand no_run.Nothing = Unit {0}
 IsCommand (no_run.Write path text) = Unit {0}
 IsCommand (no_run.Clean folder path) = IsPathOrNone path
+IsCommand (no_run.Invoke child) = HasNoScript child
 
 abbrev pub IsNoQuestion : Task → Type 0
 IsNoQuestion (task.Run p jobs messages quiet) = Unit {0}
+IsNoQuestion (task.Dry p jobs messages quiet) = Unit {0}
 IsNoQuestion (task.List p quiet) = Unit {0}
 IsNoQuestion (task.Other c quiet) = IsCommand c
 
@@ -92,6 +102,7 @@ PreparesWords words before after kept keeps r =
 -- kept; the help and the version leave nothing.
 abbrev pub IsTask : List (List ℕ) → Moment → Moment → List (List ℕ) → List (List ℕ) → Task → Type 0
 IsTask words before after kept keeps (task.Run p jobs messages quiet) = PreparesWords words before after kept keeps (Ok (asked_in (task.Run p jobs messages quiet))) × AsksQuiet words before.world quiet
+IsTask words before after kept keeps (task.Dry p jobs messages quiet) = PreparesWords words before after kept keeps (Ok (asked_in (task.Dry p jobs messages quiet))) × AsksQuiet words before.world quiet
 IsTask words before after kept keeps (task.List p quiet) = PreparesWords words before after kept keeps (Ok (Asked.listing p)) × AsksQuiet words before.world quiet
 IsTask words before after kept keeps (task.Other no_run.Help quiet) = (after ≡ before) × (keeps ≡ kept) × Asks words before.world [] [] before.world (Ok (Asked.other no_run.Help))
 IsTask words before after kept keeps (task.Other no_run.Version quiet) = (after ≡ before) × (keeps ≡ kept) × Asks words before.world [] [] before.world (Ok (Asked.other no_run.Version))
@@ -100,3 +111,4 @@ IsTask words before after kept keeps (task.Other (no_run.Show p) quiet) = Prepar
 IsTask words before after kept keeps (task.Other no_run.Nothing quiet) = PreparesWords words before after kept keeps (Ok (Asked.other no_run.Nothing)) × AsksQuiet words before.world quiet
 IsTask words before after kept keeps (task.Other (no_run.Write path text) quiet) = PreparesWords words before after kept keeps (Ok (Asked.other (no_run.Write path text))) × AsksQuiet words before.world quiet
 IsTask words before after kept keeps (task.Other (no_run.Clean folder path) quiet) = PreparesWords words before after kept keeps (Ok (Asked.other (no_run.Clean folder path))) × AsksQuiet words before.world quiet × IsPathOrNone path
+IsTask words before after kept keeps (task.Other (no_run.Invoke child) quiet) = PreparesWords words before after kept keeps (Ok (Asked.other (no_run.Invoke child))) × AsksQuiet words before.world quiet × HasNoScript child

@@ -22,8 +22,7 @@ use Rattle.just_cli_plan.specs.declared.wanted.Wanted.{Wanted}
 use Rattle.just_search.specs.declared.search_result.Search.{Search}
 use Rattle.just_search.specs.Files.{parent_of, Materializes}
 use Rattle.just_cli.specs.Acts.{Act, Step, Begun}
-use Rattle.just_cli.specs.Options.{not_built, cache_beside, wanted_of}
-use Rattle.just_cli_plan.specs.Steps.{Then}
+use Rattle.just_cli_children.specs.Configs.{cache_beside, wanted_of}
 
 -- ---- what is known behind each step; the environment goes along, since values ask it too
 
@@ -83,18 +82,9 @@ FindsFolder current a (Ok q) = (q.arguments ≡ a.arguments) × (q.environ ≡ a
 FindsFolder current a (Err e) = current (Err e)
 
 -- the arguments give a configuration, or are refused
-abbrev pub GivesConfig : FolderRequest → Result ConfigRequest Error → Type 0
-GivesConfig q (Ok c) = (refusal q.arguments ≡ None) × (c ≡ record { config = config_of q.arguments q.folder; environ = q.environ })
-GivesConfig q (Err e) = (f : ConfigError) × (refusal q.arguments ≡ Some f) × (e ≡ error.Config f)
-
--- all of the configuration is built; or an option isn't
-abbrev pub IsBuilt : ConfigRequest → Result ConfigRequest Error → Type 0
-IsBuilt c (Ok q) = (not_built c.config ≡ None) × (q ≡ c)
-IsBuilt c (Err e) = (word : List ℕ) × (not_built c.config ≡ Some word) × (e ≡ error.NotBuilt word)
-
--- both steps behind the current folder
 abbrev pub Configures : FolderRequest → Result ConfigRequest Error → Type 0
-Configures = Then GivesConfig IsBuilt
+Configures q (Ok c) = (refusal q.arguments ≡ None) × (c ≡ record { config = config_of q.arguments q.folder; environ = q.environ })
+Configures q (Err e) = (f : ConfigError) × (refusal q.arguments ≡ Some f) × (e ≡ error.Config f)
 
 -- a moment at which that world is told, with these entries in the record
 abbrev pub told_with : Option World → List Entry → Moment

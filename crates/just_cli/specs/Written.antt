@@ -9,7 +9,7 @@ use Rattle.just_exec.specs.declared.error.Error.{Error}
 use Rattle.just_exec.specs.declared.error.Error.TheVariants as error
 use Rattle.just_cli.specs.declared.ended.Failure.{Failure}
 use Rattle.just_cli.specs.declared.ended.Report.{Report}
-use Rattle.just_cli.specs.Faults.{write_error}
+use Rattle.just_cli_children.specs.Faults.{write_error}
 use Rattle.just_cli.specs.Printing.{IsPlanless, told_line, IsPrintError, TellsRefusal}
 use Rattle.just_cli.specs.Questions.{IsNothing}
 

@@ -3,7 +3,7 @@
 ghost use Rattle.std.specs.Prelude.{◌≡◌, ◌++◌, IfOk, IfErr, string_bytes};
 ghost use Rattle.std.specs.Option.{option_copied};
 ghost use Rattle.just_cli.specs.Cleaning.{cleaned_line, IsCleaned, IsTidied, IsUntidied};
-ghost use Rattle.just_cli.specs.Faults.{entries_of};
+ghost use Rattle.just_cli_children.specs.Faults.{entries_of};
 ghost use Rattle.just_cli.specs.Printing.{told_line, IsUntold};
 ghost use Rattle.just_cli.specs.Tasks.{IsPathOrNone};
 

@@ -19,19 +19,19 @@ ghost use Rattle.just_cli_texts.specs.Kinds.{kind_of, is_placed, words_of};
 ghost use Rattle.just_cli_texts.specs.Targets.{names_of};
 ghost use Rattle.just_cli_texts.specs.declared.kind.Kind.TheVariants as kind;
 ghost use Rattle.just_cli_texts.specs.Formatted.{Formats};
-ghost use Rattle.just_cli.specs.Commands.{is_file, path_if, anew, anew_or, EvaluatesIt, FormatsFile};
-ghost use Rattle.just_cli.specs.Faults.{entries_of};
+ghost use Rattle.just_cli.specs.Commands.{is_file, path_if, anew, anew_or, EvaluatesIt, FormatsFile, InvokesIt};
+ghost use Rattle.just_cli_children.specs.Faults.{entries_of};
 ghost use Rattle.just_cli.specs.declared.task.Other.TheVariants as no_run;
 ghost use Rattle.just_cli.specs.Preparing.{AreMisses, EndsWith};
-ghost use Rattle.just_cli.specs.Taken.{laid_in, loaded_in, PerformsValues, PerformsCommand};
+ghost use Rattle.just_cli.specs.Taken.{laid_in, loaded_in, PerformsValues, PerformsInvocation, PerformsCommand};
 ghost use Rattle.just_cli.specs.Tasks.{IsCommand};
 ghost use Rattle.just_exec.specs.declared.error.Error.{Error};
 
 use super::Error;
-use super::options::is_any;
 use super::place::project_at;
 use super::taken::take;
 use super::task::Other;
+use just_cli_children::{editor_child, is_any, words_child};
 use just_cli_plan::{Wanted, load_pairs, scopes_of};
 use just_cli_texts::{Kind, LaidJustfile, alone, evaluate, formatted, names_of, prints, words_of};
 use just_config::Config;
@@ -354,6 +354,112 @@ fn format_at<H: Host>(
     made_anew
 }
 
+/// The editor of the justfile in a place.
+fn edit_at<H: Host>(
+    alloc: Global,
+    environ: &Environ,
+    config: &Config,
+    location: &Location,
+    made: &mut Vec<Utf8PathBuf>,
+    host: &mut H,
+) -> Result<Other, Error>
+    ensures edits { PerformsCommand kind.Edit
+        (record { config = config.now; environ = environ.now; location = location.now })
+        (H.told host.old) (H.told host.new) made.old.items made.new.items result }
+    ensures found { IfOk result IsCommand }
+{
+    let (wanted, path) = match take(alloc, config, location, made, host) {
+        Ok(taken) => taken,
+        Err(error) => return Err(error),
+    };
+    let child = editor_child(alloc, environ, &wanted.flags.folder, path.as_path());
+    drop(wanted);
+    drop(path);
+    match child {
+        Ok(child) => Ok(Other::Invoke(child)),
+        Err(NoMemory) => Err(Error::NoMemory),
+    }
+}
+
+/// The child of a command's words in the environment of a project, whose modules have these dotenv pairs.
+fn invocation_loaded(
+    alloc: Global,
+    environ: &Environ,
+    config: &Config,
+    wanted: &Wanted,
+    laid: &LaidJustfile,
+    dotenv: &[DotenvOf],
+) -> Result<Other, Error>
+    requires { IsEnding laid.now.justfile }
+    ensures child { IfOk result (λ x. (modules : List Justfile)
+        → AreModules (laid.now.justfile ∷ []) modules
+        → Then EvaluatesVariables (InvokesIt config.now)
+        (loaded_in wanted.now environ.now laid.now modules dotenv.now) (Ok x)) }
+    ensures refused { IfErr result (OrMemory (λ e. (modules : List Justfile)
+        → AreModules (laid.now.justfile ∷ []) modules
+        → Then EvaluatesVariables (InvokesIt config.now)
+        (loaded_in wanted.now environ.now laid.now modules dotenv.now) (Err e))) }
+    ensures found { IfOk result IsCommand }
+{
+    let scopes = match scopes_of(alloc, &laid.justfile, dotenv, environ, wanted) {
+        Ok(scopes) => scopes,
+        Err(error) => return Err(error),
+    };
+    match words_child(alloc, config, &wanted.flags, &scopes, &laid.justfile) {
+        Ok(child) => Ok(Other::Invoke(child)),
+        Err(NoMemory) => Err(Error::NoMemory),
+    }
+}
+
+/// The child of a command's words in the environment of a project. The record gains the entries of children that are run for its dotenv pairs, the misses of
+/// files that aren't there, and the entry of the refused call.
+fn invocation_of<H: Host>(
+    alloc: Global,
+    host: &mut H,
+    environ: &Environ,
+    config: &Config,
+    wanted: &Wanted,
+    laid: &LaidJustfile,
+) -> Result<Other, Error>
+    requires { IsEnding laid.now.justfile }
+    ensures child { PerformsInvocation config.now (laid_in wanted.now environ.now laid.now)
+        (H.told host.old) (H.told host.new) result }
+    ensures found { IfOk result IsCommand }
+{
+    let pairs = match load_pairs(alloc, host, &laid.justfile, environ, wanted) {
+        Ok(pairs) => pairs,
+        Err(error) => return Err(error),
+    };
+    match invocation_loaded(alloc, environ, config, wanted, laid, pairs.as_slice()) {
+        Ok(other) => Ok(other),
+        Err(error) => Err(error),
+    }
+}
+
+/// The child of a command's words in the environment of the project in a place.
+fn invoke_at<H: Host>(
+    alloc: Global,
+    environ: &Environ,
+    config: &Config,
+    location: &Location,
+    made: &mut Vec<Utf8PathBuf>,
+    host: &mut H,
+) -> Result<Other, Error>
+    ensures child { PerformsCommand kind.Command
+        (record { config = config.now; environ = environ.now; location = location.now })
+        (H.told host.old) (H.told host.new) made.old.items made.new.items result }
+    ensures found { IfOk result IsCommand }
+{
+    let (wanted, laid) = match project_at(alloc, environ, config, location, made, host) {
+        Ok(found) => found,
+        Err(error) => return Err(error),
+    };
+    let invocation = invocation_of(alloc, host, environ, config, &wanted, &laid);
+    drop(wanted);
+    drop(laid);
+    invocation
+}
+
 /// What a command asks of the justfile in a place.
 pub(crate) fn command_at<H: Host>(
     alloc: Global,
@@ -376,6 +482,8 @@ pub(crate) fn command_at<H: Host>(
         Kind::Evaluate => evaluate_at(alloc, environ, config, location, made, host),
         Kind::Clean => clean_at(alloc, environ, config, location, made, host),
         Kind::Format => format_at(alloc, environ, config, location, made, host),
-        Kind::Run | Kind::New | Kind::Respond | Kind::Later => unreachable!(),
+        Kind::Edit => edit_at(alloc, environ, config, location, made, host),
+        Kind::Command => invoke_at(alloc, environ, config, location, made, host),
+        Kind::Run | Kind::New | Kind::Respond | Kind::Choose => unreachable!(),
     }
 }

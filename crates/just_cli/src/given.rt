@@ -9,7 +9,7 @@ ghost use Rattle.just_search_load.specs.Shows.{sources_of};
 ghost use Rattle.just_exec.specs.Refusals.{error_of_search};
 ghost use Rattle.just_exec.specs.declared.error.Error.{Error};
 ghost use Rattle.just_cli_plan.specs.Own.{OrMemory};
-ghost use Rattle.just_cli.specs.Faults.{entries_of, fault_of_path as host_fault, io_error as told_error, folder_error as told_folder};
+ghost use Rattle.just_cli_children.specs.Faults.{entries_of};
 ghost use Rattle.just_config.specs.declared.search_config.SearchConfig.TheVariants.{GlobalJustfile};
 ghost use Rattle.just_cli.specs.Preparing.{AreMisses, EndsWith};
 ghost use Rattle.just_cli.specs.Asked.{EnvironGiven, FolderGiven};
@@ -17,44 +17,14 @@ ghost use Rattle.just_cli.specs.Request.{ArePassed};
 ghost use Rattle.just_cli.specs.Words.{FindsLocation};
 
 use super::Error;
+use just_cli_children::{fault_of_path, folder_error, io_error};
 use just_config::Config;
-use just_host::{Call, Host, HostFault};
-use just_path::{PathFault, Utf8Path, Utf8PathBuf};
+use just_host::Host;
+use just_path::{Utf8Path, Utf8PathBuf};
 use just_path_text::Environ;
 use just_search::{Location, find};
 use just_search_load::Loader;
 use std::alloc::Global;
-
-/// The fault of asking for the current folder, as a fault of a host.
-fn fault_of_path(fault: PathFault) -> HostFault
-    ensures { result ≡ host_fault fault }
-{
-    match fault {
-        PathFault::Missed(miss) => HostFault::Missed(miss),
-        PathFault::Failed => HostFault::Failed(Call::Current),
-        PathFault::NoMemory => HostFault::NoMemory,
-    }
-}
-
-/// The error of a refused call on that path.
-fn io_error(path: Utf8PathBuf, fault: HostFault) -> Error
-    ensures { result ≡ told_error path fault }
-{
-    match fault {
-        HostFault::NoMemory => Error::NoMemory,
-        HostFault::Missed(_) | HostFault::Failed(_) => Error::FilesystemIo { path, io: fault },
-    }
-}
-
-/// The error of a current folder that isn't answered.
-fn folder_error(fault: HostFault) -> Error
-    ensures { result ≡ told_folder fault }
-{
-    match fault {
-        HostFault::NoMemory => Error::NoMemory,
-        HostFault::Missed(_) | HostFault::Failed(_) => Error::CurrentDir { io: fault },
-    }
-}
 
 /// The environment.
 #[tactic(auto, using(crate::proofs::Calls::io_entries, crate::proofs::Calls::environ_refused))]

@@ -4,7 +4,7 @@ ghost use Rattle.std.specs.Prelude.{◌≡◌, ◌++◌, [], List, Result, Ok, E
 ghost use Rattle.just_path.specs.Path.{text_of};
 ghost use Rattle.just_host_record.specs.declared.entry.Entry.{Entry};
 ghost use Rattle.just_cli_plan.specs.Own.{OrMemory};
-ghost use Rattle.just_cli.specs.Faults.{entries_of, write_error as told_error};
+ghost use Rattle.just_cli_children.specs.Faults.{entries_of};
 ghost use Rattle.just_cli.specs.NewPath.{is_written_to, FindsPath, IsFree, FindsFree};
 ghost use Rattle.just_cli.specs.Preparing.{AreMisses, EndsWith};
 ghost use Rattle.just_cli.specs.Printing.{told_line};
@@ -13,6 +13,7 @@ ghost use Rattle.just_cli.specs.Written.{written_line, Writes, IsUnwritten, IsWr
 use super::failure::fail;
 use super::printing::{done, tell_line};
 use super::{Ended, Error};
+use just_cli_children::write_error;
 use just_config::Config;
 use just_host::{Call, Host, HostFault};
 use just_path::{Kind, PathFault, Utf8Path, Utf8PathBuf};
@@ -95,19 +96,6 @@ fn written_line(alloc: Global, path: &str) -> Result<String, NoMemory>
     ensures { IfOk result (λ line. string_bytes line ≡ written_line path.now) }
 {
     Ok(format!(in alloc; "wrote justfile to `{path}`\n")?)
-}
-
-/// The error of a justfile that wasn't written.
-fn write_error(justfile: Utf8PathBuf, fault: HostFault) -> Error
-    ensures { result ≡ told_error justfile fault }
-{
-    match fault {
-        HostFault::NoMemory => Error::NoMemory,
-        HostFault::Missed(_) | HostFault::Failed(_) => Error::WriteJustfile {
-            justfile,
-            io: fault,
-        },
-    }
 }
 
 /// Writes a text to the justfile at a path, and tells of it.

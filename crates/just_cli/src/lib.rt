@@ -1,14 +1,17 @@
 //! The room of the command line, and its door: a run, from the words to the children, by the top calls and what they answer.
 #![tactic(auto)]
 
+mod choose;
 mod clean;
 mod commands;
 mod configured;
+mod dry;
 mod ended;
 mod failure;
 mod given;
 mod init;
 mod init_text;
+mod invoke;
 mod law;
 mod options;
 mod other;
@@ -31,6 +34,6 @@ pub use just_host::{Call, Host, HostFault, Look, RealHost, Signal, Status};
 pub use just_path::{Miss, Utf8PathBuf};
 pub use just_path_text::{NoMemory, Seq, Text};
 pub use just_sched::{Event, Outcome, Plan, PlanNode, Reason};
-pub use law::first_answers;
+pub use law::{choices_are_runs, dry_runs_run_no_child, first_answers};
 pub use program::{exit_status, no_arguments, run_arguments};
 pub use runner::{run, run_with};

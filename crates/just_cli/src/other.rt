@@ -9,6 +9,7 @@ use super::clean::clean;
 use super::failure::fail;
 use super::init::write_justfile;
 use super::init_text::INIT_JUSTFILE;
+use super::invoke::invoke;
 use super::printing::{done, print};
 use super::show::show;
 use super::task::Other;
@@ -35,7 +36,8 @@ fn show_version<H: Host>(alloc: Global, host: H) -> Ended<H>
     }
 }
 
-/// Does what words ask for that is no run: prints a text to standard output, writes a justfile, or cleans a cache.
+/// Does what words ask for that is no run: prints a text to standard output, writes a justfile, cleans a cache, or runs a child alone. It waits for that
+/// child.
 pub(crate) fn do_other<H: Host>(alloc: Global, host: H, other: Other, quiet: bool) -> Ended<H>
     requires path { HasPath other }
     ensures { Does other quiet (H.told host) (H.told result.host) result.result }
@@ -48,5 +50,6 @@ pub(crate) fn do_other<H: Host>(alloc: Global, host: H, other: Other, quiet: boo
         Other::Nothing => done(alloc, host),
         Other::Write(path, text) => write_justfile(alloc, host, path, text.as_str(), quiet),
         Other::Clean(folder, path) => clean(alloc, host, folder, path, quiet),
+        Other::Invoke(child) => invoke(alloc, host, child, quiet),
     }
 }

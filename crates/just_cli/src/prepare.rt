@@ -1,18 +1,20 @@
 //! From the words to the task: the steps of a request, in their order.
 
-ghost use Rattle.std.specs.Prelude.{◌≡◌, ◌++◌, true, false, [], List, None, map, IfOk, IfErr, MatchResult, Ok, Err};
+ghost use Rattle.std.specs.Prelude.{◌≡◌, ◌++◌, true, false, [], List, map, option_map, IfOk, IfErr, MatchResult, Ok, Err};
+ghost use Rattle.std.specs.Int.NonZero.{non_zero_u64_get};
 ghost use Rattle.just_host_record.specs.declared.entry.Entry.{Entry};
 ghost use Rattle.just_cli_plan.specs.Own.{OrMemory};
-ghost use Rattle.just_cli_texts.specs.Kinds.{kind_of, reads_justfile};
+ghost use Rattle.just_cli_plan.specs.Request.{outline_of};
+ghost use Rattle.just_cli_texts.specs.Kinds.{kind_of, is_choice, reads_justfile};
 ghost use Rattle.just_cli_texts.specs.declared.kind.Kind.TheVariants as kind;
-ghost use Rattle.just_cli.specs.Asked.{AsksAlone, Responds, as_other, as_reply};
-ghost use Rattle.just_cli.specs.Faults.{entries_of};
-ghost use Rattle.just_cli.specs.Options.{command_not_built};
-ghost use Rattle.just_cli.specs.Preparing.{AreMisses, EndsWith, reply_of};
+ghost use Rattle.just_cli.specs.Asked.{AsksAlone, Responds, as_other, as_run, as_reply, as_choice};
+ghost use Rattle.just_cli_children.specs.Faults.{entries_of};
+ghost use Rattle.just_cli.specs.Preparing.{AreMisses, EndsWith, reply_of, as_chosen};
 ghost use Rattle.just_cli.specs.Quiet.{AskQuiet};
 ghost use Rattle.just_cli.specs.Tasks.{as_task, quiet_in, IsCommand, IsNoQuestion, IsTask, PerformsAsked, PreparesConfig, PreparesArguments, PreparesWords};
 
 use super::Error;
+use super::choose::choose_tried;
 use super::commands::command_at;
 use super::configured::{configure, read};
 use super::given::{current_folder, environment, locate};
@@ -20,13 +22,17 @@ use super::init::find_free;
 use super::replied::Replied;
 use super::task::{Other, Task};
 use super::tried::reply_tried;
-use just_cli_texts::{alone, is_new, is_placed, kind_of, reads_justfile, respond, words_of};
+use just_cli_texts::{
+    alone, is_choice, is_new, is_placed, kind_of, reads_justfile, respond, words_of,
+};
 use just_config::{Arguments, Config, Read};
 use just_host::Host;
 use just_path::Utf8PathBuf;
-use just_path_text::Environ;
+use just_path_text::{Environ, Seq};
+use just_sched::Plan;
 use just_search::Location;
 use std::alloc::Global;
+use std::num::NonZeroU64;
 
 /// The path of a new justfile. The record gains the miss of the path, and the entry of the refused call.
 fn new_alone<H: Host>(
@@ -93,15 +99,47 @@ fn asked_alone<H: Host>(
     }
 }
 
+/// The task of a plan, which is run or only told.
+fn task_of_plan(
+    plan: Plan,
+    jobs: Option<NonZeroU64>,
+    messages: Seq<bool>,
+    dry: bool,
+    quiet: bool,
+) -> Task
+    ensures asked { as_task (Ok result)
+        ≡ Ok (as_run dry (outline_of plan (option_map non_zero_u64_get jobs) messages)) }
+    ensures quiet { quiet_in result ≡ quiet }
+    ensures found { IsNoQuestion result }
+{
+    if dry {
+        Task::Dry(plan, jobs, messages, quiet)
+    } else {
+        Task::Run(plan, jobs, messages, quiet)
+    }
+}
+
 /// The task of a reply.
-fn task_of(replied: Replied, quiet: bool) -> Task
-    ensures asked { as_task (Ok result) ≡ as_reply (Ok (reply_of replied)) }
+fn task_of(replied: Replied, dry: bool, quiet: bool) -> Task
+    ensures asked { as_task (Ok result) ≡ as_reply dry (Ok (reply_of replied)) }
     ensures quiet { quiet_in result ≡ quiet }
     ensures found { IsNoQuestion result }
 {
     match replied {
         Replied::List(printed) => Task::List(printed, quiet),
-        Replied::Plan(plan, jobs, messages) => Task::Run(plan, jobs, messages, quiet),
+        Replied::Plan(plan, jobs, messages) => task_of_plan(plan, jobs, messages, dry, quiet),
+    }
+}
+
+/// The task of the reply to words that are chosen; nothing is left to be done where none are.
+fn task_of_choice(chosen: Option<Replied>, dry: bool, quiet: bool) -> Task
+    ensures asked { as_task (Ok result) ≡ as_choice dry (as_chosen (Ok chosen)) }
+    ensures quiet { quiet_in result ≡ quiet }
+    ensures found { IsNoQuestion result }
+{
+    match chosen {
+        Some(replied) => task_of(replied, dry, quiet),
+        None => Task::Other(Other::Nothing, quiet),
     }
 }
 
@@ -116,7 +154,7 @@ fn asked_at<H: Host>(
     host: &mut H,
 ) -> Result<Task, Error>
     requires reads { reads_justfile (kind_of config.now.subcommand) ≡ true }
-    requires built { command_not_built config.now.subcommand ≡ None }
+    requires given { is_choice (kind_of config.now.subcommand) ≡ false }
     ensures asked { PerformsAsked
         (record { config = config.now; environ = environ.now; location = location })
         (H.told host.old) (H.told host.new) made.old.items made.new.items (as_task result) }
@@ -126,7 +164,7 @@ fn asked_at<H: Host>(
     let kind = kind_of(&config.subcommand);
     if !is_placed(kind) {
         match reply_tried(alloc, environ, config, location, made, host) {
-            Ok(replied) => return Ok(task_of(replied, quiet)),
+            Ok(replied) => return Ok(task_of(replied, config.dry_run, quiet)),
             Err(error) => return Err(error),
         }
     }
@@ -138,33 +176,63 @@ fn asked_at<H: Host>(
     }
 }
 
+/// What is asked of the justfile in a place, and of those that are tried behind it, by words that are chosen or by others. The record gains what asking them
+/// leaves.
+fn asked_of<H: Host>(
+    alloc: Global,
+    environ: &Environ,
+    config: Config,
+    location: Location,
+    quiet: bool,
+    made: &mut Vec<Utf8PathBuf>,
+    host: &mut H,
+) -> Result<Task, Error>
+    requires reads { reads_justfile (kind_of config.subcommand) ≡ true }
+    ensures asked { PerformsAsked
+        (record { config = config; environ = environ.now; location = location })
+        (H.told host.old) (H.told host.new) made.old.items made.new.items (as_task result) }
+    ensures quiet { IfOk result (λ t. quiet_in t ≡ quiet) }
+    ensures found { IfOk result IsNoQuestion }
+{
+    if !is_choice(kind_of(&config.subcommand)) {
+        match asked_at(alloc, environ, &config, location, quiet, made, host) {
+            Ok(task) => return Ok(task),
+            Err(error) => return Err(error),
+        }
+    }
+    let dry = config.dry_run;
+    match choose_tried(alloc, environ, config, location, made, host) {
+        Ok(chosen) => Ok(task_of_choice(chosen, dry, quiet)),
+        Err(error) => Err(error),
+    }
+}
+
 /// What a configuration asks for. The record gains the entries of listings that were refused as the user's own justfile was looked for, and what asking the
 /// justfile leaves.
 fn asked_by<H: Host>(
     alloc: Global,
     environ: &Environ,
-    config: &Config,
+    config: Config,
     quiet: bool,
     made: &mut Vec<Utf8PathBuf>,
     host: &mut H,
 ) -> Result<Task, Error>
-    requires built { command_not_built config.now.subcommand ≡ None }
-    ensures asked { PreparesConfig (record { config = config.now; environ = environ.now })
+    ensures asked { PreparesConfig (record { config = config; environ = environ.now })
         (H.told host.old) (H.told host.new) made.old.items made.new.items (as_task result) }
     ensures quiet { IfOk result (λ t. quiet_in t ≡ quiet) }
     ensures found { IfOk result IsNoQuestion }
 {
     if !reads_justfile(kind_of(&config.subcommand)) {
-        match asked_alone(alloc, environ, config, host) {
+        match asked_alone(alloc, environ, &config, host) {
             Ok(other) => return Ok(Task::Other(other, quiet)),
             Err(error) => return Err(error),
         }
     }
-    let location = match locate(alloc, host, config) {
+    let location = match locate(alloc, host, &config) {
         Ok(location) => location,
         Err(error) => return Err(error),
     };
-    match asked_at(alloc, environ, config, location, quiet, made, host) {
+    match asked_of(alloc, environ, config, location, quiet, made, host) {
         Ok(task) => Ok(task),
         Err(error) => Err(error),
     }
@@ -195,7 +263,7 @@ fn serve<H: Host>(
         Ok(config) => config,
         Err(error) => return Err(error),
     };
-    match asked_by(alloc, environ, &config, quiet, made, host) {
+    match asked_by(alloc, environ, config, quiet, made, host) {
         Ok(task) => Ok(task),
         Err(error) => Err(error),
     }

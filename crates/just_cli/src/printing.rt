@@ -3,12 +3,13 @@
 ghost use Rattle.std.specs.Prelude.{ℕ, List, Some, ◌≡◌, ◌++◌, ◌∷◌, false, IfOk, IfErr};
 ghost use Rattle.just_host_record.specs.declared.entry.Entry.TheVariants as entry;
 ghost use Rattle.just_host_record.specs.declared.entry.Stream.TheVariants as stream;
-ghost use Rattle.just_cli.specs.Faults.{entries_of};
+ghost use Rattle.just_cli_children.specs.Faults.{entries_of};
 ghost use Rattle.just_cli.specs.Printing.{told_line, told_beside, IsPrintError, IsUnprintedBy, IsPrinted, IsIdle};
 
 use super::failure::fail;
-use super::show::{empty_plan, print_error};
+use super::show::empty_plan;
 use super::{Ended, Error, Report};
+use just_cli_children::print_error;
 use just_cli_texts::Printed;
 use just_host::{Host, Stream};
 use just_path_text::{Seq, Text};

@@ -7,6 +7,7 @@ ghost use Rattle.just_cli.specs.Record.{Removes};
 ghost use Rattle.just_cli.specs.Run.{IsEnded};
 ghost use Rattle.just_cli.specs.Words.{told_with};
 
+use super::dry::dry_run;
 use super::failure::fail;
 use super::other::do_other;
 use super::prepare::prepare;
@@ -41,6 +42,7 @@ fn run_made<R: Threads + Wait + Sync, H: Host + Send + Drop>(
     let mut made = Vec::new(alloc);
     let (plan, jobs, messages, quiet) = match prepare(alloc, words, &mut made, &mut host) {
         Ok(Task::Run(plan, jobs, messages, quiet)) => (plan, jobs, messages, quiet),
+        Ok(Task::Dry(plan, _, _, quiet)) => return (dry_run(alloc, host, plan, quiet), made),
         Ok(Task::List(printed, quiet)) => return (print(alloc, host, printed, quiet), made),
         Ok(Task::Other(other, quiet)) => return (do_other(alloc, host, other, quiet), made),
         Err((error, quiet)) => {
@@ -80,9 +82,9 @@ fn run_made<R: Threads + Wait + Sync, H: Host + Send + Drop>(
 
 /// Runs what the words ask for over a host: reads the words, with the variables of its environment, finds the justfile, reads its project, loads
 /// the project's dotenv files, evaluates its variables, makes the plan, and drives it to its end. A justfile in markdown or on standard input is read from a
-/// temporary folder, which is removed at the end, so far as it can be. Where the words ask for no run, a text is printed to standard output, a justfile is
-/// written, or a cache is cleaned; the report then has a plan of no node. An error is told on standard error. The words are those behind the
-/// program's name. It waits for the children.
+/// temporary folder, which is removed at the end, so far as it can be. A dry run tells what its plan would tell, and drives nothing. Where the words ask for no
+/// run, a text is printed to standard output, a justfile is written, a cache is cleaned, or one child is run alone; the report then has a plan of no node. An
+/// error is told on standard error. The words are those behind the program's name. It waits for the children.
 pub fn run_with<R: Threads + Wait + Sync, H: Host + Send + Drop>(
     rt: &R,
     alloc: Global,

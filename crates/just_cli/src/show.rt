@@ -1,25 +1,15 @@
 //! What is printed in the place of a run.
 
 ghost use Rattle.std.specs.Prelude.{◌≡◌, []};
-ghost use Rattle.just_cli.specs.Faults.{print_error};
 ghost use Rattle.just_cli.specs.Questions.{IsShown};
 
 use super::failure::fail;
 use super::{Ended, Error, Report};
-use just_host::{Host, HostFault, Stream};
+use just_cli_children::print_error;
+use just_host::{Host, Stream};
 use just_path_text::Seq;
 use just_sched::Plan;
 use std::alloc::Global;
-
-/// The error of a text that wasn't printed.
-pub(crate) fn print_error(fault: HostFault) -> Error
-    ensures { result ≡ print_error fault }
-{
-    match fault {
-        HostFault::NoMemory => Error::NoMemory,
-        HostFault::Missed(_) | HostFault::Failed(_) => Error::StdoutIo { io: fault },
-    }
-}
 
 /// The plan of no node.
 pub(crate) fn empty_plan(alloc: Global) -> Plan

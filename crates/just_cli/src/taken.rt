@@ -1,13 +1,13 @@
 //! The justfile in a place, as the file that is loaded.
 
 ghost use Rattle.std.specs.Prelude.{◌≡◌, IfOk};
-ghost use Rattle.just_cli.specs.Options.{cache_beside, wanted_of};
+ghost use Rattle.just_cli_children.specs.Configs.{cache_beside, wanted_of};
 ghost use Rattle.just_cli.specs.Preparing.{Performs};
 ghost use Rattle.just_cli.specs.Taken.{TakesWanted};
 ghost use Rattle.just_cli.specs.Words.{BeginsIn};
 
 use super::Error;
-use super::configured::wanted;
+use just_cli_children::wanted;
 use just_cli_plan::Wanted;
 use just_config::Config;
 use just_host::Host;

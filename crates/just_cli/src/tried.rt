@@ -49,7 +49,7 @@ fn reply_at<H: Host>(
 }
 
 /// Whether another justfile is tried behind one that sets fallback, or doesn't, and is refused so.
-fn falls_back(fallback: bool, error: &Error) -> bool
+pub(crate) fn falls_back(fallback: bool, error: &Error) -> bool
     ensures { result ≡ (fallback && is_lacking error.now) }
 {
     fallback && is_lacking(error)
@@ -93,7 +93,7 @@ fn reply_or_next<H: Host>(
 }
 
 /// The reply of the justfiles that are tried from a place on. The record gains what asking them leaves.
-fn reply_from<H: Host>(
+pub(crate) fn reply_from<H: Host>(
     alloc: Global,
     environ: &Environ,
     config: &Config,
@@ -121,14 +121,14 @@ fn reply_from<H: Host>(
 }
 
 /// Whether the words allow that a name is missing.
-fn is_allowed(config: &Config, error: &Error) -> bool
+pub(crate) fn is_allowed(config: &Config, error: &Error) -> bool
     ensures { result ≡ (config.now.allow_missing && is_missing error.now) }
 {
     config.allow_missing && is_missing(error)
 }
 
 /// The plan of no node.
-fn plan_nothing(alloc: Global, config: &Config) -> Replied
+pub(crate) fn plan_nothing(alloc: Global, config: &Config) -> Replied
     ensures { reply_of result ≡ Reply.runs (empty_outline config.now) }
 {
     Replied::Plan(empty_plan(alloc), config.jobs, Seq::new(alloc))

@@ -74,7 +74,7 @@ finds_none = then_none AssemblesJustfile ChecksFeatures assembles_none checks_no
 
 -- ---- the pairs, and what stands behind them
 
-same_unrun : (f : EnvError) → tells_uncaptured f ≡ is_uncaptured (error_of_env f)
+pub same_unrun : (f : EnvError) → tells_uncaptured f ≡ is_uncaptured (error_of_env f)
 same_unrun (env.DotenvCommand command (output.Code code)) = refl
 same_unrun (env.DotenvCommand command (output.Io io)) = refl
 same_unrun (env.DotenvCommand command (output.Signal number)) = refl

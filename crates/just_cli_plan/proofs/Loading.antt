@@ -112,6 +112,9 @@ module _ (before after : Moment) (wanted : Wanted) (environ : Environ) (j : Just
 
 error_world : (old new : Option World) (e : Error) → is_uncaptured e ≡ false → ErrorLeaves old new e → new ≡ old
 error_world old new (error.DotenvCommand command (output.Io io)) own left = absurd (true≢false own)
+error_world old new (error.ChooserInvoke shell arguments chooser io) own left = absurd (true≢false own)
+error_world old new (error.ChooserRead chooser io) own left = absurd (true≢false own)
+error_world old new (error.ChooserWrite chooser io) own left = absurd (true≢false own)
 error_world old new _ own left = left
 
 -- behind an answer that is its own the world is told that is behind the last child

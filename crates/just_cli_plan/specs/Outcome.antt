@@ -197,7 +197,6 @@ is_filled (b ∷ bs) = true
 -- whether a text is copied for an error: the name of a recipe, a path of its cache, or another path that isn't empty
 abbrev pub copies_text : Error → Bool
 copies_text (error.Usage u) = false
-copies_text (error.NotBuilt word) = false
 copies_text (error.Config c) = false
 copies_text (error.CurrentDir io) = false
 copies_text (error.Search s) = false
@@ -244,6 +243,15 @@ copies_text (error.UnknownGroup group) = false
 copies_text (error.EvalUnknownSubmodule submodule) = false
 copies_text (error.EvalUnknownSubmoduleOrVariable name) = false
 copies_text error.FormatCheckFoundDiff = false
+copies_text error.NoChoosableRecipes = false
+copies_text (error.ChooserInvoke shell arguments chooser io) = false
+copies_text (error.ChooserRead chooser io) = false
+copies_text (error.ChooserWrite chooser io) = false
+copies_text (error.ChooserStatus chooser ending) = false
+copies_text (error.EditorInvoke editor io) = false
+copies_text (error.EditorStatus editor ending) = false
+copies_text (error.CommandInvoke binary arguments io) = false
+copies_text (error.CommandStatus binary arguments ending) = false
 copies_text error.ClosureLimit = false
 copies_text (error.InvalidShebang recipe shebang) = false
 copies_text (error.Code recipe line code message) = true

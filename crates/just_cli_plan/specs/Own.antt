@@ -15,8 +15,8 @@ use Rattle.just_exec.specs.declared.error.Error.TheVariants as error
 abbrev pub OrMemory : (Error → Type 0) → Error → Type 0
 OrMemory holds e = (e ≡ error.NoMemory) ⊎ holds e
 
--- The path of the refused call that an error tells, empty where it tells none, and the refusal. A child that gives dotenv pairs and a justfile's temporary
--- folder have that path, which the error doesn't tell.
+-- The path of the refused call that an error tells, empty where it tells none, and the refusal. A child that is run for what it prints and a justfile's
+-- temporary folder have that path, which the error doesn't tell.
 abbrev pub call_at : List ℕ → Error → Option (List ℕ × HostFault)
 call_at here (error.FilesystemIo path io) = Some (path, io)
 call_at here (error.Load path io) = Some (path, io)
@@ -35,7 +35,6 @@ call_at here (error.GetConfirmation io) = Some ([], io)
 call_at here (error.StdoutIo io) = Some ([], io)
 call_at here (error.WriteJustfile justfile io) = Some (justfile, io)
 call_at here (error.Usage e) = None
-call_at here (error.NotBuilt word) = None
 call_at here (error.Config e) = None
 call_at here (error.Search (search.FilesystemIo path io)) = None
 call_at here (error.Search search.GlobalJustfileInit) = None
@@ -91,6 +90,15 @@ call_at here (error.UnknownGroup group) = None
 call_at here (error.EvalUnknownSubmodule submodule) = None
 call_at here (error.EvalUnknownSubmoduleOrVariable name) = None
 call_at here error.FormatCheckFoundDiff = None
+call_at here error.NoChoosableRecipes = None
+call_at here (error.ChooserInvoke shell arguments chooser io) = Some (here, io)
+call_at here (error.ChooserRead chooser io) = Some (here, io)
+call_at here (error.ChooserWrite chooser io) = Some (here, io)
+call_at here (error.ChooserStatus chooser ending) = None
+call_at here (error.EditorInvoke editor io) = Some ([], io)
+call_at here (error.EditorStatus editor ending) = None
+call_at here (error.CommandInvoke binary arguments io) = Some ([], io)
+call_at here (error.CommandStatus binary arguments ending) = None
 call_at here error.ClosureLimit = None
 call_at here (error.InvalidShebang recipe shebang) = None
 call_at here (error.Code recipe line code message) = None
@@ -129,7 +137,6 @@ is_miss e = is_missed_call (call_in e)
 -- the kind of a broken rule, if an error is one
 abbrev pub kind_in : Error → Option CompileKind
 kind_in (error.Usage u) = None
-kind_in (error.NotBuilt word) = None
 kind_in (error.Config c) = None
 kind_in (error.CurrentDir io) = None
 kind_in (error.Search s) = None
@@ -176,6 +183,15 @@ kind_in (error.UnknownGroup group) = None
 kind_in (error.EvalUnknownSubmodule submodule) = None
 kind_in (error.EvalUnknownSubmoduleOrVariable name) = None
 kind_in error.FormatCheckFoundDiff = None
+kind_in error.NoChoosableRecipes = None
+kind_in (error.ChooserInvoke shell arguments chooser io) = None
+kind_in (error.ChooserRead chooser io) = None
+kind_in (error.ChooserWrite chooser io) = None
+kind_in (error.ChooserStatus chooser ending) = None
+kind_in (error.EditorInvoke editor io) = None
+kind_in (error.EditorStatus editor ending) = None
+kind_in (error.CommandInvoke binary arguments io) = None
+kind_in (error.CommandStatus binary arguments ending) = None
 kind_in error.ClosureLimit = None
 kind_in (error.InvalidShebang recipe shebang) = None
 kind_in (error.Code recipe line code message) = None
@@ -232,10 +248,9 @@ is_size None = false
 abbrev pub is_too_big : Error → Bool
 is_too_big e = is_size (kind_in e)
 
--- why a child that gives dotenv pairs wasn't run to its end, if an error tells that
+-- why a child that is run for what it prints wasn't run to its end, if an error tells that
 abbrev pub uncaptured_by : Error → Option HostFault
 uncaptured_by (error.Usage u) = None
-uncaptured_by (error.NotBuilt word) = None
 uncaptured_by (error.Config c) = None
 uncaptured_by (error.CurrentDir io) = None
 uncaptured_by (error.Search s) = None
@@ -286,6 +301,15 @@ uncaptured_by (error.UnknownGroup group) = None
 uncaptured_by (error.EvalUnknownSubmodule submodule) = None
 uncaptured_by (error.EvalUnknownSubmoduleOrVariable name) = None
 uncaptured_by error.FormatCheckFoundDiff = None
+uncaptured_by error.NoChoosableRecipes = None
+uncaptured_by (error.ChooserInvoke shell arguments chooser io) = Some io
+uncaptured_by (error.ChooserRead chooser io) = Some io
+uncaptured_by (error.ChooserWrite chooser io) = Some io
+uncaptured_by (error.ChooserStatus chooser ending) = None
+uncaptured_by (error.EditorInvoke editor io) = None
+uncaptured_by (error.EditorStatus editor ending) = None
+uncaptured_by (error.CommandInvoke binary arguments io) = None
+uncaptured_by (error.CommandStatus binary arguments ending) = None
 uncaptured_by error.ClosureLimit = None
 uncaptured_by (error.InvalidShebang recipe shebang) = None
 uncaptured_by (error.Code recipe line code message) = None

@@ -1,29 +1,13 @@
-//! The unstable features that a project uses, and the error of what isn't built.
+//! The unstable features that a project uses.
 
 ghost use Rattle.std.specs.Prelude.{◌≡◌, map};
 ghost use Rattle.std.specs.List.{list_any};
-ghost use Rattle.just_lang_types.specs.Modules.{recipes_of, settings_of};
-ghost use Rattle.just_exec.specs.declared.error.Error.TheVariants as error;
-ghost use Rattle.just_cli_plan.specs.Own.{OrMemory};
 ghost use Rattle.just_cli_plan.specs.Features.{is_cached, feature_of, feature_in, unstable_feature};
 
 use just_config::UnstableFeature;
-use just_exec::Error;
 use just_exec_work::has_attribute;
 use just_lang_types::Recipe;
 use just_lang_types::project::Justfile;
-use just_path_text::Text;
-use std::alloc::Global;
-
-/// The error of what isn't built yet.
-pub fn not_built_error(alloc: Global, word: &str) -> Error
-    ensures { OrMemory (λ e. e ≡ error.NotBuilt word.now) result }
-{
-    match Text::from_str(alloc, word) {
-        Ok(word) => Error::NotBuilt { word },
-        Err(_) => Error::NoMemory,
-    }
-}
 
 fn is_cached(recipe: &Recipe) -> bool
     ensures { result ≡ is_cached recipe.now }

@@ -17,7 +17,6 @@ mod wanted;
 
 pub use agree::{closures_agree, evaluations_agree, loads_agree};
 pub use ends::projects_end;
-pub use features::not_built_error;
 pub use just_env::DotenvAsk;
 pub use keys::plan_of_keys;
 pub use law::plans_agree;

@@ -1,5 +1,6 @@
 -- What commands print of a project is one thing, where each text of its parts is.
 use Rattle.std.proofs.Common.{◌≡◌, ◌≢◌, ◌++◌, ℕ, List, [], ◌∷◌, Option, Some, None, Result, Ok, Err, refl, sym, ◌∙◌, ap, subst, chars}
+use Rattle.std.specs.List.{flat_map}
 use Rattle.just_lang_types.specs.declared.error.CompileError.{CompileError}
 use Rattle.just_lang_types.specs.declared.project.Justfile.{Justfile}
 use Rattle.just_lang_types.specs.declared.project.LangError.{LangError}
@@ -19,12 +20,14 @@ use Rattle.just_config_words.specs.declared.subcommand.Subcommand.TheVariants as
 use Rattle.just_config.specs.declared.config.Config.{Config}
 use Rattle.just_exec.specs.Refusals.{error_of_lang}
 use Rattle.just_exec.specs.declared.error.Error.{Error}
+use Rattle.just_print_lists.specs.declared.listed.ListedModule.{ListedModule}
 use Rattle.just_print_lists.specs.declared.variable.EvaluateFormat.{EvaluateFormat}
 use Rattle.just_print_lists.specs.Summaries.{joined_line}
 use Rattle.just_print_commands.specs.Projects.{Parts}
 use Rattle.just_print_tree.specs.Told.{told_each}
 use Rattle.just_cli_texts.specs.declared.printed.Printed.{Printed}
 use Rattle.just_cli_texts.specs.Agree.{PrintersAgree, TextsAgree}
+use Rattle.just_cli_texts.specs.Choices.{choices_of, AreChoices, fed_unless_none, Feeds}
 use Rattle.just_cli_texts.specs.Defaults.{ListsLaid}
 use Rattle.just_cli_texts.specs.Evaluated.{evaluated_module, text_in, EvaluatesNames}
 use Rattle.just_cli_texts.specs.Formatted.{format_text, Formats}
@@ -86,6 +89,15 @@ module _ (agree : PrintersAgree) where
 
   prints_one : (environ : Pairs) (c : Config) (l : LaidSources) (x y : Result Printed Error) → Prints environ c l x → Prints environ c l y → x ≡ y
   prints_one environ c l x y (p, are, h) (q, also, g) = prints_of_one c q c.subcommand x y (subst (λ (z : Parts). PrintsOf c c.subcommand z x) (parts_one environ l p q are also) h) g
+
+  -- what a chooser is fed
+  choices_one : (c : Config) (p : Parts) (xs ys : List (List ℕ)) → AreChoices c p xs → AreChoices c p ys → xs ≡ ys
+  choices_one c p xs ys (all, h, is) (others, g, at) =
+      is ∙ (ap (λ (l : List ListedModule). flat_map (choices_of c p.modules) l) (agree.turns c.unsorted p.tree all others h g) ∙ sym at)
+
+  feeds_one : (environ : Pairs) (c : Config) (l : LaidSources) (x y : Result (List ℕ) Error) → Feeds environ c l x → Feeds environ c l y → x ≡ y
+  feeds_one environ c l x y (p, are, (xs, h, is)) (q, also, (ys, g, at)) =
+      is ∙ (ap (λ (ls : List (List ℕ)). fed_unless_none ls) (choices_one c q xs ys (subst (λ (z : Parts). AreChoices c z xs) (parts_one environ l p q are also) h) g) ∙ sym at)
 
 -- ---- values
 
@@ -156,4 +168,4 @@ formats_one c environ s (Err d) (Err e) (a, h, own, is) (b, g, other, at) = ap (
 
 -- all of them
 pub texts_agree : PrintersAgree → TextsAgree
-texts_agree agree = record { listings = listings_one agree; prints = prints_one agree; evaluates = evaluates_one; formats = formats_one }
+texts_agree agree = record { listings = listings_one agree; prints = prints_one agree; evaluates = evaluates_one; formats = formats_one; feeds = feeds_one agree }

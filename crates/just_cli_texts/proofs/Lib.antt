@@ -1,5 +1,6 @@
 -- The lemmas of what commands print.
 pub mod Agreeing
+pub mod ChoiceLaws
 pub mod DefaultLaws
 pub mod EvaluateLaws
 pub mod FormatLaws

@@ -28,8 +28,11 @@ in_turn_by u ms all (AreInTurn.first m js more a) ns others (AreInTurn.first k k
     ap (λ x. x ∷ more) one
     ∙ ap (λ l. k ∷ l) (in_turn_by u (public_modules u m ++ js) more a (public_modules u k ++ ks) rest b (ap (λ x. public_modules u x ++ js) one ∙ ap (λ l. public_modules u k ++ l) more_are))
 
+pub turns_one : (u : Bool) (root : ListedModule) (xs ys : List ListedModule) → AreInTurn u (root ∷ []) xs → AreInTurn u (root ∷ []) ys → xs ≡ ys
+turns_one u root xs ys a b = in_turn_by u (root ∷ []) xs a (root ∷ []) ys b refl
+
 pub paths_one : (u : Bool) (root : ListedModule) (xs ys : List (List ℕ)) → ArePaths u root xs → ArePaths u root ys → xs ≡ ys
-paths_one u root xs ys (all, a, is) (others, b, at) = is ∙ (ap (λ (l : List ListedModule). flat_map (paths_of u) l) (in_turn_by u (root ∷ []) all a (root ∷ []) others b refl) ∙ sym at)
+paths_one u root xs ys (all, a, is) (others, b, at) = is ∙ (ap (λ (l : List ListedModule). flat_map (paths_of u) l) (turns_one u root all others a b) ∙ sym at)
 
 -- ---- parts are written in one way
 

@@ -26,7 +26,7 @@ use Rattle.just_print_commands.specs.Texts.{inner_of, named_of, IsListedAt, IsFo
 use Rattle.just_cli_texts.specs.Agree.{PrintersAgree, TextsAgree}
 use Rattle.just_cli_texts.specs.Targets.{error_of_list, error_of_show, UnshownBy, Lists, Shows, Uses}
 use Rattle.just_cli_texts.proofs.Agreeing.{ends_one, texts_agree}
-use Rattle.just_cli_texts.proofs.OneListing.{listing_one, paths_one}
+use Rattle.just_cli_texts.proofs.OneListing.{listing_one, turns_one, paths_one}
 use Rattle.just_cli_texts.proofs.OneTree.{tree_one}
 
 -- an answer is one thing
@@ -151,7 +151,7 @@ uses_one p names (Err d) (Err e) h g = ap (λ z. Err z) (unshown_one p names (co
 -- ---- all of them
 
 printers : PrintersAgree
-printers = record { trees = tree_one; lists = lists_one; shows = shows_one; uses = uses_one; paths = paths_one }
+printers = record { trees = tree_one; lists = lists_one; shows = shows_one; uses = uses_one; paths = paths_one; turns = turns_one }
 
 pub texts : TextsAgree
 texts = texts_agree printers

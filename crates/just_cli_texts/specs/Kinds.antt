@@ -8,11 +8,11 @@ use Rattle.just_cli_texts.specs.declared.kind.Kind.TheVariants as kind
 -- words without a command ask for a run
 abbrev pub kind_of : Option Subcommand → Kind
 kind_of None = kind.Run
-kind_of (Some (command.Choose ws)) = kind.Later
+kind_of (Some (command.Choose ws)) = kind.Choose
 kind_of (Some (command.Clean ws)) = kind.Clean
-kind_of (Some (command.Command ws)) = kind.Later
+kind_of (Some (command.Command ws)) = kind.Command
 kind_of (Some (command.Dump ws)) = kind.Print
-kind_of (Some (command.Edit ws)) = kind.Later
+kind_of (Some (command.Edit ws)) = kind.Edit
 kind_of (Some (command.Evaluate ws)) = kind.Evaluate
 kind_of (Some (command.Fmt ws)) = kind.Format
 kind_of (Some (command.Groups ws)) = kind.Print
@@ -33,7 +33,9 @@ reads_justfile kind.Format = true
 reads_justfile kind.Clean = true
 reads_justfile kind.Evaluate = true
 reads_justfile kind.Print = true
-reads_justfile kind.Later = true
+reads_justfile kind.Choose = true
+reads_justfile kind.Edit = true
+reads_justfile kind.Command = true
 
 -- whether it asks for a new justfile
 abbrev pub is_new : Kind → Bool
@@ -44,7 +46,9 @@ is_new kind.Format = false
 is_new kind.Clean = false
 is_new kind.Evaluate = false
 is_new kind.Print = false
-is_new kind.Later = false
+is_new kind.Choose = false
+is_new kind.Edit = false
+is_new kind.Command = false
 
 -- whether it asks something of the justfile in its place
 abbrev pub is_placed : Kind → Bool
@@ -55,7 +59,22 @@ is_placed kind.Format = true
 is_placed kind.Clean = true
 is_placed kind.Evaluate = true
 is_placed kind.Print = true
-is_placed kind.Later = false
+is_placed kind.Choose = false
+is_placed kind.Edit = true
+is_placed kind.Command = true
+
+-- whether recipes are chosen for it
+abbrev pub is_choice : Kind → Bool
+is_choice kind.Run = false
+is_choice kind.New = false
+is_choice kind.Respond = false
+is_choice kind.Format = false
+is_choice kind.Clean = false
+is_choice kind.Evaluate = false
+is_choice kind.Print = false
+is_choice kind.Choose = true
+is_choice kind.Edit = false
+is_choice kind.Command = false
 
 -- the words of a command
 abbrev pub words_of : Option Subcommand → List (List ℕ)

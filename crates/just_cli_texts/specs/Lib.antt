@@ -1,5 +1,6 @@
 -- The definitions of what commands print.
 pub mod Agree
+pub mod Choices
 pub mod Kinds
 pub mod Defaults
 pub mod Evaluated

@@ -1,7 +1,7 @@
 //! What a command does.
 
 ghost use Rattle.std.specs.Prelude.{◌≡◌};
-ghost use Rattle.just_cli_texts.specs.Kinds.{is_new, is_placed, kind_of, reads_justfile, words_of};
+ghost use Rattle.just_cli_texts.specs.Kinds.{is_choice, is_new, is_placed, kind_of, reads_justfile, words_of};
 
 use just_config::Subcommand;
 use just_path_text::Text;
@@ -23,8 +23,12 @@ pub enum Kind {
     Evaluate,
     /// A text is printed that the project alone gives.
     Print,
-    /// It isn't built yet.
-    Later,
+    /// Recipes are chosen, and run.
+    Choose,
+    /// The justfile is opened in an editor.
+    Edit,
+    /// One command is run in the project's environment.
+    Command,
 }
 
 /// What a command does, where there is one.
@@ -38,7 +42,9 @@ pub fn kind_of(command: &Option<Subcommand>) -> Kind
         Some(Subcommand::Fmt(_)) => Kind::Format,
         Some(Subcommand::Clean(_)) => Kind::Clean,
         Some(Subcommand::Evaluate(_)) => Kind::Evaluate,
-        Some(Subcommand::Choose(_) | Subcommand::Command(_) | Subcommand::Edit(_)) => Kind::Later,
+        Some(Subcommand::Choose(_)) => Kind::Choose,
+        Some(Subcommand::Edit(_)) => Kind::Edit,
+        Some(Subcommand::Command(_)) => Kind::Command,
         Some(
             Subcommand::Dump(_)
             | Subcommand::Groups(_)
@@ -57,7 +63,14 @@ pub fn reads_justfile(kind: Kind) -> bool
 {
     match kind {
         Kind::New | Kind::Respond => false,
-        Kind::Run | Kind::Format | Kind::Clean | Kind::Evaluate | Kind::Print | Kind::Later => true,
+        Kind::Run
+        | Kind::Format
+        | Kind::Clean
+        | Kind::Evaluate
+        | Kind::Print
+        | Kind::Choose
+        | Kind::Edit
+        | Kind::Command => true,
     }
 }
 
@@ -73,7 +86,9 @@ pub fn is_new(kind: Kind) -> bool
         | Kind::Clean
         | Kind::Evaluate
         | Kind::Print
-        | Kind::Later => false,
+        | Kind::Choose
+        | Kind::Edit
+        | Kind::Command => false,
     }
 }
 
@@ -82,8 +97,27 @@ pub fn is_placed(kind: Kind) -> bool
     ensures { result ≡ is_placed kind }
 {
     match kind {
-        Kind::Format | Kind::Clean | Kind::Evaluate | Kind::Print => true,
-        Kind::Run | Kind::New | Kind::Respond | Kind::Later => false,
+        Kind::Format | Kind::Clean | Kind::Evaluate | Kind::Print | Kind::Edit | Kind::Command =>
+            true,
+        Kind::Run | Kind::New | Kind::Respond | Kind::Choose => false,
+    }
+}
+
+/// Whether recipes are chosen for it.
+pub fn is_choice(kind: Kind) -> bool
+    ensures { result ≡ is_choice kind }
+{
+    match kind {
+        Kind::Choose => true,
+        Kind::Run
+        | Kind::New
+        | Kind::Respond
+        | Kind::Format
+        | Kind::Clean
+        | Kind::Evaluate
+        | Kind::Print
+        | Kind::Edit
+        | Kind::Command => false,
     }
 }
 

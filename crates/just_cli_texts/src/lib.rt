@@ -1,6 +1,7 @@
 //! The room of the command line: what commands print of a project, and what a command does.
 #![tactic(auto)]
 
+mod choices;
 mod defaults;
 mod format;
 mod kind;
@@ -14,6 +15,7 @@ mod targets;
 mod values;
 mod whole;
 
+pub use choices::feed;
 pub use defaults::{listed_by_default, listing};
 pub use format::formatted;
 pub use just_cli_plan::Wanted;
@@ -21,7 +23,7 @@ pub use just_config::{Config, Subcommand};
 pub use just_exec::Error;
 pub use just_lang::LaidJustfile;
 pub use just_path_text::{Environ, NoMemory, Seq, Text};
-pub use kind::{Kind, is_new, is_placed, kind_of, reads_justfile, words_of};
+pub use kind::{Kind, is_choice, is_new, is_placed, kind_of, reads_justfile, words_of};
 pub use laying::laid_of_sources;
 pub use printed::Printed;
 pub use printing::{alone, prints};

@@ -11,6 +11,7 @@ pub mod Turning
 pub mod Stopped
 pub mod Agreed
 pub mod Alone
+pub mod DryLoads
 mod Ends
 mod Bound
 mod Lookups

@@ -6,7 +6,7 @@ use Rattle.just_lang_types.specs.declared.key.Value.{Value}
 use Rattle.just_lang_types.specs.declared.recipe.Parameter.{Parameter}
 use Rattle.just_lang_types.specs.declared.scope.Level.{Level}
 use Rattle.just_eval_closure.specs.Scopes.{parameter_bindings, levels_within}
-use Rattle.just_env.specs.Changes.{Change, text_cmp, exports, put_all, gets, goes, level_changes, outer, changes}
+use Rattle.just_env.specs.Changes.{Change, text_cmp, exports, put_all, gets, goes, level_changes, outer, module_levels, changes}
 
 -- ---- the levels without the innermost one
 
@@ -25,6 +25,12 @@ outer_end : (ls : List Level) (p own : Level) → outer (ls ++ p ∷ own ∷ [])
 outer_end [] p own = refl
 outer_end (l ∷ []) p own = refl
 outer_end (l ∷ k ∷ ls) p own = ap (λ zs. l ∷ zs) (outer_end (k ∷ ls) p own)
+
+-- and so is that of a module
+module_end : (ls : List Level) (own : Level) → outer (ls ++ own ∷ []) ≡ ls
+module_end [] own = refl
+module_end (l ∷ []) own = refl
+module_end (l ∷ k ∷ ls) own = ap (λ zs. l ∷ zs) (module_end (k ∷ ls) own)
 
 -- ---- changes
 
@@ -57,6 +63,10 @@ module _ (dotenv : List (List ℕ × List ℕ)) (all : Bool) (unexports : List (
   all_put levels outside m list outside_is put is =
       is ∙ put ∙ ap (λ ls. put_all mid (flat_map (level_changes all unexports) ls)) outside_is ∙ ap (λ d. put_all d (flat_map (level_changes all unexports) (outer levels))) (pairs ∙ ap (λ d. put_all d (map gets dotenv)) empty)
       ∙ sym (put_behind [] (map gets dotenv) (flat_map (level_changes all unexports) (outer levels)))
+
+  -- those of a module's scope
+  pub all_module_put : (levels : List Level) (m list : List Change) → m ≡ put_all mid (flat_map (level_changes all unexports) levels) → list ≡ m → list ≡ changes dotenv all unexports (module_levels levels)
+  all_module_put levels m list put is = all_put (module_levels levels) levels m list (sym (module_end levels (record { bindings = []; prelude = false }))) put is
 
   end_empty : (cs : List Change) → cs ++ [] ≡ cs
   end_empty [] = refl

@@ -1,5 +1,5 @@
 -- What changes in the environment of a recipe's children: some names get a text, and some are taken out.
-use Rattle.std.specs.Prelude.{ℕ, ◌≡◌, ◌||◌, ◌&&◌, not, Bool, if◌then◌else◌, List, [], ◌∷◌, ◌++◌, map, filter_map, Option, Some, None, option_map, bytes_eq}
+use Rattle.std.specs.Prelude.{ℕ, ◌≡◌, ◌||◌, ◌&&◌, not, Bool, false, if◌then◌else◌, List, [], ◌∷◌, ◌++◌, map, filter_map, Option, Some, None, option_map, bytes_eq}
 use Rattle.std.specs.BTreeMap.{insert_entry}
 use Rattle.std.specs.Cmp.Lexicographic.{slice_cmp}
 use Rattle.std.specs.List.{list_any, flat_map}
@@ -60,6 +60,10 @@ abbrev pub outer : List Level → List Level
 outer [] = []
 outer (l ∷ []) = []
 outer (l ∷ m ∷ ms) = l ∷ outer (m ∷ ms)
+
+-- the levels of a module's scope, behind which comes an empty one, as a scope's own
+abbrev pub module_levels : List Level → List Level
+module_levels levels = levels ++ record { bindings = []; prelude = false } ∷ []
 
 -- the dotenv pairs, and behind them each level from the outermost on, the scope's own left out; the last change of a name counts
 abbrev pub changes : List (List ℕ × List ℕ) → Bool → List (List ℕ) → List Level → List Change

@@ -2,7 +2,7 @@
 
 ghost use Rattle.std.specs.Prelude.{◌≡◌, map, IfOk};
 ghost use Rattle.std.specs.List.Sorted.{IsStrictlySortedBy};
-ghost use Rattle.just_env.specs.Changes.{text_cmp, outer, changes, change, AreChanges};
+ghost use Rattle.just_env.specs.Changes.{text_cmp, outer, module_levels, changes, change, AreChanges};
 ghost use Rattle.just_env.specs.Shows.{changes_of};
 
 use super::levels::{Changes, put_levels, put_pairs};
@@ -31,6 +31,29 @@ pub(crate) fn in_order(alloc: Global, made: Changes) -> Result<Seq<(Text, Option
         list.push(change)?;
     }
     Ok(Seq::from(list))
+}
+
+/// What changes for a child of a module whose scope has these levels, and which has these dotenv pairs, settings and unexports: the changes of
+/// `Environment::new` for a scope with one more level, which is its own and empty, in the order of the names' bytes.
+#[tactic(auto, using(crate::proofs::Put::all_module_put))]
+pub fn changes_of_module(
+    alloc: Global,
+    dotenv: &[(Text, Text)],
+    levels: &[Level],
+    settings: &Settings,
+    unexports: &[Text],
+) -> Result<Seq<(Text, Option<Text>)>, NoMemory>
+    ensures changes { IfOk result (λ list. list
+        ≡ changes dotenv.now settings.now.export unexports.now (module_levels levels.now)) }
+    // So at each name the innermost level that says something of it decides, and where none does the dotenv pairs.
+    ensures innermost { IfOk result (AreChanges
+        (change dotenv.now settings.now.export unexports.now (module_levels levels.now))) }
+{
+    let mut changed = BTreeMap::new(alloc);
+    put_pairs(&mut changed, dotenv)?;
+    put_levels(alloc, &mut changed, settings.export, unexports, levels)?;
+    let list = in_order(alloc, changed)?;
+    Ok(list)
 }
 
 /// The levels without the innermost one.

@@ -23,8 +23,8 @@ fn command_arguments(shell: &Interpreter, command: &Text) -> Result<Seq<Text>, N
     Ok(Seq::from(arguments))
 }
 
-/// The child of a command.
-fn command_spec(
+/// The child of a command that a shell runs in a folder.
+pub fn command_spec(
     alloc: Global,
     shell: &Interpreter,
     folder: Utf8Path<'_>,

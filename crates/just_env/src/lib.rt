@@ -19,7 +19,8 @@ mod recipes;
 mod search_error;
 
 pub use ask::{DotenvAsk, Sources};
-pub use changes::Environment;
+pub use changes::{Environment, changes_of_module};
+pub use command::command_spec;
 pub use env_error::{EnvError, OutputError};
 pub use environs::environment;
 pub use just_eval_closure::View;

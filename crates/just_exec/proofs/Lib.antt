@@ -2,3 +2,4 @@
 pub mod Caching
 pub mod RunPlans
 pub mod Paired
+pub mod Written

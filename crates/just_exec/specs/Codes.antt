@@ -4,6 +4,8 @@ use Rattle.just_host_record.specs.Signals.{number_of}
 use Rattle.just_host_record.specs.declared.entry.Call.TheVariants as call
 use Rattle.just_host_record.specs.declared.entry.HostFault.{HostFault}
 use Rattle.just_host_record.specs.declared.entry.HostFault.TheVariants as fault
+use Rattle.just_host_record.specs.declared.entry.Status.{Status}
+use Rattle.just_host_record.specs.declared.entry.Status.TheVariants as status
 use Rattle.just_env.specs.declared.env_error.OutputError.{OutputError}
 use Rattle.just_env.specs.declared.env_error.OutputError.TheVariants as output
 use Rattle.just_exec.specs.declared.error.Error.{Error}
@@ -13,6 +15,12 @@ use Rattle.just_exec.specs.declared.error.Error.TheVariants as error
 abbrev pub signal_code : ℤ → Option ℤ
 signal_code number = if int_le (number +ℤ pos 128) (pos 2147483647) then Some (number +ℤ pos 128) else None
 
+-- the code of a child that ended so
+abbrev pub status_code : Status → Option ℤ
+status_code (status.Code z) = Some z
+status_code (status.Signal number) = signal_code number
+status_code status.Unknown = None
+
 -- the code of a command's own; 1 where it ended otherwise than by a code or a signal
 abbrev pub output_code : OutputError → Option ℤ
 output_code (output.Code code) = Some code
@@ -21,14 +29,13 @@ output_code (output.Io io) = Some (pos 1)
 output_code output.Unknown = Some (pos 1)
 output_code output.Utf8 = Some (pos 1)
 
--- the exit code that an error stands for: a recipe's own, and 128 and the number of a signal, where that is a code
+-- the exit code that an error stands for: that of a child of its own, and 128 and the number of a signal, where that is a code
 abbrev pub code_of : Error → Option ℤ
 code_of (error.Code recipe line code message) = Some code
 code_of (error.Interrupted signal) = Some (pos (128 + number_of signal))
 code_of (error.Signal recipe line signal) = signal_code signal
 code_of (error.DotenvCommand command e) = output_code e
 code_of (error.Usage x) = None
-code_of (error.NotBuilt word) = None
 code_of (error.Config x) = None
 code_of (error.CurrentDir io) = None
 code_of (error.Search x) = None
@@ -74,6 +81,15 @@ code_of (error.UnknownGroup group) = None
 code_of (error.EvalUnknownSubmodule submodule) = None
 code_of (error.EvalUnknownSubmoduleOrVariable name) = None
 code_of error.FormatCheckFoundDiff = None
+code_of error.NoChoosableRecipes = None
+code_of (error.ChooserInvoke shell arguments chooser io) = None
+code_of (error.ChooserRead chooser io) = None
+code_of (error.ChooserWrite chooser io) = None
+code_of (error.ChooserStatus chooser ending) = status_code ending
+code_of (error.EditorInvoke editor io) = None
+code_of (error.EditorStatus editor ending) = status_code ending
+code_of (error.CommandInvoke binary arguments io) = None
+code_of (error.CommandStatus binary arguments ending) = status_code ending
 code_of error.ClosureLimit = None
 code_of (error.InvalidShebang recipe shebang) = None
 code_of (error.GuardCode recipe line code) = None
@@ -97,7 +113,6 @@ code_of error.NoMemory = None
 abbrev pub prints : Error → Bool
 prints (error.Code recipe line code message) = message
 prints (error.Usage x) = true
-prints (error.NotBuilt word) = true
 prints (error.Config x) = true
 prints (error.CurrentDir io) = true
 prints (error.Search x) = true
@@ -144,6 +159,15 @@ prints (error.UnknownGroup group) = true
 prints (error.EvalUnknownSubmodule submodule) = true
 prints (error.EvalUnknownSubmoduleOrVariable name) = true
 prints error.FormatCheckFoundDiff = true
+prints error.NoChoosableRecipes = true
+prints (error.ChooserInvoke shell arguments chooser io) = true
+prints (error.ChooserRead chooser io) = true
+prints (error.ChooserWrite chooser io) = true
+prints (error.ChooserStatus chooser ending) = true
+prints (error.EditorInvoke editor io) = true
+prints (error.EditorStatus editor ending) = true
+prints (error.CommandInvoke binary arguments io) = true
+prints (error.CommandStatus binary arguments ending) = true
 prints error.ClosureLimit = true
 prints (error.InvalidShebang recipe shebang) = true
 prints (error.GuardCode recipe line code) = true
@@ -194,7 +218,6 @@ is_environ_fault fault.NoMemory = false
 -- whether an error is printed also where the words ask for quiet: it comes before, or with, what the words ask for
 abbrev pub prints_always : Error → Bool
 prints_always (error.Usage u) = true
-prints_always (error.NotBuilt word) = true
 prints_always (error.Config e) = true
 prints_always (error.CurrentDir io) = true
 prints_always (error.FilesystemIo path io) = is_environ_fault io
@@ -241,6 +264,15 @@ prints_always (error.UnknownGroup group) = false
 prints_always (error.EvalUnknownSubmodule submodule) = false
 prints_always (error.EvalUnknownSubmoduleOrVariable name) = false
 prints_always error.FormatCheckFoundDiff = false
+prints_always error.NoChoosableRecipes = false
+prints_always (error.ChooserInvoke shell arguments chooser io) = false
+prints_always (error.ChooserRead chooser io) = false
+prints_always (error.ChooserWrite chooser io) = false
+prints_always (error.ChooserStatus chooser ending) = false
+prints_always (error.EditorInvoke editor io) = false
+prints_always (error.EditorStatus editor ending) = false
+prints_always (error.CommandInvoke binary arguments io) = false
+prints_always (error.CommandStatus binary arguments ending) = false
 prints_always error.ClosureLimit = false
 prints_always (error.InvalidShebang recipe shebang) = false
 prints_always (error.Code recipe line code message) = false
@@ -270,7 +302,6 @@ or_one None = pos 1
 -- the exit code of a run that ends with an error: 2 for faulty words, 125 for want of memory, else the error's own or 1
 abbrev pub exit_code : Error → ℤ
 exit_code (error.Usage u) = pos 2
-exit_code (error.NotBuilt word) = pos 2
 exit_code error.NoMemory = pos 125
 exit_code (error.Config x) = or_one (code_of (error.Config x))
 exit_code (error.CurrentDir io) = or_one (code_of (error.CurrentDir io))
@@ -318,6 +349,15 @@ exit_code (error.UnknownGroup group) = or_one (code_of (error.UnknownGroup group
 exit_code (error.EvalUnknownSubmodule submodule) = or_one (code_of (error.EvalUnknownSubmodule submodule))
 exit_code (error.EvalUnknownSubmoduleOrVariable name) = or_one (code_of (error.EvalUnknownSubmoduleOrVariable name))
 exit_code error.FormatCheckFoundDiff = or_one (code_of error.FormatCheckFoundDiff)
+exit_code error.NoChoosableRecipes = or_one (code_of error.NoChoosableRecipes)
+exit_code (error.ChooserInvoke shell arguments chooser io) = or_one (code_of (error.ChooserInvoke shell arguments chooser io))
+exit_code (error.ChooserRead chooser io) = or_one (code_of (error.ChooserRead chooser io))
+exit_code (error.ChooserWrite chooser io) = or_one (code_of (error.ChooserWrite chooser io))
+exit_code (error.ChooserStatus chooser ending) = or_one (code_of (error.ChooserStatus chooser ending))
+exit_code (error.EditorInvoke editor io) = or_one (code_of (error.EditorInvoke editor io))
+exit_code (error.EditorStatus editor ending) = or_one (code_of (error.EditorStatus editor ending))
+exit_code (error.CommandInvoke binary arguments io) = or_one (code_of (error.CommandInvoke binary arguments io))
+exit_code (error.CommandStatus binary arguments ending) = or_one (code_of (error.CommandStatus binary arguments ending))
 exit_code error.ClosureLimit = or_one (code_of error.ClosureLimit)
 exit_code (error.InvalidShebang recipe shebang) = or_one (code_of (error.InvalidShebang recipe shebang))
 exit_code (error.Code recipe line code message) = or_one (code_of (error.Code recipe line code message))

@@ -1,7 +1,11 @@
 -- The texts of errors.
-use Rattle.std.specs.Prelude.{ℕ, ◌++◌, List, [], codes, decimal}
+use Rattle.std.specs.Prelude.{ℕ, ◌++◌, List, [], ◌∷◌, codes, decimal}
+use Rattle.std.specs.List.{flat_map}
 use Rattle.std.specs.Fmt.{signed_decimal}
 use Rattle.just_host_record.specs.Signals.{name_of}
+use Rattle.just_host_record.specs.declared.entry.HostFault.{HostFault}
+use Rattle.just_host_record.specs.declared.entry.Status.{Status}
+use Rattle.just_host_record.specs.declared.entry.Status.TheVariants as status
 use Rattle.just_lang_types.specs.declared.recipe.Modulepath.{Modulepath}
 use Rattle.just_lang_types.specs.declared.recipe.Parameter.{Parameter}
 use Rattle.just_print.specs.SmallTexts.{ticked, list_text}
@@ -56,10 +60,28 @@ output_text output.Utf8 = codes "could not convert process stdout to UTF-8"
 abbrev pub command_text : List ℕ → OutputError → List ℕ
 command_text command e = naming (codes "dotenv command ") command (codes " failed: ") ++ output_text e
 
+-- how a child ended
+abbrev pub status_text : Status → List ℕ
+status_text (status.Code code) = codes "exit status: " ++ signed_decimal code
+status_text (status.Signal number) = codes "signal: " ++ signed_decimal number
+status_text status.Unknown = codes "unknown status"
+
+-- a chooser that couldn't be started: the shell, its arguments with a blank between two of them, and the chooser
+abbrev pub chooser_text : List ℕ → List ℕ → List ℕ → HostFault → List ℕ
+chooser_text shell arguments chooser io =
+    naming (codes "chooser ") (shell ++ (codes " " ++ (arguments ++ (codes " " ++ chooser)))) (codes " invocation failed: " ++ fault_text io)
+
+-- texts in backquotes, each behind a blank
+abbrev pub ticked_behind : List (List ℕ) → List ℕ
+ticked_behind texts = flat_map (λ t. 32 ∷ ticked t) texts
+
+-- a program and its arguments, each in backquotes
+abbrev pub words_ticked : List ℕ → List (List ℕ) → List ℕ
+words_ticked binary arguments = ticked binary ++ ticked_behind arguments
+
 -- what an error is printed as
 abbrev pub error_text : Error → List ℕ
 error_text (error.Usage u) = naming (codes "usage: " ++ (usage_text u.kind ++ codes " ")) u.word []
-error_text (error.NotBuilt word) = naming (codes "usage: NotBuilt ") word []
 error_text (error.Config e) = config_text e
 error_text (error.CurrentDir io) = codes "error: failed to get current directory: " ++ fault_text io
 error_text (error.Search e) = search_text e
@@ -106,6 +128,15 @@ error_text (error.UnknownGroup group) = naming (codes "justfile does not contain
 error_text (error.EvalUnknownSubmodule submodule) = naming (codes "justfile does not contain submodule ") submodule []
 error_text (error.EvalUnknownSubmoduleOrVariable name) = naming (codes "justfile does not contain variable or submodule ") name []
 error_text error.FormatCheckFoundDiff = codes "error: formatted justfile differs from original"
+error_text error.NoChoosableRecipes = codes "error: justfile contains no choosable recipes"
+error_text (error.ChooserInvoke shell arguments chooser io) = chooser_text shell arguments chooser io
+error_text (error.ChooserRead chooser io) = naming (codes "failed to read output from chooser ") chooser (codes ": " ++ fault_text io)
+error_text (error.ChooserWrite chooser io) = naming (codes "failed to write to chooser ") chooser (codes ": " ++ fault_text io)
+error_text (error.ChooserStatus chooser ending) = naming (codes "chooser ") chooser (codes " failed: ") ++ status_text ending
+error_text (error.EditorInvoke editor io) = naming (codes "editor ") editor (codes " invocation failed: " ++ fault_text io)
+error_text (error.EditorStatus editor ending) = naming (codes "editor ") editor (codes " failed: ") ++ status_text ending
+error_text (error.CommandInvoke binary arguments io) = codes "error: failed to invoke " ++ (words_ticked binary arguments ++ (codes ": " ++ fault_text io))
+error_text (error.CommandStatus binary arguments ending) = codes "error: command " ++ (words_ticked binary arguments ++ (codes " failed: " ++ status_text ending))
 error_text error.ClosureLimit = codes "error: request needs more than 1000000 recipes"
 error_text (error.InvalidShebang recipe shebang) = of_part recipe (codes " has invalid shebang ") shebang []
 error_text (error.Code recipe line code message) = failed_text recipe line ++ (codes " with exit code " ++ signed_decimal code)

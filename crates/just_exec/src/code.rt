@@ -2,11 +2,11 @@
 
 ghost use Rattle.std.specs.Prelude.{◌≡◌, IfOk, string_bytes};
 ghost use Rattle.just_exec.specs.Texts.{error_text};
-ghost use Rattle.just_exec.specs.Codes.{code_of, output_code, prints, prints_always, is_environ_fault, exit_code};
+ghost use Rattle.just_exec.specs.Codes.{code_of, status_code, output_code, prints, prints_always, is_environ_fault, exit_code};
 
 use super::Error;
 use just_env::OutputError;
-use just_host_record::{Call, HostFault};
+use just_host_record::{Call, HostFault, Status};
 use just_path_text::NoMemory;
 use std::alloc::Global;
 
@@ -17,6 +17,17 @@ fn is_environ_fault(io: HostFault) -> bool
     match io {
         HostFault::Failed(Call::Environ) => true,
         _ => false,
+    }
+}
+
+/// The exit code of a child that ended so.
+fn status_code(status: Status) -> Option<i32>
+    ensures { result ≡ status_code status }
+{
+    match status {
+        Status::Code(code) => Some(code),
+        Status::Signal(number) => number.checked_add(128),
+        Status::Unknown => None,
     }
 }
 
@@ -48,6 +59,9 @@ impl Error {
             Error::Signal { signal, .. } => signal.checked_add(128),
             Error::Interrupted(signal) => Some(signal.code()),
             Error::DotenvCommand { output_error, .. } => output_code(*output_error),
+            Error::ChooserStatus { status, .. }
+            | Error::EditorStatus { status, .. }
+            | Error::CommandStatus { status, .. } => status_code(*status),
             _ => None,
         }
     }
@@ -57,7 +71,7 @@ impl Error {
         ensures { result ≡ exit_code self.now }
     {
         match self {
-            Error::Usage(_) | Error::NotBuilt { .. } => 2,
+            Error::Usage(_) => 2,
             Error::NoMemory => 125,
             _ => self.code().unwrap_or(1),
         }
@@ -78,10 +92,7 @@ impl Error {
         ensures { result ≡ prints_always self.now }
     {
         match self {
-            Error::Usage(_)
-            | Error::NotBuilt { .. }
-            | Error::Config(_)
-            | Error::CurrentDir { .. } => true,
+            Error::Usage(_) | Error::Config(_) | Error::CurrentDir { .. } => true,
             Error::FilesystemIo { io, .. } => is_environ_fault(*io),
             _ => false,
         }

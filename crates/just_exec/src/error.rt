@@ -3,7 +3,7 @@
 use just_config::{ConfigError, UnstableFeature};
 use just_config_words::Usage;
 use just_env::{OutputError, SearchError};
-use just_host_record::{HostFault, Signal};
+use just_host_record::{HostFault, Signal, Status};
 use just_lang_types::{CompileError, Modulepath, Parameter, Switch};
 use just_path::Utf8PathBuf;
 use just_path_text::{Seq, Text};
@@ -12,10 +12,6 @@ use just_path_text::{Seq, Text};
 pub enum Error {
     /// The words of the command line, or a variable that fills them in, are at fault.
     Usage(Usage),
-    /// A form that isn't built yet: the first long name of an option or of a command.
-    NotBuilt {
-        word: Text,
-    },
     /// The arguments of the words give no configuration.
     Config(ConfigError),
     CurrentDir {
@@ -183,6 +179,52 @@ pub enum Error {
     },
     /// The justfile isn't as `--fmt` writes it.
     FormatCheckFoundDiff,
+    /// Recipes are to be chosen, and none can be.
+    NoChoosableRecipes,
+    /// The shell that runs a chooser couldn't be started: its command, and its arguments with a blank between two of them.
+    ChooserInvoke {
+        shell: Text,
+        arguments: Text,
+        chooser: Text,
+        io: HostFault,
+    },
+    /// What a chooser printed couldn't be read.
+    ChooserRead {
+        chooser: Text,
+        io: HostFault,
+    },
+    /// The lines to choose from couldn't be written to a chooser.
+    ChooserWrite {
+        chooser: Text,
+        io: HostFault,
+    },
+    /// A chooser ended with neither the code 0 nor 130.
+    ChooserStatus {
+        chooser: Text,
+        status: Status,
+    },
+    /// An editor couldn't be started or waited for.
+    EditorInvoke {
+        editor: Text,
+        io: HostFault,
+    },
+    /// An editor didn't end with the code 0.
+    EditorStatus {
+        editor: Text,
+        status: Status,
+    },
+    /// The first of some words with the others as its arguments couldn't be started or waited for.
+    CommandInvoke {
+        binary: Text,
+        arguments: Seq<Text>,
+        io: HostFault,
+    },
+    /// Such a command didn't end with the code 0.
+    CommandStatus {
+        binary: Text,
+        arguments: Seq<Text>,
+        status: Status,
+    },
     /// The request needs more than 1,000,000 recipes.
     ClosureLimit,
     /// The first line of a script names no interpreter.
@@ -286,7 +328,6 @@ impl Drop for Error {
     fn drop(self) {
         match self {
             Error::Usage(_)
-            | Error::NotBuilt { word: _ }
             | Error::Config(_)
             | Error::CurrentDir { io: _ }
             | Error::Search(_)
@@ -396,6 +437,34 @@ impl Drop for Error {
             | Error::EvalUnknownSubmodule { submodule: _ }
             | Error::EvalUnknownSubmoduleOrVariable { name: _ }
             | Error::FormatCheckFoundDiff
+            | Error::NoChoosableRecipes
+            | Error::ChooserInvoke {
+                shell: _,
+                arguments: _,
+                chooser: _,
+                io: _,
+            }
+            | Error::ChooserRead { chooser: _, io: _ }
+            | Error::ChooserWrite { chooser: _, io: _ }
+            | Error::ChooserStatus {
+                chooser: _,
+                status: _,
+            }
+            | Error::EditorInvoke { editor: _, io: _ }
+            | Error::EditorStatus {
+                editor: _,
+                status: _,
+            }
+            | Error::CommandInvoke {
+                binary: _,
+                arguments: _,
+                io: _,
+            }
+            | Error::CommandStatus {
+                binary: _,
+                arguments: _,
+                status: _,
+            }
             | Error::ClosureLimit
             | Error::InvalidShebang {
                 recipe: _,

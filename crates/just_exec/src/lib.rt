@@ -10,6 +10,7 @@
 
 mod asked;
 mod caches;
+mod children;
 mod code;
 mod error;
 mod failed;

@@ -8,6 +8,7 @@ ghost use Rattle.just_exec.specs.Parts.{fault_text};
 ghost use Rattle.just_exec.specs.Texts.{search_text, dotenv_text, output_text, command_text, error_text};
 
 use super::Error;
+use super::children::{tell_editor, tell_ended, tell_invocation, tell_unstarted, tell_unwell};
 use super::failed::{
     tell_code, tell_failed, tell_folder, tell_guard, tell_script, tell_shebang, tell_shell,
     tell_signal, tell_terminated,
@@ -118,7 +119,6 @@ fn tell_start<W: fmt::Write>(error: &Error, f: &mut fmt::Formatter<W>) -> fmt::R
 {
     match error {
         Error::Usage(usage) => tell_usage(usage, f),
-        Error::NotBuilt { word } => tell_naming("usage: NotBuilt ", word.as_str(), "", f),
         Error::Config(error) => write!(f, "{error}"),
         Error::CurrentDir { io } => tell_fault("failed to get current directory: ", *io, f),
         Error::Search(error) => tell_search(error, f),
@@ -258,6 +258,55 @@ fn tell_command_refused<W: fmt::Write>(error: &Error, f: &mut fmt::Formatter<W>)
         Error::FormatCheckFoundDiff => {
             f.write_str("error: formatted justfile differs from original")
         }
+        _ => Err(fmt::Error),
+    }
+}
+
+/// What is told of a chooser; no other error is told here.
+fn tell_chooser<W: fmt::Write>(error: &Error, f: &mut fmt::Formatter<W>) -> fmt::Result
+    ensures { WritesOnOk W.write_str_gives f.old result (error_text error.now) f.new }
+{
+    match error {
+        Error::NoChoosableRecipes => {
+            f.write_str("error: justfile contains no choosable recipes")
+        }
+        Error::ChooserInvoke {
+            shell,
+            arguments,
+            chooser,
+            io,
+        } => tell_invocation(shell, arguments, chooser, *io, f),
+        Error::ChooserRead { chooser, io } => tell_at(
+            "failed to read output from chooser ",
+            chooser.as_str(),
+            *io,
+            f,
+        ),
+        Error::ChooserWrite { chooser, io } => {
+            tell_at("failed to write to chooser ", chooser.as_str(), *io, f)
+        }
+        Error::ChooserStatus { chooser, status } => tell_ended("chooser ", chooser, *status, f),
+        _ => Err(fmt::Error),
+    }
+}
+
+/// What is told of a child that a command ran alone; no other error is told here.
+fn tell_alone<W: fmt::Write>(error: &Error, f: &mut fmt::Formatter<W>) -> fmt::Result
+    ensures { WritesOnOk W.write_str_gives f.old result (error_text error.now) f.new }
+{
+    match error {
+        Error::EditorInvoke { editor, io } => tell_editor(editor, *io, f),
+        Error::EditorStatus { editor, status } => tell_ended("editor ", editor, *status, f),
+        Error::CommandInvoke {
+            binary,
+            arguments,
+            io,
+        } => tell_unstarted(binary, arguments.as_slice(), *io, f),
+        Error::CommandStatus {
+            binary,
+            arguments,
+            status,
+        } => tell_unwell(binary, arguments.as_slice(), *status, f),
         _ => Err(fmt::Error),
     }
 }
@@ -464,7 +513,6 @@ impl fmt::Display for Error {
     fn fmt<W: fmt::Write>(&self, f: &mut fmt::Formatter<W>) -> fmt::Result {
         match self {
             Error::Usage(_)
-            | Error::NotBuilt { .. }
             | Error::Config(_)
             | Error::CurrentDir { .. }
             | Error::Search(_)
@@ -499,6 +547,15 @@ impl fmt::Display for Error {
             | Error::EvalUnknownSubmodule { .. }
             | Error::EvalUnknownSubmoduleOrVariable { .. }
             | Error::FormatCheckFoundDiff => tell_command_refused(self, f),
+            Error::NoChoosableRecipes
+            | Error::ChooserInvoke { .. }
+            | Error::ChooserRead { .. }
+            | Error::ChooserWrite { .. }
+            | Error::ChooserStatus { .. } => tell_chooser(self, f),
+            Error::EditorInvoke { .. }
+            | Error::EditorStatus { .. }
+            | Error::CommandInvoke { .. }
+            | Error::CommandStatus { .. } => tell_alone(self, f),
             Error::UnknownRecipe { .. }
             | Error::UnknownSubmodule { .. }
             | Error::ModuleAbsent { .. }

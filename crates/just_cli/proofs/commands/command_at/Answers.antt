@@ -20,3 +20,9 @@ returns-in-Clean-clause-asked g c = command_as _ kind.Clean c.in-Clean.is _ (g.H
 
 pub returns-in-Format-clause-asked : goal.returns-in-Format-clause-asked
 returns-in-Format-clause-asked g c = command_as _ kind.Format c.in-Format.is _ (g.H.Host.told c.args.host.now) (g.H.Host.told c.format_at.new.host) _ _ _ c.format_at.ensures.formats
+
+pub returns-in-Edit-clause-asked : goal.returns-in-Edit-clause-asked
+returns-in-Edit-clause-asked g c = command_as _ kind.Edit c.in-Edit.is _ (g.H.Host.told c.args.host.now) (g.H.Host.told c.edit_at.new.host) _ _ _ c.edit_at.ensures.edits
+
+pub returns-in-Command-clause-asked : goal.returns-in-Command-clause-asked
+returns-in-Command-clause-asked g c = command_as _ kind.Command c.in-Command.is _ (g.H.Host.told c.args.host.now) (g.H.Host.told c.invoke_at.new.host) _ _ _ c.invoke_at.ensures.child

@@ -1,6 +1,6 @@
 -- Each is done as it is to be.
 use Rattle.std.proofs.Common.{rules}
-use Rattle.just_cli.specs.Tasks.{IsPathOrNone}
+use Rattle.just_cli.specs.Tasks.{HasNoScript, IsPathOrNone}
 use Rattle.just_cli.specs.declared.task.Other.TheVariants as no_run
 use Rattle.just_cli.proofs.Ending.{does_so}
 use Rattle.just_cli.proofs.other.do_other.Goals as goal
@@ -29,3 +29,10 @@ clean-requires g c =
 
 pub returns-in-Clean : goal.returns-in-Clean
 returns-in-Clean g c = does_so c.args.other (no_run.Clean c.in-Clean.folder c.in-Clean.path) c.args.quiet _ _ _ c.in-Clean.is c.clean.ensures
+
+pub invoke-requires : goal.invoke-requires
+invoke-requires g c =
+    let known : HasNoScript c.in-Invoke.child = rw c.in-Invoke.is at c.requires.path in search rules
+
+pub returns-in-Invoke : goal.returns-in-Invoke
+returns-in-Invoke g c = does_so c.args.other (no_run.Invoke c.in-Invoke.child) c.args.quiet _ _ _ c.in-Invoke.is c.invoke.ensures

@@ -6,11 +6,11 @@ use Rattle.just_cli.proofs.prepare.asked_at.Goals as goal
 
 pub returns-in-Ok-clause-asked : goal.returns-in-Ok-clause-asked
 returns-in-Ok-clause-asked g c =
-    reply_asked _ (g.H.Host.told c.args.host.now) (g.H.Host.told c.reply_tried.new.host) _ _ (runs_then _ (rw (c.is_placed.ensures, c.kind_of-kind.ensures) at c.if-not-is_placed.true) c.requires.reads c.requires.built) _ _ (sym c.task_of.ensures.asked) c.in-Ok.ensures
+    reply_asked _ (g.H.Host.told c.args.host.now) (g.H.Host.told c.reply_tried.new.host) _ _ (runs_then _ (rw (c.is_placed.ensures, c.kind_of-kind.ensures) at c.if-not-is_placed.true) c.requires.reads c.requires.given) _ _ (sym c.task_of.ensures.asked) c.in-Ok.ensures
 
 pub returns-in-Err-clause-asked : goal.returns-in-Err-clause-asked
 returns-in-Err-clause-asked g c =
-    reply_lost _ (g.H.Host.told c.args.host.now) (g.H.Host.told c.reply_tried.new.host) _ _ (runs_then _ (rw (c.is_placed.ensures, c.kind_of-kind.ensures) at c.if-not-is_placed.true) c.requires.reads c.requires.built) _ c.in-Err.ensures
+    reply_lost _ (g.H.Host.told c.args.host.now) (g.H.Host.told c.reply_tried.new.host) _ _ (runs_then _ (rw (c.is_placed.ensures, c.kind_of-kind.ensures) at c.if-not-is_placed.true) c.requires.reads c.requires.given) _ c.in-Err.ensures
 
 pub command_at-asked-requires-clause-placed : goal.command_at-asked-requires-clause-placed
 command_at-asked-requires-clause-placed g c =

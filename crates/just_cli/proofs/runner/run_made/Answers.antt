@@ -2,7 +2,7 @@
 use Rattle.std.proofs.Common.{refl, rules}
 use Rattle.just_cli.specs.Tasks.{HasPath}
 use Rattle.just_cli.proofs.Asking.{quiet_read}
-use Rattle.just_cli.proofs.Ending.{ended_listing, ended_other, has_path, ended_refused, ended_well, ended_ill}
+use Rattle.just_cli.proofs.Ending.{ended_dry, ended_listing, ended_other, has_path, ended_refused, ended_well, ended_ill}
 use Rattle.just_cli.proofs.Serving.{unstarted}
 use Rattle.just_cli.proofs.runner.run_made.Goals as goal
 
@@ -21,6 +21,11 @@ pub returns-in-Ok-List : goal.returns-in-Ok-List
 returns-in-Ok-List g c = λ after removes.
     let asks = rw c.in-Ok-List.field-0-is at c.in-Ok-List.ensures.asked in
     ended_listing _ (g.H.Host.told c.args.host) (g.H.Host.told c.prepare.new.host) (g.H.Host.told c.print.result.host) after _ _ c.in-Ok-List.quiet _ c.new-made.ensures.items removes c.in-Ok-List.printed asks c.print.ensures
+
+pub returns-in-Ok-Dry : goal.returns-in-Ok-Dry
+returns-in-Ok-Dry g c = λ after removes.
+    let asks = rw c.in-Ok-Dry.field-0-is at c.in-Ok-Dry.ensures.asked in
+    ended_dry _ (g.H.Host.told c.args.host) (g.H.Host.told c.prepare.new.host) (g.H.Host.told c.dry_run.result.host) after _ _ c.in-Ok-Dry.quiet _ c.new-made.ensures.items removes c.in-Ok-Dry.plan _ _ asks c.dry_run.ensures
 
 pub do_other-requires-clause-path : goal.do_other-requires-clause-path
 do_other-requires-clause-path g c =

@@ -1,0 +1,52 @@
+-- Lines of recipes that can be chosen, one recipe at a time; and what a chooser is fed.
+use denote.Ref.{Bor}
+use Rattle.std.proofs.Common.{◌≡◌, ◌++◌, ℕ, Bool, true, false, List, [], ◌∷◌, map, filter, Option, Result, Ok, Err, refl, ◌∙◌, ap}
+use Rattle.std.specs.Prelude.{if◌then◌else◌}
+use Rattle.std.specs.Option.{option_copied}
+use Rattle.just_lang_types.specs.declared.project.Justfile.{Justfile}
+use Rattle.just_lang_layout.specs.Paths.{Pairs}
+use Rattle.just_config.specs.declared.config.Config.{Config}
+use Rattle.just_print_lists.specs.declared.listed.ListedModule.{ListedModule}
+use Rattle.just_print_lists.specs.declared.listed.ListedRecipe.{ListedRecipe}
+use Rattle.just_print_lists.specs.Groups.{is_nil}
+use Rattle.just_print_commands.specs.Projects.{Parts}
+use Rattle.just_exec.specs.declared.error.Error.{Error}
+use Rattle.just_exec.specs.declared.error.Error.TheVariants as error
+use Rattle.just_cli_texts.specs.Choices.{is_choosable, spaced_path, AreChoices, fed, fed_unless_none, Feeds}
+use Rattle.just_cli_texts.specs.Laid.{LaidSources, ArePartsOf}
+
+-- the lines of those of some recipes of a module that can be chosen
+abbrev pub lines_among : List (List ℕ) → Option (Bor Justfile) → ListedModule → List (Bor ListedRecipe) → List (List ℕ)
+lines_among groups justfile outer rs = map (λ (r : ListedRecipe). spaced_path outer r.name) (filter (is_choosable groups (option_copied justfile)) (map (λ (r : Bor ListedRecipe). r.now) rs))
+
+-- the line of one of them, where it can be chosen
+abbrev pub line_if : Bool → ListedModule → ListedRecipe → List (List ℕ)
+line_if chosen outer r = if chosen then spaced_path outer r.name ∷ [] else []
+
+-- one more
+module _ (groups : List (List ℕ)) (justfile : Option (Bor Justfile)) (outer : ListedModule) (r : Bor ListedRecipe) (rs : List (Bor ListedRecipe)) where
+  rest : List ListedRecipe
+  rest = filter (is_choosable groups (option_copied justfile)) (map (λ (x : Bor ListedRecipe). x.now) rs)
+
+  by_chosen : (b : Bool) → map (λ (x : ListedRecipe). spaced_path outer x.name) (if b then r.now ∷ rest else rest) ≡ line_if b outer r.now ++ map (λ (x : ListedRecipe). spaced_path outer x.name) rest
+  by_chosen true = refl
+  by_chosen false = refl
+
+  pub one_more : lines_among groups justfile outer (r ∷ rs) ≡ line_if (is_choosable groups (option_copied justfile) r.now) outer r.now ++ lines_among groups justfile outer rs
+  one_more = by_chosen (is_choosable groups (option_copied justfile) r.now)
+
+-- some lines are fed, and none are refused
+some_fed : (lines : List (List ℕ)) → is_nil lines ≡ false → Ok (fed lines) ≡ fed_unless_none lines
+some_fed [] some = absurd (let no : ⊥ = cc in no)
+some_fed (l ∷ ls) some = refl
+
+none_fed : (lines : List (List ℕ)) → is_nil lines ≡ true → Err error.NoChoosableRecipes ≡ fed_unless_none lines
+none_fed [] none = refl
+none_fed (l ∷ ls) none = absurd (let no : ⊥ = cc in no)
+
+module _ (environ : Pairs) (c : Config) (l : LaidSources) (p : Parts) (are : ArePartsOf environ l p) (lines : List (List ℕ)) (choices : AreChoices c p lines) where
+  pub feeds_some : is_nil lines ≡ false → (text : List ℕ) → text ≡ fed lines → Feeds environ c l (Ok text)
+  feeds_some some text is = (p, are, (lines, choices, ap (λ (t : List ℕ). let into : Result (List ℕ) Error = Ok t in into) is ∙ some_fed lines some))
+
+  pub feeds_none : is_nil lines ≡ true → Feeds environ c l (Err error.NoChoosableRecipes)
+  feeds_none none = (p, are, (lines, choices, none_fed lines none))
