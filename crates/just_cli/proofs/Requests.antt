@@ -416,6 +416,7 @@ commands_own kind.Format w acts more rest left after later q r s p own o other a
 commands_own kind.Run w acts more rest left after later q r s p own o other all told = absurd p
 commands_own kind.New w acts more rest left after later q r s p own o other all told = absurd p
 commands_own kind.Respond w acts more rest left after later q r s p own o other all told = absurd p
+commands_own kind.Vectors w acts more rest left after later q r s p own o other all told = absurd p
 commands_own kind.Later w acts more rest left after later q r s p own o other all told = absurd p
 
 -- ---- behind the configuration
@@ -452,6 +453,7 @@ by_own kind.Format = command_own kind.Format
 by_own kind.Clean = command_own kind.Clean
 by_own kind.Evaluate = command_own kind.Evaluate
 by_own kind.Print = command_own kind.Print
+by_own kind.Vectors = command_own kind.Vectors
 by_own kind.Later = command_own kind.Later
 
 at_own : GivesOwnStep AsksAt
@@ -461,6 +463,7 @@ at_own w acts more rest left after later q r s p own o other all told = by_own (
 alone_own : (w : World) (k : Kind) → GivesOwn (AsksAlone k (Some w))
 alone_own w kind.New c r s (x, p, is) own (y, q, at) other = is ∙ (ap (λ z. as_new z) (new_own w c.config x y p (own_new x r is own) q (own_new y s at other)) ∙ sym at)
 alone_own w kind.Respond c r s p own q other = p ∙ sym q
+alone_own w kind.Vectors c r s p own q other = p ∙ sym q
 alone_own w kind.Run c r s p own q other = absurd p
 alone_own w kind.Format c r s p own q other = absurd p
 alone_own w kind.Clean c r s p own q other = absurd p

@@ -32,6 +32,8 @@ use Rattle.just_cli_plan.specs.Pairs.{entries_of as entries_in}
 use Rattle.just_cli.specs.Preparing.{EndsWith, LeavesActs, EndsActs, Performs, Prepares}
 use Rattle.just_config.specs.declared.help.TheConstants.{HELP}
 use Rattle.just_cli_texts.specs.declared.printed.Printed.{Printed}
+use Rattle.just_cli_texts.specs.Prints.{alone}
+use Rattle.just_cli_vectors.specs.Vectors.{vectors_text}
 use Rattle.just_cli.specs.declared.task.Other.{Other}
 use Rattle.just_cli.specs.declared.task.Other.TheVariants as no_run
 use Rattle.just_cli.specs.Faults.{entries_of}
@@ -211,6 +213,7 @@ module _ (q : Asking) (before between settled after : Moment) (listings : List E
   stays_for no_run.Nothing quiet r does es grown calm = still_behind (idle_still between settled r does) es grown calm
   stays_for (no_run.Write path text) quiet r does es grown calm = tt
   stays_for (no_run.Clean folder path) quiet r does es grown calm = tt
+  stays_for (no_run.Vectors count) quiet r does es grown calm = still_behind (printed_still (alone (vectors_text count)) quiet between settled r does) es grown calm
 
 -- what was done for it
 pub other_done : (q : Asking) (before between settled after : Moment) → AsksOneIn q before.world → (kept made : List (List ℕ)) (x : Asked) (c : Other) (quiet : Bool) (r : Result Report Failure)

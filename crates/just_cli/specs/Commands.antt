@@ -109,6 +109,7 @@ CommandsAt kind.Format told acts after q r = FormatsAt told acts after q r
 CommandsAt kind.Run told acts after q r = ⊥
 CommandsAt kind.New told acts after q r = ⊥
 CommandsAt kind.Respond told acts after q r = ⊥
+CommandsAt kind.Vectors told acts after q r = ⊥
 CommandsAt kind.Later told acts after q r = ⊥
 
 -- what was begun of it, where memory was wanting
@@ -120,4 +121,5 @@ BeginsCommand kind.Format told acts after q = BeginsBehind BeginsFile TakesFile 
 BeginsCommand kind.Run told acts after q = ⊥
 BeginsCommand kind.New told acts after q = ⊥
 BeginsCommand kind.Respond told acts after q = ⊥
+BeginsCommand kind.Vectors told acts after q = ⊥
 BeginsCommand kind.Later told acts after q = ⊥

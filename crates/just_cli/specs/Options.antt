@@ -48,6 +48,7 @@ command_not_built (Some (command.Show ws)) = None
 command_not_built (Some (command.Summary ws)) = None
 command_not_built (Some (command.Usage ws)) = None
 command_not_built (Some (command.Variables ws)) = None
+command_not_built (Some (command.Vectors ws)) = None
 
 -- the word of what isn't built, of the first in the order of the options
 abbrev pub not_built : Config → Option (List ℕ)
@@ -77,6 +78,7 @@ is_summary (Some (command.Show ws)) = false
 is_summary (Some (command.Summary ws)) = true
 is_summary (Some (command.Usage ws)) = false
 is_summary (Some (command.Variables ws)) = false
+is_summary (Some (command.Vectors ws)) = false
 
 -- whether unstable features are allowed: by the words, or for the paths of recipes alone
 abbrev pub allows_unstable : Config → Bool

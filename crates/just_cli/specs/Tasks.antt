@@ -46,6 +46,7 @@ HasPath (no_run.Show p) = Unit {0}
 HasPath no_run.Nothing = Unit {0}
 HasPath (no_run.Write path text) = Unit {0}
 HasPath (no_run.Clean folder path) = IsPathOrNone path
+HasPath (no_run.Vectors count) = Unit {0}
 
 -- it is neither the help nor the version; and a path is one
 abbrev pub IsCommand : Other → Type 0
@@ -56,6 +57,7 @@ IsCommand (no_run.Show p) = Unit {0}
 IsCommand no_run.Nothing = Unit {0}
 IsCommand (no_run.Write path text) = Unit {0}
 IsCommand (no_run.Clean folder path) = IsPathOrNone path
+IsCommand (no_run.Vectors count) = Unit {0}
 
 abbrev pub IsNoQuestion : Task → Type 0
 IsNoQuestion (task.Run p jobs messages quiet) = Unit {0}
@@ -100,3 +102,4 @@ IsTask words before after kept keeps (task.Other (no_run.Show p) quiet) = Prepar
 IsTask words before after kept keeps (task.Other no_run.Nothing quiet) = PreparesWords words before after kept keeps (Ok (Asked.other no_run.Nothing)) × AsksQuiet words before.world quiet
 IsTask words before after kept keeps (task.Other (no_run.Write path text) quiet) = PreparesWords words before after kept keeps (Ok (Asked.other (no_run.Write path text))) × AsksQuiet words before.world quiet
 IsTask words before after kept keeps (task.Other (no_run.Clean folder path) quiet) = PreparesWords words before after kept keeps (Ok (Asked.other (no_run.Clean folder path))) × AsksQuiet words before.world quiet × IsPathOrNone path
+IsTask words before after kept keeps (task.Other (no_run.Vectors count) quiet) = PreparesWords words before after kept keeps (Ok (Asked.other (no_run.Vectors count))) × AsksQuiet words before.world quiet

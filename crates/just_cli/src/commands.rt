@@ -376,6 +376,6 @@ pub(crate) fn command_at<H: Host>(
         Kind::Evaluate => evaluate_at(alloc, environ, config, location, made, host),
         Kind::Clean => clean_at(alloc, environ, config, location, made, host),
         Kind::Format => format_at(alloc, environ, config, location, made, host),
-        Kind::Run | Kind::New | Kind::Respond | Kind::Later => unreachable!(),
+        Kind::Run | Kind::New | Kind::Respond | Kind::Vectors | Kind::Later => unreachable!(),
     }
 }

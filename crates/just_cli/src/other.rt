@@ -12,11 +12,14 @@ use super::init_text::INIT_JUSTFILE;
 use super::printing::{done, print};
 use super::show::show;
 use super::task::Other;
+use super::vectors::show_vectors;
 use super::{Ended, Error};
 use just_config::{HELP, Version};
 use just_host::Host;
 use just_path_text::{NoMemory, Seq, Text};
 use std::alloc::Global;
+use std::sync::Wait;
+use std::thread::Threads;
 
 /// The line of the version.
 fn version(alloc: Global) -> Result<Text, NoMemory>
@@ -35,8 +38,15 @@ fn show_version<H: Host>(alloc: Global, host: H) -> Ended<H>
     }
 }
 
-/// Does what words ask for that is no run: prints a text to standard output, writes a justfile, or cleans a cache.
-pub(crate) fn do_other<H: Host>(alloc: Global, host: H, other: Other, quiet: bool) -> Ended<H>
+/// Does what words ask for that is no run: prints a text to standard output, that of a run over a host in memory too, writes a justfile, or cleans a
+/// cache.
+pub(crate) fn do_other<R: Threads + Wait + Sync, H: Host>(
+    rt: &R,
+    alloc: Global,
+    host: H,
+    other: Other,
+    quiet: bool,
+) -> Ended<H>
     requires { HasPath other }
     ensures { Does other quiet (H.told host) (H.told result.host) result.result }
 {
@@ -48,5 +58,6 @@ pub(crate) fn do_other<H: Host>(alloc: Global, host: H, other: Other, quiet: boo
         Other::Nothing => done(alloc, host),
         Other::Write(path, text) => write_justfile(alloc, host, path, text.as_str(), quiet),
         Other::Clean(folder, path) => clean(alloc, host, folder, path, quiet),
+        Other::Vectors(count) => show_vectors(rt, alloc, host, count, quiet),
     }
 }

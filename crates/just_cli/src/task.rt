@@ -36,4 +36,6 @@ pub enum Other {
     Write(Utf8PathBuf, Text),
     /// A cache in that folder that is cleaned: of the entries of recipes whose paths begin with that one, else of all.
     Clean(Utf8PathBuf, Option<Modulepath>),
+    /// So many recipes, whose run over a host in memory is told of.
+    Vectors(u32),
 }

@@ -23,6 +23,7 @@ kind_of (Some (command.Show ws)) = kind.Print
 kind_of (Some (command.Summary ws)) = kind.Print
 kind_of (Some (command.Usage ws)) = kind.Print
 kind_of (Some (command.Variables ws)) = kind.Print
+kind_of (Some (command.Vectors ws)) = kind.Vectors
 
 -- whether it reads a justfile
 abbrev pub reads_justfile : Kind → Bool
@@ -33,6 +34,7 @@ reads_justfile kind.Format = true
 reads_justfile kind.Clean = true
 reads_justfile kind.Evaluate = true
 reads_justfile kind.Print = true
+reads_justfile kind.Vectors = false
 reads_justfile kind.Later = true
 
 -- whether it asks for a new justfile
@@ -44,7 +46,20 @@ is_new kind.Format = false
 is_new kind.Clean = false
 is_new kind.Evaluate = false
 is_new kind.Print = false
+is_new kind.Vectors = false
 is_new kind.Later = false
+
+-- whether it tells of a run over a host in memory
+abbrev pub is_vectors : Kind → Bool
+is_vectors kind.Run = false
+is_vectors kind.New = false
+is_vectors kind.Respond = false
+is_vectors kind.Format = false
+is_vectors kind.Clean = false
+is_vectors kind.Evaluate = false
+is_vectors kind.Print = false
+is_vectors kind.Vectors = true
+is_vectors kind.Later = false
 
 -- whether it asks something of the justfile in its place
 abbrev pub is_placed : Kind → Bool
@@ -55,6 +70,7 @@ is_placed kind.Format = true
 is_placed kind.Clean = true
 is_placed kind.Evaluate = true
 is_placed kind.Print = true
+is_placed kind.Vectors = false
 is_placed kind.Later = false
 
 -- the words of a command
@@ -75,3 +91,4 @@ words_of (Some (command.Show ws)) = ws
 words_of (Some (command.Summary ws)) = ws
 words_of (Some (command.Usage ws)) = ws
 words_of (Some (command.Variables ws)) = ws
+words_of (Some (command.Vectors ws)) = ws

@@ -1,7 +1,7 @@
 //! What a command does.
 
 ghost use Rattle.std.specs.Prelude.{◌≡◌};
-ghost use Rattle.just_cli_texts.specs.Kinds.{is_new, is_placed, kind_of, reads_justfile, words_of};
+ghost use Rattle.just_cli_texts.specs.Kinds.{is_new, is_placed, is_vectors, kind_of, reads_justfile, words_of};
 
 use just_config::Subcommand;
 use just_path_text::Text;
@@ -23,6 +23,8 @@ pub enum Kind {
     Evaluate,
     /// A text is printed that the project alone gives.
     Print,
+    /// A run over a host in memory is told of.
+    Vectors,
     /// It isn't built yet.
     Later,
 }
@@ -48,6 +50,7 @@ pub fn kind_of(command: &Option<Subcommand>) -> Kind
             | Subcommand::Usage(_)
             | Subcommand::Variables(_),
         ) => Kind::Print,
+        Some(Subcommand::Vectors(_)) => Kind::Vectors,
     }
 }
 
@@ -56,7 +59,7 @@ pub fn reads_justfile(kind: Kind) -> bool
     ensures { result ≡ reads_justfile kind }
 {
     match kind {
-        Kind::New | Kind::Respond => false,
+        Kind::New | Kind::Respond | Kind::Vectors => false,
         Kind::Run | Kind::Format | Kind::Clean | Kind::Evaluate | Kind::Print | Kind::Later => true,
     }
 }
@@ -73,6 +76,24 @@ pub fn is_new(kind: Kind) -> bool
         | Kind::Clean
         | Kind::Evaluate
         | Kind::Print
+        | Kind::Vectors
+        | Kind::Later => false,
+    }
+}
+
+/// Whether it tells of a run over a host in memory.
+pub fn is_vectors(kind: Kind) -> bool
+    ensures { result ≡ is_vectors kind }
+{
+    match kind {
+        Kind::Vectors => true,
+        Kind::Run
+        | Kind::New
+        | Kind::Respond
+        | Kind::Format
+        | Kind::Clean
+        | Kind::Evaluate
+        | Kind::Print
         | Kind::Later => false,
     }
 }
@@ -83,7 +104,7 @@ pub fn is_placed(kind: Kind) -> bool
 {
     match kind {
         Kind::Format | Kind::Clean | Kind::Evaluate | Kind::Print => true,
-        Kind::Run | Kind::New | Kind::Respond | Kind::Later => false,
+        Kind::Run | Kind::New | Kind::Respond | Kind::Vectors | Kind::Later => false,
     }
 }
 
@@ -108,7 +129,8 @@ pub fn words_of(command: &Option<Subcommand>) -> &[Text]
             | Subcommand::Show(words)
             | Subcommand::Summary(words)
             | Subcommand::Usage(words)
-            | Subcommand::Variables(words),
+            | Subcommand::Variables(words)
+            | Subcommand::Vectors(words),
         ) => words.as_slice(),
     }
 }

@@ -29,3 +29,6 @@ clean-requires g c =
 
 pub returns-in-Clean : goal.returns-in-Clean
 returns-in-Clean g c = does_so c.args.other (no_run.Clean c.in-Clean.folder c.in-Clean.path) c.args.quiet _ _ _ c.in-Clean.is c.clean.ensures
+
+pub returns-in-Vectors : goal.returns-in-Vectors
+returns-in-Vectors g c = does_so c.args.other (no_run.Vectors c.in-Vectors.count) c.args.quiet _ _ _ c.in-Vectors.is c.show_vectors.ensures

@@ -1,0 +1,3 @@
+-- The lemmas.
+mod Ranges
+mod Reported
