@@ -25,7 +25,7 @@ use Rattle.just_sched_history.proofs.WantedLaws.{priors_within, subsequents_with
 -- ---- how many members of a list aren't flagged
 
 -- the count of one member more, by its flag
-lacking_first : (P : ℕ → Type 0) (b : Bool) (n : ℕ) (xs : List ℕ) (count : ℕ) → (b ≡ true → P n) × (b ≡ false → P n → ⊥) → IsLacking P xs count → IsLacking P (n ∷ xs) ((if b then 0 else 1) + count)
+lacking_first : (P : ℕ → Type 0) (b : Bool) (n : ℕ) (xs : List ℕ) (count : ℕ) → (b ≡ true → P n) × (b ≡ false → P n → ⊥) → IsLacking P xs count → IsLacking P (n ∷ xs) (if b then count else 1 + count)
 lacking_first P true n xs count means rest = holds n xs count (means.0 refl) rest
 lacking_first P false n xs count means rest = lacks n xs count (means.1 refl) rest
 
@@ -37,20 +37,21 @@ lacking P flags means (n ∷ xs) within =
     (lacking P flags means xs (λ j lt. within (suc j) (omega (arith, lt))))
 
 -- a member is flagged, and so are the others, where none is left
-first_up : (b : Bool) (count : ℕ) → (if b then 0 else 1) + count ≡ 0 → b ≡ true
+first_up : (b : Bool) (count : ℕ) → (if b then count else 1 + count) ≡ 0 → b ≡ true
 first_up true count q = refl
 first_up false count q = absurd (omega (arith, q))
 
-others_none : (a count : ℕ) → a + count ≡ 0 → count ≡ 0
-others_none a count q = omega (arith, q)
+others_none : (b : Bool) (count : ℕ) → (if b then count else 1 + count) ≡ 0 → count ≡ 0
+others_none true count q = q
+others_none false count q = absurd (omega (arith, q))
 
 all_up : (flags : List Bool) (xs : List ℕ) → down_among flags xs ≡ 0 → (j : ℕ) → j < length xs → flag flags (slice_index xs j) ≡ true
 all_up flags [] q j lt = absurd (omega (arith, lt))
 all_up flags (n ∷ xs) q zero lt = first_up (flag flags n) (down_among flags xs) q
-all_up flags (n ∷ xs) q (suc j) lt = all_up flags xs (others_none (if flag flags n then 0 else 1) (down_among flags xs) q) j (omega (arith, lt))
+all_up flags (n ∷ xs) q (suc j) lt = all_up flags xs (others_none (flag flags n) (down_among flags xs) q) j (omega (arith, lt))
 
 -- none is left where each member is flagged
-none_first : (b : Bool) (count : ℕ) → b ≡ true → count ≡ 0 → (if b then 0 else 1) + count ≡ 0
+none_first : (b : Bool) (count : ℕ) → b ≡ true → count ≡ 0 → (if b then count else 1 + count) ≡ 0
 none_first true count up q = q
 none_first false count up q = absurd (true≢false (sym up))
 

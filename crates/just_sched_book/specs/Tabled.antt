@@ -19,7 +19,7 @@ pub data IsLacking (P : ℕ → Type 0) : List ℕ → ℕ → Type 0 where
 -- how many members of a list aren't flagged
 abbrev pub down_among : List Bool → List ℕ → ℕ
 down_among flags [] = 0
-down_among flags (n ∷ xs) = (if flag flags n then 0 else 1) + down_among flags xs
+down_among flags (n ∷ xs) = if flag flags n then down_among flags xs else 1 + down_among flags xs
 
 -- how many of a node's priors aren't finished by the flags, and how many of its subsequents
 abbrev pub priors_left : List PlanNode → Tables → ℕ → ℕ
