@@ -264,33 +264,33 @@ pub responds_then : (k : Kind) → is_new k ≡ false → reads_justfile k ≡ f
 responds_then kind.Run other alone nor = absurd (let no : ⊥ = cc in no)
 responds_then kind.New other alone nor = absurd (let no : ⊥ = cc in no)
 responds_then kind.Respond other alone nor = refl
+responds_then kind.Vectors other alone nor = absurd (let no : ⊥ = cc in no)
 responds_then kind.Format other alone nor = absurd (let no : ⊥ = cc in no)
 responds_then kind.Clean other alone nor = absurd (let no : ⊥ = cc in no)
 responds_then kind.Evaluate other alone nor = absurd (let no : ⊥ = cc in no)
 responds_then kind.Print other alone nor = absurd (let no : ⊥ = cc in no)
-responds_then kind.Vectors other alone nor = absurd (let no : ⊥ = cc in no)
 responds_then kind.Later other alone nor = absurd (let no : ⊥ = cc in no)
 
 pub vectors_then : (k : Kind) → is_vectors k ≡ true → k ≡ kind.Vectors
 vectors_then kind.Run is = absurd (let no : ⊥ = cc in no)
 vectors_then kind.New is = absurd (let no : ⊥ = cc in no)
 vectors_then kind.Respond is = absurd (let no : ⊥ = cc in no)
+vectors_then kind.Vectors is = refl
 vectors_then kind.Format is = absurd (let no : ⊥ = cc in no)
 vectors_then kind.Clean is = absurd (let no : ⊥ = cc in no)
 vectors_then kind.Evaluate is = absurd (let no : ⊥ = cc in no)
 vectors_then kind.Print is = absurd (let no : ⊥ = cc in no)
-vectors_then kind.Vectors is = refl
 vectors_then kind.Later is = absurd (let no : ⊥ = cc in no)
 
 pub new_then : (k : Kind) → is_new k ≡ true → k ≡ kind.New
 new_then kind.Run is = absurd (let no : ⊥ = cc in no)
 new_then kind.New is = refl
 new_then kind.Respond is = absurd (let no : ⊥ = cc in no)
+new_then kind.Vectors is = absurd (let no : ⊥ = cc in no)
 new_then kind.Format is = absurd (let no : ⊥ = cc in no)
 new_then kind.Clean is = absurd (let no : ⊥ = cc in no)
 new_then kind.Evaluate is = absurd (let no : ⊥ = cc in no)
 new_then kind.Print is = absurd (let no : ⊥ = cc in no)
-new_then kind.Vectors is = absurd (let no : ⊥ = cc in no)
 new_then kind.Later is = absurd (let no : ⊥ = cc in no)
 
 -- ---- commands that read no justfile

@@ -449,11 +449,11 @@ by_own : (k : Kind) → GivesOwnStep (AsksBy k)
 by_own kind.Run = runs_own
 by_own kind.New = command_own kind.New
 by_own kind.Respond = command_own kind.Respond
+by_own kind.Vectors = command_own kind.Vectors
 by_own kind.Format = command_own kind.Format
 by_own kind.Clean = command_own kind.Clean
 by_own kind.Evaluate = command_own kind.Evaluate
 by_own kind.Print = command_own kind.Print
-by_own kind.Vectors = command_own kind.Vectors
 by_own kind.Later = command_own kind.Later
 
 at_own : GivesOwnStep AsksAt

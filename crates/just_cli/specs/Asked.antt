@@ -74,11 +74,11 @@ abbrev pub AsksBy : Kind → Step LocatedRequest Asked
 AsksBy kind.Run told acts after q r = RunsTried told acts after q r
 AsksBy kind.New told acts after q r = CommandAsks kind.New told acts after q r
 AsksBy kind.Respond told acts after q r = CommandAsks kind.Respond told acts after q r
+AsksBy kind.Vectors told acts after q r = CommandAsks kind.Vectors told acts after q r
 AsksBy kind.Format told acts after q r = CommandAsks kind.Format told acts after q r
 AsksBy kind.Clean told acts after q r = CommandAsks kind.Clean told acts after q r
 AsksBy kind.Evaluate told acts after q r = CommandAsks kind.Evaluate told acts after q r
 AsksBy kind.Print told acts after q r = CommandAsks kind.Print told acts after q r
-AsksBy kind.Vectors told acts after q r = CommandAsks kind.Vectors told acts after q r
 AsksBy kind.Later told acts after q r = CommandAsks kind.Later told acts after q r
 
 abbrev pub AsksAt : Step LocatedRequest Asked
@@ -104,12 +104,12 @@ Counts c r = r ≡ Ok (Asked.other (no_run.Vectors (count_of (words_of c.config.
 abbrev pub AsksAlone : Kind → Option World → ConfigRequest → Result Asked Error → Type 0
 AsksAlone kind.New told c r = (x : Result (List ℕ) Error) × FindsFree told c.config x × (r ≡ as_new x)
 AsksAlone kind.Respond told c r = Responds c r
+AsksAlone kind.Vectors told c r = Counts c r
 AsksAlone kind.Run told c r = ⊥
 AsksAlone kind.Format told c r = ⊥
 AsksAlone kind.Clean told c r = ⊥
 AsksAlone kind.Evaluate told c r = ⊥
 AsksAlone kind.Print told c r = ⊥
-AsksAlone kind.Vectors told c r = Counts c r
 AsksAlone kind.Later told c r = ⊥
 
 -- A command that reads no justfile is decided by itself, behind the configuration, and nothing is listed for it; else the justfile is searched.
@@ -150,11 +150,11 @@ abbrev pub BeginsBy : Kind → Begun LocatedRequest
 BeginsBy kind.Run told acts after q = BeginsTries told acts after q
 BeginsBy kind.New told acts after q = BeginsCommand kind.New told acts after q
 BeginsBy kind.Respond told acts after q = BeginsCommand kind.Respond told acts after q
+BeginsBy kind.Vectors told acts after q = BeginsCommand kind.Vectors told acts after q
 BeginsBy kind.Format told acts after q = BeginsCommand kind.Format told acts after q
 BeginsBy kind.Clean told acts after q = BeginsCommand kind.Clean told acts after q
 BeginsBy kind.Evaluate told acts after q = BeginsCommand kind.Evaluate told acts after q
 BeginsBy kind.Print told acts after q = BeginsCommand kind.Print told acts after q
-BeginsBy kind.Vectors told acts after q = BeginsCommand kind.Vectors told acts after q
 BeginsBy kind.Later told acts after q = BeginsCommand kind.Later told acts after q
 
 abbrev pub BeginsAsks : Begun LocatedRequest

@@ -30,11 +30,11 @@ abbrev pub reads_justfile : Kind → Bool
 reads_justfile kind.Run = true
 reads_justfile kind.New = false
 reads_justfile kind.Respond = false
+reads_justfile kind.Vectors = false
 reads_justfile kind.Format = true
 reads_justfile kind.Clean = true
 reads_justfile kind.Evaluate = true
 reads_justfile kind.Print = true
-reads_justfile kind.Vectors = false
 reads_justfile kind.Later = true
 
 -- whether it asks for a new justfile
@@ -42,11 +42,11 @@ abbrev pub is_new : Kind → Bool
 is_new kind.Run = false
 is_new kind.New = true
 is_new kind.Respond = false
+is_new kind.Vectors = false
 is_new kind.Format = false
 is_new kind.Clean = false
 is_new kind.Evaluate = false
 is_new kind.Print = false
-is_new kind.Vectors = false
 is_new kind.Later = false
 
 -- whether it tells of a run over a host in memory
@@ -54,11 +54,11 @@ abbrev pub is_vectors : Kind → Bool
 is_vectors kind.Run = false
 is_vectors kind.New = false
 is_vectors kind.Respond = false
+is_vectors kind.Vectors = true
 is_vectors kind.Format = false
 is_vectors kind.Clean = false
 is_vectors kind.Evaluate = false
 is_vectors kind.Print = false
-is_vectors kind.Vectors = true
 is_vectors kind.Later = false
 
 -- whether it asks something of the justfile in its place
@@ -66,11 +66,11 @@ abbrev pub is_placed : Kind → Bool
 is_placed kind.Run = false
 is_placed kind.New = false
 is_placed kind.Respond = false
+is_placed kind.Vectors = false
 is_placed kind.Format = true
 is_placed kind.Clean = true
 is_placed kind.Evaluate = true
 is_placed kind.Print = true
-is_placed kind.Vectors = false
 is_placed kind.Later = false
 
 -- the words of a command

@@ -15,6 +15,8 @@ pub enum Kind {
     New,
     /// A request is answered.
     Respond,
+    /// A run over a host in memory is told of.
+    Vectors,
     /// The justfile is written anew in one style.
     Format,
     /// The cache is cleaned.
@@ -23,8 +25,6 @@ pub enum Kind {
     Evaluate,
     /// A text is printed that the project alone gives.
     Print,
-    /// A run over a host in memory is told of.
-    Vectors,
     /// It isn't built yet.
     Later,
 }
@@ -37,6 +37,7 @@ pub fn kind_of(command: &Option<Subcommand>) -> Kind
         None => Kind::Run,
         Some(Subcommand::Init(_)) => Kind::New,
         Some(Subcommand::Request(_)) => Kind::Respond,
+        Some(Subcommand::Vectors(_)) => Kind::Vectors,
         Some(Subcommand::Fmt(_)) => Kind::Format,
         Some(Subcommand::Clean(_)) => Kind::Clean,
         Some(Subcommand::Evaluate(_)) => Kind::Evaluate,
@@ -50,7 +51,6 @@ pub fn kind_of(command: &Option<Subcommand>) -> Kind
             | Subcommand::Usage(_)
             | Subcommand::Variables(_),
         ) => Kind::Print,
-        Some(Subcommand::Vectors(_)) => Kind::Vectors,
     }
 }
 
@@ -72,11 +72,11 @@ pub fn is_new(kind: Kind) -> bool
         Kind::New => true,
         Kind::Run
         | Kind::Respond
+        | Kind::Vectors
         | Kind::Format
         | Kind::Clean
         | Kind::Evaluate
         | Kind::Print
-        | Kind::Vectors
         | Kind::Later => false,
     }
 }
