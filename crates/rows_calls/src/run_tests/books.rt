@@ -266,6 +266,18 @@ fn states_of_a_diamond(rt: HostRuntime) -> Result<(), NoMemory> {
     plays(&rt, alloc, (DIAMOND, "p"), failing(alloc)?, 2, 2, want)
 }
 
+/// A diamond whose nodes come one behind the other.
+const IN_TURN: &str = "d: b c\n\techo d\nb: a\n\techo b\nc: a\n\techo c\na:\n\techo a\n";
+
+/// The states of that diamond's nodes as a book is opened, and behind the end of its first body.
+#[test]
+fn row_states_of_a_diamond_in_turn(rt: HostRuntime) -> Result<(), NoMemory> {
+    let alloc = rt.alloc();
+    let want =
+        "begun 0: Ready Waiting Waiting Waiting\nopened 1: Open Waiting Waiting Waiting\nnothing 1: Open Waiting Waiting Waiting\nfinished 0: Finished Ready Waiting Waiting\n6 Some(Code(0)) None Well\n";
+    plays(&rt, alloc, (IN_TURN, "d"), memory(alloc)?, 2, 1, want)
+}
+
 /// Two bodies of one class, which read the file `in` and make the file `out`.
 const ONE_CLASS: &str =
     "set unstable\n\n[script]\n[cache(inputs='in', outputs='out')]\nm f:\n\ttouch out\n\n[parallel]\nall: (m 'a') (m 'b')\n";
