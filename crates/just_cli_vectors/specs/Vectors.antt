@@ -1,7 +1,6 @@
 -- A justfile of so many recipes, the history of its run, and what is told of that run.
-use Rattle.std.specs.Prelude.{ℕ, ◌+◌, ◌*◌, ◌-◌, ◌^◌, ◌++◌, Bool, true, false, nat_lt, if◌then◌else◌, min, List, [], ◌∷◌, Option, Some, None, codes, count_by, decimal, flat_map}
+use Rattle.std.specs.Prelude.{ℕ, ◌+◌, ◌*◌, ◌-◌, ◌^◌, ◌++◌, Bool, true, false, nat_lt, if◌then◌else◌, min, List, [], ◌∷◌, Option, Some, None, codes, count_by, decimal, flat_map, pos}
 use Rattle.std.specs.FinMap as map
-use Rattle.std.specs.Int.Signed.{pos}
 use Rattle.std.specs.List.{range_with_len}
 use Rattle.just_lang_read.specs.Decimal.{decimal as number_of}
 use Rattle.just_path.specs.Comps.{slash}

@@ -1,6 +1,5 @@
 //! Whether a history is that of so many bodies, one behind the other.
-ghost use Rattle.std.specs.Prelude.{◌≡◌, ◌++◌, ◌∷◌, [], true, IfSome};
-ghost use Rattle.std.specs.Int.Signed.{pos};
+ghost use Rattle.std.specs.Prelude.{◌≡◌, ◌++◌, ◌∷◌, [], true, pos, IfSome};
 ghost use Rattle.just_cli_vectors.specs.Vectors.{body_events, run_events};
 
 use just_host_record::Status;
