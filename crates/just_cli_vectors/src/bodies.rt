@@ -111,5 +111,8 @@ pub fn is_history(history: &[Event], count: u32) -> bool
             None => return false,
         }
     }
-    rest.is_empty()
+    match rest {
+        [] => true,
+        [_, ..] => false,
+    }
 }

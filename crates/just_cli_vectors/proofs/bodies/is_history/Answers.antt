@@ -1,0 +1,14 @@
+-- One body more, and nothing behind the last one.
+use Rattle.std.proofs.Common.{◌++◌, ap, sym, ◌∙◌, append-nil, append_assoc, arith}
+use Rattle.just_cli_vectors.specs.Vectors.{body_events, run_events}
+use Rattle.just_cli_vectors.proofs.Ranges.{more}
+use Rattle.just_cli_vectors.proofs.bodies.is_history.Goals as goal
+
+pub bodies-preserved : goal.bodies-preserved
+bodies-preserved c = record {
+  within = omega (arith, c.bodies-test.true);
+  front = c.bodies.invariant.front
+      ∙ ap (λ r. run_events c.bodies.number ++ r) c.in-Some.ensures
+      ∙ sym (append_assoc (run_events c.bodies.number) (body_events c.bodies.number) c.in-Some.others.now)
+      ∙ ap (λ e. e ++ c.in-Some.others.now) (sym (more body_events c.bodies.number));
+}
