@@ -1,3 +1,4 @@
 -- The lemmas.
+mod Events
 mod Ranges
 mod Reported

@@ -1,17 +1,19 @@
 -- A justfile of so many recipes, the history of its run, and what is told of that run.
-use Rattle.std.specs.Prelude.{ℕ, ◌+◌, ◌*◌, ◌-◌, ◌^◌, ◌++◌, Bool, true, false, nat_lt, if◌then◌else◌, min, List, [], ◌∷◌, Option, Some, None, codes, count_by, decimal, flat_map, pos}
+use Rattle.std.specs.Prelude.{ℕ, ◌+◌, ◌*◌, ◌-◌, ◌^◌, ◌++◌, ◌==◌, ◌&&◌, Bool, true, false, nat_lt, if◌then◌else◌, min, List, [], ◌∷◌, Option, Some, None, codes, count_by, decimal, flat_map, pos}
 use Rattle.std.specs.FinMap as map
 use Rattle.std.specs.List.{range_with_len}
 use Rattle.just_lang_read.specs.Decimal.{decimal as number_of}
 use Rattle.just_path.specs.Comps.{slash}
 use Rattle.just_path.specs.View.{place_under}
 use Rattle.just_cache.specs.Digests.{digest}
+use Rattle.just_exec_work.specs.Steps.{is_code}
 use Rattle.just_host_record.specs.declared.entry.Status.TheVariants as status
 use Rattle.just_host_record.specs.declared.tree.Thing.TheVariants as thing
 use Rattle.just_host_record.specs.Sights.{Tree}
 use Rattle.just_sched_history.specs.declared.event.Event.{Event}
 use Rattle.just_sched_history.specs.declared.event.Event.TheVariants as event
 use Rattle.just_sched_history.specs.declared.event.Outcome.TheVariants as outcome
+use Rattle.just_sched_history.specs.State.{takes, begins, concludes_well, gives}
 use Rattle.just_sched_lines.specs.Lines.{history_text}
 
 -- ---- the justfile
@@ -42,6 +44,39 @@ body_events n =
 -- the bodies of so many nodes, one behind the other
 abbrev pub run_events : ℕ → List Event
 run_events count = flat_map body_events (range_with_len 0 count)
+
+-- the first command of a node is started, as the child of the same number
+abbrev pub starts_as : ℕ → Event → Bool
+starts_as n (event.Started m i c) = (m == n) && (i == 0) && (c == n)
+starts_as n (event.Asked m y) = false
+starts_as n (event.Took m) = false
+starts_as n (event.Looked m sums seen) = false
+starts_as n (event.Skipped m) = false
+starts_as n (event.Begun m) = false
+starts_as n (event.Ended m i c s) = false
+starts_as n (event.Saved m) = false
+starts_as n (event.Done m o) = false
+starts_as n (event.Gave m) = false
+starts_as n (event.Caught s) = false
+
+-- that child ends well
+abbrev pub ends_as : ℕ → Event → Bool
+ends_as n (event.Ended m i c s) = (m == n) && (i == 0) && (c == n) && is_code (pos 0) s
+ends_as n (event.Asked m y) = false
+ends_as n (event.Took m) = false
+ends_as n (event.Looked m sums seen) = false
+ends_as n (event.Skipped m) = false
+ends_as n (event.Begun m) = false
+ends_as n (event.Started m i c) = false
+ends_as n (event.Saved m) = false
+ends_as n (event.Done m o) = false
+ends_as n (event.Gave m) = false
+ends_as n (event.Caught s) = false
+
+-- whether events are those of the body of a node
+abbrev pub are_of_body : ℕ → Event → Event → Event → Event → Event → Event → Bool
+are_of_body n took begun started ended done gave =
+    takes n took && begins n begun && starts_as n started && ends_as n ended && concludes_well n done && gives n gave
 
 -- ---- what is told of it
 
