@@ -128,8 +128,8 @@ pub fn is_history(history: &[Event], count: u32) -> bool
             None => return false,
         }
     }
-    match rest {
-        [] => true,
-        [_, ..] => false,
+    if rest.is_empty() {
+        return true;
     }
+    false
 }
