@@ -6,7 +6,7 @@
 //! What a row gives: `files` (what stands at a path: a text; null for a folder; `{"hex": DIGITS}` for a file of these bytes; `{"link": TARGET}`;
 //! nothing else is there but the folders above), `current` (the current
 //! folder), `environ` (a value by its name), `words`, `endings` (for a child's word its status: a code, `"signal:N"` or
-//! `"unknown"`; and, where it changes files, the texts by their paths, or null where one goes; and what it prints, where that is captured), `answers` (the lines that a
+//! `"unknown"`; and, where it changes files, the texts by their paths, or null where one goes; and what it prints, a text or such digits, where that is captured), `answers` (the lines that a
 //! prompt reads), `input` (the text of standard input, empty where it is left out), and `fails` (the numbers of the calls of the host that fail) or
 //! `fault` (the name of a call: the first one of that name fails, and no other). What it wants: `children` (`program`,
 //! `arguments`, `folder`, `script` of each), `prompts`, `stderr`, `code`, `history` (its text, a line for each
