@@ -9,9 +9,9 @@ returns-in-Ok g c = record {
   quiet = _;
   made = c.prepare.new.made.items;
   between = g.H.Host.told c.prepare.new.host;
-  back = c.in-Ok.plan;
+  back = _;
   verdict = _;
-  after = g.H.Host.told c.in-Ok.host;
+  after = g.H.Host.told c.in-Ok.field-0.host;
   asked = rw (c.in-Ok-Run.field-0-is, c.new-made.ensures.items) at c.in-Ok-Run.ensures.asked;
   driven = c.in-Ok.ensures.driven;
 }
