@@ -1,6 +1,5 @@
 -- Events that are tested to be those of a body are.
-use Rattle.std.proofs.Common.{◌≡◌, ℕ, ◌==◌, ◌&&◌, ◌++◌, Bool, true, false, true≢false, List, ◌∷◌, refl, sym, ap, ◌∙◌, eqb-true, pos}
-use Rattle.std.specs.Ordering.{int_eq}
+use Rattle.std.proofs.Common.{◌≡◌, ℕ, ◌==◌, ◌&&◌, ◌++◌, Bool, true, false, true≢false, List, ◌∷◌, refl, sym, ap, eqb-true, pos}
 use Rattle.std.proofs.lemmas.Bool.Decides.{Decides-int_eq}
 use Rattle.just_exec_work.specs.Steps.{is_code}
 use Rattle.just_host_record.specs.declared.entry.Status.{Status}

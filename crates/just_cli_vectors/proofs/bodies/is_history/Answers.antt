@@ -1,5 +1,5 @@
 -- One body more, and nothing behind the last one.
-use Rattle.std.proofs.Common.{◌≡◌, ◌++◌, length, ap, sym, ◌∙◌, append-nil, append_assoc, arith, eqb-true}
+use Rattle.std.proofs.Common.{◌++◌, length, ap, sym, ◌∙◌, append-nil, append_assoc, arith, eqb-true}
 use Rattle.std.proofs.lemmas.List.{nil_from_length}
 use Rattle.just_cli_vectors.specs.Vectors.{body_events, run_events}
 use Rattle.just_cli_vectors.proofs.Ranges.{more}
