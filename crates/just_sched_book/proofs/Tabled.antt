@@ -177,6 +177,7 @@ module _ (nodes : List PlanNode) (invocations : List ℕ) (h : List Event) (t : 
   pub tells : ∥ TablesTell nodes invocations h t ∥₁
   tells =
       ∥∥₁_map noted (λ n. record {
+        size = sized;
         rows = n.rows;
         over = n.told.over;
         confirmed = confirmed_of nodes invocations h t well noted sized;

@@ -1,5 +1,5 @@
 -- What the tables of a book tell: of each node what its states are, and what is left of the lists that it stands in front of.
-use Rattle.std.specs.Prelude.{ℕ, ◌+◌, ◌==◌, ◌≡◌, ◌&&◌, not, Bool, true, false, if◌then◌else◌, List, [], ◌∷◌, slice_index_or}
+use Rattle.std.specs.Prelude.{ℕ, ◌+◌, ◌==◌, ◌≡◌, ◌&&◌, not, Bool, true, false, if◌then◌else◌, List, [], ◌∷◌, length, slice_index_or}
 use Rattle.just_sched_history.specs.declared.event.Event.{Event}
 use Rattle.just_sched_history.specs.declared.plan_node.PlanNode.{PlanNode}
 use Rattle.just_sched_history.specs.declared.row.Row.{Row}
@@ -37,10 +37,11 @@ goes_on nodes t n r =
 abbrev pub is_due : List PlanNode → Tables → ℕ → Row → Bool
 is_due nodes t n r = flag t.due.flags.items n && goes_on nodes t n r
 
--- The tables tell what plan and history say: each row; which nodes are over well, confirmed, finished and wanted; the nodes that are ready or to be
+-- The tables have a row and a flag for each node, and tell what plan and history say: each row; which nodes are over well, confirmed, finished and wanted; the nodes that are ready or to be
 -- asked, as a set in the order of their numbers, and none stands outside it; how many priors and subsequents of a node aren't finished; the classes, and which of
 -- them have an open body.
 pub record TablesTell (nodes : List PlanNode) (invocations : List ℕ) (h : List Event) (t : Tables) : Type 0 where
+  pub size : t.size ≡ length nodes
   pub rows : IsTable h t.rows.items
   pub over : FlagsAre t.progress.over.items (is_over_well h)
   pub confirmed : FlagsAre t.progress.confirmed.items (is_confirmed nodes h)

@@ -45,6 +45,11 @@ fn tell<H: Host + Drop, P: Naming>(
     }
 }
 
+/// Whether a book's tables are as long as its plan.
+fn is_sized<H: Host + Drop, P: Naming>(desk: &Desk<H, P>) -> bool {
+    desk.book.tables().size == desk.book.plan.nodes.len()
+}
+
 /// A word for why there is nothing to do now.
 fn idle_word(idle: Idle) -> &'static str {
     match idle {
@@ -173,6 +178,9 @@ fn play<H: Host + Drop, P: Naming>(
     };
     let mut seat = seat;
     let mut desk = Desk::new(book);
+    if !is_sized(&desk) {
+        panic!(rt; "tables of another plan");
+    }
     tell(rt, told, "begun", &desk);
     make_moves(rt, &mut desk, &mut seat, told, count);
     desk.audit(&mut seat);
