@@ -1,5 +1,5 @@
 -- In the run of so many recipes there are as many bodies and as many children.
-use Rattle.std.proofs.Common.{◌≡◌, ℕ, ◌+◌, zero, suc, Bool, ◌++◌, refl, ap₂, cond, arith}
+use Rattle.std.proofs.Common.{◌≡◌, ℕ, ◌+◌, zero, suc, Bool, ◌++◌, refl, ap₂, ◌∙◌, cond, arith}
 use Rattle.std.proofs.lemmas.List.Sums.{sum_by-append}
 use Rattle.std.specs.Prelude.{count_by, flat_map}
 use Rattle.std.specs.List.{range_with_len}
@@ -13,7 +13,8 @@ one_each p each a zero = refl
 one_each p each a (suc n) =
     let rest = flat_map body_events (range_with_len (a + 1) n) in
     let both : count_by p (body_events a ++ rest) ≡ count_by p (body_events a) + count_by p rest = sum_by-append (λ x. cond (p x) 1 0) (body_events a) rest in
-    omega (arith, both, each a, one_each p each (a + 1) n)
+    let sum : count_by p (body_events a) + count_by p rest ≡ suc n = omega (arith, each a, one_each p each (a + 1) n) in
+    both ∙ sum
 
 -- what is told of that run
 pub reported : (n : ℕ) → report_of (run_events n) ≡ vectors_text n

@@ -4,9 +4,9 @@
 mod bodies;
 mod counts;
 mod justfile;
-mod report;
+mod telling;
 
 pub use bodies::is_history;
 pub use counts::count_of;
 pub use justfile::host_of;
-pub use report::report;
+pub use telling::report;
