@@ -1,5 +1,6 @@
 -- Events that are tested to be those of a body are.
-use Rattle.std.proofs.Common.{◌≡◌, ℕ, ◌==◌, ◌&&◌, ◌++◌, Bool, true, false, true≢false, List, ◌∷◌, refl, sym, ap, eqb-true, pos}
+use Rattle.std.proofs.Common.{◌≡◌, ℕ, ◌-◌, ◌==◌, ◌≤◌, ◌&&◌, ◌++◌, Bool, true, false, true≢false, List, [], ◌∷◌, length, get_or, take, drop, refl, sym, ap, eqb-true, pos, arith}
+use Rattle.std.proofs.lemmas.List.{take_all}
 use Rattle.std.proofs.lemmas.Bool.Decides.{Decides-int_eq}
 use Rattle.just_exec_work.specs.Steps.{is_code}
 use Rattle.just_host_record.specs.declared.entry.Status.{Status}
@@ -89,3 +90,25 @@ body_is n a b c d e f rest q =
     let fifth : e ≡ event.Done n outcome.Well = done_is n e all.4 in
     let sixth : f ≡ event.Gave n = gave_is n f all.5 in
     λ t. first t ∷ second t ∷ third t ∷ fourth t ∷ fifth t ∷ sixth t ∷ rest
+
+-- ---- the events of a list
+
+-- a list of six items at least is these, and the others behind them
+pub six_here : (xs : List Event) (a b c d e f : Event) → 6 ≤ length xs → a ≡ get_or xs 0 a → b ≡ get_or xs 1 b → c ≡ get_or xs 2 c → d ≡ get_or xs 3 d → e ≡ get_or xs 4 e → f ≡ get_or xs 5 f
+    → xs ≡ a ∷ b ∷ c ∷ d ∷ e ∷ f ∷ take (length xs - 6) (drop 6 xs)
+six_here [] a b c d e f l p q r s t u = absurd (omega (arith, l))
+six_here (x0 ∷ []) a b c d e f l p q r s t u = absurd (omega (arith, l))
+six_here (x0 ∷ x1 ∷ []) a b c d e f l p q r s t u = absurd (omega (arith, l))
+six_here (x0 ∷ x1 ∷ x2 ∷ []) a b c d e f l p q r s t u = absurd (omega (arith, l))
+six_here (x0 ∷ x1 ∷ x2 ∷ x3 ∷ []) a b c d e f l p q r s t u = absurd (omega (arith, l))
+six_here (x0 ∷ x1 ∷ x2 ∷ x3 ∷ x4 ∷ []) a b c d e f l p q r s t u = absurd (omega (arith, l))
+six_here (x0 ∷ x1 ∷ x2 ∷ x3 ∷ x4 ∷ x5 ∷ rest) a b c d e f l p q r s t u =
+    let all : length rest ≤ length (x0 ∷ x1 ∷ x2 ∷ x3 ∷ x4 ∷ x5 ∷ rest) - 6 = omega arith in
+    let behind : rest ≡ take (length (x0 ∷ x1 ∷ x2 ∷ x3 ∷ x4 ∷ x5 ∷ rest) - 6) rest = sym (take_all (length (x0 ∷ x1 ∷ x2 ∷ x3 ∷ x4 ∷ x5 ∷ rest) - 6) rest all) in
+    let first : x0 ≡ a = sym p in
+    let second : x1 ≡ b = sym q in
+    let third : x2 ≡ c = sym r in
+    let fourth : x3 ≡ d = sym s in
+    let fifth : x4 ≡ e = sym t in
+    let sixth : x5 ≡ f = sym u in
+    λ i. first i ∷ second i ∷ third i ∷ fourth i ∷ fifth i ∷ sixth i ∷ behind i
