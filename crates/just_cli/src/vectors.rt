@@ -74,10 +74,11 @@ fn vectors_text<R: Threads + Wait + Sync>(
 {
     let host = host_of(alloc, count)?;
     let history = history_of(rt, alloc, &["r0"], host)?;
-    if !is_history(history.as_slice(), count) {
+    let events = history.as_slice();
+    if !is_history(events, count) {
         return Err(NoMemory);
     }
-    report(alloc, history.as_slice(), count)
+    report(alloc, events, count)
 }
 
 /// Prints what is told of the run of so many recipes over a fresh host in memory, in the place of a run.
