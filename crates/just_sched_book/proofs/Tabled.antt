@@ -7,12 +7,13 @@ use Rattle.just_sched_history.specs.declared.event.Event.{Event}
 use Rattle.just_sched_history.specs.declared.plan_node.PlanNode.{PlanNode}
 use Rattle.just_sched_history.specs.declared.row.Row.{Row}
 use Rattle.just_sched_history.specs.declared.tables.Tables.{Tables}
-use Rattle.just_sched_history.specs.Nodes.{priors_at, subsequents_at}
+use Rattle.just_sched_history.specs.Nodes.{priors_at, subsequents_at, work_at}
 use Rattle.just_sched_history.specs.Rows.{IsNoted}
 use Rattle.just_sched_history.specs.Running.{EachNoIsDone}
-use Rattle.just_sched_history.specs.State.{has_taken, is_done, is_confirmed, IsFinished, IsWanted, IsDueNext}
+use Rattle.just_sched_history.specs.State.{has_taken, is_done, is_confirmed, statuses, IsFinished, IsWanted, IsDueNext}
 use Rattle.just_sched_book.specs.Tabled.{IsLacking, none, holds, lacks, down_among, priors_left, goes_on, is_due, TablesTell}
 use Rattle.just_sched_history.specs.Tables.{flag, FlagsMean, InRange}
+use Rattle.just_sched_history.proofs.AfterLaws.{judged_is}
 use Rattle.just_sched_history.proofs.Asking.{to_ask_by, to_ask_unsure}
 use Rattle.just_sched_history.proofs.Deciding.{of_contained, wanted_inside}
 use Rattle.just_sched_history.proofs.Led.{flag_within}
@@ -179,6 +180,7 @@ module _ (nodes : List PlanNode) (invocations : List ℕ) (h : List Event) (t : 
       ∥∥₁_map noted (λ n. record {
         size = sized;
         rows = n.rows;
+        next = λ k d lt. judged_is (work_at nodes k) (statuses h k) (slice_index_or t.rows.items k d).ended (slice_index_or t.rows.items k d).last (n.rows k d (row_there k lt)).ended (n.rows k d (row_there k lt)).last;
         over = n.told.over;
         confirmed = confirmed_of nodes invocations h t well noted sized;
         finished = finished_of nodes invocations h t well noted sized;
