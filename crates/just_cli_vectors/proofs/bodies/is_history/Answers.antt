@@ -17,6 +17,6 @@ bodies-preserved c = record {
 pub returns-then-is_empty : goal.returns-then-is_empty
 returns-then-is_empty c = λ _.
     c.bodies.invariant.front
-    ∙ ap (λ r. run_events c.bodies.number ++ r) (nil_from_length c.bodies.rest (eqb-true (length c.bodies.rest) 0 (sym c.if-is_empty.ensures)))
+    ∙ ap (λ r. run_events c.bodies.number ++ r) (nil_from_length c.bodies.rest.now (eqb-true (length c.bodies.rest.now) 0 (sym c.if-is_empty.ensures)))
     ∙ append-nil (run_events c.bodies.number)
     ∙ ap run_events (omega (arith, c.bodies.invariant.within, c.bodies-test.false))
