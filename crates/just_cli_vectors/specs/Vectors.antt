@@ -30,9 +30,10 @@ recipe_text count n =
 abbrev pub justfile_text : ℕ → List ℕ
 justfile_text count = flat_map (recipe_text count) (range_with_len 0 count)
 
--- it is the one file there is
+-- it is the one file there is, in the root
 abbrev pub justfile_tree : ℕ → Tree
-justfile_tree count = map.insert map.empty (place_under slash (codes "/justfile")) (thing.File (justfile_text count) false)
+justfile_tree count =
+    map.insert (map.insert map.empty (place_under slash (codes "/")) thing.Folder) (place_under slash (codes "/justfile")) (thing.File (justfile_text count) false)
 
 -- ---- the run
 

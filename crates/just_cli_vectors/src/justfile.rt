@@ -78,13 +78,14 @@ fn file_of(alloc: Global, text: &str) -> Result<Thing, NoMemory>
     })
 }
 
-/// The files of a project that is the justfile alone.
+/// The files of a project that is the justfile in its root.
 fn tree_of(alloc: Global, count: u32) -> Result<Tree, NoMemory>
     ensures { IfOk result (λ t. files_of t ≡ justfile_tree count) }
 {
     let text = text_of(alloc, count)?;
     let file = file_of(alloc, text.as_str())?;
     let mut tree = Tree::new(alloc);
+    tree.insert(alloc, "/", Thing::Folder)?;
     tree.insert(alloc, "/justfile", file)?;
     Ok(tree)
 }
