@@ -38,5 +38,6 @@ pub mod Serving
 pub mod Shown
 pub mod Silent
 pub mod Taking
+pub mod Valued
 pub mod Trying
 pub mod WholeList

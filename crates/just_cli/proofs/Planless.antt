@@ -152,13 +152,13 @@ reply_silent c q p j modules are e why = all_silent (RepliesLoaded c q) (loaded_
 
 -- ---- values
 
+step_silent : (ms : List Justfile) (go : Justfile → Result Justfile Error) (name : List ℕ) (o : Option Justfile) (e : Error) → ((m : Justfile) → go m ≡ Err e → entries_of e ≡ []) → step_in ms o go name ≡ Err e → entries_of e ≡ []
+step_silent ms go name None e each same = let one : error.EvalUnknownSubmodule name ≡ e = cc in ap (λ x. entries_of x) (sym one)
+step_silent ms go name (Some m) e each same = each m same
+
 module_silent : (ms : List Justfile) (names : List (List ℕ)) (j : Justfile) (e : Error) → evaluated_module ms names j ≡ Err e → entries_of e ≡ []
 module_silent ms [] j e is = absurd (let no : ⊥ = cc in no)
-module_silent ms (name ∷ names) j e is = pick (module_named ms j name) is
-  where
-    pick : (o : Option Justfile) → step_in ms o (λ m. evaluated_module ms names m) name ≡ Err e → entries_of e ≡ []
-    pick None same = let one : error.EvalUnknownSubmodule name ≡ e = cc in ap (λ x. entries_of x) (sym one)
-    pick (Some m) same = module_silent ms names m e same
+module_silent ms (name ∷ names) j e is = step_silent ms (λ m. evaluated_module ms names m) name (module_named ms j name) e (λ m same. module_silent ms names m e same) is
 
 text_silent : (f : EvaluateFormat) (ms : List Justfile) (scopes : Scopes) (name : List ℕ) (v : Option Evaluated) (m : Option Justfile) (e : Error) → Err e ≡ text_named f ms scopes name v m → entries_of e ≡ []
 text_silent f ms scopes name (Some v) m e is = absurd (let no : ⊥ = cc in no)

@@ -1,5 +1,5 @@
 -- What the preparation of a task answers and leaves, from what its calls do.
-use Rattle.std.proofs.Common.{◌≡◌, ◌++◌, inl, ℕ, Bool, true, false, List, [], Option, None, Result, Ok, Err, refl, sym, ◌∙◌, ap, subst, append-nil}
+use Rattle.std.proofs.Common.{◌≡◌, ◌++◌, inl, inr, ℕ, Bool, true, false, List, [], Option, None, Result, Ok, Err, refl, sym, ◌∙◌, ap, subst, append-nil}
 use Rattle.just_path_text.specs.declared.environ.Environ.{Environ}
 use Rattle.just_host_record.specs.World.{World, Moment}
 use Rattle.just_host_record.proofs.Moments.{moment_by}

@@ -11,7 +11,7 @@ use Rattle.just_exec.specs.declared.error.Error.{Error}
 use Rattle.just_cli.specs.declared.ended.Failure.{Failure}
 use Rattle.just_cli.specs.declared.ended.Report.{Report}
 use Rattle.just_cli.specs.Faults.{entries_of}
-use Rattle.just_cli.specs.Printing.{IsPlanless, told_line, IsPrintError, TellsError}
+use Rattle.just_cli.specs.Printing.{IsPlanless, told_line, IsUntold, TellsError}
 use Rattle.just_cli.specs.Questions.{IsNothing}
 
 -- so many entries
@@ -32,13 +32,14 @@ pub record IsTidied (folder : List ℕ) (path : Option Modulepath) (quiet : Bool
   pub world : after.world ≡ between.world
 
 -- it isn't cleaned, up to a refusal; or it is, and not told of
-pub data IsUntidied (folder : List ℕ) (path : Option Modulepath) (before after : Moment) (e : Error) : Type 0 where
-  uncleaned : (x : CacheError) → Cleans folder path before after (Err x) → e ≡ error_of_cache x → IsUntidied folder path before after e
-  untold : (between : Moment) (what : Cleaned) → Cleans folder path before between (Ok what) → IsPrintError e → after.entries ≡ between.entries ++ entries_of e → after.world ≡ between.world → IsUntidied folder path before after e
+pub data IsUntidied (folder : List ℕ) (path : Option Modulepath) (quiet : Bool) (before after : Moment) (e : Error) : Type 0 where
+  uncleaned : (x : CacheError) → Cleans folder path before after (Err x) → e ≡ error_of_cache x → IsUntidied folder path quiet before after e
+  untold : (between : Moment) (what : Cleaned) → Cleans folder path before between (Ok what) → IsUntold quiet e → after.entries ≡ between.entries ++ entries_of e → after.world ≡ between.world
+      → IsUntidied folder path quiet before after e
 
 -- and the error is told then
 abbrev pub IsUncleaned : List ℕ → Option Modulepath → Bool → Moment → Moment → Error → Type 0
-IsUncleaned folder path quiet before after e = (now : Moment) × IsUntidied folder path before now e × TellsError quiet e now.entries after.entries × (after.world ≡ now.world)
+IsUncleaned folder path quiet before after e = (now : Moment) × IsUntidied folder path quiet before now e × TellsError quiet e now.entries after.entries × (after.world ≡ now.world)
 
 -- Nothing is run; the entries of a cache go, all of them or those of recipes whose paths begin with that one, and it is told of; or one of both isn't done.
 pub record IsCleaned (folder : List ℕ) (path : Option Modulepath) (quiet : Bool) (before after : Moment) (result : Result Report Failure) : Type 0 where

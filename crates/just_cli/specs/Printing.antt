@@ -33,6 +33,10 @@ told_beside quiet (Some line) = told_line quiet line
 abbrev pub IsPrintError : Error → Type 0
 IsPrintError e = OrMemory (λ x. x ≡ error.StdoutIo (fault.Failed call.Print)) e
 
+-- why a line that goes with something isn't told: memory is wanting; or it was to be told, and its print failed
+abbrev pub IsUntold : Bool → Error → Type 0
+IsUntold quiet e = OrMemory (λ x. (quiet ≡ false) × (x ≡ error.StdoutIo (fault.Failed call.Print))) e
+
 -- behind some entries the error is told
 abbrev pub TellsError : Bool → Error → List Entry → List Entry → Type 0
 TellsError quiet e old new = (told : List Entry) × (new ≡ old ++ told) × IsTold quiet e told

@@ -4,7 +4,7 @@ ghost use Rattle.std.specs.Prelude.{◌≡◌, ◌++◌, IfOk, IfErr, string_byt
 ghost use Rattle.std.specs.Option.{option_copied};
 ghost use Rattle.just_cli.specs.Cleaning.{cleaned_line, IsCleaned, IsTidied, IsUntidied};
 ghost use Rattle.just_cli.specs.Faults.{entries_of};
-ghost use Rattle.just_cli.specs.Printing.{told_line, IsPrintError};
+ghost use Rattle.just_cli.specs.Printing.{told_line, IsUntold};
 ghost use Rattle.just_cli.specs.Tasks.{IsPathOrNone};
 
 use super::failure::fail;
@@ -52,7 +52,7 @@ fn tell_cleaned<H: Host>(
 ) -> Result<(), Error>
     ensures told { IfOk result (λ _. (H.told host.new).entries
         ≡ (H.told host.old).entries ++ told_line quiet (cleaned_line cleaned)) }
-    ensures untold { IfErr result (λ e. IsPrintError e
+    ensures untold { IfErr result (λ e. IsUntold quiet e
         × ((H.told host.new).entries ≡ (H.told host.old).entries ++ entries_of e)) }
     ensures world { (H.told host.new).world ≡ (H.told host.old).world }
 {
@@ -77,7 +77,7 @@ fn tidy<H: Host>(
     requires { IsPathOrNone path.now }
     ensures tidied { IfOk result (λ _. IsTidied folder.now path.now quiet
         (H.told host.old) (H.told host.new)) }
-    ensures untidied { IfErr result (IsUntidied folder.now path.now
+    ensures untidied { IfErr result (IsUntidied folder.now path.now quiet
         (H.told host.old) (H.told host.new)) }
 {
     match clean_entries(alloc, folder.as_path(), borrowed(path), host) {

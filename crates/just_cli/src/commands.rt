@@ -52,7 +52,7 @@ fn print_at<H: Host>(
     made: &mut Vec<Utf8PathBuf>,
     host: &mut H,
 ) -> Result<Other, Error>
-    requires { kind_of config.now.subcommand ≡ kind.Print }
+    requires kind { kind_of config.now.subcommand ≡ kind.Print }
     ensures prints { PerformsCommand kind.Print
         (record { config = config.now; environ = environ.now; location = location.now })
         (H.told host.old) (H.told host.new) made.old.items made.new.items result }

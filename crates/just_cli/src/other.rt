@@ -38,8 +38,8 @@ fn show_version<H: Host>(alloc: Global, host: H) -> Ended<H>
     }
 }
 
-/// Does what words ask for that is no run: prints a text to standard output, that of a run over a host in memory too, writes a justfile, or cleans a
-/// cache.
+/// Does what words ask for that is no run: prints a text to standard output, that of a run over a host in memory too,
+/// writes a justfile, or cleans a cache.
 pub(crate) fn do_other<R: Threads + Wait + Sync, H: Host>(
     rt: &R,
     alloc: Global,
@@ -47,7 +47,7 @@ pub(crate) fn do_other<R: Threads + Wait + Sync, H: Host>(
     other: Other,
     quiet: bool,
 ) -> Ended<H>
-    requires { HasPath other }
+    requires path { HasPath other }
     ensures { Does other quiet (H.told host) (H.told result.host) result.result }
 {
     match other {

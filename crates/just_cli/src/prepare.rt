@@ -98,7 +98,7 @@ fn asked_alone<H: Host>(
     config: &Config,
     host: &mut H,
 ) -> Result<Other, Error>
-    requires { reads_justfile (kind_of config.now.subcommand) ≡ false }
+    requires alone { reads_justfile (kind_of config.now.subcommand) ≡ false }
     ensures grew { (es : List Entry) × ((H.told host.new).entries ≡ (H.told host.old).entries ++ es)
         × MatchResult result (λ _. AreMisses es) (λ e. EndsWith [] e es) }
     ensures world { (H.told host.new).world ≡ (H.told host.old).world }

@@ -2,6 +2,7 @@
 pub mod Cuts
 pub mod Joins
 pub mod LastNames
+pub mod Pieces
 pub mod Fields
 pub mod Responses
 pub mod WholeNames

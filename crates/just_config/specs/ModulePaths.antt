@@ -1,8 +1,9 @@
 -- Module paths in words.
-use Rattle.std.specs.Prelude.{ℕ, Bool, true, false, ◌||◌, ◌&&◌, if◌then◌else◌, List, [], ◌∷◌, flat_map, Option, Some, None}
-use Rattle.std.specs.List.{list_all}
+use Rattle.std.specs.Prelude.{ℕ, Bool, true, false, ◌&&◌, if◌then◌else◌, List, [], ◌∷◌, ◌++◌, Option, Some, None, chars, encode_utf8}
+use Rattle.std.specs.List.{list_all, list_any}
+use Rattle.std.specs.Char.{is_whitespace}
 use Rattle.just_lang_read.specs.Characters.{begins_name, in_name}
-use Rattle.just_config_words.specs.Cuts.{holds, parts}
+use Rattle.just_config_words.specs.Cuts.{parts}
 
 abbrev pub colon : ℕ
 colon = 58
@@ -12,18 +13,23 @@ abbrev pub is_name : List ℕ → Bool
 is_name [] = false
 is_name (c ∷ cs) = begins_name c && list_all in_name cs
 
--- whether a text holds a space or a tab
+-- whether a text holds white space
 abbrev pub has_blank : List ℕ → Bool
-has_blank t = holds 32 t || holds 9 t
+has_blank t = list_any is_whitespace (chars t)
 
 -- a text, unless it is empty
 abbrev pub unless_empty : List ℕ → List (List ℕ)
 unless_empty [] = []
 unless_empty (c ∷ cs) = (c ∷ cs) ∷ []
 
--- what stands between the blanks of a text
+-- what stands between the white space of characters, behind the piece so far
+abbrev pub pieces_behind : List ℕ → List ℕ → List (List ℕ)
+pieces_behind w [] = unless_empty w
+pieces_behind w (c ∷ cs) = if is_whitespace c then unless_empty w ++ pieces_behind [] cs else pieces_behind (w ++ encode_utf8 c) cs
+
+-- what stands between the white space of a text
 abbrev pub pieces : List ℕ → List (List ℕ)
-pieces t = flat_map (λ s. flat_map unless_empty (parts 9 s)) (parts 32 t)
+pieces t = pieces_behind [] (chars t)
 
 abbrev pub put_before : List ℕ → Option (List (List ℕ)) → Option (List (List ℕ))
 put_before n None = None
@@ -45,7 +51,7 @@ in_pieces [] = Some []
 in_pieces (w ∷ []) = in_one_word w
 in_pieces (w ∷ (x ∷ ws)) = Some (w ∷ (x ∷ ws))
 
--- what words are joined of: one word at each `::`, one with a blank at the blanks first; several words are each a part
+-- what words are joined of: one word at each `::`, one with white space at that first; several words are each a part
 abbrev pub components_of : List (List ℕ) → Option (List (List ℕ))
 components_of [] = Some []
 components_of (w ∷ []) = if has_blank w then in_pieces (pieces w) else in_one_word w

@@ -1,10 +1,10 @@
 //! Module paths in words.
-ghost use Rattle.std.specs.Prelude.{ℕ, List, [], ◌∷◌, ◌≡◌, ◌<◌, ◌++◌, flat_map, length, IfOk, None, MatchOption};
+ghost use Rattle.std.specs.Prelude.{ℕ, List, [], ◌∷◌, ◌≡◌, ◌<◌, ◌++◌, length, IfOk, None, MatchOption};
 ghost use Rattle.just_config_words.specs.Cuts.{parts};
-ghost use Rattle.just_config.specs.ModulePaths.{colon, outer_parts, is_name, has_blank, pieces, unless_empty, in_one_word, in_pieces, components_of, module_path, all_names};
+ghost use Rattle.just_config.specs.ModulePaths.{colon, outer_parts, is_name, has_blank, pieces, in_one_word, in_pieces, components_of, module_path, all_names};
 
 use just_config_words::add_copies;
-use just_config_words::cut::{add_parts, cut};
+use just_config_words::cut::cut;
 use just_lang_types::is_recipe_name;
 use just_path_text::{NoMemory, Seq, Text};
 use std::alloc::Global;
@@ -28,17 +28,16 @@ fn all_names(texts: &[Text]) -> bool
     true
 }
 
-/// Whether a text holds a space or a tab.
+/// Whether a text holds white space.
 fn has_blank(text: &str) -> bool
     ensures { result ≡ has_blank text.now }
 {
-    match cut(text, ' ') {
-        Some(_) => true,
-        None => match cut(text, '\t') {
-            Some(_) => true,
-            None => false,
-        },
+    'characters: for character in text.chars() {
+        if character.is_whitespace() {
+            return true;
+        }
     }
+    false
 }
 
 /// What stands behind the second colon of `::`, of which the first one is read.
@@ -78,38 +77,13 @@ fn in_one_word(alloc: Global, word: &str) -> Result<Option<Seq<Text>>, NoMemory>
     Ok(Some(Seq::from(names)))
 }
 
-/// Adds a copy of a text, unless it is empty.
-#[tactic(auto, using(crate::proofs::LastNames::nothing_empty, crate::proofs::LastNames::one_full))]
-fn add_full(pieces: &mut Vec<Text>, part: &Text) -> Result<(), NoMemory>
-    ensures { IfOk result (λ u. pieces.new.items ≡ pieces.old.items ++ unless_empty part.now) }
-{
-    if !part.as_str().is_empty() {
-        pieces.push(part.try_clone()?)?;
-    }
-    Ok(())
-}
-
-/// Adds what stands between the tabs of a text, but nothing that is empty.
-fn add_pieces(alloc: Global, pieces: &mut Vec<Text>, text: &str) -> Result<(), NoMemory>
-    ensures { IfOk result (λ u. pieces.new.items ≡ pieces.old.items ++ flat_map unless_empty (parts 9 text.now)) }
-{
-    let mut parts = Vec::new(alloc);
-    add_parts(alloc, &mut parts, text, '\t')?;
-    'parts: for part in parts.as_slice() {
-        add_full(pieces, part)?;
-    }
-    Ok(())
-}
-
-/// What stands between the blanks of a text.
+/// What stands between the white space of a text.
 fn pieces(alloc: Global, text: &str) -> Result<Vec<Text>, NoMemory>
     ensures { IfOk result (λ v. v.items ≡ pieces text.now) }
 {
-    let mut parts = Vec::new(alloc);
-    add_parts(alloc, &mut parts, text, ' ')?;
     let mut pieces = Vec::new(alloc);
-    'parts: for part in parts.as_slice() {
-        add_pieces(alloc, &mut pieces, part.as_str())?;
+    'pieces: for piece in text.split_whitespace() {
+        add_name(alloc, &mut pieces, piece)?;
     }
     Ok(pieces)
 }
@@ -134,7 +108,7 @@ fn in_pieces(alloc: Global, pieces: &[Text]) -> Result<Option<Seq<Text>>, NoMemo
     }
 }
 
-/// What words are joined of: one word at each `::`, one with a blank at the blanks first; several words are each a part.
+/// What words are joined of: one word at each `::`, one with white space at that first; several words are each a part.
 fn components_of(alloc: Global, words: &[Text]) -> Result<Option<Seq<Text>>, NoMemory>
     ensures { IfOk result (λ r. r ≡ components_of words.now) }
 {

@@ -82,21 +82,50 @@ fn fresh_file<F: Files>(
     Err(io::Error::from(ErrorKind::AlreadyExists))
 }
 
-/// Writes the bytes to a fresh file, and gives it a mode.
+/// Gives a fresh file a mode, while it holds nothing yet, and writes the bytes to it.
 fn fill<O: OpenFile + Write + Drop>(
     mut file: O,
     mode: Option<Permissions>,
     bytes: &[u8],
 ) -> io::Result<()> {
-    file.write_all(bytes)?;
-    match mode {
-        Some(mode) => file.set_permissions(mode),
-        None => Ok(()),
+    if let Some(mode) = mode {
+        file.set_permissions(mode)?;
     }
+    file.write_all(bytes)
 }
 
-/// Writes a file beside a place, and puts it there. Where that fails nothing of it is left, and what stood there stays. Where
-/// the folder can't be written to, the file at the place is written over.
+/// Writes a file beside a place, and puts it there. Where that fails nothing of it is left, and what stood there stays.
+fn put<F: Files>(
+    files: &F,
+    alloc: Global,
+    place: Utf8Path<'_>,
+    mode: Option<Permissions>,
+    bytes: &[u8],
+) -> io::Result<()> {
+    let folder = match place.parent() {
+        Some(folder) => folder,
+        None => Utf8Path::new(""),
+    };
+    let (file, path) = fresh_file(files, alloc, folder)?;
+    let told = match fill(file, mode, bytes) {
+        Ok(()) => fs::rename(files, path.as_path().as_str(), place.as_str()),
+        Err(error) => Err(error),
+    };
+    if told.is_err() {
+        let _ = fs::remove_file(files, path.as_path().as_str());
+    }
+    told
+}
+
+/// Whether a failure tells that no other file can be put at a place: its folder can't be written to, or it is a mount.
+fn is_fixed(error: &io::Error) -> bool {
+    matches!(
+        error.kind(),
+        ErrorKind::PermissionDenied | ErrorKind::ResourceBusy | ErrorKind::CrossesDevices
+    )
+}
+
+/// Puts another file at a place. Where that can't be done there, the file at the place is written over.
 fn replace<F: Files>(
     files: &F,
     alloc: Global,
@@ -104,25 +133,10 @@ fn replace<F: Files>(
     bytes: &[u8],
 ) -> io::Result<()> {
     let mode = mode_of(files, place)?;
-    let folder = match place.parent() {
-        Some(folder) => folder,
-        None => Utf8Path::new(""),
-    };
-    let (file, path) = match fresh_file(files, alloc, folder) {
-        Ok(made) => made,
-        Err(error) if error.kind() == ErrorKind::PermissionDenied => {
-            return fs::write(files, place.as_str(), bytes);
-        }
-        Err(error) => return Err(error),
-    };
-    let written = match fill(file, mode, bytes) {
-        Ok(()) => fs::rename(files, path.as_path().as_str(), place.as_str()),
-        Err(error) => Err(error),
-    };
-    if written.is_err() {
-        let _ = fs::remove_file(files, path.as_path().as_str());
+    match put(files, alloc, place, mode, bytes) {
+        Err(error) if is_fixed(&error) => fs::write(files, place.as_str(), bytes),
+        told => told,
     }
-    written
 }
 
 /// Writes a file, which is made where it lacks. Where a link leads to nothing, or the path doesn't end in a name, it is written in place.

@@ -1,2 +1,3 @@
--- The lemmas of the tests of rules.
+-- The lemmas of the tests.
 pub mod Chains
+pub mod Paths

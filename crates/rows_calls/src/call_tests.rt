@@ -8,6 +8,7 @@ use crate::changes::changed;
 use crate::hosts::memory;
 use crate::loading::loaded;
 use crate::shown::says;
+use just_config::Response;
 use just_host::{Host, HostFault};
 use just_lang_types::{Ast, AstItem, FileRef, Source, parse, references};
 use just_path::Utf8PathBuf;
@@ -86,6 +87,16 @@ fn home(alloc: Global) -> Result<String, HostFault> {
     home_of(alloc, host)
 }
 
+/// The text of the response that a variable has that value, or none.
+fn response(alloc: Global, value: Option<&str>) -> Result<String, NoMemory> {
+    let found = match value {
+        Some(value) => Some(Text::from_str(alloc, value)?),
+        None => None,
+    };
+    let response = Response::EnvironmentVariable(found);
+    response.text(alloc)
+}
+
 #[test]
 fn every_call_answers(rt: HostRuntime) {
     let alloc = rt.alloc();
@@ -96,6 +107,13 @@ fn every_call_answers(rt: HostRuntime) {
     says(&rt, home(alloc), "/h");
     let loaded = loaded(alloc, "import 'link'\na:\n");
     says(&rt, loaded, "2 sources, root Some(0)");
+    let answer = response(alloc, Some("/h\t\"1\""));
+    says(&rt, answer, "{\"environment-variable\":\"/h\\t\\\"1\\\"\"}");
+    says(
+        &rt,
+        response(alloc, None),
+        "{\"environment-variable\":null}",
+    );
     says(&rt, changed(alloc, false), "A=y B- C=file E=x G=z ");
     says(&rt, changed(alloc, true), "A=y B- C=file D=x E=x G=z ");
 }

@@ -15,6 +15,8 @@ mod captures;
 #[cfg(test)]
 mod changes;
 #[cfg(test)]
+mod cleaned;
+#[cfg(test)]
 mod digests;
 #[cfg(test)]
 mod executors;

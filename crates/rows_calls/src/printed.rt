@@ -2,10 +2,19 @@
 
 use crate::shown::says;
 use just_dotenv::DotenvError;
+use just_exec::Error;
 use just_expand::{Expand, env};
 use just_path::{Utf8Component, Utf8Path, Utf8PathBuf};
-use just_path_text::{Environ, NoMemory, Seq};
+use just_path_text::{Environ, NoMemory, Seq, Text};
 use std::alloc::{AllocError, Global};
+
+/// What the errors of commands that print nothing say.
+const REFUSALS: &str = r#"error: `--show` requires recipe
+error: justfile does not contain group `m::a`
+error: justfile does not contain submodule `m::a`
+error: justfile does not contain variable or submodule `m::a`
+error: formatted justfile differs from original
+"#;
 
 /// A path and a component, shown for users, for developers, and filled up on the left.
 fn paths(alloc: Global, path: &Utf8PathBuf) -> Result<String, AllocError> {
@@ -49,6 +58,26 @@ fn absent(alloc: Global) -> Result<String, AllocError> {
     }
 }
 
+/// Adds the line of an error.
+fn push_error(all: &mut String, error: Error) -> Result<(), AllocError> {
+    writeln!(all, "{error}")
+}
+
+/// The errors of commands that print nothing, of what isn't there by that name.
+fn refusals(alloc: Global, name: &str) -> Result<String, NoMemory> {
+    let mut all = String::new(alloc);
+    let subcommand = Text::from_str(alloc, "show")?;
+    push_error(&mut all, Error::RecipeRequired { subcommand })?;
+    let group = Text::from_str(alloc, name)?;
+    push_error(&mut all, Error::UnknownGroup { group })?;
+    let submodule = Text::from_str(alloc, name)?;
+    push_error(&mut all, Error::EvalUnknownSubmodule { submodule })?;
+    let name = Text::from_str(alloc, name)?;
+    push_error(&mut all, Error::EvalUnknownSubmoduleOrVariable { name })?;
+    push_error(&mut all, Error::FormatCheckFoundDiff)?;
+    Ok(all)
+}
+
 #[test]
 fn printed_paths(rt: HostRuntime) {
     says(
@@ -72,4 +101,9 @@ fn printed_errors(rt: HostRuntime) {
         absent(alloc),
         "error looking key 'B' up: environment variable not found",
     );
+}
+
+#[test]
+fn printed_refusals(rt: HostRuntime) {
+    says(&rt, refusals(rt.alloc(), "m::a"), REFUSALS);
 }

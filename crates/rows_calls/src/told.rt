@@ -2,6 +2,7 @@
 
 use crate::body::{remove_entry, run};
 use crate::captures::captured;
+use crate::cleaned::clean;
 use crate::digests::digests;
 use crate::shown::shown;
 use just_host::{Host, HostFault, Look, MemHost, Plot, Thing, Tree};
@@ -90,6 +91,7 @@ fn answer_of_cache<H: Host>(
         "digests" => shown(alloc, digests(alloc, host, words)),
         "body" => shown(alloc, run(alloc, host, words)),
         "remove_entry" => shown(alloc, remove_entry(alloc, host)),
+        "clean" => shown(alloc, clean(alloc, host, words)),
         _ => answer_of_run(alloc, host, call, words),
     }
 }

@@ -16,19 +16,20 @@ fn digit(byte: u8) -> Option<u8>
 }
 
 /// The byte of two digits.
-fn byte_of(high: &u8, low: Option<&u8>) -> Option<u8> {
-    match (digit(*high), digit(*low?)) {
-        (Some(high), Some(low)) => Some(high * 16 + low),
-        _ => None,
-    }
+fn byte_of(pair: &[u8]) -> Option<u8> {
+    let [high, low] = pair else {
+        return None;
+    };
+    let high = digit(*high)?;
+    let low = digit(*low)?;
+    Some(high * 16 + low)
 }
 
 /// The bytes that lower-case hexadecimal digits stand for, two for each. It promises nothing beyond safety.
-pub(crate) fn bytes_of_digits(alloc: Global, text: &str) -> Result<Vec<u8>, Wrong> {
+pub(crate) fn bytes_of_digits(alloc: Global, digits: &str) -> Result<Vec<u8>, Wrong> {
     let mut found = Vec::new(alloc);
-    let mut digits = text.as_bytes().iter();
-    while let Some(high) = digits.next() {
-        match byte_of(high, digits.next()) {
+    for pair in digits.as_bytes().chunks(2) {
+        match byte_of(pair) {
             Some(byte) => found.push(byte)?,
             None => return Err(Wrong::Form),
         }

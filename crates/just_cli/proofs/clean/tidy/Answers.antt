@@ -18,4 +18,4 @@ returns-in-Ok-clause-untidied g c =
     all_untidied _ _ c.args.quiet (g.H.Host.told c.args.host.now) (g.H.Host.told c.clean_entries.new.host) (g.H.Host.told c.tell_cleaned.new.host) _ (cleans_as _ _ _ _ _ _ _ c.as_path.ensures c.borrowed.ensures c.in-Ok.ensures.cleans) c.tell_cleaned.ensures.world _ c.tell_cleaned.ensures.untold
 
 pub returns-in-Err-clause-untidied : goal.returns-in-Err-clause-untidied
-returns-in-Err-clause-untidied g c = untidied _ _ (g.H.Host.told c.args.host.now) (g.H.Host.told c.clean_entries.new.host) c.in-Err.refused _ (cleans_as _ _ _ _ _ _ _ c.as_path.ensures c.borrowed.ensures c.in-Err.ensures.cleans) c.from.ensures
+returns-in-Err-clause-untidied g c = untidied _ _ c.args.quiet (g.H.Host.told c.args.host.now) (g.H.Host.told c.clean_entries.new.host) c.in-Err.refused _ (cleans_as _ _ _ _ _ _ _ c.as_path.ensures c.borrowed.ensures c.in-Err.ensures.cleans) c.from.ensures

@@ -1,13 +1,13 @@
 -- Each is asked as it is to be.
-use Rattle.std.proofs.Common.{◌≡◌, rules, sym}
+use Rattle.std.proofs.Common.{◌≡◌, ◌∙◌, rules, sym}
 use Rattle.just_cli_texts.specs.Kinds.{kind_of}
 use Rattle.just_cli_texts.specs.declared.kind.Kind.TheVariants as kind
 use Rattle.just_cli.proofs.Commanding.{command_as}
 use Rattle.just_cli.proofs.commands.command_at.Goals as goal
 
-pub print_at-requires : goal.print_at-requires
-print_at-requires g c =
-    let known : kind_of c.args.config.now.subcommand ≡ kind.Print = rw c.in-Print.is at sym c.requires.kind in search rules
+pub print_at-requires-clause-kind : goal.print_at-requires-clause-kind
+print_at-requires-clause-kind g c =
+    let known : kind_of c.args.config.now.subcommand ≡ kind.Print = sym c.requires.kind ∙ c.in-Print.is in search rules
 
 pub returns-in-Print-clause-asked : goal.returns-in-Print-clause-asked
 returns-in-Print-clause-asked g c = command_as _ kind.Print c.in-Print.is _ (g.H.Host.told c.args.host.now) (g.H.Host.told c.print_at.new.host) _ _ _ c.print_at.ensures.prints

@@ -10,8 +10,8 @@ returns-in-Err-clause-refused g c =
     let j : JustfileRequest = record { wanted = c.args.wanted.now; environ = c.args.environ.now; justfile = c.args.path } in
     unread _ c.args.config.now c.args.origin.now j _ (rw c.as_path.ensures at c.in-Err.ensures.refused)
 
-pub only-requires : goal.only-requires
-only-requires g c = (_, c.sources.ensures ∙ c.in-Ok.ensures.source.2)
+pub only-source-requires : goal.only-source-requires
+only-source-requires g c = (_, c.sources.ensures ∙ c.in-Ok.ensures.source.2)
 
 pub returns-in-Ok-formatted_anew-clause-formats : goal.returns-in-Ok-formatted_anew-clause-formats
 returns-in-Ok-formatted_anew-clause-formats g c =

@@ -2,6 +2,8 @@
 use Rattle.std.proofs.Common.{refl}
 use Rattle.just_cli.specs.Acts.{Looks, NoAct}
 use Rattle.just_cli.specs.Commands.{PrintsIt}
+use Rattle.just_cli.specs.Taken.{laid_in}
+use Rattle.just_cli_texts.specs.Laid.{LaidRequest}
 use Rattle.just_cli.proofs.Commanding.{project_lost, project_then, look_found, look_refused, or_prints}
 use Rattle.just_cli.proofs.Planless.{prints_silent}
 use Rattle.just_cli.proofs.commands.print_at.Goals as goal
@@ -12,11 +14,13 @@ returns-in-Err-clause-prints g c = project_lost (Looks (λ now. PrintsIt c.args.
 pub returns-in-Ok-prints-clause-prints : goal.returns-in-Ok-prints-clause-prints
 returns-in-Ok-prints-clause-prints g c =
     let now = g.H.Host.told c.project_at.new.host in
+    let q : LaidRequest = laid_in c.in-Ok.found.0 c.args.environ.now c.in-Ok.found.1 in
     project_then (Looks (λ told. PrintsIt c.args.config.now)) NoAct _ (g.H.Host.told c.args.host.now) _ now now _ _ c.in-Ok.ensures.project _
-    (look_found (PrintsIt c.args.config.now) now _ _ (_, c.in-Ok-prints.ensures, refl))
+    (look_found (PrintsIt c.args.config.now) now q _ (_, c.in-Ok-prints.ensures, refl))
 
 pub returns-clause-prints : goal.returns-clause-prints
 returns-clause-prints g c =
     let now = g.H.Host.told c.project_at.new.host in
+    let q : LaidRequest = laid_in c.in-Ok.found.0 c.args.environ.now c.in-Ok.found.1 in
     project_then (Looks (λ told. PrintsIt c.args.config.now)) NoAct _ (g.H.Host.told c.args.host.now) _ now now _ _ c.in-Ok.ensures.project _
-    (look_refused (PrintsIt c.args.config.now) now _ _ (prints_silent _ c.args.config.now _ _ c.in-Err-prints.ensures) (or_prints c.args.config.now _ _ c.in-Err-prints.ensures))
+    (look_refused (PrintsIt c.args.config.now) now q _ (prints_silent _ c.args.config.now _ _ c.in-Err-prints.ensures) (or_prints c.args.config.now q _ c.in-Err-prints.ensures))

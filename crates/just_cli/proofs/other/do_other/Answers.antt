@@ -25,7 +25,7 @@ returns-in-Write g c = does_so c.args.other (no_run.Write c.in-Write.path c.in-W
 
 pub clean-requires : goal.clean-requires
 clean-requires g c =
-    let known : IsPathOrNone c.in-Clean.path = rw c.in-Clean.is at c.requires in search rules
+    let known : IsPathOrNone c.in-Clean.path = rw c.in-Clean.is at c.requires.path in search rules
 
 pub returns-in-Clean : goal.returns-in-Clean
 returns-in-Clean g c = does_so c.args.other (no_run.Clean c.in-Clean.folder c.in-Clean.path) c.args.quiet _ _ _ c.in-Clean.is c.clean.ensures

@@ -12,8 +12,8 @@ pub returns-in-Err-clause-asked : goal.returns-in-Err-clause-asked
 returns-in-Err-clause-asked g c =
     reply_lost _ (g.H.Host.told c.args.host.now) (g.H.Host.told c.reply_tried.new.host) _ _ (runs_then _ (rw (c.is_placed.ensures, c.kind_of-kind.ensures) at c.if-not-is_placed.true) c.requires.reads c.requires.built) _ c.in-Err.ensures
 
-pub command_at-asked-requires : goal.command_at-asked-requires
-command_at-asked-requires g c =
+pub command_at-asked-requires-clause-placed : goal.command_at-asked-requires-clause-placed
+command_at-asked-requires-clause-placed g c =
     let placed : is_placed c.kind_of-kind.result ≡ true = sym c.is_placed.ensures ∙ c.if-not-is_placed.false in search rules
 
 pub returns-in-Ok-asked-clause-asked : goal.returns-in-Ok-asked-clause-asked

@@ -1,5 +1,4 @@
 -- The line is told, where there is one; else nothing is.
-use Rattle.std.proofs.Common.{◌++◌, ◌∙◌}
 use Rattle.just_cli.proofs.PrintingLaws.{beside_told, beside_untold, nothing_beside}
 use Rattle.just_cli.proofs.printing.tell_beside.Goals as goal
 

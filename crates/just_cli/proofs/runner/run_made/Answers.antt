@@ -22,8 +22,8 @@ returns-in-Ok-List g c = λ after removes.
     let asks = rw c.in-Ok-List.field-0-is at c.in-Ok-List.ensures.asked in
     ended_listing _ (g.H.Host.told c.args.host) (g.H.Host.told c.prepare.new.host) (g.H.Host.told c.print.result.host) after _ _ c.in-Ok-List.quiet _ c.new-made.ensures.items removes c.in-Ok-List.printed asks c.print.ensures
 
-pub do_other-requires : goal.do_other-requires
-do_other-requires g c =
+pub do_other-requires-clause-path : goal.do_other-requires-clause-path
+do_other-requires-clause-path g c =
     let known : HasPath c.in-Ok-Other.other = has_path _ (g.H.Host.told c.args.host) (g.H.Host.told c.prepare.new.host) _ _ c.in-Ok-Other.other c.in-Ok-Other.quiet (rw c.in-Ok-Other.field-0-is at c.in-Ok-Other.ensures.asked) in search rules
 
 pub returns-in-Ok-Other : goal.returns-in-Ok-Other

@@ -1,9 +1,7 @@
--- The pieces of the parts to come follow those so far.
-use Rattle.std.proofs.Common.{◌≡◌, ◌++◌, drop}
-use Rattle.std.specs.Prelude.{flat_map}
-use Rattle.just_config_words.specs.Cuts.{parts}
-use Rattle.just_config.specs.ModulePaths.{unless_empty}
+-- The pieces that are left follow those so far.
+use Rattle.std.specs.Str.Iter.{split_whitespace_rest}
+use Rattle.just_config.proofs.Pieces.{Cut}
 use Rattle.just_config.proofs.module_path.pieces.Given as goal
 
-abbrev pub invariant-parts : goal.invariant-parts
-invariant-parts l = l.pieces.items ++ flat_map (λ s. flat_map unless_empty (parts 9 s)) (drop l.part-index l.part-items) ≡ flat_map (λ s. flat_map unless_empty (parts 9 s)) l.part-items
+abbrev pub invariant-pieces : goal.invariant-pieces
+invariant-pieces l = Cut l.text (split_whitespace_rest l.piece-iterator) l.pieces.items

@@ -1,0 +1,2 @@
+deep:
+	@echo deep

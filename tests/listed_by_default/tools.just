@@ -1,0 +1,10 @@
+set default-list
+
+# lints
+lint word='all':
+	@echo linted {{word}}
+
+first:
+	@echo first
+
+mod below

@@ -1,0 +1,2 @@
+# the last
+last:

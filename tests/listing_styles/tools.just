@@ -1,0 +1,8 @@
+[group('style')]
+lint path:
+	echo {{path}}
+
+# what is inside
+mod inner
+
+show:

@@ -1,0 +1,2 @@
+# Builds a part.
+build part:
